@@ -1,0 +1,5 @@
+pub mod Tree
+pub mod Erase
+pub mod Place
+pub mod Fault
+pub mod Source

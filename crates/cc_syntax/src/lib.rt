@@ -1,0 +1,19 @@
+// From C text to a syntax tree: the tokens of a text, and the tree that its tokens spell.
+//
+// `token` has the tokens, `ast` the tree, `place` lines and columns, `fault` the refusals 1 to 7 and 40, `unit` a
+// parsed text with its tree. The crate hands out `tokens`, `parse`, `place_at` and these types.
+#![tactic(auto)]
+
+mod ast;
+mod fault;
+mod place;
+mod token;
+mod unit;
+
+pub use ast::{
+    BinaryOperator, Declarator, Expression, Function, Identifier, Scalar, Statement, UnaryOperator,
+};
+pub use fault::SyntaxFault;
+pub use place::{Place, place_at};
+pub use token::{Keyword, Punctuator, Token, TokenKind};
+pub use unit::Unit;
