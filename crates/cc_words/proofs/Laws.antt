@@ -1,14 +1,15 @@
 -- The laws of words that the crates above cite: a word and its signed value tell each other; each operation gives a word;
 -- what a comparison says; quotient and remainder. Most go by cases on whether a word is below 2^31, and linear arithmetic.
-use Rattle.std.proofs.Common.{◌≡◌, ℕ, ◌+◌, ◌-◌, ◌*◌, ◌/◌, ◌%◌, ◌^◌, ◌<◌, ◌≤◌, Bool, true, false, cond, not, ltb, leb, eqb, ◌≢◌, ◌⊎◌, ◌↔◌, inl, inr, Option, Some, None, ℤ, pos, negsuc, ◌+ℤ◌, ◌-ℤ◌, ◌*ℤ◌, ◌<ℤ◌, ◌≤ℤ◌, unsigned_abs, int_div, int_rem, refl, sym, ap, ◌∙◌, arith, rules, div-le_self, zero, suc, neg_ℤ, mul-le-mul_left, le_trans, div-mul-le_self, lt_of_le_of_lt, div-one, w32, FitsSigned}
-use Rattle.std.specs.Int.{cast_signed}
-use Rattle.std.specs.Int.Signed.{mag, mag_rem, le_z_yes}
-use Rattle.std.proofs.lemmas.Int.{ints, quot-rem, rem_below, of_z-to_z}
+use Rattle.std.proofs.Common.{◌≡◌, ℕ, ◌+◌, ◌-◌, ◌*◌, ◌/◌, ◌%◌, ◌^◌, ◌<◌, ◌≤◌, Bool, true, false, cond, ltb, ◌≢◌, ◌⊎◌, ◌↔◌, inl, inr, Some, None, ℤ, pos, negsuc, ◌+ℤ◌, ◌-ℤ◌, ◌*ℤ◌, ◌<ℤ◌, ◌≤ℤ◌, unsigned_abs, int_div, int_rem, refl, sym, ap, ◌∙◌, arith, rules, div-le_self, zero, suc, neg_ℤ, mul-le-mul_left, le_trans, div-mul-le_self, lt_of_le_of_lt, div-one, mul-add, mul_comm, w32, FitsSigned}
+use Rattle.std.specs.Int.{cast_signed, int_shr}
+use Rattle.std.specs.Int.Signed.{mag, mag_rem, mag_shr, le_z_yes}
+use Rattle.std.proofs.lemmas.Int.{ints, quot-rem, rem_below, int_rem_euclid_is}
+use Rattle.std.proofs.lemmas.Option.{cond_some}
 use Rattle.std.proofs.lemmas.Nat.{or_of_32, xor_of_32, and_le_l, shr_le}
 use Rattle.std.proofs.lemmas.Bool.Decides.{nat_tests}
-use Rattle.std.proofs.lemmas.Grind.{common_steps}
 use Rattle.std.proofs.lemmas.Nat.Bits.{same_from_bits_below, bit_at_xor, bit_at_ones, bit_at_not, bit_at-lt}
-use Rattle.std.proofs.Math.Nat.{mod-le}
+use Rattle.std.proofs.Math.IntN.{*ℤ_comm}
+use Rattle.std.proofs.Math.Nat.{mod-le, add-mul-mod_self_right}
 use Rattle.cc_words.specs.Words.{IsWord, signed_value, word_of, truth_value, add, sub, mul, neg, eq, ne, lt_s, le_s, lt_u, le_u, is_zero, lacks_quotient, div_s, rem_s, div_u, rem_u, shl, shr_s, shr_u, and, or, xor, complement}
 
 -- ---- words and signed values
@@ -36,6 +37,75 @@ signed_value_injective a b p q e = sym (word_of-signed_value a p) ∙ ap word_of
 -- a difference of words by natural numbers alone
 pub sub_is : (a b : ℕ) → IsWord a → IsWord b → sub a b ≡ (a + (2 ^ 32 - b)) % 2 ^ 32
 sub_is a b p q = grind (arith, ints)
+
+-- ---- sums, differences and products are those of the signed values too, modulo 2^32
+
+-- a multiple of 2^32 more leaves the same word
+word_of_more : (z : ℤ) (k m : ℕ) → z +ℤ pos (k * 2 ^ 32) ≡ pos m → word_of z ≡ m % 2 ^ 32
+word_of_more z k m e = ap unsigned_abs (int_rem_euclid_is z (pos (2 ^ 32)) (2 ^ 32) k m (omega arith) refl e)
+
+-- a word is its signed value, or that and 2^32
+word_cases : (w : ℕ) → IsWord w → (signed_value w ≡ pos w) ⊎ (signed_value w +ℤ pos (2 ^ 32) ≡ pos w)
+word_cases w h = grind (arith, ints)
+
+pub add-signed_value : (a b : ℕ) → IsWord a → IsWord b → add a b ≡ word_of (signed_value a +ℤ signed_value b)
+add-signed_value a b p q =
+    let x = signed_value a in
+    let y = signed_value b in
+    let more = λ (k : ℕ) (e : (x +ℤ y) +ℤ pos (k * 2 ^ 32) ≡ pos (a + b)). sym (word_of_more (x +ℤ y) k (a + b) e) in
+    elim (word_cases a p) [
+      | inl c ↦ elim (word_cases b q) [ inl d ↦ more 0 (omega (arith, ints)) | inr d ↦ more 1 (omega (arith, ints)) ]
+      | inr c ↦ elim (word_cases b q) [ inl d ↦ more 1 (omega (arith, ints)) | inr d ↦ more 2 (omega (arith, ints)) ]
+    ]
+
+pub sub-signed_value : (a b : ℕ) → IsWord a → IsWord b → sub a b ≡ word_of (signed_value a -ℤ signed_value b)
+sub-signed_value a b p q =
+    let x = signed_value a in
+    let y = signed_value b in
+    let more = λ (k : ℕ) (e : (x -ℤ y) +ℤ pos (k * 2 ^ 32) ≡ pos (a + (2 ^ 32 - b))).
+    sub_is a b p q ∙ sym (word_of_more (x -ℤ y) k (a + (2 ^ 32 - b)) e) in
+    elim (word_cases a p) [
+      | inl c ↦ elim (word_cases b q) [ inl d ↦ more 1 (omega (arith, ints)) | inr d ↦ more 0 (omega (arith, ints)) ]
+      | inr c ↦ elim (word_cases b q) [ inl d ↦ more 2 (omega (arith, ints)) | inr d ↦ more 1 (omega (arith, ints)) ]
+    ]
+
+below_zero : (z : ℤ) (w : ℕ) → z +ℤ pos (2 ^ 32) ≡ pos w → IsWord w → (m : ℕ) × (z ≡ negsuc m) × (w + suc m ≡ 2 ^ 32)
+below_zero (pos n) w e h = absurd (omega (arith, ints))
+below_zero (negsuc m) w e h = (m, refl, omega (arith, ints))
+
+-- how a word's signed value is written
+signed_value_form : (w : ℕ) → IsWord w → (signed_value w ≡ pos w) ⊎ ((m : ℕ) × (signed_value w ≡ negsuc m) × (w + suc m ≡ 2 ^ 32))
+signed_value_form w h =
+    elim (word_cases w h) [ inl e ↦ inl e | inr e ↦ inr (below_zero (signed_value w) w e h) ]
+
+-- with one factor below 0, and with both
+product_of_one : (n a b x : ℕ) → b + x ≡ n → neg_ℤ (pos (a * x)) +ℤ pos (a * n) ≡ pos (a * b)
+product_of_one n a b x e = let f : a * n ≡ a * b + a * x = ap (λ t. a * t) (sym e) ∙ mul-add a b x in omega (arith, ints)
+
+product_of_both : (n a b x y : ℕ) → a + x ≡ n → b + y ≡ n → x * y + a * n ≡ a * b + y * n
+product_of_both n a b x y d e =
+    let f : a * n ≡ a * b + a * y = ap (λ t. a * t) (sym e) ∙ mul-add a b y in
+    let g : y * n ≡ y * a + y * x = ap (λ t. y * t) (sym d) ∙ mul-add y a x in
+    omega (arith, mul_comm y a, mul_comm y x)
+
+mixed_product : (a b m : ℕ) → b + suc m ≡ 2 ^ 32 → mul a b ≡ word_of (pos a *ℤ negsuc m)
+mixed_product a b m e = sym (word_of_more (pos a *ℤ negsuc m) a (a * b) (product_of_one (2 ^ 32) a b (suc m) e))
+
+negative_product : (a b m k : ℕ) → a + suc m ≡ 2 ^ 32 → b + suc k ≡ 2 ^ 32 → mul a b ≡ word_of (negsuc m *ℤ negsuc k)
+negative_product a b m k d e =
+    sym (add-mul-mod_self_right (a * b) (suc k) (2 ^ 32))
+    ∙ ap (λ t. t % 2 ^ 32) (sym (product_of_both (2 ^ 32) a b (suc m) (suc k) d e))
+    ∙ add-mul-mod_self_right (suc m * suc k) a (2 ^ 32)
+
+pub mul-signed_value : (a b : ℕ) → IsWord a → IsWord b → mul a b ≡ word_of (signed_value a *ℤ signed_value b)
+mul-signed_value a b p q =
+    elim (signed_value_form a p) [
+      | inl c ↦ elim (signed_value_form b q) [ inl d ↦ rw (c, d) refl | inr d ↦ rw (c, d.1) (mixed_product a b d.0 d.2) ]
+      | inr c ↦ elim (signed_value_form b q) [
+        | inl d ↦ rw (c.1, d) (rw (mul_comm a b, *ℤ_comm (negsuc c.0) (pos b)) (mixed_product b a c.0 c.2))
+        | inr d ↦ rw (c.1, d.1) (negative_product a b c.0 d.0 c.2 d.2)
+      ]
+    ]
 
 -- ---- each operation gives a word
 
@@ -201,12 +271,13 @@ remainder_fits x y h = record { sfits = lt_of_le_of_lt (mag_rem x y) h.sfits }
 -- a signed division that has an answer is by a number that is not 0, and is not -2147483648 by -1
 has_quotient : (a b : ℕ) → IsWord a → IsWord b → lacks_quotient a b ≡ false
     → (signed_value b ≢ pos 0) × (signed_value a ≡ negsuc 2147483647 → signed_value b ≢ negsuc 0)
-has_quotient a b p q has =
-    (λ zero_divisor. let e = signed_value_injective b 0 q (omega arith) zero_divisor in grind (arith, nat_tests),
-     λ least minus_one.
-        let e = signed_value_injective a 2147483648 p (omega arith) least in
-        let f = signed_value_injective b 4294967295 q (omega arith) minus_one in
-        grind (arith, nat_tests))
+has_quotient a b p q has = (
+  λ zero_divisor. let e = signed_value_injective b 0 q (omega arith) zero_divisor in grind (arith, nat_tests),
+  λ least minus_one.
+      let e = signed_value_injective a 2147483648 p (omega arith) least in
+      let f = signed_value_injective b 4294967295 q (omega arith) minus_one in
+      grind (arith, nat_tests),
+)
 
 abs_pos : (z : ℤ) → z ≢ pos 0 → 0 < unsigned_abs z
 abs_pos (pos zero) h = absurd (h refl)
@@ -241,6 +312,13 @@ signed_value-rem_s a b r h e =
     let fits = remainder_fits (signed_value a) (signed_value b) (FitsSigned-signed_value a h) in
     ap signed_value (sym given.1) ∙ signed_value-word_of _ fits
 
+pub signed_value-shr_s : (w k v : ℕ) → IsWord w → shr_s w k ≡ Some v → signed_value v ≡ int_shr (signed_value w) k
+signed_value-shr_s w k v h e =
+    let x = signed_value w in
+    let fits : FitsSigned w32 (int_shr x k) = record { sfits = lt_of_le_of_lt (mag_shr x (2 ^ k)) (FitsSigned-signed_value w h).sfits } in
+    let given = cond_some (ltb k 32) (word_of (int_shr x k)) v e in
+    ap signed_value (sym given.1) ∙ signed_value-word_of _ fits
+
 -- the quotient times the divisor, plus the remainder, is the dividend
 pub quotient_and_remainder : (a b q r : ℕ) → IsWord a → IsWord b → div_s a b ≡ Some q → rem_s a b ≡ Some r
     → signed_value q *ℤ signed_value b +ℤ signed_value r ≡ signed_value a
@@ -266,8 +344,8 @@ pub complement-xor : (w : ℕ) → IsWord w → complement w ≡ xor w 429496729
 complement-xor w h =
     same_from_bits_below 32 _ _ (IsWord-complement w) (IsWord-xor w 4294967295 h (omega arith))
     (λ i below.
-        let digit = bit_at-lt w i in
-        let flipped = bit_at_not w32 w i h below in
-        let other = bit_at_xor w 4294967295 i in
-        let one = bit_at_ones 32 i below in
-        omega arith)
+    let digit = bit_at-lt w i in
+    let flipped = bit_at_not w32 w i h below in
+    let other = bit_at_xor w 4294967295 i in
+    let one = bit_at_ones 32 i below in
+    omega arith)
