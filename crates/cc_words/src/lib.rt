@@ -2,7 +2,7 @@
 //! One module, free functions on `u32`. A signed operation reads its words in two's complement.
 //! Each call answers its formula over whole numbers, `specs/Words.antt`; an operation that C leaves
 //! undefined answers `None`. No call takes memory, and none can fail otherwise.
-//! Hands out the calls, the definitions (`specs/Words.antt`) and their laws (`proofs/Laws.antt`).
+//! Hands out the calls, the definitions (`specs/Words.antt`) and their laws (`proofs/`).
 #![tactic(auto)]
 
 ghost use Rattle.std.specs.Prelude.{◌≡◌};
