@@ -3,3 +3,4 @@ pub mod Erase
 pub mod Place
 pub mod Fault
 pub mod Source
+pub mod Token
