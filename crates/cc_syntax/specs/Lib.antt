@@ -4,3 +4,7 @@ pub mod Place
 pub mod Fault
 pub mod Source
 pub mod Token
+pub mod Spelling
+pub mod Constant
+pub mod Tokens
+pub mod Scan

@@ -6,7 +6,9 @@
 
 mod ast;
 mod fault;
+mod flaw;
 mod place;
+mod scan;
 mod token;
 mod unit;
 
@@ -14,6 +16,7 @@ pub use ast::{
     BinaryOperator, Declarator, Expression, Function, Identifier, Scalar, Statement, UnaryOperator,
 };
 pub use fault::SyntaxFault;
+pub use flaw::Flaw;
 pub use place::{Place, place_at};
 pub use token::{Keyword, Punctuator, Token, TokenKind};
 pub use unit::Unit;
