@@ -1,5 +1,5 @@
--- What the private functions of the scanner answer, as functions on lists. The definition of the tokens of a text does
--- not rest on them: the proofs show that they agree with it.
+-- A reader may skip this page: it says what the private functions of the scanner answer, as functions on lists. The
+-- definition of the tokens of a text does not rest on it: the proofs show that it agrees with that definition.
 use Rattle.std.specs.Prelude.{◌≡◌, ℕ, zero, suc, ◌+◌, ◌-◌, ◌*◌, ◌/◌, ◌<◌, ◌≤◌, Bool, true, false, not, ◌||◌, ◌&&◌, ◌==◌, nat_le, nat_lt, if◌then◌else◌, cond, slice_index, List, [], ◌∷◌, ◌++◌, length, take, drop, Option, Some, None, Result, Ok, Err}
 use Rattle.std.specs.List.{find, fold, prefix_len, starts_with}
 use Rattle.std.specs.Str.{bytes_eq}
@@ -124,7 +124,7 @@ comment_front bytes =
 
 -- how many bytes of a run stand at the front, of which the first is one
 abbrev pub run_of : (ℕ → ℕ → Bool) → List ℕ → ℕ
-run_of may bytes = 1 + run_length may (slice_index bytes 0) (drop 1 bytes)
+run_of may bytes = suc (run_length may (slice_index bytes 0) (drop 1 bytes))
 
 -- what stands at the front of the bytes
 unfoldable pub front_of : List ℕ → Front

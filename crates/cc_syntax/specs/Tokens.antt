@@ -57,11 +57,11 @@ pub data CanBeToken : List ℕ → Type 0 where
   punctuator : {text : List ℕ} (p : Punctuator) → text ≡ punctuator_bytes p → CanBeToken text
 
 -- what the bytes of a token spell
-abbrev pub Spells : TokenKind → List ℕ → Type 0
-Spells kind.Identifier text = IsWord text × ((k : Keyword) → text ≢ keyword_bytes k)
-Spells (kind.Keyword k) text = text ≡ keyword_bytes k
-Spells (kind.Number type n) text = (c : Constant) × SpellsConstant c text × (constant_type c ≡ Some type) × (n ≡ constant_value c)
-Spells (kind.Punctuator p) text = text ≡ punctuator_bytes p
+abbrev pub SpellsToken : TokenKind → List ℕ → Type 0
+SpellsToken kind.Identifier text = IsWord text × ((k : Keyword) → text ≢ keyword_bytes k)
+SpellsToken (kind.Keyword k) text = text ≡ keyword_bytes k
+SpellsToken (kind.Number type n) text = (c : Constant) × SpellsConstant c text × (constant_type c ≡ Some type) × (n ≡ constant_value c)
+SpellsToken (kind.Punctuator p) text = text ≡ punctuator_bytes p
 
 -- of text and what follows it, text is the longest front that can be a token (6.4, paragraph 4)
 pub record IsLongest (text after : List ℕ) : Type 0 where
@@ -112,7 +112,7 @@ piece_bytes (token k text) = text
 abbrev pub StandsBefore : Piece → List ℕ → Type 0
 StandsBefore (blank b) after = IsTrue (is_blank b)
 StandsBefore (comment c) after = IsComment c after × Nowhere begins_splice c after
-StandsBefore (token k text) after = (begins_comment (text ++ after) ≡ false) × IsLongest text after × Spells k text
+StandsBefore (token k text) after = (begins_comment (text ++ after) ≡ false) × IsLongest text after × SpellsToken k text
 
 -- the text is these pieces, each right before what follows it, and then the rest
 abbrev pub IsCut : List Piece → List ℕ → List ℕ → Type 0

@@ -3,7 +3,7 @@
 // Each function answers what the function of its name in specs/Scan.antt does; proofs/ shows that those agree with the
 // definition of the tokens of a text.
 
-ghost use Rattle.std.specs.Prelude.{◌≡◌, ◌+◌, ◌*◌, ◌<◌, ◌≤◌, ◌||◌, ◌&&◌, ◌==◌, length, take, drop, min, slice_index};
+ghost use Rattle.std.specs.Prelude.{◌≡◌, ◌+◌, ◌*◌, ◌<◌, ◌≤◌, ◌||◌, ◌&&◌, ◌==◌, true, length, take, drop, min, slice_index};
 ghost use Rattle.std.specs.List.{fold, prefix_len};
 ghost use Rattle.std.specs.Char.{digit_value};
 ghost use Rattle.cc_syntax.specs.Constant.{is_digit_of, type_of_value};
@@ -47,7 +47,8 @@ pub enum Front {
 
 // The byte at an index, or 0 past the end.
 fn byte_at(bytes: &[u8], i: usize) -> u8
-    ensures { result ≡ slice_index bytes.now i }
+    ensures value { result ≡ slice_index bytes.now i }
+    ensures within { 0 < result → i < length bytes.now }
 {
     if i < bytes.len() { bytes[i] } else { 0 }
 }
@@ -107,6 +108,7 @@ fn place_within(mark: Mark, bytes: &[u8], n: usize) -> usize
     requires { n ≤ length bytes.now }
     ensures value { result ≡ place_within (begins mark) n bytes.now }
     ensures bound { result ≤ n }
+    ensures here { result < n → begins mark (drop result bytes.now) ≡ true }
 {
     for i in 0..n {
         if begins(mark, &bytes[i..]) {
@@ -129,12 +131,14 @@ fn run_len(run: Run, bytes: &[u8]) -> usize
     n
 }
 
+#[tactic(auto, unfolding(crate::specs::Scan::keyword_named))]
 fn keyword_named(word: &[u8]) -> Option<Keyword>
     ensures { result ≡ keyword_named word.now }
 {
     KEYWORDS.iter().copied().find(|k| k.bytes() == word)
 }
 
+#[tactic(auto, unfolding(crate::specs::Scan::punctuator_at))]
 fn punctuator_at(bytes: &[u8]) -> Option<Punctuator>
     ensures { result ≡ punctuator_at bytes.now }
 {
@@ -166,9 +170,13 @@ fn digit_value(b: u8) -> u8
 }
 
 // The base of a number.
+#[tactic(auto, unfolding(crate::specs::Scan::base_of))]
 fn base_of(number: &[u8]) -> u8
+    requires { 0 < length number.now }
     ensures value { result ≡ base_of number.now }
     ensures bound { result ≤ 16 }
+    ensures low { 8 ≤ result }
+    ensures room { prefix_of_base result ≤ length number.now }
 {
     if byte_at(number, 0) != b'0' {
         10
@@ -176,6 +184,17 @@ fn base_of(number: &[u8]) -> u8
         16
     } else {
         8
+    }
+}
+
+// How many bytes stand before the digits.
+fn prefix_of_base(base: u8) -> usize
+    ensures { result ≡ prefix_of_base base }
+{
+    match base {
+        10 => 0,
+        8 => 1,
+        _ => 2,
     }
 }
 
@@ -192,6 +211,7 @@ fn digits_len(base: u8, bytes: &[u8]) -> usize
 }
 
 // Whether the bytes are a suffix, where they are one or nothing.
+#[tactic(auto, unfolding(crate::specs::Scan::suffix_of))]
 fn suffix_of(bytes: &[u8]) -> Option<bool>
     ensures { result ≡ suffix_of bytes.now }
 {
@@ -229,16 +249,13 @@ fn typed(base: u8, suffixed: bool, value: u64) -> Result<TokenKind, Flaw>
 }
 
 // What the bytes of a number are.
+#[tactic(auto, unfolding(crate::specs::Scan::constant_spelled))]
 fn constant_kind(number: &[u8]) -> Result<TokenKind, Flaw>
     requires { 0 < length number.now }
     ensures { result ≡ constant_kind (constant_spelled number.now) }
 {
     let base = base_of(number);
-    let behind = match base {
-        10 => number,
-        8 => &number[1..],
-        _ => &number[2..],
-    };
+    let behind = &number[prefix_of_base(base)..];
     let n = digits_len(base, behind);
     if n == 0 && base != 8 {
         return Err(Flaw::BadConstant);
@@ -279,6 +296,7 @@ fn comment_front(bytes: &[u8]) -> Front
 }
 
 /// What stands at the front of the bytes, of which there is one at least.
+#[tactic(auto, unfolding(crate::specs::Scan::front_of))]
 pub fn front_of(bytes: &[u8]) -> Front
     requires { 0 < length bytes.now }
     ensures { result ≡ front_of bytes.now }
