@@ -1,6 +1,6 @@
 -- Integer constants (C99 6.4.4.1, those of the profile).
 use Rattle.std.specs.Prelude.{◌≡◌, ◌≢◌, ℕ, ◌+◌, ◌*◌, ◌<◌, ◌⊎◌, Bool, true, false, not, ◌&&◌, ◌||◌, ◌==◌, nat_le, nat_lt, if◌then◌else◌, List, [], ◌∷◌, ◌++◌, Option, Some, None, IsTrue}
-use Rattle.std.specs.List.{fold, AllPass}
+use Rattle.std.specs.List.{fold, AllByRecursion}
 use Rattle.std.specs.Char.{digit_value}
 use Rattle.cc_syntax.specs.declared.ast.Scalar.{Scalar}
 use Rattle.cc_syntax.specs.declared.ast.Scalar.TheVariants.{Int, Unsigned}
@@ -33,7 +33,7 @@ pub record SpellsConstant (c : Constant) (text : List ℕ) : Type 0 where
   pub suffix : List ℕ
   pub parts : text ≡ prefix ++ (c.digits ++ suffix)
   pub prefixed : IsPrefix prefix c.base c.digits
-  pub digits : AllPass (is_digit_of c.base) c.digits
+  pub all_digits : AllByRecursion (λ b. IsTrue (is_digit_of c.base b)) c.digits
   pub ended : IsSuffix suffix c.suffixed
 
 -- the value of the digits
