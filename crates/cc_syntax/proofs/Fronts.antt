@@ -42,23 +42,23 @@ IsFront bytes (front.Flawed flaw k) = (k < length bytes) × IsFlawed flaw bytes 
 
 -- the five ways that the first byte may go
 module _ (b : ℕ) (bs : List ℕ) where
-  front_blank : is_blank b ≡ true → front_of (b ∷ bs) ≡ front.Blank
+  pub front_blank : is_blank b ≡ true → front_of (b ∷ bs) ≡ front.Blank
   unfolding front_of
   front_blank e = cond-true _ _ _ e
 
-  front_comment : is_blank b ≡ false → begins_comment (b ∷ bs) ≡ true → front_of (b ∷ bs) ≡ comment_front (b ∷ bs)
+  pub front_comment : is_blank b ≡ false → begins_comment (b ∷ bs) ≡ true → front_of (b ∷ bs) ≡ comment_front (b ∷ bs)
   unfolding front_of
   front_comment e c = cond-false _ _ _ e ∙ cond-true _ _ _ c
 
-  front_word : is_blank b ≡ false → begins_comment (b ∷ bs) ≡ false → is_nondigit b ≡ true → front_of (b ∷ bs) ≡ front.Token (word_kind (keyword_named (take (run_of continues_word (b ∷ bs)) (b ∷ bs)))) (run_of continues_word (b ∷ bs))
+  pub front_word : is_blank b ≡ false → begins_comment (b ∷ bs) ≡ false → is_nondigit b ≡ true → front_of (b ∷ bs) ≡ front.Token (word_kind (keyword_named (take (run_of continues_word (b ∷ bs)) (b ∷ bs)))) (run_of continues_word (b ∷ bs))
   unfolding front_of
   front_word e c w = cond-false _ _ _ e ∙ cond-false _ _ _ c ∙ cond-true _ _ _ w
 
-  front_number : is_blank b ≡ false → begins_comment (b ∷ bs) ≡ false → is_nondigit b ≡ false → is_ascii_digit b ≡ true → front_of (b ∷ bs) ≡ number_front (run_of continues_number (b ∷ bs)) (constant_kind (constant_spelled (take (run_of continues_number (b ∷ bs)) (b ∷ bs))))
+  pub front_number : is_blank b ≡ false → begins_comment (b ∷ bs) ≡ false → is_nondigit b ≡ false → is_ascii_digit b ≡ true → front_of (b ∷ bs) ≡ number_front (run_of continues_number (b ∷ bs)) (constant_kind (constant_spelled (take (run_of continues_number (b ∷ bs)) (b ∷ bs))))
   unfolding front_of
   front_number e c w d = cond-false _ _ _ e ∙ cond-false _ _ _ c ∙ cond-false _ _ _ w ∙ cond-true _ _ _ d
 
-  front_mark : is_blank b ≡ false → begins_comment (b ∷ bs) ≡ false → is_nondigit b ≡ false → is_ascii_digit b ≡ false → front_of (b ∷ bs) ≡ punctuator_front (punctuator_at (b ∷ bs))
+  pub front_mark : is_blank b ≡ false → begins_comment (b ∷ bs) ≡ false → is_nondigit b ≡ false → is_ascii_digit b ≡ false → front_of (b ∷ bs) ≡ punctuator_front (punctuator_at (b ∷ bs))
   unfolding front_of
   front_mark e c w d = cond-false _ _ _ e ∙ cond-false _ _ _ c ∙ cond-false _ _ _ w ∙ cond-false _ _ _ d
 
