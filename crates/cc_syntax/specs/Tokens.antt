@@ -13,6 +13,8 @@ use Rattle.cc_syntax.specs.declared.token.TokenKind.{TokenKind}
 use Rattle.cc_syntax.specs.declared.token.TokenKind.TheVariants as kind
 use Rattle.cc_syntax.specs.Spelling.{keyword_bytes, punctuator_bytes}
 use Rattle.cc_syntax.specs.Constant.{Constant, SpellsConstant, constant_value, constant_type}
+use Rattle.cc_syntax.specs.declared.token.Token.{Token}
+use Rattle.cc_syntax.specs.Place.{place_of}
 use Rattle.cc_syntax.specs.Token.{Lexeme}
 
 -- white space: space, and the bytes 9 to 13 (6.4, 7.4.1.10)
@@ -200,3 +202,40 @@ flaw_fault BadByte p = fault.BadByte p
 flaw_fault UnclosedComment p = fault.UnclosedComment p
 flaw_fault BadConstant p = fault.BadConstant p
 flaw_fault ConstantTooLarge p = fault.ConstantTooLarge p
+
+-- the tokens stand one behind the other from low up to high, each of one byte at least
+abbrev pub AreInOrder : (low : ℕ) → List Token → (high : ℕ) → Type 0
+AreInOrder low [] high = low ≤ high
+AreInOrder low (t ∷ ts) high = (low ≤ t.from) × (t.from < t.to) × AreInOrder t.to ts high
+
+-- a text of at most 65,536 bytes, and the fault of its first flaw, at that flaw's place
+pub record IsFlawFault (text : List ℕ) (fault : SyntaxFault) : Type 0 where
+  pub fits : length text ≤ 65536
+  pub flaw : Flaw
+  pub at : ℕ
+  pub first : FirstFlaw text flaw at
+  pub is : fault ≡ flaw_fault flaw (place_of text at)
+
+-- when a text has no tokens: 7 where it is longer than 65,536 bytes; where it isn't, the fault of its first flaw, or
+-- want of memory
+abbrev pub IsRefusal : List ℕ → SyntaxFault → Type 0
+IsRefusal text fault.SourceTooLarge = 65536 < length text
+IsRefusal text fault.OutOfMemory = length text ≤ 65536
+IsRefusal text (fault.BadByte p) = IsFlawFault text (fault.BadByte p)
+IsRefusal text (fault.UnclosedComment p) = IsFlawFault text (fault.UnclosedComment p)
+IsRefusal text (fault.BadConstant p) = IsFlawFault text (fault.BadConstant p)
+IsRefusal text (fault.ConstantTooLarge p) = IsFlawFault text (fault.ConstantTooLarge p)
+IsRefusal text (fault.Unexpected p) = ⊥
+IsRefusal text (fault.TooDeep p) = ⊥
+
+-- a text has one list of tokens at most
+abbrev pub TokensAreOne : Type 0
+TokensAreOne = (text : List ℕ) (a b : List Lexeme) → IsTokens text a → IsTokens text b → a ≡ b
+
+-- a text that has tokens has no flaw
+abbrev pub TokensHaveNoFlaw : Type 0
+TokensHaveNoFlaw = (text : List ℕ) (ts : List Lexeme) (flaw : Flaw) (at : ℕ) → IsTokens text ts → FirstFlaw text flaw at → ⊥
+
+-- a text has one first flaw at most
+abbrev pub FirstFlawIsOne : Type 0
+FirstFlawIsOne = (text : List ℕ) (f g : Flaw) (i j : ℕ) → FirstFlaw text f i → FirstFlaw text g j → (f ≡ g) × (i ≡ j)

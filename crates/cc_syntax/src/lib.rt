@@ -7,6 +7,7 @@
 mod ast;
 mod fault;
 mod flaw;
+mod lexer;
 mod place;
 mod scan;
 mod token;
@@ -17,6 +18,7 @@ pub use ast::{
 };
 pub use fault::SyntaxFault;
 pub use flaw::Flaw;
+pub use lexer::{tokens, tokens_are_determined};
 pub use place::{Place, place_at};
 pub use token::{Keyword, Punctuator, Token, TokenKind};
 pub use unit::Unit;
