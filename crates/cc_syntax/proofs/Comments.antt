@@ -1,15 +1,14 @@
 -- Comments at the front of the bytes: the scanner's two searches find the one comment that begins there, and the first
 -- line splice in it.
-use Rattle.std.proofs.Common.{◌≡◌, ℕ, suc, zero, ◌+◌, ◌-◌, ◌<◌, ◌≤◌, ◌⊎◌, Bool, true, false, cond, not, ◌&&◌, ◌||◌, ◌==◌, List, [], ◌∷◌, ◌++◌, length, get_or, take, drop, refl, sym, ap, ◌∙◌, arith, subst, ⊎_elim, inl, inr, append_assoc, length-append, length-drop}
-use Rattle.std.specs.Prelude.{nat_lt, IsTrue}
+use Rattle.std.proofs.Common.{◌≡◌, ℕ, ◌+◌, ◌<◌, ◌⊎◌, true, ◌==◌, List, [], ◌∷◌, ◌++◌, length, get_or, drop, refl, sym, ap, ◌∙◌, arith, ⊎_elim, append_assoc, length-append}
+use Rattle.std.specs.Prelude.{IsTrue}
 use Rattle.std.proofs.lemmas.Bool.{cond-true, cond-false, false≢true, and_parts, eqb-true, lt-ltb, le-ltb}
-use Rattle.std.proofs.lemmas.List.{take-append-drop, append-nil, take_at, drop_at, length-take-le, take-append-le, drop-append-le, drop_all}
+use Rattle.std.proofs.lemmas.List.{append-nil}
 use Rattle.cc_syntax.specs.declared.flaw.Flaw.TheVariants.{BadByte, UnclosedComment}
-use Rattle.cc_syntax.specs.declared.scan.Front.{Front}
 use Rattle.cc_syntax.specs.declared.scan.Front.TheVariants as front
-use Rattle.cc_syntax.specs.Tokens.{begins_close, begins_line_end, begins_splice, begins_comment, Nowhere, IsComment, block, line, IsUnclosed, IsSpliced}
+use Rattle.cc_syntax.specs.Tokens.{begins_close, begins_line_end, begins_splice, Nowhere, IsComment, block, line}
 use Rattle.cc_syntax.specs.Scan.{place_within, comment_of, comment_front, block_comment, spliced}
-use Rattle.cc_syntax.proofs.Runs.{place_fits, place_nowhere, place_here, place_is, place_none_before}
+use Rattle.cc_syntax.proofs.Runs.{place_is, place_none_before}
 
 -- where `*/` stands
 pub close_shape : (xs : List ℕ) → begins_close xs ≡ true → xs ≡ 42 ∷ 47 ∷ drop 2 xs
@@ -33,7 +32,7 @@ block_is_found body after none bytes whole =
     let size = ap length rest ∙ length-append body (42 ∷ 47 ∷ after) in
     let below : length body < length (drop 2 bytes) = omega arith in
     let place : place_within begins_close (length (drop 2 bytes)) (drop 2 bytes) ≡ length body
-        = ap (place_within begins_close (length (drop 2 bytes))) rest ∙ place_is begins_close body (42 ∷ 47 ∷ after) (length (drop 2 bytes)) (omega arith) none below refl in
+    = ap (place_within begins_close (length (drop 2 bytes))) rest ∙ place_is begins_close body (42 ∷ 47 ∷ after) (length (drop 2 bytes)) (omega arith) none below refl in
     let comment : length body + 4 ≡ length (47 ∷ 42 ∷ body ++ (42 ∷ 47 ∷ [])) = omega (arith, length-append body (42 ∷ 47 ∷ [])) in
     cond-true _ _ _ (ap (λ bs. get_or bs 1 0 == 42) whole)
     ∙ ap (λ n. block_comment n bytes) place
@@ -45,11 +44,11 @@ line_is_found body after none ends bytes whole =
     let rest : drop 2 bytes ≡ body ++ after = ap (drop 2) whole in
     let size = ap length rest ∙ length-append body after in
     let place : place_within begins_line_end (length (drop 2 bytes)) (drop 2 bytes) ≡ length body
-        = ap (place_within begins_line_end (length (drop 2 bytes))) rest
-          ∙ ⊎_elim
-            (λ (empty : after ≡ []). let same : length (drop 2 bytes) ≡ length body = omega (arith, ap length empty) in ap (λ n. place_within begins_line_end n (body ++ after)) same ∙ place_none_before begins_line_end body after none)
-            (λ (here : begins_line_end after ≡ true). let some = line_end_fits after here in place_is begins_line_end body after (length (drop 2 bytes)) (omega arith) none (omega arith) here)
-            ends in
+    = ap (place_within begins_line_end (length (drop 2 bytes))) rest
+    ∙ ⊎_elim
+    (λ (empty : after ≡ []). let same : length (drop 2 bytes) ≡ length body = omega (arith, ap length empty) in ap (λ n. place_within begins_line_end n (body ++ after)) same ∙ place_none_before begins_line_end body after none)
+    (λ (here : begins_line_end after ≡ true). let some = line_end_fits after here in place_is begins_line_end body after (length (drop 2 bytes)) (omega arith) none (omega arith) here)
+    ends in
     let comment : length body + 2 ≡ length (47 ∷ 47 ∷ body) = omega arith in
     cond-false _ _ _ (ap (λ bs. get_or bs 1 0 == 42) whole)
     ∙ ap (λ n. comment_of (n + 2) bytes) place

@@ -1,11 +1,9 @@
 -- Each piece and each flaw that stands at the front of the bytes is what the scanner answers there. So no two can stand
 -- there, and a text has one list of tokens at most, or one first flaw, and not both.
-use Rattle.std.proofs.Common.{◌≡◌, ◌≢◌, ℕ, suc, zero, ◌+◌, ◌-◌, ◌<◌, ◌≤◌, ◌⊎◌, Bool, true, false, cond, not, ◌&&◌, ◌||◌, ◌==◌, List, [], ◌∷◌, ◌++◌, length, get_or, take, drop, refl, sym, ap, ◌∙◌, arith, subst, ⊎_elim, inl, inr, append_assoc, length-append, length-drop, Option, Some, None, Result, Ok, Err}
-use Rattle.std.specs.Prelude.{nat_lt, IsTrue}
+use Rattle.std.proofs.Common.{◌≡◌, ◌≢◌, ℕ, suc, true, false, List, [], ◌∷◌, ◌++◌, length, get_or, take, drop, refl, sym, ap, ◌∙◌, arith, subst, ⊎_elim, Option, Some, None}
 use Rattle.std.specs.Char.{is_ascii_digit}
-use Rattle.std.proofs.lemmas.Bool.{cond-true, cond-false, cond_both, false≢true, and_parts, or_cases, eqb-true, ltb-true, ltb-false, and_left, ne_eqb, cases_Bool, cases_lt}
-use Rattle.std.proofs.lemmas.List.{take-append-drop, append-nil, take_at, drop_at, length-take-le, take-append-le, drop-append-le, drop_all, take_all}
-use Rattle.cc_syntax.specs.declared.ast.Scalar.{Scalar}
+use Rattle.std.proofs.lemmas.Bool.{false≢true, and_left, ne_eqb, cases_Bool}
+use Rattle.std.proofs.lemmas.List.{append-nil, take_at}
 use Rattle.cc_syntax.specs.declared.flaw.Flaw.{Flaw}
 use Rattle.cc_syntax.specs.declared.flaw.Flaw.TheVariants.{BadByte, UnclosedComment, BadConstant, ConstantTooLarge}
 use Rattle.cc_syntax.specs.declared.scan.Front.{Front}
@@ -16,17 +14,13 @@ use Rattle.cc_syntax.specs.declared.token.TokenKind.{TokenKind}
 use Rattle.cc_syntax.specs.declared.token.TokenKind.TheVariants as kind
 use Rattle.cc_syntax.specs.Spelling.{keyword_bytes, punctuator_bytes}
 use Rattle.cc_syntax.specs.Constant.{Constant, SpellsConstant, constant_value, constant_type}
-use Rattle.cc_syntax.specs.Tokens.{is_blank, is_nondigit, continues_word, continues_number, CanBeToken, word, number, punctuator, IsWord, IsNumber, SpellsToken, IsLongest, begins_comment, begins_close, begins_line_end, begins_splice, Nowhere, IsComment, block, line, Piece, blank, comment, token, piece_bytes, StandsBefore, IsStray, IsSpliced, IsUnclosed, IsBadConstant, IsTooLarge, IsFlawed}
-use Rattle.cc_syntax.specs.Scan.{run_of, run_length, front_of, comment_front, comment_of, block_comment, spliced, place_within, number_front, punctuator_front, punctuator_at, keyword_named, word_kind, constant_kind, constant_spelled, typed}
+use Rattle.cc_syntax.specs.Tokens.{is_blank, is_nondigit, CanBeToken, word, number, punctuator, IsWord, IsNumber, SpellsToken, IsLongest, begins_comment, IsComment, block, line, Piece, blank, comment, token, piece_bytes, StandsBefore, IsStray, IsSpliced, IsUnclosed, IsBadConstant, IsTooLarge, IsFlawed}
+use Rattle.cc_syntax.specs.Scan.{front_of, comment_of, number_front, punctuator_front, punctuator_at, keyword_named, word_kind, constant_kind, constant_spelled, typed}
 use Rattle.cc_syntax.proofs.Tables.{keyword_named-bytes, keyword_is_word}
-use Rattle.cc_syntax.proofs.Runs.{run_fits, run_continues, place_fits, place_nowhere, place_here}
 use Rattle.cc_syntax.proofs.ConstantForms.{constant_sound, constant_complete, constant_begins}
-use Rattle.cc_syntax.proofs.Words.{digit_not_nondigit, nondigit_not_blank, digit_not_blank, digit_is_no_nondigit, IsMark, punctuator_marks, punctuator_some, word_is_longest, number_is_longest, word_takes, number_takes, word_spells}
+use Rattle.cc_syntax.proofs.Words.{digit_not_nondigit, nondigit_not_blank, digit_not_blank, digit_is_no_nondigit, punctuator_marks, punctuator_some, word_takes, number_takes, word_spells}
 use Rattle.cc_syntax.proofs.Punctuators.{punctuator_found, punctuator_longest, punctuator_missing, punctuator_one}
-use Rattle.cc_syntax.proofs.Comments.{close_shape, comment_is_found, unclosed_is_found, plain_is_found, splice_is_found}
-use Rattle.std.specs.List.{flat_map}
-use Rattle.cc_syntax.specs.Token.{Lexeme}
-use Rattle.cc_syntax.specs.Tokens.{IsCut, tokens_of, IsTokens, FirstFlaw}
+use Rattle.cc_syntax.proofs.Comments.{comment_is_found, unclosed_is_found, plain_is_found, splice_is_found}
 use Rattle.cc_syntax.proofs.Fronts.{front_blank, front_comment, front_word, front_number, front_mark}
 
 -- the answer for a piece
@@ -123,9 +117,9 @@ stray_complete : (b : ℕ) (bs : List ℕ) → is_blank b ≡ false → begins_c
 stray_complete b bs no_blank no_comment no_token = ⊎_elim
     (λ (w : is_nondigit b ≡ true). absurd (no_token (b ∷ []) bs (word (w, tt)) refl))
     (λ (w : is_nondigit b ≡ false). ⊎_elim
-      (λ (d : is_ascii_digit b ≡ true). absurd (no_token (b ∷ []) bs (number (d, tt)) refl))
-      (λ (d : is_ascii_digit b ≡ false). front_mark b bs no_blank no_comment w d ∙ stray_by b bs (punctuator_at (b ∷ bs)) no_token refl)
-      (cases_Bool (is_ascii_digit b)))
+    (λ (d : is_ascii_digit b ≡ true). absurd (no_token (b ∷ []) bs (number (d, tt)) refl))
+    (λ (d : is_ascii_digit b ≡ false). front_mark b bs no_blank no_comment w d ∙ stray_by b bs (punctuator_at (b ∷ bs)) no_token refl)
+    (cases_Bool (is_ascii_digit b)))
     (cases_Bool (is_nondigit b))
 
 stray_is : (bytes : List ℕ) → IsStray bytes → front_of bytes ≡ front.Flawed BadByte 0

@@ -1,10 +1,10 @@
 -- The constant that the scanner finds in a number is the one that the number spells, and it finds none where none is
 -- spelled: forward by the three bases, back by the three prefixes and the two suffixes.
-use Rattle.std.proofs.Common.{◌≡◌, ℕ, suc, zero, ◌+◌, ◌-◌, ◌*◌, ◌<◌, ◌≤◌, ◌⊎◌, Bool, true, false, cond, not, ◌&&◌, ◌||◌, ◌==◌, List, [], ◌∷◌, ◌++◌, length, get_or, take, drop, min, refl, sym, ap, ◌∙◌, arith, subst, ⊎_elim, inl, inr, Option, Some, None}
-use Rattle.std.specs.Prelude.{nat_lt, IsTrue}
+use Rattle.std.proofs.Common.{◌≡◌, ℕ, suc, zero, ◌+◌, ◌≤◌, ◌⊎◌, Bool, true, false, not, ◌&&◌, ◌||◌, ◌==◌, List, [], ◌∷◌, ◌++◌, length, get_or, take, drop, refl, sym, ap, ◌∙◌, arith, subst, ⊎_elim, inl, inr, Option, Some, None}
+use Rattle.std.specs.Prelude.{IsTrue}
 use Rattle.std.specs.List.{prefix_len, AllByRecursion}
 use Rattle.std.specs.Char.{digit_value, is_ascii_digit}
-use Rattle.std.proofs.lemmas.Bool.{cond-true, cond-false, cond_both, false≢true, eqb-true, eqb-false, eq-eqb, ne_eqb, or_cases, or_parts, or_left, or_right, and_parts, and_cases, and_left, and_right, or_from, lt-ltb, le-ltb, ltb-true, not_from_true, not-false, not-true, cases_Bool, cases_eq}
+use Rattle.std.proofs.lemmas.Bool.{cond-true, cond-false, cond_both, false≢true, eqb-true, eq-eqb, ne_eqb, or_cases, or_left, or_right, and_cases, and_left, and_right, or_from, le-ltb, not_from_true, not-false, cases_Bool, cases_eq}
 use Rattle.std.proofs.Math.Numerals.{one-add}
 use Rattle.std.proofs.lemmas.List.{take-append-drop, take_at, drop_at}
 use Rattle.std.proofs.lemmas.Bool.Decides.{nat_tests}
@@ -70,11 +70,11 @@ behind_found base n behind c =
     cond_both (n == 0 && not (base == 8)) None (with_suffix base (take n behind) (suffix_of (drop n behind))) (λ o. o ≡ Some c → IsBehind base n behind c)
     (λ bare e. absurd (none_some _ e))
     (λ digits e. behind_found_by base n behind (suffix_of (drop n behind)) c refl
-      (λ zero_digits. ⊎_elim
-        (λ apart. absurd (false≢true (sym apart ∙ eq-eqb n 0 zero_digits)))
-        (λ apart. eqb-true base 8 (not-false _ apart))
-        (and_cases (n == 0) (not (base == 8)) digits))
-      e)
+    (λ zero_digits. ⊎_elim
+    (λ apart. absurd (false≢true (sym apart ∙ eq-eqb n 0 zero_digits)))
+    (λ apart. eqb-true base 8 (not-false _ apart))
+    (and_cases (n == 0) (not (base == 8)) digits))
+    e)
 
 -- decimal digits, of which there is one, and the first isn't 0
 decimal_digits : (b : ℕ) (bs : List ℕ) (n : ℕ) → (b ≡ 48 → ⊥) → (n ≡ 0 → ◌≡◌ {A = ℕ} 10 8) → IsPrefix [] 10 (take n (b ∷ bs))
@@ -131,10 +131,10 @@ sound_at_48 [] c e =
     spelled_behind c _ (48 ∷ []) [] 8 refl (behind_found 8 _ [] c (sym (constant_spelled_at (48 ∷ []) 8 (base_is_8 [] refl)) ∙ e)) octal
 sound_at_48 (x ∷ bs) c e = ⊎_elim
     (λ letter.
-      let parts = behind_found 16 _ bs c (sym (constant_spelled_at (48 ∷ x ∷ bs) 16 (base_is_16 x bs letter)) ∙ e) in
-      spelled_behind c _ (48 ∷ x ∷ []) bs 16 refl parts (hexadecimal_digits x bs _ (prefix_len-le-length (is_digit_of 16) bs) (⊎_elim (λ y. inl (eqb-true x 120 y)) (λ y. inr (eqb-true x 88 y)) (or_cases (x == 120) (x == 88) letter)) parts.some))
+    let parts = behind_found 16 _ bs c (sym (constant_spelled_at (48 ∷ x ∷ bs) 16 (base_is_16 x bs letter)) ∙ e) in
+    spelled_behind c _ (48 ∷ x ∷ []) bs 16 refl parts (hexadecimal_digits x bs _ (prefix_len-le-length (is_digit_of 16) bs) (⊎_elim (λ y. inl (eqb-true x 120 y)) (λ y. inr (eqb-true x 88 y)) (or_cases (x == 120) (x == 88) letter)) parts.some))
     (λ no_letter.
-      spelled_behind c _ (48 ∷ []) (x ∷ bs) 8 refl (behind_found 8 _ (x ∷ bs) c (sym (constant_spelled_at (48 ∷ x ∷ bs) 8 (base_is_8 (x ∷ bs) no_letter)) ∙ e)) octal)
+    spelled_behind c _ (48 ∷ []) (x ∷ bs) 8 refl (behind_found 8 _ (x ∷ bs) c (sym (constant_spelled_at (48 ∷ x ∷ bs) 8 (base_is_8 (x ∷ bs) no_letter)) ∙ e)) octal)
     (cases_Bool (x == 120 || x == 88))
 
 pub constant_sound : (b : ℕ) (bs : List ℕ) (c : Constant) → constant_spelled (b ∷ bs) ≡ Some c → SpellsConstant c (b ∷ bs)
@@ -142,8 +142,8 @@ unfolding spelled_at
 constant_sound b bs c e = ⊎_elim
     (λ is_zero. subst (λ d. constant_spelled (d ∷ bs) ≡ Some c → SpellsConstant c (d ∷ bs)) (sym is_zero) (sound_at_48 bs c) e)
     (λ apart.
-      let parts = behind_found 10 _ (b ∷ bs) c (sym (constant_spelled_at (b ∷ bs) 10 (base_is_10 b bs apart)) ∙ e) in
-      spelled_behind c _ [] (b ∷ bs) 10 refl parts (decimal_digits b bs _ apart parts.some))
+    let parts = behind_found 10 _ (b ∷ bs) c (sym (constant_spelled_at (b ∷ bs) 10 (base_is_10 b bs apart)) ∙ e) in
+    spelled_behind c _ [] (b ∷ bs) 10 refl parts (decimal_digits b bs _ apart parts.some))
     (cases_eq b 48)
 
 -- a suffix begins with no digit
@@ -168,7 +168,7 @@ behind_is_found : (base : ℕ) (digits suffix : List ℕ) (s : Bool) → base �
 behind_is_found base digits suffix s small some all ended =
     let n_is = prefix_len_cut (is_digit_of base) digits suffix all (suffix_stops base suffix s small ended) in
     let enough : (length digits == 0 && not (base == 8)) ≡ false
-        = ⊎_elim (λ (e : length digits ≡ 0). and_right (length digits == 0) _ (not_from_true _ (eq-eqb base 8 (some e)))) (λ (apart : length digits ≡ 0 → ⊥). and_left _ _ (ne_eqb (length digits) 0 apart)) (cases_eq (length digits) 0) in
+    = ⊎_elim (λ (e : length digits ≡ 0). and_right (length digits == 0) _ (not_from_true _ (eq-eqb base 8 (some e)))) (λ (apart : length digits ≡ 0 → ⊥). and_left _ _ (ne_eqb (length digits) 0 apart)) (cases_eq (length digits) 0) in
     ap (λ n. constant_behind base n (digits ++ suffix)) n_is
     ∙ cond-false _ _ _ enough
     ∙ ap (λ ds. with_suffix base ds (suffix_of (drop (length digits) (digits ++ suffix)))) (take_at digits suffix (length digits) refl)

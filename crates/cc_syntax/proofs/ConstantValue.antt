@@ -1,12 +1,12 @@
 -- The value of a constant: the scanner caps it at 2^32, past which no type is left, so it finds the same type.
-use Rattle.std.proofs.Common.{◌≡◌, ℕ, suc, zero, ◌+◌, ◌-◌, ◌*◌, ◌<◌, ◌≤◌, Bool, true, false, cond, not, ◌&&◌, ◌||◌, ◌==◌, List, [], ◌∷◌, length, get_or, take, drop, min, refl, sym, ap, ◌∙◌, arith, nat_eq, ⊎_elim, Option, Some, None, Result}
+use Rattle.std.proofs.Common.{◌≡◌, ℕ, ◌+◌, ◌*◌, ◌<◌, ◌≤◌, Bool, false, not, ◌&&◌, ◌||◌, ◌==◌, List, [], ◌∷◌, take, drop, min, refl, sym, ap, ◌∙◌, arith, ⊎_elim, Some, None, Result}
 use Rattle.std.specs.Prelude.{nat_le}
 use Rattle.std.specs.List.{fold, prefix_len}
 use Rattle.std.specs.Char.{digit_value}
-use Rattle.std.proofs.lemmas.Bool.{cond-true, cond-false, cases_lt, lt-leb, and_right}
+use Rattle.std.proofs.lemmas.Bool.{cond-false, cases_lt, lt-leb, and_right}
 use Rattle.cc_syntax.specs.declared.flaw.Flaw.{Flaw}
 use Rattle.cc_syntax.specs.declared.token.TokenKind.{TokenKind}
-use Rattle.cc_syntax.specs.Constant.{Constant, is_digit_of, type_of_value, constant_value}
+use Rattle.cc_syntax.specs.Constant.{is_digit_of, type_of_value}
 use Rattle.cc_syntax.specs.Scan.{typed, constant_kind, constant_spelled, constant_behind, base_of, prefix_of_base, suffix_of, with_suffix}
 
 -- a capped number, times the base, plus a digit, capped
@@ -14,11 +14,11 @@ capped_step : (a base d : ℕ) → 1 ≤ base → min (min a 4294967296 * base +
 capped_step a base d some = ⊎_elim
     (λ (small : a < 4294967296). let e : min a 4294967296 ≡ a = omega arith in ap (λ v. min (v * base + d) 4294967296) e)
     (λ (large : 4294967296 ≤ a).
-      let e : min a 4294967296 ≡ 4294967296 = omega arith in
-      let past : 4294967296 ≤ a * base = grind arith in
-      let left : min (4294967296 * base + d) 4294967296 ≡ 4294967296 = omega arith in
-      let right : min (a * base + d) 4294967296 ≡ 4294967296 = omega arith in
-      ap (λ v. min (v * base + d) 4294967296) e ∙ left ∙ sym right)
+    let e : min a 4294967296 ≡ 4294967296 = omega arith in
+    let past : 4294967296 ≤ a * base = grind arith in
+    let left : min (4294967296 * base + d) 4294967296 ≡ 4294967296 = omega arith in
+    let right : min (a * base + d) 4294967296 ≡ 4294967296 = omega arith in
+    ap (λ v. min (v * base + d) 4294967296) e ∙ left ∙ sym right)
     (cases_lt a 4294967296)
 
 capped_fold : (base : ℕ) → 1 ≤ base → (a : ℕ) (ds : List ℕ) → fold (λ v b. min (v * base + digit_value b) 4294967296) (min a 4294967296) ds ≡ min (fold (λ v b. v * base + digit_value b) a ds) 4294967296
@@ -40,8 +40,8 @@ pub capped_type : (base : ℕ) (suffixed : Bool) (v : ℕ) → typed (type_of_va
 capped_type base suffixed v = ⊎_elim
     (λ (small : v < 4294967296). let e : min v 4294967296 ≡ v = omega arith in ap (λ w. typed (type_of_value base suffixed w) w) e)
     (λ (large : 4294967296 ≤ v).
-      let e : min v 4294967296 ≡ 4294967296 = omega arith in
-      ap (λ w. typed (type_of_value base suffixed w) w) e ∙ ap (λ t. typed t 4294967296) (no_type base suffixed 4294967296 (omega arith)) ∙ sym (ap (λ t. typed t v) (no_type base suffixed v large)))
+    let e : min v 4294967296 ≡ 4294967296 = omega arith in
+    ap (λ w. typed (type_of_value base suffixed w) w) e ∙ ap (λ t. typed t 4294967296) (no_type base suffixed 4294967296 (omega arith)) ∙ sym (ap (λ t. typed t v) (no_type base suffixed v large)))
     (cases_lt v 4294967296)
 
 -- the parts of a number are those of the constant that it spells
@@ -55,7 +55,7 @@ kind_from_parts number base n suffixed base_is some n_is digits suffix_is =
     let behind = drop (prefix_of_base base) number in
     let capped = capped_value base some (take n behind) in
     let spelled : constant_behind base n behind ≡ Some (record { base = base; digits = take n behind; suffixed = suffixed })
-        = cond-false _ _ _ digits ∙ ap (with_suffix base (take n behind)) suffix_is in
+    = cond-false _ _ _ digits ∙ ap (with_suffix base (take n behind)) suffix_is in
     let whole : constant_behind base (prefix_len (is_digit_of base) behind) behind ≡ Some (record { base = base; digits = take n behind; suffixed = suffixed }) = ap (λ k. constant_behind base k behind) (sym n_is) ∙ spelled in
     ap (λ v. typed (type_of_value base suffixed v) v) capped ∙ capped_type base suffixed (fold (λ v b. v * base + digit_value b) 0 (take n behind))
     ∙ sym (ap constant_kind (ap (λ b. constant_behind b (prefix_len (is_digit_of b) (drop (prefix_of_base b) number)) (drop (prefix_of_base b) number)) (sym base_is) ∙ whole))

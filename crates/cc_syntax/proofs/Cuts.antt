@@ -1,16 +1,13 @@
 -- A text cut into pieces: one piece more at the end, and that no text is cut in two ways.
-use Rattle.std.proofs.Common.{◌≡◌, ◌≢◌, ℕ, suc, zero, ◌+◌, ◌-◌, ◌<◌, ◌≤◌, ◌⊎◌, Bool, true, false, List, [], ◌∷◌, ◌++◌, length, get_or, take, drop, map, refl, sym, ap, ◌∙◌, arith, subst, ⊎_elim, length-append, append_assoc}
+use Rattle.std.proofs.Common.{◌≡◌, ℕ, suc, ◌+◌, ◌<◌, true, List, [], ◌∷◌, ◌++◌, length, get_or, take, drop, refl, sym, ap, ◌∙◌, arith, subst, ⊎_elim, length-append, append_assoc}
 use Rattle.std.specs.List.{flat_map}
 use Rattle.std.specs.Char.{is_ascii_digit}
 use Rattle.std.proofs.lemmas.Bool.{false≢true}
-use Rattle.std.proofs.lemmas.List.{take_at, drop_at, append-nil, append_cancel_left}
+use Rattle.std.proofs.lemmas.List.{take_at, drop_at, append-nil}
 use Rattle.cc_syntax.specs.declared.flaw.Flaw.{Flaw}
 use Rattle.cc_syntax.specs.declared.flaw.Flaw.TheVariants.{BadByte, UnclosedComment, BadConstant, ConstantTooLarge}
-use Rattle.cc_syntax.specs.declared.scan.Front.{Front}
 use Rattle.cc_syntax.specs.declared.scan.Front.TheVariants as front
-use Rattle.cc_syntax.specs.declared.token.TokenKind.{TokenKind}
-use Rattle.cc_syntax.specs.Token.{Lexeme}
-use Rattle.cc_syntax.specs.Tokens.{Piece, blank, comment, token, piece_bytes, StandsBefore, IsCut, tokens_of, IsTokens, FirstFlaw, IsFlawed, IsComment, block, line, IsStray, IsSpliced, IsUnclosed, IsBadConstant, IsTooLarge, IsNumber, TokensAreOne, TokensHaveNoFlaw, FirstFlawIsOne}
+use Rattle.cc_syntax.specs.Tokens.{Piece, blank, comment, token, piece_bytes, StandsBefore, IsCut, tokens_of, IsFlawed, IsStray, IsSpliced, IsNumber, TokensAreOne, TokensHaveNoFlaw, FirstFlawIsOne}
 use Rattle.cc_syntax.specs.Scan.{front_of, punctuator_at}
 use Rattle.cc_syntax.proofs.ConstantForms.{constant_begins}
 use Rattle.cc_syntax.proofs.Complete.{answer_of, piece_complete, flaw_complete}
@@ -39,9 +36,9 @@ cut_whole (p ∷ ps) text rest cut = cut.1 ∙ ap (λ bs. piece_bytes p ++ bs) (
 -- One way.
 same_bytes : (c d a b : List ℕ) → c ++ a ≡ d ++ b → length c ≡ length d → (c ≡ d) × (a ≡ b)
 same_bytes c d a b e size = (
-    sym (take_at c a (length c) refl) ∙ ap (take (length c)) e ∙ take_at d b (length c) (sym size),
-    sym (drop_at c a (length c) refl) ∙ ap (drop (length c)) e ∙ drop_at d b (length c) (sym size),
-  )
+  sym (take_at c a (length c) refl) ∙ ap (take (length c)) e ∙ take_at d b (length c) (sym size),
+  sym (drop_at c a (length c) refl) ∙ ap (drop (length c)) e ∙ drop_at d b (length c) (sym size),
+)
 
 same_piece : (p q : Piece) (a b : List ℕ) → piece_bytes p ++ a ≡ piece_bytes q ++ b → answer_of p ≡ answer_of q → (p ≡ q) × (a ≡ b)
 same_piece (blank x) (blank y) a b e same = (cc, cc)

@@ -1,17 +1,16 @@
 -- What `tokens` has found before an offset: the text up to there is cut into pieces, and the tokens among them are those
 -- found. Each answer of the scanner goes one piece on, or gives the first flaw.
-use Rattle.std.proofs.Common.{◌≡◌, ℕ, suc, zero, ◌+◌, ◌-◌, ◌<◌, ◌≤◌, List, [], ◌∷◌, ◌++◌, length, take, drop, map, refl, sym, ap, ◌∙◌, arith, subst, length-append, length-drop}
+use Rattle.std.proofs.Common.{◌≡◌, ℕ, ◌+◌, ◌-◌, ◌<◌, ◌≤◌, List, [], ◌∷◌, ◌++◌, length, take, drop, refl, sym, ap, ◌∙◌, arith, subst, length-append, length-drop}
 use Rattle.std.specs.List.{flat_map}
 use Rattle.std.proofs.lemmas.List.{take_at, drop_at, append-nil, drop-drop, take_rest, drop_all, map_push}
 use Rattle.cc_syntax.specs.declared.flaw.Flaw.{Flaw}
 use Rattle.cc_syntax.specs.declared.flaw.Flaw.TheVariants.{BadByte, UnclosedComment, BadConstant, ConstantTooLarge}
 use Rattle.cc_syntax.specs.declared.scan.Front.{Front}
-use Rattle.cc_syntax.specs.declared.scan.Front.TheVariants as front
 use Rattle.cc_syntax.specs.declared.token.Token.{Token}
 use Rattle.cc_syntax.specs.declared.token.TokenKind.{TokenKind}
 use Rattle.cc_syntax.specs.Place.{place_of}
-use Rattle.cc_syntax.specs.Token.{Lexeme, lexeme, lexemes}
-use Rattle.cc_syntax.specs.Tokens.{Piece, blank, comment, token, piece_bytes, IsCut, tokens_of, IsTokens, FirstFlaw, IsFlawed, AreInOrder, IsRefusal, IsFlawFault, flaw_fault}
+use Rattle.cc_syntax.specs.Token.{lexeme, lexemes}
+use Rattle.cc_syntax.specs.Tokens.{Piece, blank, comment, token, piece_bytes, IsCut, tokens_of, IsTokens, FirstFlaw, IsFlawed, AreInOrder, IsRefusal, flaw_fault}
 use Rattle.cc_syntax.specs.Scan.{front_of}
 use Rattle.cc_syntax.proofs.Fronts.{StandsAt, IsFront, front_sound}
 use Rattle.cc_syntax.proofs.Cuts.{cut_more, bytes_more, tokens_more}

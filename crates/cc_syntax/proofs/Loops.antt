@@ -1,8 +1,7 @@
 -- The steps of the scanner's loops: what each answer at an offset says of the answer one byte on.
-use Rattle.std.proofs.Common.{◌≡◌, ℕ, suc, zero, ◌+◌, ◌-◌, ◌*◌, ◌<◌, ◌≤◌, Bool, true, false, cond, List, [], ◌∷◌, length, get_or, take, drop, min, refl, sym, ap, ◌∙◌, arith, nat_eq}
+use Rattle.std.proofs.Common.{◌≡◌, ℕ, suc, ◌+◌, ◌-◌, ◌*◌, ◌<◌, ◌≤◌, Bool, true, false, cond, List, [], ◌∷◌, length, get_or, drop, refl, ap, ◌∙◌, arith, nat_eq}
 use Rattle.std.proofs.lemmas.List.{drop_more, drop_all}
 use Rattle.std.proofs.lemmas.Bool.{cond-true, cond-false, false≢true, and_parts}
-use Rattle.std.proofs.Math.Nat.{mul-le-mul_left}
 use Rattle.cc_syntax.specs.Tokens.{begins_close}
 use Rattle.cc_syntax.specs.Scan.{place_within, run_length}
 

@@ -1,5 +1,5 @@
 -- The punctuator that the scanner finds is the longest at the front: the table has the longest first.
-use Rattle.std.proofs.Common.{◌≡◌, ◌≢◌, ℕ, suc, zero, ◌+◌, ◌-◌, ◌<◌, ◌≤◌, Bool, true, false, cond, not, ◌&&◌, ◌==◌, List, [], ◌∷◌, ◌++◌, length, take, drop, refl, sym, ap, ◌∙◌, arith, subst, Option, Some, None}
+use Rattle.std.proofs.Common.{◌≡◌, ◌≢◌, ℕ, ◌≤◌, Bool, true, false, ◌&&◌, ◌==◌, List, [], ◌∷◌, ◌++◌, length, take, drop, refl, sym, ap, ◌∙◌, arith, subst, Some, None}
 use Rattle.std.specs.Prelude.{nat_le}
 use Rattle.std.specs.List.{find, starts_with, AllByRecursion}
 use Rattle.std.proofs.lemmas.Bool.{cond_both, false≢true, and_parts, leb-true}
@@ -33,8 +33,8 @@ longest_first test most (x ∷ ps) p descends e =
     let ih = longest_first test (length (punctuator_bytes x)) ps p both.1 in
     cond_both (test x) (Some x) (find test ps) (λ o. o ≡ Some p → AllByRecursion (λ q. test q ≡ true → length (punctuator_bytes q) ≤ length (punctuator_bytes p)) (x ∷ ps))
     (λ here e'.
-      let same : x ≡ p = cc in
-      subst (λ y. AllByRecursion (λ q. test q ≡ true → length (punctuator_bytes q) ≤ length (punctuator_bytes y)) (x ∷ ps)) same ((λ passes. omega arith), none_longer test (length (punctuator_bytes x)) (length (punctuator_bytes x)) ps both.1 (omega arith)))
+    let same : x ≡ p = cc in
+    subst (λ y. AllByRecursion (λ q. test q ≡ true → length (punctuator_bytes q) ≤ length (punctuator_bytes y)) (x ∷ ps)) same ((λ passes. omega arith), none_longer test (length (punctuator_bytes x)) (length (punctuator_bytes x)) ps both.1 (omega arith)))
     (λ not_here e'. ((λ passes. absurd (false≢true (sym not_here ∙ passes))), ih e'))
     e
 

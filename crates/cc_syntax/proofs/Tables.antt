@@ -1,7 +1,7 @@
 -- Facts of every keyword and every punctuator, each by going through all of them: that the tables hold each, that no two
 -- are spelled alike, and with which bytes a punctuator begins.
-use Rattle.std.proofs.Common.{◌≡◌, ℕ, ◌<◌, Bool, true, false, List, [], ◌∷◌, length, refl, Some}
-use Rattle.std.specs.Prelude.{slice_index, not, ◌&&◌, nat_le, nat_lt}
+use Rattle.std.proofs.Common.{◌≡◌, ℕ, Bool, true, List, length, refl, Some}
+use Rattle.std.specs.Prelude.{slice_index, not, ◌&&◌, nat_lt}
 use Rattle.std.specs.List.{AllByRecursion}
 use Rattle.std.specs.Char.{is_ascii_digit}
 use Rattle.cc_syntax.specs.declared.token.Keyword.{Keyword}

@@ -1,21 +1,20 @@
 -- Words, numbers and punctuators at the front of the bytes: what the scanner takes is the longest front that can be a
 -- token, by the first byte, which says which of the three it can be.
-use Rattle.std.proofs.Common.{◌≡◌, ◌≢◌, ℕ, suc, zero, ◌+◌, ◌-◌, ◌<◌, ◌≤◌, ◌⊎◌, Bool, true, false, cond, not, ◌&&◌, ◌||◌, ◌==◌, List, [], ◌∷◌, ◌++◌, length, get_or, take, drop, refl, sym, ap, ◌∙◌, arith, subst, ⊎_elim, inl, inr, Option, Some, None}
-use Rattle.std.specs.Prelude.{nat_lt, nat_le, IsTrue}
-use Rattle.std.specs.List.{find, starts_with, AllByRecursion}
+use Rattle.std.proofs.Common.{◌≡◌, ℕ, suc, ◌<◌, ◌≤◌, Bool, true, false, List, [], ◌∷◌, ◌++◌, length, take, drop, refl, sym, ap, ◌∙◌, arith, subst, Option, Some, None}
+use Rattle.std.specs.List.{find, AllByRecursion}
 use Rattle.std.specs.Str.{bytes_eq}
 use Rattle.std.specs.Char.{is_ascii_digit}
-use Rattle.std.proofs.lemmas.Bool.{cond-true, cond-false, cond_both, false≢true, and_parts, not-true, leb-true, cases_Bool}
-use Rattle.std.proofs.lemmas.Bool.Decides.{nat_tests, Decides-eqb}
-use Rattle.std.proofs.lemmas.Slice.Eq.{bytes_eq-Decides, starts_is}
+use Rattle.std.proofs.lemmas.Bool.{cond_both, false≢true, and_parts, not-true}
+use Rattle.std.proofs.lemmas.Bool.Decides.{nat_tests}
+use Rattle.std.proofs.lemmas.Slice.Eq.{bytes_eq-Decides}
 use Rattle.std.proofs.lemmas.List.{take-append-drop, length-take-le}
 use Rattle.cc_syntax.specs.declared.token.Keyword.{Keyword}
 use Rattle.cc_syntax.specs.declared.token.Punctuator.{Punctuator}
-use Rattle.cc_syntax.specs.declared.token.TheConstants.{KEYWORDS, PUNCTUATORS}
+use Rattle.cc_syntax.specs.declared.token.TheConstants.{KEYWORDS}
 use Rattle.cc_syntax.specs.Spelling.{keyword_bytes, punctuator_bytes}
 use Rattle.cc_syntax.specs.Tokens.{is_blank, is_nondigit, continues_word, continues_number, Continues, IsWord, IsNumber, CanBeToken, word, number, punctuator, SpellsToken, IsLongest}
-use Rattle.cc_syntax.specs.Scan.{run_length, keyword_named, punctuator_at, word_kind}
-use Rattle.cc_syntax.proofs.Tables.{of_each_keyword, keyword_named-bytes, of_each_punctuator, punctuator_at-bytes, begins_as_punctuator, punctuator_begins}
+use Rattle.cc_syntax.specs.Scan.{run_length, keyword_named, word_kind}
+use Rattle.cc_syntax.proofs.Tables.{keyword_named-bytes, begins_as_punctuator, punctuator_begins}
 use Rattle.cc_syntax.proofs.Runs.{run_fits, run_continues, run_longest}
 
 -- a byte is a letter or `_`, or a digit, or white space, and no two of these

@@ -68,5 +68,4 @@ pub fn tokens_are_determined()
     ensures one { TokensAreOne }
     ensures no_flaw { TokensHaveNoFlaw }
     ensures one_flaw { FirstFlawIsOne }
-{
-}
+{}

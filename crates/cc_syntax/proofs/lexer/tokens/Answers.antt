@@ -1,8 +1,6 @@
-use Rattle.std.proofs.Common.{arith, rules, drop, length, is_err, ◌++◌, ◌∷◌, [], ◌+◌, ◌≡◌, ap, sym, ◌∙◌, subst, length-drop}
-use Rattle.std.proofs.ResultArms.{chosen}
+use Rattle.std.proofs.Common.{arith, rules, ◌++◌, ◌∷◌, [], ◌+◌, ◌≡◌, sym, subst, length-drop}
 use Rattle.cc_syntax.specs.declared.scan.Front.TheVariants as front
 use Rattle.cc_syntax.specs.Tokens.{IsRefusal}
-use Rattle.cc_syntax.proofs.Fronts.{IsFront}
 use Rattle.cc_syntax.proofs.Found.{FoundBefore, front_at, found_blank, found_comment, found_token, found_flaw, flaw_refused, stands_within}
 use Rattle.cc_syntax.proofs.lexer.tokens.Goals as goal
 
@@ -41,7 +39,7 @@ pub loop-at-preserved : goal.loop-at-preserved
 loop-at-preserved c =
     let stands = front_at c.args.text.now c.loop-at.at (front.Token c.in-Token.kind c.in-Token.n) (omega arith) c.in-Token.ensures in
     let pushed : c.push.new.self.items ≡ c.loop-at.found.items ++ record { kind = c.in-Token.kind; from = c.loop-at.at; to = c.loop-at.at + c.in-Token.n } ∷ []
-        = search (rules, c.push.ensures.items, c.if-is_err.ensures.negation) in
+    = search (rules, c.push.ensures.items, c.if-is_err.ensures.negation) in
     subst (λ ts. FoundBefore c.args.text.now ts (c.loop-at.at + c.in-Token.n)) (sym pushed) (found_token c.args.text.now c.loop-at.found.items c.loop-at.at c.in-Token.n c.loop-at.invariant c.in-Token.kind stands.0 stands.1)
 
 pub overflow_add-at-in-Flawed : goal.overflow_add-at-in-Flawed

@@ -1,4 +1,4 @@
-use Rattle.std.proofs.Common.{arith, drop, length, length-drop}
+use Rattle.std.proofs.Common.{arith, drop, length-drop}
 use Rattle.std.proofs.lemmas.List.{take_rest}
 use Rattle.cc_syntax.proofs.Loops.{close_fits}
 use Rattle.cc_syntax.proofs.scan.comment_front.Goals as goal

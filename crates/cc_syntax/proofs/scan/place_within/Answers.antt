@@ -1,6 +1,6 @@
-use Rattle.std.proofs.Common.{arith, drop, sym, ◌∙◌, ◌<◌, length, ◌≡◌}
+use Rattle.std.proofs.Common.{arith, sym, ◌∙◌, ◌≡◌}
 use Rattle.std.proofs.lemmas.List.{take_rest}
-use Rattle.cc_syntax.specs.Scan.{begins, place_within}
+use Rattle.cc_syntax.specs.Scan.{begins}
 use Rattle.cc_syntax.proofs.Loops.{place_none, place_found, place_more}
 use Rattle.cc_syntax.proofs.scan.place_within.Goals as goal
 

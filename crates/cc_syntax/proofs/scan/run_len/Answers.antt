@@ -1,5 +1,5 @@
-use Rattle.std.proofs.Common.{arith, drop, sym, ◌∙◌, ◌+◌, ◌-◌, ◌≡◌, ap, length, get_or}
-use Rattle.cc_syntax.specs.Scan.{goes_on, run_length}
+use Rattle.std.proofs.Common.{arith, sym, ◌∙◌, ◌+◌, ◌-◌, ◌≡◌, get_or}
+use Rattle.cc_syntax.specs.Scan.{goes_on}
 use Rattle.cc_syntax.proofs.Loops.{run_end, run_stop, run_more}
 use Rattle.cc_syntax.proofs.scan.run_len.Goals as goal
 
