@@ -239,3 +239,7 @@ TokensHaveNoFlaw = (text : List ℕ) (ts : List Lexeme) (flaw : Flaw) (at : ℕ)
 -- a text has one first flaw at most
 abbrev pub FirstFlawIsOne : Type 0
 FirstFlawIsOne = (text : List ℕ) (f g : Flaw) (i j : ℕ) → FirstFlaw text f i → FirstFlaw text g j → (f ≡ g) × (i ≡ j)
+
+-- a text has tokens or a first flaw
+abbrev pub TokensOrFlaw : Type 0
+TokensOrFlaw = (text : List ℕ) → ((ts : List Lexeme) × IsTokens text ts) ⊎ ((flaw : Flaw) × (at : ℕ) × FirstFlaw text flaw at)

@@ -3,7 +3,7 @@
 ghost use Rattle.std.specs.Prelude.{◌≡◌, ◌<◌, ◌≤◌, length, IfOk, IfErr};
 ghost use Rattle.cc_syntax.specs.Place.{place_of};
 ghost use Rattle.cc_syntax.specs.Token.{lexemes};
-ghost use Rattle.cc_syntax.specs.Tokens.{IsTokens, AreInOrder, IsRefusal, flaw_fault, TokensAreOne, TokensHaveNoFlaw, FirstFlawIsOne};
+ghost use Rattle.cc_syntax.specs.Tokens.{IsTokens, AreInOrder, IsRefusal, flaw_fault, TokensAreOne, TokensHaveNoFlaw, FirstFlawIsOne, TokensOrFlaw};
 
 use super::fault::SyntaxFault;
 use super::flaw::Flaw;
@@ -62,10 +62,11 @@ pub fn tokens(alloc: Global, text: &[u8]) -> Result<Vec<Token>, SyntaxFault>
     Ok(found)
 }
 
-/// A text has one list of tokens at most, or one first flaw, and not both. So `tokens` is `Ok` exactly where the text has
-/// tokens and memory for them.
+/// A text has one list of tokens or one first flaw, and not both. So `tokens` is `Ok` exactly where a text of at most
+/// 65,536 bytes has tokens, and memory for them.
 pub fn tokens_are_determined()
     ensures one { TokensAreOne }
     ensures no_flaw { TokensHaveNoFlaw }
     ensures one_flaw { FirstFlawIsOne }
+    ensures either { TokensOrFlaw }
 {}
