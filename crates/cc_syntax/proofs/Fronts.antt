@@ -128,51 +128,47 @@ number_sound b bs None no_comment digit e = (
 )
 number_sound b bs (Some c) no_comment digit e = typed_sound b bs c (constant_type c) no_comment digit (constant_sound b _ c e) refl
 
-mark_sound : (b : ℕ) (bs : List ℕ) (o : Option Punctuator) → is_blank b ≡ false → begins_comment (b ∷ bs) ≡ false → is_nondigit b ≡ false → is_ascii_digit b ≡ false
-    → punctuator_at (b ∷ bs) ≡ o → IsFront (b ∷ bs) (punctuator_front o)
-mark_sound b bs None no_blank no_comment no_word no_number e = (
-  omega arith,
-  inl (
-    record {
+-- bytes that begin with no letter, `_` or digit can begin with no token but a punctuator
+marks_punctuator : (b : ℕ) (bs other rest : List ℕ) → is_nondigit b ≡ false → is_ascii_digit b ≡ false → CanBeToken other → b ∷ bs ≡ other ++ rest → (p : Punctuator) × (other ≡ punctuator_bytes p)
+marks_punctuator b bs [] rest no_word no_number (word w) is = absurd w
+marks_punctuator b bs (c ∷ other) rest no_word no_number (word w) is =
+    let same : c ≡ b = cc in
+    absurd (false≢true (sym no_word ∙ subst (λ x. is_nondigit x ≡ true) same w.0))
+marks_punctuator b bs [] rest no_word no_number (number w) is = absurd w
+marks_punctuator b bs (c ∷ other) rest no_word no_number (number w) is =
+    let same : c ≡ b = cc in
+    absurd (false≢true (sym no_number ∙ subst (λ x. is_ascii_digit x ≡ true) same w.0))
+marks_punctuator b bs other rest no_word no_number (punctuator p spelled) is = (p, spelled)
+
+mark_sound : (b : ℕ) (bs : List ℕ) (o : Option Punctuator) → is_blank b ≡ false → begins_comment (b ∷ bs) ≡ false → is_nondigit b ≡ false → is_ascii_digit b ≡ false → punctuator_at (b ∷ bs) ≡ o → IsFront (b ∷ bs) (punctuator_front o)
+mark_sound b bs None no_blank no_comment no_word no_number e =
+    (omega arith, inl (record {
       first = b;
       rest = bs;
       whole = refl;
       no_blank = no_blank;
       no_comment = no_comment;
-      no_token = λ text after can is. no_token_by text after can is;
-    },
-    refl,
-  ),
-)
-  where
-    no_token_by : (text after : List ℕ) → CanBeToken text → b ∷ bs ≡ text ++ after → ⊥
-    no_token_by [] after (word w) is = w
-    no_token_by (c ∷ text) after (word w) is = let same : c ≡ b = cc in false≢true (sym no_word ∙ subst (λ x. is_nondigit x ≡ true) same w.0)
-    no_token_by [] after (number w) is = w
-    no_token_by (c ∷ text) after (number w) is = let same : c ≡ b = cc in false≢true (sym no_number ∙ subst (λ x. is_ascii_digit x ≡ true) same w.0)
-    no_token_by text after (punctuator p spelled) is = punctuator_missing (b ∷ bs) p after e (is ∙ ap (λ t. t ++ after) spelled)
+      no_token = λ text after can is.
+          let found = marks_punctuator b bs text after no_word no_number can is in
+          punctuator_missing (b ∷ bs) found.0 after e (is ∙ ap (λ t. t ++ after) found.1);
+    }, refl))
 mark_sound b bs (Some p) no_blank no_comment no_word no_number e =
     let whole = punctuator_found (b ∷ bs) p e in
-    let after = drop (length (punctuator_bytes p)) (b ∷ bs) in (
-      punctuator_bytes p,
-      record {
-        after = after;
-        whole = whole;
-        stands = (sym (ap begins_comment whole) ∙ no_comment, record { can_be = punctuator p refl; longest = λ other rest can is. longest_by other rest can (whole ∙ is) }, refl);
-        size = refl;
-        some = size_by (length (punctuator_bytes p)) refl;
-      },
-    )
-  where
-    longest_by : (other rest : List ℕ) → CanBeToken other → b ∷ bs ≡ other ++ rest → length other ≤ length (punctuator_bytes p)
-    longest_by [] rest (word w) is = absurd w
-    longest_by (c ∷ text) rest (word w) is = let same : c ≡ b = cc in absurd (false≢true (sym no_word ∙ subst (λ x. is_nondigit x ≡ true) same w.0))
-    longest_by [] rest (number w) is = absurd w
-    longest_by (c ∷ text) rest (number w) is = let same : c ≡ b = cc in absurd (false≢true (sym no_number ∙ subst (λ x. is_ascii_digit x ≡ true) same w.0))
-    longest_by other rest (punctuator q spelled) is = let bound = punctuator_longest (b ∷ bs) p q rest e (is ∙ ap (λ t. t ++ rest) spelled) in let same = ap length spelled in omega arith
-
-    size_by : (n : ℕ) → length (punctuator_bytes p) ≡ n → 0 < n
-    size_by n size = let some = punctuator_some p in omega arith
+    (punctuator_bytes p, record {
+      after = drop (length (punctuator_bytes p)) (b ∷ bs);
+      whole = whole;
+      stands = (sym (ap begins_comment whole) ∙ no_comment, record {
+        can_be = punctuator p refl;
+        longest = λ other rest can is.
+            let is_front : b ∷ bs ≡ other ++ rest = whole ∙ is in
+            let found = marks_punctuator b bs other rest no_word no_number can is_front in
+            let bound = punctuator_longest (b ∷ bs) p found.0 rest e (is_front ∙ ap (λ t. t ++ rest) found.1) in
+            let same = ap length found.1 in
+            omega arith;
+      }, refl);
+      size = refl;
+      some = punctuator_some p;
+    })
 
 -- a comment that begins the bytes, by its splices
 splices_sound : (c after bytes : List ℕ) → IsComment c after → 0 < length c → bytes ≡ c ++ after → IsFront bytes (comment_of (length c) bytes)
