@@ -3,3 +3,8 @@ pub mod Erase
 pub mod Place
 pub mod Fault
 pub mod Source
+pub mod Token
+pub mod Spelling
+pub mod Constant
+pub mod Tokens
+pub mod Scan
