@@ -6,7 +6,7 @@
 #![tactic(auto)]
 
 //pub mod build;
-//pub mod command;
+pub mod command;
 //pub mod contents;
 //pub mod events;
 pub mod fault;
@@ -17,4 +17,4 @@ pub mod place;
 pub mod sequence;
 //pub mod state;
 //pub mod table;
-//pub mod unit;
+pub mod unit;
