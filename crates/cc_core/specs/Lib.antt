@@ -1,2 +1,6 @@
 pub mod Faults
 pub mod Name
+pub mod Library
+pub mod Rules
+pub mod Job
+pub mod Step

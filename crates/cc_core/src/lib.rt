@@ -5,16 +5,16 @@
 //! It hands out `State`, `Event`, `Build`, and the types of names, units, commands and replies.
 #![tactic(auto)]
 
-//pub mod build;
+pub mod build;
 pub mod command;
-//pub mod contents;
+pub mod contents;
 //pub mod events;
 pub mod fault;
-//pub mod job;
-//pub mod library;
+pub mod job;
+pub mod library;
 pub mod name;
 pub mod place;
 pub mod sequence;
 //pub mod state;
-//pub mod table;
+pub mod table;
 pub mod unit;
