@@ -5,7 +5,7 @@ use Rattle.std.specs.declared.cmp.Ordering.{Ordering}
 use Rattle.std.specs.Ordering.{eq_by_cmp}
 use Rattle.std.specs.Cmp.{IsTotalOrder, eq_by_cmp_equiv}
 use Rattle.std.specs.Map.{lookup}
-use Rattle.std.specs.BTreeMap.{BTreeMap, get_by, Updates, is_at}
+use Rattle.std.specs.BTreeMap.{BTreeMap, is_at}
 use Rattle.std.specs.FinMap.{FinMap, get, insert, remove, find, from_entries, get-from_entries, get-insert, get-remove, same_map, IsAntisymmetric}
 use Rattle.std.specs.BTreeMap as tree
 
@@ -18,12 +18,12 @@ module _ {K X : Type 0} {R : K → K → Ordering} (o : IsTotalOrder R) where
   get-map m q = get-from_entries o m.entries q ∙ find-lookup m.entries q
 
   module _ (same : IsAntisymmetric R) where
-    pub insert-map : (m n : BTreeMap K X) (k : K) (v : X) → Updates R m n k (Some v) → from_entries {R = R} n.entries ≡ insert (from_entries m.entries) k v
+    pub insert-map : (m n : BTreeMap K X) (k : K) (v : X) → ((q : K) → tree.get R n q ≡ cond (is_at (R k) q) (Some v) (tree.get R m q)) → from_entries {R = R} n.entries ≡ insert (from_entries m.entries) k v
     insert-map m n k v u = same_map o same _ _ (λ q.
-        get-map n q ∙ u.0 q ∙ ap (λ b. cond b (Some v) (tree.get R m q)) ((eq_by_cmp_equiv o).symm k q)
+        get-map n q ∙ u q ∙ ap (λ b. cond b (Some v) (tree.get R m q)) ((eq_by_cmp_equiv o).symm k q)
         ∙ ap (cond (eq_by_cmp R q k) (Some v)) (sym (get-map m q)) ∙ sym (get-insert o (from_entries m.entries) k v q))
 
-    pub remove-map : (m n : BTreeMap K X) (k : K) → Updates R m n k None → from_entries {R = R} n.entries ≡ remove (from_entries m.entries) k
+    pub remove-map : (m n : BTreeMap K X) (k : K) → ((q : K) → tree.get R n q ≡ cond (is_at (R k) q) None (tree.get R m q)) → from_entries {R = R} n.entries ≡ remove (from_entries m.entries) k
     remove-map m n k u = same_map o same _ _ (λ q.
-        get-map n q ∙ u.0 q ∙ ap (λ b. cond b None (tree.get R m q)) ((eq_by_cmp_equiv o).symm k q)
+        get-map n q ∙ u q ∙ ap (λ b. cond b None (tree.get R m q)) ((eq_by_cmp_equiv o).symm k q)
         ∙ ap (cond (eq_by_cmp R q k) None) (sym (get-map m q)) ∙ sym (get-remove o (from_entries m.entries) k q))

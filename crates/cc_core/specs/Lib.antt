@@ -4,3 +4,4 @@ pub mod Library
 pub mod Rules
 pub mod Job
 pub mod Step
+pub mod Run

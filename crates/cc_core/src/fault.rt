@@ -1,5 +1,6 @@
 ghost use Rattle.std.specs.Prelude.{◌≡◌};
 
+use std::alloc::AllocError;
 use thiserror::Error;
 
 /// Why an event took no step.
@@ -24,6 +25,16 @@ impl CoreFault {
             CoreFault::NotNow => 29,
             CoreFault::OutOfMemory => 40,
         }
+    }
+}
+
+impl From<AllocError> for CoreFault {
+    ghost use Rattle.cc_core.specs.declared.fault.CoreFault.TheVariants as core;
+
+    ghost from_gives = { λ _ fault. fault ≡ core.OutOfMemory };
+
+    fn from(_error: AllocError) -> CoreFault {
+        CoreFault::OutOfMemory
     }
 }
 
@@ -68,5 +79,15 @@ impl BuildFault {
             BuildFault::Refused(number) => *number,
             BuildFault::OutOfMemory => 40,
         }
+    }
+}
+
+impl From<AllocError> for BuildFault {
+    ghost use Rattle.cc_core.specs.declared.fault.BuildFault.TheVariants as build;
+
+    ghost from_gives = { λ _ fault. fault ≡ build.OutOfMemory };
+
+    fn from(_error: AllocError) -> BuildFault {
+        BuildFault::OutOfMemory
     }
 }

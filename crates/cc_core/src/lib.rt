@@ -8,7 +8,7 @@
 pub mod build;
 pub mod command;
 pub mod contents;
-//pub mod events;
+pub mod events;
 pub mod fault;
 pub mod job;
 pub mod library;

@@ -7,5 +7,5 @@ use Rattle.cc_core.proofs.library.UnitMap.put.Goals as goal
 
 pub returns-clause-ok : goal.returns-clause-ok
 returns-clause-ok c =
-    insert-map nat_list_cmp_total (map.slice_cmp-IsAntisymmetric map.nat_cmp-IsAntisymmetric) c.self.inside.units c.insert.new.self c.args.name c.args.unit c.in_ok-insert.ensures.updates
+    insert-map nat_list_cmp_total (map.slice_cmp-IsAntisymmetric map.nat_cmp-IsAntisymmetric) c.self.inside.units c.insert.new.self c.args.name c.args.unit c.in_ok-insert.ensures.updates.0
     ∙ ap (λ m. map.insert m c.args.name c.args.unit) c.self.view_is

@@ -7,5 +7,5 @@ use Rattle.cc_core.proofs.library.UnitMap.remove.Goals as goal
 
 pub returns : goal.returns
 returns c =
-    remove-map nat_list_cmp_total (map.slice_cmp-IsAntisymmetric map.nat_cmp-IsAntisymmetric) c.self.inside.units c.remove.new.self c.args.name.now c.remove.ensures.updates
+    remove-map nat_list_cmp_total (map.slice_cmp-IsAntisymmetric map.nat_cmp-IsAntisymmetric) c.self.inside.units c.remove.new.self c.args.name.now c.remove.ensures.updates.0
     ∙ ap (λ m. map.remove m c.args.name.now) c.self.view_is

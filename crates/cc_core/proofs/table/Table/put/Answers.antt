@@ -7,5 +7,5 @@ use Rattle.cc_core.proofs.table.Table.put.Goals as goal
 
 pub returns-clause-ok : goal.returns-clause-ok
 returns-clause-ok g c =
-    insert-map nat_cmp_total map.nat_cmp-IsAntisymmetric c.self.inside.values c.insert.new.self c.args.number c.args.value c.in_ok-insert.ensures.updates
+    insert-map nat_cmp_total map.nat_cmp-IsAntisymmetric c.self.inside.values c.insert.new.self c.args.number c.args.value c.in_ok-insert.ensures.updates.0
     ∙ ap (λ m. map.insert m c.args.number c.args.value) c.self.view_is

@@ -7,5 +7,5 @@ use Rattle.cc_core.proofs.table.Table.remove.Goals as goal
 
 pub returns : goal.returns
 returns g c =
-    remove-map nat_cmp_total map.nat_cmp-IsAntisymmetric c.self.inside.values c.remove.new.self c.args.number c.remove.ensures.updates
+    remove-map nat_cmp_total map.nat_cmp-IsAntisymmetric c.self.inside.values c.remove.new.self c.args.number c.remove.ensures.updates.0
     ∙ ap (λ m. map.remove m c.args.number) c.self.view_is
