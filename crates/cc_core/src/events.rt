@@ -67,7 +67,9 @@ pub(crate) fn submit<B: Build>(
 ) -> Answer
     ensures ok { IfOk result (λ reply. Submits B.rules contents.old client call request reply contents.new) }
     ensures not_now { IsErrOf result CoreFault.NotNow
-        ↔ ((reply : Option Reply) (new : Contents B.Piece) → ¬ (Submits B.rules contents.old client call request reply new)) }
+        → (reply : Option Reply) (new : Contents B.Piece) → ¬ (Submits B.rules contents.old client call request reply new) }
+    ensures memory { IsErrOf result CoreFault.OutOfMemory
+        → (reply : Option Reply) × (new : Contents B.Piece) × (Submits B.rules contents.old client call request reply new) }
     ensures err { OnErr result (contents.new ≡ contents.old) }
 {
     if contents.jobs.get(client).is_some() {
@@ -88,7 +90,9 @@ pub(crate) fn take<P: Drop>(
 ) -> Answer
     ensures ok { IfOk result (λ reply. Takes contents.old worker client part reply contents.new) }
     ensures not_now { IsErrOf result CoreFault.NotNow
-        ↔ ((reply : Option Reply) (new : Contents P) → ¬ (Takes contents.old worker client part reply new)) }
+        → (reply : Option Reply) (new : Contents P) → ¬ (Takes contents.old worker client part reply new) }
+    ensures memory { IsErrOf result CoreFault.OutOfMemory
+        → (reply : Option Reply) × (new : Contents P) × (Takes contents.old worker client part reply new) }
     ensures err { OnErr result (contents.new ≡ contents.old) }
 {
     if contents.workers.get(worker).is_some() {
@@ -97,7 +101,7 @@ pub(crate) fn take<P: Drop>(
     let Some(job) = contents.jobs.get(client) else {
         return Err(CoreFault::NotNow);
     };
-    let Some(Progress::Waiting) = job.pieces.as_slice().get(part as usize) else {
+    let Some(Progress::Waiting) = job.pieces.get(part as usize) else {
         return Err(CoreFault::NotNow);
     };
     contents.workers.put(worker, Work { client, part })?;
@@ -144,7 +148,9 @@ pub(crate) fn finish<B: Build>(
 ) -> Answer
     ensures ok { IfOk result (λ reply. Finishes B.rules contents.old worker piece reply contents.new) }
     ensures not_now { IsErrOf result CoreFault.NotNow
-        ↔ ((reply : Option Reply) (new : Contents B.Piece) → ¬ (Finishes B.rules contents.old worker piece reply new)) }
+        → (reply : Option Reply) (new : Contents B.Piece) → ¬ (Finishes B.rules contents.old worker piece reply new) }
+    ensures memory { IsErrOf result CoreFault.OutOfMemory
+        → (reply : Option Reply) × (new : Contents B.Piece) × (Finishes B.rules contents.old worker piece reply new) }
     ensures err { OnErr result (contents.new ≡ contents.old) }
 {
     let Some(work) = contents.workers.get(worker).copied() else {
@@ -164,7 +170,9 @@ pub(crate) fn finish<B: Build>(
 pub(crate) fn refuse<P: Drop>(contents: &mut Contents<P>, worker: u64, number: u32) -> Answer
     ensures ok { IfOk result (λ reply. Refuses contents.old worker number reply contents.new) }
     ensures not_now { IsErrOf result CoreFault.NotNow
-        ↔ ((reply : Option Reply) (new : Contents P) → ¬ (Refuses contents.old worker number reply new)) }
+        → (reply : Option Reply) (new : Contents P) → ¬ (Refuses contents.old worker number reply new) }
+    ensures memory { IsErrOf result CoreFault.OutOfMemory
+        → (reply : Option Reply) × (new : Contents P) × (Refuses contents.old worker number reply new) }
     ensures err { OnErr result (contents.new ≡ contents.old) }
 {
     let Some(work) = contents.workers.get(worker).copied() else {
@@ -267,7 +275,9 @@ pub(crate) fn begin<B: Build>(
 ) -> Answer
     ensures ok { IfOk result (λ reply. Begins B.rules contents.old client reply contents.new) }
     ensures not_now { IsErrOf result CoreFault.NotNow
-        ↔ ((reply : Option Reply) (new : Contents B.Piece) → ¬ (Begins B.rules contents.old client reply new)) }
+        → (reply : Option Reply) (new : Contents B.Piece) → ¬ (Begins B.rules contents.old client reply new) }
+    ensures memory { IsErrOf result CoreFault.OutOfMemory
+        → (reply : Option Reply) × (new : Contents B.Piece) × (Begins B.rules contents.old client reply new) }
     ensures err { OnErr result (contents.new ≡ contents.old) }
 {
     let Phase::Idle = contents.phase else {
@@ -297,7 +307,9 @@ pub(crate) fn begin<B: Build>(
 pub(crate) fn acknowledge<P: Drop>(contents: &mut Contents<P>, client: u64) -> Answer
     ensures ok { IfOk result (λ reply. Acknowledges contents.old client reply contents.new) }
     ensures not_now { IsErrOf result CoreFault.NotNow
-        ↔ ((reply : Option Reply) (new : Contents P) → ¬ (Acknowledges contents.old client reply new)) }
+        → (reply : Option Reply) (new : Contents P) → ¬ (Acknowledges contents.old client reply new) }
+    ensures memory { IsErrOf result CoreFault.OutOfMemory
+        → (reply : Option Reply) × (new : Contents P) × (Acknowledges contents.old client reply new) }
     ensures err { OnErr result (contents.new ≡ contents.old) }
 {
     let Phase::Committing(committing, placed) = &contents.phase else {

@@ -15,6 +15,6 @@ pub mod library;
 pub mod name;
 pub mod place;
 pub mod sequence;
-//pub mod state;
+pub mod state;
 pub mod table;
 pub mod unit;

@@ -1,4 +1,5 @@
-ghost use Rattle.std.specs.Prelude.{◌≡◌, ◌<◌, ◌++◌, ◌∷◌, [], List, length, slice_set, take, ◌-◌, OnOk, OnErr};
+ghost use Rattle.std.specs.Prelude.{◌≡◌, ◌<◌, ◌++◌, ◌∷◌, [], List, length, slice_set, slice_get, take, ◌-◌, OnOk, OnErr};
+ghost use Rattle.std.specs.Option.{option_copied};
 
 use std::alloc::AllocError;
 use std::marker::Model;
@@ -38,6 +39,13 @@ impl<T> Sequence<T> {
         ensures { result.now ≡ self.now }
     {
         self.items.as_slice()
+    }
+
+    /// The item at a place, counted from 0, where there is one.
+    pub fn get(&self, place: usize) -> Option<&T>
+        ensures { option_copied result ≡ slice_get self.now place }
+    {
+        self.items.get(place)
     }
 }
 
