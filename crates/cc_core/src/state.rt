@@ -29,7 +29,13 @@ pub struct State<B: Build> {
 impl<B: Build> Model for State<B> {
     ghost use Rattle.cc_core.specs.declared.contents.Contents.{Contents};
 
+    ghost use Rattle.std.specs.Coded.{codes};
+    ghost use Rattle.std.specs.FinMap as map;
+    ghost use Rattle.cc_core.specs.contracts.library.UnitMap as units;
+
     ghost Value = { Contents B.Piece };
+
+    ghost coded = { Prim.hlevel (codes, units.the_row.coded, map.code) };
 
     ghost use Rattle.cc_core.specs.Run.{Reached};
 
