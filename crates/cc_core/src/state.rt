@@ -1,9 +1,9 @@
-ghost use Rattle.std.specs.Prelude.{◌≡◌, ◌↔◌, ℕ, Option, IfOk, IfErr, OnErr, IsErrOf, All, Contains, List};
+ghost use Rattle.std.specs.Prelude.{◌≡◌, ◌↔◌, ℕ, Option, IfOk, IfErr, OnErr, OnOk, IsErrOf, All, Contains, List};
 ghost use Rattle.cc_core.specs.declared.contents.Contents.{Contents};
 ghost use Rattle.cc_core.specs.declared.contents.Event.{Event};
 ghost use Rattle.cc_core.specs.Library.{library_of};
 ghost use Rattle.cc_core.specs.Step.{Step, IsImpossible, start};
-ghost use Rattle.cc_core.specs.Run.{Run, EachUnit, AreRising, committed};
+ghost use Rattle.cc_core.specs.Run.{Turn, Run, EachUnit, AreRising, committed};
 
 use std::alloc::Global;
 use std::marker::Model;
@@ -74,6 +74,17 @@ impl<B: Build> State<B> {
         take_step(&self.build, alloc, &mut self.contents, event)
     }
 
+    // Takes the step of an event, where it has one.
+    fn turn(&mut self, alloc: Global, event: Event<B::Piece>) -> Result<(), CoreFault>
+        ensures ok { OnOk result (Turn B.rules self.old event self.new) }
+        ensures err { IfErr result (λ fault. fault ≡ CoreFault.OutOfMemory) }
+    {
+        match self.step(alloc, event) {
+            Ok(_) | Err(CoreFault::NotNow) => Ok(()),
+            Err(CoreFault::OutOfMemory) => Err(CoreFault::OutOfMemory),
+        }
+    }
+
     /// The live map: what the order gives, without the command in commit.
     pub fn library(&self) -> &UnitMap
         ensures library { result.now ≡ self.now.library }
@@ -111,9 +122,7 @@ pub fn run_events<B: Build>(
     ensures err { IfErr result (λ fault. fault ≡ CoreFault.OutOfMemory) }
 {
     for event in events {
-        if let Err(CoreFault::OutOfMemory) = state.step(alloc, event) {
-            return Err(CoreFault::OutOfMemory);
-        }
+        state.turn(alloc, event)?;
     }
     let _ = state.library();
     let _ = state.acked();
