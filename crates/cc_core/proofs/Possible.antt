@@ -11,7 +11,7 @@ use Rattle.cc_core.specs.declared.job.Job.{Job}
 use Rattle.cc_core.specs.declared.job.Progress.TheVariants.{Waiting, Taken}
 use Rattle.cc_core.specs.declared.contents.Contents.{Contents}
 use Rattle.cc_core.specs.declared.contents.Phase.TheVariants.{Idle, Committing}
-use Rattle.cc_core.specs.declared.contents.Event.{Event}
+use Rattle.cc_core.specs.declared.event.Event.{Event}
 use Rattle.cc_core.specs.declared.fault.CoreFault.{CoreFault}
 use Rattle.cc_core.specs.declared.fault.CoreFault.TheVariants as faults
 use Rattle.cc_core.specs.Library.{after}
@@ -51,7 +51,10 @@ module _ {P : Type 0} where
   acknowledges old client placed committing = (
     Some replies.Done,
     record (counted old) {
-      library = after old.library placed.command; acknowledged = old.acknowledged ++ placed ∷ []; jobs = remove old.jobs client; phase = Idle;
+      library = after old.library placed.command;
+      acknowledged = old.acknowledged ++ placed ∷ [];
+      jobs = remove old.jobs client;
+      phase = Idle;
     },
     record { placed = placed; committing = committing; done = refl; new_is = refl },
   )

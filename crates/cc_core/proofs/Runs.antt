@@ -3,7 +3,7 @@ use Rattle.std.proofs.Common.{◌≡◌, ◌⊎◌, inl, inr, List, [], ◌∷�
 use Rattle.std.specs.Prelude.{IfOk, OnErr, IsErrOf}
 use Rattle.cc_core.specs.declared.command.Reply.{Reply}
 use Rattle.cc_core.specs.declared.contents.Contents.{Contents}
-use Rattle.cc_core.specs.declared.contents.Event.{Event}
+use Rattle.cc_core.specs.declared.event.Event.{Event}
 use Rattle.cc_core.specs.declared.fault.CoreFault.{CoreFault}
 use Rattle.cc_core.specs.declared.fault.CoreFault.TheVariants as faults
 use Rattle.cc_core.specs.Rules.{Rules}
@@ -20,6 +20,7 @@ module _ {P : Type 0} (rules : Rules P) where
   pub Reached-step : (old : Contents P) (e : Event P) (result : Result (Option Reply) CoreFault) (new : Contents P)
       → Reached rules old → IfOk result (λ reply. Step rules old e reply new) → OnErr result (new ≡ old) → Reached rules new
   Reached-step old e (Ok reply) new reached step err = record {
-    events = reached.events ++ e ∷ []; run = Run-push _ reached.events old e new reached.run (inl (reply, step));
+    events = reached.events ++ e ∷ [];
+    run = Run-push _ reached.events old e new reached.run (inl (reply, step));
   }
   Reached-step old e (Err fault) new reached step err = subst (Reached rules) (sym err) reached

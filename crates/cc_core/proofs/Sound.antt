@@ -23,8 +23,8 @@ use Rattle.cc_core.specs.declared.job.Progress.TheVariants.{Waiting, Taken, Made
 use Rattle.cc_core.specs.declared.contents.Contents.{Contents}
 use Rattle.cc_core.specs.declared.contents.Phase.{Phase}
 use Rattle.cc_core.specs.declared.contents.Phase.TheVariants.{Idle, Committing}
-use Rattle.cc_core.specs.declared.contents.Event.{Event}
-use Rattle.cc_core.specs.declared.contents.Event.TheVariants as event
+use Rattle.cc_core.specs.declared.event.Event.{Event}
+use Rattle.cc_core.specs.declared.event.Event.TheVariants as event
 use Rattle.cc_core.specs.Library.{Library, apply, kept, after, library_of}
 use Rattle.cc_core.specs.Rules.{Rules}
 use Rattle.cc_core.specs.Job.{planned, job_of, source_in, with_piece, verdict}
@@ -71,13 +71,13 @@ AreRising-push : (n : ℕ) (order : List Placed) (a : Placed) → AreRising orde
 AreRising-push n order a rising below at i j b c lt first second =
     elim (slice_get-push order a j c second) [
       | inl h ↦ elim (slice_get-push order a i b first) [
-          | inl f ↦ rising i j b c lt f h
-          | inr f ↦ let within = slice_get_within order j c h in absurd (omega arith)
-        ]
+        | inl f ↦ rising i j b c lt f h
+        | inr f ↦ let within = slice_get_within order j c h in absurd (omega arith)
+      ]
       | inr h ↦ elim (slice_get-push order a i b first) [
-          | inl f ↦ let lower = below i b f in let same = ap (λ (p : Placed). p.place.number) h.1 in omega arith
-          | inr f ↦ absurd (omega arith)
-        ]
+        | inl f ↦ let lower = below i b f in let same = ap (λ (p : Placed). p.place.number) h.1 in omega arith
+        | inr f ↦ absurd (omega arith)
+      ]
     ]
 
 -- a library whose units are right, and a right command, give a library whose units are right
@@ -165,9 +165,14 @@ module _ {P : Type 0} (rules : Rules P) where
     -- a step that changes jobs and workers alone
     kept_IsSound : (s : Contents P) (jobs : _) (workers : _) → IsSound is_right s → AllNamed jobs → IsSound is_right (record (counted s) { jobs = jobs; workers = workers })
     kept_IsSound s jobs workers sound named = record {
-      replay = sound.replay; ends = sound.ends; acked = sound.acked; rising = sound.rising;
+      replay = sound.replay;
+      ends = sound.ends;
+      acked = sound.acked;
+      rising = sound.rising;
       below = λ k a is. let lt = sound.below k a is in omega arith;
-      units = sound.units; flying = sound.flying; named = named;
+      units = sound.units;
+      flying = sound.flying;
+      named = named;
     }
 
     begun_IsSound : (s : Contents P) (client : ℕ) (v : Result Command ℕ) (reply : Option Reply) (new : Contents P)

@@ -8,7 +8,7 @@ use Rattle.cc_core.specs.declared.command.Reply.{Reply}
 use Rattle.cc_core.specs.declared.contents.Contents.{Contents}
 use Rattle.cc_core.specs.declared.contents.Phase.{Phase}
 use Rattle.cc_core.specs.declared.contents.Phase.TheVariants.{Idle, Committing}
-use Rattle.cc_core.specs.declared.contents.Event.{Event}
+use Rattle.cc_core.specs.declared.event.Event.{Event}
 use Rattle.cc_core.specs.Library.{Library}
 use Rattle.cc_core.specs.Rules.{Rules}
 use Rattle.cc_core.specs.Step.{Step, IsImpossible, start}

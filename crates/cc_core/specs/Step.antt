@@ -12,8 +12,8 @@ use Rattle.cc_core.specs.declared.job.Progress.TheVariants.{Waiting, Taken, Made
 use Rattle.cc_core.specs.declared.contents.Contents.{Contents}
 use Rattle.cc_core.specs.declared.contents.Phase.{Phase}
 use Rattle.cc_core.specs.declared.contents.Phase.TheVariants.{Idle, Committing}
-use Rattle.cc_core.specs.declared.contents.Event.{Event}
-use Rattle.cc_core.specs.declared.contents.Event.TheVariants as event
+use Rattle.cc_core.specs.declared.event.Event.{Event}
+use Rattle.cc_core.specs.declared.event.Event.TheVariants as event
 use Rattle.cc_core.specs.Library.{after}
 use Rattle.cc_core.specs.Rules.{Rules}
 use Rattle.cc_core.specs.Job.{job_of, source_in, with_piece, all_there, verdict}
@@ -22,7 +22,13 @@ module _ {P : Type 0} where
   -- nothing has happened
   abbrev pub start : Contents P
   start = record {
-    library = empty; order = []; acknowledged = []; jobs = empty; workers = empty; phase = Idle; clock = record { number = 0 };
+    library = empty;
+    order = [];
+    acknowledged = [];
+    jobs = empty;
+    workers = empty;
+    phase = Idle;
+    clock = record { number = 0 };
   }
 
   -- one event more took a step

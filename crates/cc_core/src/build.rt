@@ -4,11 +4,10 @@ ghost use Rattle.cc_core.specs.declared.unit.StoredUnit.{StoredUnit};
 ghost use Rattle.cc_core.specs.Rules.{Rules, AreWhole};
 ghost use Rattle.cc_core.specs.Faults.{RefusesAs};
 
-use std::alloc::Global;
-use std::sync::Arc;
-
 use crate::fault::BuildFault;
 use crate::unit::StoredUnit;
+use std::alloc::Global;
+use std::sync::Arc;
 
 /// What makes units from sources, piece by piece.
 pub trait Build: Drop {

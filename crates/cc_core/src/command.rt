@@ -1,12 +1,11 @@
 ghost use Rattle.std.specs.Prelude.{◌≡◌, IfOk};
 
-use std::alloc::AllocError;
-use std::marker::Model;
-
 use crate::name::Name;
 use crate::place::Place;
 use crate::sequence::Sequence;
 use crate::unit::SharedUnit;
+use std::alloc::AllocError;
+use std::marker::Model;
 
 /// What a client asks for: a name, and for the first two a source, any bytes.
 #[derive(Drop)]
@@ -26,7 +25,7 @@ pub enum Command {
 
 impl Command {
     /// The command once more. A unit is shared.
-    pub fn again(&self) -> Result<Command, AllocError>
+    pub(crate) fn again(&self) -> Result<Command, AllocError>
         ensures { IfOk result (λ command. command ≡ self.now) }
     {
         match self {
@@ -47,7 +46,7 @@ pub struct Placed {
 
 impl Placed {
     /// The same command with its place once more.
-    pub fn again(&self) -> Result<Placed, AllocError>
+    pub(crate) fn again(&self) -> Result<Placed, AllocError>
         ensures { IfOk result (λ placed. placed ≡ self.now) }
     {
         Ok(Placed {

@@ -8,11 +8,10 @@ ghost use Rattle.cc_core.specs.Faults.{RefusesAs};
 ghost use Rattle.cc_core.specs.Job.{job_of, planned, source_in, verdict, built, command_of, with_piece};
 ghost use Rattle.cc_core.specs.Step.{Step, IsImpossible, Submits, Takes, Finishes, Refuses, Begins, Acknowledges, counted, placed_now};
 
-use std::alloc::{AllocError, Global};
-
 use crate::build::Build;
 use crate::command::{Command, Placed, Reply, Request};
-use crate::contents::{Contents, Event, Phase};
+use crate::contents::{Contents, Phase};
+use crate::event::Event;
 use crate::fault::{BuildFault, CoreFault};
 use crate::job::{
     Job, Progress, Work, all_made, all_waiting, are_all_there, least_refused, set_progress,
@@ -20,6 +19,7 @@ use crate::job::{
 use crate::library::UnitMap;
 use crate::sequence::Sequence;
 use crate::unit::SharedUnit;
+use std::alloc::{AllocError, Global};
 
 /// What an event answers: a reply or none; 29 where it is not possible, 40 where memory was refused.
 pub(crate) type Answer = Result<Option<Reply>, CoreFault>;
@@ -123,16 +123,12 @@ fn names_part<B: Build>(build: &B, request: &Request, piece: &B::Piece, part: u3
 }
 
 // What a worker has come to with the piece that it took.
-fn settle<P: Drop>(
-    contents: &mut Contents<P>,
-    worker: u64,
-    work: Work,
-    progress: Progress<P>,
-)
+fn settle<P: Drop>(contents: &mut Contents<P>, worker: u64, work: Work, progress: Progress<P>)
     ensures { (job : Job P) → table.get contents.old.jobs work.client ≡ Some job
         → contents.new ≡ record (counted contents.old) {
-            jobs = table.insert contents.old.jobs work.client (with_piece job work.part progress);
-            workers = table.remove contents.old.workers worker } }
+          jobs = table.insert contents.old.jobs work.client (with_piece job work.part progress);
+          workers = table.remove contents.old.workers worker;
+        } }
 {
     set_progress(&mut contents.jobs, work.client, work.part, progress);
     contents.workers.remove(worker);
@@ -252,8 +248,9 @@ fn put_in_order<P>(
     command: Command,
 ) -> Result<(), AllocError>
     ensures ok { OnOk result (contents.new ≡ record (counted contents.old) {
-        order = contents.old.order ++ placed_now contents.old command ∷ [];
-        phase = Committing client (placed_now contents.old command) }) }
+      order = contents.old.order ++ placed_now contents.old command ∷ [];
+      phase = Committing client (placed_now contents.old command);
+    }) }
     ensures err { OnErr result (contents.new ≡ contents.old) }
 {
     let placed = Placed {

@@ -5,11 +5,10 @@ ghost use Rattle.cc_core.specs.Job.{is_there, all_there, first_refused, made_pie
 ghost use Rattle.cc_core.specs.declared.job.Job.{Job};
 ghost use Rattle.cc_core.specs.declared.job.Progress.TheVariants.{Waiting};
 
-use std::alloc::{AllocError, Global};
-
 use crate::command::Request;
 use crate::sequence::Sequence;
 use crate::table::Table;
+use std::alloc::{AllocError, Global};
 
 /// How far a piece of a job is.
 #[derive(Drop)]

@@ -6,14 +6,13 @@ ghost use Rattle.std.specs.Cmp.Lexicographic.{slice_cmp};
 ghost use Rattle.std.specs.FinMap as map;
 ghost use Rattle.cc_core.specs.Library.{apply, after, refusal};
 
+use crate::command::Command;
+use crate::name::Name;
+use crate::unit::{SharedUnit, StoredUnit};
 use std::alloc::{AllocError, Global};
 use std::collections::BTreeMap;
 use std::marker::Model;
 use std::sync::Arc;
-
-use crate::command::Command;
-use crate::name::Name;
-use crate::unit::{SharedUnit, StoredUnit};
 
 /// The units by name, in the order of the names' bytes. Contracts see a finite map.
 #[derive(Drop)]
@@ -26,7 +25,6 @@ impl Model for UnitMap {
     ghost use Rattle.std.specs.Cmp.Lexicographic.{slice_cmp};
     ghost use Rattle.std.specs.FinMap as map;
     ghost use Rattle.cc_core.specs.declared.unit.StoredUnit.{StoredUnit};
-
     ghost use Rattle.std.specs.Coded.{coded_ℕ, coded_list};
     ghost use Rattle.cc_core.specs.contracts.unit.StoredUnit as stored;
 
@@ -39,7 +37,7 @@ impl Model for UnitMap {
 
 impl UnitMap {
     /// The map without a unit.
-    pub fn new(alloc: Global) -> UnitMap
+    pub(crate) fn new(alloc: Global) -> UnitMap
         ensures { result ≡ map.empty }
     {
         UnitMap {
@@ -78,29 +76,19 @@ impl UnitMap {
     }
 
     /// Which number refuses the command now, 31 or 32, where one does. It takes no memory.
-    pub fn refusal(&self, command: &Command) -> Option<u32>
+    pub(crate) fn refusal(&self, command: &Command) -> Option<u32>
         ensures { result ≡ refusal (apply self.now command.now) }
     {
         match command {
-            Command::Add(name, _) => {
-                if self.contains(name) {
-                    Some(31)
-                } else {
-                    None
-                }
-            }
+            Command::Add(name, _) => { if self.contains(name) { Some(31) } else { None } }
             Command::Replace(name, _) | Command::Withdraw(name) => {
-                if self.contains(name) {
-                    None
-                } else {
-                    Some(32)
-                }
+                if self.contains(name) { None } else { Some(32) }
             }
         }
     }
 
     /// Does the command, where the map does not refuse it. Without memory the map stays as it was.
-    pub fn apply(&mut self, command: &Command) -> Result<(), AllocError>
+    pub(crate) fn apply(&mut self, command: &Command) -> Result<(), AllocError>
         ensures ok { OnOk result (self.new ≡ after self.old command.now) }
         ensures err { OnErr result (self.new ≡ self.old) }
     {

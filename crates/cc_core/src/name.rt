@@ -7,10 +7,9 @@ ghost use Rattle.std.proofs.Common.{rules};
 ghost use Rattle.std.specs.List.{list_all};
 ghost use Rattle.cc_core.specs.Name.{is_name, is_name_byte, is_small_letter};
 
+use crate::fault::NameFault;
 use std::cmp::Ordering;
 use std::marker::Model;
-
-use crate::fault::NameFault;
 
 /// The most bytes of a name.
 pub const NAME_BYTES: usize = 32;
@@ -57,9 +56,7 @@ fn are_name(bytes: &[u8]) -> bool
 {
     match bytes {
         [] => false,
-        [first, later @ ..] => {
-            is_letter(*first) && later.len() < 32 && are_later_bytes(later)
-        }
+        [first, later @ ..] => { is_letter(*first) && later.len() < 32 && are_later_bytes(later) }
     }
 }
 

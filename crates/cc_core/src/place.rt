@@ -17,21 +17,21 @@ impl Model for Place {
 
 impl Place {
     /// The place of the first event.
-    pub fn first() -> Place
+    pub(crate) fn first() -> Place
         ensures { result ≡ record { number = 0 } }
     {
         Place {}
     }
 
     /// The place behind this one.
-    pub fn next(&self) -> Place
+    pub(crate) fn next(&self) -> Place
         ensures { result ≡ record { number = self.now.number + 1 } }
     {
         Place {}
     }
 
     /// This place once more.
-    pub fn same(&self) -> Place
+    pub(crate) fn same(&self) -> Place
         ensures { result ≡ self.now }
     {
         Place {}

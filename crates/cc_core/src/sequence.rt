@@ -51,7 +51,7 @@ impl<T> Sequence<T> {
 
 impl<T: Drop> Sequence<T> {
     /// Puts an item last. Without memory the list stays as it was.
-    pub fn push(&mut self, item: T) -> Result<(), AllocError>
+    pub(crate) fn push(&mut self, item: T) -> Result<(), AllocError>
         ensures ok { OnOk result (self.new ≡ self.old ++ item ∷ []) }
         ensures err { OnErr result (self.new ≡ self.old) }
     {
@@ -60,14 +60,14 @@ impl<T: Drop> Sequence<T> {
     }
 
     /// Drops the last item, where there is one.
-    pub fn drop_last(&mut self)
+    pub(crate) fn drop_last(&mut self)
         ensures { self.new ≡ take (length self.old - 1) self.old }
     {
         let _ = self.items.pop();
     }
 
     /// Puts an item at a place; a place past the end changes nothing.
-    pub fn set(&mut self, place: usize, item: T)
+    pub(crate) fn set(&mut self, place: usize, item: T)
         ensures { self.new ≡ slice_set self.old place item }
     {
         if place < self.items.len() {

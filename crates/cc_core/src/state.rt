@@ -1,22 +1,22 @@
 ghost use Rattle.std.specs.Prelude.{◌≡◌, ◌↔◌, ℕ, Option, IfOk, IfErr, OnErr, OnOk, IsErrOf, All, Contains, List};
 ghost use Rattle.cc_core.specs.declared.contents.Contents.{Contents};
-ghost use Rattle.cc_core.specs.declared.contents.Event.{Event};
+ghost use Rattle.cc_core.specs.declared.event.Event.{Event};
 ghost use Rattle.cc_core.specs.Library.{library_of};
 ghost use Rattle.cc_core.specs.Step.{Step, IsImpossible, start};
 ghost use Rattle.cc_core.specs.Run.{Turn, Run, EachUnit, AreRising, committed};
 
-use std::alloc::Global;
-use std::marker::Model;
-
 use crate::build::Build;
-use crate::command::Placed;
-use crate::contents::{Contents, Event, Phase};
-use crate::events::{Answer, take_step};
+use crate::command::{Placed, Reply};
+use crate::contents::{Contents, Phase};
+use crate::event::Event;
+use crate::events::take_step;
 use crate::fault::CoreFault;
 use crate::library::UnitMap;
 use crate::place::Place;
 use crate::sequence::Sequence;
 use crate::table::Table;
+use std::alloc::Global;
+use std::marker::Model;
 
 /// The protocol core over a build. Contracts see its contents, and its type keeps that some list of events leads
 /// to them from the start.
@@ -28,7 +28,6 @@ pub struct State<B: Build> {
 
 impl<B: Build> Model for State<B> {
     ghost use Rattle.cc_core.specs.declared.contents.Contents.{Contents};
-
     ghost use Rattle.std.specs.Coded.{codes};
     ghost use Rattle.std.specs.FinMap as map;
     ghost use Rattle.cc_core.specs.contracts.library.UnitMap as units;
@@ -66,7 +65,11 @@ impl<B: Build> State<B> {
     /// Takes the step of an event, and answers the reply where the event gives one: done, or a number.
     /// 29 `NotNow` where the event is not possible; 40 `OutOfMemory` where a growth was refused.
     /// After both the state is as before.
-    pub fn step(&mut self, alloc: Global, event: Event<B::Piece>) -> Answer
+    pub fn step(
+        &mut self,
+        alloc: Global,
+        event: Event<B::Piece>,
+    ) -> Result<Option<Reply>, CoreFault>
         ensures ok { IfOk result (λ reply. Step B.rules self.old event reply self.new) }
         ensures not_now { IsErrOf result CoreFault.NotNow ↔ IsImpossible B.rules self.old event }
         ensures err { OnErr result (self.new ≡ self.old) }
@@ -133,5 +136,4 @@ pub fn run_events<B: Build>(
 pub fn replay_law<B: Build>()
     ensures { (events : List (Event B.Piece)) (new : Contents B.Piece)
         → Run B.rules start events new → new.library ≡ library_of (committed new) }
-{
-}
+{}

@@ -27,7 +27,7 @@ impl<V> Model for Table<V> {
 
 impl<V: Drop> Table<V> {
     /// The table without a value.
-    pub fn new(alloc: Global) -> Table<V>
+    pub(crate) fn new(alloc: Global) -> Table<V>
         ensures { result ≡ map.empty }
     {
         Table {
@@ -36,14 +36,14 @@ impl<V: Drop> Table<V> {
     }
 
     /// The value of this number, where there is one. It takes no memory.
-    pub fn get(&self, number: u64) -> Option<&V>
+    pub(crate) fn get(&self, number: u64) -> Option<&V>
         ensures { option_copied result ≡ map.get self.now number }
     {
         self.values.get(&number)
     }
 
     /// Sets the value of this number. Without memory the table stays as it was.
-    pub fn put(&mut self, number: u64, value: V) -> Result<(), AllocError>
+    pub(crate) fn put(&mut self, number: u64, value: V) -> Result<(), AllocError>
         ensures ok { OnOk result (self.new ≡ map.insert self.old number value) }
         ensures err { OnErr result (self.new ≡ self.old) }
     {
@@ -52,7 +52,7 @@ impl<V: Drop> Table<V> {
     }
 
     /// Takes the value of this number out, where there is one.
-    pub fn remove(&mut self, number: u64)
+    pub(crate) fn remove(&mut self, number: u64)
         ensures { self.new ≡ map.remove self.old number }
     {
         let _ = self.values.remove(&number);

@@ -1,11 +1,10 @@
 ghost use Rattle.std.specs.Prelude.{◌≡◌, ◌≤◌, length, IfOk};
 ghost use Rattle.std.specs.Arc.{arc_value};
 
+use crate::sequence::Sequence;
 use std::alloc::AllocError;
 use std::marker::Model;
 use std::sync::Arc;
-
-use crate::sequence::Sequence;
 
 /// A certificate of a unit. There is none yet.
 #[derive(Drop)]
@@ -61,7 +60,7 @@ impl SharedUnit {
     }
 
     /// One more owner of the unit. It takes no memory; it answers an error only past the most owners.
-    pub fn again(&self) -> Result<SharedUnit, AllocError>
+    pub(crate) fn again(&self) -> Result<SharedUnit, AllocError>
         ensures { IfOk result (λ s. s ≡ self.now) }
     {
         Ok(SharedUnit {

@@ -1,7 +1,7 @@
 -- Each arm answers as its handler does, so 29 comes exactly where the event has no step.
 use Rattle.std.proofs.Common.{sym, subst}
 use Rattle.std.specs.Prelude.{IsErrOf, ◌↔◌}
-use Rattle.cc_core.specs.declared.contents.Event.TheVariants as event
+use Rattle.cc_core.specs.declared.event.Event.TheVariants as event
 use Rattle.cc_core.specs.declared.fault.CoreFault.TheVariants as faults
 use Rattle.cc_core.specs.Step.{IsImpossible}
 use Rattle.cc_core.proofs.Possible.{exact}
