@@ -1,6 +1,6 @@
 -- What holds of the contents after any events. One record says it, each step keeps it, and so does a run.
 use Rattle.std.proofs.Common.{◌≡◌, ◌⊎◌, inl, inr, ℕ, ◌+◌, ◌-◌, ◌<◌, Bool, true, false, cond, List, [], ◌∷◌, ◌++◌, length, map, take, Option, Some, None, Result, Ok, Err, refl, sym, ap, subst, ◌∙◌, arith, All, Contains}
-use Rattle.std.specs.Prelude.{slice_get, slice_set, replicate, fold}
+use Rattle.std.specs.Prelude.{IsOk, slice_get, slice_set, replicate, fold}
 use Rattle.std.specs.Ordering.{nat_cmp, eq_by_cmp}
 use Rattle.std.specs.declared.cmp.Ordering.{Ordering}
 use Rattle.std.specs.Cmp.{IsTotalOrder, nat_cmp_total}
@@ -25,13 +25,13 @@ use Rattle.cc_core.specs.declared.contents.Phase.{Phase}
 use Rattle.cc_core.specs.declared.contents.Phase.TheVariants.{Idle, Committing}
 use Rattle.cc_core.specs.declared.event.Event.{Event}
 use Rattle.cc_core.specs.declared.event.Event.TheVariants as event
-use Rattle.cc_core.specs.Library.{Library, apply, kept, after, library_of}
+use Rattle.cc_core.specs.Library.{Library, apply, kept, after, library_of, AreAccepted}
 use Rattle.cc_core.specs.Rules.{Rules}
 use Rattle.cc_core.specs.Job.{planned, job_of, source_in, with_piece, verdict}
 use Rattle.cc_core.specs.Step.{Step, Submits, Takes, Finishes, Refuses, Begins, Begun, Acknowledges, IsImpossible, start, counted, placed_now}
-use Rattle.cc_core.specs.Run.{EachUnit, AreRising, settled, committed, Turn, Run, Reached}
+use Rattle.cc_core.specs.Run.{EachUnit, AreRising, commands, settled, committed, Turn, Run, Reached}
 use Rattle.cc_core.proofs.Lists.{slice_get-set, slice_get-push, All-slice_get, take-push}
-use Rattle.cc_core.proofs.Whole.{IsRightCommand, IsNamed, IsLawful, verdict_right}
+use Rattle.cc_core.proofs.Whole.{IsRightCommand, IsNamed, IsLawful, verdict_right, verdict_taken}
 
 cond_cases : {A : Type 0} (b : Bool) (x y z : A) → cond b x y ≡ z → (x ≡ z) ⊎ (y ≡ z)
 cond_cases true x y z is = inl is
@@ -98,6 +98,11 @@ EachUnit-after is_right library (command.Replace name unit) each right =
 EachUnit-after is_right library (command.Withdraw name) each right =
     (EachUnit-kept is_right library (contains_key library name) (remove library name) 31 32 each (λ q u is. each q u (found-remove nat_list_cmp_total library name q u is))).1
 
+-- commands that are accepted in their turns, and one more that is
+AreAccepted-push : (library : Library) (cs : List Command) (c : Command) → AreAccepted library cs → IsOk (apply (fold after library cs) c) → AreAccepted library (cs ++ c ∷ [])
+AreAccepted-push library [] c all taken = (taken, tt)
+AreAccepted-push library (d ∷ cs) c all taken = (all.0, AreAccepted-push (after library d) cs c all.1 taken)
+
 module _ {P : Type 0} (rules : Rules P) where
   -- a fresh job's pieces all wait
   planned_named : (call : ℕ) (asked : Request) (plan : Result ℕ ℕ) → ((source : List ℕ) → source_in asked ≡ Some source → rules.plan source ≡ plan) → IsNamed rules (planned {P = P} call asked plan)
@@ -141,6 +146,7 @@ module _ {P : Type 0} (rules : Rules P) where
   -- what holds of the contents after any events
   pub record IsSound (is_right : StoredUnit → Type 0) (s : Contents P) : Type 0 where
     pub replay : s.library ≡ library_of (committed s)
+    pub accepted : AreAccepted empty (commands s.order)
     pub ends : EndsInFlight s.phase s.order
     pub acked : All (Contains s.order) s.acknowledged
     pub rising : AreRising s.order
@@ -153,6 +159,7 @@ module _ {P : Type 0} (rules : Rules P) where
     pub start-IsSound : IsSound is_right start
     start-IsSound = record {
       replay = refl;
+      accepted = tt;
       ends = tt;
       acked = All-nil (Contains []);
       rising = λ i j a b lt first second. absurd (cc);
@@ -166,6 +173,7 @@ module _ {P : Type 0} (rules : Rules P) where
     kept_IsSound : (s : Contents P) (jobs : _) (workers : _) → IsSound is_right s → AllNamed jobs → IsSound is_right (record (counted s) { jobs = jobs; workers = workers })
     kept_IsSound s jobs workers sound named = record {
       replay = sound.replay;
+      accepted = sound.accepted;
       ends = sound.ends;
       acked = sound.acked;
       rising = sound.rising;
@@ -176,19 +184,22 @@ module _ {P : Type 0} (rules : Rules P) where
     }
 
     begun_IsSound : (s : Contents P) (client : ℕ) (v : Result Command ℕ) (reply : Option Reply) (new : Contents P)
-        → IsSound is_right s → s.phase ≡ Idle → ((c : Command) → v ≡ Ok c → IsRightCommand is_right c) → Begun s client v reply new → IsSound is_right new
+        → IsSound is_right s → s.phase ≡ Idle → ((c : Command) → v ≡ Ok c → IsRightCommand is_right c × IsOk (apply s.library c)) → Begun s client v reply new → IsSound is_right new
     begun_IsSound s client (Err number) reply new sound idle right begun =
         subst (IsSound is_right) (sym begun.1) (kept_IsSound s (remove s.jobs client) s.workers sound (AllNamed-remove s.jobs client sound.named))
     begun_IsSound s client (Ok c) reply new sound idle right begun =
         let placed = placed_now s c in
+        let library : s.library ≡ library_of (commands s.order) = sound.replay ∙ ap (λ phase. library_of (settled phase s.order)) idle in
         let there : IsSound is_right (record (counted s) { order = s.order ++ placed ∷ []; phase = Committing client placed }) = record {
-          replay = sound.replay ∙ ap (λ phase. library_of (settled phase s.order)) idle ∙ ap (λ front. library_of (map (λ (p : Placed). p.command) front)) (sym (take-push s.order placed));
+          replay = library ∙ ap (λ front. library_of (commands front)) (sym (take-push s.order placed));
+          accepted = subst (AreAccepted empty) (sym (map-append (λ (p : Placed). p.command) s.order (placed ∷ [])))
+              (AreAccepted-push empty (commands s.order) c sound.accepted (subst (λ l. IsOk (apply l c)) library (right c refl).1));
           ends = (s.order, refl);
           acked = All-weaker (Contains s.order) (Contains (s.order ++ placed ∷ [])) (λ x in'. Contains-append_left s.order (placed ∷ []) x in') s.acknowledged sound.acked;
           rising = AreRising-push s.clock.number s.order placed sound.rising sound.below refl;
           below = AreBelow-push s.clock.number s.order placed sound.below refl;
           units = sound.units;
-          flying = right c refl;
+          flying = (right c refl).0;
           named = sound.named;
         } in
         subst (IsSound is_right) (sym begun.1) there
@@ -199,15 +210,16 @@ module _ {P : Type 0} (rules : Rules P) where
         let ends = subst (λ phase. EndsInFlight phase s.order) committing sound.ends in
         let flying = subst (IsRightInFlight is_right) committing sound.flying in
         let front = ends.0 in
-        let before : s.library ≡ library_of (map (λ (p : Placed). p.command) front) =
+        let before : s.library ≡ library_of (commands front) =
         sound.replay ∙ ap (λ phase. library_of (settled phase s.order)) committing
-        ∙ ap (λ order. library_of (map (λ (p : Placed). p.command) (take (length order - 1) order))) ends.1
-        ∙ ap (λ (xs : List Placed). library_of (map (λ (p : Placed). p.command) xs)) (take-push front placed) in
+        ∙ ap (λ order. library_of (commands (take (length order - 1) order))) ends.1
+        ∙ ap (λ (xs : List Placed). library_of (commands xs)) (take-push front placed) in
         record {
           replay = ap (λ library. after library placed.command) before
-              ∙ sym (fold-append after empty (map (λ (p : Placed). p.command) front) (placed.command ∷ []))
+              ∙ sym (fold-append after empty (commands front) (placed.command ∷ []))
               ∙ ap library_of (sym (map-append (λ (p : Placed). p.command) front (placed ∷ [])))
-              ∙ ap (λ (order : List Placed). library_of (map (λ (p : Placed). p.command) order)) (sym ends.1);
+              ∙ ap (λ (order : List Placed). library_of (commands order)) (sym ends.1);
+          accepted = sound.accepted;
           ends = tt;
           acked = All-push (Contains s.order) s.acknowledged placed sound.acked (subst (λ order. Contains order placed) (sym ends.1) (Contains-push front placed));
           rising = sound.rising;
@@ -237,7 +249,7 @@ module _ {P : Type 0} (rules : Rules P) where
         (with_piece_named step.job step.work.part (Refused number) (sound.named step.work.client step.job step.held) (λ source p from made. absurd (cc)))))
     step_IsSound old (event.Begin client) reply new sound step =
         begun_IsSound old client (verdict rules old.library step.job) reply new sound step.idle
-        (λ c is. verdict_right rules is_right law old.library step.job c (sound.named client step.job step.held) step.ready is) step.begun
+        (λ c is. (verdict_right rules is_right law old.library step.job c (sound.named client step.job step.held) step.ready is, verdict_taken rules old.library step.job c is)) step.begun
     step_IsSound old (event.Ack client) reply new sound step =
         subst (IsSound is_right) (sym step.new_is) (acked_IsSound old client step.placed sound step.committing)
 

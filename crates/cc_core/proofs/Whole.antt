@@ -1,7 +1,7 @@
 -- A command that a job begins has a unit that is right: its pieces are all there, none was refused, and each
 -- names the job's source and its own place, so they are all of the source's pieces and the build's law holds.
 use Rattle.std.proofs.Common.{◌≡◌, ℕ, zero, suc, Bool, true, false, List, [], ◌∷◌, length, Option, Some, None, Result, Ok, Err, refl, sym, ap, subst, ◌∙◌}
-use Rattle.std.specs.Prelude.{slice_get, IsTrue}
+use Rattle.std.specs.Prelude.{slice_get, IsTrue, IsOk}
 use Rattle.cc_core.specs.declared.unit.StoredUnit.{StoredUnit}
 use Rattle.cc_core.specs.declared.command.Command.{Command}
 use Rattle.cc_core.specs.declared.command.Command.TheVariants as command
@@ -27,6 +27,16 @@ unless-Ok (Some number) r x is = absurd (cc)
 accepted-Ok : (library : Library) (r : Result Command ℕ) (c : Command) → accepted library r ≡ Ok c → r ≡ Ok c
 accepted-Ok library (Ok d) c is = (unless-Ok (refusal (apply library d)) (Ok d) c is).1
 accepted-Ok library (Err number) c is = is
+
+not_refused : {A : Type 0} (r : Result Library ℕ) (next : Result A ℕ) (x : A) → unless (refusal r) next ≡ Ok x → IsOk r
+not_refused (Ok library) next x is = refl
+not_refused (Err number) next x is = absurd (cc)
+
+accepted-taken : (library : Library) (r : Result Command ℕ) (c : Command) → accepted library r ≡ Ok c → IsOk (apply library c)
+accepted-taken library (Ok d) c is =
+    let same : d ≡ c = let h = (unless-Ok (refusal (apply library d)) (Ok d) c is).1 in cc in
+    subst (λ e. IsOk (apply library e)) same (not_refused (apply library d) (Ok d) c is)
+accepted-taken library (Err number) c is = absurd (cc)
 
 module _ {P : Type 0} (rules : Rules P) where
   -- a job's pieces are planned for its source, and each that was made names that source and its own place
@@ -80,6 +90,10 @@ module _ {P : Type 0} (rules : Rules P) where
       with_unit_right is_right (command.Replace name) (λ u h. h) (built rules job source) c (λ u made. built_right is_right law job source u named (ap source_in asks) there made) is
   command_right is_right law job (request.Withdraw name) c asks named there is =
       let same : command.Withdraw name ≡ c = cc in subst (IsRightCommand is_right) same tt
+
+  -- the library takes the command that a job begins
+  pub verdict_taken : (library : Library) (job : Job P) (c : Command) → verdict rules library job ≡ Ok c → IsOk (apply library c)
+  verdict_taken library job c is = accepted-taken library (command_of rules job job.request) c is
 
   -- the command that a job begins has a right unit
   pub verdict_right : (is_right : StoredUnit → Type 0) → IsLawful is_right → (library : Library) (job : Job P) (c : Command)

@@ -1,5 +1,5 @@
 -- The library as a map from names to units, what a command does to it, and what many do.
-use Rattle.std.specs.Prelude.{ℕ, List, Option, Some, None, Result, Ok, Err, fold, if◌then◌else◌}
+use Rattle.std.specs.Prelude.{ℕ, List, [], ◌∷◌, IsOk, Option, Some, None, Result, Ok, Err, fold, if◌then◌else◌}
 use Rattle.std.specs.Ordering.{nat_cmp}
 use Rattle.std.specs.Cmp.Lexicographic.{slice_cmp}
 use Rattle.std.specs.FinMap.{FinMap, empty, contains_key, insert, remove}
@@ -37,6 +37,11 @@ after library command = kept library (apply library command)
 -- the library after these commands, one after the other, from the empty one
 abbrev pub library_of : List Command → Library
 library_of commands = fold after empty commands
+
+-- the library takes each of these commands in its turn
+abbrev pub AreAccepted : Library → List Command → Type 0
+AreAccepted library [] = Unit {0}
+AreAccepted library (command ∷ commands) = IsOk (apply library command) × AreAccepted (after library command) commands
 
 -- the number of a refusal, where there is one
 abbrev pub refusal : Result Library ℕ → Option ℕ

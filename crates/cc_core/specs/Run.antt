@@ -21,10 +21,14 @@ EachUnit is_right library = (name : List ℕ) (unit : StoredUnit) → get librar
 abbrev pub AreRising : List Placed → Type 0
 AreRising placed = (i j : ℕ) (a b : Placed) → i < j → slice_get placed i ≡ Some a → slice_get placed j ≡ Some b → a.place.number < b.place.number
 
--- the commands of an order, but for the one in flight
+-- the commands of an order, without their places
+abbrev pub commands : List Placed → List Command
+commands order = map (λ placed. placed.command) order
+
+-- the commands of an order, but for the one in flight, which is its last
 abbrev pub settled : Phase → List Placed → List Command
-settled Idle order = map (λ placed. placed.command) order
-settled (Committing client last) order = map (λ placed. placed.command) (take (length order - 1) order)
+settled Idle order = commands order
+settled (Committing client last) order = commands (take (length order - 1) order)
 
 module _ {P : Type 0} where
   -- the commands of the order without the one in flight

@@ -1,9 +1,10 @@
 ghost use Rattle.std.specs.Prelude.{◌≡◌, ◌↔◌, ℕ, Option, IfOk, IfErr, OnErr, OnOk, IsErrOf, All, Contains, List};
 ghost use Rattle.cc_core.specs.declared.contents.Contents.{Contents};
 ghost use Rattle.cc_core.specs.declared.event.Event.{Event};
-ghost use Rattle.cc_core.specs.Library.{library_of};
+ghost use Rattle.cc_core.specs.Library.{library_of, AreAccepted};
+ghost use Rattle.std.specs.FinMap.{empty};
 ghost use Rattle.cc_core.specs.Step.{Step, IsImpossible, start};
-ghost use Rattle.cc_core.specs.Run.{Turn, Run, EachUnit, AreRising, committed};
+ghost use Rattle.cc_core.specs.Run.{Turn, Run, EachUnit, AreRising, commands, committed};
 
 use crate::build::Build;
 use crate::command::{Placed, Reply};
@@ -92,6 +93,7 @@ impl<B: Build> State<B> {
     pub fn library(&self) -> &UnitMap
         ensures library { result.now ≡ self.now.library }
         ensures replay { self.now.library ≡ library_of (committed self.now) }
+        ensures accepted { AreAccepted empty (commands self.now.order) }
         ensures units { EachUnit B.is_right self.now.library }
     {
         &self.contents.library
@@ -117,6 +119,8 @@ pub fn run_events<B: Build>(
     ensures run { IfOk result (λ new. Run B.rules state events.items new) }
     // Replaying the order, without the command in commit, gives the library.
     ensures replay { IfOk result (λ new. new.library ≡ library_of (committed new)) }
+    // Each command of the order was one that the library took in its turn.
+    ensures accepted { IfOk result (λ new. AreAccepted empty (commands new.order)) }
     // Every acknowledged command is in the order, by its place.
     ensures acked { IfOk result (λ new. All (Contains new.order) new.acknowledged) }
     ensures rising { IfOk result (λ new. AreRising new.order) }

@@ -10,10 +10,12 @@ use Rattle.cc_core.proofs.events.begin.Goals as goal
 pub returns-in_err-put_in_order-in-Ok-clause-memory :
     goal.returns-in_err-put_in_order-in-Ok-clause-memory
 returns-in_err-put_in_order-in-Ok-clause-memory g c =
+    let held : table.get c.args.contents.now.jobs c.args.client ≡ Some c.in-Some.job.now = sym c.in-Some.ensures in
     let ready : IsTrue (all_there c.in-Some.job.now.pieces) = grind (arith, common_steps) in
-    λ _. begins g.B.Build.rules c.args.contents.now c.args.client c.in-Some.job.now c.in-Idle.is (sym c.in-Some.ensures) ready
+    λ _. begins g.B.Build.rules c.args.contents.now c.args.client c.in-Some.job.now c.in-Idle.is held ready
 
 pub returns-in-Err-OutOfMemory-clause-memory : goal.returns-in-Err-OutOfMemory-clause-memory
 returns-in-Err-OutOfMemory-clause-memory g c =
+    let held : table.get c.args.contents.now.jobs c.args.client ≡ Some c.in-Some.job.now = sym c.in-Some.ensures in
     let ready : IsTrue (all_there c.in-Some.job.now.pieces) = grind (arith, common_steps) in
-    λ _. begins g.B.Build.rules c.args.contents.now c.args.client c.in-Some.job.now c.in-Idle.is (sym c.in-Some.ensures) ready
+    λ _. begins g.B.Build.rules c.args.contents.now c.args.client c.in-Some.job.now c.in-Idle.is held ready
