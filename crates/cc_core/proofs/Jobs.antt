@@ -1,5 +1,5 @@
 -- A write to one piece of one job, through the map of entries, is an insertion into the finite map.
-use Rattle.std.proofs.Common.{◌≡◌, ℕ, List, sym, ap, ◌∙◌, cond, Option, Some}
+use Rattle.std.proofs.Common.{◌≡◌, ℕ, List, sym, ap, ◌∙◌, cond, Some}
 use Rattle.std.specs.Prelude.{slice_set}
 use Rattle.std.specs.Ordering.{nat_cmp}
 use Rattle.std.specs.Cmp.{nat_cmp_total}

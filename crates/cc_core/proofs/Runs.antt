@@ -1,13 +1,12 @@
 -- A run goes on by one turn, and what is reached stays reached.
-use Rattle.std.proofs.Common.{◌≡◌, ◌⊎◌, inl, inr, List, [], ◌∷◌, ◌++◌, Option, Result, Ok, Err, refl, sym, subst}
-use Rattle.std.specs.Prelude.{IfOk, OnErr, IsErrOf}
+use Rattle.std.proofs.Common.{◌≡◌, inl, List, [], ◌∷◌, ◌++◌, Option, Result, Ok, Err, refl, sym, subst}
+use Rattle.std.specs.Prelude.{IfOk, OnErr}
 use Rattle.cc_core.specs.declared.command.Reply.{Reply}
 use Rattle.cc_core.specs.declared.contents.Contents.{Contents}
 use Rattle.cc_core.specs.declared.event.Event.{Event}
 use Rattle.cc_core.specs.declared.fault.CoreFault.{CoreFault}
-use Rattle.cc_core.specs.declared.fault.CoreFault.TheVariants as faults
 use Rattle.cc_core.specs.Rules.{Rules}
-use Rattle.cc_core.specs.Step.{Step, IsImpossible}
+use Rattle.cc_core.specs.Step.{Step}
 use Rattle.cc_core.specs.Run.{Turn, Run, Reached}
 
 module _ {P : Type 0} (rules : Rules P) where

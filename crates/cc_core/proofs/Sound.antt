@@ -1,6 +1,6 @@
 -- What holds of the contents after any events. One record says it, each step keeps it, and so does a run.
-use Rattle.std.proofs.Common.{◌≡◌, ◌⊎◌, inl, inr, ℕ, ◌+◌, ◌-◌, ◌<◌, Bool, true, false, cond, List, [], ◌∷◌, ◌++◌, length, map, take, Option, Some, None, Result, Ok, Err, refl, sym, ap, subst, ◌∙◌, arith, All, Contains}
-use Rattle.std.specs.Prelude.{IsOk, slice_get, slice_set, replicate, fold}
+use Rattle.std.proofs.Common.{◌≡◌, ◌⊎◌, inl, inr, ℕ, ◌+◌, ◌-◌, ◌<◌, Bool, true, false, cond, List, [], ◌∷◌, ◌++◌, length, take, Option, Some, None, Result, Ok, Err, refl, sym, ap, subst, ◌∙◌, arith, All, Contains}
+use Rattle.std.specs.Prelude.{IsOk, slice_get, replicate, fold}
 use Rattle.std.specs.Ordering.{nat_cmp, eq_by_cmp}
 use Rattle.std.specs.declared.cmp.Ordering.{Ordering}
 use Rattle.std.specs.Cmp.{IsTotalOrder, nat_cmp_total}
@@ -28,7 +28,7 @@ use Rattle.cc_core.specs.declared.event.Event.TheVariants as event
 use Rattle.cc_core.specs.Library.{Library, apply, kept, after, library_of, AreAccepted}
 use Rattle.cc_core.specs.Rules.{Rules}
 use Rattle.cc_core.specs.Job.{planned, job_of, source_in, with_piece, verdict}
-use Rattle.cc_core.specs.Step.{Step, Submits, Takes, Finishes, Refuses, Begins, Begun, Acknowledges, IsImpossible, start, counted, placed_now}
+use Rattle.cc_core.specs.Step.{Step, Begun, start, counted, placed_now}
 use Rattle.cc_core.specs.Run.{EachUnit, AreRising, commands, settled, committed, Turn, Run, Reached}
 use Rattle.cc_core.proofs.Lists.{slice_get-set, slice_get-push, All-slice_get, take-push}
 use Rattle.cc_core.proofs.Whole.{IsRightCommand, IsNamed, IsLawful, verdict_right, verdict_taken}

@@ -1,12 +1,12 @@
 -- A `BTreeMap` seen as a finite map: what its look-up, its insertion and its removal are there.
 -- Two finite maps that answer alike are equal, and the `BTreeMap`'s clauses say what it answers.
-use Rattle.std.proofs.Common.{◌≡◌, List, [], ◌∷◌, refl, sym, ap, ◌∙◌, cond, Option, Some, None}
+use Rattle.std.proofs.Common.{◌≡◌, List, [], ◌∷◌, refl, sym, ap, ◌∙◌, cond, Some, None}
 use Rattle.std.specs.declared.cmp.Ordering.{Ordering}
 use Rattle.std.specs.Ordering.{eq_by_cmp}
 use Rattle.std.specs.Cmp.{IsTotalOrder, eq_by_cmp_equiv}
 use Rattle.std.specs.Map.{lookup}
 use Rattle.std.specs.BTreeMap.{BTreeMap, is_at}
-use Rattle.std.specs.FinMap.{FinMap, get, insert, remove, find, from_entries, get-from_entries, get-insert, get-remove, same_map, IsAntisymmetric}
+use Rattle.std.specs.FinMap.{get, insert, remove, find, from_entries, get-from_entries, get-insert, get-remove, same_map, IsAntisymmetric}
 use Rattle.std.specs.BTreeMap as tree
 
 module _ {K X : Type 0} {R : K → K → Ordering} (o : IsTotalOrder R) where

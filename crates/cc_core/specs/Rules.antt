@@ -1,5 +1,5 @@
 -- What a build does, apart from any code: its rules, and when pieces are all of a source's.
-use Rattle.std.specs.Prelude.{ℕ, ◌≡◌, List, length, slice_get, Option, Some, Result, Ok}
+use Rattle.std.specs.Prelude.{ℕ, ◌≡◌, List, length, slice_get, Some, Result, Ok}
 use Rattle.cc_core.specs.declared.unit.StoredUnit.{StoredUnit}
 
 -- the rules of a build whose pieces are of the type P
