@@ -29,7 +29,7 @@ one_piece = record { plan = plan; source_of = λ piece. piece.unit.source; part_
 abbrev pub is_right : StoredUnit → Type 0
 is_right unit = unit.image.code ≡ length unit.source ∷ []
 
-chosen : (b : Bool) (u v : StoredUnit) → cond b (Err 25) (Ok u) ≡ Ok v → u ≡ v
+chosen : (b : Bool) (u v : StoredUnit) → cond {A = Result StoredUnit ℕ} b (Err 25) (Ok u) ≡ Ok v → u ≡ v
 chosen true u v is = absurd (cc)
 chosen false u v is = cc
 
