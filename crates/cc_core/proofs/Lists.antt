@@ -1,0 +1,33 @@
+-- What a list has at a place after a write and after a push, and the front of a list that was pushed to.
+use Rattle.std.proofs.Common.{◌≡◌, ◌⊎◌, inl, inr, ℕ, zero, suc, ◌-◌, List, [], ◌∷◌, ◌++◌, length, take, Some, refl, ap, subst, ◌∙◌, All, arith}
+use Rattle.std.specs.Prelude.{slice_get, slice_set}
+use Rattle.std.proofs.lemmas.Option.{slice_get_within, get_or_from_slice_get}
+use Rattle.std.proofs.Math.Seq.{take-append_seam}
+use Rattle.std.proofs.lemmas.List.{length-append}
+
+-- what is at a place after a write is what was written there, or what was there before
+pub slice_get-set : {X : Type 0} (xs : List X) (i : ℕ) (v : X) (k : ℕ) (x : X) → slice_get (slice_set xs i v) k ≡ Some x → ((k ≡ i) × (v ≡ x)) ⊎ (slice_get xs k ≡ Some x)
+slice_get-set [] i v k x is = inr is
+slice_get-set (y ∷ ys) zero v zero x is = inl (refl, cc)
+slice_get-set (y ∷ ys) zero v (suc k) x is = inr is
+slice_get-set (y ∷ ys) (suc i) v zero x is = inr is
+slice_get-set (y ∷ ys) (suc i) v (suc k) x is =
+    elim (slice_get-set ys i v k x is) [ inl h ↦ inl (ap suc h.0, h.1) | inr h ↦ inr h ]
+
+-- what is at a place after a push is what was there before, or the last
+pub slice_get-push : {X : Type 0} (xs : List X) (y : X) (k : ℕ) (x : X) → slice_get (xs ++ y ∷ []) k ≡ Some x → (slice_get xs k ≡ Some x) ⊎ ((k ≡ length xs) × (y ≡ x))
+slice_get-push [] y zero x is = inr (refl, cc)
+slice_get-push [] y (suc k) x is = absurd (cc)
+slice_get-push (z ∷ zs) y zero x is = inl is
+slice_get-push (z ∷ zs) y (suc k) x is =
+    elim (slice_get-push zs y k x is) [ inl h ↦ inl h | inr h ↦ inr (ap suc h.0, h.1) ]
+
+-- what holds of each element holds of the one at a place
+pub All-slice_get : {X : Type 0} (P : X → Type 0) (xs : List X) (k : ℕ) (x : X) → All P xs → slice_get xs k ≡ Some x → P x
+All-slice_get P xs k x all is = subst P (get_or_from_slice_get xs k x x is) (all k x (slice_get_within xs k x is))
+
+-- all but the last of a list that was pushed to
+pub take-push : {X : Type 0} (xs : List X) (y : X) → take (length (xs ++ y ∷ []) - 1) (xs ++ y ∷ []) ≡ xs
+take-push xs y =
+    let n : length (xs ++ y ∷ []) - 1 ≡ length xs = omega (arith, length-append xs (y ∷ [])) in
+    ap (λ m. take m (xs ++ y ∷ [])) n ∙ take-append_seam xs (y ∷ [])

@@ -1,0 +1,102 @@
+-- A command that a job begins has a unit that is right: its pieces are all there, none was refused, and each
+-- names the job's source and its own place, so they are all of the source's pieces and the build's law holds.
+use Rattle.std.proofs.Common.{◌≡◌, ℕ, zero, suc, List, [], ◌∷◌, length, Option, Some, None, Result, Ok, Err, refl, sym, ap, subst, ◌∙◌}
+use Rattle.std.specs.Prelude.{slice_get, IsTrue, IsOk}
+use Rattle.cc_core.specs.declared.unit.StoredUnit.{StoredUnit}
+use Rattle.cc_core.specs.declared.command.Command.{Command}
+use Rattle.cc_core.specs.declared.command.Command.TheVariants as command
+use Rattle.cc_core.specs.declared.command.Request.{Request}
+use Rattle.cc_core.specs.declared.command.Request.TheVariants as request
+use Rattle.cc_core.specs.declared.job.Job.{Job}
+use Rattle.cc_core.specs.declared.job.Progress.{Progress}
+use Rattle.cc_core.specs.declared.job.Progress.TheVariants.{Waiting, Taken, Made, Refused}
+use Rattle.cc_core.specs.Library.{Library, apply, refusal}
+use Rattle.cc_core.specs.Rules.{Rules, AreWhole}
+use Rattle.cc_core.specs.Job.{source_in, unless, with_unit, accepted, all_there, first_refused, made_pieces, built, command_of, verdict}
+
+-- the unit of a command, where it has one, is right
+abbrev pub IsRightCommand : (StoredUnit → Type 0) → Command → Type 0
+IsRightCommand is_right (command.Add name unit) = is_right unit
+IsRightCommand is_right (command.Replace name unit) = is_right unit
+IsRightCommand is_right (command.Withdraw name) = Unit {0}
+
+unless-Ok : {A : Type 0} (o : Option ℕ) (r : Result A ℕ) (x : A) → unless o r ≡ Ok x → (o ≡ None) × (r ≡ Ok x)
+unless-Ok None r x is = (refl, is)
+unless-Ok (Some number) r x is = absurd (cc)
+
+accepted-Ok : (library : Library) (r : Result Command ℕ) (c : Command) → accepted library r ≡ Ok c → r ≡ Ok c
+accepted-Ok library (Ok d) c is = (unless-Ok (refusal (apply library d)) (Ok d) c is).1
+accepted-Ok library (Err number) c is = is
+
+not_refused : {A : Type 0} (r : Result Library ℕ) (next : Result A ℕ) (x : A) → unless (refusal r) next ≡ Ok x → IsOk r
+not_refused (Ok library) next x is = refl
+not_refused (Err number) next x is = absurd (cc)
+
+accepted-taken : (library : Library) (r : Result Command ℕ) (c : Command) → accepted library r ≡ Ok c → IsOk (apply library c)
+accepted-taken library (Ok d) c is =
+    let same : d ≡ c = let h = (unless-Ok (refusal (apply library d)) (Ok d) c is).1 in cc in
+    subst (λ e. IsOk (apply library e)) same (not_refused (apply library d) (Ok d) c is)
+accepted-taken library (Err number) c is = absurd (cc)
+
+module _ {P : Type 0} (rules : Rules P) where
+  -- a job's pieces are planned for its source, and each that was made names that source and its own place
+  pub record IsNamed (job : Job P) : Type 0 where
+    pub counted : (source : List ℕ) → source_in job.request ≡ Some source → job.refusal ≡ None → rules.plan source ≡ Ok (length job.pieces)
+    pub named : (source : List ℕ) → source_in job.request ≡ Some source → (k : ℕ) (p : P) → slice_get job.pieces k ≡ Some (Made p) → (rules.source_of p ≡ source) × (rules.part_of p ≡ k)
+
+  -- the law that each build proves
+  abbrev pub IsLawful : (StoredUnit → Type 0) → Type 0
+  IsLawful is_right = (source : List ℕ) (pieces : List P) (unit : StoredUnit) → AreWhole rules source pieces → rules.unit source pieces ≡ Ok unit → (unit.source ≡ source) × is_right unit
+
+  -- where all are there and none was refused, the pieces that were made are all of them, each in its place
+  all_made : (ps : List (Progress P)) → IsTrue (all_there ps) → first_refused ps ≡ None
+      → (length (made_pieces ps) ≡ length ps) × ((k : ℕ) (p : P) → slice_get (made_pieces ps) k ≡ Some p → slice_get ps k ≡ Some (Made p))
+  all_made [] there none = (refl, λ k p is. absurd (cc))
+  all_made (Waiting ∷ ps) there none = absurd (cc)
+  all_made (Taken ∷ ps) there none = absurd (cc)
+  all_made (Refused number ∷ ps) there none = absurd (cc)
+  all_made (Made q ∷ ps) there none =
+      let rest = all_made ps there none in
+      (ap suc rest.0, λ k p. made_at q ps rest.1 k p)
+    where
+      made_at : (q : P) (ps : List (Progress P)) → ((k : ℕ) (p : P) → slice_get (made_pieces ps) k ≡ Some p → slice_get ps k ≡ Some (Made p))
+          → (k : ℕ) (p : P) → slice_get (q ∷ made_pieces ps) k ≡ Some p → slice_get (Made q ∷ ps) k ≡ Some (Made p)
+      made_at q ps rest zero p is = let same : q ≡ p = cc in ap (λ x. Some (Made x)) same
+      made_at q ps rest (suc k) p is = rest k p is
+
+  -- a unit that a job's pieces give is right
+  built_right : (is_right : StoredUnit → Type 0) → IsLawful is_right → (job : Job P) (source : List ℕ) (unit : StoredUnit)
+      → IsNamed job → source_in job.request ≡ Some source → IsTrue (all_there job.pieces) → built rules job source ≡ Ok unit → is_right unit
+  built_right is_right law job source unit named from there is =
+      let first = unless-Ok job.refusal _ unit is in
+      let second = unless-Ok (first_refused job.pieces) _ unit first.1 in
+      let made = all_made job.pieces there second.0 in
+      let whole : AreWhole rules source (made_pieces job.pieces) = record {
+        counted = named.counted source from first.0 ∙ ap Ok (sym made.0);
+        named = λ k p at. named.named source from k p (made.1 k p at);
+      } in
+      (law source (made_pieces job.pieces) unit whole second.1).1
+
+  with_unit_right : (is_right : StoredUnit → Type 0) (make : StoredUnit → Command) → ((u : StoredUnit) → is_right u → IsRightCommand is_right (make u))
+      → (r : Result StoredUnit ℕ) (c : Command) → ((u : StoredUnit) → r ≡ Ok u → is_right u) → with_unit make r ≡ Ok c → IsRightCommand is_right c
+  with_unit_right is_right make makes (Ok u) c right is = let same : make u ≡ c = cc in subst (IsRightCommand is_right) same (makes u (right u refl))
+  with_unit_right is_right make makes (Err number) c right is = absurd (cc)
+
+  command_right : (is_right : StoredUnit → Type 0) → IsLawful is_right → (job : Job P) (asked : Request) (c : Command)
+      → job.request ≡ asked → IsNamed job → IsTrue (all_there job.pieces) → command_of rules job asked ≡ Ok c → IsRightCommand is_right c
+  command_right is_right law job (request.Add name source) c asks named there is =
+      with_unit_right is_right (command.Add name) (λ u h. h) (built rules job source) c (λ u made. built_right is_right law job source u named (ap source_in asks) there made) is
+  command_right is_right law job (request.Replace name source) c asks named there is =
+      with_unit_right is_right (command.Replace name) (λ u h. h) (built rules job source) c (λ u made. built_right is_right law job source u named (ap source_in asks) there made) is
+  command_right is_right law job (request.Withdraw name) c asks named there is =
+      let same : command.Withdraw name ≡ c = cc in subst (IsRightCommand is_right) same tt
+
+  -- the library takes the command that a job begins
+  pub verdict_taken : (library : Library) (job : Job P) (c : Command) → verdict rules library job ≡ Ok c → IsOk (apply library c)
+  verdict_taken library job c is = accepted-taken library (command_of rules job job.request) c is
+
+  -- the command that a job begins has a right unit
+  pub verdict_right : (is_right : StoredUnit → Type 0) → IsLawful is_right → (library : Library) (job : Job P) (c : Command)
+      → IsNamed job → IsTrue (all_there job.pieces) → verdict rules library job ≡ Ok c → IsRightCommand is_right c
+  verdict_right is_right law library job c named there is =
+      command_right is_right law job job.request c refl named there (accepted-Ok library (command_of rules job job.request) c is)

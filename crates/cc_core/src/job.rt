@@ -1,0 +1,112 @@
+ghost use Rattle.std.specs.Prelude.{◌≡◌, ℕ, IfOk, map, replicate};
+ghost use Rattle.std.specs.Ordering.{nat_cmp};
+ghost use Rattle.std.specs.FinMap as table;
+ghost use Rattle.cc_core.specs.Job.{is_there, all_there, first_refused, made_pieces, with_piece};
+ghost use Rattle.cc_core.specs.declared.job.Job.{Job};
+ghost use Rattle.cc_core.specs.declared.job.Progress.TheVariants.{Waiting};
+
+use crate::command::Request;
+use crate::sequence::Sequence;
+use crate::table::Table;
+use std::alloc::{AllocError, Global};
+
+/// How far a piece of a job is.
+#[derive(Drop)]
+pub enum Progress<P> {
+    /// No worker has taken it.
+    Waiting,
+    /// A worker has it.
+    Taken,
+    /// This is what a worker made.
+    Made(P),
+    /// A worker refused it, with this number.
+    Refused(u32),
+}
+
+/// What a client handed in: the number of its call, what it asks for, the number that refuses its source,
+/// where one does, and how far each piece is.
+#[derive(Drop)]
+pub struct Job<P> {
+    pub call: u64,
+    pub request: Request,
+    pub refusal: Option<u32>,
+    pub pieces: Sequence<Progress<P>>,
+}
+
+/// What a worker has taken: a piece, counted from 0, of a client's job.
+#[derive(Clone, Copy)]
+pub struct Work {
+    pub client: u64,
+    pub part: u32,
+}
+
+impl<P> Progress<P> {
+    fn is_there(&self) -> bool
+        ensures { result ≡ is_there self.now }
+    {
+        match self {
+            Progress::Waiting | Progress::Taken => false,
+            Progress::Made(_) | Progress::Refused(_) => true,
+        }
+    }
+}
+
+// Whether every piece has been answered.
+pub(crate) fn are_all_there<P>(pieces: &[Progress<P>]) -> bool
+    ensures { result ≡ all_there pieces.now }
+{
+    pieces.iter().all(|progress| progress.is_there())
+}
+
+// The number of the least piece that was refused.
+pub(crate) fn least_refused<P>(pieces: &[Progress<P>]) -> Option<u32>
+    ensures { result ≡ first_refused pieces.now }
+{
+    for progress in pieces {
+        if let Progress::Refused(number) = progress {
+            return Some(*number);
+        }
+    }
+    None
+}
+
+// The pieces that were made, in their order.
+pub(crate) fn all_made<P>(alloc: Global, pieces: &[Progress<P>]) -> Result<Vec<&P>, AllocError>
+    ensures { IfOk result (λ made. map (λ piece. piece.now) made.items ≡ made_pieces pieces.now) }
+{
+    let mut made = Vec::new(alloc);
+    for progress in pieces {
+        if let Progress::Made(piece) = progress {
+            made.push(piece)?;
+        }
+    }
+    Ok(made)
+}
+
+// So many pieces that wait.
+pub(crate) fn all_waiting<P: Drop>(
+    alloc: Global,
+    count: u32,
+) -> Result<Sequence<Progress<P>>, AllocError>
+    ensures { IfOk result (λ pieces. pieces ≡ replicate count Waiting) }
+{
+    let mut pieces = Sequence::new(Vec::new(alloc));
+    for _ in 0..count {
+        pieces.push(Progress::Waiting)?;
+    }
+    Ok(pieces)
+}
+
+// Sets how far one piece of a client's job is.
+pub(crate) fn set_progress<P: Drop>(
+    jobs: &mut Table<Job<P>>,
+    client: u64,
+    part: u32,
+    progress: Progress<P>,
+)
+    ensures { (job : Job P) → table.get jobs.old client ≡ Some job → jobs.new ≡ table.insert jobs.old client (with_piece job part progress) }
+{
+    if let Some(job) = jobs.values.get_mut(&client) {
+        job.pieces.set(part as usize, progress);
+    }
+}
