@@ -4,6 +4,7 @@ pub mod FormErase
 pub mod Resolve
 pub mod Within
 pub mod Scope
+pub mod Bindings
 pub mod Rules
 pub mod Fault
 pub mod Typed

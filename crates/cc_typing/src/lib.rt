@@ -3,11 +3,13 @@
 // `form` has the resolved form: numbered variables and operations on words.
 #![tactic(auto)]
 
+mod bindings;
 mod fault;
 mod form;
 mod rule;
 mod scope;
 
+pub use bindings::Bindings;
 pub use fault::TypeFault;
 pub use form::{BinaryOperation, Form, ResolvedExpression, ResolvedStatement, UnaryOperation};
 pub use scope::Scope;
