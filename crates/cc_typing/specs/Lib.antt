@@ -8,3 +8,5 @@ pub mod Bindings
 pub mod Rules
 pub mod Fault
 pub mod Typed
+pub mod Findings
+pub mod Forms

@@ -5,12 +5,12 @@
 
 mod bindings;
 mod fault;
+mod findings;
 mod form;
+mod resolve;
 mod rule;
 mod scope;
 
-pub use bindings::Bindings;
 pub use fault::TypeFault;
 pub use form::{BinaryOperation, Form, ResolvedExpression, ResolvedStatement, UnaryOperation};
-pub use scope::Scope;
-pub use rule::{Rule, Offence};
+pub use resolve::function;

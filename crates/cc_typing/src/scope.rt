@@ -1,7 +1,7 @@
 // What is in scope, block by block.
 
 ghost use Rattle.std.specs.Prelude.{◌≡◌, ◌≤◌, [], Some, None, length, IfOk, OnOk, if◌then◌else◌};
-ghost use Rattle.cc_typing.specs.Scope.{opened, declared, closed, names_in, has_name, referent, file_referent};
+ghost use Rattle.cc_typing.specs.Scope.{opened, declared, closed, names_in, has_name, referent, file_referent, is_builtin};
 
 use super::bindings::Bindings;
 use std::alloc::{AllocError, Global};
@@ -40,6 +40,13 @@ impl<'a> Model for Scope<'a> {
 
 const WRITE_WORD: &[u8] = b"write_word";
 const READ_WORD: &[u8] = b"read_word";
+
+/// Whether a name is one of the builtins.
+pub fn is_builtin(name: &[u8]) -> bool
+    ensures { result ≡ is_builtin name.now }
+{
+    WRITE_WORD == name || READ_WORD == name
+}
 
 /// What a name stands for in file scope.
 fn function_named(function: &[u8], name: &[u8]) -> Referent
