@@ -1,13 +1,13 @@
 -- A name has a number exactly where it is one of some names, and the number is its variable's.
-use Rattle.std.proofs.Common.{◌≡◌, ℕ, zero, suc, ◌+◌, ◌-◌, ◌<◌, ◌≤◌, Bool, true, false, ◌||◌, cond, leb, List, [], ◌∷◌, ◌++◌, length, take, drop, Option, Some, None, IfSome, is_some, if◌then◌else◌, refl, sym, ap, subst, ◌∙◌, nat_eq, arith}
+use Rattle.std.proofs.Common.{◌≡◌, ℕ, zero, suc, ◌+◌, ◌-◌, ◌<◌, ◌≤◌, Bool, true, false, ◌||◌, cond, leb, List, [], ◌∷◌, ◌++◌, length, take, drop, Option, Some, None, IfSome, is_some, if◌then◌else◌, refl, sym, ap, subst, ◌∙◌, nat_eq, codes, arith}
 use Rattle.std.specs.Cmp.Lexicographic.{pointwise}
 use Rattle.std.proofs.lemmas.Bool.Decides.{nat_tests}
 use Rattle.cc_typing.specs.Resolve.{variable_number}
 use Rattle.std.proofs.lemmas.List.{take-append-drop}
-use Rattle.cc_typing.specs.Scope.{has_name, number_in, referent, file_referent}
+use Rattle.cc_typing.specs.Scope.{Visible, names_in, has_name, number_in, referent, file_referent}
 use Rattle.cc_typing.specs.Bindings.{scope_of}
 use Rattle.cc_typing.specs.declared.scope.Referent.{Referent}
-use Rattle.cc_typing.specs.declared.scope.Referent.TheVariants.{Local}
+use Rattle.cc_typing.specs.declared.scope.Referent.TheVariants.{Local, Function, Nothing}
 
 pub has_name-number_in : (xs : List (List ℕ)) (x : List ℕ) → has_name xs x ≡ is_some (number_in xs x)
 has_name-number_in [] x = refl
@@ -68,3 +68,33 @@ module _ (function : List ℕ) (all : List (List ℕ)) (inner : ℕ) (x : List �
   referent-file e =
       let gone : has_name all x ≡ false = has_name-number_in all x ∙ ap is_some e in
       stands-is ∙ ap (λ b. if b then Local (variable_number all x) else file_referent function x) gone
+
+-- the number that stands in the form for a name
+abbrev pub number_meant : Referent → ℕ
+number_meant (Local n) = n
+number_meant (Function n) = 0
+number_meant Nothing = 0
+
+no_number : (xs : List (List ℕ)) (x : List ℕ) → has_name xs x ≡ false → variable_number xs x ≡ 0
+no_number [] x h = refl
+no_number (y ∷ ys) x h = by (pointwise nat_eq y x) (no_number ys x) h
+  where
+    by : (b : Bool) → (has_name ys x ≡ false → variable_number ys x ≡ 0) → (b || has_name ys x) ≡ false → cond b (length ys) (variable_number ys x) ≡ 0
+    by true e h = cc
+    by false e h = e h
+
+file_has_no_number : (function x : List ℕ) → number_meant (file_referent function x) ≡ 0
+file_has_no_number function x = by (pointwise nat_eq (codes "write_word") x) (pointwise nat_eq (codes "read_word") x) (pointwise nat_eq function x)
+  where
+    by : (a b c : Bool) → number_meant (if a then Function 1 else (if b then Function 0 else (if c then Function 0 else Nothing))) ≡ 0
+    by true b c = refl
+    by false true c = refl
+    by false false true = refl
+    by false false false = refl
+
+pub number_meant-is : (s : Visible) (x : List ℕ) → number_meant (referent s x) ≡ variable_number (names_in s) x
+number_meant-is s x = by (has_name (names_in s) x) refl
+  where
+    by : (b : Bool) → has_name (names_in s) x ≡ b → number_meant (if b then Local (variable_number (names_in s) x) else file_referent s.function x) ≡ variable_number (names_in s) x
+    by true e = refl
+    by false e = file_has_no_number s.function x ∙ sym (no_number (names_in s) x e)

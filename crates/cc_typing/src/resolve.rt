@@ -51,13 +51,17 @@ fn variable(scope: &Scope, findings: &mut Findings, name: &Identifier, misuse: R
     ensures found { findings.new ≡ found findings.old (name_offences misuse (referent scope.now name.now.bytes.items) name.now.at) [] }
     ensures number { result ≡ variable_number (names_in scope.now) name.now.bytes.items }
 {
-    let rule = match scope.referent(name.bytes.as_slice()) {
-        Referent::Local(number) => return number,
-        Referent::Function(_) => misuse,
-        Referent::Nothing => Rule::Unknown,
-    };
-    findings.note(rule, name.at);
-    0
+    match scope.referent(name.bytes.as_slice()) {
+        Referent::Local(number) => number,
+        Referent::Function(_) => {
+            findings.note(misuse, name.at);
+            0
+        }
+        Referent::Nothing => {
+            findings.note(Rule::Unknown, name.at);
+            0
+        }
+    }
 }
 
 // A name that must be a function of one parameter.
