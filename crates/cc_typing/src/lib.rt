@@ -4,13 +4,16 @@
 #![tactic(auto)]
 
 mod bindings;
+mod checking;
 mod fault;
 mod findings;
 mod form;
 mod resolve;
 mod rule;
 mod scope;
+mod typed;
 
+pub use checking::check;
 pub use fault::TypeFault;
 pub use form::{BinaryOperation, Form, ResolvedExpression, ResolvedStatement, UnaryOperation};
-pub use resolve::function;
+pub use typed::TypedUnit;
