@@ -98,6 +98,12 @@ not_redeclared : (b : Bool) (at : ℕ) (more : List Offence) → (if b then brok
 not_redeclared true at more e = cc
 not_redeclared false at more e = refl
 
+-- where one name of a declaration breaks no rule, it is new in its block
+pub fresh_declarator : (s : Visible) (d : Declared) → declarator_offences s d ≡ [] → (has_name s.inner d.name.text ≡ false) × (initial_offences (declared s d.name.text) d.initial ≡ [])
+fresh_declarator s d none =
+    let more = initial_offences (declared s d.name.text) d.initial in
+    (not_redeclared (has_name s.inner d.name.text) d.name.at more none, (both_empty (if has_name s.inner d.name.text then broken Redeclared d.name.at else []) more none).1)
+
 -- behind some names of a declaration: what is done and what is left make the whole
 pub record Declaring (s0 : Visible) (f0 : Findings) (all : List Declared) (s : Visible) (f : Findings) (form : List ResolvedStatement) (rest : List Declared) : Type 0 where
   pub scope : all_declared s rest ≡ all_declared s0 all
@@ -119,7 +125,7 @@ Declaring-next s0 f0 all s f form d rest s' f' form' before es ef eform = record
   statements = λ none.
     let done = before.statements none in
     let empty = both_empty (declarator_offences s d) (declared_offences (declared s d.name.text) rest) done.0 in
-    let fresh : has_name s.inner d.name.text ≡ false = not_redeclared (has_name s.inner d.name.text) d.name.at (initial_offences (declared s d.name.text) d.initial) empty.0 in
+    let fresh = (fresh_declarator s d empty.0).0 in
     let names : names_in s' ≡ d.name.text ∷ names_in s = ap names_in es ∙ names_in-declared s d.name.text fresh in
     (ap (λ v. declared_offences v rest) es ∙ empty.1,
      eform fresh (resolved_declared (names_in s') rest) ∙ ap (λ ns. prefixed form (resolved_declarator (names_in s) d (resolved_declared ns rest))) names ∙ done.1);
@@ -134,10 +140,10 @@ names-declared : (s : Visible) (ds : List Declared) → declared_offences s ds �
 names-declared s [] none = refl
 names-declared s (d ∷ ds) none =
     let empty = both_empty (declarator_offences s d) (declared_offences (declared s d.name.text) ds) none in
-    let fresh : has_name s.inner d.name.text ≡ false = not_redeclared (has_name s.inner d.name.text) d.name.at (initial_offences (declared s d.name.text) d.initial) empty.0 in
+    let fresh = (fresh_declarator s d empty.0).0 in
     names-declared (declared s d.name.text) ds empty.1 ∙ ap (λ ns. with_declared ns ds) (names_in-declared s d.name.text fresh)
 
-names-behind : (s : Visible) (t : Stmt) → statement_offences s t ≡ [] → names_in (scope_behind s t) ≡ names_behind (names_in s) t
+pub names-behind : (s : Visible) (t : Stmt) → statement_offences s t ≡ [] → names_in (scope_behind s t) ≡ names_behind (names_in s) t
 names-behind s (tree.Block all) none = refl
 names-behind s (tree.Local t ds) none = names-declared s ds none
 names-behind s (tree.Assign x e) none = refl
