@@ -5,7 +5,7 @@ use Rattle.std.proofs.lemmas.Bool.Decides.{nat_tests}
 use Rattle.std.proofs.lemmas.List.Elements.{Contains-append_right}
 use Rattle.cc_syntax.specs.Tree.{Name}
 use Rattle.cc_typing.specs.Fault.{rule_number}
-use Rattle.cc_typing.specs.Rules.{most_locals}
+use Rattle.cc_typing.specs.Rules.{most_locals, too_many}
 use Rattle.cc_typing.specs.Typed.{NotAfter, IsFirst}
 use Rattle.cc_typing.specs.Findings.{is_before, earlier, noted, counted, passed, excess_of}
 use Rattle.cc_typing.specs.declared.rule.Offence.{Offence}
@@ -46,7 +46,7 @@ earlier-either p x = by (is_before x p)
     by false = inl refl
 
 contains-first : (x : Offence) (xs : List Offence) (o : Offence) → o ≡ x → Contains (x ∷ xs) o
-contains-first x xs o e = (0, (omega arith, sym e))
+contains-first x xs o e = (0, omega arith, sym e)
 
 -- what is kept of an offence and more is the first of them
 noted-first : (p : Offence) (xs : List Offence) (o : Offence) → noted (Some p) xs ≡ Some o → ((o ≡ p) ⊎ Contains xs o) × NotAfter o p × AllByRecursion (NotAfter o) xs
@@ -81,7 +81,7 @@ passed-once at [] = refl
 passed-once at (x ∷ xs) = passed-once at xs
 
 -- the limit on what is left, once some are counted
-passed-left : (left n : ℕ) (xs : List Name) → left + n ≡ most_locals → excess_of (passed n None xs) ≡ map (λ (x : Name). record { rule = TooMany; at = x.at }) (take 1 (drop left xs))
+passed-left : (left n : ℕ) (xs : List Name) → left + n ≡ most_locals → excess_of (passed n None xs) ≡ map too_many (take 1 (drop left xs))
 passed-left zero n [] e = refl
 passed-left zero n (x ∷ xs) e =
     let full : n ≡ most_locals = omega arith in
@@ -92,7 +92,7 @@ passed-left (suc left) n (x ∷ xs) e =
     let next : left + (n + 1) ≡ most_locals = omega arith in
     ap (λ b. excess_of (if b then passed (n + 1) None xs else passed n (Some x.at) xs)) more ∙ passed-left left (n + 1) xs next
 
-pub excess-is : (xs : List Name) → excess_of (passed 0 None xs) ≡ map (λ (x : Name). record { rule = TooMany; at = x.at }) (take 1 (drop most_locals xs))
+pub excess-is : (xs : List Name) → excess_of (passed 0 None xs) ≡ map too_many (take 1 (drop most_locals xs))
 excess-is xs = passed-left most_locals 0 xs (omega arith)
 
 -- up to the limit all are counted
@@ -103,12 +103,12 @@ counted-all n (x ∷ xs) h =
     let rest : counted (n + 1) xs ≡ (n + 1) + length xs = counted-all (n + 1) xs (omega arith) in
     ap (λ b. counted (if b then n + 1 else n) xs) more ∙ rest ∙ (let k : (n + 1) + length xs ≡ n + suc (length xs) = omega arith in k)
 
-within-limit : (xs : List Name) → map (λ (x : Name). record { rule = TooMany; at = x.at }) (take 1 (drop most_locals xs)) ≡ [] → length xs ≤ most_locals
+within-limit : (xs : List Name) → map too_many (take 1 (drop most_locals xs)) ≡ [] → length xs ≤ most_locals
 within-limit xs e = by (drop most_locals xs) refl e
   where
-    by : (ys : List Name) → drop most_locals xs ≡ ys → map (λ (x : Name). record { rule = TooMany; at = x.at }) (take 1 ys) ≡ [] → length xs ≤ most_locals
+    by : (ys : List Name) → drop most_locals xs ≡ ys → map too_many (take 1 ys) ≡ [] → length xs ≤ most_locals
     by [] d e' = let k : length xs - most_locals ≡ 0 = sym (length-drop most_locals xs) ∙ ap length d in omega arith
     by (y ∷ ys) d e' = absurd (let c : ⊥ = cc in c)
 
-pub counted-is : (xs : List Name) → map (λ (x : Name). record { rule = TooMany; at = x.at }) (take 1 (drop most_locals xs)) ≡ [] → counted 0 xs ≡ length xs
+pub counted-is : (xs : List Name) → map too_many (take 1 (drop most_locals xs)) ≡ [] → counted 0 xs ≡ length xs
 counted-is xs e = let h = within-limit xs e in let k : counted 0 xs ≡ 0 + length xs = counted-all 0 xs (omega arith) in omega arith

@@ -4,3 +4,4 @@ pub mod Walks
 pub mod Trees
 pub mod First
 pub mod Inside
+pub mod Verdict

@@ -17,7 +17,7 @@ use Rattle.cc_typing.specs.declared.findings.Findings.{Findings}
 use Rattle.cc_typing.specs.declared.form.ResolvedExpression.{ResolvedExpression}
 use Rattle.cc_typing.specs.declared.form.ResolvedStatement.{ResolvedStatement, Clear, Set}
 
-noted-append : (f : Option Offence) (xs ys : List Offence) → noted (noted f xs) ys ≡ noted f (xs ++ ys)
+pub noted-append : (f : Option Offence) (xs ys : List Offence) → noted (noted f xs) ys ≡ noted f (xs ++ ys)
 noted-append f [] ys = refl
 noted-append f (x ∷ xs) ys = noted-append (Some (earlier f x)) xs ys
 
