@@ -1,5 +1,5 @@
 -- The offence that is kept is the first of all, and what is counted is how many locals there are.
-use Rattle.std.proofs.Common.{◌≡◌, ℕ, zero, suc, ◌+◌, ◌-◌, ◌<◌, ◌≤◌, ◌⊎◌, inl, inr, Bool, true, false, ◌&&◌, ◌||◌, ◌==◌, cond, if◌then◌else◌, nat_lt, List, [], ◌∷◌, ◌++◌, length, map, take, drop, Option, Some, None, Contains, refl, sym, ap, subst, ◌∙◌, arith, length-drop}
+use Rattle.std.proofs.Common.{◌≡◌, ℕ, zero, suc, ◌+◌, ◌-◌, ◌<◌, ◌≤◌, ◌⊎◌, inl, inr, Bool, true, false, ◌&&◌, ◌||◌, ◌==◌, if◌then◌else◌, nat_lt, List, [], ◌∷◌, length, map, take, drop, Some, None, Contains, refl, sym, ap, subst, ◌∙◌, arith, length-drop}
 use Rattle.std.specs.List.{AllByRecursion}
 use Rattle.std.proofs.lemmas.Bool.Decides.{nat_tests}
 use Rattle.std.proofs.lemmas.List.Elements.{Contains-append_right}
@@ -55,9 +55,10 @@ noted-first p (x ∷ xs) o e =
     let q = earlier (Some p) x in
     let h = noted-first q xs o e in
     let among : (o ≡ q) ⊎ Contains xs o → ((o ≡ p) ⊎ Contains (x ∷ xs) o) = λ w.
-      elim w [
-        inl same ↦ elim (earlier-either p x) [ inl old ↦ inl (same ∙ old) | inr new ↦ inr (contains-first x xs o (same ∙ new)) ]
-      | inr later ↦ inr (Contains-append_right (x ∷ []) xs o later) ] in
+    elim w [
+      | inl same ↦ elim (earlier-either p x) [ inl old ↦ inl (same ∙ old) | inr new ↦ inr (contains-first x xs o (same ∙ new)) ]
+      | inr later ↦ inr (Contains-append_right (x ∷ []) xs o later)
+    ] in
     (among h.0, not_after-trans o q p h.1 (earlier-first p x).0, (not_after-trans o q x h.1 (earlier-first p x).1, h.2))
 
 pub IsFirst-noted : (xs : List Offence) (o : Offence) → noted None xs ≡ Some o → IsFirst o xs

@@ -1,15 +1,14 @@
 -- In the form of a unit that breaks no rule, each variable's number is below how many locals the unit declares.
-use Rattle.std.proofs.Common.{◌≡◌, ℕ, suc, ◌+◌, ◌<◌, ◌≤◌, Bool, true, false, if◌then◌else◌, List, [], ◌∷◌, ◌++◌, length, Option, Some, None, IfSome, is_some, refl, sym, ap, subst, ◌∙◌, length-append, codes, arith}
+use Rattle.std.proofs.Common.{◌≡◌, ℕ, suc, ◌+◌, ◌<◌, ◌≤◌, Bool, true, false, if◌then◌else◌, List, [], ◌∷◌, length, Option, Some, None, IfSome, is_some, refl, sym, ap, subst, ◌∙◌, length-append, codes, arith}
 use Rattle.cc_syntax.specs.Tree as tree
 use Rattle.cc_syntax.specs.Tree.{Name, Expr, Declared, Stmt, Stmts, Definition}
 use Rattle.cc_syntax.specs.declared.ast.UnaryOperator.{UnaryOperator}
 use Rattle.cc_syntax.specs.declared.ast.UnaryOperator.TheVariants.{Plus, Minus}
-use Rattle.cc_typing.specs.Form as form
 use Rattle.cc_typing.specs.Form.{FormExpr, FormStmts}
 use Rattle.cc_typing.specs.Within.{IsExprWithin, IsStmtWithin, AreStmtsWithin, IsWithin}
-use Rattle.cc_typing.specs.Resolve.{variable_number, resolved, resolved_unary, resolved_expression, resolved_value, resolved_initial, resolved_declarator, resolved_declared, resolved_statement, resolved_statements, names_behind, locals, locals_of, declared_names}
+use Rattle.cc_typing.specs.Resolve.{variable_number, resolved, resolved_unary, resolved_expression, resolved_value, resolved_initial, resolved_declared, resolved_statement, resolved_statements, locals, locals_of, declared_names}
 use Rattle.cc_typing.specs.Scope.{Visible, names_in, opened, has_name, number_in, declared, all_declared, referent, file_referent}
-use Rattle.cc_typing.specs.Rules.{name_offences, call_offences, expression_offences, return_offences, initial_offences, declarator_offences, declared_offences, statement_offences, statements_offences, scope_behind, body_scope, offences}
+use Rattle.cc_typing.specs.Rules.{name_offences, call_offences, expression_offences, return_offences, initial_offences, declarator_offences, declared_offences, statement_offences, statements_offences, scope_behind, body_scope}
 use Rattle.cc_typing.specs.declared.rule.Rule.{Rule}
 use Rattle.cc_typing.specs.declared.rule.Rule.TheVariants.{WrongKind, BadAssign}
 use Rattle.cc_typing.specs.Names.{same_name}

@@ -1,5 +1,5 @@
 -- A name has a number exactly where it is one of some names, and the number is its variable's.
-use Rattle.std.proofs.Common.{◌≡◌, ℕ, zero, suc, ◌+◌, ◌-◌, ◌<◌, ◌≤◌, Bool, true, false, ◌||◌, cond, leb, List, [], ◌∷◌, ◌++◌, length, take, drop, Option, Some, None, IfSome, is_some, if◌then◌else◌, refl, sym, ap, subst, ◌∙◌, nat_eq, codes, arith}
+use Rattle.std.proofs.Common.{◌≡◌, ℕ, zero, suc, ◌-◌, ◌<◌, ◌≤◌, Bool, true, false, ◌||◌, cond, leb, List, [], ◌∷◌, length, take, Option, Some, None, IfSome, is_some, if◌then◌else◌, refl, sym, ap, subst, ◌∙◌, nat_eq, codes, arith}
 use Rattle.std.specs.Cmp.Lexicographic.{pointwise}
 use Rattle.std.proofs.lemmas.Bool.Decides.{nat_tests}
 use Rattle.cc_typing.specs.Resolve.{variable_number}
@@ -24,6 +24,7 @@ number_in-is_variable (y ∷ ys) x = by (pointwise nat_eq y x) (number_in-is_var
     wider : (r : Option ℕ) → IfSome r (λ n. (variable_number ys x ≡ n) × (n < length ys)) → IfSome r (λ n. (variable_number ys x ≡ n) × (n < suc (length ys)))
     wider None h = tt
     wider (Some n) h = (h.0, omega arith)
+
     by : (b : Bool) → IfSome (number_in ys x) (λ n. (variable_number ys x ≡ n) × (n < length ys)) → IfSome (cond b (Some (length ys)) (number_in ys x)) (λ n. (cond b (length ys) (variable_number ys x) ≡ n) × (n < suc (length ys)))
     by true h = (refl, omega arith)
     by false h = wider (number_in ys x) h

@@ -38,7 +38,7 @@ module _ {S : Type 0} (bs : List Binding) (b : Binding) (old new : IndexMap (Bor
     where
       number_in-restored-at : (q : Bor (List ℕ)) → cond (same_key x q) w (number_in (b.name.now ∷ names_of bs) q.now) ≡ number_in (names_of bs) q.now
       number_in-restored-at q =
-        subst (λ (k : Bor (List ℕ)). cond (same_key k q) w (number_in (b.name.now ∷ names_of bs) q.now) ≡ number_in (names_of bs) q.now) ex
+          subst (λ (k : Bor (List ℕ)). cond (same_key k q) w (number_in (b.name.now ∷ names_of bs) q.now) ≡ number_in (names_of bs) q.now) ex
           (number_in-restored (names_of bs) b.name.now q.now w (sym ew ∙ hidden_is.0))
 
   same-itself : (x : List ℕ) → pointwise nat_eq x x ≡ true

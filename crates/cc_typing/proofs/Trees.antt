@@ -3,7 +3,7 @@ use Rattle.std.proofs.Common.{◌≡◌, ℕ, ◌+◌, ◌≤◌, List, [], ◌+
 use Rattle.cc_syntax.specs.Tree as tree
 use Rattle.cc_syntax.specs.Tree.{Name, Expr, Declared, Stmt}
 use Rattle.cc_syntax.specs.declared.ast.Scalar.{Scalar}
-use Rattle.cc_syntax.specs.Erase.{name_tree, expression_tree, optional_tree, declarator_tree, statement_tree, statements_tree, statements_of}
+use Rattle.cc_syntax.specs.Erase.{expression_tree, statement_tree, statements_tree, statements_of}
 use Rattle.cc_syntax.specs.declared.ast.Statement as source
 use Rattle.cc_syntax.specs.declared.ast.Statement.{Statement, Row_of-Statement, end_of-Statement, more_of-Statement, items-the_row-Statement}
 use Rattle.cc_typing.specs.Form as form
@@ -85,9 +85,10 @@ module _ (s : Visible) (t : Stmt) (c : Expr) (b body : Stmt) (inside : Visible) 
       ∙ sym (ap (resolved_statement (names_in s)) is)
 
   pub loop-outer : (v : Visible) → v ≡ scope_behind inside body → (v.outer ≡ names_in s) × (v.function ≡ s.function)
-  loop-outer v e =
-      (ap (λ (w : Visible). w.outer) e ∙ (scope_behind_outer inside body).0 ∙ ap (λ (w : Visible). w.outer) inner,
-       ap (λ (w : Visible). w.function) e ∙ (scope_behind_outer inside body).1 ∙ ap (λ (w : Visible). w.function) inner)
+  loop-outer v e = (
+    ap (λ (w : Visible). w.outer) e ∙ (scope_behind_outer inside body).0 ∙ ap (λ (w : Visible). w.outer) inner,
+    ap (λ (w : Visible). w.function) e ∙ (scope_behind_outer inside body).1 ∙ ap (λ (w : Visible). w.function) inner,
+  )
 
   pub loop-scope : (v w : Visible) (around : ℕ) → v ≡ scope_behind inside body → around ≡ length s.inner → w ≡ closed around v → w ≡ scope_behind s t
   loop-scope v w around e n ew =

@@ -1,5 +1,5 @@
 -- What is found in a whole unit decides whether it is typed.
-use Rattle.std.proofs.Common.{◌≡◌, if◌then◌else◌, true, [], length, Option, Some, None, refl, sym, ap, subst, ◌∙◌}
+use Rattle.std.proofs.Common.{◌≡◌, if◌then◌else◌, true, [], length, Some, None, sym, ap, subst, ◌∙◌}
 use Rattle.cc_syntax.specs.Tree.{Definition, Source}
 use Rattle.cc_typing.specs.FormErase.{form_tree, form_statements_of}
 use Rattle.cc_typing.specs.Resolve.{locals, resolved}
@@ -7,7 +7,7 @@ use Rattle.cc_typing.specs.Scope.{is_builtin}
 use Rattle.cc_typing.specs.Rules.{broken, offences, excesses, statements_offences, body_scope}
 use Rattle.cc_typing.specs.Typed.{is_main, IsFirst, IsChecked, all_offences}
 use Rattle.cc_typing.specs.Within.{IsWithin}
-use Rattle.cc_typing.specs.Findings.{noted, counted, passed, found, nothing_found, excess_of}
+use Rattle.cc_typing.specs.Findings.{noted, found, nothing_found, excess_of}
 use Rattle.cc_typing.specs.declared.rule.Offence.{Offence}
 use Rattle.cc_typing.specs.declared.rule.Rule.TheVariants.{Redeclared}
 use Rattle.cc_typing.specs.declared.findings.Findings.{Findings}

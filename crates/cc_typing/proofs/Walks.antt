@@ -1,5 +1,5 @@
 -- The walk over a tree, part by part: what is found in one part and then in the next is found in both.
-use Rattle.std.proofs.Common.{◌≡◌, ℕ, suc, ◌+◌, ◌<◌, Bool, true, false, cond, if◌then◌else◌, nat_lt, List, [], ◌∷◌, ◌++◌, length, map, get_or, take, drop, drop-cons, Option, Some, None, is_some, refl, sym, ap, subst, ◌∙◌, append_assoc, arith}
+use Rattle.std.proofs.Common.{◌≡◌, ℕ, suc, ◌+◌, ◌<◌, Bool, true, false, if◌then◌else◌, nat_lt, List, [], ◌∷◌, ◌++◌, length, get_or, take, drop, drop-cons, Option, Some, None, is_some, refl, sym, ap, ◌∙◌, arith}
 use Rattle.std.proofs.Math.Seq.{take-append_seam, drop-append_seam}
 use Rattle.cc_syntax.specs.Tree as tree
 use Rattle.cc_syntax.specs.Tree.{Name, Expr, Declared, Stmt, Stmts}
@@ -8,7 +8,7 @@ use Rattle.cc_typing.specs.Form.{FormStmts, next}
 use Rattle.cc_typing.specs.FormErase.{form_expression, form_statement, form_statements_of}
 use Rattle.cc_typing.specs.Forms.{prefixed}
 use Rattle.cc_typing.specs.Resolve.{with_declared, names_behind, resolved_expression, resolved_initial, resolved_declarator, resolved_declared, declared_names, locals, locals_of, resolved_statement, resolved_statements}
-use Rattle.cc_typing.specs.Scope.{Visible, names_in, opened, closed, has_name, declared, all_declared}
+use Rattle.cc_typing.specs.Scope.{Visible, names_in, closed, has_name, declared, all_declared}
 use Rattle.cc_typing.specs.Rules.{broken, declarator_offences, declared_offences, statement_offences, statements_offences, scope_behind, most_locals, initial_offences}
 use Rattle.cc_typing.specs.Findings.{earlier, noted, counted, passed, found}
 use Rattle.cc_typing.specs.declared.rule.Offence.{Offence}
@@ -33,7 +33,7 @@ passed-append n at (x ∷ xs) ys = by (nat_lt n most_locals) (passed-append (n +
         → passed (counted (n + 1) xs) (passed (n + 1) at xs) ys ≡ passed (n + 1) at (xs ++ ys)
         → passed (counted n xs) (passed n (if is_some at then at else Some x.at) xs) ys ≡ passed n (if is_some at then at else Some x.at) (xs ++ ys)
         → passed (counted (if b then n + 1 else n) xs) (if b then passed (n + 1) at xs else passed n (if is_some at then at else Some x.at) xs) ys
-          ≡ (if b then passed (n + 1) at (xs ++ ys) else passed n (if is_some at then at else Some x.at) (xs ++ ys))
+        ≡ (if b then passed (n + 1) at (xs ++ ys) else passed n (if is_some at then at else Some x.at) (xs ++ ys))
     by true e d = e
     by false e d = d
 
@@ -119,16 +119,17 @@ pub Declaring-next : (s0 : Visible) (f0 : Findings) (all : List Declared) (s : V
 Declaring-next s0 f0 all s f form d rest s' f' form' before es ef eform = record {
   scope = ap (λ v. all_declared v rest) es ∙ before.scope;
   findings =
-    ap (λ g. found g (declared_offences s' rest) (declared_names rest)) ef
-    ∙ ap (λ v. found (found f (declarator_offences s d) (d.name ∷ [])) (declared_offences v rest) (declared_names rest)) es
-    ∙ found_found f (declarator_offences s d) (declared_offences (declared s d.name.text) rest) (d.name ∷ []) (declared_names rest) ∙ before.findings;
+      ap (λ g. found g (declared_offences s' rest) (declared_names rest)) ef
+      ∙ ap (λ v. found (found f (declarator_offences s d) (d.name ∷ [])) (declared_offences v rest) (declared_names rest)) es
+      ∙ found_found f (declarator_offences s d) (declared_offences (declared s d.name.text) rest) (d.name ∷ []) (declared_names rest) ∙ before.findings;
   statements = λ none.
-    let done = before.statements none in
-    let empty = both_empty (declarator_offences s d) (declared_offences (declared s d.name.text) rest) done.0 in
-    let fresh = (fresh_declarator s d empty.0).0 in
-    let names : names_in s' ≡ d.name.text ∷ names_in s = ap names_in es ∙ names_in-declared s d.name.text fresh in
-    (ap (λ v. declared_offences v rest) es ∙ empty.1,
-     eform fresh (resolved_declared (names_in s') rest) ∙ ap (λ ns. prefixed form (resolved_declarator (names_in s) d (resolved_declared ns rest))) names ∙ done.1);
+      let done = before.statements none in
+      let empty = both_empty (declarator_offences s d) (declared_offences (declared s d.name.text) rest) done.0 in
+      let fresh = (fresh_declarator s d empty.0).0 in
+      let names : names_in s' ≡ d.name.text ∷ names_in s = ap names_in es ∙ names_in-declared s d.name.text fresh in (
+        ap (λ v. declared_offences v rest) es ∙ empty.1,
+        eform fresh (resolved_declared (names_in s') rest) ∙ ap (λ ns. prefixed form (resolved_declarator (names_in s) d (resolved_declared ns rest))) names ∙ done.1,
+      );
 }
 
 pub prefixed-end : (xs : List ResolvedStatement) → prefixed xs form.end ≡ form_statements_of xs
@@ -176,15 +177,16 @@ Walking-next s0 f0 all s f form t rest s' f' r form' before es ef er eform = rec
   function = ap (λ (v : Visible). v.function) es ∙ (scope_behind_outer s t).1 ∙ before.function;
   outer = ap (λ (v : Visible). v.outer) es ∙ (scope_behind_outer s t).0 ∙ before.outer;
   findings =
-    ap (λ g. found g (statements_offences s' rest) (locals rest)) ef
-    ∙ ap (λ v. found (found f (statement_offences s t) (locals_of t)) (statements_offences v rest) (locals rest)) es
-    ∙ found_found f (statement_offences s t) (statements_offences (scope_behind s t) rest) (locals_of t) (locals rest) ∙ before.findings;
+      ap (λ g. found g (statements_offences s' rest) (locals rest)) ef
+      ∙ ap (λ v. found (found f (statement_offences s t) (locals_of t)) (statements_offences v rest) (locals rest)) es
+      ∙ found_found f (statement_offences s t) (statements_offences (scope_behind s t) rest) (locals_of t) (locals rest) ∙ before.findings;
   statements = λ none.
-    let done = before.statements none in
-    let empty = both_empty (statement_offences s t) (statements_offences (scope_behind s t) rest) done.0 in
-    let names : names_in s' ≡ names_behind (names_in s) t = ap names_in es ∙ names-behind s t empty.0 in
-    (ap (λ v. statements_offences v rest) es ∙ empty.1,
-     ap (λ l. prefixed l (resolved_statements (names_in s') rest)) eform ∙ prefixed-append form (r ∷ []) (resolved_statements (names_in s') rest)
-     ∙ ap (λ k. prefixed form (next k (resolved_statements (names_in s') rest))) (er empty.0)
-     ∙ ap (λ ns. prefixed form (next (resolved_statement (names_in s) t) (resolved_statements ns rest))) names ∙ done.1);
+      let done = before.statements none in
+      let empty = both_empty (statement_offences s t) (statements_offences (scope_behind s t) rest) done.0 in
+      let names : names_in s' ≡ names_behind (names_in s) t = ap names_in es ∙ names-behind s t empty.0 in (
+        ap (λ v. statements_offences v rest) es ∙ empty.1,
+        ap (λ l. prefixed l (resolved_statements (names_in s') rest)) eform ∙ prefixed-append form (r ∷ []) (resolved_statements (names_in s') rest)
+            ∙ ap (λ k. prefixed form (next k (resolved_statements (names_in s') rest))) (er empty.0)
+            ∙ ap (λ ns. prefixed form (next (resolved_statement (names_in s) t) (resolved_statements ns rest))) names ∙ done.1,
+      );
 }

@@ -2,7 +2,6 @@
 -- in the scope where it stands; what follows an offence is judged as if its type were int.
 use Rattle.std.specs.Prelude.{ℕ, ◌==◌, List, [], ◌∷◌, ◌++◌, Option, Some, None, if◌then◌else◌, drop, take, map}
 use Rattle.cc_syntax.specs.Tree.{Name, Expr, Declared, Stmt, Stmts, Definition, end, next, Number, Variable, Parenthesised, Unary, Binary, Block, Local, Assign, Call, Return, While}
-
 use Rattle.cc_typing.specs.Scope.{Visible, body_scope_of, opened, has_name, declared, all_declared, is_builtin, referent}
 use Rattle.cc_typing.specs.Resolve.{locals}
 use Rattle.cc_typing.specs.declared.rule.Offence.{Offence}
@@ -49,8 +48,8 @@ initial_offences s (Some e) = expression_offences s e
 -- (C99 6.2.1)
 abbrev pub declarator_offences : Visible → Declared → List Offence
 declarator_offences s d =
-  (if has_name s.inner d.name.text then broken Redeclared d.name.at else [])
-  ++ initial_offences (declared s d.name.text) d.initial
+    (if has_name s.inner d.name.text then broken Redeclared d.name.at else [])
+    ++ initial_offences (declared s d.name.text) d.initial
 
 -- a declaration: its names one after the other
 abbrev pub declared_offences : Visible → List Declared → List Offence

@@ -55,10 +55,10 @@ is_builtin x = same_name (codes "write_word") x || same_name (codes "read_word")
 -- what a name stands for in file scope, where one function without parameters is defined
 abbrev pub file_referent : List ℕ → List ℕ → Referent
 file_referent function x =
-  if same_name (codes "write_word") x then Function 1
-  else (if same_name (codes "read_word") x then Function 0
-  else (if same_name function x then Function 0
-  else Nothing))
+    if same_name (codes "write_word") x then Function 1
+    else (if same_name (codes "read_word") x then Function 0
+    else (if same_name function x then Function 0
+    else Nothing))
 
 -- what a name stands for: its innermost declaration; locals hide what file scope has
 abbrev pub referent : Visible → List ℕ → Referent

@@ -1,7 +1,7 @@
 -- Which units are typed, and why another one is refused.
 use Rattle.std.specs.Prelude.{ℕ, ◌≡◌, ◌⊎◌, ◌<◌, ◌≤◌, Bool, true, false, List, [], ◌∷◌, ◌++◌, length, codes, Contains}
 use Rattle.std.specs.List.{AllByRecursion}
-use Rattle.cc_syntax.specs.Tree.{Definition, Source, Name}
+use Rattle.cc_syntax.specs.Tree.{Definition, Source}
 use Rattle.cc_syntax.specs.Place.{place_of}
 use Rattle.cc_typing.specs.Names.{same_name}
 use Rattle.cc_typing.specs.Rules.{offences, excesses}
@@ -42,8 +42,8 @@ all_offences f = offences f ++ excesses f
 -- is none
 abbrev pub IsRefusal : Source → TypeFault → Type 0
 IsRefusal s fault =
-  ((o : Offence) × IsFirst o (all_offences s.function) × (fault ≡ fault_of o.rule (place_of s.text o.at)))
-  ⊎ ((all_offences s.function ≡ []) × (is_main s.function ≡ false) × (fault ≡ NoMain (place_of s.text (length s.text))))
+    ((o : Offence) × IsFirst o (all_offences s.function) × (fault ≡ fault_of o.rule (place_of s.text o.at)))
+    ⊎ ((all_offences s.function ≡ []) × (is_main s.function ≡ false) × (fault ≡ NoMain (place_of s.text (length s.text))))
 
 -- the names of the functions that a unit defines, in the order of their definitions
 abbrev pub defined_names : Source → List (List ℕ)

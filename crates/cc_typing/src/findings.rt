@@ -37,8 +37,7 @@ fn number(rule: Rule) -> u32
 fn comes_before(offence: Offence, other: Offence) -> bool
     ensures { result ≡ is_before offence other }
 {
-    offence.at < other.at
-        || (offence.at == other.at && number(offence.rule) < number(other.rule))
+    offence.at < other.at || (offence.at == other.at && number(offence.rule) < number(other.rule))
 }
 
 impl Findings {

@@ -1,7 +1,8 @@
 // One walk over the tree: it resolves each name, and finds what breaks a rule.
 //
 // The walk goes on behind an offence, since the first in the text need not be the first that is met. A name that stands
-// for no variable gets the number 0 in the form, which is then given up.
+// for no variable gets the number 0 in the form, which is then given up. The recursion is as deep as the tree: at most 64
+// levels of statements and 512 tokens of an expression.
 
 ghost use Rattle.std.specs.Prelude.{◌≡◌, [], ◌∷◌, map, length, IfOk, OnOk, false, true};
 ghost use Rattle.cc_typing.specs.Form.{FormStmts};
@@ -14,9 +15,7 @@ ghost use Rattle.cc_typing.specs.Findings.{found};
 ghost use Rattle.cc_typing.specs.Forms.{prefixed};
 
 use super::findings::Findings;
-use super::form::{
-    BinaryOperation, Form, ResolvedExpression, ResolvedStatement, UnaryOperation,
-};
+use super::form::{BinaryOperation, Form, ResolvedExpression, ResolvedStatement, UnaryOperation};
 use super::rule::Rule;
 use super::scope::{Referent, Scope, is_builtin};
 use cc_syntax::{
@@ -77,6 +76,7 @@ fn callee(scope: &Scope, findings: &mut Findings, name: &Identifier)
     findings.note(rule, name.at);
 }
 
+// The operation on words that an operator on operands of type `int` is.
 fn operation(operator: BinaryOperator) -> BinaryOperation
     ensures { result ≡ resolved_operator operator }
 {
@@ -95,6 +95,7 @@ fn operation(operator: BinaryOperator) -> BinaryOperation
     }
 }
 
+// An expression whose value is used.
 fn expression(
     alloc: Global,
     scope: &Scope,
@@ -183,6 +184,7 @@ fn declarator<'a>(
     Ok(())
 }
 
+// A declaration of locals.
 fn declaration<'a>(
     alloc: Global,
     scope: &mut Scope<'a>,
@@ -200,6 +202,7 @@ fn declaration<'a>(
     Ok(form)
 }
 
+// A statement. Behind it, what it declares in the innermost block is in scope.
 #[cycle(statements)]
 fn statement<'a>(
     alloc: Global,
@@ -242,14 +245,12 @@ fn statement<'a>(
             let around = scope.open();
             let body = statement(alloc, scope, findings, body)?;
             scope.close(around);
-            Ok(ResolvedStatement::While(
-                condition,
-                Box::new(alloc, body)?,
-            ))
+            Ok(ResolvedStatement::While(condition, Box::new(alloc, body)?))
         }
     }
 }
 
+// The statements of a block.
 #[cycle(statements)]
 fn statements<'a>(
     alloc: Global,

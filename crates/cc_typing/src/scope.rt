@@ -39,6 +39,7 @@ impl<'a> Model for Scope<'a> {
 }
 
 const WRITE_WORD: &[u8] = b"write_word";
+
 const READ_WORD: &[u8] = b"read_word";
 
 /// Whether a name is one of the builtins.

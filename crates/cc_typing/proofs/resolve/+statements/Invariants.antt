@@ -5,4 +5,4 @@ use Rattle.cc_typing.proofs.resolve.+statements.Given as goal
 
 abbrev pub invariant-statements-loop-tree : goal.invariant-statements-loop-tree
 invariant-statements-loop-tree l =
-  Walking l.fn.scope l.fn.findings (statements_of l.trees) l.scope l.findings l.form.items (statements_of (drop l.tree-index l.trees))
+    Walking l.fn.scope l.fn.findings (statements_of l.trees) l.scope l.findings l.form.items (statements_of (drop l.tree-index l.trees))

@@ -1,5 +1,5 @@
 -- Name by name; at the end nothing is left.
-use Rattle.std.proofs.Common.{◌≡◌, ◌∷◌, ◌+◌, ◌∙◌, [], List, ap, sym, subst, map, drop, arith, refl}
+use Rattle.std.proofs.Common.{◌≡◌, ◌∙◌, [], ap, sym, subst, map, drop, refl}
 use Rattle.cc_syntax.specs.Erase.{declarator_tree}
 use Rattle.cc_typing.specs.Resolve.{resolved_declared}
 use Rattle.cc_typing.specs.Scope.{names_in}
