@@ -1,0 +1,13 @@
+pub mod Names
+pub mod Form
+pub mod Resolve
+pub mod Scope
+pub mod Rules
+pub mod Fault
+pub mod Typed
+pub mod Rows
+pub mod FormErase
+pub mod Within
+pub mod Bindings
+pub mod Findings
+pub mod Forms
