@@ -6,15 +6,15 @@ use std::test::Fail;
 
 #[test]
 fn unary_operators_up_to_the_limit(rt: HostRuntime) -> Result<(), Fail> {
-    let text = repeated(rt.alloc(), "int main(void){return ", "-", 511, "1;}")?;
+    let text = repeated(rt.alloc(), "int main(void){return ", "- ", 511, "1;}")?;
     let (status, written) = run(&rt, Task::Interpret(9), text.as_slice())?;
     assert_eq!(rt; written.as_slice(), b"ended -1\n".as_slice());
     assert_eq!(rt; status, 0);
-    let text = repeated(rt.alloc(), "int main(void){return ", "-", 512, "1;}")?;
+    let text = repeated(rt.alloc(), "int main(void){return ", "- ", 512, "1;}")?;
     let (status, written) = run(&rt, Task::Check, text.as_slice())?;
     assert_eq!(rt;
         written.as_slice(),
-        b"fault 6 TooDeep at 1:535\n".as_slice()
+        b"fault 6 TooDeep at 1:1047\n".as_slice()
     );
     assert_eq!(rt; status, 1);
     Ok(())

@@ -100,7 +100,7 @@ fn syntax_faults(rt: HostRuntime) -> Result<(), Fail> {
         &rt,
         Task::Interpret(9),
         "int main(void){write_word(2147483648);}",
-        "fault 5 Unexpected at 1:27\n",
+        "fault 4 ConstantTooLarge at 1:27\n",
         1,
     )
 }
