@@ -1,0 +1,4 @@
+pub mod Outcome
+pub mod Meaning
+pub mod Rows
+pub mod Shown
