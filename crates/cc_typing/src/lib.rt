@@ -1,0 +1,8 @@
+// The rules of scope and type of the C profile, and the resolved form of a unit that keeps them.
+//
+// `form` has the resolved form: numbered variables and operations on words.
+#![tactic(auto)]
+
+mod form;
+
+pub use form::{BinaryOperation, Form, ResolvedExpression, ResolvedStatement, UnaryOperation};
