@@ -1,13 +1,14 @@
 -- What a program does: the value of an expression and the effect of a statement, by cases on the syntax, over the
 -- locals by name. The numbers in parentheses are clauses of ISO/IEC 9899:1999. What the rules of scope and type refuse
 -- may have any meaning here: a name that is not in scope, a call of anything but `write_word`, a `return` without value.
-use Rattle.std.specs.Prelude.{ℕ, zero, suc, ◌-◌, List, [], ◌∷◌, ◌++◌, length, drop, list_eq, nat_eq, if◌then◌else◌, Option, Some, None, Result, Ok, Err, ok_or}
+use Rattle.std.specs.Prelude.{ℕ, zero, suc, ◌-◌, List, [], ◌∷◌, ◌++◌, length, drop, if◌then◌else◌, Option, Some, None, Result, Ok, Err, ok_or}
 use Rattle.cc_words.specs.Words.{add, sub, mul, neg, eq, ne, lt_s, le_s, div_s, rem_s}
 use Rattle.cc_syntax.specs.Tree.{Expr, Number, Variable, Parenthesised, Unary, Binary, Declared, Stmt, Block, Local, Assign, Call, Return, While, Stmts, end, next, Source}
 use Rattle.cc_syntax.specs.declared.ast.UnaryOperator.{UnaryOperator}
 use Rattle.cc_syntax.specs.declared.ast.UnaryOperator.TheVariants.{Plus, Minus}
 use Rattle.cc_syntax.specs.declared.ast.BinaryOperator.{BinaryOperator}
 use Rattle.cc_syntax.specs.declared.ast.BinaryOperator.TheVariants.{Multiply, Divide, Remainder, Add, Subtract, Less, Greater, LessOrEqual, GreaterOrEqual, Equal, NotEqual}
+use Rattle.cc_typing.specs.Names.{same_name}
 use Rattle.cc_meaning.specs.Outcome as outcome
 use Rattle.cc_meaning.specs.Outcome.{Outcome}
 use Rattle.cc_meaning.specs.declared.outcome.Cause.{Cause}
@@ -51,12 +52,12 @@ then_do (Wrong cause output) go = Wrong cause output
 -- the word of the newest local of that name (6.2.1)
 abbrev pub word_of_name : List Binding → List ℕ → ℕ
 word_of_name [] x = 0
-word_of_name (b ∷ behind) x = if list_eq nat_eq b.name x then b.word else word_of_name behind x
+word_of_name (b ∷ behind) x = if same_name b.name x then b.word else word_of_name behind x
 
 -- the newest local of that name gets a word (6.5.16.1)
 abbrev pub with_word : List Binding → List ℕ → ℕ → List Binding
 with_word [] x w = []
-with_word (b ∷ behind) x w = if list_eq nat_eq b.name x then record b { word = w } ∷ behind else b ∷ with_word behind x w
+with_word (b ∷ behind) x w = if same_name b.name x then record b { word = w } ∷ behind else b ∷ with_word behind x w
 
 -- a local of that name, with the word 0, comes before all others
 abbrev pub with_local : List ℕ → State → State
@@ -66,9 +67,9 @@ with_local x s = record s { locals = record { name = x; word = 0 } ∷ s.locals 
 abbrev pub stored : List ℕ → ℕ → State → State
 stored x w s = record s { locals = with_word s.locals x w }
 
--- of the locals only the oldest ones stay, as many as there were before the block
-abbrev pub left_block : ℕ → State → State
-left_block before s = record s { locals = drop (length s.locals - before) s.locals }
+-- behind a scope only the oldest locals stay, as many as there were before it (6.2.1)
+abbrev pub left_scope : ℕ → State → State
+left_scope before s = record s { locals = drop (length s.locals - before) s.locals }
 
 -- ---- expressions
 
@@ -149,15 +150,20 @@ abbrev pub returned_value : Option Expr → State → Run ℕ
 returned_value None s = Gives 0 s
 returned_value (Some e) s = evaluate e s
 
--- what a statement does, and a list of statements, where at most n steps are left (6.8)
+-- a part of a run in a scope of its own (6.2.1)
+abbrev pub in_scope : (State → Run Flow) → State → Run Flow
+in_scope part s = then_do (part s) (λ flow t. Gives flow (left_scope (length s.locals) t))
+
+-- what a statement does, and a list of statements, where at most n steps are left (6.8). A block and the body of a loop
+-- are scopes (6.8.2, 6.8.5)
 abbrev mutual
   pub execute : Stmt → ℕ → State → Run Flow
-  execute (Block all) n s = then_do (execute_all all n s) (λ flow t. Gives flow (left_block (length s.locals) t))
+  execute (Block all) n s = in_scope (execute_all all n) s
   execute (Local type names) n s = declare names s
   execute (Assign x e) n s = then_do (evaluate e s) (λ w t. Gives Falls (stored x.text w t))
   execute (Call f e) n s = then_do (evaluate e s) (λ w t. Gives Falls (record t { output = t.output ++ w ∷ [] }))
   execute (Return at e) n s = then_do (returned_value e s) (λ w t. Gives (Returns w) t)
-  execute (While e body) n s = turns (suc n) (evaluate e) (execute body n) s
+  execute (While e body) n s = turns (suc n) (evaluate e) (in_scope (execute body n)) s
 
   pub execute_all : Stmts → ℕ → State → Run Flow
   execute_all end n s = Gives Falls s

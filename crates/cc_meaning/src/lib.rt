@@ -1,11 +1,12 @@
 // What a C program does: its behavior on an input within a number of steps.
 //
-// `outcome` has how a run comes out, `fault` the refusal 40.
+// `run` has the interpreter, `outcome` how a run comes out, `fault` the refusal 40.
 // The crate hands out these types. The meaning of C is in `specs/Meaning.antt`.
 #![tactic(auto)]
 
 mod fault;
 mod outcome;
+mod run;
 
 pub use fault::MeaningFault;
 pub use outcome::{Cause, Outcome, Stop, Words};
