@@ -2,3 +2,4 @@ pub mod Outcome
 pub mod Meaning
 pub mod Rows
 pub mod Shown
+pub mod FormMeaning

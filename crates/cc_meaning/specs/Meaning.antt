@@ -117,9 +117,9 @@ abbrev pub spend : {A : Type 0} → (State → Run A) → State → Run A
 spend go s = spend_of s.steps go s
 
 -- the first where the condition's word is not 0, else the second (6.8.5)
-abbrev pub choose : {A : Type 0} → ℕ → (State → Run A) → (State → Run A) → State → Run A
-choose zero holds fails s = fails s
-choose (suc w) holds fails s = holds s
+abbrev pub choose : {A : Type 0} → ℕ → A → A → A
+choose zero holds fails = fails
+choose (suc w) holds fails = holds
 
 -- goes on behind a statement that falls through
 abbrev pub behind_flow : Flow → (State → Run Flow) → State → Run Flow
