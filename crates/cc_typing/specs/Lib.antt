@@ -3,3 +3,7 @@ pub mod Form
 pub mod FormErase
 pub mod Resolve
 pub mod Within
+pub mod Scope
+pub mod Rules
+pub mod Fault
+pub mod Typed

@@ -1,0 +1,101 @@
+// Why a parsed unit is refused.
+
+ghost use Rattle.std.specs.Prelude.{◌≡◌};
+ghost use Rattle.cc_typing.specs.Fault.{fault_number, fault_place};
+
+use cc_syntax::Place;
+use std::alloc::AllocError;
+use thiserror::Error;
+
+/// Why a unit is refused: a rule of scope or type that it breaks, or a limit that it passes, and where.
+#[derive(Debug, Drop, Error)]
+pub enum TypeFault {
+    /// 11: a name that is not in scope, at the name.
+    #[error("Unknown")]
+    Unknown(Place),
+    /// 12: a second declaration in one scope, or a definition of a builtin, at the later name.
+    #[error("Redeclared")]
+    Redeclared(Place),
+    /// 13: an object used as a function, or a function used as a value, at the name.
+    #[error("WrongKind")]
+    WrongKind(Place),
+    /// 14: a wrong number of arguments, at the function's name.
+    #[error("WrongCount")]
+    WrongCount(Place),
+    /// 15: the value of a `void` call used, at the function's name.
+    #[error("VoidValue")]
+    VoidValue(Place),
+    /// 16: a `return` without a value in an `int` function, at the word `return`.
+    #[error("BadReturn")]
+    BadReturn(Place),
+    /// 17: a function as the target of an assignment, at the name.
+    #[error("BadAssign")]
+    BadAssign(Place),
+    /// 18: `break` or `continue` outside a loop, at that word.
+    #[error("BadBreak")]
+    BadBreak(Place),
+    /// 19: no definition of `main`, at the end of the text.
+    #[error("NoMain")]
+    NoMain(Place),
+    /// 20: a function that is called and never defined, at the name in its first call.
+    #[error("Undefined")]
+    Undefined(Place),
+    /// 21: more than 256 locals in one function, at the name that passes the limit.
+    #[error("TooMany")]
+    TooMany(Place),
+    /// 40: memory was refused.
+    #[error("OutOfMemory")]
+    OutOfMemory,
+}
+
+impl TypeFault {
+    /// The number of the fault: 11 to 21, or 40.
+    pub fn number(&self) -> u32
+        ensures { result ≡ fault_number self.now }
+    {
+        match self {
+            TypeFault::Unknown(_) => 11,
+            TypeFault::Redeclared(_) => 12,
+            TypeFault::WrongKind(_) => 13,
+            TypeFault::WrongCount(_) => 14,
+            TypeFault::VoidValue(_) => 15,
+            TypeFault::BadReturn(_) => 16,
+            TypeFault::BadAssign(_) => 17,
+            TypeFault::BadBreak(_) => 18,
+            TypeFault::NoMain(_) => 19,
+            TypeFault::Undefined(_) => 20,
+            TypeFault::TooMany(_) => 21,
+            TypeFault::OutOfMemory => 40,
+        }
+    }
+
+    /// Where the fault is; `OutOfMemory` is nowhere.
+    pub fn place(&self) -> Option<Place>
+        ensures { result ≡ fault_place self.now }
+    {
+        match self {
+            TypeFault::Unknown(place)
+            | TypeFault::Redeclared(place)
+            | TypeFault::WrongKind(place)
+            | TypeFault::WrongCount(place)
+            | TypeFault::VoidValue(place)
+            | TypeFault::BadReturn(place)
+            | TypeFault::BadAssign(place)
+            | TypeFault::BadBreak(place)
+            | TypeFault::NoMain(place)
+            | TypeFault::Undefined(place)
+            | TypeFault::TooMany(place) => Some(*place),
+            TypeFault::OutOfMemory => None,
+        }
+    }
+}
+
+impl From<AllocError> for TypeFault {
+    ghost use Rattle.cc_typing.specs.declared.fault.TypeFault.TheVariants.{OutOfMemory};
+
+    ghost from_gives = { λ _ e. e ≡ OutOfMemory };
+
+    fn from(_error: AllocError) -> Self {
+        TypeFault::OutOfMemory
+    }
+}

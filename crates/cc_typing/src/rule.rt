@@ -1,0 +1,20 @@
+// The rules and limits that a unit may break, and where one is broken.
+
+/// A rule of scope or type, or a limit.
+#[derive(Clone, Copy, PartialEq, Eq, Debug)]
+pub enum Rule {
+    Unknown,
+    Redeclared,
+    WrongKind,
+    WrongCount,
+    BadReturn,
+    BadAssign,
+    TooMany,
+}
+
+/// A rule that is broken at the token with an offset in the text.
+#[derive(Clone, Copy, PartialEq, Eq, Debug)]
+pub struct Offence {
+    pub rule: Rule,
+    pub at: usize,
+}
