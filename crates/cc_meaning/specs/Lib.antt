@@ -3,3 +3,4 @@ pub mod Meaning
 pub mod Rows
 pub mod Shown
 pub mod FormMeaning
+pub mod Work
