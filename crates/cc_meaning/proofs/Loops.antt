@@ -1,6 +1,6 @@
 -- What comes behind a part of a run matters only up to the steps left, and a loop with turns enough for the steps left is
 -- one and the same, however many more it is given.
-use Rattle.std.proofs.Common.{◌≡◌, ℕ, zero, suc, ◌<◌, ◌≤◌, List, Result, Ok, Err, refl, arith}
+use Rattle.std.proofs.Common.{◌≡◌, ◌≢◌, ℕ, zero, suc, ◌-◌, ◌<◌, ◌≤◌, List, Result, Ok, Err, refl, ap, ◌∙◌, arith}
 use Rattle.cc_typing.specs.Form.{FormExpr, FormStmt, FormStmts, Block, Clear, Set, Write, Return, While, end, next}
 use Rattle.cc_meaning.specs.declared.outcome.Cause.{Cause}
 use Rattle.cc_meaning.specs.Outcome.{Outcome}
@@ -58,3 +58,23 @@ mutual
 -- a loop whose body is a statement, with more turns than steps are left
 pub loop-turns : (m n k : ℕ) (e : FormExpr) (body : FormStmt) (f : Rest) (s : Store) → s.steps < m → s.steps < n → loop m e (perform body k) f s ≡ loop n e (perform body k) f s
 loop-turns m n k e body f s p q = loop-enough m n e (perform body k) f s (record { same = perform-same body k }) p q
+
+choose-holds : (w : ℕ) (f g : Rest) (s : Store) → w ≢ 0 → choose w f g s ≡ f s
+choose-holds zero f g s h = absurd (h refl)
+choose-holds (suc w) f g s h = refl
+
+spent-some : (j : ℕ) (f : Rest) (s : Store) → j ≢ 0 → spent j f s ≡ f (record s { steps = j - 1 })
+spent-some zero f s h = absurd (h refl)
+spent-some (suc k) f s h = let e : k ≡ suc k - 1 = omega arith in ap (λ (i : ℕ). f (record s { steps = i })) e
+
+-- a turn that begins: with a step less the body is done, and behind it the same loop
+pub loop-turn : (n : ℕ) (e : FormExpr) (body : FormStmt) (f : Rest) (s : Store) (w : ℕ) → value e s.variables ≡ Ok w → w ≢ 0 → s.steps ≢ 0 → s.steps ≤ n → loop (suc n) e (perform body n) f s ≡ perform body n (loop (suc n) e (perform body n) f) (record s { steps = s.steps - 1 })
+loop-turn n e body f s w is holds some enough =
+    let again = perform body n (loop n e (perform body n) f) in
+    let turn : Rest = λ t. spent t.steps again t in
+    let after : Store = record s { steps = s.steps - 1 } in
+    let same : IsSame after.steps (loop n e (perform body n) f) (loop (suc n) e (perform body n) f) = record { at = λ t le. loop-turns n (suc n) n e body f t (omega arith) (omega arith) } in
+    ap (λ (r : Result ℕ Cause). on_word r s.output (λ v. choose {A = Rest} v turn f s)) is
+    ∙ choose-holds w turn f s holds
+    ∙ spent-some s.steps again s some
+    ∙ perform-same body n (loop n e (perform body n) f) (loop (suc n) e (perform body n) f) after same
