@@ -63,7 +63,7 @@ choose-holds : (w : ℕ) (f g : Rest) (s : Store) → w ≢ 0 → choose w f g s
 choose-holds zero f g s h = absurd (h refl)
 choose-holds (suc w) f g s h = refl
 
-spent-some : (j : ℕ) (f : Rest) (s : Store) → j ≢ 0 → spent j f s ≡ f (record s { steps = j - 1 })
+pub spent-some : (j : ℕ) (f : Rest) (s : Store) → j ≢ 0 → spent j f s ≡ f (record s { steps = j - 1 })
 spent-some zero f s h = absurd (h refl)
 spent-some (suc k) f s h = let e : k ≡ suc k - 1 = omega arith in ap (λ (i : ℕ). f (record s { steps = i })) e
 
