@@ -4,6 +4,9 @@ pub mod FormErase
 pub mod Resolve
 pub mod Within
 pub mod Scope
+pub mod Bindings
 pub mod Rules
 pub mod Fault
 pub mod Typed
+pub mod Findings
+pub mod Forms

@@ -6,6 +6,9 @@ use Rattle.cc_syntax.specs.Place.{place_of}
 use Rattle.cc_typing.specs.Names.{same_name}
 use Rattle.cc_typing.specs.Rules.{offences, excesses}
 use Rattle.cc_typing.specs.Fault.{fault_of, rule_number}
+use Rattle.cc_typing.specs.Form.{FormTree}
+use Rattle.cc_typing.specs.Resolve.{resolved}
+use Rattle.cc_typing.specs.Within.{IsWithin}
 use Rattle.cc_typing.specs.declared.rule.Offence.{Offence}
 use Rattle.cc_typing.specs.declared.fault.TypeFault.{TypeFault}
 use Rattle.cc_typing.specs.declared.fault.TypeFault.TheVariants.{NoMain}
@@ -41,3 +44,18 @@ abbrev pub IsRefusal : Source → TypeFault → Type 0
 IsRefusal s fault =
   ((o : Offence) × IsFirst o (all_offences s.function) × (fault ≡ fault_of o.rule (place_of s.text o.at)))
   ⊎ ((all_offences s.function ≡ []) × (is_main s.function ≡ false) × (fault ≡ NoMain (place_of s.text (length s.text))))
+
+-- the names of the functions that a unit defines, in the order of their definitions
+abbrev pub defined_names : Source → List (List ℕ)
+defined_names s = s.function.name.text ∷ []
+
+-- a form is what a function becomes when its names are resolved
+abbrev pub Resolves : Definition → FormTree → Type 0
+Resolves f form = form ≡ resolved f
+
+-- what a typed unit keeps of its source and its form
+pub record IsChecked (s : Source) (form : FormTree) : Type 0 where
+  pub typed : IsTyped s.function
+  pub limits : IsWithinLimits s.function
+  pub resolves : Resolves s.function form
+  pub within : IsWithin form

@@ -3,12 +3,17 @@
 // `form` has the resolved form: numbered variables and operations on words.
 #![tactic(auto)]
 
+mod bindings;
+mod checking;
 mod fault;
+mod findings;
 mod form;
+mod resolve;
 mod rule;
 mod scope;
+mod typed;
 
+pub use checking::check;
 pub use fault::TypeFault;
 pub use form::{BinaryOperation, Form, ResolvedExpression, ResolvedStatement, UnaryOperation};
-pub use scope::Scope;
-pub use rule::{Rule, Offence};
+pub use typed::TypedUnit;
