@@ -1,3 +1,4 @@
 pub mod Loops
 pub mod Resolving
 pub mod Pieces
+pub mod Known
