@@ -92,6 +92,10 @@ offences f = (if is_builtin f.name.text then broken Redeclared f.name.at else []
 abbrev pub most_locals : ℕ
 most_locals = 256
 
+-- the limit passed at a name
+abbrev pub too_many : Name → Offence
+too_many x = record { rule = TooMany; at = x.at }
+
 -- the limits that a unit passes: the first local past the number allowed
 abbrev pub excesses : Definition → List Offence
-excesses f = map (λ (x : Name). record { rule = TooMany; at = x.at }) (take 1 (drop most_locals (locals f.body)))
+excesses f = map too_many (take 1 (drop most_locals (locals f.body)))

@@ -23,7 +23,7 @@ const MAIN: &[u8] = b"main";
 /// number; where there is none, a unit without `main` has 19, at the end of the text. 40 comes where memory is refused.
 /// The unit is given up on an `Err`.
 pub fn check(alloc: Global, unit: Unit) -> Result<TypedUnit, TypeFault>
-    ensures unit { IfOk result (λ t. t ≡ source unit) }
+    ensures unit { IfOk result (λ t. t ≡ unit) }
     ensures typed { OnOk result (IsTyped (source unit).function) }
     ensures limits { OnOk result (IsWithinLimits (source unit).function) }
     ensures refused { IfErr result (λ f. (f ≡ TypeFault.OutOfMemory) ⊎ IsRefusal (source unit) f) }

@@ -18,9 +18,9 @@ returns-in_ok-push-2-clause-form c = λ fresh rest.
       | in-None w ↦ absurd (never_none _ _ _ c.in_ok-number.ensures.number named w.in-None.is) ] in
     let scope : names_in c.declare.new.self ≡ x ∷ names_in s =
       ap names_in c.in_ok-number.ensures.scope ∙ ap (λ y. names_in (declared s y)) c.as_slice.ensures.value ∙ names_in-declared s x fresh in
-    declarator-set (names_in s) (declarator_tree c.args.tree.now) _ _ _ c.in_ok-push.ensures.items number _ _ (expression_tree c.in-Some-initial.initial.now)
+    declarator-set (names_in s) (declarator_tree c.args.tree.now) _ _ _ c.in_ok-push.ensures.items number _ _ (expression_tree c.in-Some-initial.initial)
       c.in_ok-push-2.ensures.items
-      (c.in_ok-initial.ensures.form ∙ ap (λ ns. resolved_expression ns (expression_tree c.in-Some-initial.initial.now)) scope)
+      (c.in_ok-initial.ensures.form ∙ ap (λ ns. resolved_expression ns (expression_tree c.in-Some-initial.initial)) scope)
       (ap optional_tree c.in-Some-initial.is) rest
 
 pub returns-in_default-clause-form : goal.returns-in_default-clause-form
