@@ -44,10 +44,10 @@ impl Model for Words {
 
 impl Words {
     /// The words of a vector. It takes no memory.
-    pub fn from_vec(words: Vec<u32>) -> Words
-        ensures { result ≡ words.items }
+    pub fn from_vec(items: Vec<u32>) -> Words
+        ensures { result ≡ items.items }
     {
-        Words { words }
+        Words { words: items }
     }
 
     /// The words.

@@ -1,21 +1,28 @@
 -- The form's run is the source's behavior.
-use Rattle.std.proofs.Common.{◌≡◌, ℕ, List, [], length, sym, ap, ◌∙◌, subst, arith}
-use Rattle.cc_typing.specs.FormErase.{form_statements_of}
-use Rattle.cc_typing.specs.Resolve.{resolved_statements}
-use Rattle.cc_meaning.proofs.Resolving.{source_behavior-resolved}
-use Rattle.cc_meaning.proofs.Known.{typed-known}
+use Rattle.std.proofs.Common.{◌≡◌, ℕ, List, length, sym, ap, ◌∙◌, subst, arith}
+use Rattle.cc_syntax.specs.Source.{source}
+use Rattle.cc_typing.specs.FormErase.{form_statements_of, form_tree}
+use Rattle.cc_meaning.specs.Outcome as outcome
+use Rattle.cc_meaning.specs.FormMeaning.{stopped, fallen_off}
+use Rattle.cc_meaning.specs.Work.{moment, GoesOn}
+use Rattle.cc_meaning.proofs.Interpreting.{form-behavior}
 use Rattle.cc_meaning.proofs.run.interpret.Goals as goal
 
 pub returns-in-Ok : goal.returns-in-Ok
 returns-in-Ok c =
-    let form = c.form-form.result.now in
-    let vs = c.in_ok-variables.variables.items in
-    let enough : length vs ≡ form.variables = omega arith in
-    let r = c.form-form.ensures.resolves in
-    let w = c.form-form.ensures.within in
-    let known = typed-known _ c.form-form.ensures.typed in
-    let a = c.as_slice.ensures.value in
-    let s = c.in-Ok.ensures in
-    let o = c.new-2.ensures.items in
-    let f = c.from_vec-output.ensures in
+    let form = c.form-form in
+    let made = c.in_ok-variables in
+    let enough : length made.variables.items ≡ form.result.now.variables = omega (arith, made.ensures.len) in
+    let meant = form-behavior (source c.args.unit.now) c.args.input.now c.args.steps (form_tree form.result.now) made.variables.items c.new-2.result.items (form_statements_of c.as_slice.result.now) form.ensures.typed form.ensures.resolves form.ensures.within enough (ap form_statements_of c.as_slice.ensures.value) c.new-2.ensures.items in
+    ap (λ (o : List ℕ). stopped (outcome.Ended 0) o) c.from_vec-output.ensures ∙ sym c.in-Ok.ensures ∙ meant
+
+pub returns-in-Err-Stopped : goal.returns-in-Err-Stopped
+returns-in-Err-Stopped c =
+    let form = c.form-form in
+    let made = c.in_ok-variables in
+    let enough : length made.variables.items ≡ form.result.now.variables = omega (arith, made.ensures.len) in
+    let meant = form-behavior (source c.args.unit.now) c.args.input.now c.args.steps (form_tree form.result.now) made.variables.items c.new-2.result.items (form_statements_of c.as_slice.result.now) form.ensures.typed form.ensures.resolves form.ensures.within enough (ap form_statements_of c.as_slice.ensures.value) c.new-2.ensures.items in
+    let i = c.in-Err-Stopped.is in
+    let g = c.start-halted.ensures in
+    let k = c.in-Err-Stopped.field-0-is in
     ?
