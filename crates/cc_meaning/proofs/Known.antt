@@ -4,7 +4,7 @@ use Rattle.std.specs.Prelude.{codes}
 use Rattle.cc_syntax.specs.Tree.{Expr, Number, Variable, Parenthesised, Unary, Binary, Declared, Stmt, Block, Local, Assign, Call, Return, While, Stmts, end, next, Definition}
 use Rattle.cc_typing.specs.Names.{same_name}
 use Rattle.cc_typing.specs.Scope.{Visible, names_in, opened, has_name, declared, all_declared, is_builtin, file_referent}
-use Rattle.cc_typing.specs.Rules.{broken, name_offences, call_offences, expression_offences, return_offences, initial_offences, declarator_offences, declared_offences, scope_behind, statement_offences, statements_offences, body_scope, offences}
+use Rattle.cc_typing.specs.Rules.{broken, name_offences, call_offences, expression_offences, return_offences, initial_offences, declarator_offences, declared_offences, scope_behind, statement_offences, statements_offences, body_scope}
 use Rattle.cc_typing.specs.Resolve.{variable_number, with_declared, names_behind}
 use Rattle.cc_typing.specs.Typed.{IsTyped}
 use Rattle.cc_typing.specs.declared.rule.Offence.{Offence}

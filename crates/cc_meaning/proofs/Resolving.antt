@@ -3,25 +3,24 @@
 -- The word of each local in scope stands in the variable whose number is how many names stand behind it (`Holds`). A
 -- statement is followed for whatever comes behind it: `Goes` says that the two ways to go on are the same wherever the
 -- names in scope are those that the resolving expects.
-use Rattle.std.proofs.Common.{◌≡◌, ◌≢◌, ℕ, zero, suc, ◌+◌, ◌-◌, ◌<◌, ◌≤◌, Bool, true, false, ◌||◌, cond, List, [], ◌∷◌, ◌++◌, length, drop, get_or, set, Option, Some, None, Result, Ok, Err, refl, sym, ap, ◌∙◌, subst, arith, length-set, length-append, append_assoc}
+use Rattle.std.proofs.Common.{◌≡◌, ℕ, zero, suc, ◌+◌, ◌-◌, ◌<◌, ◌≤◌, Bool, true, false, ◌||◌, cond, List, [], ◌∷◌, ◌++◌, length, drop, get_or, set, Option, Some, None, Result, Ok, Err, refl, sym, ap, ◌∙◌, subst, arith, length-set, length-append, append_assoc}
 use Rattle.std.proofs.lemmas.List.{get_or-set_same, get_or-set_other}
 use Rattle.std.proofs.Math.Seq.{drop-append_seam}
 use Rattle.std.proofs.lemmas.Bool.{false≢true}
 use Rattle.std.proofs.lemmas.Cmp.{nat_list_eq_equiv}
-use Rattle.cc_syntax.specs.Tree.{Expr, Number, Variable, Parenthesised, Unary, Binary, Declared, Stmt, Block, Local, Assign, Call, Return, While, Stmts, end, next, Definition, Source}
+use Rattle.cc_syntax.specs.Tree.{Expr, Number, Variable, Parenthesised, Unary, Binary, Declared, Stmt, Block, Local, Assign, Call, Return, While, Stmts, end, next, Source}
 use Rattle.cc_syntax.specs.declared.ast.UnaryOperator.TheVariants.{Plus, Minus}
 use Rattle.cc_syntax.specs.declared.ast.BinaryOperator.{BinaryOperator}
 use Rattle.cc_syntax.specs.declared.ast.BinaryOperator.TheVariants.{Multiply, Divide, Remainder, Add, Subtract, Less, Greater, LessOrEqual, GreaterOrEqual, Equal, NotEqual}
 use Rattle.cc_words.specs.Words.{sub, neg}
 use Rattle.cc_typing.specs.Names.{same_name}
 use Rattle.cc_typing.specs.Scope.{has_name}
-use Rattle.cc_typing.specs.Form.{FormExpr, FormStmts}
-use Rattle.cc_typing.specs.Resolve.{variable_number, resolved_operator, resolved_expression, resolved_value, resolved_initial, resolved_declared, with_declared, names_behind, resolved_statement, resolved_statements}
-use Rattle.cc_typing.specs.Within.{IsExprWithin, IsStmtWithin, AreStmtsWithin}
+use Rattle.cc_typing.specs.Resolve.{variable_number, resolved_operator, resolved_expression, resolved_initial, resolved_declared, with_declared, names_behind, resolved_statement, resolved_statements}
+use Rattle.cc_typing.specs.Within.{IsStmtWithin, AreStmtsWithin}
 use Rattle.cc_meaning.specs.declared.outcome.Cause.{Cause}
 use Rattle.cc_meaning.specs.Outcome as outcome
 use Rattle.cc_meaning.specs.Outcome.{Outcome}
-use Rattle.cc_meaning.specs.Meaning.{Binding, State, Run, Gives, Going, Wrong, Flow, Falls, Returns, then_do, word_of_name, with_word, with_local, stored, left_scope, binary, given, evaluate, spend_of, choose, behind_flow, turns, initial_value, declare, returned_value, in_scope, execute, execute_all, outcome_of, source_behavior}
+use Rattle.cc_meaning.specs.Meaning.{Binding, State, Run, Gives, Going, Wrong, Flow, Falls, Returns, then_do, word_of_name, with_word, with_local, stored, left_scope, binary, given, evaluate, spend_of, choose, behind_flow, turns, initial_value, declare, in_scope, execute, execute_all, outcome_of, source_behavior}
 use Rattle.cc_meaning.specs.FormMeaning as form
 use Rattle.cc_meaning.specs.FormMeaning.{Store, Rest, stopped, operated, value, on_word, spent, loop, perform, perform_all, fallen_off}
 
@@ -84,11 +83,14 @@ Holds-with_word : (ls : List Binding) (vs : List ℕ) (x : List ℕ) (w : ℕ) �
 Holds-with_word [] vs x w h lt holds = absurd (false≢true h)
 Holds-with_word (b ∷ behind) vs x w h lt holds =
     let P : Bool → Type 0 = λ t. (t || has_name (names_of behind) x) ≡ true → cond t (length (names_of behind)) (variable_number (names_of behind) x) < length vs → Holds (cond t (record b { word = w } ∷ behind) (b ∷ with_word behind x w)) (set vs (cond t (length (names_of behind)) (variable_number (names_of behind) x)) w) in
-    (elim (same_name b.name x) as P [ true ↦ λ k below. (get_or-set_same vs (length (names_of behind)) w 0 below, Holds-above behind vs (length (names_of behind)) w (omega arith) holds.1) | false ↦ λ k below.
-      let j = variable_number (names_of behind) x in
-      let less = number-known (names_of behind) x k in
-      let here : get_or (set vs j w) (length (names_of behind)) 0 ≡ b.word = get_or-set_other vs j (length (names_of behind)) w 0 (omega (arith, less)) ∙ holds.0 in
-      (subst (λ (ns : List (List ℕ)). get_or (set vs j w) (length ns) 0 ≡ b.word) (sym (names_of-with_word behind x w)) here, Holds-with_word behind vs x w k below holds.1) ]) h lt
+    (elim (same_name b.name x) as P [
+      | true ↦ λ k below. (get_or-set_same vs (length (names_of behind)) w 0 below, Holds-above behind vs (length (names_of behind)) w (omega arith) holds.1)
+      | false ↦ λ k below.
+          let j = variable_number (names_of behind) x in
+          let less = number-known (names_of behind) x k in
+          let here : get_or (set vs j w) (length (names_of behind)) 0 ≡ b.word = get_or-set_other vs j (length (names_of behind)) w 0 (omega (arith, less)) ∙ holds.0 in
+          (subst (λ (ns : List (List ℕ)). get_or (set vs j w) (length ns) 0 ≡ b.word) (sym (names_of-with_word behind x w)) here, Holds-with_word behind vs x w k below holds.1)
+    ]) h lt
 
 -- ---- a moment of both runs
 
@@ -248,11 +250,14 @@ declare-resolved (d ∷ ds) n ns count s vs rest go fits known within goes =
     let behind = resolved_declared (x ∷ ns) ds in
     let cleared = Fits-local ns count s vs x fits within.0 in
     let P : Option Expr → Type 0 = λ o. AreKnownIn (x ∷ ns) o → AreStmtsWithin count (resolved_initial (x ∷ ns) (length ns) o behind) → perform_all (resolved_initial (x ∷ ns) (length ns) o behind) n rest (store us s) ≡ proceed (then_do (initial_value o (with_local x s)) (λ w t. declare ds (stored x w t))) go in
-    (elim d.initial as P [ None ↦ λ k i. declare-resolved ds n (x ∷ ns) count (with_local x s) us rest go cleared known.1 i goes ∙ ap (λ (t : State). proceed (declare ds t) go) (sym (stored-newest x s)) | Some e ↦ λ k i.
-      on_value (x ∷ ns) count e (with_local x s) us cleared k _ _ go (λ w.
-        let written = Fits-stored (x ∷ ns) count (with_local x s) us x w cleared (known-newest ns x) (omega (arith, number-newest ns x, within.0)) in
-        let fits' = subst (λ (j : ℕ). Fits (x ∷ ns) count (stored x w (with_local x s)) (set us j w)) (number-newest ns x) written in
-        declare-resolved ds n (x ∷ ns) count (stored x w (with_local x s)) (set us (length ns) w) rest go fits' known.1 i.1 goes) ]) known.0 within.1
+    (elim d.initial as P [
+      | None ↦ λ k i. declare-resolved ds n (x ∷ ns) count (with_local x s) us rest go cleared known.1 i goes ∙ ap (λ (t : State). proceed (declare ds t) go) (sym (stored-newest x s))
+      | Some e ↦ λ k i.
+          on_value (x ∷ ns) count e (with_local x s) us cleared k _ _ go (λ w.
+          let written = Fits-stored (x ∷ ns) count (with_local x s) us x w cleared (known-newest ns x) (omega (arith, number-newest ns x, within.0)) in
+          let fits' = subst (λ (j : ℕ). Fits (x ∷ ns) count (stored x w (with_local x s)) (set us j w)) (number-newest ns x) written in
+          declare-resolved ds n (x ∷ ns) count (stored x w (with_local x s)) (set us (length ns) w) rest go fits' known.1 i.1 goes)
+    ]) known.0 within.1
 
 -- ---- scopes
 
@@ -317,14 +322,17 @@ turns-resolved : (m : ℕ) (e : Expr) (body : Rest → Rest) (part : State → R
 turns-resolved zero e body part ns count known does s vs rest go fits goes = refl
 turns-resolved (suc m) e body part ns count known does s vs rest go fits goes =
     on_value ns count e s vs fits known _ _ go (λ w.
-      let again = loop m (resolved_expression ns e) body rest in
-      let after : State → Outcome ℕ = λ t. proceed (turns m (evaluate e) part t) go in
-      let one = λ (u : State). then_do (part u) (λ flow v. behind_flow flow (turns m (evaluate e) part) v) in
-      let P : ℕ → Type 0 = λ v. choose {A = Rest} v (λ (t : Store). spent t.steps (body again) t) rest (store vs s) ≡ proceed (choose {A = State → Run Flow} v (λ (t : State). spend_of t.steps one t) (λ (t : State). Gives Falls t) s) go in
-      elim w as P [ zero ↦ goes.at s vs fits | suc v ↦ spent-resolved s.steps s vs (body again) one go (λ k.
-        let u : State = record s { steps = k } in
-        does u vs again after (record { names = fits.names; enough = fits.enough; holds = fits.holds }) (record { at = λ t us fits'. turns-resolved m e body part ns count known does t us rest go fits' goes })
-        ∙ sym (proceed-behind (part u) (turns m (evaluate e) part) go)) ])
+    let again = loop m (resolved_expression ns e) body rest in
+    let after : State → Outcome ℕ = λ t. proceed (turns m (evaluate e) part t) go in
+    let one = λ (u : State). then_do (part u) (λ flow v. behind_flow flow (turns m (evaluate e) part) v) in
+    let P : ℕ → Type 0 = λ v. choose {A = Rest} v (λ (t : Store). spent t.steps (body again) t) rest (store vs s) ≡ proceed (choose {A = State → Run Flow} v (λ (t : State). spend_of t.steps one t) (λ (t : State). Gives Falls t) s) go in
+    elim w as P [
+      | zero ↦ goes.at s vs fits
+      | suc v ↦ spent-resolved s.steps s vs (body again) one go (λ k.
+          let u : State = record s { steps = k } in
+          does u vs again after (record { names = fits.names; enough = fits.enough; holds = fits.holds }) (record { at = λ t us fits'. turns-resolved m e body part ns count known does t us rest go fits' goes })
+          ∙ sym (proceed-behind (part u) (turns m (evaluate e) part) go))
+    ])
 
 -- ---- statements
 

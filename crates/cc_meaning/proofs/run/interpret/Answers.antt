@@ -1,5 +1,5 @@
 -- The form's run is the source's behavior.
-use Rattle.std.proofs.Common.{◌≡◌, ℕ, List, Err, length, sym, ap, ◌∙◌, arith, rules}
+use Rattle.std.proofs.Common.{◌≡◌, ℕ, List, Err, length, sym, ap, ◌∙◌, arith}
 use Rattle.cc_syntax.specs.Source.{source}
 use Rattle.cc_typing.specs.FormErase.{form_statements_of, form_tree}
 use Rattle.cc_meaning.specs.Outcome as outcome
