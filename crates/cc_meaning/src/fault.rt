@@ -1,0 +1,35 @@
+// Why a program is not run.
+
+ghost use Rattle.std.specs.Prelude.{◌≡◌};
+
+use std::alloc::AllocError;
+use thiserror::Error;
+
+/// Why a program is not run to its end or its last step.
+#[derive(Debug, Drop, Error)]
+pub enum MeaningFault {
+    /// 40: memory was refused.
+    #[error("OutOfMemory")]
+    OutOfMemory,
+}
+
+impl MeaningFault {
+    /// The number of the fault: 40.
+    pub fn number(&self) -> u32
+        ensures { result ≡ 40 }
+    {
+        match self {
+            MeaningFault::OutOfMemory => 40,
+        }
+    }
+}
+
+impl From<AllocError> for MeaningFault {
+    ghost use Rattle.cc_meaning.specs.declared.fault.MeaningFault.TheVariants.{OutOfMemory};
+
+    ghost from_gives = { λ _ e. e ≡ OutOfMemory };
+
+    fn from(_error: AllocError) -> Self {
+        MeaningFault::OutOfMemory
+    }
+}

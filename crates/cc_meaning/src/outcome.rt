@@ -1,0 +1,74 @@
+// How a run comes out.
+
+ghost use Rattle.std.specs.Prelude.{◌≡◌};
+
+use std::marker::Model;
+
+/// Why a program goes wrong.
+#[derive(Clone, Copy, PartialEq, Eq, Debug)]
+pub enum Cause {
+    /// A division or remainder by zero, or of -2147483648 by -1 (C99 6.5.5).
+    Division,
+    /// A shift by a count below 0 or above 31 (C99 6.5.7).
+    Shift,
+    /// An index outside its array (C99 6.5.6).
+    Index,
+    /// A call that would make 1,025 open calls.
+    Depth,
+}
+
+/// How a run stops.
+#[derive(Clone, Copy, PartialEq, Eq, Debug)]
+pub enum Stop {
+    /// No step was left.
+    Going,
+    /// `main` ended with this word.
+    Ended(u32),
+    /// The program went wrong.
+    Wrong(Cause),
+}
+
+/// A list of words.
+#[derive(Drop, Debug)]
+pub struct Words {
+    words: Vec<u32>,
+}
+
+impl Model for Words {
+    ghost use Rattle.std.specs.Prelude.{List, ℕ};
+
+    ghost Value = { List ℕ };
+
+    ghost view = { λ w. w.words.items };
+}
+
+impl Words {
+    /// The words of a vector. It takes no memory.
+    pub fn from_vec(items: Vec<u32>) -> Words
+        ensures { result ≡ items.items }
+    {
+        Words { words: items }
+    }
+
+    /// The words.
+    pub fn as_slice(&self) -> &[u32]
+        ensures { result.now ≡ self.now }
+    {
+        self.words.as_slice()
+    }
+
+    /// The vector that holds the words. It takes no memory.
+    pub fn into_vec(self) -> Vec<u32>
+        ensures { result.items ≡ self }
+    {
+        let Words { words } = self;
+        words
+    }
+}
+
+/// How a run stops, and the words that it wrote up to there.
+#[derive(Drop, Debug)]
+pub struct Outcome {
+    pub stop: Stop,
+    pub output: Words,
+}
