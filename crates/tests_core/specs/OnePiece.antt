@@ -1,5 +1,5 @@
 -- A build in which each source has one piece, which holds the unit.
-use Rattle.std.specs.Prelude.{ℕ, ◌≡◌, Bool, true, false, List, [], ◌∷◌, length, slice_get, Option, Some, Result, Ok, Err, if◌then◌else◌, ◌==◌, refl}
+use Rattle.std.specs.Prelude.{ℕ, ◌≡◌, Bool, true, false, List, [], ◌∷◌, length, Result, Ok, Err, if◌then◌else◌, ◌==◌, refl}
 use Rattle.std.proofs.Common.{sym, ap, subst, ◌∙◌, cond}
 use Rattle.cc_core.specs.declared.unit.StoredUnit.{StoredUnit}
 use Rattle.cc_core.specs.Rules.{Rules, AreWhole}

@@ -1,6 +1,6 @@
 use crate::one_piece::OnePieceBuild;
 use crate::piece::{OnePiece, compiled};
-use cc_core::command::{Command, Reply, Request};
+use cc_core::command::{Reply, Request};
 use cc_core::event::Event;
 use cc_core::fault::{BuildFault, CoreFault, NameFault};
 use cc_core::name::Name;
@@ -34,239 +34,191 @@ fn name(rt: &(impl Abort + AllocGlobal), bytes: &[u8]) -> Result<Name, Fail> {
     }
 }
 
+fn piece(rt: &(impl Abort + AllocGlobal), source: &[u8]) -> Result<OnePiece, Fail> {
+    assert!(rt; source.len() <= 65536);
+    Ok(compiled(rt.alloc(), source)?)
+}
+
 fn add(rt: &(impl Abort + AllocGlobal), bytes: &[u8], source: &[u8]) -> Result<Request, Fail> {
     Ok(Request::Add(name(rt, bytes)?, text(rt.alloc(), source)?))
 }
 
-// The worked table: two clients add `a`, with sources of their own.
-#[test]
-fn two_clients_add_one_name(rt: HostRuntime) -> Result<(), Fail> {
-    let alloc = rt.alloc();
-    let mut events = Vec::new(alloc);
-    events.push(Event::Submit(1, 1, add(&rt, b"a", b"one")?))?;
-    events.push(Event::Submit(2, 1, add(&rt, b"a", b"two")?))?;
-    events.push(Event::Take(1, 1, 0))?;
-    events.push(Event::Take(2, 2, 0))?;
-    events.push(Event::Done(2, compiled(alloc, b"two")?))?;
-    events.push(Event::Begin(2))?;
-    events.push(Event::Done(1, compiled(alloc, b"one")?))?;
-    let state = State::new(alloc, OnePieceBuild {});
-    let mut state = match run_events(alloc, state, events) {
-        Ok(state) => state,
-        Err(fault) => {
-            assert_eq!(rt; fault.number(), 0);
-            return Ok(());
-        }
-    };
-    let a = name(&rt, b"a")?;
-    assert!(rt;
-        state.library().get(&a).is_none(),
-        "the library is empty while a command is in flight"
-    );
-    assert_eq!(rt; state.acked().len(), 0);
-
-    assert_eq!(rt; number(state.step(alloc, Event::Begin(1))), 29);
-    assert!(rt; state.library().get(&a).is_none(), "29 changes nothing");
-    assert_eq!(rt; state.acked().len(), 0);
-
-    assert_eq!(rt; number(state.step(alloc, Event::Ack(2))), 1);
-    assert_eq!(rt; number(state.step(alloc, Event::Begin(1))), 31);
-    let Some(unit) = state.library().get(&a) else {
-        assert!(rt; false, "the name is there");
-        return Ok(());
-    };
-    assert_eq!(rt; unit.source.as_slice(), b"two".as_slice());
-    assert_eq!(rt; unit.image.code.as_slice(), [3u32].as_slice());
-    assert_eq!(rt; state.acked().len(), 1);
-    assert!(rt;
-        matches!(&state.acked()[0].command, Command::Add(..)),
-        "an addition"
-    );
-    assert_eq!(rt;
-        number(state.step(alloc, Event::Submit(1, 2, add(&rt, b"b", b"one")?))),
-        0
-    );
-    Ok(())
+// Takes an event's step, and looks at what it answers.
+fn expect(
+    rt: &(impl Abort + AllocGlobal),
+    state: &mut State<OnePieceBuild>,
+    event: Event<OnePiece>,
+    want: u32,
+) {
+    assert_eq!(rt; number(state.step(rt.alloc(), event)), want);
 }
 
-// Submits a request, takes its piece and hands it in, and answers Begin's number.
-fn begun(
+// A client submits a request, and its first piece is taken by worker 3 and handed in.
+fn prepare(
     rt: &(impl Abort + AllocGlobal),
     state: &mut State<OnePieceBuild>,
     request: Request,
-    piece: Option<OnePiece>,
-) -> Result<u32, Fail> {
-    let alloc = rt.alloc();
-    assert_eq!(rt; number(state.step(alloc, Event::Submit(7, 1, request))), 0);
-    if let Some(piece) = piece {
-        assert_eq!(rt; number(state.step(alloc, Event::Take(3, 7, 0))), 0);
-        assert_eq!(rt; number(state.step(alloc, Event::Done(3, piece))), 0);
-    }
-    Ok(number(state.step(alloc, Event::Begin(7))))
+    source: &[u8],
+) -> Result<(), Fail> {
+    expect(rt, state, Event::Submit(7, 1, request), 0);
+    expect(rt, state, Event::Take(3, 7, 0), 0);
+    expect(rt, state, Event::Done(3, piece(rt, source)?), 0);
+    Ok(())
 }
 
-// Each number of Begin.
+// The worked table's first line: two clients add `a`, with sources of their own.
+fn table(rt: &(impl Abort + AllocGlobal)) -> Result<Vec<Event<OnePiece>>, Fail> {
+    let mut events = Vec::new(rt.alloc());
+    events.push(Event::Submit(1, 1, add(rt, b"a", b"one")?))?;
+    events.push(Event::Submit(2, 1, add(rt, b"a", b"two")?))?;
+    events.push(Event::Take(1, 1, 0))?;
+    events.push(Event::Take(2, 2, 0))?;
+    events.push(Event::Done(2, piece(rt, b"two")?))?;
+    events.push(Event::Begin(2))?;
+    events.push(Event::Done(1, piece(rt, b"one")?))?;
+    Ok(events)
+}
+
+// Whether the library has `a` with this source, and how many commands were acknowledged.
+fn look(
+    rt: &(impl Abort + AllocGlobal),
+    state: &State<OnePieceBuild>,
+    source: Option<&[u8]>,
+    acknowledged: usize,
+) -> Result<(), Fail> {
+    let a = name(rt, b"a")?;
+    match (state.library().get(&a), source) {
+        (None, None) => {}
+        (Some(unit), Some(source)) => assert_eq!(rt; unit.source.as_slice(), source),
+        _ => assert!(rt; false, "another library"),
+    }
+    assert_eq!(rt; state.acked().len(), acknowledged);
+    Ok(())
+}
+
+#[test]
+fn two_clients_add_one_name(rt: HostRuntime) -> Result<(), Fail> {
+    let start = State::new(rt.alloc(), OnePieceBuild {});
+    let Ok(mut state) = run_events(rt.alloc(), start, table(&rt)?) else {
+        return Err(Fail::from("out of memory"));
+    };
+    look(&rt, &state, None, 0)?;
+    expect(&rt, &mut state, Event::Begin(1), 29);
+    look(&rt, &state, None, 0)?;
+    expect(&rt, &mut state, Event::Ack(2), 1);
+    expect(&rt, &mut state, Event::Begin(1), 31);
+    look(&rt, &state, Some(b"two".as_slice()), 1)?;
+    expect(
+        &rt,
+        &mut state,
+        Event::Submit(1, 2, add(&rt, b"a", b"one")?),
+        0,
+    );
+    Ok(())
+}
+
+// Begin's numbers before the library is asked.
+fn refused_by_the_build(
+    rt: &(impl Abort + AllocGlobal),
+    state: &mut State<OnePieceBuild>,
+) -> Result<(), Fail> {
+    expect(rt, state, Event::Submit(7, 1, add(rt, b"a", b"#x")?), 0);
+    expect(rt, state, Event::Begin(7), 11);
+    expect(rt, state, Event::Submit(7, 2, add(rt, b"a", b"x")?), 0);
+    expect(rt, state, Event::Take(3, 7, 0), 0);
+    expect(rt, state, Event::Refuse(3, 24), 0);
+    expect(rt, state, Event::Begin(7), 24);
+    prepare(rt, state, add(rt, b"a", b"!x")?, b"!x")?;
+    expect(rt, state, Event::Begin(7), 25);
+    Ok(())
+}
+
+// Begin's numbers by the library.
+fn refused_by_the_library(
+    rt: &(impl Abort + AllocGlobal),
+    state: &mut State<OnePieceBuild>,
+) -> Result<(), Fail> {
+    expect(
+        rt,
+        state,
+        Event::Submit(7, 3, Request::Withdraw(name(rt, b"a")?)),
+        0,
+    );
+    expect(rt, state, Event::Begin(7), 32);
+    let replace = Request::Replace(name(rt, b"a")?, text(rt.alloc(), b"x")?);
+    prepare(rt, state, replace, b"x")?;
+    expect(rt, state, Event::Begin(7), 32);
+    prepare(rt, state, add(rt, b"a", b"x")?, b"x")?;
+    expect(rt, state, Event::Begin(7), 0);
+    expect(rt, state, Event::Ack(7), 1);
+    prepare(rt, state, add(rt, b"a", b"y")?, b"y")?;
+    expect(rt, state, Event::Begin(7), 31);
+    Ok(())
+}
+
 #[test]
 fn begin_refuses(rt: HostRuntime) -> Result<(), Fail> {
-    let alloc = rt.alloc();
-    let mut state = State::new(alloc, OnePieceBuild {});
-    assert_eq!(rt; begun(&rt, &mut state, add(&rt, b"a", b"#x")?, None)?, 11);
-    assert_eq!(rt;
-        begun(
-            &rt,
-            &mut state,
-            add(&rt, b"a", b"!x")?,
-            Some(compiled(alloc, b"!x")?)
-        )?,
-        25
+    let mut state = State::new(rt.alloc(), OnePieceBuild {});
+    refused_by_the_build(&rt, &mut state)?;
+    refused_by_the_library(&rt, &mut state)?;
+    look(&rt, &state, Some(b"x".as_slice()), 1)?;
+    let replace = Request::Replace(name(&rt, b"a")?, text(rt.alloc(), b"new")?);
+    prepare(&rt, &mut state, replace, b"new")?;
+    expect(&rt, &mut state, Event::Begin(7), 0);
+    expect(&rt, &mut state, Event::Ack(7), 1);
+    look(&rt, &state, Some(b"new".as_slice()), 2)?;
+    expect(
+        &rt,
+        &mut state,
+        Event::Submit(7, 9, Request::Withdraw(name(&rt, b"a")?)),
+        0,
     );
-    assert_eq!(rt;
-        begun(&rt, &mut state, Request::Withdraw(name(&rt, b"a")?), None)?,
-        32
-    );
-    let absent = Request::Replace(name(&rt, b"a")?, text(alloc, b"x")?);
-    assert_eq!(rt;
-        begun(&rt, &mut state, absent, Some(compiled(alloc, b"x")?))?,
-        32
-    );
-    assert_eq!(rt;
-        begun(
-            &rt,
-            &mut state,
-            add(&rt, b"a", b"x")?,
-            Some(compiled(alloc, b"x")?)
-        )?,
-        0
-    );
-    assert_eq!(rt; number(state.step(alloc, Event::Ack(7))), 1);
-    assert_eq!(rt;
-        begun(
-            &rt,
-            &mut state,
-            add(&rt, b"a", b"y")?,
-            Some(compiled(alloc, b"y")?)
-        )?,
-        31
-    );
+    expect(&rt, &mut state, Event::Begin(7), 0);
+    expect(&rt, &mut state, Event::Ack(7), 1);
+    look(&rt, &state, None, 3)
+}
 
-    assert_eq!(rt;
-        number(state.step(alloc, Event::Submit(7, 9, add(&rt, b"b", b"z")?))),
-        0
-    );
-    assert_eq!(rt; number(state.step(alloc, Event::Take(3, 7, 0))), 0);
-    assert_eq!(rt; number(state.step(alloc, Event::Refuse(3, 24))), 0);
-    assert_eq!(rt;
-        number(state.step(alloc, Event::Begin(7))),
-        24,
-        "the piece's number"
-    );
-
-    let present = Request::Replace(name(&rt, b"a")?, text(alloc, b"new")?);
-    assert_eq!(rt;
-        begun(&rt, &mut state, present, Some(compiled(alloc, b"new")?))?,
-        0
-    );
-    assert_eq!(rt; number(state.step(alloc, Event::Ack(7))), 1);
-    assert_eq!(rt;
-        begun(&rt, &mut state, Request::Withdraw(name(&rt, b"a")?), None)?,
-        0
-    );
-    assert_eq!(rt; number(state.step(alloc, Event::Ack(7))), 1);
-    assert!(rt;
-        state.library().get(&name(&rt, b"a")?).is_none(),
-        "withdrawn"
-    );
-    assert_eq!(rt; state.acked().len(), 3);
+// Events that are not possible before a piece is made.
+fn too_early(
+    rt: &(impl Abort + AllocGlobal),
+    state: &mut State<OnePieceBuild>,
+) -> Result<(), Fail> {
+    expect(rt, state, Event::Ack(1), 29);
+    expect(rt, state, Event::Begin(1), 29);
+    expect(rt, state, Event::Take(1, 1, 0), 29);
+    expect(rt, state, Event::Submit(1, 1, add(rt, b"a", b"one")?), 0);
+    expect(rt, state, Event::Submit(2, 1, add(rt, b"b", b"two")?), 0);
+    expect(rt, state, Event::Submit(1, 2, add(rt, b"c", b"one")?), 29);
+    expect(rt, state, Event::Begin(1), 29);
+    expect(rt, state, Event::Take(1, 1, 1), 29);
     Ok(())
 }
 
-// Each event where it is not possible.
+// Events that are not possible while a worker has a piece: it is busy, and its piece is the one named.
+fn while_taken(
+    rt: &(impl Abort + AllocGlobal),
+    state: &mut State<OnePieceBuild>,
+) -> Result<(), Fail> {
+    expect(rt, state, Event::Take(1, 1, 0), 0);
+    expect(rt, state, Event::Take(1, 2, 0), 29);
+    expect(rt, state, Event::Take(2, 1, 0), 29);
+    expect(rt, state, Event::Done(1, piece(rt, b"two")?), 29);
+    expect(rt, state, Event::Done(2, piece(rt, b"one")?), 29);
+    expect(rt, state, Event::Refuse(2, 24), 29);
+    expect(rt, state, Event::Done(1, piece(rt, b"one")?), 0);
+    Ok(())
+}
+
 #[test]
 fn not_now(rt: HostRuntime) -> Result<(), Fail> {
-    let alloc = rt.alloc();
-    let mut state = State::new(alloc, OnePieceBuild {});
-    assert_eq!(rt;
-        number(state.step(alloc, Event::Ack(1))),
-        29,
-        "without Begin"
-    );
-    assert_eq!(rt;
-        number(state.step(alloc, Event::Begin(1))),
-        29,
-        "without a job"
-    );
-    assert_eq!(rt;
-        number(state.step(alloc, Event::Take(1, 1, 0))),
-        29,
-        "without a job"
-    );
-    assert_eq!(rt;
-        number(state.step(alloc, Event::Submit(1, 1, add(&rt, b"a", b"one")?))),
-        0
-    );
-    assert_eq!(rt;
-        number(state.step(alloc, Event::Submit(2, 1, add(&rt, b"b", b"two")?))),
-        0
-    );
-    assert_eq!(rt;
-        number(state.step(alloc, Event::Submit(1, 2, add(&rt, b"c", b"one")?))),
-        29,
-        "a second job"
-    );
-    assert_eq!(rt;
-        number(state.step(alloc, Event::Begin(1))),
-        29,
-        "a piece waits"
-    );
-    assert_eq!(rt;
-        number(state.step(alloc, Event::Take(1, 1, 1))),
-        29,
-        "no such piece"
-    );
-    assert_eq!(rt; number(state.step(alloc, Event::Take(1, 1, 0))), 0);
-    assert_eq!(rt;
-        number(state.step(alloc, Event::Take(1, 2, 0))),
-        29,
-        "a busy worker"
-    );
-    assert_eq!(rt;
-        number(state.step(alloc, Event::Take(2, 1, 0))),
-        29,
-        "a piece that is taken"
-    );
-    assert_eq!(rt;
-        number(state.step(alloc, Event::Done(1, compiled(alloc, b"two")?))),
-        29,
-        "another source's piece"
-    );
-    assert_eq!(rt;
-        number(state.step(alloc, Event::Done(2, compiled(alloc, b"one")?))),
-        29,
-        "an idle worker"
-    );
-    assert_eq!(rt;
-        number(state.step(alloc, Event::Refuse(2, 24))),
-        29,
-        "an idle worker"
-    );
-    assert_eq!(rt;
-        number(state.step(alloc, Event::Done(1, compiled(alloc, b"one")?))),
-        0
-    );
-    assert_eq!(rt; number(state.step(alloc, Event::Begin(1))), 0);
-    assert_eq!(rt;
-        number(state.step(alloc, Event::Ack(2))),
-        29,
-        "another client's"
-    );
-    assert_eq!(rt;
-        number(state.step(alloc, Event::Begin(1))),
-        29,
-        "one commits"
-    );
-    assert_eq!(rt; number(state.step(alloc, Event::Ack(1))), 1);
-    assert_eq!(rt; state.acked().len(), 1);
-    Ok(())
+    let mut state = State::new(rt.alloc(), OnePieceBuild {});
+    too_early(&rt, &mut state)?;
+    while_taken(&rt, &mut state)?;
+    expect(&rt, &mut state, Event::Begin(1), 0);
+    expect(&rt, &mut state, Event::Ack(2), 29);
+    expect(&rt, &mut state, Event::Begin(1), 29);
+    expect(&rt, &mut state, Event::Ack(1), 1);
+    look(&rt, &state, Some(b"one".as_slice()), 1)
 }
 
 // Names, lists and numbers, by the rule of names and the list of numbers.
@@ -278,8 +230,7 @@ fn names_and_numbers(rt: HostRuntime) -> Result<(), Fail> {
         b"z9",
         b"abcdefghijklmnopqrstuvwxyz_01234",
     ] {
-        let name = name(&rt, bytes)?;
-        assert_eq!(rt; name.bytes(), bytes);
+        assert_eq!(rt; name(&rt, bytes)?.bytes(), bytes);
     }
     for bytes in [
         b"".as_slice(),
