@@ -35,3 +35,11 @@ pub record LeavesOnly {D : Type 0} (moment : D → ℕ) (left_since : D → ℕ 
   pub each : (image : List ℕ) → left_since new (moment old) image → P image
   -- for a run that began earlier
   pub before : (t : ℕ) (image : List ℕ) → t ≤ moment old → left_since new t image → left_since old t image ⊎ P image
+
+-- Between old and new the disk was read and synced at most: it gives the same bytes, and a crash at any moment leaves
+-- nothing that it could not have left before.
+pub record OnlyReads {D : Type 0} (seen : D → List ℕ) (may_leave : D → List ℕ → Type 0) (moment : D → ℕ) (left_since : D → ℕ → List ℕ → Type 0) (old new : D) : Type 0 where
+  pub same : seen new ≡ seen old
+  pub images : AddsNone (may_leave old) (may_leave new)
+  pub later : moment old ≤ moment new
+  pub moments : (t : ℕ) (image : List ℕ) → t ≤ moment old → left_since new t image → left_since old t image

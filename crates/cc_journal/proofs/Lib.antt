@@ -1,0 +1,4 @@
+mod Records
+mod Moments
+mod Images
+mod Steps
