@@ -2,3 +2,5 @@ mod Records
 mod Moments
 mod Images
 mod Steps
+mod Bytes
+mod Scan

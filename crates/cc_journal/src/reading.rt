@@ -1,5 +1,6 @@
 // Reading a journal from a disk of which nothing is known.
 ghost use Rattle.std.specs.Prelude.{IfSome, IsNone, IsErrOf, ◌↔◌, ◌≡◌, ◌≢◌, ◌+◌, ◌*◌, ◌^◌, ◌<◌, ◌≤◌, ◌++◌, [], ◌∷◌, List, ℕ, false, IsTrue, length, take, drop, IfOk, IfErr, MatchResult, OnOk, OnErr, is_ok, if◌then◌else◌};
+ghost use Rattle.std.specs.Int.{w32, to_le_bytes, from_le_bytes};
 ghost use Rattle.cc_disk.specs.Images.{LeavesAlone, OnlyReads};
 ghost use Rattle.cc_journal.specs.Format.{header, records, room_of, HasHeader, IsArea};
 ghost use Rattle.cc_journal.specs.Reading.{IsKept, BeginsWith, EndsClosed, FindsRecord};
@@ -127,6 +128,14 @@ fn read_records<D: Disk>(alloc: Global, disk: &mut D, start: usize, area: usize)
     Ok((bodies, used))
 }
 
+// The number that these four bytes spell, the lowest first.
+fn length_of(bytes: &[u8; 4]) -> u32
+    ensures value { result ≡ from_le_bytes w32 bytes.now }
+    ensures bytes { to_le_bytes w32 result ≡ bytes.now }
+{
+    u32::from_le_bytes([bytes[0], bytes[1], bytes[2], bytes[3]])
+}
+
 // The record at that place, if its gate is open, where so many bytes of the area are left from there on.
 fn read_record<D: Disk>(alloc: Global, disk: &mut D, place: usize, left: usize) -> Result<Option<Body>, JournalFault>
     requires some { 0 < left }
@@ -151,7 +160,7 @@ fn read_record<D: Disk>(alloc: Global, disk: &mut D, place: usize, left: usize) 
     let mut length = [0u8; 4];
     // The length says how far the record goes.
     disk.read_at(place + 1, &mut length)?;
-    let length = u32::from_le_bytes(length) as usize;
+    let length = length_of(&length) as usize;
     if left - 6 < length {
         return Err(JournalFault::Damaged);
     }
