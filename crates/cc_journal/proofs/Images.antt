@@ -114,7 +114,7 @@ module _ (image : List ℕ) (start area used : ℕ) (bodies : List (List ℕ)) (
       start_most = at_most h.area_byte (length h.other) h.place
         where
           at_most : (b n : ℕ) → n ≡ b % 2 * area → n ≤ area
-          at_most b n is = omega (arith, is, mul-le-mul_right area (omega arith))
+          at_most b n is = omega (arith, is, mul-le-mul_right {m = b % 2} {n = 1} area (omega arith))
 
   pub mid_commit : (body other : List ℕ) → used + length body + 6 ≤ area → IsMidCommit image (start + used) (frame body) other → HoldsOldOrNew area bodies body other
   mid_commit body other room (inl differs) = inl (holds_alone other area bodies (behind_gate other (length (frame body)) differs))

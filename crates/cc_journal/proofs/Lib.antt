@@ -4,3 +4,4 @@ mod Images
 mod Steps
 mod Bytes
 mod Scan
+mod Kept
