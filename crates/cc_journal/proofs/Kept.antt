@@ -1,7 +1,7 @@
 -- What the type of a journal keeps, and how an `append` keeps it.
-use Rattle.std.proofs.Common.{◌≡◌, ℕ, ◌+◌, ◌-◌, ◌*◌, ◌^◌, ◌<◌, ◌≤◌, Bool, false, inl, IsTrue, List, [], ◌∷◌, ◌++◌, length, refl, sym, ◌∙◌, ap, subst, arith}
+use Rattle.std.proofs.Common.{◌≡◌, ℕ, ◌+◌, ◌≤◌, Bool, false, inl, IsTrue, List, [], ◌∷◌, ◌++◌, length, sym, ap, subst, arith}
 use Rattle.cc_disk.specs.Images.{IsWritten, LeavesAlone, LeavesOnly}
-use Rattle.cc_journal.specs.Format.{records, room_of, IsArea, HoldsRecords, HoldsAlone, HoldsOldOrNew}
+use Rattle.cc_journal.specs.Format.{records, room_of, IsArea, HoldsAlone, HoldsOldOrNew}
 use Rattle.cc_journal.specs.Reading.{IsKept, HoldsFrom, IsMidCommit}
 use Rattle.cc_journal.proofs.Records.{holds_alone, length-records_push}
 use Rattle.cc_journal.proofs.Images.{frame, mid_commit, committed}
@@ -42,6 +42,6 @@ module _ {D : Type 0} (honest : Bool) (size : D → ℕ) (seen : D → List ℕ)
     fits = omega (arith, room, kept.taken, length-records_push bodies body, ap (λ (l : List (List ℕ)). length (records l)) pushed);
     alone = λ h _. alone h;
     holds = λ h _.
-    subst (λ (l : List (List ℕ)). HoldsFrom (seen new) start area l) (sym pushed)
-    (committed (seen disk) start area used bodies (kept.holds h not_closed) kept.taken body (seen new) room (subst (λ (l : List ℕ). IsWritten (seen disk) (start + used) (0xa5 ∷ l) (seen new)) is (written h)));
+        subst (λ (l : List (List ℕ)). HoldsFrom (seen new) start area l) (sym pushed)
+        (committed (seen disk) start area used bodies (kept.holds h not_closed) kept.taken body (seen new) room (subst (λ (l : List ℕ). IsWritten (seen disk) (start + used) (0xa5 ∷ l) (seen new)) is (written h)));
   }

@@ -1,6 +1,6 @@
 -- What reading one record after the other comes to. How: the bytes of the area are the records read so far and the rest;
 -- any list of records in front of the same bytes goes on from those that were read.
-use Rattle.std.proofs.Common.{◌≡◌, ◌≢◌, Bool, IsTrue, Result, Ok, Err, if◌then◌else◌, ℕ, ◌+◌, ◌-◌, ◌*◌, ◌%◌, ◌^◌, ◌<◌, ◌≤◌, List, [], ◌∷◌, ◌++◌, length, take, drop, refl, sym, ◌∙◌, ap, subst, arith, length-append, append_assoc, take-append-drop}
+use Rattle.std.proofs.Common.{◌≡◌, Bool, IsTrue, Err, if◌then◌else◌, ℕ, ◌+◌, ◌-◌, ◌*◌, ◌%◌, ◌^◌, ◌<◌, ◌≤◌, List, [], ◌∷◌, ◌++◌, length, take, drop, refl, sym, ◌∙◌, ap, arith, length-append, append_assoc, take-append-drop}
 use Rattle.std.proofs.lemmas.List.{drop_at, drop-drop, length-take-le}
 use Rattle.std.proofs.Math.Nat.{mul-le-mul_right}
 use Rattle.cc_disk.specs.Images.{OnlyReads}
@@ -9,7 +9,7 @@ use Rattle.cc_journal.specs.Reading.{BeginsWith, EndsClosed, HoldsFrom}
 use Rattle.cc_journal.specs.Answers.{OpenFaults, IsReadingFault, is_fault_of_disk}
 use Rattle.cc_journal.specs.declared.fault.JournalFault.{JournalFault}
 use Rattle.cc_journal.specs.declared.fault.JournalFault.TheVariants.{Full, DiskFault, Closed, Damaged, NotALibrary, OutOfMemory}
-use Rattle.cc_journal.proofs.Records.{length-header, header_same, length-record_bytes, length-records_push, records-append, records_push, records_front}
+use Rattle.cc_journal.proofs.Records.{length-header, header_same, length-record_bytes, records-append, records_push, records_front}
 
 -- one record more was read
 pub record_on : (bytes : List ℕ) (start used : ℕ) (bodies : List (List ℕ)) (body rest : List ℕ) → drop start bytes ≡ records bodies ++ drop (start + used) bytes → drop (start + used) bytes ≡ record_bytes body ++ rest
@@ -90,8 +90,7 @@ ends_of bytes start area size bodies b small h =
     let same_area = heads.1 in
     let other-long : length h.other ≡ b.area_byte % 2 * area = h.place ∙ both h.area_byte b.area_byte size area heads.0 same_area in
     let head = header h.area_byte size in
-    let front-long : length (head ++ h.other) ≡ start = length-append head h.other ∙ omega (arith, other-long, b.begins, length-header h.area_byte size) in
-    (
+    let front-long : length (head ++ h.other) ≡ start = length-append head h.other ∙ omega (arith, other-long, b.begins, length-header h.area_byte size) in (
       record {
         gate = h.gate;
         behind = h.behind;

@@ -1,5 +1,5 @@
 // Reading a journal from a disk of which nothing is known.
-ghost use Rattle.std.specs.Prelude.{IfSome, IsNone, IsErrOf, ◌↔◌, ◌≡◌, ◌≢◌, ◌+◌, ◌*◌, ◌^◌, ◌<◌, ◌≤◌, ◌++◌, [], ◌∷◌, List, ℕ, false, IsTrue, length, take, drop, IfOk, IfErr, MatchResult, OnOk, OnErr, is_ok, if◌then◌else◌};
+ghost use Rattle.std.specs.Prelude.{IfSome, IsNone, IsErrOf, ◌↔◌, ◌≡◌, ◌≢◌, ◌⊎◌, ◌+◌, ◌*◌, ◌^◌, ◌<◌, ◌≤◌, ◌++◌, [], ◌∷◌, List, ℕ, false, IsTrue, length, take, drop, IfOk, IfErr, MatchResult, OnOk, OnErr, is_ok, if◌then◌else◌};
 ghost use Rattle.std.specs.Int.{w32, to_le_bytes, from_le_bytes};
 ghost use Rattle.cc_disk.specs.Images.{LeavesAlone, OnlyReads};
 ghost use Rattle.cc_journal.specs.Format.{header, records, room_of, HasHeader, IsArea};
@@ -14,6 +14,7 @@ use std::alloc::Global;
 
 /// The least and the largest size of an area, in bytes.
 pub const LEAST_AREA: usize = 64;
+
 pub const LARGEST_AREA: usize = 1 << 30;
 
 /// The bytes of a header in front of the two areas.
@@ -34,6 +35,7 @@ pub fn find_records<D: Disk>(alloc: Global, disk: &mut D) -> Result<Found, Journ
     ensures size { D.size disk.new ≡ D.size disk.old }
     ensures reads { IsTrue D.honest → OnlyReads D.seen D.may_leave D.moment D.left_since disk.old disk.new }
     ensures kept { IfOk result (λ f. IsKept D.honest (D.size disk.new) (D.seen disk.new) (D.may_leave disk.new) f.start f.area f.used f.bodies.items false) }
+    ensures small { D.size disk.old < 144 → IfErr result (λ fault. (fault ≡ JournalFault.DiskFault) ⊎ (fault ≡ JournalFault.NotALibrary)) }
     ensures sound { OnOk result (D.failures disk.new ≡ D.failures disk.old) }
     ensures faults { IfErr result (λ fault. OpenFaults D.honest (D.seen disk.old) (D.failures disk.old) (D.failures disk.new) fault) }
 {
@@ -102,12 +104,21 @@ fn parse_header(bytes: &[u8; 16], size: usize) -> Option<(usize, usize)>
     if !is_area(size, area) {
         return None;
     }
-    let start = if area_byte % 2 == 0 { HEADER } else { HEADER + area };
+    let start = if area_byte % 2 == 0 {
+        HEADER
+    } else {
+        HEADER + area
+    };
     Some((start, area))
 }
 
 // The records from `start` on, within an area of that size, and how many bytes they take.
-fn read_records<D: Disk>(alloc: Global, disk: &mut D, start: usize, area: usize) -> Result<(Vec<Body>, usize), JournalFault>
+fn read_records<D: Disk>(
+    alloc: Global,
+    disk: &mut D,
+    start: usize,
+    area: usize,
+) -> Result<(Vec<Body>, usize), JournalFault>
     requires begins { start ≤ 16 + area }
     requires is_area { IsArea (D.size disk.old) area }
     ensures size { D.size disk.new ≡ D.size disk.old }
@@ -137,7 +148,12 @@ fn length_of(bytes: &[u8; 4]) -> u32
 }
 
 // The record at that place, if its gate is open, where so many bytes of the area are left from there on.
-fn read_record<D: Disk>(alloc: Global, disk: &mut D, place: usize, left: usize) -> Result<Option<Body>, JournalFault>
+fn read_record<D: Disk>(
+    alloc: Global,
+    disk: &mut D,
+    place: usize,
+    left: usize,
+) -> Result<Option<Body>, JournalFault>
     requires some { 0 < left }
     requires on_disk { place + left ≤ D.size disk.old }
     requires addressed { place + left < 2 ^ 64 }

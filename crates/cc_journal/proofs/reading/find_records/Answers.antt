@@ -1,6 +1,6 @@
-use Rattle.std.proofs.Common.{◌≡◌, ◌+◌, ◌≤◌, List, ℕ, Bool, false, IsTrue, IsNone, Err, if◌then◌else◌, length, drop, sym, ◌∙◌, ap, subst, arith, rules}
+use Rattle.std.proofs.Common.{◌+◌, ◌≤◌, List, ℕ, IsNone, Err, if◌then◌else◌, drop, sym, ◌∙◌, ap, subst, arith, rules}
 use Rattle.std.proofs.lemmas.Result.{err_from_is_err_and}
-use Rattle.cc_journal.specs.Format.{IsArea, HasHeader, HoldsRecords, room_of}
+use Rattle.cc_journal.specs.Format.{IsArea, HasHeader, room_of}
 use Rattle.cc_journal.specs.Reading.{BeginsWith, EndsClosed, HoldsFrom}
 use Rattle.cc_journal.specs.Answers.{is_fault_of_disk}
 use Rattle.cc_journal.proofs.Scan.{holds_from, ends_of, header_of, reading_faults}
@@ -8,8 +8,7 @@ use Rattle.cc_journal.proofs.reading.find_records.Goals as goal
 
 pub returns-in_default-clause-faults : goal.returns-in_default-clause-faults
 returns-in_default-clause-faults g c =
-    let none : IsNone c.in_ok-start.field-0 = search rules in
-    (
+    let none : IsNone c.in_ok-start.field-0 = search rules in (
       c.in_ok-start.ensures.failures ∙ c.in_ok-sync.ensures.failures,
       λ h area found. c.in_ok-start.ensures.wrong none h area (subst (λ (l : List ℕ). HasHeader l area) (sym (c.sync.ensures.seen h)) found),
     )
@@ -26,18 +25,17 @@ returns-in_err-bodies-clause-faults g c =
     let count = c.in_err-bodies.ensures.failures ∙ ap (λ (n : ℕ). if is_fault_of_disk {T = ℕ} (Err fault) then n + 1 else n) (c.in_ok-start.ensures.failures ∙ c.in_ok-sync.ensures.failures) in
     rw (p.1, p.2)
     (
-      reading_faults fault D.honest S (D.failures c.args.disk.now) (D.failures c.read_records.new.disk) c.in_err-bodies.ensures.others count
-      (λ damaged h.
-      let begins = subst (λ (l : List ℕ). BeginsWith l start area) (c.sync.ensures.seen h) (right.2 h) in
-      let size = g.met.D.Disk.has_size c.args.disk.now h ∙ sym c.sync.ensures.size in
-      let same = c.sync.ensures.seen h in
-      let after = (c.read_header.ensures.reads h).same ∙ same in
-      (
-        (area, header_of S start area begins (subst (λ (n : ℕ). IsArea n area) (sym size) right.0)),
-        λ other bodies holds.
-        let ends = ends_of S start area other bodies begins right.0.most holds in
-        c.in_err-bodies.ensures.damaged (λ i. Err (damaged i)) h bodies (subst (λ (l : List ℕ). EndsClosed (drop start l) bodies) (sym after) ends.0) ends.1,
-      ))
+    reading_faults fault D.honest S (D.failures c.args.disk.now) (D.failures c.read_records.new.disk) c.in_err-bodies.ensures.others count
+    (λ damaged h.
+    let begins = subst (λ (l : List ℕ). BeginsWith l start area) (c.sync.ensures.seen h) (right.2 h) in
+    let size = g.met.D.Disk.has_size c.args.disk.now h ∙ sym c.sync.ensures.size in
+    let same = c.sync.ensures.seen h in
+    let after = (c.read_header.ensures.reads h).same ∙ same in (
+      (area, header_of S start area begins (subst (λ (n : ℕ). IsArea n area) (sym size) right.0)),
+      λ other bodies holds.
+          let ends = ends_of S start area other bodies begins right.0.most holds in
+          c.in_err-bodies.ensures.damaged (λ i. Err (damaged i)) h bodies (subst (λ (l : List ℕ). EndsClosed (drop start l) bodies) (sym after) ends.0) ends.1,
+    ))
     )
 
 pub returns-clause-kept : goal.returns-clause-kept
@@ -55,11 +53,11 @@ returns-clause-kept g c =
       taken = room.0;
       fits = fits;
       alone = λ h _ image now.
-      let settled = c.in_ok-sync.ensures.settled h image ((c.read_header.ensures.reads h).images image ((c.read_records.ensures.reads h).images image now)) in
-      settled ∙ sym ((c.read_records.ensures.reads h).same ∙ (c.read_header.ensures.reads h).same ∙ c.sync.ensures.seen h);
+          let settled = c.in_ok-sync.ensures.settled h image ((c.read_header.ensures.reads h).images image ((c.read_records.ensures.reads h).images image now)) in
+          settled ∙ sym ((c.read_records.ensures.reads h).same ∙ (c.read_header.ensures.reads h).same ∙ c.sync.ensures.seen h);
       holds = λ h _.
-      let S = D.seen c.sync.new.self in
-      let ends = subst (λ (l : List ℕ). EndsClosed (drop start l) bodies) ((c.read_header.ensures.reads h).same) (c.in_ok-bodies.ensures.records h) in
-      let found = holds_from S start area bodies (right.2 h) (subst (λ (n : ℕ). IsArea n area) (sym (g.met.D.Disk.has_size c.sync.new.self h)) right.0) ends fits in
-      subst (λ (l : List ℕ). HoldsFrom l start area bodies) (sym ((c.read_records.ensures.reads h).same ∙ (c.read_header.ensures.reads h).same)) found;
+          let S = D.seen c.sync.new.self in
+          let ends = subst (λ (l : List ℕ). EndsClosed (drop start l) bodies) ((c.read_header.ensures.reads h).same) (c.in_ok-bodies.ensures.records h) in
+          let found = holds_from S start area bodies (right.2 h) (subst (λ (n : ℕ). IsArea n area) (sym (g.met.D.Disk.has_size c.sync.new.self h)) right.0) ends fits in
+          subst (λ (l : List ℕ). HoldsFrom l start area bodies) (sym ((c.read_records.ensures.reads h).same ∙ (c.read_header.ensures.reads h).same)) found;
     }

@@ -1,4 +1,4 @@
-use Rattle.std.proofs.Common.{◌≡◌, ◌+◌, ◌<◌, ℕ, List, length, get_or, take, drop, sym, ◌∙◌, ap, arith}
+use Rattle.std.proofs.Common.{◌≡◌, ◌+◌, ℕ, List, length, take, drop, sym, ◌∙◌, ap, arith}
 use Rattle.std.proofs.lemmas.Grind.{common_steps}
 use Rattle.std.proofs.lemmas.List.{drop-drop}
 use Rattle.cc_journal.proofs.Bytes.{gate_read, record_read, length_read}
@@ -26,10 +26,9 @@ returns-then-left-length-clause-finds g c = λ h.
     let S = g.D.Disk.seen c.args.disk.now in
     let bytes = drop c.args.place S in
     let four : c.read_at-2.new.buffer ≡ take 4 (drop 1 bytes) =
-    c.in_ok-read_at-2.ensures.read h ∙ ap (λ (l : List ℕ). take 4 (drop (c.args.place + 1) l)) (c.read_at.ensures.seen h) ∙ ap (λ (l : List ℕ). take 4 l) (sym (drop-drop 1 c.args.place S)) in
-    (
+    c.in_ok-read_at-2.ensures.read h ∙ ap (λ (l : List ℕ). take 4 (drop (c.args.place + 1) l)) (c.read_at.ensures.seen h) ∙ ap (λ (l : List ℕ). take 4 l) (sym (drop-drop 1 c.args.place S)) in (
       (_, gate_read bytes c.read_at.new.buffer (c.in_ok-read_at.ensures.read h) (omega arith) c.if-gate.false),
       λ body rest is small.
-      let same = length_read bytes c.read_at-2.new.buffer body rest c.length_of-length.result four c.length_of-length.ensures.value is small in
-      omega (arith, same, c.if-left-length.true),
+          let same = length_read bytes c.read_at-2.new.buffer body rest c.length_of-length.result four c.length_of-length.ensures.value is small in
+          omega (arith, same, c.if-left-length.true),
     )

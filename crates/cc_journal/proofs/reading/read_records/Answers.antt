@@ -25,14 +25,15 @@ loop-bodies-preserved g c =
       fits = omega (arith, long, room);
       reads = λ h. reads_on D.seen D.may_leave D.moment D.left_since c.args.disk.now c.loop-bodies.disk c.read_record.new.disk (so_far.reads h) (c.read_record.ensures.reads h);
       front = λ h.
-      let S = D.seen c.args.disk.now in
-      let place = c.args.start + c.loop-bodies.used in
-      let found : (rest : List ℕ) × (drop place (D.seen c.loop-bodies.disk) ≡ record_bytes body ++ rest) =
-      subst (λ (o : Option (List ℕ)). FindsRecord (drop place (D.seen c.loop-bodies.disk)) (c.args.area - c.loop-bodies.used) (Ok o)) c.in-Some.is (c.in_ok-body.ensures.finds h) in
-      let at : drop place S ≡ record_bytes body ++ found.0 = ap (λ (l : List ℕ). drop place l) (sym (so_far.reads h).same) ∙ found.1 in
-      record_on S c.args.start c.loop-bodies.used c.loop-bodies.bodies.items body found.0 (so_far.front h) at
-      ∙ (λ i. records (back i) ++ drop (c.args.start + (c.loop-bodies.used + (size i + 5))) S);
+          let S = D.seen c.args.disk.now in
+          let place = c.args.start + c.loop-bodies.used in
+          let found : (rest : List ℕ) × (drop place (D.seen c.loop-bodies.disk) ≡ record_bytes body ++ rest) =
+          subst (λ (o : Option (List ℕ)). FindsRecord (drop place (D.seen c.loop-bodies.disk)) (c.args.area - c.loop-bodies.used) (Ok o)) c.in-Some.is (c.in_ok-body.ensures.finds h) in
+          let at : drop place S ≡ record_bytes body ++ found.0 = ap (λ (l : List ℕ). drop place l) (sym (so_far.reads h).same) ∙ found.1 in
+          record_on S c.args.start c.loop-bodies.used c.loop-bodies.bodies.items body found.0 (so_far.front h) at
+          ∙ (λ i. records (back i) ++ drop (c.args.start + (c.loop-bodies.used + (size i + 5))) S);
     }
+
 pub returns-in_err-body-clause-damaged : goal.returns-in_err-body-clause-damaged
 returns-in_err-body-clause-damaged g c = λ e h bodies ends room.
     let D = g.D.Disk in

@@ -1,11 +1,9 @@
-use Rattle.std.proofs.Common.{◌≡◌, ℕ, ◌+◌, ◌<◌, ◌≤◌, List, [], ◌∷◌, ◌++◌, false, IsTrue, Result, length, refl, sym, ◌∙◌, ap, subst, arith}
+use Rattle.std.proofs.Common.{◌≡◌, ◌+◌, ◌<◌, ◌≤◌, [], ◌∷◌, ◌++◌, false, IsTrue, refl, ◌∙◌, subst, arith}
 use Rattle.std.proofs.lemmas.Result.{err_from_is_err_and}
 use Rattle.std.proofs.lemmas.Grind.{common_steps}
 use Rattle.cc_disk.specs.Images.{LeavesOnly}
-use Rattle.cc_journal.specs.declared.fault.JournalFault.{JournalFault}
 use Rattle.cc_journal.specs.Format.{HoldsOldOrNew, room_of}
 use Rattle.cc_journal.specs.Reading.{View}
-use Rattle.cc_journal.specs.Answers.{AppendAnswers}
 use Rattle.cc_journal.proofs.Images.{frame}
 use Rattle.cc_journal.proofs.Kept.{kept_alone, room_push, still, in_commit, kept_more}
 use Rattle.cc_journal.proofs.journal.Journal.append.Goals as goal
