@@ -1,6 +1,6 @@
 -- The model of a disk: a fixed number of bytes, each settled or unsettled. A write unsettles its range, a sync settles
 -- all, and a crash leaves any byte at an unsettled place.
-use Rattle.std.specs.Prelude.{◌≡◌, ℕ, ◌+◌, List, [], ◌∷◌, ◌++◌, map, length, take, drop, replicate, IsTrue, true, false, if◌then◌else◌}
+use Rattle.std.specs.Prelude.{◌≡◌, ℕ, ◌+◌, List, [], ◌∷◌, ◌++◌, map, length, take, drop, replicate, IsTrue, true, false, if◌then◌else◌, refl}
 use Rattle.cc_disk.specs.declared.cell.Cell.{Cell}
 
 -- a byte that a crash keeps
@@ -43,3 +43,17 @@ abbrev pub crashed : List Cell → List ℕ → List Cell
 crashed [] choice = []
 crashed (cell ∷ cells) [] = left cell 0 ∷ crashed cells []
 crashed (cell ∷ cells) (byte ∷ choice) = left cell byte ∷ crashed cells choice
+
+-- ---- worked rows, computed
+
+-- a new disk of four bytes, two bytes written at place 1, and a crash: the write's range has the choice's bytes
+pub a_write_and_a_crash : crashed (written (new_cells 4) 1 (7 ∷ 8 ∷ [])) (1 ∷ 2 ∷ 3 ∷ 4 ∷ []) ≡ settled 0 ∷ settled 2 ∷ settled 3 ∷ settled 0 ∷ []
+a_write_and_a_crash = refl
+
+-- with a sync before the crash they stay
+pub a_sync_and_a_crash : crashed (synced (written (new_cells 4) 1 (7 ∷ 8 ∷ []))) (1 ∷ 2 ∷ 3 ∷ 4 ∷ []) ≡ settled 0 ∷ settled 7 ∷ settled 8 ∷ settled 0 ∷ []
+a_sync_and_a_crash = refl
+
+-- past the end of the choice a crash leaves 0
+pub a_short_choice : crashed (written (new_cells 4) 1 (7 ∷ 8 ∷ [])) (1 ∷ 2 ∷ []) ≡ settled 0 ∷ settled 2 ∷ settled 0 ∷ settled 0 ∷ []
+a_short_choice = refl

@@ -5,6 +5,11 @@ use Rattle.std.specs.declared.alloc.Global.{Global}
 use Rattle.cc_disk.specs.declared.cell.Cell.{Cell}
 use Rattle.cc_disk.specs.Model.{bytes_of, IsImage}
 
+-- what contracts see of a disk in memory: its cells, and the states that it had before each write and each sync
+pub record DiskState : Type 0 where
+  pub cells : List Cell
+  pub past : List (List Cell)
+
 -- the states that a history names
 abbrev pub states_of : List (Vec Cell Global) → List (List Cell)
 states_of past = map (λ (state : Vec Cell Global). state.items) past

@@ -2,7 +2,7 @@
 ghost use Rattle.std.specs.Prelude.{◌≡◌, ◌+◌, ◌-◌, ◌^◌, ◌<◌, ◌≤◌, min, true, IsTrue, List, ℕ, [], ◌∷◌, ◌++◌, length, take, drop, map, IfOk, IsOk, OnOk, OnErr, is_ok, if◌then◌else◌};
 ghost use Rattle.cc_disk.specs.Images.{IsWritten, DiffersWithin, UnsettlesWithin, AddsNone, LeavesAlone, Elapses};
 ghost use Rattle.cc_disk.specs.Model.{bytes_of, IsImage, new_cells, written, synced, crashed};
-ghost use Rattle.cc_disk.specs.Past.{states_of, LeftSince, only_now_left, bytes_are_image};
+ghost use Rattle.cc_disk.specs.Past.{LeftSince, only_now_left, bytes_are_image};
 ghost use Rattle.std.proofs.Common.{inl};
 ghost use Rattle.std.proofs.lemmas.List.{length-map};
 
@@ -10,21 +10,32 @@ use crate::cell::Cell;
 use crate::disk::{Disk, DiskFault};
 use crate::history::History;
 use std::alloc::{AllocError, Global};
+use std::marker::Model;
 
 /// A disk in memory, for tests and for runs that need no file. It is honest, and none of its calls fails or takes memory
 /// but `new` and `crash`.
+///
+/// A clause sees its cells, and the states that it had before each write and each sync (`past`).
 #[derive(Drop)]
 pub struct MemoryDisk {
     cells: Vec<Cell>,
-    // The states before each call so far, for contracts alone.
+    // The states before each write and each sync, for contracts alone.
     past: History<Vec<Cell>>,
+}
+
+impl Model for MemoryDisk {
+    ghost use Rattle.cc_disk.specs.Past.{DiskState, states_of};
+
+    ghost Value = { DiskState };
+
+    ghost view = { λ disk. record { cells = disk.cells.items; past = states_of disk.past.items } };
 }
 
 impl MemoryDisk {
     /// A disk of `size` zeros, all settled. Its only fault is want of memory (40).
     pub fn new(alloc: Global, size: usize) -> Result<MemoryDisk, AllocError>
-        ensures cells { IfOk result (λ disk. disk.cells.items ≡ new_cells size) }
-        ensures past { IfOk result (λ disk. disk.past.items ≡ []) }
+        ensures cells { IfOk result (λ disk. disk.cells ≡ new_cells size) }
+        ensures past { IfOk result (λ disk. disk.past ≡ []) }
     {
         let zero = Cell {
             byte: 0,
@@ -39,8 +50,8 @@ impl MemoryDisk {
     /// The disk after a crash that leaves, at each unsettled place `i`, byte `i` of the choice, and 0 past the choice's
     /// end. All of it is settled. Its only fault is want of memory (40).
     pub fn crash(&self, alloc: Global, choice: &[u8]) -> Result<MemoryDisk, AllocError>
-        ensures cells { IfOk result (λ disk. disk.cells.items ≡ crashed self.now.cells.items choice.now) }
-        ensures past { IfOk result (λ disk. disk.past.items ≡ []) }
+        ensures cells { IfOk result (λ disk. disk.cells ≡ crashed self.now.cells choice.now) }
+        ensures past { IfOk result (λ disk. disk.past ≡ []) }
     {
         Ok(MemoryDisk {
             cells: crash_cells(alloc, &self.cells, choice)?,
@@ -105,28 +116,28 @@ fn settle_cells(cells: &mut [Cell])
 }
 
 impl Disk for MemoryDisk {
-    ghost size = { λ disk. length disk.cells.items };
+    ghost size = { λ disk. length disk.cells };
 
     ghost failures = { λ disk. 0 };
 
     ghost honest = { true };
 
-    ghost seen = { λ disk. bytes_of disk.cells.items };
+    ghost seen = { λ disk. bytes_of disk.cells };
 
-    ghost may_leave = { λ disk image. IsImage disk.cells.items image };
+    ghost may_leave = { λ disk image. IsImage disk.cells image };
 
-    ghost moment = { λ disk. length (states_of disk.past.items) };
+    ghost moment = { λ disk. length disk.past };
 
-    ghost left_since = { λ disk t image. LeftSince disk.cells.items (states_of disk.past.items) t image };
+    ghost left_since = { λ disk t image. LeftSince disk.cells disk.past t image };
 
     fn size(&self) -> usize {
         self.cells.len()
     }
 
     fn read_at(&mut self, place: usize, buffer: &mut [u8]) -> Result<(), DiskFault>
-        requires { place + length buffer.old ≤ length self.old.cells.items }
+        requires { place + length buffer.old ≤ length self.old.cells }
         ensures answer { IsOk result }
-        ensures read { buffer.new ≡ take (length buffer.old) (drop place (bytes_of self.old.cells.items)) }
+        ensures read { buffer.new ≡ take (length buffer.old) (drop place (bytes_of self.old.cells)) }
         ensures same { self.new ≡ self.old }
     {
         read_cells(&self.cells, place, buffer);
@@ -134,15 +145,15 @@ impl Disk for MemoryDisk {
     }
 
     fn write_at(&mut self, place: usize, bytes: &[u8]) -> Result<(), DiskFault>
-        requires { place + length bytes.now ≤ length self.old.cells.items }
+        requires { place + length bytes.now ≤ length self.old.cells }
         ensures answer { IsOk result }
-        ensures cells { self.new.cells.items ≡ written self.old.cells.items place bytes.now }
-        ensures size { length self.new.cells.items ≡ length self.old.cells.items }
-        ensures written { IsWritten (bytes_of self.old.cells.items) place bytes.now (bytes_of self.new.cells.items) }
-        ensures images { UnsettlesWithin place (length bytes.now) (IsImage self.old.cells.items) (IsImage self.new.cells.items) }
-        ensures time { Elapses (length (states_of self.old.past.items)) (length (states_of self.new.past.items))
-            (LeftSince self.old.cells.items (states_of self.old.past.items))
-            (LeftSince self.new.cells.items (states_of self.new.past.items)) (IsImage self.new.cells.items) }
+        ensures cells { self.new.cells ≡ written self.old.cells place bytes.now }
+        ensures size { length self.new.cells ≡ length self.old.cells }
+        ensures written { IsWritten (bytes_of self.old.cells) place bytes.now (bytes_of self.new.cells) }
+        ensures images { UnsettlesWithin place (length bytes.now) (IsImage self.old.cells) (IsImage self.new.cells) }
+        ensures time { Elapses (length self.old.past) (length self.new.past)
+            (LeftSince self.old.cells self.old.past)
+            (LeftSince self.new.cells self.new.past) (IsImage self.new.cells) }
     {
         self.past = self.past.and(&self.cells);
         write_cells(&mut self.cells, place, bytes);
@@ -151,14 +162,14 @@ impl Disk for MemoryDisk {
 
     fn sync(&mut self) -> Result<(), DiskFault>
         ensures answer { IsOk result }
-        ensures cells { self.new.cells.items ≡ synced self.old.cells.items }
-        ensures size { length self.new.cells.items ≡ length self.old.cells.items }
-        ensures settled { LeavesAlone (bytes_of self.old.cells.items) (IsImage self.new.cells.items) }
-        ensures seen { bytes_of self.new.cells.items ≡ bytes_of self.old.cells.items }
-        ensures images { AddsNone (IsImage self.old.cells.items) (IsImage self.new.cells.items) }
-        ensures time { Elapses (length (states_of self.old.past.items)) (length (states_of self.new.past.items))
-            (LeftSince self.old.cells.items (states_of self.old.past.items))
-            (LeftSince self.new.cells.items (states_of self.new.past.items)) (IsImage self.new.cells.items) }
+        ensures cells { self.new.cells ≡ synced self.old.cells }
+        ensures size { length self.new.cells ≡ length self.old.cells }
+        ensures settled { LeavesAlone (bytes_of self.old.cells) (IsImage self.new.cells) }
+        ensures seen { bytes_of self.new.cells ≡ bytes_of self.old.cells }
+        ensures images { AddsNone (IsImage self.old.cells) (IsImage self.new.cells) }
+        ensures time { Elapses (length self.old.past) (length self.new.past)
+            (LeftSince self.old.cells self.old.past)
+            (LeftSince self.new.cells self.new.past) (IsImage self.new.cells) }
     {
         self.past = self.past.and(&self.cells);
         settle_cells(&mut self.cells);
@@ -169,11 +180,11 @@ impl Disk for MemoryDisk {
         0
     }
 
-    ghost has_size = { λ disk h. length-map disk.cells.items (λ c. c.byte) };
+    ghost has_size = { λ disk h. length-map disk.cells (λ c. c.byte) };
 
-    ghost seen_is_image = { λ disk h. bytes_are_image disk.cells.items };
+    ghost seen_is_image = { λ disk h. bytes_are_image disk.cells };
 
     ghost counts_now = { λ disk t image h le now. inl now };
 
-    ghost only_now = { λ disk image h left. only_now_left disk.cells.items (states_of disk.past.items) image left };
+    ghost only_now = { λ disk image h left. only_now_left disk.cells disk.past image left };
 }

@@ -1,6 +1,6 @@
 -- The bytes of a journal: a header of 16 bytes, area A, and area B right behind it. In an area stand records, and behind
 -- the last a closed gate.
-use Rattle.std.specs.Prelude.{◌≡◌, ◌≢◌, ◌⊎◌, ℕ, ◌+◌, ◌*◌, ◌%◌, ◌^◌, ◌≤◌, List, [], ◌∷◌, ◌++◌, length}
+use Rattle.std.specs.Prelude.{◌≡◌, ◌≢◌, ◌⊎◌, ℕ, ◌+◌, ◌*◌, ◌%◌, ◌^◌, ◌≤◌, List, [], ◌∷◌, ◌++◌, length, replicate, refl}
 use Rattle.std.specs.Int.{w32, to_le_bytes}
 
 -- a gate that is open; every other value is closed
@@ -58,3 +58,23 @@ pub record HoldsAlone (image : List ℕ) (area : ℕ) (bodies : List (List ℕ))
 -- it holds these records alone, or these with one more alone
 abbrev pub HoldsOldOrNew : ℕ → List (List ℕ) → List ℕ → List ℕ → Type 0
 HoldsOldOrNew area bodies body image = HoldsAlone image area bodies ⊎ HoldsAlone image area (bodies ++ body ∷ [])
+
+-- ---- worked rows, computed
+
+-- an area of 64 bytes with one record, whose body is 01 03 01 61, in area A: bytes 0 to 25 of the disk
+pub one_record : header 0 64 ++ (records ((1 ∷ 3 ∷ 1 ∷ 0x61 ∷ []) ∷ []) ++ 0 ∷ [])
+    ≡ 0x00 ∷ 0x43 ∷ 0x43 ∷ 0x4c ∷ 0x49 ∷ 0x42 ∷ 0x30 ∷ 0x31 ∷ 0x40 ∷ 0x00 ∷ 0x00 ∷ 0x00 ∷ 0x00 ∷ 0x00 ∷ 0x00 ∷ 0x00
+    ∷ 0xa5 ∷ 0x04 ∷ 0x00 ∷ 0x00 ∷ 0x00 ∷ 0x01 ∷ 0x03 ∷ 0x01 ∷ 0x61 ∷ 0x00 ∷ []
+one_record = refl
+
+-- a body of 58 bytes fills an area of 64 bytes
+pub body_of_58 : room_of (replicate 58 7 ∷ []) ≡ 64
+body_of_58 = refl
+
+-- one of 59 bytes does not fit it
+pub body_of_59 : room_of (replicate 59 7 ∷ []) ≡ 65
+body_of_59 = refl
+
+-- and behind one of 58 bytes not even an empty one does
+pub bodies_of_58_and_0 : room_of (replicate 58 7 ∷ [] ∷ []) ≡ 69
+bodies_of_58_and_0 = refl

@@ -1,6 +1,6 @@
 // A disk of any size that keeps its first bytes alone. It is not honest: of what it reads nothing is promised.
 ghost use Rattle.std.specs.Prelude.{false, ◌≡◌, [], ⊤};
-ghost use Rattle.std.proofs.Common.{false≢true};
+ghost use Rattle.std.proofs.lemmas.Bool.{false≢true};
 
 use cc_disk::{Disk, DiskFault};
 

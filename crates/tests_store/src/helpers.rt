@@ -58,6 +58,15 @@ pub fn row_disk(alloc: Global, changes: &[(usize, u8)]) -> Result<MemoryDisk, Fa
     disk_of(alloc, &bytes)
 }
 
+/// The bytes from one place to another, or none.
+pub fn part(bytes: &[u8], from: usize, to: usize) -> &[u8] {
+    if from <= to && to <= bytes.len() {
+        &bytes[from..to]
+    } else {
+        &[]
+    }
+}
+
 /// Whether these are those bodies, in order.
 pub fn are_bodies(records: &[Body], wanted: &[&[u8]]) -> bool {
     if records.len() != wanted.len() {

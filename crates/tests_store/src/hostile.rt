@@ -1,5 +1,7 @@
 // Disks that nobody formatted so.
-use crate::helpers::{ROW, SIZE, are_bodies, bytes_of, disk_of, formatted, refusal, row_disk};
+use crate::helpers::{
+    ROW, SIZE, are_bodies, bytes_of, disk_of, formatted, part, refusal, row_disk,
+};
 use cc_disk::{Disk, FuseDisk, FuseMode, MemoryDisk};
 use cc_journal::Journal;
 use std::test::Fail;
@@ -38,7 +40,7 @@ fn a_wrong_header_is_no_library(rt: HostRuntime) -> Result<(), Fail> {
     let mut bytes = row_disk(alloc, &[])?;
     let all = bytes_of(alloc, &mut bytes)?;
     assert_eq!(rt; all.len(), SIZE);
-    assert_eq!(rt; refusal(alloc, disk_of(alloc, &all[..143])?), 38);
+    assert_eq!(rt; refusal(alloc, disk_of(alloc, part(&all, 0, 143))?), 38);
     Ok(())
 }
 
@@ -59,7 +61,7 @@ fn a_length_past_the_area_is_damage(rt: HostRuntime) -> Result<(), Fail> {
     };
     let records = journal.records();
     assert_eq!(rt; records.len(), 1);
-    assert_eq!(rt; records[0].as_slice().len(), 58);
+    assert!(rt; records.iter().all(|record| record.as_slice().len() == 58));
     // An open gate with too few bytes behind it for a length.
     assert_eq!(rt;
         refusal(alloc, row_disk(alloc, &[(17, 0x36), (75, 0xa5)])?),
@@ -102,13 +104,13 @@ fn each_value_of_the_area_byte(rt: HostRuntime) -> Result<(), Fail> {
         let mut disk = journal.into_disk();
         let bytes = bytes_of(alloc, &mut disk)?;
         assert_eq!(rt; bytes.len(), SIZE);
-        let record = if even { &bytes[25..31] } else { &bytes[80..86] };
+        let start = if even { 25 } else { 80 };
         assert_eq!(rt;
             record,
             [0xa5, 1, 0, 0, 0, 0x77].as_slice(),
             "area byte {area_byte}"
         );
-        assert_eq!(rt; bytes[0], area_byte);
+        assert_eq!(rt; bytes.first(), Some(&area_byte));
     }
     Ok(())
 }
@@ -155,7 +157,7 @@ fn a_row_is_what_a_fresh_disk_becomes(rt: HostRuntime) -> Result<(), Fail> {
     let mut fresh = formatted(alloc)?;
     let bytes = bytes_of(alloc, &mut fresh)?;
     assert_eq!(rt; bytes.len(), SIZE);
-    assert_eq!(rt; &bytes[..16], &ROW[..16]);
-    assert_eq!(rt; bytes[16], 0);
+    assert_eq!(rt; part(&bytes, 0, 16), part(&ROW, 0, 16));
+    assert_eq!(rt; part(&bytes, 16, 17), [0].as_slice());
     Ok(())
 }

@@ -1,6 +1,6 @@
 // The worked rows of the journal.
 use crate::first_bytes::FirstBytes;
-use crate::helpers::{AREA, ROW, SIZE, are_bodies, bytes_of, formatted};
+use crate::helpers::{AREA, ROW, SIZE, are_bodies, bytes_of, formatted, part};
 use cc_disk::{Disk, MemoryDisk};
 use cc_journal::{Body, Journal, JournalFault, format};
 use std::test::Fail;
@@ -16,7 +16,7 @@ fn format_and_append(rt: HostRuntime) -> Result<(), Fail> {
     let mut disk = journal.into_disk();
     let bytes = bytes_of(alloc, &mut disk)?;
     assert_eq!(rt; bytes.len(), SIZE);
-    assert_eq!(rt; &bytes[..26], ROW.as_slice());
+    assert_eq!(rt; part(&bytes, 0, 26), ROW.as_slice());
     Ok(())
 }
 
