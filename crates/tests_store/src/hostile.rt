@@ -106,7 +106,7 @@ fn each_value_of_the_area_byte(rt: HostRuntime) -> Result<(), Fail> {
         assert_eq!(rt; bytes.len(), SIZE);
         let start = if even { 25 } else { 80 };
         assert_eq!(rt;
-            record,
+            part(&bytes, start, start + 6),
             [0xa5, 1, 0, 0, 0, 0x77].as_slice(),
             "area byte {area_byte}"
         );
