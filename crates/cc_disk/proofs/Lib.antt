@@ -1,0 +1,3 @@
+mod Cells
+mod Moments
+mod Walk

@@ -1,0 +1,31 @@
+-- Which calls of a fuse disk reach its disk, and which fail.
+use Rattle.std.specs.Prelude.{ℕ, Bool, Option, Some, None, if◌then◌else◌}
+use Rattle.std.proofs.Common.{zero, suc}
+use Rattle.cc_disk.specs.declared.fuse.FuseMode.{FuseMode}
+use Rattle.cc_disk.specs.declared.fuse.FuseMode.TheVariants.{Once, Before, Within}
+use Rattle.cc_disk.specs.declared.fuse.Course.{Course}
+use Rattle.cc_disk.specs.declared.fuse.Course.TheVariants.{Passes, Fails, WritesAndFails}
+
+-- the call that meets the fuse: it fails, and in the mode Within a write reaches the disk first
+abbrev pub course_at_fuse : FuseMode → Bool → Course
+course_at_fuse Once write = Fails
+course_at_fuse Before write = Fails
+course_at_fuse Within write = if write then WritesAndFails else Fails
+
+-- a call behind it: only in the mode Once does it pass
+abbrev pub course_behind : FuseMode → Course
+course_behind Once = Passes
+course_behind Before = Fails
+course_behind Within = Fails
+
+-- what becomes of the next call, where so many calls pass before the fuse, or the fuse was met
+abbrev pub course_of : FuseMode → Option ℕ → Bool → Course
+course_of mode (Some zero) write = course_at_fuse mode write
+course_of mode (Some (suc n)) write = Passes
+course_of mode None write = course_behind mode
+
+-- how many calls pass before the fuse after one call more
+abbrev pub after_call : Option ℕ → Option ℕ
+after_call (Some zero) = None
+after_call (Some (suc n)) = Some n
+after_call None = None

@@ -1,0 +1,45 @@
+-- What any honest disk promises of its calls, by what a read gives and by what a crash may leave, its images.
+use Rattle.std.specs.Prelude.{◌≡◌, ◌⊎◌, ℕ, ◌+◌, ◌≤◌, List, ◌++◌, length, take, drop}
+
+-- new is old with these bytes from that place on
+abbrev pub IsWritten : List ℕ → ℕ → List ℕ → List ℕ → Type 0
+IsWritten old place bytes new = new ≡ take place old ++ (bytes ++ drop (place + length bytes) old)
+
+-- new is as long as old, and differs from it at most in the n bytes from that place on
+pub record DiffersWithin (place n : ℕ) (old new : List ℕ) : Type 0 where
+  pub before : take place new ≡ take place old
+  pub behind : drop (place + n) new ≡ drop (place + n) old
+  pub size : length new ≡ length old
+
+-- each image afterwards is an image from before, but for the n bytes from that place on
+abbrev pub UnsettlesWithin : ℕ → ℕ → (List ℕ → Type 0) → (List ℕ → Type 0) → Type 0
+UnsettlesWithin place n before after = (image : List ℕ) → after image → (old : List ℕ) × before old × DiffersWithin place n old image
+
+-- no image comes that was not there before
+abbrev pub AddsNone : (List ℕ → Type 0) → (List ℕ → Type 0) → Type 0
+AddsNone before after = (image : List ℕ) → after image → before image
+
+-- a crash leaves these bytes and nothing else
+abbrev pub LeavesAlone : List ℕ → (List ℕ → Type 0) → Type 0
+LeavesAlone bytes images = (image : List ℕ) → images image → image ≡ bytes
+
+-- Time goes on: what a crash since a moment may have left is what it may have left before, and what it may leave now.
+pub record Elapses (before now : ℕ) (past since : ℕ → List ℕ → Type 0) (may_leave : List ℕ → Type 0) : Type 0 where
+  pub later : before ≤ now
+  pub nothing_else : (t : ℕ) (image : List ℕ) → t ≤ before → since t image → past t image ⊎ may_leave image
+  pub keeps : (t : ℕ) (image : List ℕ) → t ≤ before → past t image → since t image
+
+-- A crash at any moment from old to new leaves an image that has P.
+pub record LeavesOnly {D : Type 0} (moment : D → ℕ) (left_since : D → ℕ → List ℕ → Type 0) (old new : D) (P : List ℕ → Type 0) : Type 0 where
+  pub later : moment old ≤ moment new
+  pub each : (image : List ℕ) → left_since new (moment old) image → P image
+  -- for a run that began earlier
+  pub before : (t : ℕ) (image : List ℕ) → t ≤ moment old → left_since new t image → left_since old t image ⊎ P image
+
+-- Between old and new the disk was read and synced at most: it gives the same bytes, and a crash at any moment leaves
+-- nothing that it could not have left before.
+pub record OnlyReads {D : Type 0} (seen : D → List ℕ) (may_leave : D → List ℕ → Type 0) (moment : D → ℕ) (left_since : D → ℕ → List ℕ → Type 0) (old new : D) : Type 0 where
+  pub same : seen new ≡ seen old
+  pub images : AddsNone (may_leave old) (may_leave new)
+  pub later : moment old ≤ moment new
+  pub moments : (t : ℕ) (image : List ℕ) → t ≤ moment old → left_since new t image → left_since old t image

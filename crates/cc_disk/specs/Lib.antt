@@ -1,0 +1,4 @@
+pub mod Model
+pub mod Images
+pub mod Past
+pub mod Fuse

@@ -1,0 +1,108 @@
+// What every disk is to those who use it: its calls, and the rules that an honest kind of disk keeps.
+ghost use Rattle.std.specs.Prelude.{◌≡◌, ◌+◌, ◌-◌, ◌^◌, ◌≤◌, min, Bool, IsTrue, List, ℕ, length, take, drop, OnOk, OnErr, is_ok, if◌then◌else◌};
+ghost use Rattle.cc_disk.specs.Images.{IsWritten, DiffersWithin, UnsettlesWithin, AddsNone, LeavesAlone, Elapses};
+
+use thiserror::Error;
+
+/// Why a call of a disk failed.
+#[derive(Clone, Copy, Debug, PartialEq, Eq, Error)]
+pub enum DiskFault {
+    /// The device failed (number 35).
+    #[error("the device failed")]
+    DeviceFailed,
+}
+
+impl DiskFault {
+    /// The fault's number, 35.
+    pub fn number(&self) -> u8
+        ensures { result ≡ 35 }
+    {
+        match self {
+            DiskFault::DeviceFailed => 35,
+        }
+    }
+}
+
+/// A fixed number of bytes that may lose power. Places and sizes are in bytes, places count from 0.
+///
+/// Each byte is settled or unsettled. A write sets its range and unsettles it; a sync that succeeds settles every
+/// byte. A crash leaves any byte at an unsettled place, and what a read gives at a settled one. In the middle of a write
+/// its range is unsettled; in the middle of a sync nothing has settled. A write that fails leaves any bytes,
+/// unsettled, in its range; a read or a sync that fails changes no byte and settles nothing.
+///
+/// These rules are the promise of an honest kind of disk, and the clauses below say them under `honest`. Of another kind
+/// only the size and the count of failures are known. An image is what a crash may leave.
+pub trait Disk {
+    /// How many bytes it has.
+    ghost size: { Self → ℕ };
+
+    /// How many of its calls failed, without an upper end.
+    ghost failures: { Self → ℕ };
+
+    /// Whether this kind of disk keeps the rules.
+    ghost honest: { Bool };
+
+    /// The bytes that a read gives.
+    ghost seen: { Self → List ℕ };
+
+    /// What a crash now may leave.
+    ghost may_leave: { Self → List ℕ → Type 0 };
+
+    /// The moment, as a number that does not fall.
+    ghost moment: { Self → ℕ };
+
+    /// What a crash at some moment from that one on may have left, during a call or between two.
+    ghost left_since: { Self → ℕ → List ℕ → Type 0 };
+
+    /// How many bytes the disk has.
+    fn size(&self) -> usize
+        ensures { result ≡ size self.now };
+
+    /// Fills the buffer with the bytes from `place` on. A failure (35) leaves any bytes in the buffer.
+    fn read_at(&mut self, place: usize, buffer: &mut [u8]) -> Result<(), DiskFault>
+        requires { place + length buffer.old ≤ size self.old }
+        ensures size { size self.new ≡ size self.old }
+        ensures failures { failures self.new ≡ (if is_ok result then failures self.old else failures self.old + 1) }
+        ensures read { OnOk result (IsTrue honest → buffer.new ≡ take (length buffer.old) (drop place (seen self.old))) }
+        ensures seen { IsTrue honest → seen self.new ≡ seen self.old }
+        ensures images { IsTrue honest → AddsNone (may_leave self.old) (may_leave self.new) }
+        ensures time { IsTrue honest
+            → Elapses (moment self.old) (moment self.new) (left_since self.old) (left_since self.new) (may_leave self.new) };
+
+    /// Writes the bytes from `place` on, unsettled. A failure (35) leaves any bytes, unsettled, in the range.
+    fn write_at(&mut self, place: usize, bytes: &[u8]) -> Result<(), DiskFault>
+        requires { place + length bytes.now ≤ size self.old }
+        ensures size { size self.new ≡ size self.old }
+        ensures failures { failures self.new ≡ (if is_ok result then failures self.old else failures self.old + 1) }
+        ensures written { OnOk result (IsTrue honest → IsWritten (seen self.old) place bytes.now (seen self.new)) }
+        ensures failed { OnErr result (IsTrue honest → DiffersWithin place (length bytes.now) (seen self.old) (seen self.new)) }
+        ensures images { IsTrue honest → UnsettlesWithin place (length bytes.now) (may_leave self.old) (may_leave self.new) }
+        ensures time { IsTrue honest
+            → Elapses (moment self.old) (moment self.new) (left_since self.old) (left_since self.new) (may_leave self.new) };
+
+    /// Settles every byte. A failure (35) settles nothing and changes no byte.
+    fn sync(&mut self) -> Result<(), DiskFault>
+        ensures size { size self.new ≡ size self.old }
+        ensures failures { failures self.new ≡ (if is_ok result then failures self.old else failures self.old + 1) }
+        ensures settled { OnOk result (IsTrue honest → LeavesAlone (seen self.old) (may_leave self.new)) }
+        ensures seen { IsTrue honest → seen self.new ≡ seen self.old }
+        ensures images { IsTrue honest → AddsNone (may_leave self.old) (may_leave self.new) }
+        ensures time { IsTrue honest
+            → Elapses (moment self.old) (moment self.new) (left_since self.old) (left_since self.new) (may_leave self.new) };
+
+    /// How many calls failed, and 2^64 - 1 where there were more.
+    fn failures(&self) -> u64
+        ensures { result ≡ min (failures self.now) (2 ^ 64 - 1) };
+
+    /// A read gives as many bytes as the disk has.
+    ghost has_size: { (disk : Self) → IsTrue honest → length (seen disk) ≡ size disk };
+
+    /// What a read gives is an image.
+    ghost seen_is_image: { (disk : Self) → IsTrue honest → may_leave disk (seen disk) };
+
+    /// This moment is one of those since an earlier one.
+    ghost counts_now: { (disk : Self) (t : ℕ) (image : List ℕ) → IsTrue honest → t ≤ moment disk → may_leave disk image → left_since disk t image };
+
+    /// Since this moment there is no other.
+    ghost only_now: { (disk : Self) (image : List ℕ) → IsTrue honest → left_since disk (moment disk) image → may_leave disk image };
+}

@@ -1,0 +1,32 @@
+// A history that only contracts read. It takes no memory, and its methods do nothing at run time.
+ghost use Rattle.std.specs.Prelude.{◌≡◌, List, [], ◌∷◌, ◌++◌};
+ghost use Rattle.std.specs.Borrow.{ftrue};
+
+use std::marker::{Model, PhantomData};
+
+/// What happened so far, the newest last. A clause reads it as `items`.
+#[derive(Drop)]
+pub struct History<T> {
+    of: PhantomData<T>,
+    pub ghost items: { List T },
+}
+
+impl<T> Model for History<T> {
+    ghost also_owns = { λ _. ftrue };
+}
+
+impl<T> History<T> {
+    /// Nothing has happened.
+    pub fn new() -> History<T>
+        ensures { result.items ≡ [] }
+    {
+        History { of: PhantomData }
+    }
+
+    /// The history with one thing more.
+    pub fn and(&self, newest: &T) -> History<T>
+        ensures { result.items ≡ self.now.items ++ newest.now ∷ [] }
+    {
+        History { of: PhantomData }
+    }
+}

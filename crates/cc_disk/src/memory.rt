@@ -1,0 +1,190 @@
+// The disk in memory: the model itself, call by call. It never fails.
+ghost use Rattle.std.specs.Prelude.{◌≡◌, ◌+◌, ◌-◌, ◌^◌, ◌<◌, ◌≤◌, min, true, IsTrue, List, ℕ, [], ◌∷◌, ◌++◌, length, take, drop, map, IfOk, IsOk, OnOk, OnErr, is_ok, if◌then◌else◌};
+ghost use Rattle.cc_disk.specs.Images.{IsWritten, DiffersWithin, UnsettlesWithin, AddsNone, LeavesAlone, Elapses};
+ghost use Rattle.cc_disk.specs.Model.{bytes_of, IsImage, new_cells, written, synced, crashed};
+ghost use Rattle.cc_disk.specs.Past.{LeftSince, only_now_left, bytes_are_image};
+ghost use Rattle.std.proofs.Common.{inl};
+ghost use Rattle.std.proofs.lemmas.List.{length-map};
+
+use crate::cell::Cell;
+use crate::disk::{Disk, DiskFault};
+use crate::history::History;
+use std::alloc::{AllocError, Global};
+use std::marker::Model;
+
+/// A disk in memory, for tests and for runs that need no file. It is honest, and none of its calls fails or takes memory
+/// but `new` and `crash`.
+///
+/// A clause sees its cells, and the states that it had before each write and each sync (`past`).
+#[derive(Drop)]
+pub struct MemoryDisk {
+    cells: Vec<Cell>,
+    // The states before each write and each sync, for contracts alone.
+    past: History<Vec<Cell>>,
+}
+
+impl Model for MemoryDisk {
+    ghost use Rattle.cc_disk.specs.Past.{DiskState, states_of};
+
+    ghost Value = { DiskState };
+
+    ghost view = { λ disk. record { cells = disk.cells.items; past = states_of disk.past.items } };
+}
+
+impl MemoryDisk {
+    /// A disk of `size` zeros, all settled. Its only fault is want of memory (40).
+    pub fn new(alloc: Global, size: usize) -> Result<MemoryDisk, AllocError>
+        ensures cells { IfOk result (λ disk. disk.cells ≡ new_cells size) }
+        ensures past { IfOk result (λ disk. disk.past ≡ []) }
+    {
+        let zero = Cell {
+            byte: 0,
+            settled: true,
+        };
+        Ok(MemoryDisk {
+            cells: vec![in alloc; zero; size]?,
+            past: History::new(),
+        })
+    }
+
+    /// The disk after a crash that leaves, at each unsettled place `i`, byte `i` of the choice, and 0 past the choice's
+    /// end. All of it is settled. Its only fault is want of memory (40).
+    pub fn crash(&self, alloc: Global, choice: &[u8]) -> Result<MemoryDisk, AllocError>
+        ensures cells { IfOk result (λ disk. disk.cells ≡ crashed self.now.cells choice.now) }
+        ensures past { IfOk result (λ disk. disk.past ≡ []) }
+    {
+        Ok(MemoryDisk {
+            cells: crash_cells(alloc, &self.cells, choice)?,
+            past: History::new(),
+        })
+    }
+}
+
+// The cells after a crash with this choice.
+fn crash_cells(alloc: Global, cells: &[Cell], choice: &[u8]) -> Result<Vec<Cell>, AllocError>
+    ensures { IfOk result (λ after. after.items ≡ crashed cells.now choice.now) }
+{
+    let mut after = Vec::with_capacity(alloc, cells.len())?;
+    let mut rest = choice;
+    for cell in cells {
+        let chosen = match rest {
+            [first, others @ ..] => {
+                rest = others;
+                *first
+            }
+            [] => 0,
+        };
+        let byte = if cell.settled { cell.byte } else { chosen };
+        after.push(Cell {
+            byte,
+            settled: true,
+        })?;
+    }
+    Ok(after)
+}
+
+// Copies the bytes from `place` on into the buffer.
+fn read_cells(cells: &[Cell], place: usize, buffer: &mut [u8])
+    requires { place + length buffer.old ≤ length cells.now }
+    ensures { buffer.new ≡ take (length buffer.old) (drop place (bytes_of cells.now)) }
+{
+    for i in 0..buffer.len() {
+        buffer[i] = cells[place + i].byte;
+    }
+}
+
+// Sets the cells from `place` on to the bytes, unsettled.
+fn write_cells(cells: &mut [Cell], place: usize, bytes: &[u8])
+    requires { place + length bytes.now ≤ length cells.old }
+    ensures { cells.new ≡ written cells.old place bytes.now }
+{
+    for i in 0..bytes.len() {
+        cells[place + i] = Cell {
+            byte: bytes[i],
+            settled: false,
+        };
+    }
+}
+
+// Settles every cell.
+fn settle_cells(cells: &mut [Cell])
+    ensures { cells.new ≡ synced cells.old }
+{
+    for cell in cells.iter_mut() {
+        cell.settled = true;
+    }
+}
+
+impl Disk for MemoryDisk {
+    ghost size = { λ disk. length disk.cells };
+
+    ghost failures = { λ disk. 0 };
+
+    ghost honest = { true };
+
+    ghost seen = { λ disk. bytes_of disk.cells };
+
+    ghost may_leave = { λ disk image. IsImage disk.cells image };
+
+    ghost moment = { λ disk. length disk.past };
+
+    ghost left_since = { λ disk t image. LeftSince disk.cells disk.past t image };
+
+    fn size(&self) -> usize {
+        self.cells.len()
+    }
+
+    fn read_at(&mut self, place: usize, buffer: &mut [u8]) -> Result<(), DiskFault>
+        requires { place + length buffer.old ≤ length self.old.cells }
+        ensures answer { IsOk result }
+        ensures read { buffer.new ≡ take (length buffer.old) (drop place (bytes_of self.old.cells)) }
+        ensures same { self.new ≡ self.old }
+    {
+        read_cells(&self.cells, place, buffer);
+        Ok(())
+    }
+
+    fn write_at(&mut self, place: usize, bytes: &[u8]) -> Result<(), DiskFault>
+        requires { place + length bytes.now ≤ length self.old.cells }
+        ensures answer { IsOk result }
+        ensures cells { self.new.cells ≡ written self.old.cells place bytes.now }
+        ensures size { length self.new.cells ≡ length self.old.cells }
+        ensures written { IsWritten (bytes_of self.old.cells) place bytes.now (bytes_of self.new.cells) }
+        ensures images { UnsettlesWithin place (length bytes.now) (IsImage self.old.cells) (IsImage self.new.cells) }
+        ensures time { Elapses (length self.old.past) (length self.new.past)
+            (LeftSince self.old.cells self.old.past)
+            (LeftSince self.new.cells self.new.past) (IsImage self.new.cells) }
+    {
+        self.past = self.past.and(&self.cells);
+        write_cells(&mut self.cells, place, bytes);
+        Ok(())
+    }
+
+    fn sync(&mut self) -> Result<(), DiskFault>
+        ensures answer { IsOk result }
+        ensures cells { self.new.cells ≡ synced self.old.cells }
+        ensures size { length self.new.cells ≡ length self.old.cells }
+        ensures settled { LeavesAlone (bytes_of self.old.cells) (IsImage self.new.cells) }
+        ensures seen { bytes_of self.new.cells ≡ bytes_of self.old.cells }
+        ensures images { AddsNone (IsImage self.old.cells) (IsImage self.new.cells) }
+        ensures time { Elapses (length self.old.past) (length self.new.past)
+            (LeftSince self.old.cells self.old.past)
+            (LeftSince self.new.cells self.new.past) (IsImage self.new.cells) }
+    {
+        self.past = self.past.and(&self.cells);
+        settle_cells(&mut self.cells);
+        Ok(())
+    }
+
+    fn failures(&self) -> u64 {
+        0
+    }
+
+    ghost has_size = { λ disk h. length-map disk.cells (λ c. c.byte) };
+
+    ghost seen_is_image = { λ disk h. bytes_are_image disk.cells };
+
+    ghost counts_now = { λ disk t image h le now. inl now };
+
+    ghost only_now = { λ disk image h left. only_now_left disk.cells disk.past image left };
+}

@@ -1,0 +1,130 @@
+-- What the images of a commit hold. How: a disk that holds records is a front, the closed gate, and the bytes behind it; a
+-- commit changes the bytes behind the gate, and then the gate alone.
+use Rattle.std.proofs.Common.{◌≡◌, ◌≢◌, inl, inr, ⊎_elim, ℕ, ◌+◌, ◌*◌, ◌%◌, ◌<◌, ◌≤◌, List, [], ◌∷◌, ◌++◌, length, get_or, take, drop, sym, ◌∙◌, ap, subst, arith, length-append, append_assoc, take-append-drop}
+use Rattle.std.proofs.lemmas.Bool.{cases_eq}
+use Rattle.std.proofs.lemmas.List.{take_at, drop_at, drop_more, length-take-le, length-drop}
+use Rattle.std.specs.Int.{w32, to_le_bytes}
+use Rattle.std.proofs.Math.Nat.{mul-le-mul_right}
+use Rattle.cc_disk.specs.Images.{IsWritten, DiffersWithin}
+use Rattle.cc_journal.specs.Format.{open_gate, header, record_bytes, records, IsArea, HoldsRecords, HoldsOldOrNew}
+use Rattle.cc_journal.specs.Reading.{HoldsFrom, IsMidCommit}
+use Rattle.cc_journal.proofs.Records.{length-header, length-four_bytes, records_push, length-records_push, holds_alone}
+
+-- the bytes that a commit puts behind a gate
+abbrev pub frame : List ℕ → List ℕ
+frame body = to_le_bytes w32 (length body) ++ (body ++ 0 ∷ [])
+
+pub length-frame : (body : List ℕ) → length (frame body) ≡ length body + 5
+length-frame body = omega (arith, length-append (to_le_bytes w32 (length body)) (body ++ 0 ∷ []), length-append body (0 ∷ []), length-four_bytes (length body))
+
+module _ (image : List ℕ) (start area used : ℕ) (bodies : List (List ℕ)) (from : HoldsFrom image start area bodies) (taken : used ≡ length (records bodies)) where
+  abbrev h : HoldsRecords image area bodies
+  h = from.holds
+
+  -- the bytes in front of the closed gate
+  abbrev front : List ℕ
+  front = header h.area_byte area ++ (h.other ++ records bodies)
+
+  length-front : length front ≡ start + used
+  length-front = omega (arith, length-append (header h.area_byte area) (h.other ++ records bodies), length-header h.area_byte area, length-append h.other (records bodies), from.begins, taken)
+
+  regroup : (tail : List ℕ) → front ++ tail ≡ header h.area_byte area ++ (h.other ++ (records bodies ++ tail))
+  regroup tail = append_assoc (header h.area_byte area) (h.other ++ records bodies) tail ∙ ap (λ (l : List ℕ). header h.area_byte area ++ l) (append_assoc h.other (records bodies) tail)
+
+  pub in_two : image ≡ front ++ h.gate ∷ h.behind
+  in_two = h.bytes ∙ sym (regroup (h.gate ∷ h.behind))
+
+  -- an image of that front and a closed gate holds the old records
+  pub holds_old : (other : List ℕ) (gate : ℕ) (behind : List ℕ) → length other ≡ length image → other ≡ front ++ gate ∷ behind → gate ≢ open_gate → HoldsRecords other area bodies
+  holds_old other gate behind long is closed = record {
+    area_byte = h.area_byte;
+    other = h.other;
+    gate = gate;
+    behind = behind;
+    bytes = is ∙ regroup (gate ∷ behind);
+    place = h.place;
+    closed = closed;
+    fits = h.fits;
+    is_area = subst (λ (n : ℕ). IsArea n area) (sym long) h.is_area;
+  }
+
+  -- with the new one behind it and its gate open it holds the new one too
+  pub holds_new : (other body behind : List ℕ) → length other ≡ length image → used + length body + 6 ≤ area → other ≡ front ++ open_gate ∷ (frame body ++ behind) → HoldsFrom other start area (bodies ++ body ∷ [])
+  holds_new other body behind long room is = record {
+    holds = record {
+      area_byte = h.area_byte;
+      other = h.other;
+      gate = 0;
+      behind = behind;
+      bytes = is ∙ regroup (open_gate ∷ (frame body ++ behind)) ∙ ap (λ (l : List ℕ). header h.area_byte area ++ (h.other ++ l)) pushed;
+      place = h.place;
+      closed = λ e. absurd (omega (arith, e));
+      fits = omega (arith, length-records_push bodies body, taken);
+      is_area = subst (λ (n : ℕ). IsArea n area) (sym long) h.is_area;
+    };
+    begins = from.begins;
+  }
+    where
+      pushed : records bodies ++ open_gate ∷ (frame body ++ behind) ≡ records (bodies ++ body ∷ []) ++ 0 ∷ behind
+      pushed = ap (λ (l : List ℕ). records bodies ++ open_gate ∷ l) (append_assoc (to_le_bytes w32 (length body)) (body ++ 0 ∷ []) behind ∙ ap (λ (l : List ℕ). to_le_bytes w32 (length body) ++ l) (append_assoc body (0 ∷ []) behind) ∙ sym (append_assoc (to_le_bytes w32 (length body)) body (0 ∷ behind)))
+          ∙ sym (append_assoc (records bodies) (record_bytes body) (0 ∷ behind)) ∙ ap (λ (l : List ℕ). l ++ 0 ∷ behind) (sym (records_push bodies body))
+
+  take-front : take (start + used) image ≡ front
+  take-front = ap (λ (l : List ℕ). take (start + used) l) in_two ∙ take_at front (h.gate ∷ h.behind) (start + used) length-front
+
+  front_gate : front ++ h.gate ∷ [] ≡ take (start + used + 1) image
+  front_gate = sym (ap (λ (l : List ℕ). take (start + used + 1) l) (in_two ∙ sym (append_assoc front (h.gate ∷ []) h.behind)) ∙ take_at (front ++ h.gate ∷ []) h.behind (start + used + 1) (omega (arith, length-append front (h.gate ∷ []), length-front)))
+
+  -- the body's write leaves the closed gate in front of whatever it leaves
+  pub behind_gate : (other : List ℕ) (n : ℕ) → DiffersWithin (start + used + 1) n image other → HoldsRecords other area bodies
+  behind_gate other n differs =
+      let is : other ≡ front ++ h.gate ∷ drop (start + used + 1) other =
+      sym (take-append-drop (start + used + 1) other) ∙ ap (λ (l : List ℕ). l ++ drop (start + used + 1) other) (differs.before ∙ sym front_gate) ∙ append_assoc front (h.gate ∷ []) (drop (start + used + 1) other) in
+      holds_old other h.gate (drop (start + used + 1) other) differs.size is h.closed
+
+  -- the gate's write leaves the old records, or the old ones and the new one
+  pub at_gate : (body written other : List ℕ) → used + length body + 6 ≤ area → IsWritten image (start + used + 1) (frame body) written → length written ≡ length image → DiffersWithin (start + used) 1 written other
+      → HoldsOldOrNew area bodies body other
+  at_gate body written other room is long differs =
+      let g = start + used in
+      let Z = drop (g + 1 + length (frame body)) image in
+      let staged : written ≡ front ++ h.gate ∷ (frame body ++ Z) = is ∙ ap (λ (l : List ℕ). l ++ (frame body ++ Z)) (sym front_gate) ∙ append_assoc front (h.gate ∷ []) (frame body ++ Z) in
+      let x = get_or other g 0 in
+      let before : take g other ≡ front = differs.before ∙ ap (λ (l : List ℕ). take g l) staged ∙ take_at front (h.gate ∷ (frame body ++ Z)) g length-front in
+      let rest : drop (g + 1) other ≡ frame body ++ Z =
+      differs.behind ∙ ap (λ (l : List ℕ). drop (g + 1) l) (staged ∙ sym (append_assoc front (h.gate ∷ []) (frame body ++ Z))) ∙ drop_at (front ++ h.gate ∷ []) (frame body ++ Z) (g + 1) (omega (arith, length-append front (h.gate ∷ []), length-front)) in
+      let within : g < length other = omega (arith, differs.size, ap length staged, length-append front (h.gate ∷ (frame body ++ Z)), length-front) in
+      let whole : other ≡ front ++ x ∷ (frame body ++ Z) =
+      sym (take-append-drop g other) ∙ ap (λ (l : List ℕ). l ++ drop g other) before ∙ ap (λ (l : List ℕ). front ++ l) (drop_more other g 0 within ∙ ap (λ (l : List ℕ). x ∷ l) rest) in
+      ⊎_elim
+      (λ is_open. inr (holds_alone other area (bodies ++ body ∷ []) (holds_new other body Z (differs.size ∙ long) room (whole ∙ ap (λ (k : ℕ). front ++ k ∷ (frame body ++ Z)) is_open)).holds))
+      (λ shut. inl (holds_alone other area bodies (holds_old other x (frame body ++ Z) (differs.size ∙ long) whole shut)))
+      (cases_eq x open_gate)
+
+  -- a write within the image keeps its length
+  pub length-written : (place : ℕ) (bytes written : List ℕ) → place + length bytes ≤ length image → IsWritten image place bytes written → length written ≡ length image
+  length-written place bytes written fits is =
+      ap length is ∙ length-append (take place image) (bytes ++ drop (place + length bytes) image)
+      ∙ omega (arith, fits, length-append bytes (drop (place + length bytes) image), length-take-le place image (omega (arith, fits)), length-drop (place + length bytes) image)
+
+  in_area : (n : ℕ) → used + n ≤ area → start + used + n ≤ length image
+  in_area n room = omega (arith, room, from.begins, h.is_area.room, start_most)
+    where
+      start_most : length h.other ≤ area
+      start_most = at_most h.area_byte (length h.other) h.place
+        where
+          at_most : (b n : ℕ) → n ≡ b % 2 * area → n ≤ area
+          at_most b n is = omega (arith, is, mul-le-mul_right {m = b % 2} {n = 1} area (omega arith))
+
+  pub mid_commit : (body other : List ℕ) → used + length body + 6 ≤ area → IsMidCommit image (start + used) (frame body) other → HoldsOldOrNew area bodies body other
+  mid_commit body other room (inl differs) = inl (holds_alone other area bodies (behind_gate other (length (frame body)) differs))
+  mid_commit body other room (inr (written, is, differs)) =
+      at_gate body written other room is (length-written (start + used + 1) (frame body) written (omega (arith, in_area (1 + length (frame body)) (omega (arith, room, length-frame body)))) is) differs
+
+  -- a commit that was done
+  pub committed : (body written : List ℕ) → used + length body + 6 ≤ area → IsWritten image (start + used) (open_gate ∷ frame body) written → HoldsFrom written start area (bodies ++ body ∷ [])
+  committed body written room is =
+      let Z = drop (start + used + length (open_gate ∷ frame body)) image in
+      holds_new written body Z
+      (length-written (start + used) (open_gate ∷ frame body) written (omega (arith, in_area (1 + length (frame body)) (omega (arith, room, length-frame body)))) is)
+      room (is ∙ ap (λ (l : List ℕ). l ++ open_gate ∷ (frame body ++ Z)) take-front)

@@ -1,0 +1,7 @@
+mod Records
+mod Moments
+mod Images
+mod Steps
+mod Bytes
+mod Scan
+mod Kept

@@ -1,0 +1,66 @@
+-- Which answer a call of the journal gives, and when. The failures are those that the disk has counted before the call
+-- and behind it.
+use Rattle.std.specs.Prelude.{◌≡◌, ℕ, ◌+◌, ◌<◌, ◌≤◌, Bool, true, false, IsTrue, List, ◌∷◌, ◌++◌, [], Result, Ok, Err}
+use Rattle.cc_journal.specs.declared.fault.JournalFault.{JournalFault}
+use Rattle.cc_journal.specs.declared.fault.JournalFault.TheVariants.{Full, DiskFault, Closed, Damaged, NotALibrary, OutOfMemory}
+use Rattle.cc_journal.specs.Format.{IsArea, HasHeader, HoldsRecords, room_of}
+
+-- the numbers of the faults
+abbrev pub number_of : JournalFault → ℕ
+number_of Full = 34
+number_of DiskFault = 35
+number_of Closed = 36
+number_of Damaged = 37
+number_of NotALibrary = 38
+number_of OutOfMemory = 40
+
+-- `format`: 34 exactly where there is no such area on a disk of that size, 35 exactly where the device failed
+abbrev pub FormatAnswers : {T : Type 0} → (size area before after : ℕ) → Result T JournalFault → Type 0
+FormatAnswers size area before after (Ok done) = IsArea size area × (after ≡ before)
+FormatAnswers size area before after (Err Full) = (IsArea size area → ⊥) × (after ≡ before)
+FormatAnswers size area before after (Err DiskFault) = IsArea size area × (after ≡ before + 1)
+FormatAnswers size area before after (Err Closed) = ⊥
+FormatAnswers size area before after (Err Damaged) = ⊥
+FormatAnswers size area before after (Err NotALibrary) = ⊥
+FormatAnswers size area before after (Err OutOfMemory) = ⊥
+
+-- `append`: 36 exactly where the journal was closed, then 34 exactly where the record does not fit, then 35 exactly where
+-- the device failed
+abbrev pub AppendAnswers : {T : Type 0} → (closed : Bool) (area : ℕ) (bodies : List (List ℕ)) (body : List ℕ) (before after : ℕ) → Result T JournalFault → Type 0
+AppendAnswers closed area bodies body before after (Ok done) = (closed ≡ false) × (room_of (bodies ++ body ∷ []) ≤ area) × (after ≡ before)
+AppendAnswers closed area bodies body before after (Err Closed) = (closed ≡ true) × (after ≡ before)
+AppendAnswers closed area bodies body before after (Err Full) = (closed ≡ false) × (area < room_of (bodies ++ body ∷ [])) × (after ≡ before)
+AppendAnswers closed area bodies body before after (Err DiskFault) = (closed ≡ false) × (room_of (bodies ++ body ∷ []) ≤ area) × (after ≡ before + 1)
+AppendAnswers closed area bodies body before after (Err OutOfMemory) = (closed ≡ false) × (room_of (bodies ++ body ∷ []) ≤ area) × (after ≡ before)
+AppendAnswers closed area bodies body before after (Err Damaged) = ⊥
+AppendAnswers closed area bodies body before after (Err NotALibrary) = ⊥
+
+-- `open`: 35 exactly where the device failed; of an honest disk with these bytes 38 only where there is no right header,
+-- 37 only where there is one and no records
+abbrev pub OpenFaults : (honest : Bool) (seen : List ℕ) (before after : ℕ) → JournalFault → Type 0
+OpenFaults honest seen before after DiskFault = after ≡ before + 1
+OpenFaults honest seen before after NotALibrary = (after ≡ before) × (IsTrue honest → (area : ℕ) → HasHeader seen area → ⊥)
+OpenFaults honest seen before after Damaged =
+    (after ≡ before) × (IsTrue honest → ((area : ℕ) × HasHeader seen area) × ((area : ℕ) (bodies : List (List ℕ)) → HoldsRecords seen area bodies → ⊥))
+OpenFaults honest seen before after OutOfMemory = after ≡ before
+OpenFaults honest seen before after Full = ⊥
+OpenFaults honest seen before after Closed = ⊥
+
+-- the faults that reading records has
+abbrev pub IsReadingFault : JournalFault → Type 0
+IsReadingFault DiskFault = Unit {0}
+IsReadingFault Damaged = Unit {0}
+IsReadingFault OutOfMemory = Unit {0}
+IsReadingFault Full = ⊥
+IsReadingFault Closed = ⊥
+IsReadingFault NotALibrary = ⊥
+
+-- whether the answer is that the device failed
+abbrev pub is_fault_of_disk : {T : Type 0} → Result T JournalFault → Bool
+is_fault_of_disk (Ok x) = false
+is_fault_of_disk (Err DiskFault) = true
+is_fault_of_disk (Err Full) = false
+is_fault_of_disk (Err Closed) = false
+is_fault_of_disk (Err Damaged) = false
+is_fault_of_disk (Err NotALibrary) = false
+is_fault_of_disk (Err OutOfMemory) = false

@@ -1,0 +1,80 @@
+-- The bytes of a journal: a header of 16 bytes, area A, and area B right behind it. In an area stand records, and behind
+-- the last a closed gate.
+use Rattle.std.specs.Prelude.{◌≡◌, ◌≢◌, ◌⊎◌, ℕ, ◌+◌, ◌*◌, ◌%◌, ◌^◌, ◌≤◌, List, [], ◌∷◌, ◌++◌, length, replicate, refl}
+use Rattle.std.specs.Int.{w32, to_le_bytes}
+
+-- a gate that is open; every other value is closed
+abbrev pub open_gate : ℕ
+open_gate = 0xa5
+
+-- the header: the area byte, `CCLIB01`, the size of an area as four bytes, the lowest first, and four zeros
+abbrev pub header : ℕ → ℕ → List ℕ
+header area_byte area = area_byte ∷ 0x43 ∷ 0x43 ∷ 0x4c ∷ 0x49 ∷ 0x42 ∷ 0x30 ∷ 0x31 ∷ (to_le_bytes w32 area ++ (0 ∷ 0 ∷ 0 ∷ 0 ∷ []))
+
+-- a record: an open gate, the length of its body as four bytes, the lowest first, and the body
+abbrev pub record_bytes : List ℕ → List ℕ
+record_bytes body = open_gate ∷ (to_le_bytes w32 (length body) ++ body)
+
+-- records, one behind the other
+abbrev pub records : List (List ℕ) → List ℕ
+records [] = []
+records (body ∷ bodies) = record_bytes body ++ records bodies
+
+-- how many bytes of an area these records and their one closed gate take
+abbrev pub room_of : List (List ℕ) → ℕ
+room_of bodies = length (records bodies) + 1
+
+-- a disk of that many bytes has room for two areas of that size, which is within its limits
+pub record IsArea (size area : ℕ) : Type 0 where
+  pub least : 64 ≤ area
+  pub most : area ≤ 2 ^ 30
+  pub room : 16 + 2 * area ≤ size
+
+-- the image begins with a right header of an area of that size
+pub record HasHeader (image : List ℕ) (area : ℕ) : Type 0 where
+  pub area_byte : ℕ
+  pub rest : List ℕ
+  pub bytes : image ≡ header area_byte area ++ rest
+  pub is_area : IsArea (length image) area
+
+-- The image has a right header, and in the area that the area byte names (A where it is even, B where it is odd) stand
+-- these records and then a closed gate, within the area.
+pub record HoldsRecords (image : List ℕ) (area : ℕ) (bodies : List (List ℕ)) : Type 0 where
+  pub area_byte : ℕ
+  pub other : List ℕ
+  pub gate : ℕ
+  pub behind : List ℕ
+  pub bytes : image ≡ header area_byte area ++ (other ++ (records bodies ++ gate ∷ behind))
+  pub place : length other ≡ area_byte % 2 * area
+  pub closed : gate ≢ open_gate
+  pub fits : room_of bodies ≤ area
+  pub is_area : IsArea (length image) area
+
+-- it holds these records in areas of that size, and no others
+pub record HoldsAlone (image : List ℕ) (area : ℕ) (bodies : List (List ℕ)) : Type 0 where
+  pub holds : HoldsRecords image area bodies
+  pub alone : (size : ℕ) (others : List (List ℕ)) → HoldsRecords image size others → (size ≡ area) × (others ≡ bodies)
+
+-- it holds these records alone, or these with one more alone
+abbrev pub HoldsOldOrNew : ℕ → List (List ℕ) → List ℕ → List ℕ → Type 0
+HoldsOldOrNew area bodies body image = HoldsAlone image area bodies ⊎ HoldsAlone image area (bodies ++ body ∷ [])
+
+-- ---- worked rows, computed
+
+-- an area of 64 bytes with one record, whose body is 01 03 01 61, in area A: bytes 0 to 25 of the disk
+pub one_record : header 0 64 ++ (records ((1 ∷ 3 ∷ 1 ∷ 0x61 ∷ []) ∷ []) ++ 0 ∷ [])
+    ≡ 0x00 ∷ 0x43 ∷ 0x43 ∷ 0x4c ∷ 0x49 ∷ 0x42 ∷ 0x30 ∷ 0x31 ∷ 0x40 ∷ 0x00 ∷ 0x00 ∷ 0x00 ∷ 0x00 ∷ 0x00 ∷ 0x00 ∷ 0x00
+    ∷ 0xa5 ∷ 0x04 ∷ 0x00 ∷ 0x00 ∷ 0x00 ∷ 0x01 ∷ 0x03 ∷ 0x01 ∷ 0x61 ∷ 0x00 ∷ []
+one_record = refl
+
+-- a body of 58 bytes fills an area of 64 bytes
+pub body_of_58 : room_of (replicate 58 7 ∷ []) ≡ 64
+body_of_58 = refl
+
+-- one of 59 bytes does not fit it
+pub body_of_59 : room_of (replicate 59 7 ∷ []) ≡ 65
+body_of_59 = refl
+
+-- and behind one of 58 bytes not even an empty one does
+pub bodies_of_58_and_0 : room_of (replicate 58 7 ∷ [] ∷ []) ≡ 69
+bodies_of_58_and_0 = refl

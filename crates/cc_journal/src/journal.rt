@@ -1,0 +1,176 @@
+// The journal and its calls.
+ghost use Rattle.std.specs.Prelude.{◌≡◌, ◌≢◌, ◌⊎◌, ◌+◌, ◌*◌, ◌^◌, ◌<◌, ◌≤◌, ◌++◌, [], ◌∷◌, List, ℕ, true, false, IsTrue, length, IfOk, IfErr, MatchResult, OnOk, OnErr, IsErrOf, vec_len, vec_capacity};
+ghost use Rattle.std.specs.Int.{w32, to_le_bytes};
+ghost use Rattle.cc_disk.specs.Images.{LeavesAlone, LeavesOnly, OnlyReads};
+ghost use Rattle.cc_journal.specs.Format.{HoldsAlone, HoldsOldOrNew, HoldsRecords, IsArea, room_of};
+ghost use Rattle.cc_journal.specs.Answers.{AppendAnswers, OpenFaults};
+
+use crate::body::Body;
+use crate::commit::{commit, frame};
+use crate::fault::JournalFault;
+use crate::reading::{Found, find_records};
+use cc_disk::Disk;
+use std::alloc::{AllocError, Global};
+use std::marker::Model;
+
+/// Records on a disk, each of which is kept through a power cut once its `append` has answered Ok.
+///
+/// A clause sees the disk, the size of an area in bytes, the records (`bodies`, the oldest first), and whether the
+/// journal is closed. While it is not closed, every image of an honest disk has these records alone.
+#[derive(Drop)]
+pub struct Journal<D: Disk> {
+    disk: D,
+    bodies: Vec<Body>,
+    // Where the area in use begins, its size, and how many of its bytes the records take.
+    start: usize,
+    area: usize,
+    used: usize,
+    closed: bool,
+}
+
+impl<D: Disk> Model for Journal<D> {
+    ghost use Rattle.cc_journal.specs.Reading.{View, IsKept};
+
+    ghost Value = { View D };
+
+    ghost view = { λ j. record { disk = j.disk; area = j.area; bodies = j.bodies.items; closed = j.closed } };
+
+    ghost invariant = { λ j. IsKept D.honest (D.size j.disk) (D.seen j.disk) (D.may_leave j.disk) j.start j.area j.used j.bodies.items j.closed };
+}
+
+impl<D: Disk> Journal<D> {
+    /// Opens the journal on a disk: syncs it, then reads its records.
+    ///
+    /// Refusals, in this order, with the disk handed back: 35 where the device failed in the call, 38 where there is no
+    /// right header, 37 where an open record does not fit its area. 40 where memory ran out.
+    pub fn open(alloc: Global, mut disk: D) -> Result<Journal<D>, (JournalFault, D)>
+        // What was found, of an honest disk, and every image then has it alone.
+        ensures records { IfOk result (λ j. IsTrue D.honest → HoldsRecords (D.seen disk) j.area j.bodies) }
+        ensures kept { IfOk result (λ j. IsTrue D.honest → (image : List ℕ) → D.may_leave j.disk image → HoldsAlone image j.area j.bodies) }
+        ensures open { IfOk result (λ j. j.closed ≡ false) }
+
+        // Of every kind of disk: there is room for the areas and for the records, and a small disk is no library.
+        ensures room { IfOk result (λ j. IsArea (D.size disk) j.area × (room_of j.bodies ≤ j.area)) }
+        ensures small { D.size disk < 144 → IfErr result (λ e. (e.0 ≡ JournalFault.DiskFault) ⊎ (e.0 ≡ JournalFault.NotALibrary)) }
+
+        // When each refusal comes.
+        ensures sound { IfOk result (λ j. D.failures j.disk ≡ D.failures disk) }
+        ensures faults { IfErr result (λ e. OpenFaults D.honest (D.seen disk) (D.failures disk) (D.failures e.1) e.0) }
+
+        // The disk has the same size and the same bytes, and no crash leaves anything new.
+        ensures size { MatchResult result (λ j. D.size j.disk ≡ D.size disk) (λ e. D.size e.1 ≡ D.size disk) }
+        ensures reads { MatchResult result
+            (λ j. IsTrue D.honest → OnlyReads D.seen D.may_leave D.moment D.left_since disk j.disk)
+            (λ e. IsTrue D.honest → OnlyReads D.seen D.may_leave D.moment D.left_since disk e.1) }
+    {
+        match find_records(alloc, &mut disk) {
+            Ok(found) => {
+                let Found {
+                    bodies,
+                    start,
+                    area,
+                    used,
+                } = found;
+                Ok(Journal {
+                    disk,
+                    bodies,
+                    start,
+                    area,
+                    used,
+                    closed: false,
+                })
+            }
+            Err(fault) => Err((fault, disk)),
+        }
+    }
+
+    /// The records, the oldest first. It takes no memory.
+    pub fn records(&self) -> &[Body]
+        ensures records { result.now ≡ self.now.bodies }
+        ensures kept { IsTrue D.honest → self.now.closed ≡ false
+            → (image : List ℕ) → D.may_leave self.now.disk image → HoldsAlone image self.now.area self.now.bodies }
+    {
+        &self.bodies
+    }
+
+    /// Adds a record with this body. At Ok it is kept: every crash from then on leaves it.
+    ///
+    /// Refusals, in this order: 36 where the journal is closed; 34 where the record does not fit, 5 bytes and its body
+    /// beside the records and the closed gate; then 40 where memory ran out, and up to here no device call is made and
+    /// nothing changes; 35 where the device failed in the call, after which the journal is closed, and its disk has the
+    /// old records or the old and the new one.
+    pub fn append(&mut self, alloc: Global, body: &[u8]) -> Result<(), JournalFault>
+        ensures answers { AppendAnswers self.old.closed self.old.area self.old.bodies body.now (D.failures self.old.disk) (D.failures self.new.disk) result }
+        ensures size { D.size self.new.disk ≡ D.size self.old.disk }
+        ensures area { self.new.area ≡ self.old.area }
+
+        // At Ok the record stands behind the old ones, and every image has them alone.
+        ensures added { OnOk result (self.new.bodies ≡ self.old.bodies ++ body.now ∷ []) }
+        ensures open { OnOk result (self.new.closed ≡ false) }
+        ensures kept { OnOk result (IsTrue D.honest
+            → (image : List ℕ) → D.may_leave self.new.disk image → HoldsAlone image self.new.area self.new.bodies) }
+
+        // A refusal leaves the records; without a device call it leaves all, after 35 the journal is closed.
+        ensures refused { OnErr result (self.new.bodies ≡ self.old.bodies) }
+        ensures untouched { IfErr result (λ e. e ≢ JournalFault.DiskFault → self.new ≡ self.old) }
+        ensures closes { IsErrOf result JournalFault.DiskFault → self.new.closed ≡ true }
+
+        // A crash at any moment of the call leaves the old records, or the old and the new one.
+        ensures moments { IsTrue D.honest → self.old.closed ≡ false
+            → LeavesOnly D.moment D.left_since self.old.disk self.new.disk (HoldsOldOrNew self.old.area self.old.bodies body.now) }
+    {
+        if self.closed {
+            return Err(JournalFault::Closed);
+        }
+        if self.area - self.used < body.len() + 6 {
+            return Err(JournalFault::Full);
+        }
+        // All growths come before the first device call.
+        let (kept, behind) = prepare(alloc, &mut self.bodies, body)?;
+        match commit(&mut self.disk, self.start + self.used, &behind) {
+            Ok(()) => {
+                self.used += body.len() + 5;
+                self.bodies.push(kept).unwrap();
+                Ok(())
+            }
+            Err(_) => {
+                self.closed = true;
+                Err(JournalFault::DiskFault)
+            }
+        }
+    }
+
+    /// The disk, as the calls so far left it. It takes no memory.
+    pub fn into_disk(self) -> D
+        ensures { result ≡ self.disk }
+    {
+        let Journal {
+            disk,
+            bodies: _,
+            start: _,
+            area: _,
+            used: _,
+            closed: _,
+        } = self;
+        disk
+    }
+}
+
+// What an `append` takes of memory: the record to keep, the bytes behind its gate, and room for it.
+fn prepare(
+    alloc: Global,
+    bodies: &mut Vec<Body>,
+    body: &[u8],
+) -> Result<(Body, Vec<u8>), AllocError>
+    requires { length body.now < 2 ^ 32 }
+    ensures kept { IfOk result (λ made. made.0 ≡ body.now) }
+    ensures behind { IfOk result (λ made. made.1.items ≡ to_le_bytes w32 (length body.now) ++ (body.now ++ 0 ∷ [])) }
+    ensures room { OnOk result (vec_len bodies.new + 1 ≤ vec_capacity bodies.new) }
+    ensures same { bodies.new.items ≡ bodies.old.items }
+    ensures len { vec_len bodies.new ≡ vec_len bodies.old }
+{
+    let kept = Vec::from_slice(alloc, body)?;
+    let behind = frame(alloc, body)?;
+    bodies.reserve(1)?;
+    Ok((Body::new(kept), behind))
+}

@@ -1,0 +1,187 @@
+// Reading a journal from a disk of which nothing is known.
+ghost use Rattle.std.specs.Prelude.{IfSome, IsNone, IsErrOf, ◌↔◌, ◌≡◌, ◌≢◌, ◌⊎◌, ◌+◌, ◌*◌, ◌^◌, ◌<◌, ◌≤◌, ◌++◌, [], ◌∷◌, List, ℕ, false, IsTrue, length, take, drop, IfOk, IfErr, MatchResult, OnOk, OnErr, is_ok, if◌then◌else◌};
+ghost use Rattle.std.specs.Int.{w32, to_le_bytes, from_le_bytes};
+ghost use Rattle.cc_disk.specs.Images.{LeavesAlone, OnlyReads};
+ghost use Rattle.cc_journal.specs.Format.{header, records, room_of, HasHeader, IsArea};
+ghost use Rattle.cc_journal.specs.Reading.{IsKept, BeginsWith, EndsClosed, FindsRecord};
+ghost use Rattle.cc_journal.specs.Answers.{OpenFaults, IsReadingFault, is_fault_of_disk};
+
+use crate::body::Body;
+use crate::commit::OPEN;
+use crate::fault::JournalFault;
+use cc_disk::{Disk, DiskFault};
+use std::alloc::Global;
+
+/// The least and the largest size of an area, in bytes.
+pub const LEAST_AREA: usize = 64;
+
+pub const LARGEST_AREA: usize = 1 << 30;
+
+/// The bytes of a header in front of the two areas.
+pub const HEADER: usize = 16;
+
+/// The records that a disk holds, and where.
+#[derive(Drop)]
+pub struct Found {
+    pub bodies: Vec<Body>,
+    // Where the area begins, its size, and how many of its bytes the records take.
+    pub start: usize,
+    pub area: usize,
+    pub used: usize,
+}
+
+/// Settles the disk and reads its records.
+pub fn find_records<D: Disk>(alloc: Global, disk: &mut D) -> Result<Found, JournalFault>
+    ensures size { D.size disk.new ≡ D.size disk.old }
+    ensures reads { IsTrue D.honest → OnlyReads D.seen D.may_leave D.moment D.left_since disk.old disk.new }
+    ensures kept { IfOk result (λ f. IsKept D.honest (D.size disk.new) (D.seen disk.new) (D.may_leave disk.new) f.start f.area f.used f.bodies.items false) }
+    ensures small { D.size disk.old < 144 → IfErr result (λ fault. (fault ≡ JournalFault.DiskFault) ⊎ (fault ≡ JournalFault.NotALibrary)) }
+    ensures sound { OnOk result (D.failures disk.new ≡ D.failures disk.old) }
+    ensures faults { IfErr result (λ fault. OpenFaults D.honest (D.seen disk.old) (D.failures disk.old) (D.failures disk.new) fault) }
+{
+    // What earlier calls left unsettled is settled first, so that a crash leaves the records that are read.
+    disk.sync()?;
+    let Some((start, area)) = read_header(disk)? else {
+        return Err(JournalFault::NotALibrary);
+    };
+    let (bodies, used) = read_records(alloc, disk, start, area)?;
+    Ok(Found {
+        bodies,
+        start,
+        area,
+        used,
+    })
+}
+
+// Where the area in use begins and the size of an area, if there is a right header.
+fn read_header<D: Disk>(disk: &mut D) -> Result<Option<(usize, usize)>, DiskFault>
+    ensures size { D.size disk.new ≡ D.size disk.old }
+    ensures failures { D.failures disk.new ≡ (if is_ok result then D.failures disk.old else D.failures disk.old + 1) }
+    ensures reads { IsTrue D.honest → OnlyReads D.seen D.may_leave D.moment D.left_since disk.old disk.new }
+    ensures right { IfOk result (λ found. IfSome found (λ at. IsArea (D.size disk.old) at.1 × (at.0 ≤ 16 + at.1)
+        × (IsTrue D.honest → BeginsWith (D.seen disk.old) at.0 at.1))) }
+    ensures wrong { IfOk result (λ found. IsNone found → IsTrue D.honest → (area : ℕ) → HasHeader (D.seen disk.old) area → ⊥) }
+{
+    let size = disk.size();
+    if size < HEADER {
+        return Ok(None);
+    }
+    let mut bytes = [0u8; 16];
+    // The header alone says where the records are.
+    disk.read_at(0, &mut bytes)?;
+    Ok(parse_header(&bytes, size))
+}
+
+// The header of an empty or a full journal: area byte, name, area size, zeros.
+pub fn header_bytes(area_byte: u8, area: u32) -> [u8; 16]
+    ensures { result ≡ header area_byte area }
+{
+    let [a, b, c, d] = area.to_le_bytes();
+    [
+        area_byte, b'C', b'C', b'L', b'I', b'B', b'0', b'1', a, b, c, d, 0, 0, 0, 0,
+    ]
+}
+
+// Whether a disk of that many bytes has room for two areas of that size, which is within its limits.
+pub fn is_area(size: usize, area: usize) -> bool
+    ensures { IsTrue result ↔ IsArea size area }
+{
+    LEAST_AREA <= area && area <= LARGEST_AREA && HEADER + 2 * area <= size
+}
+
+// The same as `read_header`, of the first 16 bytes of a disk of that size.
+fn parse_header(bytes: &[u8; 16], size: usize) -> Option<(usize, usize)>
+    ensures right { IfSome result (λ at. IsArea size at.1 × (at.0 ≤ 16 + at.1) × BeginsWith bytes.now at.0 at.1) }
+    ensures wrong { IsNone result → (area_byte area : ℕ) → bytes.now ≡ header area_byte area → IsArea size area → ⊥ }
+{
+    let area_byte = bytes[0];
+    let area = u32::from_le_bytes([bytes[8], bytes[9], bytes[10], bytes[11]]);
+    let wanted = header_bytes(area_byte, area);
+    if bytes.as_slice() != wanted.as_slice() {
+        return None;
+    }
+    let area = area as usize;
+    if !is_area(size, area) {
+        return None;
+    }
+    let start = if area_byte % 2 == 0 {
+        HEADER
+    } else {
+        HEADER + area
+    };
+    Some((start, area))
+}
+
+// The records from `start` on, within an area of that size, and how many bytes they take.
+fn read_records<D: Disk>(
+    alloc: Global,
+    disk: &mut D,
+    start: usize,
+    area: usize,
+) -> Result<(Vec<Body>, usize), JournalFault>
+    requires begins { start ≤ 16 + area }
+    requires is_area { IsArea (D.size disk.old) area }
+    ensures size { D.size disk.new ≡ D.size disk.old }
+    ensures reads { IsTrue D.honest → OnlyReads D.seen D.may_leave D.moment D.left_since disk.old disk.new }
+    ensures failures { D.failures disk.new ≡ (if is_fault_of_disk result then D.failures disk.old + 1 else D.failures disk.old) }
+    ensures room { IfOk result (λ found. (found.1 ≡ length (records found.0.items)) × (found.1 + 1 ≤ area)) }
+    ensures records { IfOk result (λ found. IsTrue D.honest → EndsClosed (drop start (D.seen disk.old)) found.0.items) }
+    ensures damaged { IsErrOf result JournalFault.Damaged → IsTrue D.honest
+        → (bodies : List (List ℕ)) → EndsClosed (drop start (D.seen disk.old)) bodies → room_of bodies ≤ area → ⊥ }
+    ensures others { IfErr result IsReadingFault }
+{
+    let mut bodies = Vec::new(alloc);
+    let mut used = 0;
+    while let Some(body) = read_record(alloc, disk, start + used, area - used)? {
+        used += body.as_slice().len() + 5;
+        bodies.push(body)?;
+    }
+    Ok((bodies, used))
+}
+
+// The number that these four bytes spell, the lowest first.
+fn length_of(bytes: &[u8; 4]) -> u32
+    ensures value { result ≡ from_le_bytes w32 bytes.now }
+    ensures bytes { to_le_bytes w32 result ≡ bytes.now }
+{
+    u32::from_le_bytes([bytes[0], bytes[1], bytes[2], bytes[3]])
+}
+
+// The record at that place, if its gate is open, where so many bytes of the area are left from there on.
+fn read_record<D: Disk>(
+    alloc: Global,
+    disk: &mut D,
+    place: usize,
+    left: usize,
+) -> Result<Option<Body>, JournalFault>
+    requires some { 0 < left }
+    requires on_disk { place + left ≤ D.size disk.old }
+    requires addressed { place + left < 2 ^ 64 }
+    ensures size { D.size disk.new ≡ D.size disk.old }
+    ensures reads { IsTrue D.honest → OnlyReads D.seen D.may_leave D.moment D.left_since disk.old disk.new }
+    ensures failures { D.failures disk.new ≡ (if is_fault_of_disk result then D.failures disk.old + 1 else D.failures disk.old) }
+    ensures fits { IfOk result (λ found. IfSome found (λ body. length body + 6 ≤ left)) }
+    ensures finds { IsTrue D.honest → FindsRecord (drop place (D.seen disk.old)) left result }
+    ensures others { IfErr result IsReadingFault }
+{
+    let mut gate = [0u8; 1];
+    // A closed gate ends the records, whatever stands behind it.
+    disk.read_at(place, &mut gate)?;
+    if gate[0] != OPEN {
+        return Ok(None);
+    }
+    if left < 6 {
+        return Err(JournalFault::Damaged);
+    }
+    let mut length = [0u8; 4];
+    // The length says how far the record goes.
+    disk.read_at(place + 1, &mut length)?;
+    let length = length_of(&length) as usize;
+    if left - 6 < length {
+        return Err(JournalFault::Damaged);
+    }
+    let mut bytes = vec![in alloc; 0u8; length]?;
+    // The body, as long as it says, within the area.
+    disk.read_at(place + 5, &mut bytes)?;
+    Ok(Some(Body::new(bytes)))
+}
