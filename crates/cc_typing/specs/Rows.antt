@@ -1,5 +1,5 @@
 -- Rows of the rules and of the resolved form, computed.
-use Rattle.std.specs.Prelude.{ℕ, ◌≡◌, Bool, false, List, [], ◌∷◌, ◌++◌, Some, None, codes, refl}
+use Rattle.std.specs.Prelude.{ℕ, ◌≡◌, false, List, [], ◌∷◌, ◌++◌, Some, None, codes, refl}
 use Rattle.cc_syntax.specs.Tree as tree
 use Rattle.cc_syntax.specs.Tree.{Name, Expr, Stmts, Definition, end, next, Number, Assign, Call, Return, Block, Local}
 use Rattle.cc_syntax.specs.declared.ast.Scalar.TheVariants.{Int}
