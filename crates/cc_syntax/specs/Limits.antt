@@ -1,0 +1,33 @@
+-- The limits of a unit, and the first token that breaks the grammar or a limit.
+use Rattle.std.specs.Prelude.{◌≡◌, ℕ, suc, ◌<◌, ◌≤◌, List, [], ◌∷◌, ◌++◌, length, take, ◌⊎◌, All}
+use Rattle.cc_syntax.specs.Token.{Lexeme}
+use Rattle.cc_syntax.specs.Tree.{Definition}
+use Rattle.cc_syntax.specs.Grammar.{Placed, SpellsUnit, tokens_of, Spells, Begins}
+
+-- a full expression has at most 512 tokens, and levels go to 64
+abbrev pub IsWithin : Placed → Type 0
+IsWithin p = (p.count ≤ 512) × (p.level ≤ 64)
+
+-- the tokens spell the tree, and the limits hold
+abbrev pub SpellsWithin : List Lexeme → Definition → Type 0
+SpellsWithin tokens tree = (ts : List Placed) × SpellsUnit ts tree × All IsWithin ts × (tokens_of ts ≡ tokens)
+
+-- the 513th token of a full expression, or the first of a statement or declaration at level 65
+abbrev pub PassesLimit : Placed → Type 0
+PassesLimit p = (p.count ≡ 513) ⊎ (p.level ≡ 65)
+
+-- no unit begins with the tokens up to and with number k; the end of the text counts as a last token
+abbrev pub UnexpectedAt : List Lexeme → ℕ → Type 0
+UnexpectedAt tokens k =
+    ((k < length tokens) × (Begins (take (suc k) tokens) → ⊥))
+    ⊎ ((k ≡ length tokens) × ((tree : Definition) → Spells tokens tree → ⊥))
+
+-- in some unit that begins with the tokens up to and with number k, that token passes a limit
+abbrev pub TooDeepAt : List Lexeme → ℕ → Type 0
+TooDeepAt tokens k =
+    (front rest : List Placed) × (p : Placed) × (tree : Definition) × (k < length tokens) × PassesLimit p
+    × SpellsUnit (front ++ p ∷ rest) tree × (tokens_of (front ++ p ∷ []) ≡ take (suc k) tokens)
+
+-- no token before number k breaks the grammar or a limit
+abbrev pub IsFineBefore : List Lexeme → ℕ → Type 0
+IsFineBefore tokens k = (j : ℕ) → j < k → (UnexpectedAt tokens j → ⊥) × (TooDeepAt tokens j → ⊥)
