@@ -55,9 +55,9 @@ identifier n = record { kind = kind.Identifier; text = n.text; at = n.at }
 
 -- The tokens of an expression in which each binary operator that no parentheses enclose binds at least as tightly as the
 -- level. The operands of a binary operator have its own level on the left and the next one on the right, so each groups
--- to the left; that of a unary operator has level 5, and so no bare binary operator.
+-- to the left; that of a unary operator has level 5, and so no bare binary operator. Every number has type `int` so far.
 abbrev pub SpellsExpression : ℕ → List Lexeme → Expr → Type 0
-SpellsExpression level ts (Number t n) = (x : Lexeme) × (x.kind ≡ kind.Number t n) × (ts ≡ x ∷ [])
+SpellsExpression level ts (Number t n) = (x : Lexeme) × (t ≡ Int) × (x.kind ≡ kind.Number t n) × (ts ≡ x ∷ [])
 SpellsExpression level ts (Variable n) = ts ≡ identifier n ∷ []
 SpellsExpression level ts (Parenthesised e) =
     (opening closing : Lexeme) × (inner : List Lexeme) × Marks punctuator.OpenParenthesis opening × Marks punctuator.CloseParenthesis closing
@@ -114,6 +114,11 @@ abbrev pub SpellsOperand : List Placed → Option Expr → Type 0
 SpellsOperand ts None = ts ≡ []
 SpellsOperand ts (Some e) = (inner : List Lexeme) × SpellsExpression 1 inner e × (ts ≡ full inner)
 
+-- not a declaration (C99 6.8)
+abbrev pub IsStatement : Stmt → Type 0
+IsStatement (Local t ds) = ⊥
+IsStatement s = Unit {0}
+
 -- A statement, or a declaration of locals, at a level (C99 6.8, 6.7): what stands directly in a block or is the body of a
 -- loop is one level deeper. Full expressions (6.8): an assignment or a call as a whole, a condition, the operand of a
 -- return, an initialiser.
@@ -140,7 +145,7 @@ abbrev mutual
   SpellsStatement level ts (While e s) =
       (word opening closing : Lexeme) × (test : List Lexeme) × (body : List Placed) × (word.kind ≡ kind.Keyword keyword.While)
       × Marks punctuator.OpenParenthesis opening × Marks punctuator.CloseParenthesis closing × SpellsExpression 1 test e
-      × SpellsStatement (suc level) body s
+      × SpellsStatement (suc level) body s × IsStatement s
       × (ts ≡ begins level (outside word ∷ outside opening ∷ full test ++ outside closing ∷ body))
 
   pub SpellsStatements : ℕ → List Placed → Stmts → Type 0

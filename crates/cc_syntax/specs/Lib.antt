@@ -6,3 +6,6 @@ pub mod Fault
 pub mod Source
 pub mod Grammar
 pub mod Limits
+pub mod Roles
+pub mod Machine
+pub mod MachineView

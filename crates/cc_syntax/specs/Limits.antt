@@ -12,9 +12,9 @@ IsWithin p = (p.count ≤ 512) × (p.level ≤ 64)
 abbrev pub SpellsWithin : List Lexeme → Definition → Type 0
 SpellsWithin tokens tree = (ts : List Placed) × SpellsUnit ts tree × All IsWithin ts × (tokens_of ts ≡ tokens)
 
--- the 513th token of a full expression, or the first of a statement or declaration at level 65
+-- a token past a limit: behind the 512th of a full expression, or the first of a statement or declaration below level 64
 abbrev pub PassesLimit : Placed → Type 0
-PassesLimit p = (p.count ≡ 513) ⊎ (p.level ≡ 65)
+PassesLimit p = (512 < p.count) ⊎ (64 < p.level)
 
 -- no unit begins with the tokens up to and with number k; the end of the text counts as a last token
 abbrev pub UnexpectedAt : List Lexeme → ℕ → Type 0
@@ -28,6 +28,6 @@ TooDeepAt tokens k =
     (front rest : List Placed) × (p : Placed) × (tree : Definition) × (k < length tokens) × PassesLimit p
     × SpellsUnit (front ++ p ∷ rest) tree × (tokens_of (front ++ p ∷ []) ≡ take (suc k) tokens)
 
--- no token before number k breaks the grammar or a limit
+-- some unit goes on from the tokens before number k, none of which passes a limit
 abbrev pub IsFineBefore : List Lexeme → ℕ → Type 0
-IsFineBefore tokens k = (j : ℕ) → j < k → (UnexpectedAt tokens j → ⊥) × (TooDeepAt tokens j → ⊥)
+IsFineBefore tokens k = Begins (take k tokens) × ((j : ℕ) → j < k → TooDeepAt tokens j → ⊥)

@@ -6,6 +6,7 @@
 
 mod ast;
 mod fault;
+mod parser;
 mod place;
 mod token;
 mod unit;
