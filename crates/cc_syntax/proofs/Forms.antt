@@ -5,7 +5,7 @@ use Rattle.cc_syntax.specs.Token.{Lexeme}
 use Rattle.cc_syntax.specs.Tree.{Name, Expr, Declared, Stmt, Stmts, end, next, While}
 use Rattle.cc_syntax.specs.Grammar.{Placed, full_after, precedence}
 use Rattle.cc_syntax.specs.Machine.{State, InBody, Inside, Stage, Item, Operand, Operator, Purpose, Waiting, Parenthesis, Prefix, Infix, Open, InBlock, InWhile, with_count, at_stage, settled, with_last, reduced, count_of}
-use Rattle.cc_syntax.proofs.Runs.{Runs, runs-append}
+use Rattle.cc_syntax.proofs.MachineRuns.{Runs, runs-append}
 
 -- a function's body at a stage
 abbrev pub inside : Name → Stmts → List Open → Inside

@@ -13,7 +13,7 @@ use Rattle.cc_syntax.specs.Tree.{Expr, Number, Variable, Parenthesised, Unary, B
 use Rattle.cc_syntax.specs.Roles.{role_of, punctuator_role}
 use Rattle.cc_syntax.specs.Grammar.{SpellsExpression, full_after, precedence, binary_punctuator, unary_punctuator, identifier}
 use Rattle.cc_syntax.specs.Machine.{State, Inside, Purpose, Waiting, Parenthesis, Prefix, Infix, Full, with_count, reduced, operate, operator_step, operand_step, close_parenthesis, name_of, at_stage, Operand}
-use Rattle.cc_syntax.proofs.Runs.{Runs, token}
+use Rattle.cc_syntax.proofs.MachineRuns.{Runs, token}
 use Rattle.cc_syntax.proofs.Forms.{operand, operator, count_after, count_after-append, runs-full, pops, Fits, fits-more, fits-stays}
 
 -- the tokens of an expression lead behind it, whatever stands before

@@ -1,5 +1,5 @@
 -- A block keeps its statements as a row: its trees are those of the row's list.
-use Rattle.std.proofs.Common.{◌≡◌, refl, ap, List}
+use Rattle.std.proofs.Common.{◌≡◌, refl, ap}
 use Rattle.cc_syntax.specs.Tree.{next}
 use Rattle.cc_syntax.specs.Erase.{statement_tree, statements_tree, statements_of}
 use Rattle.cc_syntax.specs.declared.ast.Statement.{Row_of-Statement, end_of-Statement, more_of-Statement, items-the_row-Statement}

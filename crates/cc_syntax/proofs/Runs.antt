@@ -1,53 +1,70 @@
--- Runs of the parser's machine over tokens, with the standing of each token as the machine has it. A run can be cut and
--- joined, and the tokens alone determine it.
-use Rattle.std.proofs.Common.{◌≡◌, ℕ, suc, List, [], ◌∷◌, ◌++◌, Option, Some, None, refl, sym, ap, subst, ◌∙◌, map}
-use Rattle.cc_syntax.specs.declared.token.TokenKind.{TokenKind}
-use Rattle.cc_syntax.specs.Token.{Lexeme}
-use Rattle.cc_syntax.specs.Roles.{role_of}
-use Rattle.cc_syntax.specs.Grammar.{Placed, tokens_of, full_after}
-use Rattle.cc_syntax.specs.Machine.{State, step, role_step, name_of, count_of, level_at, role_level}
+-- The scanner's runs and searches, on lists: a run's length is the longest that goes on, and a search's answer is the
+-- first place, however the bytes are cut.
+use Rattle.std.proofs.Common.{◌≡◌, ℕ, suc, zero, ◌<◌, ◌≤◌, Bool, true, false, cond, List, [], ◌∷◌, ◌++◌, length, take, drop, refl, ap, ◌∙◌, arith}
+use Rattle.std.proofs.lemmas.Bool.{cond-true, cond-false, cond_both}
+use Rattle.std.proofs.lemmas.List.{take-append-drop}
+use Rattle.cc_syntax.specs.Tokens.{Continues, Nowhere}
+use Rattle.cc_syntax.specs.Scan.{place_within, run_length}
 
--- a token with its standing, between two states
-abbrev pub standing : State → Lexeme → State → Placed
-standing s x m = record { token = x; count = count_of m; level = level_at s x }
+-- a run is as long as it fits, and each of its bytes goes on
+pub run_fits : (may : ℕ → ℕ → Bool) (before : ℕ) (bs : List ℕ) → run_length may before bs ≤ length bs
+unfolding run_length
+run_fits may before [] = omega arith
+run_fits may before (b ∷ bs) =
+    let ih = run_fits may b bs in
+    elim (may before b) as (λ t. cond t (suc (run_length may b bs)) 0 ≤ suc (length bs)) [ true ↦ omega arith | false ↦ omega arith ]
 
--- the machine goes over the tokens from one state to another
-abbrev pub Runs : State → List Placed → State → Type 0
-Runs s [] e = s ≡ e
-Runs s (p ∷ ps) e = (m : State) × (step s p.token ≡ Some m) × (p.count ≡ count_of m) × (p.level ≡ level_at s p.token) × Runs m ps e
+pub run_continues : (may : ℕ → ℕ → Bool) (before : ℕ) (bs : List ℕ) → Continues may before (take (run_length may before bs) bs)
+unfolding run_length
+run_continues may before [] = tt
+run_continues may before (b ∷ bs) =
+    let ih = run_continues may b bs in
+    cond_both (may before b) (suc (run_length may b bs)) 0 (λ n. Continues may before (take n (b ∷ bs))) (λ goes. (goes, ih)) (λ stops. tt)
 
-pub runs-append : (s m e : State) (a b : List Placed) → Runs s a m → Runs m b e → Runs s (a ++ b) e
-runs-append s m e [] b h k = subst (λ (z : State). Runs z b e) (sym h) k
-runs-append s m e (p ∷ a) b h k = (h.0, h.1, h.2, h.3, runs-append h.0 m e a b h.4 k)
+-- no run that goes on is longer
+pub run_longest : (may : ℕ → ℕ → Bool) (before : ℕ) (front rest : List ℕ) → Continues may before front → length front ≤ run_length may before (front ++ rest)
+unfolding run_length
+run_longest may before [] rest goes = omega arith
+run_longest may before (b ∷ front) rest goes =
+    let ih = run_longest may b front rest goes.1 in
+    let e = cond-true (may before b) (suc (run_length may b (front ++ rest))) 0 goes.0 in
+    omega arith
 
-pub runs-split : (s e : State) (a b : List Placed) → Runs s (a ++ b) e → (m : State) × Runs s a m × Runs m b e
-runs-split s e [] b h = (s, refl, h)
-runs-split s e (p ∷ a) b h = let r = runs-split h.0 e a b h.4 in (r.0, (h.0, h.1, h.2, h.3, r.1), r.2)
+-- the first bytes, before the place that a search answers, don't begin what it looks for, and the place does
+pub place_fits : (test : List ℕ → Bool) (n : ℕ) (bs : List ℕ) → place_within test n bs ≤ n
+unfolding place_within
+place_fits test zero bs = omega arith
+place_fits test (suc n) [] = omega arith
+place_fits test (suc n) (b ∷ bs) =
+    let ih = place_fits test n bs in
+    elim (test (b ∷ bs)) as (λ t. cond t 0 (suc (place_within test n bs)) ≤ suc n) [ true ↦ omega arith | false ↦ omega arith ]
 
--- one token of a known kind
-pub token : (s m e : State) (x : Lexeme) (k : TokenKind) (c l : ℕ) (ps : List Placed) → x.kind ≡ k → role_step s (role_of k) (name_of x) ≡ Some m → c ≡ count_of m → l ≡ role_level s (role_of k) → Runs m ps e → Runs s (record { token = x; count = c; level = l } ∷ ps) e
-token s m e x k c l ps h goes count level rest =
-    (m, ap (λ (z : TokenKind). role_step s (role_of z) (name_of x)) h ∙ goes, count, level ∙ ap (λ (z : TokenKind). role_level s (role_of z)) (sym h), rest)
+pub place_nowhere : (test : List ℕ → Bool) (n : ℕ) (bs : List ℕ) → n ≤ length bs → Nowhere test (take (place_within test n bs) bs) (drop (place_within test n bs) bs)
+unfolding place_within
+place_nowhere test zero bs fits = tt
+place_nowhere test (suc n) [] fits = absurd (omega arith)
+place_nowhere test (suc n) (b ∷ bs) fits =
+    let ih = place_nowhere test n bs (omega arith) in
+    let whole = take-append-drop (place_within test n bs) bs in
+    cond_both (test (b ∷ bs)) 0 (suc (place_within test n bs)) (λ k. Nowhere test (take k (b ∷ bs)) (drop k (b ∷ bs))) (λ here. tt) (λ not_here. (ap (λ xs. test (b ∷ xs)) whole ∙ not_here, ih))
 
-same_head : (x y : Lexeme) (xs ys : List Lexeme) → x ∷ xs ≡ y ∷ ys → (x ≡ y) × (xs ≡ ys)
-same_head x y xs ys e = (cc, cc)
+pub place_here : (test : List ℕ → Bool) (n : ℕ) (bs : List ℕ) → n ≤ length bs → place_within test n bs < n → test (drop (place_within test n bs) bs) ≡ true
+unfolding place_within
+place_here test zero bs fits below = absurd (omega arith)
+place_here test (suc n) [] fits below = absurd (omega arith)
+place_here test (suc n) (b ∷ bs) fits below =
+    let ih = place_here test n bs (omega arith) in
+    cond_both (test (b ∷ bs)) 0 (suc (place_within test n bs)) (λ k. k < suc n → test (drop k (b ∷ bs)) ≡ true) (λ here lt. here) (λ not_here lt. ih (omega arith)) below
 
-some_is_one : (a b : Option State) (x y : State) → a ≡ b → a ≡ Some x → b ≡ Some y → x ≡ y
-some_is_one a b x y h k l = cc
+-- and a search answers no other place
+pub place_is : (test : List ℕ → Bool) (front after : List ℕ) (n : ℕ) → 0 < length after → Nowhere test front after → length front < n → test after ≡ true → place_within test n (front ++ after) ≡ length front
+unfolding place_within
+place_is test front after zero some none below here = absurd (omega arith)
+place_is test [] [] (suc n) some none below here = absurd (omega arith)
+place_is test [] (a ∷ after) (suc n) some none below here = cond-true _ _ _ here
+place_is test (b ∷ front) after (suc n) some none below here = cond-false _ _ _ none.0 ∙ ap suc (place_is test front after n some none.1 (omega arith) here)
 
-cons_none : (x : Lexeme) (xs : List Lexeme) → x ∷ xs ≡ [] → ⊥
-cons_none x xs e = cc
-
-placed_more : (a b : Lexeme) (m n j k : ℕ) (ps qs : List Placed) → a ≡ b → m ≡ n → j ≡ k → ps ≡ qs → record { token = a; count = m; level = j } ∷ ps ≡ record { token = b; count = n; level = k } ∷ qs
-placed_more a b m n j k ps qs e f g h = cc
-
--- the tokens alone determine a run: the standing of each, and the state behind them
-pub runs-one : (s m n : State) (ps qs : List Placed) → Runs s ps m → Runs s qs n → tokens_of ps ≡ tokens_of qs → (ps ≡ qs) × (m ≡ n)
-runs-one s m n [] [] h k e = (refl, sym h ∙ k)
-runs-one s m n [] (q ∷ qs) h k e = absurd (cons_none _ _ (sym e))
-runs-one s m n (p ∷ ps) [] h k e = absurd (cons_none _ _ e)
-runs-one s m n (p ∷ ps) (q ∷ qs) h k e =
-    let both = same_head _ _ _ _ e in
-    let middle : h.0 ≡ k.0 = some_is_one _ _ h.0 k.0 (ap (λ (x : Lexeme). step s x) both.0) h.1 k.1 in
-    let rest = runs-one h.0 m n ps qs h.4 (subst (λ (z : State). Runs z qs n) (sym middle) k.4) both.1 in
-    (placed_more _ _ _ _ _ _ _ _ both.0 (h.2 ∙ ap (λ (z : State). count_of z) middle ∙ sym k.2) (h.3 ∙ ap (λ (x : Lexeme). level_at s x) both.0 ∙ sym k.3) rest.0, rest.1)
+pub place_none_before : (test : List ℕ → Bool) (front after : List ℕ) → Nowhere test front after → place_within test (length front) (front ++ after) ≡ length front
+unfolding place_within
+place_none_before test [] after none = refl
+place_none_before test (b ∷ front) after none = cond-false _ _ _ none.0 ∙ ap suc (place_none_before test front after none.1)

@@ -1,5 +1,8 @@
 // The tokens of a text.
 
+ghost use Rattle.std.specs.Prelude.{◌≡◌};
+ghost use Rattle.cc_syntax.specs.Spelling.{keyword_bytes, punctuator_bytes};
+
 use super::ast::Scalar;
 
 /// The 37 keywords of C99 6.4.1.
@@ -42,6 +45,94 @@ pub enum Keyword {
     Bool,
     Complex,
     Imaginary,
+}
+
+/// Every keyword.
+pub(crate) const KEYWORDS: [Keyword; 37] = [
+    Keyword::Auto,
+    Keyword::Break,
+    Keyword::Case,
+    Keyword::Char,
+    Keyword::Const,
+    Keyword::Continue,
+    Keyword::Default,
+    Keyword::Do,
+    Keyword::Double,
+    Keyword::Else,
+    Keyword::Enum,
+    Keyword::Extern,
+    Keyword::Float,
+    Keyword::For,
+    Keyword::Goto,
+    Keyword::If,
+    Keyword::Inline,
+    Keyword::Int,
+    Keyword::Long,
+    Keyword::Register,
+    Keyword::Restrict,
+    Keyword::Return,
+    Keyword::Short,
+    Keyword::Signed,
+    Keyword::Sizeof,
+    Keyword::Static,
+    Keyword::Struct,
+    Keyword::Switch,
+    Keyword::Typedef,
+    Keyword::Union,
+    Keyword::Unsigned,
+    Keyword::Void,
+    Keyword::Volatile,
+    Keyword::While,
+    Keyword::Bool,
+    Keyword::Complex,
+    Keyword::Imaginary,
+];
+
+impl Keyword {
+    /// The bytes of the keyword.
+    pub fn bytes(self) -> &'static [u8]
+        ensures { result.now ≡ keyword_bytes self }
+    {
+        match self {
+            Keyword::Auto => b"auto",
+            Keyword::Break => b"break",
+            Keyword::Case => b"case",
+            Keyword::Char => b"char",
+            Keyword::Const => b"const",
+            Keyword::Continue => b"continue",
+            Keyword::Default => b"default",
+            Keyword::Do => b"do",
+            Keyword::Double => b"double",
+            Keyword::Else => b"else",
+            Keyword::Enum => b"enum",
+            Keyword::Extern => b"extern",
+            Keyword::Float => b"float",
+            Keyword::For => b"for",
+            Keyword::Goto => b"goto",
+            Keyword::If => b"if",
+            Keyword::Inline => b"inline",
+            Keyword::Int => b"int",
+            Keyword::Long => b"long",
+            Keyword::Register => b"register",
+            Keyword::Restrict => b"restrict",
+            Keyword::Return => b"return",
+            Keyword::Short => b"short",
+            Keyword::Signed => b"signed",
+            Keyword::Sizeof => b"sizeof",
+            Keyword::Static => b"static",
+            Keyword::Struct => b"struct",
+            Keyword::Switch => b"switch",
+            Keyword::Typedef => b"typedef",
+            Keyword::Union => b"union",
+            Keyword::Unsigned => b"unsigned",
+            Keyword::Void => b"void",
+            Keyword::Volatile => b"volatile",
+            Keyword::While => b"while",
+            Keyword::Bool => b"_Bool",
+            Keyword::Complex => b"_Complex",
+            Keyword::Imaginary => b"_Imaginary",
+        }
+    }
 }
 
 /// The punctuators of the profile (C99 6.4.6).
@@ -90,6 +181,106 @@ pub enum Punctuator {
     CaretAssign,
     PlusPlus,
     MinusMinus,
+}
+
+/// Every punctuator, the longest first.
+pub(crate) const PUNCTUATORS: [Punctuator; 43] = [
+    Punctuator::ShiftLeftAssign,
+    Punctuator::ShiftRightAssign,
+    Punctuator::ShiftLeft,
+    Punctuator::ShiftRight,
+    Punctuator::LessOrEqual,
+    Punctuator::GreaterOrEqual,
+    Punctuator::Equal,
+    Punctuator::NotEqual,
+    Punctuator::AndAnd,
+    Punctuator::OrOr,
+    Punctuator::PlusAssign,
+    Punctuator::MinusAssign,
+    Punctuator::StarAssign,
+    Punctuator::SlashAssign,
+    Punctuator::PercentAssign,
+    Punctuator::AmpersandAssign,
+    Punctuator::BarAssign,
+    Punctuator::CaretAssign,
+    Punctuator::PlusPlus,
+    Punctuator::MinusMinus,
+    Punctuator::OpenParenthesis,
+    Punctuator::CloseParenthesis,
+    Punctuator::OpenBracket,
+    Punctuator::CloseBracket,
+    Punctuator::OpenBrace,
+    Punctuator::CloseBrace,
+    Punctuator::Semicolon,
+    Punctuator::Comma,
+    Punctuator::Question,
+    Punctuator::Colon,
+    Punctuator::Plus,
+    Punctuator::Minus,
+    Punctuator::Star,
+    Punctuator::Slash,
+    Punctuator::Percent,
+    Punctuator::Less,
+    Punctuator::Greater,
+    Punctuator::Ampersand,
+    Punctuator::Bar,
+    Punctuator::Caret,
+    Punctuator::Tilde,
+    Punctuator::Exclamation,
+    Punctuator::Assign,
+];
+
+impl Punctuator {
+    /// The bytes of the punctuator.
+    pub fn bytes(self) -> &'static [u8]
+        ensures { result.now ≡ punctuator_bytes self }
+    {
+        match self {
+            Punctuator::OpenParenthesis => b"(",
+            Punctuator::CloseParenthesis => b")",
+            Punctuator::OpenBracket => b"[",
+            Punctuator::CloseBracket => b"]",
+            Punctuator::OpenBrace => b"{",
+            Punctuator::CloseBrace => b"}",
+            Punctuator::Semicolon => b";",
+            Punctuator::Comma => b",",
+            Punctuator::Question => b"?",
+            Punctuator::Colon => b":",
+            Punctuator::Plus => b"+",
+            Punctuator::Minus => b"-",
+            Punctuator::Star => b"*",
+            Punctuator::Slash => b"/",
+            Punctuator::Percent => b"%",
+            Punctuator::ShiftLeft => b"<<",
+            Punctuator::ShiftRight => b">>",
+            Punctuator::Less => b"<",
+            Punctuator::Greater => b">",
+            Punctuator::LessOrEqual => b"<=",
+            Punctuator::GreaterOrEqual => b">=",
+            Punctuator::Equal => b"==",
+            Punctuator::NotEqual => b"!=",
+            Punctuator::Ampersand => b"&",
+            Punctuator::Bar => b"|",
+            Punctuator::Caret => b"^",
+            Punctuator::Tilde => b"~",
+            Punctuator::Exclamation => b"!",
+            Punctuator::AndAnd => b"&&",
+            Punctuator::OrOr => b"||",
+            Punctuator::Assign => b"=",
+            Punctuator::PlusAssign => b"+=",
+            Punctuator::MinusAssign => b"-=",
+            Punctuator::StarAssign => b"*=",
+            Punctuator::SlashAssign => b"/=",
+            Punctuator::PercentAssign => b"%=",
+            Punctuator::ShiftLeftAssign => b"<<=",
+            Punctuator::ShiftRightAssign => b">>=",
+            Punctuator::AmpersandAssign => b"&=",
+            Punctuator::BarAssign => b"|=",
+            Punctuator::CaretAssign => b"^=",
+            Punctuator::PlusPlus => b"++",
+            Punctuator::MinusMinus => b"--",
+        }
+    }
 }
 
 /// What a token is.
