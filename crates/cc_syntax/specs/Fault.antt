@@ -1,5 +1,6 @@
--- The numbers of the faults.
-use Rattle.std.specs.Prelude.{ℕ}
+-- The numbers and the places of the faults.
+use Rattle.std.specs.Prelude.{ℕ, Option, Some, None}
+use Rattle.cc_syntax.specs.declared.place.Place.{Place}
 use Rattle.cc_syntax.specs.declared.fault.SyntaxFault.{SyntaxFault}
 use Rattle.cc_syntax.specs.declared.fault.SyntaxFault.TheVariants.{BadByte, UnclosedComment, BadConstant, ConstantTooLarge, Unexpected, TooDeep, SourceTooLarge, OutOfMemory}
 
@@ -13,3 +14,14 @@ number_of (Unexpected p) = 5
 number_of (TooDeep p) = 6
 number_of SourceTooLarge = 7
 number_of OutOfMemory = 40
+
+-- where a fault stands, where it says so
+abbrev pub place_of_fault : SyntaxFault → Option Place
+place_of_fault (BadByte p) = Some p
+place_of_fault (UnclosedComment p) = Some p
+place_of_fault (BadConstant p) = Some p
+place_of_fault (ConstantTooLarge p) = Some p
+place_of_fault (Unexpected p) = Some p
+place_of_fault (TooDeep p) = Some p
+place_of_fault SourceTooLarge = None
+place_of_fault OutOfMemory = None

@@ -1,7 +1,7 @@
 // Why a text is refused.
 
 ghost use Rattle.std.specs.Prelude.{◌≡◌};
-ghost use Rattle.cc_syntax.specs.Fault.{number_of};
+ghost use Rattle.cc_syntax.specs.Fault.{number_of, place_of_fault};
 
 use super::place::Place;
 use std::alloc::AllocError;
@@ -50,6 +50,21 @@ impl SyntaxFault {
             SyntaxFault::TooDeep(_) => 6,
             SyntaxFault::SourceTooLarge => 7,
             SyntaxFault::OutOfMemory => 40,
+        }
+    }
+
+    /// Where in the text the fault stands: faults 1 to 6 say it.
+    pub fn place(&self) -> Option<Place>
+        ensures { result ≡ place_of_fault self.now }
+    {
+        match self {
+            SyntaxFault::BadByte(place)
+            | SyntaxFault::UnclosedComment(place)
+            | SyntaxFault::BadConstant(place)
+            | SyntaxFault::ConstantTooLarge(place)
+            | SyntaxFault::Unexpected(place)
+            | SyntaxFault::TooDeep(place) => Some(*place),
+            SyntaxFault::SourceTooLarge | SyntaxFault::OutOfMemory => None,
         }
     }
 }

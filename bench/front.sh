@@ -1,0 +1,54 @@
+#!/usr/bin/env bash
+# Shows by ratios within one run that `check` is linear in the text's length and that a turn of a loop has one price:
+# 64 KiB of text against 8 KiB (8 is linear), and 10 million turns against 1 million (10 is linear).
+# Run by hand; the program has to be built (./cclib --help).
+set -eu
+here=$(cd "$(dirname "$0")/.." && pwd)
+program=$here/crates/cclib/out/cclib
+[ -x "$program" ] || { echo "front.sh: build the program first: ./cclib --help" >&2; exit 1; }
+work=$(mktemp -d)
+trap 'rm -rf "$work"' EXIT
+
+# text KIND BYTES: a program of about so many bytes
+text() {
+  python3 - "$1" "$2" <<'P'
+import sys
+kind, size = sys.argv[1], int(sys.argv[2])
+head, tail = "int main(void){int a;", "}"
+unit = {"statements": "a=a*3+(a-1)/7;", "blocks": "{int b=a;a=b+1;}" , "comments": "/* a comment */a=1;", "names": "a=a+a+a+a+a+a+a+a;"}[kind]
+if kind == "blocks":  # at most 256 locals stand in a function
+    unit = "{{{{a=a+1;}}}}"
+count = (size - len(head) - len(tail)) // len(unit)
+sys.stdout.write(head + unit * count + tail)
+P
+}
+
+# millis RUNS COMMAND..: the milliseconds of so many runs
+millis() {
+  local runs=$1 start; shift
+  start=$(date +%s%N)
+  for _ in $(seq "$runs"); do "$@" >/dev/null; done
+  echo $(( ($(date +%s%N) - start) / 1000000 ))
+}
+
+echo | "$program" check >/dev/null || true
+empty() { "$program" check < "$work/empty.c"; }
+echo 'int main(void){}' > "$work/empty.c"
+base=$(millis 40 empty)
+echo "40 starts of the program: $base ms"
+for kind in statements blocks comments names; do
+  text "$kind" 8192 > "$work/small.c"
+  text "$kind" 65536 > "$work/large.c"
+  small() { "$program" check < "$work/small.c"; }
+  large() { "$program" check < "$work/large.c"; }
+  [ "$(large)" = ok ] || { echo "$kind: $(large)" >&2; exit 1; }
+  s=$(millis 40 small); l=$(millis 40 large)
+  echo "check, $kind: 8 KiB $s ms, 64 KiB $l ms; without the start of the program the ratio is $(python3 -c "print(round(($l-$base)/max(1,$s-$base),1))")"
+done
+for turns in 1000000 10000000; do
+  echo "int main(void){int i;while(i<$turns){i=i+1;}return i;}" > "$work/loop$turns.c"
+done
+loop_small() { "$program" interpret 1000000000 < "$work/loop1000000.c"; }
+loop_large() { "$program" interpret 1000000000 < "$work/loop10000000.c"; }
+s=$(millis 3 loop_small); l=$(millis 3 loop_large)
+echo "interpret: 1 million turns $s ms, 10 million $l ms in three runs each: ratio $(python3 -c "print(round($l/max(1,$s),1))")"

@@ -1,0 +1,72 @@
+// The command line.
+
+ghost use Rattle.std.specs.Prelude.{◌≤◌, IfOk};
+ghost use Rattle.cclib.specs.Task.{IsWithinLimits};
+
+use clap::error::ErrorKind;
+use clap::{Arg, ArgMatches, Command, Error, value_parser};
+use std::alloc::{AllocError, Global};
+use std::convert::AsStr;
+
+/// The largest number of steps that the command line takes.
+pub const MOST_STEPS: u64 = 1_000_000_000;
+
+/// What the program is asked to do with the text on standard input.
+#[derive(Clone, Copy, PartialEq, Eq, Debug)]
+pub enum Task {
+    /// Say whether the text is a program of the profile.
+    Check,
+    /// Run the program for at most so many steps.
+    Interpret(u64),
+}
+
+fn command<'a>(alloc: Global) -> Result<Command<'a>, AllocError> {
+    let check = Command::new(alloc, "check").about("Say `ok`, or the first fault of the program");
+    let steps = Arg::new(alloc, "STEPS")
+        .required(true)
+        .help("The most steps that a run may take: 0 to 1000000000")
+        .value_parser(value_parser!(u64).range(0..1_000_000_001));
+    let interpret = Command::new(alloc, "interpret")
+        .about("Print the words that the program writes, and how it ends")
+        .arg(steps)?;
+    Command::new(alloc, "cclib")
+        .about("Reads a C program from standard input")
+        .subcommand_required(true)
+        .subcommand(check)?
+        .subcommand(interpret)
+}
+
+// The error of clap for a word that is no number of steps.
+fn refused(alloc: Global) -> Result<Error, AllocError> {
+    let mut whole = command(alloc)?;
+    whole.error(
+        ErrorKind::ValueValidation,
+        "STEPS is a decimal number from 0 to 1000000000",
+    )
+}
+
+fn steps_of(alloc: Global, given: &ArgMatches<'_>) -> Result<u64, Error>
+    ensures { IfOk result (λ steps. steps ≤ MOST_STEPS) }
+{
+    let is_decimal = match given.get_str("STEPS") {
+        Some(text) => text.bytes().all(|b| b.is_ascii_digit()),
+        None => false,
+    };
+    match given.get_one::<u64>("STEPS") {
+        Some(steps) if is_decimal && steps <= MOST_STEPS => Ok(steps),
+        _ => Err(refused(alloc)?),
+    }
+}
+
+/// Reads the command line, whose first word is the program's name.
+///
+/// The error is clap's: its text goes to standard error and its status is 2, but for a text of help.
+pub fn line<'a, S: AsStr>(alloc: Global, words: &'a [S]) -> Result<Task, Error>
+    ensures { IfOk result IsWithinLimits }
+{
+    let matches = command(alloc)?.try_get_matches_from(words)?;
+    match matches.subcommand() {
+        Some(("interpret", given)) => Ok(Task::Interpret(steps_of(alloc, given)?)),
+        _ => Ok(Task::Check),
+    }
+}

@@ -1,0 +1,89 @@
+// Doing a task over any reader and writer.
+
+ghost use Rattle.std.specs.Prelude.{◌≤◌};
+
+use super::command_line::Task;
+use super::fault::Fault;
+use super::source::read_source;
+use cc_meaning::{Cause, Outcome, Stop, interpret};
+use cc_syntax::parse;
+use cc_typing::check;
+use std::alloc::Global;
+use std::io::{self, Read, Write};
+
+// What a task answers, before it is written.
+#[derive(Drop)]
+enum Answer {
+    Accepted,
+    Ran(Outcome),
+}
+
+fn answer_to<R: Read>(alloc: Global, task: Task, reader: &mut R) -> Result<Answer, Fault> {
+    let text = read_source(alloc, reader)?;
+    let unit = check(alloc, parse(alloc, text.as_slice())?)?;
+    match task {
+        Task::Check => Ok(Answer::Accepted),
+        Task::Interpret(steps) => Ok(Answer::Ran(interpret(alloc, &unit, &[], steps)?)),
+    }
+}
+
+fn cause_name(cause: Cause) -> &'static str {
+    match cause {
+        Cause::Division => "Division",
+        Cause::Shift => "Shift",
+        Cause::Index => "Index",
+        Cause::Depth => "Depth",
+    }
+}
+
+fn write_outcome<W: Write>(outcome: &Outcome, writer: &mut W) -> io::Result<()> {
+    for word in outcome.output.as_slice() {
+        writeln!(writer, "{}", word.cast_signed())?;
+    }
+    match outcome.stop {
+        Stop::Going => writeln!(writer, "going"),
+        Stop::Ended(word) => writeln!(writer, "ended {}", word.cast_signed()),
+        Stop::Wrong(cause) => writeln!(writer, "wrong {}", cause_name(cause)),
+    }
+}
+
+fn write_answer<W: Write>(answer: &Answer, writer: &mut W) -> io::Result<()> {
+    match answer {
+        Answer::Accepted => writeln!(writer, "ok")?,
+        Answer::Ran(outcome) => write_outcome(outcome, writer)?,
+    }
+    writer.flush()
+}
+
+fn try_perform<R: Read, W: Write>(
+    alloc: Global,
+    task: Task,
+    reader: &mut R,
+    writer: &mut W,
+) -> Result<(), Fault> {
+    let answer = answer_to(alloc, task, reader)?;
+    write_answer(&answer, writer).map_err(|_| Fault::Write)
+}
+
+/// Does a task: reads the text from `reader`, and writes the answer or the fault's line to `writer`.
+///
+/// The status is 0 for an answer and 1 for a fault. A read that fails is fault 53; a write that fails is fault 54, of
+/// which no line is written.
+pub fn perform<H: AllocGlobal, R: Read, W: Write>(
+    rt: &H,
+    task: Task,
+    reader: &mut R,
+    writer: &mut W,
+) -> u8
+    ensures { result ≤ 1 }
+{
+    match try_perform(rt.alloc(), task, reader, writer) {
+        Ok(()) => 0,
+        Err(Fault::Write) => 1,
+        Err(fault) => {
+            let _ = fault.write_line(writer);
+            let _ = writer.flush();
+            1
+        }
+    }
+}

@@ -1,0 +1,31 @@
+// Reading the text.
+
+ghost use Rattle.std.specs.Prelude.{◌≤◌, IfOk, vec_len};
+
+use super::fault::Fault;
+use std::alloc::Global;
+use std::io::Read;
+
+/// One byte more than a text may have: so many are read, that a longer text is seen to be one.
+const MOST_BYTES: usize = 65_537;
+
+/// The bytes of a reader up to its end, or the first 65,537 of them.
+///
+/// `Read` where a read fails, `OutOfMemory` where there is no room for the bytes.
+pub fn read_source<R: Read>(alloc: Global, reader: &mut R) -> Result<Vec<u8>, Fault>
+    ensures { IfOk result (λ text. vec_len text ≤ MOST_BYTES) }
+{
+    let mut text = Vec::new(alloc);
+    let mut piece = [0u8; 4096];
+    while text.len() < MOST_BYTES {
+        let room = piece.len().min(MOST_BYTES - text.len());
+        let Ok(count) = reader.read(&mut piece[..room]) else {
+            return Err(Fault::Read);
+        };
+        if count == 0 {
+            break;
+        }
+        text.extend_from_slice(&piece[..count])?;
+    }
+    Ok(text)
+}

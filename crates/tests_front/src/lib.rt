@@ -1,0 +1,10 @@
+// Tests of the front's libraries: texts and their tokens, and each public call once on its happy path. Expected values
+// are worked by hand from the standard and the language's rules. The program's own tests stand in `cclib`.
+#![tactic(auto)]
+
+#[cfg(test)]
+mod calls;
+#[cfg(test)]
+mod tokens;
+#[cfg(test)]
+mod vectors;
