@@ -12,7 +12,8 @@ use Rattle.cc_syntax.specs.Roles.{role_of}
 use Rattle.cc_syntax.specs.Grammar.{Placed, precedence}
 use Rattle.cc_syntax.specs.Machine as machine
 use Rattle.cc_syntax.specs.Machine.{close_parenthesis, whole, State, AtHead, InBody, Done, Inside, Stage, Item, Named, Returning, Testing, Declaring, HasDeclared, Operand, Operator, Called, Head, ReturnType, FunctionName, Opening, Parameters, Closing, Body, Purpose, ToAssign, ToCall, ToReturn, ToTest, ToInitialise, Waiting, Parenthesis, Prefix, Infix, Open, InBlock, InWhile, with_count, at_stage, settled, with_last, reduced, declared, operator_step, role_step, step, name_of, count_of, level_at}
-use Rattle.cc_syntax.proofs.MachineRuns.{Runs, standing}
+use Rattle.cc_syntax.specs.MachineView.{standing}
+use Rattle.cc_syntax.proofs.MachineRuns.{Runs}
 use Rattle.cc_syntax.proofs.Forms.{inside, item, operand, operator, pops}
 use Rattle.cc_syntax.proofs.ReadsExpression.{precedence-low}
 

@@ -141,8 +141,10 @@ marks_punctuator b bs (c ∷ other) rest no_word no_number (number w) is =
 marks_punctuator b bs other rest no_word no_number (punctuator p spelled) is = (p, spelled)
 
 mark_sound : (b : ℕ) (bs : List ℕ) (o : Option Punctuator) → is_blank b ≡ false → begins_comment (b ∷ bs) ≡ false → is_nondigit b ≡ false → is_ascii_digit b ≡ false → punctuator_at (b ∷ bs) ≡ o → IsFront (b ∷ bs) (punctuator_front o)
-mark_sound b bs None no_blank no_comment no_word no_number e =
-    (omega arith, inl (record {
+mark_sound b bs None no_blank no_comment no_word no_number e = (
+  omega arith,
+  inl (
+    record {
       first = b;
       rest = bs;
       whole = refl;
@@ -151,24 +153,33 @@ mark_sound b bs None no_blank no_comment no_word no_number e =
       no_token = λ text after can is.
           let found = marks_punctuator b bs text after no_word no_number can is in
           punctuator_missing (b ∷ bs) found.0 after e (is ∙ ap (λ t. t ++ after) found.1);
-    }, refl))
+    },
+    refl,
+  ),
+)
 mark_sound b bs (Some p) no_blank no_comment no_word no_number e =
-    let whole = punctuator_found (b ∷ bs) p e in
-    (punctuator_bytes p, record {
-      after = drop (length (punctuator_bytes p)) (b ∷ bs);
-      whole = whole;
-      stands = (sym (ap begins_comment whole) ∙ no_comment, record {
-        can_be = punctuator p refl;
-        longest = λ other rest can is.
-            let is_front : b ∷ bs ≡ other ++ rest = whole ∙ is in
-            let found = marks_punctuator b bs other rest no_word no_number can is_front in
-            let bound = punctuator_longest (b ∷ bs) p found.0 rest e (is_front ∙ ap (λ t. t ++ rest) found.1) in
-            let same = ap length found.1 in
-            omega arith;
-      }, refl);
-      size = refl;
-      some = punctuator_some p;
-    })
+    let whole = punctuator_found (b ∷ bs) p e in (
+      punctuator_bytes p,
+      record {
+        after = drop (length (punctuator_bytes p)) (b ∷ bs);
+        whole = whole;
+        stands = (
+          sym (ap begins_comment whole) ∙ no_comment,
+          record {
+            can_be = punctuator p refl;
+            longest = λ other rest can is.
+                let is_front : b ∷ bs ≡ other ++ rest = whole ∙ is in
+                let found = marks_punctuator b bs other rest no_word no_number can is_front in
+                let bound = punctuator_longest (b ∷ bs) p found.0 rest e (is_front ∙ ap (λ t. t ++ rest) found.1) in
+                let same = ap length found.1 in
+                omega arith;
+          },
+          refl,
+        );
+        size = refl;
+        some = punctuator_some p;
+      },
+    )
 
 -- a comment that begins the bytes, by its splices
 splices_sound : (c after bytes : List ℕ) → IsComment c after → 0 < length c → bytes ≡ c ++ after → IsFront bytes (comment_of (length c) bytes)

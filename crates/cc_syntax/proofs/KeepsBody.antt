@@ -81,8 +81,8 @@ settled-so_far (InWhile e ∷ os) n d s before inner b h c =
     let whole = first os 0 b.1 ∷ outside b.2 ∷ full b.4 ++ outside b.3 ∷ inner in
     let spelled : SpellsStatement (suc (suc (length os))) whole (While e s) = (b.1, b.2, b.3, b.4, inner, b.6, b.7, b.8, b.9, h, c, refl) in
     let same : before ++ inner ≡ b.0 ++ whole =
-        more before b.0 (first os 0 b.1 ∷ outside b.2 ∷ full b.4 ++ outside b.3 ∷ []) inner b.10
-        ∙ ap (λ (z : List Placed). b.0 ++ first os 0 b.1 ∷ outside b.2 ∷ z) (append_assoc (full b.4) (outside b.3 ∷ []) inner) in
+    more before b.0 (first os 0 b.1 ∷ outside b.2 ∷ full b.4 ++ outside b.3 ∷ []) inner b.10
+    ∙ ap (λ (z : List Placed). b.0 ++ first os 0 b.1 ∷ outside b.2 ∷ z) (append_assoc (full b.4) (outside b.3 ∷ []) inner) in
     subst (λ (z : List Placed). SoFar (InBody (settled n d os (While e s))) z) (sym same) (settled-so_far os n d (While e s) b.0 whole b.5 spelled (can_while os e s))
 
 -- the last token of a statement
@@ -100,9 +100,19 @@ body-end ts head inner p q w v o c ps h k =
 
 kept_close : (os : List Open) (n : Name) (d : Stmts) (ts : List Placed) (x : Lexeme) → Marks punctuator.CloseBrace x → BodySoFar n d os ts → Kept (close_block (inside n d os) os) ts x 0
 kept_close [] n d ts x h b =
-    let f = b.3 in
-    (f.0, f.1, f.2, f.3, record { token = b.2; count = 0; level = 1 } ∷ b.1 ++ outside x ∷ [], f.4, f.5, f.6, f.7, (b.2, x, b.1, b.4, h, b.5, refl),
-    body-end ts b.0 b.1 (record { token = b.2; count = 0; level = 1 }) (outside x) (outside f.0) (outside (identifier n)) (outside f.1) (outside f.2) (map outside f.3) b.6 f.8)
+    let f = b.3 in (
+      f.0,
+      f.1,
+      f.2,
+      f.3,
+      record { token = b.2; count = 0; level = 1 } ∷ b.1 ++ outside x ∷ [],
+      f.4,
+      f.5,
+      f.6,
+      f.7,
+      (b.2, x, b.1, b.4, h, b.5, refl),
+      body-end ts b.0 b.1 (record { token = b.2; count = 0; level = 1 }) (outside x) (outside f.0) (outside (identifier n)) (outside f.1) (outside f.2) (map outside f.3) b.6 f.8,
+    )
 kept_close (InBlock ss ∷ os) n d ts x h b =
     kept_settle n d os (Block ss) b.0 (first os 0 b.2 ∷ b.1) ts x b.3 (b.2, x, b.1, b.4, h, b.5, refl) (can_block os ss) b.6
 kept_close (InWhile e ∷ os) n d ts x h b = tt
@@ -154,11 +164,23 @@ looser ws e xs q low h = record { front = h.front; part = h.part; level = h.leve
 
 kept_binary : (op : BinaryOperator) (q : Expr × List Waiting) (p : Purpose) (k : ℕ) (ws : List Waiting) (e : Expr) (n : Name) (d : Stmts) (os : List Open) (ts : List Placed) (x : Lexeme) → Marks (binary_punctuator op) x → (o : OperatorSoFar p k ws e n d os ts) → Reduces (precedence op) o.1 q → Kept (operate (inside n d os) (with_count p k ws) op q) ts x 0
 kept_binary op q p k ws e n d os ts x h o r =
-    let l = r.holds in
-    (o.0, o.1 ++ x ∷ [], o.2,
-    (l.front, l.part, x, l.waits, spells-looser q.0 l.level (precedence op) l.part l.tight l.spelled, r.room, h,
-    ap (λ (z : List Lexeme). z ++ x ∷ []) l.whole ∙ append_assoc l.front l.part (x ∷ [])),
-    counted (base p) k o.1 x o.4, pushed ts o.0 (base p) k o.1 x o.5 o.4)
+    let l = r.holds in (
+      o.0,
+      o.1 ++ x ∷ [],
+      o.2,
+      (
+        l.front,
+        l.part,
+        x,
+        l.waits,
+        spells-looser q.0 l.level (precedence op) l.part l.tight l.spelled,
+        r.room,
+        h,
+        ap (λ (z : List Lexeme). z ++ x ∷ []) l.whole ∙ append_assoc l.front l.part (x ∷ []),
+      ),
+      counted (base p) k o.1 x o.4,
+      pushed ts o.0 (base p) k o.1 x o.5 o.4,
+    )
 
 -- where nothing waits, the tokens are those of the whole
 alone : (xs front part : List Lexeme) → xs ≡ front ++ part → front ≡ [] → xs ≡ part
@@ -171,14 +193,32 @@ placed ts start before us c xs ys h k e =
 
 kept_close_full : (p : Purpose) (e : Expr) (k : ℕ) (xs : List Lexeme) (n : Name) (d : Stmts) (os : List Open) (ts start : List Placed) (x : Lexeme) → Marks punctuator.CloseParenthesis x → PurposeSoFar p n d os start → Holds [] e xs 1 → k ≡ count_after (base p) xs → ts ≡ start ++ full_after (base p) xs → Kept (close_full (inside n d os) p k e) ts x 0
 kept_close_full (ToCall v) e k xs n d os ts start x h s l c t =
-    let same = alone xs l.front l.part l.whole l.waits in
-    (s.0, s.1, x, l.part, s.2, s.3, h, spells-looser e l.level 1 l.part l.tight l.spelled,
-    pushed ts start 2 k xs x t c
-    ∙ placed (start ++ full_after 2 (xs ++ x ∷ [])) start s.0 (first os 1 (identifier v) ∷ record { token = s.1; count = 2; level = 0 } ∷ []) 2 (xs ++ x ∷ []) (l.part ++ x ∷ []) refl s.4 (ap (λ (z : List Lexeme). z ++ x ∷ []) same))
+    let same = alone xs l.front l.part l.whole l.waits in (
+      s.0,
+      s.1,
+      x,
+      l.part,
+      s.2,
+      s.3,
+      h,
+      spells-looser e l.level 1 l.part l.tight l.spelled,
+      pushed ts start 2 k xs x t c
+          ∙ placed (start ++ full_after 2 (xs ++ x ∷ [])) start s.0 (first os 1 (identifier v) ∷ record { token = s.1; count = 2; level = 0 } ∷ []) 2 (xs ++ x ∷ []) (l.part ++ x ∷ []) refl s.4 (ap (λ (z : List Lexeme). z ++ x ∷ []) same),
+    )
 kept_close_full ToTest e k xs n d os ts start x h s l c t =
-    let same = alone xs l.front l.part l.whole l.waits in
-    (s.0, s.1, s.2, x, l.part, s.3, s.4, s.5, h, spells-looser e l.level 1 l.part l.tight l.spelled,
-    more ts s.0 (first os 0 s.1 ∷ outside s.2 ∷ full l.part) (outside x ∷ []) (placed ts start s.0 (first os 0 s.1 ∷ outside s.2 ∷ []) 0 xs l.part t s.6 same))
+    let same = alone xs l.front l.part l.whole l.waits in (
+      s.0,
+      s.1,
+      s.2,
+      x,
+      l.part,
+      s.3,
+      s.4,
+      s.5,
+      h,
+      spells-looser e l.level 1 l.part l.tight l.spelled,
+      more ts s.0 (first os 0 s.1 ∷ outside s.2 ∷ full l.part) (outside x ∷ []) (placed ts start s.0 (first os 0 s.1 ∷ outside s.2 ∷ []) 0 xs l.part t s.6 same),
+    )
 kept_close_full (ToAssign v) e k xs n d os ts start x h s l c t = tt
 kept_close_full (ToReturn a) e k xs n d os ts start x h s l c t = tt
 kept_close_full (ToInitialise ds v) e k xs n d os ts start x h s l c t = tt
@@ -190,7 +230,7 @@ kept_parenthesis (Parenthesis ∷ us) f p k ws e n d os ts x h o r =
     let w = l.waits in
     let part = w.1 ∷ l.part ++ x ∷ [] in
     let same : o.1 ++ x ∷ [] ≡ w.0 ++ part =
-        ap (λ (z : List Lexeme). z ++ x ∷ []) (prefix-whole o.1 l.front l.part w.0 w.1 l.whole w.4) ∙ append_assoc w.0 (w.1 ∷ l.part) (x ∷ []) in
+    ap (λ (z : List Lexeme). z ++ x ∷ []) (prefix-whole o.1 l.front l.part w.0 w.1 l.whole w.4) ∙ append_assoc w.0 (w.1 ∷ l.part) (x ∷ []) in
     let holds : Holds us (Parenthesised f) (o.1 ++ x ∷ []) 5 = record {
       front = w.0;
       part = part;
@@ -229,7 +269,7 @@ kept_next : (n : Name) (d : Stmts) (os : List Open) (ds : List Declared) (v : Na
 kept_next n d os ds v i us ts x m k h =
     let names = (h.1 ++ us) ++ outside x ∷ [] in
     let same : ts ++ outside x ∷ [] ≡ h.0 ++ (first os 0 h.2 ∷ names ++ []) =
-        more ts h.0 (first os 0 h.2 ∷ h.1 ++ us) (outside x ∷ []) h.7 ∙ ap (λ (z : List Placed). h.0 ++ first os 0 h.2 ∷ z) (sym (append-nil names)) in
+    more ts h.0 (first os 0 h.2 ∷ h.1 ++ us) (outside x ∷ []) h.7 ∙ ap (λ (z : List Placed). h.0 ++ first os 0 h.2 ∷ z) (sym (append-nil names)) in
     (h.0, names, h.2, h.3, h.4, h.5, with-comma ds (declared v i) (h.1 ++ us) x (one-more ds h.1 us v i h.6 k) m, same)
 
 kept_local : (n : Name) (d : Stmts) (os : List Open) (ds : List Declared) (v : Name) (i : Option Expr) (us ts : List Placed) (x : Lexeme) → Marks punctuator.Semicolon x → SpellsDeclared us v i → DeclarationSoFar n d os ds us ts → Kept (Some (InBody (settled n d os (Local Int (ds ++ declared v i ∷ []))))) ts x 0
@@ -240,10 +280,17 @@ kept_local n d os ds v i us ts x m k h =
 -- a declaration behind its last initialiser
 initialised : (n : Name) (d : Stmts) (os : List Open) (ds : List Declared) (v : Name) (ts start : List Placed) (xs : List Lexeme) (part : List Lexeme) (s : PurposeSoFar (ToInitialise ds v) n d os start) → ts ≡ start ++ full_after 0 xs → xs ≡ part → DeclarationSoFar n d os ds (outside (identifier v) ∷ outside s.0 ∷ full part) ts
 initialised n d os ds v ts start xs part s t e =
-    let h = s.2 in
-    (h.0, h.1, h.2, h.3, h.4, h.5, h.6,
-    t ∙ declared-whole start h.0 (first os 0 h.2) h.1 (outside (identifier v) ∷ outside s.0 ∷ []) (full_after 0 xs) h.7
-    ∙ ap (λ (z : List Lexeme). h.0 ++ (first os 0 h.2 ∷ h.1 ++ (outside (identifier v) ∷ outside s.0 ∷ full z))) e)
+    let h = s.2 in (
+      h.0,
+      h.1,
+      h.2,
+      h.3,
+      h.4,
+      h.5,
+      h.6,
+      t ∙ declared-whole start h.0 (first os 0 h.2) h.1 (outside (identifier v) ∷ outside s.0 ∷ []) (full_after 0 xs) h.7
+          ∙ ap (λ (z : List Lexeme). h.0 ++ (first os 0 h.2 ∷ h.1 ++ (outside (identifier v) ∷ outside s.0 ∷ full z))) e,
+    )
 
 kept_end_full : (p : Purpose) (e : Expr) (xs : List Lexeme) (n : Name) (d : Stmts) (os : List Open) (ts start : List Placed) (x : Lexeme) → Marks punctuator.Semicolon x → PurposeSoFar p n d os start → Holds [] e xs 1 → ts ≡ start ++ full_after (base p) xs → Kept (end_full (inside n d os) p e) ts x 0
 kept_end_full (ToAssign v) e xs n d os ts start x h s l t =
@@ -324,9 +371,16 @@ kept_testing role.OpenParenthesis n d os ts x h b =
 kept_testing _ n d os ts x h b = tt
 
 kept_declaring : (r : Role) (ds : List Declared) (n : Name) (d : Stmts) (os : List Open) (ts : List Placed) (x : Lexeme) → HasRole r x → DeclarationSoFar n d os ds [] ts → Kept (declaring_step (inside n d os) ds r (name_of x)) ts x 0
-kept_declaring role.Identifier ds n d os ts x h b =
-    (b.0, b.1, b.2, b.3, b.4, b.5, b.6,
-    declared-whole ts b.0 (first os 0 b.2) b.1 [] (outside x ∷ []) b.7 ∙ ap (λ (y : Lexeme). b.0 ++ (first os 0 b.2 ∷ b.1 ++ outside y ∷ [])) (identified x h))
+kept_declaring role.Identifier ds n d os ts x h b = (
+  b.0,
+  b.1,
+  b.2,
+  b.3,
+  b.4,
+  b.5,
+  b.6,
+  declared-whole ts b.0 (first os 0 b.2) b.1 [] (outside x ∷ []) b.7 ∙ ap (λ (y : Lexeme). b.0 ++ (first os 0 b.2 ∷ b.1 ++ outside y ∷ [])) (identified x h),
+)
 kept_declaring _ ds n d os ts x h b = tt
 
 kept_declared : (r : Role) (ds : List Declared) (v : Name) (n : Name) (d : Stmts) (os : List Open) (ts : List Placed) (x : Lexeme) → HasRole r x → DeclarationSoFar n d os ds (outside (identifier v) ∷ []) ts → Kept (declared_step (inside n d os) ds v r) ts x 0
@@ -352,7 +406,6 @@ kept_body (HasDeclared ds v) b r ts x h k = kept_declared r ds v b.name b.finish
 kept_body (Operand f) b r ts x h k = kept_operand r f.purpose f.count f.waiting b.name b.finished b.opened ts x h k
 kept_body (Operator f e) b r ts x h k = kept_operator r f.purpose f.count f.waiting e b.name b.finished b.opened ts x h k
 kept_body (Called v e c) b r ts x h k = kept_called r v e c b.name b.finished b.opened ts x h k
-
 
 kept_head : (h : Head) (r : Role) (ts : List Placed) (x : Lexeme) → HasRole r x → HeadSoFar h ts → Kept (head_step h r (name_of x)) ts x (role_level (AtHead h) r)
 kept_head ReturnType role.Int ts x h k = (x, h, ap (λ (z : List Placed). z ++ outside x ∷ []) k)
@@ -413,6 +466,6 @@ so_far [] s e ts k h = subst (λ (z : State). SoFar z (ts ++ [])) h (subst (λ (
 so_far (p ∷ us) s e ts k h =
     let one = subst (λ (o : Option State). Kept o ts p.token (level_at s p.token)) h.1 (kept s p.token ts k) in
     let named : SoFar h.0 (ts ++ p ∷ []) =
-        subst (λ (c : ℕ). SoFar h.0 (ts ++ record { token = p.token; count = c; level = p.level } ∷ [])) (sym h.2)
-        (subst (λ (l : ℕ). SoFar h.0 (ts ++ record { token = p.token; count = count_of h.0; level = l } ∷ [])) (sym h.3) one) in
+    subst (λ (c : ℕ). SoFar h.0 (ts ++ record { token = p.token; count = c; level = p.level } ∷ [])) (sym h.2)
+    (subst (λ (l : ℕ). SoFar h.0 (ts ++ record { token = p.token; count = count_of h.0; level = l } ∷ [])) (sym h.3) one) in
     subst (λ (z : List Placed). SoFar e z) (append_assoc ts (p ∷ []) us) (so_far us h.0 e (ts ++ p ∷ []) named h.4)

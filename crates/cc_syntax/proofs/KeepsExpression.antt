@@ -28,7 +28,7 @@ pub record Reduces (level : ℕ) (xs : List Lexeme) (r : Expr × List Waiting) :
   pub holds : Holds r.1 r.0 xs level
   pub room : Room level r.1
 
-prefix-whole : (xs front part rest : List Lexeme) (sign : Lexeme) → xs ≡ front ++ part → front ≡ rest ++ sign ∷ [] → xs ≡ rest ++ sign ∷ part
+pub prefix-whole : (xs front part rest : List Lexeme) (sign : Lexeme) → xs ≡ front ++ part → front ≡ rest ++ sign ∷ [] → xs ≡ rest ++ sign ∷ part
 prefix-whole xs front part rest sign h k = h ∙ ap (λ (z : List Lexeme). z ++ part) k ∙ append_assoc rest (sign ∷ []) part
 
 infix-whole : (xs front part rest left : List Lexeme) (sign : Lexeme) → xs ≡ front ++ part → front ≡ rest ++ (left ++ sign ∷ []) → xs ≡ rest ++ (left ++ sign ∷ part)
@@ -57,18 +57,18 @@ reduces (Prefix op ∷ ws) e xs q low high h =
 reduces (Infix op a ∷ ws) e xs q low high h =
     let w = h.waits in
     elim (leb_tells q (precedence op)) [
-      inl t ↦
-        let more : Holds ws (Binary op a e) xs q = record {
-          front = w.0;
-          part = w.1 ++ w.2 ∷ h.part;
-          level = precedence op;
-          waits = w.3;
-          spelled = (w.2, w.1, h.part, omega arith, w.6, w.4, spells-looser e h.level (suc (precedence op)) h.part h.room h.spelled, refl);
-          room = w.5;
-          tight = t.1;
-          whole = infix-whole xs h.front h.part w.0 w.1 w.2 h.whole w.7;
-        } in
-        subst (λ (r : Expr × List Waiting). Reduces q xs r) (sym (pops q (precedence op) _ _ t.1)) (reduces ws (Binary op a e) xs q low high more)
+      | inl t ↦
+          let more : Holds ws (Binary op a e) xs q = record {
+            front = w.0;
+            part = w.1 ++ w.2 ∷ h.part;
+            level = precedence op;
+            waits = w.3;
+            spelled = (w.2, w.1, h.part, omega arith, w.6, w.4, spells-looser e h.level (suc (precedence op)) h.part h.room h.spelled, refl);
+            room = w.5;
+            tight = t.1;
+            whole = infix-whole xs h.front h.part w.0 w.1 w.2 h.whole w.7;
+          } in
+          subst (λ (r : Expr × List Waiting). Reduces q xs r) (sym (pops q (precedence op) _ _ t.1)) (reduces ws (Binary op a e) xs q low high more)
       | inr t ↦
-        subst (λ (r : Expr × List Waiting). Reduces q xs r) (sym (keeps q (precedence op) _ _ t.1)) (record { holds = h; room = t.1 })
+          subst (λ (r : Expr × List Waiting). Reduces q xs r) (sym (keeps q (precedence op) _ _ t.1)) (record { holds = h; room = t.1 })
     ]

@@ -7,10 +7,6 @@ use Rattle.cc_syntax.specs.Roles.{role_of}
 use Rattle.cc_syntax.specs.Grammar.{Placed, tokens_of, full_after}
 use Rattle.cc_syntax.specs.Machine.{State, step, role_step, name_of, count_of, level_at, role_level}
 
--- a token with its standing, between two states
-abbrev pub standing : State → Lexeme → State → Placed
-standing s x m = record { token = x; count = count_of m; level = level_at s x }
-
 -- the machine goes over the tokens from one state to another
 abbrev pub Runs : State → List Placed → State → Type 0
 Runs s [] e = s ≡ e

@@ -89,16 +89,16 @@ read_expression (Parenthesised e) l xs b p n ws h f top =
     let inner = read_expression e 1 h.2 b p (suc n) (Parenthesis ∷ ws) h.5 tt (omega arith) in
     let m = count_after (suc n) h.2 in
     let ends : Runs (operator b p m inner.waiting inner.last) (full_after m (h.1 ∷ [])) (operator b p (suc m) ws (Parenthesised e)) =
-        token (operator b p m inner.waiting inner.last) (operator b p (suc m) ws (Parenthesised e)) _ h.1 (kind.Punctuator punctuator.CloseParenthesis) (suc m) 0 [] h.4 (behind_inner b p m ws inner.waiting inner.last e (inner.same 1 (omega arith))) refl refl refl in
+    token (operator b p m inner.waiting inner.last) (operator b p (suc m) ws (Parenthesised e)) _ h.1 (kind.Punctuator punctuator.CloseParenthesis) (suc m) 0 [] h.4 (behind_inner b p m ws inner.waiting inner.last e (inner.same 1 (omega arith))) refl refl refl in
     let whole : Runs (operand b p n ws) (full_after n (h.0 ∷ h.2 ++ h.1 ∷ [])) (operator b p (suc m) ws (Parenthesised e)) =
-        token (operand b p n ws) (operand b p (suc n) (Parenthesis ∷ ws)) _ h.0 (kind.Punctuator punctuator.OpenParenthesis) (suc n) 0 (full_after (suc n) (h.2 ++ h.1 ∷ [])) h.3 refl refl refl
-        (runs-full _ _ _ (suc n) h.2 (h.1 ∷ []) inner.runs ends) in
+    token (operand b p n ws) (operand b p (suc n) (Parenthesis ∷ ws)) _ h.0 (kind.Punctuator punctuator.OpenParenthesis) (suc n) 0 (full_after (suc n) (h.2 ++ h.1 ∷ [])) h.3 refl refl refl
+    (runs-full _ _ _ (suc n) h.2 (h.1 ∷ []) inner.runs ends) in
     subst (λ (z : List Lexeme). Read b p n ws l z (Parenthesised e)) (sym h.6)
     (record {
       last = Parenthesised e;
       waiting = ws;
       runs = subst (λ (k : ℕ). Runs (operand b p n ws) (full_after n (h.0 ∷ h.2 ++ h.1 ∷ [])) (operator b p k ws (Parenthesised e))) (sym (count_after-append (suc n) h.2 (h.1 ∷ []))) whole;
-      same = λ q k. refl
+      same = λ q k. refl;
     })
 read_expression (Unary op e) l xs b p n ws h f top =
     let inner = read_expression e 5 h.1 b p (suc n) (Prefix op ∷ ws) h.3 (omega arith) (omega arith) in
@@ -107,7 +107,7 @@ read_expression (Unary op e) l xs b p n ws h f top =
       last = inner.last;
       waiting = inner.waiting;
       runs = token (operand b p n ws) (operand b p (suc n) (Prefix op ∷ ws)) _ h.0 (kind.Punctuator (unary_punctuator op)) (suc n) 0 (full_after (suc n) h.1) h.2 (sign_step op b p n ws h.0) refl refl inner.runs;
-      same = λ q k. inner.same q (omega arith) ∙ pops q 5 _ _ (omega arith)
+      same = λ q k. inner.same q (omega arith) ∙ pops q 5 _ _ (omega arith);
     })
 read_expression (Binary op a c) l xs b p n ws h f top =
     let level = precedence op in
@@ -118,12 +118,12 @@ read_expression (Binary op a c) l xs b p n ws h f top =
     let right = read_expression c (suc level) h.2 b p (suc m) (Infix op a ∷ ws) h.6 (omega arith) (omega (arith, precedence-high op)) in
     let goes = behind_left op b p m ws left.waiting left.last a (left.same level (omega arith) ∙ fits-stays l level ws a f h.3 low high) in
     let whole : Runs (operand b p n ws) (full_after n (h.1 ++ h.0 ∷ h.2)) (operator b p (count_after (suc m) h.2) right.waiting right.last) =
-        runs-full _ _ _ n h.1 (h.0 ∷ h.2) left.runs
-        (token (operator b p m left.waiting left.last) (operand b p (suc m) (Infix op a ∷ ws)) _ h.0 (kind.Punctuator (binary_punctuator op)) (suc m) 0 (full_after (suc m) h.2) h.4 goes refl refl right.runs) in
+    runs-full _ _ _ n h.1 (h.0 ∷ h.2) left.runs
+    (token (operator b p m left.waiting left.last) (operand b p (suc m) (Infix op a ∷ ws)) _ h.0 (kind.Punctuator (binary_punctuator op)) (suc m) 0 (full_after (suc m) h.2) h.4 goes refl refl right.runs) in
     subst (λ (z : List Lexeme). Read b p n ws l z (Binary op a c)) (sym h.7)
     (record {
       last = right.last;
       waiting = right.waiting;
       runs = subst (λ (k : ℕ). Runs (operand b p n ws) (full_after n (h.1 ++ h.0 ∷ h.2)) (operator b p k right.waiting right.last)) (sym (count_after-append n h.1 (h.0 ∷ h.2))) whole;
-      same = λ q k. right.same q (omega (arith, h.3)) ∙ pops q level _ _ (omega (arith, h.3))
+      same = λ q k. right.same q (omega (arith, h.3)) ∙ pops q level _ _ (omega (arith, h.3));
     })

@@ -82,18 +82,18 @@ read_declared : (i : Option Expr) (v : Name) (ts : List Placed) (z : Separator) 
 read_declared None v ts z x n d os ds h k =
     let m = behind z n d os (ds ++ declared v None ∷ []) in
     let runs : Runs (at n d os (Declaring ds)) ((outside (identifier v) ∷ []) ++ outside x ∷ []) m =
-        token (at n d os (Declaring ds)) (at n d os (HasDeclared ds v)) m (identifier v) kind.Identifier 0 0 (outside x ∷ []) refl refl refl refl
-        (token (at n d os (HasDeclared ds v)) m m x (separator z) 0 0 [] k (behind_name z n d os ds v x) (behind-count z n d os _) (behind_level z (HasDeclared ds v) n d os (λ e. cc)) refl) in
+    token (at n d os (Declaring ds)) (at n d os (HasDeclared ds v)) m (identifier v) kind.Identifier 0 0 (outside x ∷ []) refl refl refl refl
+    (token (at n d os (HasDeclared ds v)) m m x (separator z) 0 0 [] k (behind_name z n d os ds v x) (behind-count z n d os _) (behind_level z (HasDeclared ds v) n d os (λ e. cc)) refl) in
     subst (λ (ps : List Placed). Runs (at n d os (Declaring ds)) (ps ++ outside x ∷ []) m) (sym h) runs
 read_declared (Some e) v ts z x n d os ds h k =
     let m = behind z n d os (ds ++ declared v (Some e) ∷ []) in
     let r = read_full e h.1 (inside n d os) (ToInitialise ds v) 0 h.3 in
     let last = operator (inside n d os) (ToInitialise ds v) (count_after 0 h.1) r.waiting r.last in
     let runs : Runs (at n d os (Declaring ds)) ((outside (identifier v) ∷ outside h.0 ∷ full h.1) ++ outside x ∷ []) m =
-        token (at n d os (Declaring ds)) (at n d os (HasDeclared ds v)) m (identifier v) kind.Identifier 0 0 (outside h.0 ∷ full h.1 ++ outside x ∷ []) refl refl refl refl
-        (token (at n d os (HasDeclared ds v)) (operand (inside n d os) (ToInitialise ds v) 0 []) m h.0 (kind.Punctuator punctuator.Assign) 0 0 (full h.1 ++ outside x ∷ []) h.2 refl refl refl
-        (runs-append _ last m (full h.1) (outside x ∷ []) r.runs
-        (token last m m x (separator z) 0 0 [] k (behind_initial z n d os ds v x _ r.waiting r.last e (r.same 1 (omega arith))) (behind-count z n d os _) (behind_level z (Operator (with_count (ToInitialise ds v) (count_after 0 h.1) r.waiting) r.last) n d os (λ e. cc)) refl))) in
+    token (at n d os (Declaring ds)) (at n d os (HasDeclared ds v)) m (identifier v) kind.Identifier 0 0 (outside h.0 ∷ full h.1 ++ outside x ∷ []) refl refl refl refl
+    (token (at n d os (HasDeclared ds v)) (operand (inside n d os) (ToInitialise ds v) 0 []) m h.0 (kind.Punctuator punctuator.Assign) 0 0 (full h.1 ++ outside x ∷ []) h.2 refl refl refl
+    (runs-append _ last m (full h.1) (outside x ∷ []) r.runs
+    (token last m m x (separator z) 0 0 [] k (behind_initial z n d os ds v x _ r.waiting r.last e (r.same 1 (omega arith))) (behind-count z n d os _) (behind_level z (Operator (with_count (ToInitialise ds v) (count_after 0 h.1) r.waiting) r.last) n d os (λ e. cc)) refl))) in
     subst (λ (ps : List Placed). Runs (at n d os (Declaring ds)) (ps ++ outside x ∷ []) m) (sym h.4) runs
 
 read_declaration : (es : List Declared) (ts : List Placed) (x : Lexeme) (n : Name) (d : Stmts) (os : List Open) (ds : List Declared) → SpellsDeclaration ts es → x.kind ≡ kind.Punctuator punctuator.Semicolon → Runs (at n d os (Declaring ds)) (ts ++ outside x ∷ []) (InBody (settled n d os (Local Int (ds ++ es))))
@@ -104,7 +104,7 @@ read_declaration (e ∷ f ∷ es) ts x n d os ds h k =
     let first = read_declared e.initial e.name h.1 Further h.0 n d os ds h.4 h.3 in
     let others = read_declaration (f ∷ es) h.2 x n d os (ds ++ e ∷ []) h.5 k in
     let joined : Runs (at n d os (Declaring (ds ++ e ∷ []))) (h.2 ++ outside x ∷ []) m =
-        subst (λ (z : List Declared). Runs (at n d os (Declaring (ds ++ e ∷ []))) (h.2 ++ outside x ∷ []) (InBody (settled n d os (Local Int z)))) (append_assoc ds (e ∷ []) (f ∷ es)) others in
+    subst (λ (z : List Declared). Runs (at n d os (Declaring (ds ++ e ∷ []))) (h.2 ++ outside x ∷ []) (InBody (settled n d os (Local Int z)))) (append_assoc ds (e ∷ []) (f ∷ es)) others in
     let runs = runs-append _ (at n d os (Declaring (ds ++ e ∷ []))) m (h.1 ++ outside h.0 ∷ []) (h.2 ++ outside x ∷ []) first joined in
     subst (λ (ps : List Placed). Runs (at n d os (Declaring ds)) ps m) (regroup h.1 (outside h.0) h.2 (outside x) ∙ ap (λ (ps : List Placed). ps ++ outside x ∷ []) (sym h.6)) runs
   where
@@ -200,7 +200,7 @@ mutual
       let m = InBody (settled n d os (Block ss)) in
       let inner = read_statements ss h.2 n (Within d os) end h.5 in
       let last : Runs (item n d (InBlock (appended end ss) ∷ os)) (outside h.1 ∷ []) m =
-          completes (item n d (InBlock (appended end ss) ∷ os)) n d os (Block ss) h.1 (kind.Punctuator punctuator.CloseBrace) h.4 (ap (λ (r : Stmts). Some (InBody (settled n d os (Block r)))) (appended-end ss)) refl in
+      completes (item n d (InBlock (appended end ss) ∷ os)) n d os (Block ss) h.1 (kind.Punctuator punctuator.CloseBrace) h.4 (ap (λ (r : Stmts). Some (InBody (settled n d os (Block r)))) (appended-end ss)) refl in
       subst (λ (ps : List Placed). Runs (item n d os) ps m) (sym h.6)
       (token (item n d os) (item n d (InBlock end ∷ os)) m h.0 (kind.Punctuator punctuator.OpenBrace) 0 (suc (suc (length os))) (h.2 ++ outside h.1 ∷ []) h.3 refl refl refl
       (runs-append _ (item n d (InBlock (appended end ss) ∷ os)) m h.2 (outside h.1 ∷ []) inner last))
@@ -208,7 +208,7 @@ mutual
       let m = InBody (settled n d os (Local t ds)) in
       let runs = read_declaration ds h.2 h.1 n d os [] h.6 h.5 in
       let typed : Runs (at n d os (Declaring [])) (h.2 ++ outside h.1 ∷ []) m =
-          subst (λ (u : Scalar). Runs (at n d os (Declaring [])) (h.2 ++ outside h.1 ∷ []) (InBody (settled n d os (Local u ds)))) (sym h.3) runs in
+      subst (λ (u : Scalar). Runs (at n d os (Declaring [])) (h.2 ++ outside h.1 ∷ []) (InBody (settled n d os (Local u ds)))) (sym h.3) runs in
       subst (λ (ps : List Placed). Runs (item n d os) ps m) (sym h.7)
       (token (item n d os) (at n d os (Declaring [])) m h.0 (kind.Keyword keyword.Int) 0 (suc (suc (length os))) (h.2 ++ outside h.1 ∷ []) h.4 (can_declare n d os t ds c) refl refl typed)
   read_statement (Assign v e) ts n d os h c =
@@ -228,21 +228,21 @@ mutual
       let k = count_after 2 h.3 in
       let last = operator b (ToCall v) k r.waiting r.last in
       let tail : Runs (operand b (ToCall v) 2 []) ((full_after 2 h.3 ++ record { token = h.1; count = suc k; level = 0 } ∷ []) ++ outside h.2 ∷ []) m =
-          runs-append _ (at n d os (Called v e (suc k))) m (full_after 2 h.3 ++ record { token = h.1; count = suc k; level = 0 } ∷ []) (outside h.2 ∷ [])
-          (runs-append _ last (at n d os (Called v e (suc k))) (full_after 2 h.3) (record { token = h.1; count = suc k; level = 0 } ∷ []) r.runs
-          (token last (at n d os (Called v e (suc k))) (at n d os (Called v e (suc k))) h.1 (kind.Punctuator punctuator.CloseParenthesis) (suc k) 0 [] h.5 (closes b (ToCall v) k r.waiting r.last e (r.same 1 (omega arith))) refl refl refl))
-          (completes (at n d os (Called v e (suc k))) n d os (Call v e) h.2 (kind.Punctuator punctuator.Semicolon) h.6 refl refl) in
+      runs-append _ (at n d os (Called v e (suc k))) m (full_after 2 h.3 ++ record { token = h.1; count = suc k; level = 0 } ∷ []) (outside h.2 ∷ [])
+      (runs-append _ last (at n d os (Called v e (suc k))) (full_after 2 h.3) (record { token = h.1; count = suc k; level = 0 } ∷ []) r.runs
+      (token last (at n d os (Called v e (suc k))) (at n d os (Called v e (suc k))) h.1 (kind.Punctuator punctuator.CloseParenthesis) (suc k) 0 [] h.5 (closes b (ToCall v) k r.waiting r.last e (r.same 1 (omega arith))) refl refl refl))
+      (completes (at n d os (Called v e (suc k))) n d os (Call v e) h.2 (kind.Punctuator punctuator.Semicolon) h.6 refl refl) in
       let counted : Runs (operand b (ToCall v) 2 []) (full_after 2 (h.3 ++ h.1 ∷ []) ++ outside h.2 ∷ []) m =
-          subst (λ (ps : List Placed). Runs (operand b (ToCall v) 2 []) (ps ++ outside h.2 ∷ []) m) (sym (full_after-append 2 h.3 (h.1 ∷ []))) tail in
+      subst (λ (ps : List Placed). Runs (operand b (ToCall v) 2 []) (ps ++ outside h.2 ∷ []) m) (sym (full_after-append 2 h.3 (h.1 ∷ []))) tail in
       subst (λ (ps : List Placed). Runs (item n d os) ps m) (sym h.8)
       (token (item n d os) (at n d os (Named v)) m (identifier v) kind.Identifier 1 (suc (suc (length os))) (record { token = h.0; count = 2; level = 0 } ∷ full_after 2 (h.3 ++ h.1 ∷ []) ++ outside h.2 ∷ []) refl refl refl refl
       (token (at n d os (Named v)) (operand b (ToCall v) 2 []) m h.0 (kind.Punctuator punctuator.OpenParenthesis) 2 0 (full_after 2 (h.3 ++ h.1 ∷ []) ++ outside h.2 ∷ []) h.4 refl refl refl counted))
   read_statement (Return a None) ts n d os h c =
       let m = InBody (settled n d os (Return a None)) in
       let last : Runs (at n d os (Returning a)) (outside h.1 ∷ []) m =
-          completes (at n d os (Returning a)) n d os (Return a None) h.1 (kind.Punctuator punctuator.Semicolon) h.5 refl refl in
+      completes (at n d os (Returning a)) n d os (Return a None) h.1 (kind.Punctuator punctuator.Semicolon) h.5 refl refl in
       let operands : Runs (at n d os (Returning a)) (h.2 ++ outside h.1 ∷ []) m =
-          subst (λ (ps : List Placed). Runs (at n d os (Returning a)) (ps ++ outside h.1 ∷ []) m) (sym h.6) last in
+      subst (λ (ps : List Placed). Runs (at n d os (Returning a)) (ps ++ outside h.1 ∷ []) m) (sym h.6) last in
       subst (λ (ps : List Placed). Runs (item n d os) ps m) (sym h.7)
       (token (item n d os) (at n d os (Returning a)) m h.0 (kind.Keyword keyword.Return) 0 (suc (suc (length os))) (h.2 ++ outside h.1 ∷ []) h.3 (ap (λ (z : ℕ). Some (at n d os (Returning z))) h.4) refl refl operands)
   read_statement (Return a (Some e)) ts n d os h c =
@@ -252,10 +252,10 @@ mutual
       let r = read_full e o.0 b (ToReturn a) 0 o.1 in
       let last = operator b (ToReturn a) (count_after 0 o.0) r.waiting r.last in
       let runs : Runs (at n d os (Returning a)) (full o.0 ++ outside h.1 ∷ []) m =
-          runs-append _ last m (full o.0) (outside h.1 ∷ []) (read_operand b a o.0 (count_after 0 o.0) r.waiting r.last r.runs)
-          (completes last n d os (Return a (Some e)) h.1 (kind.Punctuator punctuator.Semicolon) h.5 (ends b (ToReturn a) (count_after 0 o.0) r.waiting r.last e (r.same 1 (omega arith))) refl) in
+      runs-append _ last m (full o.0) (outside h.1 ∷ []) (read_operand b a o.0 (count_after 0 o.0) r.waiting r.last r.runs)
+      (completes last n d os (Return a (Some e)) h.1 (kind.Punctuator punctuator.Semicolon) h.5 (ends b (ToReturn a) (count_after 0 o.0) r.waiting r.last e (r.same 1 (omega arith))) refl) in
       let operands : Runs (at n d os (Returning a)) (h.2 ++ outside h.1 ∷ []) m =
-          subst (λ (ps : List Placed). Runs (at n d os (Returning a)) (ps ++ outside h.1 ∷ []) m) (sym o.2) runs in
+      subst (λ (ps : List Placed). Runs (at n d os (Returning a)) (ps ++ outside h.1 ∷ []) m) (sym o.2) runs in
       subst (λ (ps : List Placed). Runs (item n d os) ps m) (sym h.7)
       (token (item n d os) (at n d os (Returning a)) m h.0 (kind.Keyword keyword.Return) 0 (suc (suc (length os))) (h.2 ++ outside h.1 ∷ []) h.3 (ap (λ (z : ℕ). Some (at n d os (Returning z))) h.4) refl refl operands)
   read_statement (While e s) ts n d os h c =
@@ -265,8 +265,8 @@ mutual
       let last = operator b ToTest (count_after 0 h.3) r.waiting r.last in
       let body = read_statement s h.4 n d (InWhile e ∷ os) h.9 h.10 in
       let runs : Runs (operand b ToTest 0 []) (full h.3 ++ outside h.2 ∷ h.4) m =
-          runs-append _ last m (full h.3) (outside h.2 ∷ h.4) r.runs
-          (token last (item n d (InWhile e ∷ os)) m h.2 (kind.Punctuator punctuator.CloseParenthesis) 0 0 h.4 h.7 (closes b ToTest (count_after 0 h.3) r.waiting r.last e (r.same 1 (omega arith))) refl refl body) in
+      runs-append _ last m (full h.3) (outside h.2 ∷ h.4) r.runs
+      (token last (item n d (InWhile e ∷ os)) m h.2 (kind.Punctuator punctuator.CloseParenthesis) 0 0 h.4 h.7 (closes b ToTest (count_after 0 h.3) r.waiting r.last e (r.same 1 (omega arith))) refl refl body) in
       subst (λ (ps : List Placed). Runs (item n d os) ps m) (sym h.11)
       (token (item n d os) (at n d os Testing) m h.0 (kind.Keyword keyword.While) 0 (suc (suc (length os))) (outside h.1 ∷ full h.3 ++ outside h.2 ∷ h.4) h.5 refl refl refl
       (token (at n d os Testing) (operand b ToTest 0 []) m h.1 (kind.Punctuator punctuator.OpenParenthesis) 0 0 (full h.3 ++ outside h.2 ∷ h.4) h.6 refl refl refl runs))
@@ -296,7 +296,7 @@ read_body n ts ss h =
     let m = Done (record { name = n; body = ss }) in
     let inner = read_statements ss h.2 n Top end h.5 in
     let last : Runs (item n (appended end ss) []) (outside h.1 ∷ []) m =
-        token (item n (appended end ss) []) m m h.1 (kind.Punctuator punctuator.CloseBrace) 0 0 [] h.4 (ap (λ (r : Stmts). Some (Done (record { name = n; body = r }))) (appended-end ss)) refl refl refl in
+    token (item n (appended end ss) []) m m h.1 (kind.Punctuator punctuator.CloseBrace) 0 0 [] h.4 (ap (λ (r : Stmts). Some (Done (record { name = n; body = r }))) (appended-end ss)) refl refl refl in
     subst (λ (ps : List Placed). Runs (AtHead (Body n)) ps m) (sym h.6)
     (token (AtHead (Body n)) (item n end []) m h.0 (kind.Punctuator punctuator.OpenBrace) 0 1 (h.2 ++ outside h.1 ∷ []) h.3 refl refl refl
     (runs-append _ (item n (appended end ss) []) m h.2 (outside h.1 ∷ []) inner last))
@@ -306,9 +306,9 @@ pub read_unit : (f : Definition) (ts : List Placed) → SpellsUnit ts f → Runs
 read_unit f ts h =
     let n = f.name in
     let rest : Runs (AtHead (Parameters n)) ((map outside h.3 ++ outside h.2 ∷ []) ++ h.4) (Done f) =
-        runs-append _ (AtHead (Body n)) (Done f) (map outside h.3 ++ outside h.2 ∷ []) h.4 (read_parameters n h.3 h.2 h.7 h.8) (read_body n h.4 f.body h.9) in
+    runs-append _ (AtHead (Body n)) (Done f) (map outside h.3 ++ outside h.2 ∷ []) h.4 (read_parameters n h.3 h.2 h.7 h.8) (read_body n h.4 f.body h.9) in
     let grouped : Runs (AtHead (Parameters n)) (map outside h.3 ++ outside h.2 ∷ h.4) (Done f) =
-        subst (λ (ps : List Placed). Runs (AtHead (Parameters n)) ps (Done f)) (append_assoc (map outside h.3) (outside h.2 ∷ []) h.4) rest in
+    subst (λ (ps : List Placed). Runs (AtHead (Parameters n)) ps (Done f)) (append_assoc (map outside h.3) (outside h.2 ∷ []) h.4) rest in
     subst (λ (ps : List Placed). Runs start ps (Done f)) (sym h.10)
     (token start (AtHead FunctionName) (Done f) h.0 (kind.Keyword keyword.Int) 0 0 (outside (identifier n) ∷ outside h.1 ∷ map outside h.3 ++ outside h.2 ∷ h.4) h.5 refl refl refl
     (token (AtHead FunctionName) (AtHead (Opening n)) (Done f) (identifier n) kind.Identifier 0 0 (outside h.1 ∷ map outside h.3 ++ outside h.2 ∷ h.4) refl refl refl refl

@@ -13,3 +13,4 @@ pub mod Limits
 pub mod Roles
 pub mod Machine
 pub mod MachineView
+pub mod Parse

@@ -1,5 +1,6 @@
 -- The limits of a unit, and the first token that breaks the grammar or a limit.
-use Rattle.std.specs.Prelude.{◌≡◌, ℕ, suc, ◌<◌, ◌≤◌, List, [], ◌∷◌, ◌++◌, length, take, ◌⊎◌, All}
+use Rattle.std.specs.Prelude.{◌≡◌, ℕ, suc, ◌<◌, ◌≤◌, List, [], ◌∷◌, ◌++◌, length, take, ◌⊎◌}
+use Rattle.std.specs.List.{AllByRecursion}
 use Rattle.cc_syntax.specs.Token.{Lexeme}
 use Rattle.cc_syntax.specs.Tree.{Definition}
 use Rattle.cc_syntax.specs.Grammar.{Placed, SpellsUnit, tokens_of, Spells, Begins}
@@ -10,7 +11,7 @@ IsWithin p = (p.count ≤ 512) × (p.level ≤ 64)
 
 -- the tokens spell the tree, and the limits hold
 abbrev pub SpellsWithin : List Lexeme → Definition → Type 0
-SpellsWithin tokens tree = (ts : List Placed) × SpellsUnit ts tree × All IsWithin ts × (tokens_of ts ≡ tokens)
+SpellsWithin tokens tree = (ts : List Placed) × SpellsUnit ts tree × AllByRecursion IsWithin ts × (tokens_of ts ≡ tokens)
 
 -- a token past a limit: behind the 512th of a full expression, or the first of a statement or declaration below level 64
 abbrev pub PassesLimit : Placed → Type 0
@@ -31,3 +32,12 @@ TooDeepAt tokens k =
 -- some unit goes on from the tokens before number k, none of which passes a limit
 abbrev pub IsFineBefore : List Lexeme → ℕ → Type 0
 IsFineBefore tokens k = Begins (take k tokens) × ((j : ℕ) → j < k → TooDeepAt tokens j → ⊥)
+
+-- tokens spell one tree at most
+abbrev pub TreesAreOne : Type 0
+TreesAreOne = (tokens : List Lexeme) (a b : Definition) → Spells tokens a → Spells tokens b → a ≡ b
+
+-- where tokens spell a tree within the limits, no token breaks the grammar or a limit
+abbrev pub SpelledHaveNoFault : Type 0
+SpelledHaveNoFault =
+    (tokens : List Lexeme) (tree : Definition) (k : ℕ) → SpellsWithin tokens tree → (UnexpectedAt tokens k → ⊥) × (TooDeepAt tokens k → ⊥)

@@ -1,4 +1,5 @@
--- The parser's state without where it lies in memory.
+-- The parser's state without where it lies in memory, and what its functions answer by it. No public contract cites this
+-- file.
 use Rattle.std.specs.Prelude.{◌≡◌, ℕ, List, [], ◌∷◌, reverse, map, Option, Some, None, Result, Ok, Err}
 use Rattle.cc_syntax.specs.declared.ast.Declarator.{Declarator}
 use Rattle.cc_syntax.specs.declared.parser.state.Waiting as waiting
@@ -19,7 +20,13 @@ use Rattle.cc_syntax.specs.declared.parser.stop.Stop as stop
 use Rattle.cc_syntax.specs.declared.parser.stop.Stop.TheVariants as stops
 use Rattle.cc_syntax.specs.Tree.{Declared}
 use Rattle.cc_syntax.specs.Erase.{name_tree, expression_tree, declarator_tree, statements_of, function_tree}
-use Rattle.cc_syntax.specs.Machine.{Waiting, Parenthesis, Prefix, Infix, Purpose, ToAssign, ToCall, ToReturn, ToTest, ToInitialise, Full, Open, InBlock, InWhile, Stage, Item, Named, Returning, Testing, Declaring, HasDeclared, Operand, Operator, Called, Head, ReturnType, FunctionName, Opening, Parameters, Closing, Body, Inside, State, AtHead, InBody, Done}
+use Rattle.cc_syntax.specs.declared.parser.stop.Refusal as refusal
+use Rattle.cc_syntax.specs.declared.parser.stop.Refusal.TheVariants as refusals
+use Rattle.cc_syntax.specs.declared.ast.Function.{Function}
+use Rattle.cc_syntax.specs.Token.{Lexeme}
+use Rattle.cc_syntax.specs.Grammar.{Placed}
+use Rattle.cc_syntax.specs.Limits.{IsWithin, PassesLimit, SpellsWithin, UnexpectedAt, TooDeepAt, IsFineBefore}
+use Rattle.cc_syntax.specs.Machine.{step, count_of, level_at, Waiting, Parenthesis, Prefix, Infix, Purpose, ToAssign, ToCall, ToReturn, ToTest, ToInitialise, Full, Open, InBlock, InWhile, Stage, Item, Named, Returning, Testing, Declaring, HasDeclared, Operand, Operator, Called, Head, ReturnType, FunctionName, Opening, Parameters, Closing, Body, Inside, State, AtHead, InBody, Done}
 
 abbrev pub waiting_view : waiting.Waiting → Waiting
 waiting_view waitings.Parenthesis = Parenthesis
@@ -82,7 +89,26 @@ state_view (states.Done f) = Done (function_tree f)
 abbrev pub Stops : {Y : Type 0} → stop.Stop → Option Y → Type 0
 Stops stops.Memory given = Unit {0}
 Stops stops.Unexpected given = given ≡ None
+Stops stops.TooDeep given = ⊥
 
 abbrev pub Gives : {X Y : Type 0} → (X → Y) → Result X stop.Stop → Option Y → Type 0
 Gives view (Ok x) given = given ≡ Some (view x)
 Gives view (Err e) given = Stops e given
+
+-- a token with its standing, between two states
+abbrev pub standing : State → Lexeme → State → Placed
+standing s x m = record { token = x; count = count_of m; level = level_at s x }
+
+-- what a token comes to, its limits asked
+abbrev pub Advances : State → Lexeme → Result state.State stop.Stop → Type 0
+Advances s x (Ok next) = (step s x ≡ Some (state_view next)) × IsWithin (standing s x (state_view next))
+Advances s x (Err stops.Memory) = Unit {0}
+Advances s x (Err stops.Unexpected) = step s x ≡ None
+Advances s x (Err stops.TooDeep) = (m : State) × (step s x ≡ Some m) × PassesLimit (standing s x m)
+
+-- what all tokens come to
+abbrev pub Answers : List Lexeme → Result Function refusal.Refusal → Type 0
+Answers tokens (Ok f) = SpellsWithin tokens (function_tree f)
+Answers tokens (Err refusals.Memory) = Unit {0}
+Answers tokens (Err (refusals.Unexpected k)) = IsFineBefore tokens k × UnexpectedAt tokens k
+Answers tokens (Err (refusals.TooDeep k)) = IsFineBefore tokens k × TooDeepAt tokens k

@@ -20,6 +20,7 @@ pub use ast::{
 };
 pub use fault::SyntaxFault;
 pub use lexer::{tokens, tokens_are_determined};
+pub use parser::{parse, trees_are_determined};
 pub use place::{Place, place_at};
 pub use token::{Keyword, Punctuator, Token, TokenKind};
 pub use unit::Unit;

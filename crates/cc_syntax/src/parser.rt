@@ -1,8 +1,76 @@
 // The tree that the tokens of a text spell.
+//
+// The parser is a machine that goes over the tokens once: `state` is where it stands between two of them, `step` what a
+// token does in each state (`body` in a function's body, `expression` for the operators that wait), `role` what a token is
+// to the grammar, `read` all the tokens with the limits. No call is nested deeper for a deeper text.
 
 mod body;
 mod expression;
+mod read;
 mod role;
 mod state;
 mod step;
 mod stop;
+
+ghost use Rattle.std.specs.Prelude.{◌≡◌, ◌≤◌, length, IfOk, IfErr};
+ghost use Rattle.cc_syntax.specs.Tree.{Definition};
+ghost use Rattle.cc_syntax.specs.Token.{lexemes};
+ghost use Rattle.cc_syntax.specs.Tokens.{AreInOrder};
+ghost use Rattle.cc_syntax.specs.Parse.{SpellsText, IsParseRefusal, place_at_token};
+ghost use Rattle.cc_syntax.specs.Limits.{TreesAreOne, SpelledHaveNoFault};
+ghost use Rattle.cc_syntax.specs.Source.{source, AnswersTree};
+
+use crate::fault::SyntaxFault;
+use crate::lexer::tokens;
+use crate::parser::read::read_tokens;
+use crate::parser::stop::Refusal;
+use crate::place::{Place, place_at};
+use crate::token::Token;
+use crate::unit::Unit;
+use std::alloc::Global;
+
+/// The place of a token, or of the end of the text.
+fn place_of_token(text: &[u8], tokens: &[Token], number: usize) -> Place
+    requires { AreInOrder 0 tokens.now (length text.now) }
+    ensures { result ≡ place_at_token text.now (lexemes text.now tokens.now) number }
+{
+    match tokens.get(number) {
+        Some(token) => place_at(text, token.from),
+        None => place_at(text, text.len()),
+    }
+}
+
+/// The tree that a text spells (C99 6.5 to 6.9, and the profile's grammar), with the text.
+///
+/// Refusals: 7 and 1 to 4 as `tokens` has them; then 5 or 6 at the first token that has one: 5 where no unit begins with
+/// the tokens up to and with it (the end of the text counts as a last token), 6 where it is behind the 512th token of a
+/// full expression, or begins a statement or declaration below level 64; 40 where memory was refused.
+pub fn parse(alloc: Global, text: &[u8]) -> Result<Unit, SyntaxFault>
+    ensures fits { IfOk result (λ _. length text.now ≤ 65536) }
+    ensures text { IfOk result (λ u. (source u).text ≡ text.now) }
+    ensures spelled { IfOk result (λ u. SpellsText text.now (source u).function) }
+    // Where the text spells a tree, that is the answer.
+    ensures only { (tree : Definition) → length text.now ≤ 65536 → SpellsText text.now tree → AnswersTree tree result }
+    ensures refused { IfErr result (λ fault. IsParseRefusal text.now fault) }
+{
+    let found = tokens(alloc, text)?;
+    match read_tokens(alloc, text, &found) {
+        Ok(function) => match Vec::from_slice(alloc, text) {
+            Ok(text) => Ok(Unit::new(text, function)),
+            Err(_) => Err(SyntaxFault::OutOfMemory),
+        },
+        Err(Refusal::Memory) => Err(SyntaxFault::OutOfMemory),
+        Err(Refusal::Unexpected(number)) => {
+            Err(SyntaxFault::Unexpected(place_of_token(text, &found, number)))
+        }
+        Err(Refusal::TooDeep(number)) => {
+            Err(SyntaxFault::TooDeep(place_of_token(text, &found, number)))
+        }
+    }
+}
+
+/// Tokens spell one tree at most, and where they spell one within the limits no token breaks the grammar or a limit.
+pub fn trees_are_determined()
+    ensures one { TreesAreOne }
+    ensures no_fault { SpelledHaveNoFault }
+{}

@@ -9,6 +9,19 @@ pub enum Stop {
     Memory,
     /// No unit goes on with the token.
     Unexpected,
+    /// The token passes a limit.
+    TooDeep,
+}
+
+/// Why tokens spell no unit.
+#[derive(Debug, Drop)]
+pub enum Refusal {
+    /// Memory was refused.
+    Memory,
+    /// No unit goes on with the token of this number; the end of the text counts as a last token.
+    Unexpected(usize),
+    /// The token of this number passes a limit.
+    TooDeep(usize),
 }
 
 impl From<AllocError> for Stop {
