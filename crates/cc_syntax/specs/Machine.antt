@@ -280,3 +280,8 @@ level_at s x = role_level s (role_of x.kind)
 
 abbrev pub start : State
 start = AtHead ReturnType
+
+-- the tree of a unit that is complete
+abbrev pub tree_of : State → Option Definition
+tree_of (Done f) = Some f
+tree_of _ = None

@@ -12,14 +12,17 @@ mod state;
 mod step;
 mod stop;
 
-ghost use Rattle.std.specs.Prelude.{◌≡◌, ◌≤◌, length, IfOk, IfErr};
+ghost use Rattle.std.specs.Prelude.{◌≡◌, ◌≤◌, length, IfOk, IfErr, Err};
 ghost use Rattle.cc_syntax.specs.Tree.{Definition};
 ghost use Rattle.cc_syntax.specs.Token.{lexemes};
-ghost use Rattle.cc_syntax.specs.Tokens.{AreInOrder};
+ghost use Rattle.cc_syntax.specs.Tokens.{AreInOrder, IsTokens};
+ghost use Rattle.cc_syntax.specs.Erase.{function_tree};
+ghost use Rattle.cc_syntax.specs.MachineView.{Answers};
 ghost use Rattle.cc_syntax.specs.Parse.{SpellsText, IsParseRefusal, place_at_token};
 ghost use Rattle.cc_syntax.specs.Limits.{TreesAreOne, SpelledHaveNoFault};
-ghost use Rattle.cc_syntax.specs.Source.{source, AnswersTree};
+ghost use Rattle.cc_syntax.specs.Source.{source, AnswersTree, IsParse};
 
+use crate::ast::Function;
 use crate::fault::SyntaxFault;
 use crate::lexer::tokens;
 use crate::parser::read::read_tokens;
@@ -34,9 +37,50 @@ fn place_of_token(text: &[u8], tokens: &[Token], number: usize) -> Place
     requires { AreInOrder 0 tokens.now (length text.now) }
     ensures { result ≡ place_at_token text.now (lexemes text.now tokens.now) number }
 {
-    match tokens.get(number) {
-        Some(token) => place_at(text, token.from),
-        None => place_at(text, text.len()),
+    if number < tokens.len() {
+        place_at(text, tokens[number].from)
+    } else {
+        place_at(text, text.len())
+    }
+}
+
+/// The answer for a text whose tokens were refused by the grammar or a limit, or for want of memory.
+fn fault_of(text: &[u8], tokens: &[Token], refusal: Refusal) -> SyntaxFault
+    requires fits { length text.now ≤ 65536 }
+    requires ordered { AreInOrder 0 tokens.now (length text.now) }
+    requires tokens { IsTokens text.now (lexemes text.now tokens.now) }
+    requires refused { Answers (lexemes text.now tokens.now) (Err refusal) }
+    ensures { IsParseRefusal text.now result }
+{
+    match refusal {
+        Refusal::Memory => SyntaxFault::OutOfMemory,
+        Refusal::Unexpected(number) => SyntaxFault::Unexpected(place_of_token(
+            text, tokens, number,
+        )),
+        Refusal::TooDeep(number) => SyntaxFault::TooDeep(place_of_token(text, tokens, number)),
+    }
+}
+
+/// A text and the function that its tokens spell.
+fn unit_of(alloc: Global, text: &[u8], function: Function) -> Result<Unit, SyntaxFault>
+    requires fits { length text.now ≤ 65536 }
+    requires spelled { SpellsText text.now (function_tree function) }
+    ensures { IsParse text.now result }
+{
+    match Vec::from_slice(alloc, text) {
+        Ok(text) => Ok(Unit::new(text, function)),
+        Err(_) => Err(SyntaxFault::OutOfMemory),
+    }
+}
+
+/// The answer for a text.
+fn parse_text(alloc: Global, text: &[u8]) -> Result<Unit, SyntaxFault>
+    ensures { IsParse text.now result }
+{
+    let found = tokens(alloc, text)?;
+    match read_tokens(alloc, text, found.as_slice()) {
+        Ok(function) => unit_of(alloc, text, function),
+        Err(refusal) => Err(fault_of(text, found.as_slice(), refusal)),
     }
 }
 
@@ -53,20 +97,7 @@ pub fn parse(alloc: Global, text: &[u8]) -> Result<Unit, SyntaxFault>
     ensures only { (tree : Definition) → length text.now ≤ 65536 → SpellsText text.now tree → AnswersTree tree result }
     ensures refused { IfErr result (λ fault. IsParseRefusal text.now fault) }
 {
-    let found = tokens(alloc, text)?;
-    match read_tokens(alloc, text, &found) {
-        Ok(function) => match Vec::from_slice(alloc, text) {
-            Ok(text) => Ok(Unit::new(text, function)),
-            Err(_) => Err(SyntaxFault::OutOfMemory),
-        },
-        Err(Refusal::Memory) => Err(SyntaxFault::OutOfMemory),
-        Err(Refusal::Unexpected(number)) => {
-            Err(SyntaxFault::Unexpected(place_of_token(text, &found, number)))
-        }
-        Err(Refusal::TooDeep(number)) => {
-            Err(SyntaxFault::TooDeep(place_of_token(text, &found, number)))
-        }
-    }
+    parse_text(alloc, text)
 }
 
 /// Tokens spell one tree at most, and where they spell one within the limits no token breaks the grammar or a limit.

@@ -1,7 +1,9 @@
 // All tokens, one after the other.
 
 ghost use Rattle.std.specs.Prelude.{◌≡◌, ◌<◌, ◌≤◌, length};
-ghost use Rattle.cc_syntax.specs.Machine.{count_of};
+ghost use Rattle.std.specs.Option.{option_map};
+ghost use Rattle.cc_syntax.specs.Erase.{function_tree};
+ghost use Rattle.cc_syntax.specs.Machine.{count_of, tree_of};
 ghost use Rattle.cc_syntax.specs.MachineView.{state_view, Advances, Answers};
 ghost use Rattle.cc_syntax.specs.Token.{lexeme, lexemes};
 ghost use Rattle.cc_syntax.specs.Tokens.{AreInOrder};
@@ -36,6 +38,16 @@ fn advance(alloc: Global, state: State, text: &[u8], token: Token) -> Result<Sta
     Ok(next)
 }
 
+/// The function, where its unit is complete.
+fn finished(state: State) -> Option<Function>
+    ensures { option_map function_tree result ≡ tree_of (state_view state) }
+{
+    match state {
+        State::Done(function) => Some(function),
+        State::Head(_) | State::Body(_) => None,
+    }
+}
+
 /// The function that all the tokens spell within the limits, or the first token that breaks the grammar or a limit.
 pub fn read_tokens(alloc: Global, text: &[u8], tokens: &[Token]) -> Result<Function, Refusal>
     requires { AreInOrder 0 tokens.now (length text.now) }
@@ -50,8 +62,8 @@ pub fn read_tokens(alloc: Global, text: &[u8], tokens: &[Token]) -> Result<Funct
             Err(Stop::TooDeep) => return Err(Refusal::TooDeep(number)),
         }
     }
-    match state {
-        State::Done(function) => Ok(function),
-        _ => Err(Refusal::Unexpected(tokens.len())),
+    match finished(state) {
+        Some(function) => Ok(function),
+        None => Err(Refusal::Unexpected(tokens.len())),
     }
 }
