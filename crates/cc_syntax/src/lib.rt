@@ -1,8 +1,8 @@
 // From C text to a syntax tree: the tokens of a text, and the tree that its tokens spell.
 //
-// `token` has the types of tokens, `scan` says what stands at the front of the bytes that are left, `lexer` has the tokens
-// of a text, `flaw` what keeps it from having them, `parser` the tree that they spell, `ast` the tree, `place` lines and
-// columns, `fault` the refusals 1 to 7 and 40, `unit` a parsed text with its tree. The crate hands out `tokens`, `parse`, `place_at` and these types.
+// `token` has the types of tokens, `scan` what stands at the front of the bytes that are left, `lexer` the tokens of a
+// text, `flaw` what keeps it from having them, `parser` the tree that they spell, `ast` the tree, `place` lines and columns,
+// `fault` the refusals, `unit` a text with its tree. The crate hands out `tokens`, `parse`, `place_at` and these types.
 #![tactic(auto)]
 
 mod ast;
