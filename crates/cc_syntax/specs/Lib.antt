@@ -1,10 +1,16 @@
 pub mod Tree
 pub mod Erase
+pub mod Token
 pub mod Place
 pub mod Fault
 pub mod Source
-pub mod Token
 pub mod Spelling
 pub mod Constant
 pub mod Tokens
 pub mod Scan
+pub mod Grammar
+pub mod Limits
+pub mod Roles
+pub mod Machine
+pub mod MachineView
+pub mod Parse

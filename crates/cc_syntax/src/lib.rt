@@ -1,14 +1,15 @@
 // From C text to a syntax tree: the tokens of a text, and the tree that its tokens spell.
 //
-// `token` has the types of tokens, `scan` says what stands at the front of the bytes that are left, `lexer` has the tokens
-// of a text, `flaw` what keeps it from having them, `ast` the tree, `place` lines and columns, `fault` the refusals 1 to 7
-// and 40, `unit` a parsed text with its tree. The crate hands out `tokens`, `parse`, `place_at` and these types.
+// `token` has the types of tokens, `scan` what stands at the front of the bytes that are left, `lexer` the tokens of a
+// text, `flaw` what keeps it from having them, `parser` the tree that they spell, `ast` the tree, `place` lines and columns,
+// `fault` the refusals, `unit` a text with its tree. The crate hands out `tokens`, `parse`, `place_at` and these types.
 #![tactic(auto)]
 
 mod ast;
 mod fault;
 mod flaw;
 mod lexer;
+mod parser;
 mod place;
 mod scan;
 mod token;
@@ -19,6 +20,7 @@ pub use ast::{
 };
 pub use fault::SyntaxFault;
 pub use lexer::{tokens, tokens_are_determined};
+pub use parser::{parse, trees_are_determined};
 pub use place::{Place, place_at};
 pub use token::{Keyword, Punctuator, Token, TokenKind};
 pub use unit::Unit;

@@ -1,0 +1,41 @@
+-- What the text as a whole spells, and why it is refused.
+use Rattle.std.specs.Prelude.{◌≡◌, ℕ, ◌≤◌, List, length, slice_get, Option, Some, None, Result, Ok, Err}
+use Rattle.cc_syntax.specs.declared.place.Place.{Place}
+use Rattle.cc_syntax.specs.declared.fault.SyntaxFault.{SyntaxFault}
+use Rattle.cc_syntax.specs.declared.fault.SyntaxFault.TheVariants as fault
+use Rattle.cc_syntax.specs.Token.{Lexeme}
+use Rattle.cc_syntax.specs.Tree.{Definition}
+use Rattle.cc_syntax.specs.Place.{place_of}
+use Rattle.cc_syntax.specs.Tokens.{IsTokens, IsRefusal}
+use Rattle.cc_syntax.specs.Limits.{SpellsWithin, UnexpectedAt, TooDeepAt, IsFineBefore}
+
+-- the text's tokens spell the tree, and the limits hold
+pub record SpellsText (text : List ℕ) (tree : Definition) : Type 0 where
+  pub tokens : List Lexeme
+  pub are : IsTokens text tokens
+  pub spelled : SpellsWithin tokens tree
+
+-- the offset of a token that is there, or the end of the text
+abbrev pub offset_of : List ℕ → Option Lexeme → ℕ
+offset_of text None = length text
+offset_of text (Some x) = x.at
+
+-- the place of token number k, one past the last byte where the text ends before it
+abbrev pub place_at_token : List ℕ → List Lexeme → ℕ → Place
+place_at_token text tokens k = place_of text (offset_of text (slice_get tokens k))
+
+-- the text has tokens, of which number k is the first that breaks the grammar or a limit, in the way that is named
+pub record BreaksAt (Breaks : List Lexeme → ℕ → Type 0) (text : List ℕ) (p : Place) : Type 0 where
+  pub fits : length text ≤ 65536
+  pub tokens : List Lexeme
+  pub are : IsTokens text tokens
+  pub number : ℕ
+  pub before : IsFineBefore tokens number
+  pub here : Breaks tokens number
+  pub place : p ≡ place_at_token text tokens number
+
+-- when a text has no tree: where it has no tokens, as for them; else 5 or 6 at the first token that has one
+abbrev pub IsParseRefusal : List ℕ → SyntaxFault → Type 0
+IsParseRefusal text (fault.Unexpected p) = BreaksAt UnexpectedAt text p
+IsParseRefusal text (fault.TooDeep p) = BreaksAt TooDeepAt text p
+IsParseRefusal text f = IsRefusal text f

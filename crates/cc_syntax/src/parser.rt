@@ -1,0 +1,107 @@
+// The tree that the tokens of a text spell.
+//
+// The parser is a machine that goes over the tokens once: `state` is where it stands between two of them, `step` what a
+// token does in each state (`body` in a function's body, `expression` for the operators that wait), `role` what a token is
+// to the grammar, `read` all the tokens with the limits. No call is nested deeper for a deeper text.
+
+mod body;
+mod expression;
+mod read;
+mod role;
+mod state;
+mod step;
+mod stop;
+
+ghost use Rattle.std.specs.Prelude.{◌≡◌, ◌≤◌, length, IfOk, IfErr, Err};
+ghost use Rattle.cc_syntax.specs.Tree.{Definition};
+ghost use Rattle.cc_syntax.specs.Token.{lexemes};
+ghost use Rattle.cc_syntax.specs.Tokens.{AreInOrder, IsTokens};
+ghost use Rattle.cc_syntax.specs.Erase.{function_tree};
+ghost use Rattle.cc_syntax.specs.MachineView.{Answers};
+ghost use Rattle.cc_syntax.specs.Parse.{SpellsText, IsParseRefusal, place_at_token};
+ghost use Rattle.cc_syntax.specs.Limits.{TreesAreOne, SpelledHaveNoFault};
+ghost use Rattle.cc_syntax.specs.Source.{source, AnswersTree, IsParse};
+
+use crate::ast::Function;
+use crate::fault::SyntaxFault;
+use crate::lexer::tokens;
+use crate::parser::read::read_tokens;
+use crate::parser::stop::Refusal;
+use crate::place::{Place, place_at};
+use crate::token::Token;
+use crate::unit::Unit;
+use std::alloc::Global;
+
+/// The place of a token, or of the end of the text.
+fn place_of_token(text: &[u8], tokens: &[Token], number: usize) -> Place
+    requires { AreInOrder 0 tokens.now (length text.now) }
+    ensures { result ≡ place_at_token text.now (lexemes text.now tokens.now) number }
+{
+    if number < tokens.len() {
+        place_at(text, tokens[number].from)
+    } else {
+        place_at(text, text.len())
+    }
+}
+
+/// The answer for a text whose tokens were refused by the grammar or a limit, or for want of memory.
+fn fault_of(text: &[u8], tokens: &[Token], refusal: Refusal) -> SyntaxFault
+    requires fits { length text.now ≤ 65536 }
+    requires ordered { AreInOrder 0 tokens.now (length text.now) }
+    requires tokens { IsTokens text.now (lexemes text.now tokens.now) }
+    requires refused { Answers (lexemes text.now tokens.now) (Err refusal) }
+    ensures { IsParseRefusal text.now result }
+{
+    match refusal {
+        Refusal::Memory => SyntaxFault::OutOfMemory,
+        Refusal::Unexpected(number) => SyntaxFault::Unexpected(place_of_token(
+            text, tokens, number,
+        )),
+        Refusal::TooDeep(number) => SyntaxFault::TooDeep(place_of_token(text, tokens, number)),
+    }
+}
+
+/// A text and the function that its tokens spell.
+fn unit_of(alloc: Global, text: &[u8], function: Function) -> Result<Unit, SyntaxFault>
+    requires fits { length text.now ≤ 65536 }
+    requires spelled { SpellsText text.now (function_tree function) }
+    ensures { IsParse text.now result }
+{
+    match Vec::from_slice(alloc, text) {
+        Ok(text) => Ok(Unit::new(text, function)),
+        Err(_) => Err(SyntaxFault::OutOfMemory),
+    }
+}
+
+/// The answer for a text.
+fn parse_text(alloc: Global, text: &[u8]) -> Result<Unit, SyntaxFault>
+    ensures { IsParse text.now result }
+{
+    let found = tokens(alloc, text)?;
+    match read_tokens(alloc, text, found.as_slice()) {
+        Ok(function) => unit_of(alloc, text, function),
+        Err(refusal) => Err(fault_of(text, found.as_slice(), refusal)),
+    }
+}
+
+/// The tree that a text spells (C99 6.5 to 6.9, and the profile's grammar), with the text.
+///
+/// Refusals: 7 and 1 to 4 as `tokens` has them; then 5 or 6 at the first token that has one: 5 where no unit begins with
+/// the tokens up to and with it (the end of the text counts as a last token), 6 where it is behind the 512th token of a
+/// full expression, or begins a statement or declaration below level 64; 40 where memory was refused.
+pub fn parse(alloc: Global, text: &[u8]) -> Result<Unit, SyntaxFault>
+    ensures fits { IfOk result (λ _. length text.now ≤ 65536) }
+    ensures text { IfOk result (λ u. (source u).text ≡ text.now) }
+    ensures spelled { IfOk result (λ u. SpellsText text.now (source u).function) }
+    // Where the text spells a tree, that is the answer.
+    ensures only { (tree : Definition) → length text.now ≤ 65536 → SpellsText text.now tree → AnswersTree tree result }
+    ensures refused { IfErr result (λ fault. IsParseRefusal text.now fault) }
+{
+    parse_text(alloc, text)
+}
+
+/// Tokens spell one tree at most, and where they spell one within the limits no token breaks the grammar or a limit.
+pub fn trees_are_determined()
+    ensures one { TreesAreOne }
+    ensures no_fault { SpelledHaveNoFault }
+{}

@@ -1,0 +1,69 @@
+// All tokens, one after the other.
+
+ghost use Rattle.std.specs.Prelude.{◌≡◌, ◌<◌, ◌≤◌, length};
+ghost use Rattle.std.specs.Option.{option_map};
+ghost use Rattle.cc_syntax.specs.Erase.{function_tree};
+ghost use Rattle.cc_syntax.specs.Machine.{count_of, tree_of};
+ghost use Rattle.cc_syntax.specs.MachineView.{state_view, Advances, Answers};
+ghost use Rattle.cc_syntax.specs.Token.{lexeme, lexemes};
+ghost use Rattle.cc_syntax.specs.Tokens.{AreInOrder};
+
+use crate::ast::Function;
+use crate::parser::role::of_kind;
+use crate::parser::state::{Head, State};
+use crate::parser::step::{count_so_far, level_begun, step};
+use crate::parser::stop::{Refusal, Stop};
+use crate::token::Token;
+use std::alloc::Global;
+
+/// The most tokens that a full expression may have.
+const MOST_TOKENS: usize = 512;
+
+/// The deepest level at which a statement or declaration may stand.
+const DEEPEST_LEVEL: usize = 64;
+
+/// The state after a token, whose limits are asked.
+fn advance(alloc: Global, state: State, text: &[u8], token: Token) -> Result<State, Stop>
+    requires order { token.from ≤ token.to }
+    requires within { token.to ≤ length text.now }
+    requires count { count_of (state_view state) ≤ 512 }
+    ensures { Advances (state_view state) (lexeme text.now token) result }
+{
+    let role = of_kind(token.kind);
+    let level = level_begun(&state, role);
+    let next = step(alloc, state, role, text, token)?;
+    if count_so_far(&next) > MOST_TOKENS || level > DEEPEST_LEVEL {
+        return Err(Stop::TooDeep);
+    }
+    Ok(next)
+}
+
+/// The function, where its unit is complete.
+fn finished(state: State) -> Option<Function>
+    ensures { option_map function_tree result ≡ tree_of (state_view state) }
+{
+    match state {
+        State::Done(function) => Some(function),
+        State::Head(_) | State::Body(_) => None,
+    }
+}
+
+/// The function that all the tokens spell within the limits, or the first token that breaks the grammar or a limit.
+pub fn read_tokens(alloc: Global, text: &[u8], tokens: &[Token]) -> Result<Function, Refusal>
+    requires { AreInOrder 0 tokens.now (length text.now) }
+    ensures { Answers (lexemes text.now tokens.now) result }
+{
+    let mut state = State::Head(Head::ReturnType);
+    for number in 0..tokens.len() {
+        match advance(alloc, state, text, tokens[number]) {
+            Ok(next) => state = next,
+            Err(Stop::Memory) => return Err(Refusal::Memory),
+            Err(Stop::Unexpected) => return Err(Refusal::Unexpected(number)),
+            Err(Stop::TooDeep) => return Err(Refusal::TooDeep(number)),
+        }
+    }
+    match finished(state) {
+        Some(function) => Ok(function),
+        None => Err(Refusal::Unexpected(tokens.len())),
+    }
+}

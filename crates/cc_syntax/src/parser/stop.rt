@@ -1,0 +1,47 @@
+// Why the parser stops at a token.
+
+use std::alloc::{AllocError, AllocFailed};
+
+/// Why the parser stops at a token.
+#[derive(Debug, Drop)]
+pub enum Stop {
+    /// Memory was refused.
+    Memory,
+    /// No unit goes on with the token.
+    Unexpected,
+    /// The token passes a limit.
+    TooDeep,
+}
+
+/// Why tokens spell no unit.
+#[derive(Debug, Drop)]
+pub enum Refusal {
+    /// Memory was refused.
+    Memory,
+    /// No unit goes on with the token of this number; the end of the text counts as a last token.
+    Unexpected(usize),
+    /// The token of this number passes a limit.
+    TooDeep(usize),
+}
+
+impl From<AllocError> for Stop {
+    ghost use Rattle.std.specs.Prelude.{◌≡◌};
+    ghost use Rattle.cc_syntax.specs.declared.parser.stop.Stop.TheVariants.{Memory};
+
+    ghost from_gives = { λ _ e. e ≡ Memory };
+
+    fn from(_error: AllocError) -> Self {
+        Stop::Memory
+    }
+}
+
+impl<T: Drop> From<AllocFailed<T>> for Stop {
+    ghost use Rattle.std.specs.Prelude.{◌≡◌};
+    ghost use Rattle.cc_syntax.specs.declared.parser.stop.Stop.TheVariants.{Memory};
+
+    ghost from_gives = { λ _ e. e ≡ Memory };
+
+    fn from(_error: AllocFailed<T>) -> Self {
+        Stop::Memory
+    }
+}
