@@ -11,35 +11,43 @@ mod source;
 #[cfg(test)]
 mod tests;
 
+use clap::error::ErrorKind;
 use command_line::line;
 use fault::Fault;
 use perform::perform;
-use std::io::{self, BufWriter, Write};
+use std::alloc::AllocError;
+use std::io::{self, BufWriter};
 use std::process::ExitCode;
+use std::rt::Env;
 
 /// Does what the command line asks; the status is 0 for an answer, 1 for a fault, 2 for a refused command line.
 fn main(rt: HostRuntime) -> ExitCode {
     match run(&rt) {
         Ok(status) => ExitCode::from(status),
-        Err(_) => ExitCode::from(1),
+        Err(_) => {
+            let _ = Fault::OutOfMemory.write_line(&mut io::writer(&rt));
+            ExitCode::from(1)
+        }
     }
 }
 
-fn run<R>(rt: &R) -> io::Result<u8>
-where
-    R: AllocGlobal + std::rt::Env + Input + Print + Eprint,
-{
-    let alloc = rt.alloc();
-    let words: Vec<String> = std::env::args(rt)?.collect(alloc)?;
-    let task = match line(alloc, words.as_slice()) {
-        Ok(task) => task,
-        Err(error) => {
-            error.print(rt)?;
-            return Ok(error.exit_code().clamp(0, 2) as u8);
-        }
+// The status; the error is want of memory before the task began.
+fn run<R: AllocGlobal + Env + Input + Print + Eprint>(rt: &R) -> Result<u8, AllocError> {
+    let Ok(words) = std::env::args(rt) else {
+        return Err(AllocError);
     };
-    let mut writer = BufWriter::new(alloc, io::writer(rt))?;
-    let status = perform(rt, task, &mut rt.reader(), &mut writer);
-    writer.flush()?;
-    Ok(status)
+    let words: Vec<String> = words.collect(rt.alloc())?;
+    match line(rt.alloc(), words.as_slice()) {
+        Ok(task) => {
+            let Ok(mut writer) = BufWriter::new(rt.alloc(), io::writer(rt)) else {
+                return Err(AllocError);
+            };
+            Ok(perform(rt, task, &mut rt.reader(), &mut writer))
+        }
+        Err(error) if error.kind() == ErrorKind::OutOfMemory => Err(AllocError),
+        Err(error) => {
+            let _ = error.print(rt);
+            Ok(if error.exit_code() == 0 { 0 } else { 2 })
+        }
+    }
 }
