@@ -4,9 +4,6 @@ ghost use Rattle.std.proofs.lemmas.Bool.{false≢true};
 
 use cc_disk::{Disk, DiskFault};
 
-/// How many bytes it keeps.
-const KEPT: usize = 32;
-
 #[derive(Drop)]
 pub struct FirstBytes {
     kept: [u8; 32],
@@ -23,6 +20,23 @@ impl FirstBytes {
 
     pub fn kept(&self) -> &[u8; 32] {
         &self.kept
+    }
+}
+
+// The bytes from that place on, 0 where none is kept.
+fn recall(kept: &[u8], place: usize, buffer: &mut [u8]) {
+    for (i, byte) in buffer.iter_mut().enumerate() {
+        *byte = kept.get(place.saturating_add(i)).copied().unwrap_or(0);
+    }
+}
+
+// Keeps what lies within.
+fn keep(kept: &mut [u8], place: usize, bytes: &[u8]) {
+    for (i, byte) in bytes.iter().enumerate() {
+        let at = place.saturating_add(i);
+        if at < kept.len() {
+            kept[at] = *byte;
+        }
     }
 }
 
@@ -46,20 +60,12 @@ impl Disk for FirstBytes {
     }
 
     fn read_at(&mut self, place: usize, buffer: &mut [u8]) -> Result<(), DiskFault> {
-        for (i, byte) in buffer.iter_mut().enumerate() {
-            let at = place.saturating_add(i);
-            *byte = if at < KEPT { self.kept[at] } else { 0 };
-        }
+        recall(&self.kept, place, buffer);
         Ok(())
     }
 
     fn write_at(&mut self, place: usize, bytes: &[u8]) -> Result<(), DiskFault> {
-        for (i, byte) in bytes.iter().enumerate() {
-            let at = place.saturating_add(i);
-            if at < KEPT {
-                self.kept[at] = *byte;
-            }
-        }
+        keep(&mut self.kept, place, bytes);
         Ok(())
     }
 
