@@ -1,6 +1,9 @@
 //! The instructions of RV32I and M: one variant for each form of instruction word, with the operands of that form.
 //! Every value of `Instr` has a word, since each operand's type holds what its field can.
 
+ghost use Rattle.std.specs.Prelude.{◌≡◌, ◌<◌};
+ghost use Rattle.cc_rv32.specs.Table.{operation_funct3, operation_funct7, immediate_operation_funct3, shift_operation_funct3, shift_operation_funct7, load_operation_funct3, store_operation_funct3, branch_operation_funct3};
+
 use crate::operand::{BranchOffset, Immediate, JumpOffset, Register, ShiftCount, UpperImmediate};
 
 /// What an instruction on two registers computes (opcode OP).
@@ -44,6 +47,62 @@ pub enum Operation {
     Remu,
 }
 
+impl Operation {
+    /// The field funct3 of its word.
+    pub(crate) fn funct3(self) -> u32
+        ensures table { result ≡ operation_funct3 self }
+        ensures in_range { result < 8 }
+    {
+        match self {
+            Operation::Add => 0,
+            Operation::Sub => 0,
+            Operation::Sll => 1,
+            Operation::Slt => 2,
+            Operation::Sltu => 3,
+            Operation::Xor => 4,
+            Operation::Srl => 5,
+            Operation::Sra => 5,
+            Operation::Or => 6,
+            Operation::And => 7,
+            Operation::Mul => 0,
+            Operation::Mulh => 1,
+            Operation::Mulhsu => 2,
+            Operation::Mulhu => 3,
+            Operation::Div => 4,
+            Operation::Divu => 5,
+            Operation::Rem => 6,
+            Operation::Remu => 7,
+        }
+    }
+
+    /// The field funct7 of its word.
+    pub(crate) fn funct7(self) -> u32
+        ensures table { result ≡ operation_funct7 self }
+        ensures in_range { result < 128 }
+    {
+        match self {
+            Operation::Add => 0x00,
+            Operation::Sub => 0x20,
+            Operation::Sll => 0x00,
+            Operation::Slt => 0x00,
+            Operation::Sltu => 0x00,
+            Operation::Xor => 0x00,
+            Operation::Srl => 0x00,
+            Operation::Sra => 0x20,
+            Operation::Or => 0x00,
+            Operation::And => 0x00,
+            Operation::Mul => 0x01,
+            Operation::Mulh => 0x01,
+            Operation::Mulhsu => 0x01,
+            Operation::Mulhu => 0x01,
+            Operation::Div => 0x01,
+            Operation::Divu => 0x01,
+            Operation::Rem => 0x01,
+            Operation::Remu => 0x01,
+        }
+    }
+}
+
 /// What an instruction on a register and an immediate computes (opcode OP-IMM).
 #[derive(Clone, Copy, PartialEq, Eq, Debug)]
 pub enum ImmediateOperation {
@@ -61,6 +120,23 @@ pub enum ImmediateOperation {
     Andi,
 }
 
+impl ImmediateOperation {
+    /// The field funct3 of its word.
+    pub(crate) fn funct3(self) -> u32
+        ensures table { result ≡ immediate_operation_funct3 self }
+        ensures in_range { result < 8 }
+    {
+        match self {
+            ImmediateOperation::Addi => 0,
+            ImmediateOperation::Slti => 2,
+            ImmediateOperation::Sltiu => 3,
+            ImmediateOperation::Xori => 4,
+            ImmediateOperation::Ori => 6,
+            ImmediateOperation::Andi => 7,
+        }
+    }
+}
+
 /// A shift by a constant count (opcode OP-IMM).
 #[derive(Clone, Copy, PartialEq, Eq, Debug)]
 pub enum ShiftOperation {
@@ -70,6 +146,32 @@ pub enum ShiftOperation {
     Srli,
     /// Right; copies of the sign come in.
     Srai,
+}
+
+impl ShiftOperation {
+    /// The field funct3 of its word.
+    pub(crate) fn funct3(self) -> u32
+        ensures table { result ≡ shift_operation_funct3 self }
+        ensures in_range { result < 8 }
+    {
+        match self {
+            ShiftOperation::Slli => 1,
+            ShiftOperation::Srli => 5,
+            ShiftOperation::Srai => 5,
+        }
+    }
+
+    /// The field funct7 of its word.
+    pub(crate) fn funct7(self) -> u32
+        ensures table { result ≡ shift_operation_funct7 self }
+        ensures in_range { result < 128 }
+    {
+        match self {
+            ShiftOperation::Slli => 0x00,
+            ShiftOperation::Srli => 0x00,
+            ShiftOperation::Srai => 0x20,
+        }
+    }
 }
 
 /// What a load reads (opcode LOAD).
@@ -87,6 +189,22 @@ pub enum LoadOperation {
     Lhu,
 }
 
+impl LoadOperation {
+    /// The field funct3 of its word.
+    pub(crate) fn funct3(self) -> u32
+        ensures table { result ≡ load_operation_funct3 self }
+        ensures in_range { result < 8 }
+    {
+        match self {
+            LoadOperation::Lb => 0,
+            LoadOperation::Lh => 1,
+            LoadOperation::Lw => 2,
+            LoadOperation::Lbu => 4,
+            LoadOperation::Lhu => 5,
+        }
+    }
+}
+
 /// What a store writes (opcode STORE).
 #[derive(Clone, Copy, PartialEq, Eq, Debug)]
 pub enum StoreOperation {
@@ -96,6 +214,20 @@ pub enum StoreOperation {
     Sh,
     /// The word.
     Sw,
+}
+
+impl StoreOperation {
+    /// The field funct3 of its word.
+    pub(crate) fn funct3(self) -> u32
+        ensures table { result ≡ store_operation_funct3 self }
+        ensures in_range { result < 8 }
+    {
+        match self {
+            StoreOperation::Sb => 0,
+            StoreOperation::Sh => 1,
+            StoreOperation::Sw => 2,
+        }
+    }
 }
 
 /// When a branch is taken (opcode BRANCH).
@@ -113,6 +245,23 @@ pub enum BranchOperation {
     Bltu,
     /// Greater or equal, as unsigned numbers.
     Bgeu,
+}
+
+impl BranchOperation {
+    /// The field funct3 of its word.
+    pub(crate) fn funct3(self) -> u32
+        ensures table { result ≡ branch_operation_funct3 self }
+        ensures in_range { result < 8 }
+    {
+        match self {
+            BranchOperation::Beq => 0,
+            BranchOperation::Bne => 1,
+            BranchOperation::Blt => 4,
+            BranchOperation::Bge => 5,
+            BranchOperation::Bltu => 6,
+            BranchOperation::Bgeu => 7,
+        }
+    }
 }
 
 /// An instruction: its form, what it does, and its operands.

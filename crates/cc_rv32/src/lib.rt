@@ -6,5 +6,7 @@
 
 
 
+pub mod decode;
+pub mod encode;
 pub mod instr;
 pub mod operand;
