@@ -1,7 +1,7 @@
 //! The word of an instruction: its fields, put side by side.
 
 ghost use Rattle.std.specs.Prelude.{◌≡◌, ◌<◌, Some};
-ghost use Rattle.cc_rv32.specs.Table.{instruction_of, encoding_of, fields_word, immediate_word, upper_word};
+ghost use Rattle.cc_rv32.specs.Table.{instruction_of, encoding_of, IsEncodable, fields_word, immediate_word, upper_word};
 
 use crate::instr::{
     BranchOperation, ImmediateOperation, Instr, LoadOperation, Operation, ShiftOperation,
@@ -11,10 +11,11 @@ use crate::operand::{BranchOffset, Immediate, JumpOffset, Register, ShiftCount, 
 
 /// The word of the instruction, by the table of the RISC-V unprivileged ISA. Every instruction has one, and
 /// `decode` gives the instruction back. Takes no memory.
-#[tactic(auto, unfolding(crate::specs::Table::encoding_of, crate::specs::Table::instruction_of))]
+
 pub fn encode(instr: Instr) -> u32
     ensures table { result ≡ encoding_of instr }
     ensures decoded { instruction_of result ≡ Some instr }
+    ensures encodable { IsEncodable instr }
 {
     match instr {
         Instr::Op {
@@ -97,7 +98,7 @@ fn with_upper(opcode: u32, rd: Register, upper: u32) -> u32
 #[tactic(auto, unfolding(crate::specs::Table::encoding_of))]
 fn operation_word(operation: Operation, rd: Register, rs1: Register, rs2: Register) -> u32
     ensures table { result ≡ encoding_of (Instr.Op operation rd rs1 rs2) }
-    ensures decoded { instruction_of result ≡ Some (Instr.Op operation rd rs1 rs2) }
+    ensures encodable { IsEncodable (Instr.Op operation rd rs1 rs2) }
 {
     six_fields(
         0x33,
@@ -117,7 +118,7 @@ fn immediate_operation_word(
     immediate: Immediate,
 ) -> u32
     ensures table { result ≡ encoding_of (Instr.OpImm operation rd rs1 immediate) }
-    ensures decoded { instruction_of result ≡ Some (Instr.OpImm operation rd rs1 immediate) }
+    ensures encodable { IsEncodable (Instr.OpImm operation rd rs1 immediate) }
 {
     with_immediate(0x13, rd, operation.funct3(), rs1, immediate)
 }
@@ -125,7 +126,7 @@ fn immediate_operation_word(
 #[tactic(auto, unfolding(crate::specs::Table::encoding_of))]
 fn shift_word(operation: ShiftOperation, rd: Register, rs1: Register, count: ShiftCount) -> u32
     ensures table { result ≡ encoding_of (Instr.Shift operation rd rs1 count) }
-    ensures decoded { instruction_of result ≡ Some (Instr.Shift operation rd rs1 count) }
+    ensures encodable { IsEncodable (Instr.Shift operation rd rs1 count) }
 {
     six_fields(
         0x13,
@@ -140,7 +141,7 @@ fn shift_word(operation: ShiftOperation, rd: Register, rs1: Register, count: Shi
 #[tactic(auto, unfolding(crate::specs::Table::encoding_of))]
 fn load_word(operation: LoadOperation, rd: Register, rs1: Register, offset: Immediate) -> u32
     ensures table { result ≡ encoding_of (Instr.Load operation rd rs1 offset) }
-    ensures decoded { instruction_of result ≡ Some (Instr.Load operation rd rs1 offset) }
+    ensures encodable { IsEncodable (Instr.Load operation rd rs1 offset) }
 {
     with_immediate(0x03, rd, operation.funct3(), rs1, offset)
 }
@@ -148,7 +149,7 @@ fn load_word(operation: LoadOperation, rd: Register, rs1: Register, offset: Imme
 #[tactic(auto, unfolding(crate::specs::Table::encoding_of))]
 fn store_word(operation: StoreOperation, rs1: Register, rs2: Register, offset: Immediate) -> u32
     ensures table { result ≡ encoding_of (Instr.Store operation rs1 rs2 offset) }
-    ensures decoded { instruction_of result ≡ Some (Instr.Store operation rs1 rs2 offset) }
+    ensures encodable { IsEncodable (Instr.Store operation rs1 rs2 offset) }
 {
     let word = offset.word();
     six_fields(
@@ -164,7 +165,7 @@ fn store_word(operation: StoreOperation, rs1: Register, rs2: Register, offset: I
 #[tactic(auto, unfolding(crate::specs::Table::encoding_of))]
 fn branch_word(operation: BranchOperation, rs1: Register, rs2: Register, offset: BranchOffset) -> u32
     ensures table { result ≡ encoding_of (Instr.Branch operation rs1 rs2 offset) }
-    ensures decoded { instruction_of result ≡ Some (Instr.Branch operation rs1 rs2 offset) }
+    ensures encodable { IsEncodable (Instr.Branch operation rs1 rs2 offset) }
 {
     let word = offset.word();
     six_fields(
@@ -180,7 +181,7 @@ fn branch_word(operation: BranchOperation, rs1: Register, rs2: Register, offset:
 #[tactic(auto, unfolding(crate::specs::Table::encoding_of))]
 fn lui_word(rd: Register, immediate: UpperImmediate) -> u32
     ensures table { result ≡ encoding_of (Instr.Lui rd immediate) }
-    ensures decoded { instruction_of result ≡ Some (Instr.Lui rd immediate) }
+    ensures encodable { IsEncodable (Instr.Lui rd immediate) }
 {
     with_upper(0x37, rd, immediate.field())
 }
@@ -188,7 +189,7 @@ fn lui_word(rd: Register, immediate: UpperImmediate) -> u32
 #[tactic(auto, unfolding(crate::specs::Table::encoding_of))]
 fn auipc_word(rd: Register, immediate: UpperImmediate) -> u32
     ensures table { result ≡ encoding_of (Instr.Auipc rd immediate) }
-    ensures decoded { instruction_of result ≡ Some (Instr.Auipc rd immediate) }
+    ensures encodable { IsEncodable (Instr.Auipc rd immediate) }
 {
     with_upper(0x17, rd, immediate.field())
 }
@@ -196,7 +197,7 @@ fn auipc_word(rd: Register, immediate: UpperImmediate) -> u32
 #[tactic(auto, unfolding(crate::specs::Table::encoding_of))]
 fn jal_word(rd: Register, offset: JumpOffset) -> u32
     ensures table { result ≡ encoding_of (Instr.Jal rd offset) }
-    ensures decoded { instruction_of result ≡ Some (Instr.Jal rd offset) }
+    ensures encodable { IsEncodable (Instr.Jal rd offset) }
 {
     let word = offset.word();
     let upper = (((word >> 20) & 1) << 19)
@@ -209,7 +210,7 @@ fn jal_word(rd: Register, offset: JumpOffset) -> u32
 #[tactic(auto, unfolding(crate::specs::Table::encoding_of))]
 fn jalr_word(rd: Register, rs1: Register, offset: Immediate) -> u32
     ensures table { result ≡ encoding_of (Instr.Jalr rd rs1 offset) }
-    ensures decoded { instruction_of result ≡ Some (Instr.Jalr rd rs1 offset) }
+    ensures encodable { IsEncodable (Instr.Jalr rd rs1 offset) }
 {
     with_immediate(0x67, rd, 0, rs1, offset)
 }
