@@ -1,2 +1,4 @@
 pub mod Fields
 pub mod Table
+pub mod Machine
+pub mod Rows

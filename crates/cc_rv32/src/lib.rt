@@ -8,5 +8,7 @@
 
 pub mod decode;
 pub mod encode;
+pub mod image;
 pub mod instr;
 pub mod operand;
+pub mod outcome;
