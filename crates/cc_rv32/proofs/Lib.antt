@@ -1,1 +1,3 @@
 pub mod RoundTrip
+pub mod Parts
+pub mod Products

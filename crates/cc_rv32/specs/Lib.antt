@@ -1,4 +1,6 @@
 pub mod Fields
 pub mod Table
 pub mod Machine
+pub mod Lowered
+pub mod Listing
 pub mod Rows

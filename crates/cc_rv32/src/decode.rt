@@ -301,10 +301,7 @@ fn immediate_i(word: u32) -> Immediate
 fn immediate_s(word: u32) -> Immediate
     ensures { result ≡ fields.immediate_S word }
 {
-    Immediate::new(sign_extended(
-        ((word >> 25) << 5) + ((word >> 7) & 31),
-        1 << 11,
-    ))
+    Immediate::new(sign_extended(((word >> 25) << 5) + ((word >> 7) & 31), 1 << 11))
 }
 
 fn immediate_b(word: u32) -> BranchOffset

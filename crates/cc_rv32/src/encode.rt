@@ -74,7 +74,13 @@ fn six_fields(opcode: u32, rd: u32, funct3: u32, rs1: u32, rs2: u32, funct7: u32
     opcode + (rd << 7) + (funct3 << 12) + (rs1 << 15) + (rs2 << 20) + (funct7 << 25)
 }
 
-fn with_immediate(opcode: u32, rd: Register, funct3: u32, rs1: Register, immediate: Immediate) -> u32
+fn with_immediate(
+    opcode: u32,
+    rd: Register,
+    funct3: u32,
+    rs1: Register,
+    immediate: Immediate,
+) -> u32
     requires opcode { opcode < 128 }
     requires funct3 { funct3 < 8 }
     ensures { result ≡ immediate_word opcode rd funct3 rs1 immediate }
@@ -163,7 +169,12 @@ fn store_word(operation: StoreOperation, rs1: Register, rs2: Register, offset: I
 }
 
 #[tactic(auto, unfolding(crate::specs::Table::encoding_of))]
-fn branch_word(operation: BranchOperation, rs1: Register, rs2: Register, offset: BranchOffset) -> u32
+fn branch_word(
+    operation: BranchOperation,
+    rs1: Register,
+    rs2: Register,
+    offset: BranchOffset,
+) -> u32
     ensures table { result ≡ encoding_of (Instr.Branch operation rs1 rs2 offset) }
     ensures encodable { IsEncodable (Instr.Branch operation rs1 rs2 offset) }
 {

@@ -320,7 +320,10 @@ pub enum Instr {
         immediate: UpperImmediate,
     },
     /// `jal x1, 12`: goes on at pc + offset; `rd` takes pc + 4.
-    Jal { rd: Register, offset: JumpOffset },
+    Jal {
+        rd: Register,
+        offset: JumpOffset,
+    },
     /// `jalr x0, 0(x1)`: goes on at `rs1` + offset with bit 0 cleared; `rd` takes pc + 4.
     Jalr {
         rd: Register,

@@ -4,11 +4,12 @@
 //! `listing` prints an image. The table itself, the state and the run are defined in `specs/`, in reading order.
 #![tactic(auto)]
 
-
-
 pub mod decode;
 pub mod encode;
+mod execute;
 pub mod image;
 pub mod instr;
+mod lowered;
+mod memory;
 pub mod operand;
 pub mod outcome;
