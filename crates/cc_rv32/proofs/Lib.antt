@@ -1,3 +1,3 @@
 pub mod RoundTrip
-pub mod Parts
+pub mod Flats
 pub mod Products
