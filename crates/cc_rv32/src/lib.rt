@@ -7,9 +7,12 @@
 pub mod decode;
 pub mod encode;
 mod execute;
+pub mod fault;
 pub mod image;
 pub mod instr;
 mod lowered;
+pub mod machine;
 mod memory;
 pub mod operand;
 pub mod outcome;
+mod simulator;
