@@ -1,3 +1,5 @@
 pub mod RoundTrip
 pub mod Flats
+pub mod Memories
 pub mod Products
+pub mod Registers
