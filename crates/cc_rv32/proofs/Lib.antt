@@ -3,3 +3,5 @@ pub mod Flats
 pub mod Memories
 pub mod Products
 pub mod Registers
+pub mod Simulates
+pub mod Running
