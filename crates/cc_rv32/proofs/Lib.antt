@@ -5,3 +5,5 @@ pub mod Products
 pub mod Registers
 pub mod Simulates
 pub mod Running
+pub mod Serving
+pub mod Starting

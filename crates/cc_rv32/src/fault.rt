@@ -17,6 +17,8 @@ impl MachineFault {
     pub fn number(&self) -> u32
         ensures { result ≡ 40 }
     {
-        40
+        match self {
+            MachineFault::OutOfMemory => 40,
+        }
     }
 }
