@@ -2,7 +2,6 @@ pub mod Fields
 pub mod Table
 pub mod Machine
 pub mod Lowered
-pub mod Simulated
-pub mod Simulation
+pub mod Shown
 pub mod Listing
 pub mod Rows
