@@ -1,0 +1,335 @@
+//! The instructions of RV32I and M: one variant for each form of instruction word, with the operands of that form.
+//! Every value of `Instr` has a word, since each operand's type holds what its field can.
+
+ghost use Rattle.std.specs.Prelude.{◌≡◌, ◌<◌};
+ghost use Rattle.cc_rv32.specs.Table.{operation_funct3, operation_funct7, immediate_operation_funct3, shift_operation_funct3, shift_operation_funct7, load_operation_funct3, store_operation_funct3, branch_operation_funct3};
+
+use crate::operand::{BranchOffset, Immediate, JumpOffset, Register, ShiftCount, UpperImmediate};
+
+/// What an instruction on two registers computes (opcode OP).
+#[derive(Clone, Copy, PartialEq, Eq, Debug)]
+pub enum Operation {
+    /// Sum modulo 2^32.
+    Add,
+    /// Difference modulo 2^32.
+    Sub,
+    /// Shift left by the low five bits of the second.
+    Sll,
+    /// 1 where the first is less as a signed number, else 0.
+    Slt,
+    /// 1 where the first is less as an unsigned number, else 0.
+    Sltu,
+    /// Exclusive or.
+    Xor,
+    /// Shift right by the low five bits of the second; zeros come in.
+    Srl,
+    /// Shift right by the low five bits of the second; copies of the sign come in.
+    Sra,
+    /// Or.
+    Or,
+    /// And.
+    And,
+    /// Low word of the product.
+    Mul,
+    /// High word of the product, signed by signed.
+    Mulh,
+    /// High word of the product, signed by unsigned.
+    Mulhsu,
+    /// High word of the product, unsigned by unsigned.
+    Mulhu,
+    /// Signed quotient, toward zero.
+    Div,
+    /// Unsigned quotient.
+    Divu,
+    /// Signed remainder.
+    Rem,
+    /// Unsigned remainder.
+    Remu,
+}
+
+impl Operation {
+    /// The field funct3 of its word.
+    pub(crate) fn funct3(self) -> u32
+        ensures table { result ≡ operation_funct3 self }
+        ensures in_range { result < 8 }
+    {
+        match self {
+            Operation::Add => 0,
+            Operation::Sub => 0,
+            Operation::Sll => 1,
+            Operation::Slt => 2,
+            Operation::Sltu => 3,
+            Operation::Xor => 4,
+            Operation::Srl => 5,
+            Operation::Sra => 5,
+            Operation::Or => 6,
+            Operation::And => 7,
+            Operation::Mul => 0,
+            Operation::Mulh => 1,
+            Operation::Mulhsu => 2,
+            Operation::Mulhu => 3,
+            Operation::Div => 4,
+            Operation::Divu => 5,
+            Operation::Rem => 6,
+            Operation::Remu => 7,
+        }
+    }
+
+    /// The field funct7 of its word.
+    pub(crate) fn funct7(self) -> u32
+        ensures table { result ≡ operation_funct7 self }
+        ensures in_range { result < 128 }
+    {
+        match self {
+            Operation::Add => 0x00,
+            Operation::Sub => 0x20,
+            Operation::Sll => 0x00,
+            Operation::Slt => 0x00,
+            Operation::Sltu => 0x00,
+            Operation::Xor => 0x00,
+            Operation::Srl => 0x00,
+            Operation::Sra => 0x20,
+            Operation::Or => 0x00,
+            Operation::And => 0x00,
+            Operation::Mul => 0x01,
+            Operation::Mulh => 0x01,
+            Operation::Mulhsu => 0x01,
+            Operation::Mulhu => 0x01,
+            Operation::Div => 0x01,
+            Operation::Divu => 0x01,
+            Operation::Rem => 0x01,
+            Operation::Remu => 0x01,
+        }
+    }
+}
+
+/// What an instruction on a register and an immediate computes (opcode OP-IMM).
+#[derive(Clone, Copy, PartialEq, Eq, Debug)]
+pub enum ImmediateOperation {
+    /// Sum modulo 2^32.
+    Addi,
+    /// 1 where the register is less as a signed number, else 0.
+    Slti,
+    /// 1 where the register is less as an unsigned number, else 0.
+    Sltiu,
+    /// Exclusive or.
+    Xori,
+    /// Or.
+    Ori,
+    /// And.
+    Andi,
+}
+
+impl ImmediateOperation {
+    /// The field funct3 of its word.
+    pub(crate) fn funct3(self) -> u32
+        ensures table { result ≡ immediate_operation_funct3 self }
+        ensures in_range { result < 8 }
+    {
+        match self {
+            ImmediateOperation::Addi => 0,
+            ImmediateOperation::Slti => 2,
+            ImmediateOperation::Sltiu => 3,
+            ImmediateOperation::Xori => 4,
+            ImmediateOperation::Ori => 6,
+            ImmediateOperation::Andi => 7,
+        }
+    }
+}
+
+/// A shift by a constant count (opcode OP-IMM).
+#[derive(Clone, Copy, PartialEq, Eq, Debug)]
+pub enum ShiftOperation {
+    /// Left.
+    Slli,
+    /// Right; zeros come in.
+    Srli,
+    /// Right; copies of the sign come in.
+    Srai,
+}
+
+impl ShiftOperation {
+    /// The field funct3 of its word.
+    pub(crate) fn funct3(self) -> u32
+        ensures table { result ≡ shift_operation_funct3 self }
+        ensures in_range { result < 8 }
+    {
+        match self {
+            ShiftOperation::Slli => 1,
+            ShiftOperation::Srli => 5,
+            ShiftOperation::Srai => 5,
+        }
+    }
+
+    /// The field funct7 of its word.
+    pub(crate) fn funct7(self) -> u32
+        ensures table { result ≡ shift_operation_funct7 self }
+        ensures in_range { result < 128 }
+    {
+        match self {
+            ShiftOperation::Slli => 0x00,
+            ShiftOperation::Srli => 0x00,
+            ShiftOperation::Srai => 0x20,
+        }
+    }
+}
+
+/// What a load reads (opcode LOAD).
+#[derive(Clone, Copy, PartialEq, Eq, Debug)]
+pub enum LoadOperation {
+    /// A byte, extended with its sign.
+    Lb,
+    /// A half word, extended with its sign.
+    Lh,
+    /// A word.
+    Lw,
+    /// A byte, extended with zeros.
+    Lbu,
+    /// A half word, extended with zeros.
+    Lhu,
+}
+
+impl LoadOperation {
+    /// The field funct3 of its word.
+    pub(crate) fn funct3(self) -> u32
+        ensures table { result ≡ load_operation_funct3 self }
+        ensures in_range { result < 8 }
+    {
+        match self {
+            LoadOperation::Lb => 0,
+            LoadOperation::Lh => 1,
+            LoadOperation::Lw => 2,
+            LoadOperation::Lbu => 4,
+            LoadOperation::Lhu => 5,
+        }
+    }
+}
+
+/// What a store writes (opcode STORE).
+#[derive(Clone, Copy, PartialEq, Eq, Debug)]
+pub enum StoreOperation {
+    /// The low byte.
+    Sb,
+    /// The low half word.
+    Sh,
+    /// The word.
+    Sw,
+}
+
+impl StoreOperation {
+    /// The field funct3 of its word.
+    pub(crate) fn funct3(self) -> u32
+        ensures table { result ≡ store_operation_funct3 self }
+        ensures in_range { result < 8 }
+    {
+        match self {
+            StoreOperation::Sb => 0,
+            StoreOperation::Sh => 1,
+            StoreOperation::Sw => 2,
+        }
+    }
+}
+
+/// When a branch is taken (opcode BRANCH).
+#[derive(Clone, Copy, PartialEq, Eq, Debug)]
+pub enum BranchOperation {
+    /// Equal.
+    Beq,
+    /// Not equal.
+    Bne,
+    /// Less, as signed numbers.
+    Blt,
+    /// Greater or equal, as signed numbers.
+    Bge,
+    /// Less, as unsigned numbers.
+    Bltu,
+    /// Greater or equal, as unsigned numbers.
+    Bgeu,
+}
+
+impl BranchOperation {
+    /// The field funct3 of its word.
+    pub(crate) fn funct3(self) -> u32
+        ensures table { result ≡ branch_operation_funct3 self }
+        ensures in_range { result < 8 }
+    {
+        match self {
+            BranchOperation::Beq => 0,
+            BranchOperation::Bne => 1,
+            BranchOperation::Blt => 4,
+            BranchOperation::Bge => 5,
+            BranchOperation::Bltu => 6,
+            BranchOperation::Bgeu => 7,
+        }
+    }
+}
+
+/// An instruction: its form, what it does, and its operands.
+#[derive(Clone, Copy, PartialEq, Eq, Debug)]
+pub enum Instr {
+    /// `add x3, x1, x2`: `rd` takes what the operation makes of `rs1` and `rs2`.
+    Op {
+        operation: Operation,
+        rd: Register,
+        rs1: Register,
+        rs2: Register,
+    },
+    /// `addi x1, x0, -1`: `rd` takes what the operation makes of `rs1` and the immediate.
+    OpImm {
+        operation: ImmediateOperation,
+        rd: Register,
+        rs1: Register,
+        immediate: Immediate,
+    },
+    /// `slli x1, x2, 3`: `rd` takes `rs1` shifted by the count.
+    Shift {
+        operation: ShiftOperation,
+        rd: Register,
+        rs1: Register,
+        count: ShiftCount,
+    },
+    /// `lw x5, 8(x2)`: `rd` takes what stands at `rs1` + offset.
+    Load {
+        operation: LoadOperation,
+        rd: Register,
+        rs1: Register,
+        offset: Immediate,
+    },
+    /// `sw x5, 8(x2)`: `rs2` is written at `rs1` + offset.
+    Store {
+        operation: StoreOperation,
+        rs1: Register,
+        rs2: Register,
+        offset: Immediate,
+    },
+    /// `beq x1, x2, -4`: goes on at pc + offset where `rs1` and `rs2` are so.
+    Branch {
+        operation: BranchOperation,
+        rs1: Register,
+        rs2: Register,
+        offset: BranchOffset,
+    },
+    /// `lui x5, 74565`: `rd` takes the upper immediate.
+    Lui {
+        rd: Register,
+        immediate: UpperImmediate,
+    },
+    /// `auipc x5, 74565`: `rd` takes pc plus the upper immediate.
+    Auipc {
+        rd: Register,
+        immediate: UpperImmediate,
+    },
+    /// `jal x1, 12`: goes on at pc + offset; `rd` takes pc + 4.
+    Jal {
+        rd: Register,
+        offset: JumpOffset,
+    },
+    /// `jalr x0, 0(x1)`: goes on at `rs1` + offset with bit 0 cleared; `rd` takes pc + 4.
+    Jalr {
+        rd: Register,
+        rs1: Register,
+        offset: Immediate,
+    },
+    /// A call of the machine's services, by the number in `x17`.
+    Ecall,
+}

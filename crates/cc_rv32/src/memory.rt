@@ -1,0 +1,179 @@
+//! Globals and stack as two lists of words, reached by byte address with one comparison each.
+
+ghost use Rattle.std.specs.Prelude.{◌≡◌, ◌+◌, ◌*◌, ◌<◌, ◌⊎◌, length};
+ghost use Rattle.cc_rv32.specs.Machine.{with_part};
+ghost use Rattle.cc_rv32.specs.Lowered.{word_in, part_in, whole_in, with_word_in, with_part_in, with_whole_in, stored_flat};
+
+use crate::execute::Next;
+
+/// The address of the first global, and how many words of globals there are.
+pub(crate) const GLOBALS_FROM: u32 = 0x0020_0000;
+
+pub(crate) const GLOBALS_WORDS: usize = 65_536;
+
+/// The lowest address of the stack, and how many words it has.
+pub(crate) const STACK_FROM: u32 = 0x0060_0000;
+
+pub(crate) const STACK_WORDS: usize = 524_288;
+
+/// The word that the byte address lies in.
+#[inline(always)]
+fn word(globals: &[u32], stack: &[u32], address: u32) -> Option<u32>
+    requires globals { length globals.now ≡ 65536 }
+    requires stack { length stack.now ≡ 524288 }
+    ensures { result ≡ word_in globals.now stack.now address }
+{
+    let place = (address.wrapping_sub(GLOBALS_FROM) >> 2) as usize;
+    if place < GLOBALS_WORDS {
+        return Some(globals[place]);
+    }
+    let place = (address.wrapping_sub(STACK_FROM) >> 2) as usize;
+    if place < STACK_WORDS {
+        return Some(stack[place]);
+    }
+    None
+}
+
+/// The word at an address that is a multiple of 4.
+#[inline(always)]
+pub(crate) fn load_word(globals: &[u32], stack: &[u32], address: u32) -> Option<u32>
+    requires globals { length globals.now ≡ 65536 }
+    requires stack { length stack.now ≡ 524288 }
+    ensures { result ≡ whole_in globals.now stack.now address }
+{
+    if address % 4 != 0 {
+        return None;
+    }
+    word(globals, stack, address)
+}
+
+/// The half word at an even address, with zeros in front.
+#[inline(always)]
+pub(crate) fn load_half(globals: &[u32], stack: &[u32], address: u32) -> Option<u32>
+    requires globals { length globals.now ≡ 65536 }
+    requires stack { length stack.now ≡ 524288 }
+    ensures { result ≡ part_in 2 globals.now stack.now address }
+{
+    if address % 2 != 0 {
+        return None;
+    }
+    let word = word(globals, stack, address)?;
+    Some((word >> (8 * (address % 4))) & 0xffff)
+}
+
+/// The byte at an address, with zeros in front.
+#[inline(always)]
+pub(crate) fn load_byte(globals: &[u32], stack: &[u32], address: u32) -> Option<u32>
+    requires globals { length globals.now ≡ 65536 }
+    requires stack { length stack.now ≡ 524288 }
+    ensures { result ≡ part_in 1 globals.now stack.now address }
+{
+    let word = word(globals, stack, address)?;
+    Some((word >> (8 * (address % 4))) & 0xff)
+}
+
+/// Writes the word that the byte address lies in; a trap where there is none.
+#[inline(always)]
+fn set_word(globals: &mut [u32], stack: &mut [u32], address: u32, word: u32, at: usize) -> Next
+    requires globals { length globals.old ≡ 65536 }
+    requires stack { length stack.old ≡ 524288 }
+    requires at { at < 131072 }
+    ensures { (result, globals.new, stack.new) ≡ stored_flat at (with_word_in globals.old stack.old address word) globals.old stack.old }
+{
+    let place = (address.wrapping_sub(GLOBALS_FROM) >> 2) as usize;
+    if place < GLOBALS_WORDS {
+        globals[place] = word;
+        return Next::At(at + 1);
+    }
+    let place = (address.wrapping_sub(STACK_FROM) >> 2) as usize;
+    if place < STACK_WORDS {
+        stack[place] = word;
+        return Next::At(at + 1);
+    }
+    Next::Trap
+}
+
+/// Writes the word at an address that is a multiple of 4, else a trap.
+#[inline(always)]
+pub(crate) fn store_word(
+    globals: &mut [u32],
+    stack: &mut [u32],
+    address: u32,
+    word: u32,
+    at: usize,
+) -> Next
+    requires globals { length globals.old ≡ 65536 }
+    requires stack { length stack.old ≡ 524288 }
+    requires at { at < 131072 }
+    ensures { (result, globals.new, stack.new) ≡ stored_flat at (with_whole_in globals.old stack.old address word) globals.old stack.old }
+{
+    if address % 4 != 0 {
+        return Next::Trap;
+    }
+    set_word(globals, stack, address, word, at)
+}
+
+/// Writes the low half of the word at an even address, else a trap.
+#[inline(always)]
+pub(crate) fn store_half(
+    globals: &mut [u32],
+    stack: &mut [u32],
+    address: u32,
+    half: u32,
+    at: usize,
+) -> Next
+    requires globals { length globals.old ≡ 65536 }
+    requires stack { length stack.old ≡ 524288 }
+    requires at { at < 131072 }
+    ensures { (result, globals.new, stack.new) ≡ stored_flat at (with_part_in 2 globals.old stack.old address half) globals.old stack.old }
+{
+    if address % 2 != 0 {
+        return Next::Trap;
+    }
+    let Some(old) = word(globals, stack, address) else {
+        return Next::Trap;
+    };
+    let new = with_half(old, address % 4, half);
+    set_word(globals, stack, address, new, at)
+}
+
+/// Writes the low byte of the word at an address.
+#[inline(always)]
+pub(crate) fn store_byte(
+    globals: &mut [u32],
+    stack: &mut [u32],
+    address: u32,
+    byte: u32,
+    at: usize,
+) -> Next
+    requires globals { length globals.old ≡ 65536 }
+    requires stack { length stack.old ≡ 524288 }
+    requires at { at < 131072 }
+    ensures { (result, globals.new, stack.new) ≡ stored_flat at (with_part_in 1 globals.old stack.old address byte) globals.old stack.old }
+{
+    let Some(old) = word(globals, stack, address) else {
+        return Next::Trap;
+    };
+    let new = with_byte(old, address % 4, byte);
+    set_word(globals, stack, address, new, at)
+}
+
+#[inline(always)]
+fn with_byte(word: u32, place: u32, byte: u32) -> u32
+    requires { place < 4 }
+    ensures { result ≡ with_part word (8 * place) 8 byte }
+{
+    let shift = 8 * place;
+    let old = ((word >> shift) & 0xff) << shift;
+    (word - old) + ((byte & 0xff) << shift)
+}
+
+#[inline(always)]
+fn with_half(word: u32, place: u32, half: u32) -> u32
+    requires { (place ≡ 0) ⊎ (place ≡ 2) }
+    ensures { result ≡ with_part word (8 * place) 16 half }
+{
+    let shift = 8 * place;
+    let old = ((word >> shift) & 0xffff) << shift;
+    (word - old) + ((half & 0xffff) << shift)
+}
