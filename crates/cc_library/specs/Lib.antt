@@ -1,0 +1,5 @@
+pub mod Name
+pub mod Faults
+pub mod Apply
+pub mod Body
+pub mod Reading

@@ -1,0 +1,108 @@
+//! An image: the words of a program and of its data.
+
+ghost use Rattle.std.specs.Prelude.{◌≡◌, ◌≤◌, ◌<◌, ◌↔◌, length, IsOk, MatchResult};
+
+use std::marker::Model;
+
+/// The most words of code that an image has.
+pub const MOST_CODE: usize = 131_072;
+
+/// The most words of globals that an image has.
+pub const MOST_GLOBALS: usize = 65_536;
+
+/// The code of an image: 1 to 131,072 words. A clause sees their list.
+#[derive(Debug, Drop)]
+pub struct Code {
+    words: Vec<u32>,
+}
+
+impl Model for Code {
+    ghost use Rattle.std.specs.Prelude.{ℕ, List, length, ◌≤◌};
+
+    ghost Value = { List ℕ };
+
+    ghost view = { λ c. c.words.items };
+
+    ghost invariant = { λ c. (1 ≤ length c.words.items) × (length c.words.items ≤ 131072) };
+}
+
+impl Code {
+    /// The code of these words, or the words back where they are none or more than 131,072. Takes no memory.
+    pub fn new(words: Vec<u32>) -> Result<Self, Vec<u32>>
+        ensures fits { IsOk result ↔ ((1 ≤ length words.items) × (length words.items ≤ 131072)) }
+        ensures kept { MatchResult result (λ code. code ≡ words.items) (λ back. back ≡ words) }
+    {
+        if words.is_empty() || words.len() > MOST_CODE {
+            return Err(words);
+        }
+        Ok(Code { words })
+    }
+
+    /// The words, in order of address.
+    pub fn words(&self) -> &[u32]
+        ensures words { result.now ≡ self.now }
+        ensures some { 1 ≤ length self.now }
+        ensures few { length self.now ≤ 131072 }
+    {
+        self.words.as_slice()
+    }
+
+    /// The words, given up.
+    pub fn into_words(self) -> Vec<u32>
+        ensures { result.items ≡ self }
+    {
+        self.words
+    }
+}
+
+/// The globals of an image: at most 65,536 words. A clause sees their list.
+#[derive(Debug, Drop)]
+pub struct Globals {
+    words: Vec<u32>,
+}
+
+impl Model for Globals {
+    ghost use Rattle.std.specs.Prelude.{ℕ, List, length, ◌≤◌};
+
+    ghost Value = { List ℕ };
+
+    ghost view = { λ g. g.words.items };
+
+    ghost invariant = { λ g. length g.words.items ≤ 65536 };
+}
+
+impl Globals {
+    /// The globals of these words, or the words back where they are more than 65,536. Takes no memory.
+    pub fn new(words: Vec<u32>) -> Result<Self, Vec<u32>>
+        ensures fits { IsOk result ↔ (length words.items ≤ 65536) }
+        ensures kept { MatchResult result (λ globals. globals ≡ words.items) (λ back. back ≡ words) }
+    {
+        if words.len() > MOST_GLOBALS {
+            return Err(words);
+        }
+        Ok(Globals { words })
+    }
+
+    /// The words, from the globals' first address on.
+    pub fn words(&self) -> &[u32]
+        ensures words { result.now ≡ self.now }
+        ensures few { length self.now ≤ 65536 }
+    {
+        self.words.as_slice()
+    }
+
+    /// The words, given up.
+    pub fn into_words(self) -> Vec<u32>
+        ensures { result.items ≡ self }
+    {
+        self.words
+    }
+}
+
+/// A program for the machine: its code, from 0x00010000 on, and the words that its globals start with, from
+/// 0x00200000 on; globals past these start at 0.
+#[derive(Debug, Drop)]
+pub struct Image {
+    pub code: Code,
+    pub globals: Globals,
+}
