@@ -1,12 +1,12 @@
 -- What the calls of the disk in memory do to what a read gives and to what a crash may leave.
 -- How: a disk is split at the range of a write into three parts, and each image with it.
-use Rattle.std.proofs.Common.{◌≡◌, ℕ, zero, suc, ◌+◌, ◌<◌, ◌≤◌, List, [], ◌∷◌, ◌++◌, map, length, get_or, take, drop, set, IsTrue, true, false, refl, sym, ◌∙◌, ap, subst, arith, length-append, length-drop, length-take, append_assoc, take-append-drop}
+use Rattle.std.proofs.Common.{◌≡◌, ℕ, ◌+◌, ◌<◌, ◌≤◌, List, [], ◌∷◌, ◌++◌, map, length, get_or, take, drop, set, refl, sym, ◌∙◌, ap, subst, arith, length-append, length-drop, append_assoc, take-append-drop}
 use Rattle.std.proofs.lemmas.List.{length-map, map-append, take-map, drop-map, take_at, drop_at, drop-drop, length-take-le, get_or-map, get_or_default}
 use lib.Seq.{paste}
 use Rattle.std.proofs.lemmas.List.Edits.{paste_more, paste_all, map_over_more}
 use Rattle.cc_disk.specs.declared.cell.Cell.{Cell}
-use Rattle.cc_disk.specs.Model.{settled, unsettled, bytes_of, IsImage, written, synced, left, crashed}
-use Rattle.cc_disk.specs.Images.{IsWritten, DiffersWithin, UnsettlesWithin, AddsNone, LeavesAlone}
+use Rattle.cc_disk.specs.Model.{settled, unsettled, bytes_of, IsImage, written, synced}
+use Rattle.cc_disk.specs.Images.{IsWritten, UnsettlesWithin, AddsNone}
 use Rattle.cc_disk.specs.Past.{bytes_are_image}
 
 -- ---- reading, writing
@@ -80,8 +80,7 @@ written_images cells place bytes fits image now =
     let image-long = length-image (written cells place bytes) image now in
     let total : length (written cells place bytes) ≡ length cells = omega (arith, length-append A (map unsettled bytes ++ B), length-append (map unsettled bytes) B, length-map bytes unsettled, a-long, length-drop (place + n) cells) in
     let x-long : length x ≡ place = ap length x-is ∙ length-take-le place image (omega (arith, image-long, total)) in
-    let is_old : IsImage cells old = subst (λ (l : List Cell). IsImage l old) (in_parts cells place n) (join_images A (M ++ B) x (y ++ z) front (join_images M B y z (bytes_are_image M) behind)) in
-    (
+    let is_old : IsImage cells old = subst (λ (l : List Cell). IsImage l old) (in_parts cells place n) (join_images A (M ++ B) x (y ++ z) front (join_images M B y z (bytes_are_image M) behind)) in (
       old,
       is_old,
       record {

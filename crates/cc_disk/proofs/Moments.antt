@@ -1,5 +1,5 @@
 -- One state more joins those that a disk was in: what a crash since a moment may have left grows by what it may leave now.
-use Rattle.std.proofs.Common.{◌≡◌, ◌⊎◌, inl, inr, ⊎_elim, ℕ, zero, suc, ◌+◌, ◌≤◌, List, [], ◌∷◌, ◌++◌, length, drop, refl, sym, ap, ◌∙◌, subst, arith, length-append, Vec}
+use Rattle.std.proofs.Common.{◌≡◌, ◌⊎◌, inl, inr, ⊎_elim, ℕ, zero, suc, ◌≤◌, List, [], ◌∷◌, ◌++◌, length, drop, refl, sym, ap, ◌∙◌, subst, arith, length-append, Vec}
 use Rattle.std.proofs.lemmas.List.{map_push}
 use Rattle.std.specs.declared.alloc.Global.{Global}
 use Rattle.cc_disk.specs.declared.cell.Cell.{Cell}
@@ -32,9 +32,9 @@ pub elapses_one : (past : List (List Cell)) (old new : List Cell)
 elapses_one past old new = record {
   later = omega (arith, length-append past (old ∷ []));
   nothing_else = λ t image le left.
-  ⊎_elim (λ now. inr now) (λ had. inl (newest_or_earlier (drop t past) old image (subst (λ (l : List (List Cell)). MayHaveLeft l image) (drop_push t past old le) had))) left;
+      ⊎_elim (λ now. inr now) (λ had. inl (newest_or_earlier (drop t past) old image (subst (λ (l : List (List Cell)). MayHaveLeft l image) (drop_push t past old le) had))) left;
   keeps = λ t image le left.
-  inr (subst (λ (l : List (List Cell)). MayHaveLeft l image) (sym (drop_push t past old le)) (⊎_elim (takes_newest (drop t past) old image) (keeps_earlier (drop t past) old image) left));
+      inr (subst (λ (l : List (List Cell)). MayHaveLeft l image) (sym (drop_push t past old le)) (⊎_elim (takes_newest (drop t past) old image) (keeps_earlier (drop t past) old image) left));
 }
 
 pub elapses_none : (past : List (List Cell)) (cells : List Cell) → Elapses (length past) (length past) (LeftSince cells past) (LeftSince cells past) (IsImage cells)

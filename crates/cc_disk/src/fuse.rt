@@ -166,7 +166,7 @@ impl<D: Disk> Disk for FuseDisk<D> {
             → IsErr result × (self.new.disk ≡ self.old.disk) }
         ensures reaches { course_of self.old.mode self.old.ahead true ≡ Course.WritesAndFails
             → IsErr result × ((D.failures self.new.disk ≡ D.failures self.old.disk) → IsTrue D.honest
-                → IsWritten (D.seen self.old.disk) place bytes.now (D.seen self.new.disk)) }
+            → IsWritten (D.seen self.old.disk) place bytes.now (D.seen self.new.disk)) }
     {
         let course = next_course(self.mode, self.ahead, true);
         self.ahead = one_less(self.ahead);

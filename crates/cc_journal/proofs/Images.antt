@@ -1,12 +1,12 @@
 -- What the images of a commit hold. How: a disk that holds records is a front, the closed gate, and the bytes behind it; a
 -- commit changes the bytes behind the gate, and then the gate alone.
-use Rattle.std.proofs.Common.{◌≡◌, ◌≢◌, inl, inr, ⊎_elim, ℕ, suc, ◌+◌, ◌*◌, ◌%◌, ◌^◌, ◌<◌, ◌≤◌, List, [], ◌∷◌, ◌++◌, length, get_or, take, drop, refl, sym, ◌∙◌, ap, subst, arith, length-append, append_assoc, take-append-drop}
+use Rattle.std.proofs.Common.{◌≡◌, ◌≢◌, inl, inr, ⊎_elim, ℕ, ◌+◌, ◌*◌, ◌%◌, ◌<◌, ◌≤◌, List, [], ◌∷◌, ◌++◌, length, get_or, take, drop, sym, ◌∙◌, ap, subst, arith, length-append, append_assoc, take-append-drop}
 use Rattle.std.proofs.lemmas.Bool.{cases_eq}
 use Rattle.std.proofs.lemmas.List.{take_at, drop_at, drop_more, length-take-le, length-drop}
 use Rattle.std.specs.Int.{w32, to_le_bytes}
 use Rattle.std.proofs.Math.Nat.{mul-le-mul_right}
 use Rattle.cc_disk.specs.Images.{IsWritten, DiffersWithin}
-use Rattle.cc_journal.specs.Format.{open_gate, header, record_bytes, records, room_of, IsArea, HoldsRecords, HoldsAlone, HoldsOldOrNew}
+use Rattle.cc_journal.specs.Format.{open_gate, header, record_bytes, records, IsArea, HoldsRecords, HoldsOldOrNew}
 use Rattle.cc_journal.specs.Reading.{HoldsFrom, IsMidCommit}
 use Rattle.cc_journal.proofs.Records.{length-header, length-four_bytes, records_push, length-records_push, holds_alone}
 
@@ -114,7 +114,7 @@ module _ (image : List ℕ) (start area used : ℕ) (bodies : List (List ℕ)) (
       start_most = at_most h.area_byte (length h.other) h.place
         where
           at_most : (b n : ℕ) → n ≡ b % 2 * area → n ≤ area
-          at_most b n is = omega (arith, is, mul-le-mul_right area (omega arith))
+          at_most b n is = omega (arith, is, mul-le-mul_right {m = b % 2} {n = 1} area (omega arith))
 
   pub mid_commit : (body other : List ℕ) → used + length body + 6 ≤ area → IsMidCommit image (start + used) (frame body) other → HoldsOldOrNew area bodies body other
   mid_commit body other room (inl differs) = inl (holds_alone other area bodies (behind_gate other (length (frame body)) differs))

@@ -2,3 +2,6 @@ mod Records
 mod Moments
 mod Images
 mod Steps
+mod Bytes
+mod Scan
+mod Kept

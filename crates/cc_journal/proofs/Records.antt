@@ -1,17 +1,16 @@
 -- At most one list of records stands in an image. How: a header, and a record, at the front of two equal lists are equal,
 -- since they tell their own lengths; so of two lists of records in front of the same bytes one goes on from the other.
-use Rattle.std.proofs.Common.{◌≡◌, ◌≢◌, ℕ, ◌+◌, ◌*◌, ◌%◌, ◌^◌, ◌<◌, ◌≤◌, List, [], ◌∷◌, ◌++◌, length, take, drop, refl, sym, ◌∙◌, ap, subst, arith, length-append, append_assoc}
+use Rattle.std.proofs.Common.{◌≡◌, ◌≢◌, ℕ, ◌+◌, ◌*◌, ◌%◌, ◌^◌, ◌<◌, List, [], ◌∷◌, ◌++◌, length, take, drop, refl, sym, ◌∙◌, ap, arith, length-append, append_assoc}
 use Rattle.std.proofs.lemmas.List.{take_at, drop_at}
 use Rattle.std.proofs.lemmas.Nat.{from_le_bytes-to_le_bytes_4}
 use Rattle.std.specs.Int.{w32, to_le_bytes, from_le_bytes}
-use Rattle.cc_journal.specs.Format.{open_gate, header, record_bytes, records, room_of, IsArea, HoldsRecords, HoldsAlone}
+use Rattle.cc_journal.specs.Format.{open_gate, header, record_bytes, records, HoldsRecords, HoldsAlone}
 
 pub split_same : (xs ys us vs : List ℕ) → length xs ≡ length us → xs ++ ys ≡ us ++ vs → (xs ≡ us) × (ys ≡ vs)
-split_same xs ys us vs long same =
-    (
-      sym (take_at xs ys (length xs) refl) ∙ ap (λ (l : List ℕ). take (length xs) l) same ∙ take_at us vs (length xs) (sym long),
-      sym (drop_at xs ys (length xs) refl) ∙ ap (λ (l : List ℕ). drop (length xs) l) same ∙ drop_at us vs (length xs) (sym long),
-    )
+split_same xs ys us vs long same = (
+  sym (take_at xs ys (length xs) refl) ∙ ap (λ (l : List ℕ). take (length xs) l) same ∙ take_at us vs (length xs) (sym long),
+  sym (drop_at xs ys (length xs) refl) ∙ ap (λ (l : List ℕ). drop (length xs) l) same ∙ drop_at us vs (length xs) (sym long),
+)
 
 pub four_bytes_same : (m n : ℕ) → m < 2 ^ 32 → n < 2 ^ 32 → to_le_bytes w32 m ≡ to_le_bytes w32 n → m ≡ n
 four_bytes_same m n small-m small-n same =

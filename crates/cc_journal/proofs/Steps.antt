@@ -1,5 +1,5 @@
 -- What a crash in a commit leaves, call by call: each call adds the images that it may leave, and a sync adds none.
-use Rattle.std.proofs.Common.{◌≡◌, inl, inr, ℕ, ◌+◌, ◌≤◌, List, length, take, drop, ap, sym, subst}
+use Rattle.std.proofs.Common.{◌≡◌, inl, inr, ℕ, ◌+◌, List, length, take, drop, ap, subst}
 use Rattle.cc_disk.specs.Images.{IsWritten, DiffersWithin, UnsettlesWithin, AddsNone, LeavesAlone, Elapses, LeavesOnly}
 use Rattle.cc_journal.specs.Reading.{IsMidCommit}
 use Rattle.cc_journal.proofs.Moments.{started, goes_on}

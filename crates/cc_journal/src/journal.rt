@@ -1,8 +1,8 @@
 // The journal and its calls.
-ghost use Rattle.std.specs.Prelude.{◌≡◌, ◌≢◌, ◌+◌, ◌*◌, ◌^◌, ◌<◌, ◌≤◌, ◌++◌, [], ◌∷◌, List, ℕ, true, false, IsTrue, length, IfOk, IfErr, MatchResult, OnOk, OnErr, IsErrOf, vec_len, vec_capacity};
+ghost use Rattle.std.specs.Prelude.{◌≡◌, ◌≢◌, ◌⊎◌, ◌+◌, ◌*◌, ◌^◌, ◌<◌, ◌≤◌, ◌++◌, [], ◌∷◌, List, ℕ, true, false, IsTrue, length, IfOk, IfErr, MatchResult, OnOk, OnErr, IsErrOf, vec_len, vec_capacity};
 ghost use Rattle.std.specs.Int.{w32, to_le_bytes};
 ghost use Rattle.cc_disk.specs.Images.{LeavesAlone, LeavesOnly, OnlyReads};
-ghost use Rattle.cc_journal.specs.Format.{HoldsAlone, HoldsOldOrNew, HoldsRecords, room_of};
+ghost use Rattle.cc_journal.specs.Format.{HoldsAlone, HoldsOldOrNew, HoldsRecords, IsArea, room_of};
 ghost use Rattle.cc_journal.specs.Answers.{AppendAnswers, OpenFaults};
 
 use crate::body::Body;
@@ -48,6 +48,10 @@ impl<D: Disk> Journal<D> {
         ensures records { IfOk result (λ j. IsTrue D.honest → HoldsRecords (D.seen disk) j.area j.bodies) }
         ensures kept { IfOk result (λ j. IsTrue D.honest → (image : List ℕ) → D.may_leave j.disk image → HoldsAlone image j.area j.bodies) }
         ensures open { IfOk result (λ j. j.closed ≡ false) }
+
+        // Of every kind of disk: there is room for the areas and for the records, and a small disk is no library.
+        ensures room { IfOk result (λ j. IsArea (D.size disk) j.area × (room_of j.bodies ≤ j.area)) }
+        ensures small { D.size disk < 144 → IfErr result (λ e. (e.0 ≡ JournalFault.DiskFault) ⊎ (e.0 ≡ JournalFault.NotALibrary)) }
 
         // When each refusal comes.
         ensures sound { IfOk result (λ j. D.failures j.disk ≡ D.failures disk) }
@@ -153,7 +157,11 @@ impl<D: Disk> Journal<D> {
 }
 
 // What an `append` takes of memory: the record to keep, the bytes behind its gate, and room for it.
-fn prepare(alloc: Global, bodies: &mut Vec<Body>, body: &[u8]) -> Result<(Body, Vec<u8>), AllocError>
+fn prepare(
+    alloc: Global,
+    bodies: &mut Vec<Body>,
+    body: &[u8],
+) -> Result<(Body, Vec<u8>), AllocError>
     requires { length body.now < 2 ^ 32 }
     ensures kept { IfOk result (λ made. made.0 ≡ body.now) }
     ensures behind { IfOk result (λ made. made.1.items ≡ to_le_bytes w32 (length body.now) ++ (body.now ++ 0 ∷ [])) }

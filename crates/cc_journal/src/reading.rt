@@ -1,5 +1,6 @@
 // Reading a journal from a disk of which nothing is known.
-ghost use Rattle.std.specs.Prelude.{IfSome, IsNone, IsErrOf, ◌↔◌, ◌≡◌, ◌≢◌, ◌+◌, ◌*◌, ◌^◌, ◌<◌, ◌≤◌, ◌++◌, [], ◌∷◌, List, ℕ, false, IsTrue, length, take, drop, IfOk, IfErr, MatchResult, OnOk, OnErr, is_ok, if◌then◌else◌};
+ghost use Rattle.std.specs.Prelude.{IfSome, IsNone, IsErrOf, ◌↔◌, ◌≡◌, ◌≢◌, ◌⊎◌, ◌+◌, ◌*◌, ◌^◌, ◌<◌, ◌≤◌, ◌++◌, [], ◌∷◌, List, ℕ, false, IsTrue, length, take, drop, IfOk, IfErr, MatchResult, OnOk, OnErr, is_ok, if◌then◌else◌};
+ghost use Rattle.std.specs.Int.{w32, to_le_bytes, from_le_bytes};
 ghost use Rattle.cc_disk.specs.Images.{LeavesAlone, OnlyReads};
 ghost use Rattle.cc_journal.specs.Format.{header, records, room_of, HasHeader, IsArea};
 ghost use Rattle.cc_journal.specs.Reading.{IsKept, BeginsWith, EndsClosed, FindsRecord};
@@ -13,6 +14,7 @@ use std::alloc::Global;
 
 /// The least and the largest size of an area, in bytes.
 pub const LEAST_AREA: usize = 64;
+
 pub const LARGEST_AREA: usize = 1 << 30;
 
 /// The bytes of a header in front of the two areas.
@@ -33,6 +35,7 @@ pub fn find_records<D: Disk>(alloc: Global, disk: &mut D) -> Result<Found, Journ
     ensures size { D.size disk.new ≡ D.size disk.old }
     ensures reads { IsTrue D.honest → OnlyReads D.seen D.may_leave D.moment D.left_since disk.old disk.new }
     ensures kept { IfOk result (λ f. IsKept D.honest (D.size disk.new) (D.seen disk.new) (D.may_leave disk.new) f.start f.area f.used f.bodies.items false) }
+    ensures small { D.size disk.old < 144 → IfErr result (λ fault. (fault ≡ JournalFault.DiskFault) ⊎ (fault ≡ JournalFault.NotALibrary)) }
     ensures sound { OnOk result (D.failures disk.new ≡ D.failures disk.old) }
     ensures faults { IfErr result (λ fault. OpenFaults D.honest (D.seen disk.old) (D.failures disk.old) (D.failures disk.new) fault) }
 {
@@ -101,12 +104,21 @@ fn parse_header(bytes: &[u8; 16], size: usize) -> Option<(usize, usize)>
     if !is_area(size, area) {
         return None;
     }
-    let start = if area_byte % 2 == 0 { HEADER } else { HEADER + area };
+    let start = if area_byte % 2 == 0 {
+        HEADER
+    } else {
+        HEADER + area
+    };
     Some((start, area))
 }
 
 // The records from `start` on, within an area of that size, and how many bytes they take.
-fn read_records<D: Disk>(alloc: Global, disk: &mut D, start: usize, area: usize) -> Result<(Vec<Body>, usize), JournalFault>
+fn read_records<D: Disk>(
+    alloc: Global,
+    disk: &mut D,
+    start: usize,
+    area: usize,
+) -> Result<(Vec<Body>, usize), JournalFault>
     requires begins { start ≤ 16 + area }
     requires is_area { IsArea (D.size disk.old) area }
     ensures size { D.size disk.new ≡ D.size disk.old }
@@ -127,8 +139,21 @@ fn read_records<D: Disk>(alloc: Global, disk: &mut D, start: usize, area: usize)
     Ok((bodies, used))
 }
 
+// The number that these four bytes spell, the lowest first.
+fn length_of(bytes: &[u8; 4]) -> u32
+    ensures value { result ≡ from_le_bytes w32 bytes.now }
+    ensures bytes { to_le_bytes w32 result ≡ bytes.now }
+{
+    u32::from_le_bytes([bytes[0], bytes[1], bytes[2], bytes[3]])
+}
+
 // The record at that place, if its gate is open, where so many bytes of the area are left from there on.
-fn read_record<D: Disk>(alloc: Global, disk: &mut D, place: usize, left: usize) -> Result<Option<Body>, JournalFault>
+fn read_record<D: Disk>(
+    alloc: Global,
+    disk: &mut D,
+    place: usize,
+    left: usize,
+) -> Result<Option<Body>, JournalFault>
     requires some { 0 < left }
     requires on_disk { place + left ≤ D.size disk.old }
     requires addressed { place + left < 2 ^ 64 }
@@ -151,7 +176,7 @@ fn read_record<D: Disk>(alloc: Global, disk: &mut D, place: usize, left: usize) 
     let mut length = [0u8; 4];
     // The length says how far the record goes.
     disk.read_at(place + 1, &mut length)?;
-    let length = u32::from_le_bytes(length) as usize;
+    let length = length_of(&length) as usize;
     if left - 6 < length {
         return Err(JournalFault::Damaged);
     }

@@ -1,4 +1,4 @@
-use Rattle.std.proofs.Common.{◌+◌, ◌∙◌, ap, map, set, List, arith, get_or}
+use Rattle.std.proofs.Common.{◌+◌, ◌∙◌, ap, set, List, arith, get_or}
 use Rattle.cc_disk.specs.declared.cell.Cell.{Cell}
 use Rattle.cc_disk.specs.Model.{unsettled}
 use Rattle.cc_disk.proofs.Cells.{write_more}

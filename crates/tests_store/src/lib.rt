@@ -1,0 +1,18 @@
+//! Tests of the disk and the journal, from outside: worked rows, every point of failure, and disks that lie.
+//!
+//! `helpers` makes disks and reads them back, `disks` tests `cc_disk`, `rows` has the worked rows of the journal, `sweep`
+//! fails the device at each call in turn, `hostile` opens disks that nobody formatted so.
+#![tactic(auto)]
+
+#[cfg(test)]
+mod disks;
+#[cfg(test)]
+mod first_bytes;
+#[cfg(test)]
+mod helpers;
+#[cfg(test)]
+mod hostile;
+#[cfg(test)]
+mod rows;
+#[cfg(test)]
+mod sweep;
