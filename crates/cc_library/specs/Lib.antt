@@ -3,3 +3,5 @@ pub mod Faults
 pub mod Apply
 pub mod Body
 pub mod Reading
+pub mod Recovered
+pub mod Answers

@@ -18,7 +18,7 @@ pub fn command_body(
     unit: Option<&StoredUnit>,
 ) -> Result<Vec<u8>, AllocError>
     requires { HasUnit kind (option_map (λ u. u.now) unit) }
-    ensures { IfOk result (λ body. body.items ≡ body_bytes kind name.now (option_map (λ u. u.now) unit)) }
+    ensures { IfOk result (λ body. body.items ≡ body_bytes kind name.now (option_map (λ u. u.now) unit.entry)) }
 {
     let mut body = Vec::new(alloc);
     let bytes = name.bytes();

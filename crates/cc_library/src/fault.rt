@@ -1,6 +1,7 @@
 // Why bytes are no name, and why a library refuses.
 ghost use Rattle.std.specs.Prelude.{◌≡◌};
 
+use cc_journal::JournalFault;
 use std::alloc::{AllocError, AllocFailed};
 use thiserror::Error;
 
@@ -68,6 +69,23 @@ impl LibraryFault {
             LibraryFault::Damaged => 37,
             LibraryFault::NotALibrary => 38,
             LibraryFault::OutOfMemory => 40,
+        }
+    }
+}
+
+impl From<JournalFault> for LibraryFault {
+    ghost use Rattle.cc_library.specs.Faults.{fault_of};
+
+    ghost from_gives = { λ journal fault. fault ≡ fault_of journal };
+
+    fn from(fault: JournalFault) -> LibraryFault {
+        match fault {
+            JournalFault::Full => LibraryFault::Full,
+            JournalFault::DiskFault => LibraryFault::DiskFault,
+            JournalFault::Closed => LibraryFault::Closed,
+            JournalFault::Damaged => LibraryFault::Damaged,
+            JournalFault::NotALibrary => LibraryFault::NotALibrary,
+            JournalFault::OutOfMemory => LibraryFault::OutOfMemory,
         }
     }
 }

@@ -8,17 +8,17 @@
 mod body;
 mod command;
 mod fault;
-// mod library;
+mod library;
 mod name;
 mod reading;
-// mod replay;
+mod replay;
 mod unit;
 mod units;
 
 pub use body::command_body;
 pub use command::{Command, Edit, Kind};
 pub use fault::{LibraryFault, NameFault};
-// pub use library::Library;
+pub use library::Library;
 pub use name::{NAME_BYTES, Name};
 pub use unit::SharedUnit;
 pub use units::UnitMap;

@@ -1,0 +1,54 @@
+-- What an image of a disk recovers to: the map that its records stand for.
+use Rattle.std.specs.Prelude.{◌≡◌, ◌⊎◌, ℕ, Bool, List, [], ◌∷◌, IsOk, fold}
+use Rattle.std.specs.FinMap.{empty}
+use Rattle.cc_journal.specs.Format.{HoldsRecords}
+use Rattle.cc_library.specs.declared.command.Command.{Command}
+use Rattle.cc_library.specs.Apply.{Units, apply, after, AreAccepted}
+use Rattle.cc_library.specs.Body.{Spells}
+
+-- each body is the command's at its place, and there are as many of both
+abbrev pub AreSpelled : List (List ℕ) → List Command → Type 0
+AreSpelled [] [] = Unit {0}
+AreSpelled [] (command ∷ commands) = ⊥
+AreSpelled (body ∷ bodies) [] = ⊥
+AreSpelled (body ∷ bodies) (command ∷ commands) = Spells body command × AreSpelled bodies commands
+
+-- the bodies are those of commands, each of which is accepted in turn, from this map on, and they lead to that one
+pub record LeadTo (from : Units) (bodies : List (List ℕ)) (to : Units) : Type 0 where
+  pub commands : List Command
+  pub spelled : AreSpelled bodies commands
+  pub accepted : AreAccepted from commands
+  pub map_is : to ≡ fold after from commands
+
+-- the bodies stand for this map: `library_of` their commands
+abbrev pub StandFor : List (List ℕ) → Units → Type 0
+StandFor bodies units = LeadTo empty bodies units
+
+-- the image has a right header, and the records of the area in use stand for this map
+pub record Recovers (image : List ℕ) (units : Units) : Type 0 where
+  pub area : ℕ
+  pub bodies : List (List ℕ)
+  pub holds : HoldsRecords image area bodies
+  pub stand : StandFor bodies units
+
+-- it recovers to this map, and to no other
+pub record RecoversAlone (image : List ℕ) (units : Units) : Type 0 where
+  pub recovers : Recovers image units
+  pub alone : (others : Units) → Recovers image others → others ≡ units
+
+-- it recovers to the one or to the other alone
+abbrev pub RecoversOneOf : Units → Units → List ℕ → Type 0
+RecoversOneOf old new image = RecoversAlone image old ⊎ RecoversAlone image new
+
+-- what contracts see of a library: its disk, the size of an area, the bodies of its records, its map, whether it is closed
+pub record View (D : Type 0) : Type 0 where
+  pub disk : D
+  pub area : ℕ
+  pub bodies : List (List ℕ)
+  pub units : Units
+  pub closed : Bool
+
+-- what the type of a library keeps: the records stand for the map
+pub record IsKept (bodies : List (List ℕ)) (units : Units) (known_closed closed : Bool) : Type 0 where
+  pub stand : StandFor bodies units
+  pub same : known_closed ≡ closed
