@@ -1,5 +1,5 @@
 -- The library as a map from names to units, what a command does to it, and what many do.
-use Rattle.std.specs.Prelude.{ℕ, List, [], ◌∷◌, Option, Some, None, Result, Ok, Err, IsOk, fold, if◌then◌else◌}
+use Rattle.std.specs.Prelude.{ℕ, List, [], ◌∷◌, Option, Some, None, Result, Ok, Err, IsOk, if◌then◌else◌}
 use Rattle.std.specs.Ordering.{nat_cmp}
 use Rattle.std.specs.Cmp.Lexicographic.{slice_cmp}
 use Rattle.std.specs.FinMap.{FinMap, empty, contains_key, insert, remove}
@@ -34,9 +34,14 @@ kept units (Err number) = units
 abbrev pub after : Units → Command → Units
 after units command = kept units (apply units command)
 
--- the map after these commands, one after the other, from the empty one
+-- the map after these commands, one after the other, from a map on
+abbrev pub after_all : Units → List Command → Units
+after_all units [] = units
+after_all units (command ∷ commands) = after_all (after units command) commands
+
+-- the map after these commands from the empty one
 abbrev pub library_of : List Command → Units
-library_of commands = fold after empty commands
+library_of commands = after_all empty commands
 
 -- the number of a refusal, where there is one
 abbrev pub refusal : Result Units ℕ → Option ℕ

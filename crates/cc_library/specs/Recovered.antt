@@ -1,9 +1,10 @@
 -- What an image of a disk recovers to: the map that its records stand for.
-use Rattle.std.specs.Prelude.{◌≡◌, ◌⊎◌, ℕ, Bool, List, [], ◌∷◌, IsOk, fold}
+use Rattle.std.specs.Prelude.{◌≡◌, ◌⊎◌, ℕ, Bool, List, [], ◌∷◌, refl}
 use Rattle.std.specs.FinMap.{empty}
+use Rattle.std.specs.Coded.{Coded, code_by, coded×, coded_ℕ, coded_list, coded_bool}
 use Rattle.cc_journal.specs.Format.{HoldsRecords}
 use Rattle.cc_library.specs.declared.command.Command.{Command}
-use Rattle.cc_library.specs.Apply.{Units, apply, after, AreAccepted}
+use Rattle.cc_library.specs.Apply.{Units, after_all, AreAccepted}
 use Rattle.cc_library.specs.Body.{Spells}
 
 -- each body is the command's at its place, and there are as many of both
@@ -18,7 +19,7 @@ pub record LeadTo (from : Units) (bodies : List (List ℕ)) (to : Units) : Type 
   pub commands : List Command
   pub spelled : AreSpelled bodies commands
   pub accepted : AreAccepted from commands
-  pub map_is : to ≡ fold after from commands
+  pub map_is : to ≡ after_all from commands
 
 -- the bodies stand for this map: `library_of` their commands
 abbrev pub StandFor : List (List ℕ) → Units → Type 0
@@ -47,6 +48,12 @@ pub record View (D : Type 0) : Type 0 where
   pub bodies : List (List ℕ)
   pub units : Units
   pub closed : Bool
+
+-- it is stored as the tuple of its fields
+abbrev pub view_code : {D : Type 0} → Coded D → Coded Units → Coded (View D)
+view_code {D} disk units =
+    code_by (D × (ℕ × (List (List ℕ) × (Units × Bool)))) (coded× disk (coded× coded_ℕ (coded× (coded_list (coded_list coded_ℕ)) (coded× units coded_bool))))
+    (λ v. (v.disk, (v.area, (v.bodies, (v.units, v.closed))))) (λ p. record { disk = p.0; area = p.1.0; bodies = p.1.1.0; units = p.1.1.1.0; closed = p.1.1.1.1 }) (λ _. refl)
 
 -- what the type of a library keeps: the records stand for the map
 pub record IsKept (bodies : List (List ℕ)) (units : Units) (known_closed closed : Bool) : Type 0 where

@@ -37,9 +37,14 @@ pub struct Library<D: Disk> {
 }
 
 impl<D: Disk> Model for Library<D> {
-    ghost use Rattle.cc_library.specs.Recovered.{View, IsKept};
+    ghost use Rattle.std.specs.Coded.{coded_ℕ, coded_list};
+    ghost use Rattle.std.specs.FinMap as map;
+    ghost use Rattle.cc_link.specs.contracts.unit.StoredUnit as stored;
+    ghost use Rattle.cc_library.specs.Recovered.{View, IsKept, view_code};
 
     ghost Value = { View D };
+
+    ghost coded = { view_code D.code (map.code (coded_list coded_ℕ) stored.the_row.coded) };
 
     ghost view = { λ l. record { disk = l.journal.disk; area = l.journal.area; bodies = l.journal.bodies; units = l.units; closed = l.closed } };
 
@@ -188,6 +193,8 @@ impl<D: Disk> Library<D> {
         ensures moments { IsTrue D.honest → self.old.closed ≡ false
             → LeavesOnly D.moment D.left_since self.old.disk self.new.disk (RecoversOneOf self.old.units (after self.old.units command)) }
     {
+        // What the journal promises of its images, for the calls that end before a device call.
+        let _ = self.journal.records();
         if self.closed {
             return Err(LibraryFault::Closed);
         }
