@@ -2,4 +2,3 @@ pub mod Tables
 pub mod Words
 pub mod Fields
 pub mod Commands
-pub mod Standing

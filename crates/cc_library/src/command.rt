@@ -36,9 +36,6 @@ pub enum Command {
     Withdraw(Name),
 }
 
-/// What `Library::run` does, one after the other: a command.
-pub type Edit = Command;
-
 impl Command {
     /// The command once more. A unit is shared.
     pub fn again(&self) -> Result<Command, AllocError>

@@ -5,7 +5,7 @@ ghost use Rattle.std.specs.Arc.{arc_value};
 ghost use Rattle.std.specs.Ordering.{nat_cmp};
 ghost use Rattle.std.specs.Cmp.Lexicographic.{slice_cmp};
 ghost use Rattle.std.specs.FinMap as map;
-ghost use Rattle.cc_library.specs.Apply.{apply, after, refusal, begun, finished, undone};
+ghost use Rattle.cc_library.specs.Apply.{apply, after, refusal};
 
 use crate::command::Command;
 use crate::name::Name;
@@ -103,42 +103,6 @@ impl UnitMap {
                 self.remove(name);
                 Ok(())
             }
-        }
-    }
-
-    /// Takes the room that an accepted command needs, so that it can be finished or undone without memory. Without
-    /// memory the map stays as it was.
-    pub fn begin(&mut self, command: &Command) -> Result<(), AllocError>
-        ensures ok { OnOk result (self.new ≡ begun self.old command.now) }
-        ensures err { OnErr result (self.new ≡ self.old) }
-    {
-        match command {
-            Command::Add(name, unit) => self.put(name.clone()?, unit.again()?),
-            Command::Replace(_, _) | Command::Withdraw(_) => Ok(()),
-        }
-    }
-
-    /// Does the rest of a command that has begun. It takes no memory.
-    pub fn finish(&mut self, command: Command)
-        ensures { self.new ≡ finished self.old command }
-    {
-        match command {
-            Command::Add(_, _) => {}
-            Command::Replace(name, unit) => {
-                if self.contains(&name) {
-                    let _ = self.put(name, unit);
-                }
-            }
-            Command::Withdraw(name) => self.remove(&name),
-        }
-    }
-
-    /// Takes back what a command has begun. It takes no memory.
-    pub fn undo(&mut self, command: &Command)
-        ensures { self.new ≡ undone self.old command.now }
-    {
-        if let Command::Add(name, _) = command {
-            self.remove(name);
         }
     }
 
