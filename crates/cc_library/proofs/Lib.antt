@@ -1,0 +1,4 @@
+pub mod Tables
+pub mod Words
+pub mod Fields
+pub mod Commands

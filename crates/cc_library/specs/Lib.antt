@@ -1,0 +1,4 @@
+pub mod Name
+pub mod Apply
+pub mod Body
+pub mod Reading
