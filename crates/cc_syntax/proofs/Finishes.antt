@@ -1,6 +1,6 @@
 -- From every state some tokens lead to the end of a unit: an operand where one is missing, a closing parenthesis for each
 -- that is open, a semicolon, an empty block for a loop's body, a closing brace for each block.
-use Rattle.std.proofs.Common.{◌≡◌, ◌≤◌, ℕ, suc, List, [], ◌∷◌, ◌++◌, length, Option, Some, None, option_and_then, refl, sym, ap, subst, ◌∙◌, arith, cond, leb}
+use Rattle.std.proofs.Common.{◌≡◌, ℕ, suc, List, [], ◌∷◌, ◌++◌, Some, None, option_and_then, refl, ap, ◌∙◌}
 use Rattle.cc_syntax.specs.declared.ast.Scalar.TheVariants.{Int}
 use Rattle.cc_syntax.specs.declared.token.Keyword.TheVariants as keyword
 use Rattle.cc_syntax.specs.declared.token.Punctuator.TheVariants as punctuator
@@ -14,7 +14,7 @@ use Rattle.cc_syntax.specs.Machine as machine
 use Rattle.cc_syntax.specs.Machine.{close_parenthesis, whole, State, AtHead, InBody, Done, Inside, Stage, Item, Named, Returning, Testing, Declaring, HasDeclared, Operand, Operator, Called, Head, ReturnType, FunctionName, Opening, Parameters, Closing, Body, Purpose, ToAssign, ToCall, ToReturn, ToTest, ToInitialise, Waiting, Parenthesis, Prefix, Infix, Open, InBlock, InWhile, with_count, at_stage, settled, with_last, reduced, declared, operator_step, role_step, step, name_of, count_of, level_at}
 use Rattle.cc_syntax.specs.MachineView.{standing}
 use Rattle.cc_syntax.proofs.MachineRuns.{Runs}
-use Rattle.cc_syntax.proofs.Forms.{inside, item, operand, operator, pops}
+use Rattle.cc_syntax.proofs.Forms.{item, operand, operator, pops}
 use Rattle.cc_syntax.proofs.ReadsExpression.{precedence-low}
 
 -- some tokens lead to the end of a unit

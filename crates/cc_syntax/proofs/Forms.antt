@@ -1,10 +1,10 @@
 -- The states of the machine inside a function's body, and how tokens are counted in a full expression.
-use Rattle.std.proofs.Common.{◌≡◌, ◌<◌, ◌≤◌, ℕ, suc, List, [], ◌∷◌, ◌++◌, length, Option, Some, None, refl, sym, ap, subst, ◌∙◌, cond, leb, arith}
+use Rattle.std.proofs.Common.{◌≡◌, ◌<◌, ◌≤◌, ℕ, suc, List, [], ◌∷◌, ◌++◌, refl, sym, ap, subst, cond, leb, arith}
 use Rattle.std.proofs.lemmas.Bool.{lt-leb, le-leb}
 use Rattle.cc_syntax.specs.Token.{Lexeme}
-use Rattle.cc_syntax.specs.Tree.{Name, Expr, Declared, Stmt, Stmts, end, next, While}
+use Rattle.cc_syntax.specs.Tree.{Name, Expr, Stmt, Stmts, While}
 use Rattle.cc_syntax.specs.Grammar.{Placed, full_after, precedence}
-use Rattle.cc_syntax.specs.Machine.{State, InBody, Inside, Stage, Item, Operand, Operator, Purpose, Waiting, Parenthesis, Prefix, Infix, Open, InBlock, InWhile, with_count, at_stage, settled, with_last, reduced, count_of}
+use Rattle.cc_syntax.specs.Machine.{State, InBody, Inside, Item, Operand, Operator, Purpose, Waiting, Parenthesis, Prefix, Infix, Open, InBlock, InWhile, with_count, at_stage, settled, reduced, count_of}
 use Rattle.cc_syntax.proofs.MachineRuns.{Runs, runs-append}
 
 -- a function's body at a stage

@@ -15,15 +15,15 @@ use Rattle.cc_syntax.specs.declared.token.TokenKind.TheVariants as kind
 use Rattle.cc_syntax.specs.declared.parser.role.Role.{Role}
 use Rattle.cc_syntax.specs.declared.parser.role.Role.TheVariants as role
 use Rattle.cc_syntax.specs.Token.{Lexeme}
-use Rattle.cc_syntax.specs.Tree.{Name, Expr, Number, Variable, Parenthesised, Unary, Binary, Declared, Stmt, Block, Local, Assign, Call, Return, While, Stmts, end, next, Definition}
+use Rattle.cc_syntax.specs.Tree.{Name, Expr, Number, Variable, Parenthesised, Declared, Stmt, Block, Local, Assign, Call, Return, While, Stmts, end, next}
 use Rattle.cc_syntax.specs.Roles.{role_of, keyword_role, punctuator_role}
-use Rattle.cc_syntax.specs.Grammar.{Placed, outside, full, full_after, begins, identifier, Marks, precedence, unary_punctuator, binary_punctuator, SpellsExpression, SpellsDeclared, SpellsDeclaration, SpellsStatement, SpellsStatements, SpellsUnit}
+use Rattle.cc_syntax.specs.Grammar.{Placed, outside, full, full_after, begins, identifier, Marks, precedence, unary_punctuator, binary_punctuator, SpellsExpression, SpellsDeclared, SpellsDeclaration, SpellsStatement, SpellsStatements}
 use Rattle.cc_syntax.specs.Machine.{State, AtHead, InBody, Done, Inside, Stage, Item, Named, Returning, Testing, Declaring, HasDeclared, Operand, Operator, Called, Head, ReturnType, FunctionName, Opening, Parameters, Closing, Body, Purpose, ToAssign, ToCall, ToReturn, ToTest, ToInitialise, Waiting, Parenthesis, Prefix, Infix, Open, InBlock, InWhile, with_count, settled, with_last, reduced, declared, declare, close_block, operate, close_parenthesis, close_full, end_full, go_on, whole, binary_sign, item_step, named_step, operand_step, operator_step, returning_step, testing_step, declaring_step, declared_step, called_step, body_step, head_step, item_level, stage_level, role_level, level_at, step, name_of, count_of}
 use Rattle.cc_syntax.proofs.MachineRuns.{Runs}
 use Rattle.cc_syntax.proofs.Forms.{inside, settled-count, count_after, count_after-append, full_after-append}
 use Rattle.cc_syntax.proofs.ReadsExpression.{precedence-low, precedence-high}
 use Rattle.cc_syntax.proofs.ReadsStatement.{CanStand}
-use Rattle.cc_syntax.proofs.SoFar.{first, HeadSoFar, BodySoFar, DeclaratorsSoFar, DeclarationSoFar, PurposeSoFar, base, Room, WaitingSoFar, OperandSoFar, Holds, OperatorSoFar, StageSoFar, SoFar, HasRole}
+use Rattle.cc_syntax.proofs.SoFar.{first, HeadSoFar, BodySoFar, DeclaratorsSoFar, DeclarationSoFar, PurposeSoFar, base, OperandSoFar, Holds, OperatorSoFar, StageSoFar, SoFar, HasRole}
 use Rattle.cc_syntax.proofs.KeepsExpression.{spells-looser, room-five, Reduces, reduces, prefix-whole}
 
 -- the state behind a token, where there is one, is reached by the tokens with it

@@ -1,13 +1,13 @@
 -- What waits takes its operand: the tokens stay spelled.
-use Rattle.std.proofs.Common.{◌≡◌, ◌<◌, ◌≤◌, ℕ, suc, List, [], ◌∷◌, ◌++◌, refl, sym, ap, subst, ◌∙◌, arith, append_assoc, leb, true, false, inl, inr}
+use Rattle.std.proofs.Common.{◌≡◌, ◌≤◌, ℕ, suc, List, [], ◌∷◌, ◌++◌, refl, sym, ap, subst, ◌∙◌, arith, append_assoc, inl, inr}
 use Rattle.std.proofs.lemmas.Bool.Decides.{leb_tells}
 use Rattle.cc_syntax.specs.Token.{Lexeme}
 use Rattle.cc_syntax.specs.Tree.{Expr, Number, Variable, Parenthesised, Unary, Binary}
 use Rattle.cc_syntax.specs.Grammar.{SpellsExpression, precedence}
 use Rattle.cc_syntax.specs.Machine.{Waiting, Parenthesis, Prefix, Infix, reduced}
 use Rattle.cc_syntax.proofs.Forms.{pops, keeps}
-use Rattle.cc_syntax.proofs.ReadsExpression.{precedence-low, precedence-high}
-use Rattle.cc_syntax.proofs.SoFar.{Room, WaitingSoFar, Holds}
+use Rattle.cc_syntax.proofs.ReadsExpression.{precedence-high}
+use Rattle.cc_syntax.proofs.SoFar.{Room, Holds}
 
 -- an expression of a level is one of each lower level
 pub spells-looser : (e : Expr) (l m : ℕ) (xs : List Lexeme) → m ≤ l → SpellsExpression l xs e → SpellsExpression m xs e

@@ -1,12 +1,12 @@
 -- From the tokens of a text to the text: the exits of `parse`.
-use Rattle.std.proofs.Common.{◌≡◌, ◌<◌, ◌≤◌, ℕ, List, length, Result, Ok, Err, refl, sym, ap, subst, ◌∙◌, arith}
+use Rattle.std.proofs.Common.{◌≡◌, ◌≤◌, ℕ, List, length, Result, Ok, Err, refl, subst, arith}
 use Rattle.cc_syntax.specs.declared.place.Place.{Place}
 use Rattle.cc_syntax.specs.declared.fault.SyntaxFault.{SyntaxFault}
 use Rattle.cc_syntax.specs.declared.fault.SyntaxFault.TheVariants as fault
 use Rattle.cc_syntax.specs.declared.unit.Unit as unit
 use Rattle.cc_syntax.specs.Token.{Lexeme}
 use Rattle.cc_syntax.specs.Tree.{Definition}
-use Rattle.cc_syntax.specs.Tokens.{IsTokens, IsRefusal, IsFlawFault}
+use Rattle.cc_syntax.specs.Tokens.{IsRefusal, IsFlawFault}
 use Rattle.cc_syntax.specs.Limits.{SpellsWithin, UnexpectedAt, TooDeepAt}
 use Rattle.cc_syntax.specs.Parse.{SpellsText, BreaksAt, IsParseRefusal}
 use Rattle.cc_syntax.specs.Source.{source, AnswersTree, IsParse}

@@ -1,6 +1,6 @@
 -- Each expression that tokens spell is read from them: an induction on its tree. Behind its tokens the machine may still
 -- hold parts of it that wait, which any operator of the level reduces to the whole expression.
-use Rattle.std.proofs.Common.{◌≡◌, ◌<◌, ◌≤◌, ℕ, suc, List, [], ◌∷◌, ◌++◌, Option, Some, None, refl, sym, ap, subst, ◌∙◌, arith}
+use Rattle.std.proofs.Common.{◌≡◌, ◌≤◌, ℕ, suc, List, [], ◌∷◌, ◌++◌, Some, refl, sym, ap, subst, ◌∙◌, arith}
 use Rattle.cc_syntax.specs.declared.ast.BinaryOperator.{BinaryOperator}
 use Rattle.cc_syntax.specs.declared.ast.BinaryOperator.TheVariants as binary
 use Rattle.cc_syntax.specs.declared.ast.UnaryOperator.{UnaryOperator}
@@ -10,9 +10,9 @@ use Rattle.cc_syntax.specs.declared.token.Punctuator.TheVariants as punctuator
 use Rattle.cc_syntax.specs.declared.token.TokenKind.TheVariants as kind
 use Rattle.cc_syntax.specs.Token.{Lexeme}
 use Rattle.cc_syntax.specs.Tree.{Expr, Number, Variable, Parenthesised, Unary, Binary}
-use Rattle.cc_syntax.specs.Roles.{role_of, punctuator_role}
+use Rattle.cc_syntax.specs.Roles.{punctuator_role}
 use Rattle.cc_syntax.specs.Grammar.{SpellsExpression, full_after, precedence, binary_punctuator, unary_punctuator, identifier}
-use Rattle.cc_syntax.specs.Machine.{State, Inside, Purpose, Waiting, Parenthesis, Prefix, Infix, Full, with_count, reduced, operate, operator_step, operand_step, close_parenthesis, name_of, at_stage, Operand}
+use Rattle.cc_syntax.specs.Machine.{Inside, Purpose, Waiting, Parenthesis, Prefix, Infix, Full, with_count, reduced, operate, operator_step, operand_step, close_parenthesis, name_of}
 use Rattle.cc_syntax.proofs.MachineRuns.{Runs, token}
 use Rattle.cc_syntax.proofs.Forms.{operand, operator, count_after, count_after-append, runs-full, pops, Fits, fits-more, fits-stays}
 

@@ -1,5 +1,5 @@
 -- Each statement, and each unit, that tokens spell is read from them: an induction on its tree.
-use Rattle.std.proofs.Common.{◌≡◌, ◌≤◌, ℕ, Bool, true, false, suc, List, [], ◌∷◌, ◌++◌, length, map, Option, Some, None, option_and_then, refl, sym, ap, subst, ◌∙◌, arith, append_assoc, inl, inr, ◌⊎◌}
+use Rattle.std.proofs.Common.{◌≡◌, ℕ, Bool, true, false, suc, List, [], ◌∷◌, ◌++◌, length, map, Option, Some, None, option_and_then, refl, sym, ap, subst, ◌∙◌, arith, append_assoc, inl, inr}
 use Rattle.cc_syntax.specs.declared.ast.Scalar.{Scalar}
 use Rattle.cc_syntax.specs.declared.ast.Scalar.TheVariants.{Int}
 use Rattle.cc_syntax.specs.declared.token.Keyword.TheVariants as keyword
@@ -11,8 +11,8 @@ use Rattle.cc_syntax.specs.declared.parser.role.Role.TheVariants as role
 use Rattle.cc_syntax.specs.Token.{Lexeme}
 use Rattle.cc_syntax.specs.Tree.{Name, Expr, Declared, Stmt, Block, Local, Assign, Call, Return, While, Stmts, end, next, Definition}
 use Rattle.cc_syntax.specs.Roles.{role_of}
-use Rattle.cc_syntax.specs.Grammar.{Placed, outside, full, full_after, begins, identifier, SpellsExpression, SpellsDeclared, SpellsDeclaration, SpellsOperand, SpellsStatement, SpellsStatements, SpellsNoParameters, SpellsUnit, IsStatement}
-use Rattle.cc_syntax.specs.Machine.{State, AtHead, InBody, Done, Inside, Stage, Item, Named, Returning, Testing, Declaring, HasDeclared, Operand, Operator, Called, Head, ReturnType, FunctionName, Opening, Parameters, Closing, Body, Purpose, ToAssign, ToCall, ToReturn, ToTest, ToInitialise, Waiting, Open, InBlock, InWhile, with_count, at_stage, settle, settled, with_last, reduced, declared, declare, opened, operator_step, operand_step, returning_step, close_parenthesis, close_full, end_full, go_on, whole, role_step, name_of, count_of, role_level, start}
+use Rattle.cc_syntax.specs.Grammar.{Placed, outside, full, full_after, identifier, SpellsExpression, SpellsDeclared, SpellsDeclaration, SpellsStatement, SpellsStatements, SpellsNoParameters, SpellsUnit, IsStatement}
+use Rattle.cc_syntax.specs.Machine.{State, AtHead, InBody, Done, Inside, Stage, Item, Named, Returning, Testing, Declaring, HasDeclared, Operand, Operator, Called, FunctionName, Opening, Parameters, Closing, Body, Purpose, ToAssign, ToCall, ToReturn, ToTest, ToInitialise, Waiting, Open, InBlock, InWhile, with_count, at_stage, settled, with_last, reduced, declared, declare, operator_step, operand_step, returning_step, close_parenthesis, close_full, end_full, go_on, whole, role_step, name_of, count_of, role_level, start}
 use Rattle.cc_syntax.proofs.MachineRuns.{Runs, token, runs-append}
 use Rattle.cc_syntax.proofs.Forms.{inside, item, operand, operator, settled-count, count_after, full_after-append}
 use Rattle.cc_syntax.proofs.ReadsExpression.{Read, read_expression}

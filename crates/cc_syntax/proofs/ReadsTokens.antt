@@ -1,5 +1,5 @@
 -- The loop over all tokens: what each of its exits answers.
-use Rattle.std.proofs.Common.{◌≡◌, ◌<◌, ◌≤◌, ◌+◌, ℕ, suc, List, length, take, get_or, Option, Some, None, Result, Ok, Err, refl, sym, ap, subst, ◌∙◌, arith}
+use Rattle.std.proofs.Common.{◌≡◌, ◌<◌, ◌≤◌, ◌+◌, ℕ, suc, List, length, take, get_or, Some, None, Result, Ok, Err, sym, ap, subst, ◌∙◌, arith}
 use Rattle.std.proofs.lemmas.List.{take_all}
 use Rattle.cc_syntax.specs.declared.ast.Function.{Function}
 use Rattle.cc_syntax.specs.declared.token.Token.{Token}
@@ -12,7 +12,7 @@ use Rattle.cc_syntax.specs.Tree.{Definition}
 use Rattle.cc_syntax.specs.Erase.{function_tree}
 use Rattle.cc_syntax.specs.Machine.{State, AtHead, InBody, Done, count_of, tree_of}
 use Rattle.cc_syntax.specs.MachineView.{state_view, Advances, Answers}
-use Rattle.cc_syntax.proofs.Verdict.{Reached, IsCutAt, fine_before, unexpected, unexpected_end, too_deep, reach, spelled_within}
+use Rattle.cc_syntax.proofs.Verdict.{Reached, fine_before, unexpected, unexpected_end, too_deep, reach, spelled_within}
 use Rattle.cc_syntax.proofs.TokenOrder.{cut_at, length-lexemes}
 
 pub stopped : (s : State) (text : List ℕ) (ts : List Token) (k : ℕ) (d : Token) (r : Result state.State stop.Stop) → k < length ts → Reached s (take k (lexemes text ts)) → Advances s (lexeme text (get_or ts k d)) r → r ≡ Err stops.Unexpected → Answers (lexemes text ts) (Err (refusals.Unexpected k))

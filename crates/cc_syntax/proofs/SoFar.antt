@@ -1,6 +1,6 @@
 -- What the tokens before a state spell: for each state a relation between it and the tokens that led to it, with their
 -- standing. Reading a token keeps it (KeepsExpression, KeepsBody), and at the end it is that the tokens spell the tree.
-use Rattle.std.proofs.Common.{◌≡◌, ◌≤◌, ℕ, suc, List, [], ◌∷◌, ◌++◌, length, map, Option, Some, None}
+use Rattle.std.proofs.Common.{◌≡◌, ◌≤◌, ℕ, suc, List, [], ◌∷◌, ◌++◌, length, map}
 use Rattle.cc_syntax.specs.declared.ast.Scalar.TheVariants.{Int}
 use Rattle.cc_syntax.specs.declared.token.Keyword.TheVariants as keyword
 use Rattle.cc_syntax.specs.declared.token.Punctuator.TheVariants as punctuator
@@ -9,7 +9,7 @@ use Rattle.cc_syntax.specs.declared.token.TokenKind.TheVariants as kind
 use Rattle.cc_syntax.specs.declared.parser.role.Role.{Role}
 use Rattle.cc_syntax.specs.declared.parser.role.Role.TheVariants as role
 use Rattle.cc_syntax.specs.Token.{Lexeme}
-use Rattle.cc_syntax.specs.Tree.{Name, Expr, Declared, Stmt, Local, Stmts}
+use Rattle.cc_syntax.specs.Tree.{Name, Expr, Declared, Local, Stmts}
 use Rattle.cc_syntax.specs.Grammar.{Placed, outside, full, full_after, begins, identifier, Marks, precedence, unary_punctuator, binary_punctuator, SpellsExpression, SpellsDeclaration, SpellsStatements, SpellsNoParameters, SpellsUnit}
 use Rattle.cc_syntax.specs.Machine.{State, AtHead, InBody, Done, Stage, Item, Named, Returning, Testing, Declaring, HasDeclared, Operand, Operator, Called, Head, ReturnType, FunctionName, Opening, Parameters, Closing, Body, Purpose, ToAssign, ToCall, ToReturn, ToTest, ToInitialise, Waiting, Parenthesis, Prefix, Infix, Open, InBlock, InWhile}
 use Rattle.cc_syntax.proofs.Forms.{count_after}

@@ -1,17 +1,17 @@
 -- The first token that breaks the grammar or a limit is the one at which the machine stops: from what it has read some
 -- unit goes on (Finishes, KeepsBody), and every unit that begins so is read through the same states (ReadsStatement).
-use Rattle.std.proofs.Common.{◌≡◌, ◌<◌, ◌≤◌, ℕ, zero, suc, List, [], ◌∷◌, ◌++◌, ◌⊎◌, length, take, drop, map, Option, Some, None, refl, sym, ap, subst, ◌∙◌, arith, append_assoc, inl, inr}
+use Rattle.std.proofs.Common.{◌≡◌, ◌<◌, ◌≤◌, ℕ, zero, suc, List, [], ◌∷◌, ◌++◌, length, take, drop, Option, Some, None, refl, sym, ap, subst, ◌∙◌, arith, append_assoc, inl, inr}
 use Rattle.std.specs.List.{AllByRecursion}
-use Rattle.std.proofs.lemmas.List.{append-nil, map-append, take-append-drop}
+use Rattle.std.proofs.lemmas.List.{map-append, take-append-drop}
 use Rattle.cc_syntax.specs.Token.{Lexeme}
 use Rattle.cc_syntax.specs.Tree.{Definition}
-use Rattle.cc_syntax.specs.Grammar.{Placed, SpellsUnit, tokens_of, Spells, Begins}
+use Rattle.cc_syntax.specs.Grammar.{Placed, SpellsUnit, tokens_of, Begins}
 use Rattle.cc_syntax.specs.Limits.{IsWithin, PassesLimit, SpellsWithin, UnexpectedAt, TooDeepAt, IsFineBefore, TreesAreOne, SpelledHaveNoFault}
-use Rattle.cc_syntax.specs.Machine.{State, Done, step, count_of, level_at, start}
+use Rattle.cc_syntax.specs.Machine.{State, Done, step, start}
 use Rattle.cc_syntax.specs.MachineView.{standing}
 use Rattle.cc_syntax.proofs.MachineRuns.{Runs, runs-append, runs-split, runs-one}
 use Rattle.cc_syntax.proofs.ReadsStatement.{read_unit}
-use Rattle.cc_syntax.proofs.Finishes.{Finishes, finishes}
+use Rattle.cc_syntax.proofs.Finishes.{finishes}
 use Rattle.cc_syntax.proofs.KeepsBody.{so_far}
 
 -- the machine has come to the state over these tokens, and none of them passes a limit

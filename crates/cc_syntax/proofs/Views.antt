@@ -1,7 +1,7 @@
 -- What the parser's stacks look like after a push and before a pop.
 use Rattle.std.proofs.Common.{◌≡◌, List, [], ◌∷◌, ◌++◌, map, reverse, ap, ◌∙◌, refl}
 use Rattle.std.proofs.lemmas.List.{map-append, reverse-append}
-use Rattle.cc_syntax.specs.Tree.{next, Stmt, Stmts}
+use Rattle.cc_syntax.specs.Tree.{next}
 use Rattle.cc_syntax.specs.Erase.{statement_tree, statements_of, declarator_tree}
 use Rattle.cc_syntax.specs.declared.ast.Statement.{Statement}
 use Rattle.cc_syntax.specs.declared.ast.Declarator.{Declarator}

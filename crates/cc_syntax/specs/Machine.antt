@@ -1,6 +1,6 @@
 -- What the parser's own functions compute, token by token. No public contract cites this file: `parse` is stated by
 -- Grammar and Limits, and that the two agree is proved in proofs/.
-use Rattle.std.specs.Prelude.{◌≡◌, ℕ, suc, ◌+◌, Bool, true, false, List, [], ◌∷◌, ◌++◌, length, reverse, map, Option, Some, None, option_and_then, nat_le, if◌then◌else◌}
+use Rattle.std.specs.Prelude.{ℕ, suc, List, [], ◌∷◌, ◌++◌, length, Option, Some, None, option_and_then, nat_le, if◌then◌else◌}
 use Rattle.cc_syntax.specs.declared.ast.Scalar.TheVariants.{Int}
 use Rattle.cc_syntax.specs.declared.ast.UnaryOperator.{UnaryOperator}
 use Rattle.cc_syntax.specs.declared.ast.UnaryOperator.TheVariants as unary

@@ -1,6 +1,6 @@
 -- The parser's state without where it lies in memory, and what its functions answer by it. No public contract cites this
 -- file.
-use Rattle.std.specs.Prelude.{◌≡◌, ℕ, List, [], ◌∷◌, reverse, map, Option, Some, None, Result, Ok, Err}
+use Rattle.std.specs.Prelude.{◌≡◌, List, reverse, map, Option, Some, None, Result, Ok, Err}
 use Rattle.cc_syntax.specs.declared.ast.Declarator.{Declarator}
 use Rattle.cc_syntax.specs.declared.parser.state.Waiting as waiting
 use Rattle.cc_syntax.specs.declared.parser.state.Waiting.TheVariants as waitings

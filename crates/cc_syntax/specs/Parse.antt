@@ -1,5 +1,5 @@
 -- What the text as a whole spells, and why it is refused.
-use Rattle.std.specs.Prelude.{◌≡◌, ℕ, ◌≤◌, List, length, slice_get, Option, Some, None, Result, Ok, Err}
+use Rattle.std.specs.Prelude.{◌≡◌, ℕ, ◌≤◌, List, length, slice_get, Option, Some, None}
 use Rattle.cc_syntax.specs.declared.place.Place.{Place}
 use Rattle.cc_syntax.specs.declared.fault.SyntaxFault.{SyntaxFault}
 use Rattle.cc_syntax.specs.declared.fault.SyntaxFault.TheVariants as fault

@@ -1,4 +1,4 @@
-use Rattle.std.proofs.Common.{◌≡◌, ◌<◌, Some, inl, inr, arith, rules}
+use Rattle.std.proofs.Common.{◌≡◌, ◌<◌, Some, inl, inr, arith}
 use Rattle.std.proofs.lemmas.Grind.{common_steps}
 use Rattle.cc_syntax.specs.Machine.{step, count_of, level_at}
 use Rattle.cc_syntax.specs.MachineView.{state_view}

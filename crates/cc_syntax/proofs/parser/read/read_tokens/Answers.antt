@@ -1,14 +1,10 @@
-use Rattle.std.proofs.Common.{◌≡◌, ◌≤◌, length, Err, Ok, Result, Option, Some, None, ap, ◌∙◌, sym, arith}
-use Rattle.std.proofs.lemmas.Grind.{common_steps}
+use Rattle.std.proofs.Common.{length, Err, Result, Option, ap, ◌∙◌, sym, arith}
 use Rattle.cc_syntax.specs.declared.token.TokenKind.TheVariants.{Identifier}
-use Rattle.cc_syntax.specs.declared.token.Token.{Token}
 use Rattle.cc_syntax.specs.declared.parser.stop.Stop as stop
-use Rattle.cc_syntax.specs.declared.parser.stop.Stop.TheVariants as stops
 use Rattle.cc_syntax.specs.declared.parser.state.State as state
 use Rattle.std.specs.Option.{option_map}
 use Rattle.cc_syntax.specs.declared.ast.Function.{Function}
 use Rattle.cc_syntax.specs.Erase.{function_tree}
-use Rattle.cc_syntax.specs.Machine.{tree_of}
 use Rattle.cc_syntax.specs.MachineView.{state_view}
 use Rattle.cc_syntax.proofs.TokenOrder.{in_order-at}
 use Rattle.cc_syntax.proofs.ReadsTokens.{stopped, past_limit, goes_on, finished, unfinished}
