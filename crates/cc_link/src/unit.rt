@@ -52,11 +52,11 @@ impl Source {
 }
 
 /// A certificate of a unit. There is none yet.
-#[derive(Debug, Drop)]
+#[derive(Drop)]
 pub enum Certificate {}
 
 /// A unit as the library keeps it: its source, the image that was made of it, and its certificate, where it has one.
-#[derive(Debug, Drop)]
+#[derive(Drop)]
 pub struct StoredUnit {
     pub source: Source,
     pub image: Image,

@@ -17,7 +17,7 @@ pub returns-in-Some-clause-refused : goal.returns-in-Some-clause-refused
 returns-in-Some-clause-refused c =
     let d = (source c.args.unit).function in
     let is = c.in_ok-form.ensures.found ∙ ap (λ n. found n (offences (function_tree c.function.result.now)) (locals (function_tree c.function.result.now).body)) c.new-findings.ensures
-    ∙ ap (λ (e : Definition). found nothing_found (offences e) (locals e.body)) c.function.ensures in
+    ∙ ap (λ (e : Definition). found nothing_found (offences e) (locals e.body)) c.function.ensures.tree in
     let o = c.in-Some.offence in
     inr (inl (
       o,
@@ -30,8 +30,8 @@ pub returns-then-not-defines_main-clause-refused :
 returns-then-not-defines_main-clause-refused c =
     let d = (source c.args.unit).function in
     let is = c.in_ok-form.ensures.found ∙ ap (λ n. found n (offences (function_tree c.function.result.now)) (locals (function_tree c.function.result.now).body)) c.new-findings.ensures
-    ∙ ap (λ (e : Definition). found nothing_found (offences e) (locals e.body)) c.function.ensures in
-    let main : c.defines_main.result ≡ is_main d = c.defines_main.ensures ∙ ap is_main c.function-3.ensures in
+    ∙ ap (λ (e : Definition). found nothing_found (offences e) (locals e.body)) c.function.ensures.tree in
+    let main : c.defines_main.result ≡ is_main d = c.defines_main.ensures ∙ ap is_main c.function-3.ensures.tree in
     inr (inr (
       answers_none d _ is (sym c.first_offence.ensures ∙ c.in_default.is),
       sym main ∙ c.if-not-defines_main.true,
@@ -41,7 +41,7 @@ returns-then-not-defines_main-clause-refused c =
 pub new-requires : goal.new-requires
 new-requires c =
     let is = c.in_ok-form.ensures.found ∙ ap (λ n. found n (offences (function_tree c.function.result.now)) (locals (function_tree c.function.result.now).body)) c.new-findings.ensures
-    ∙ ap (λ (e : Definition). found nothing_found (offences e) (locals e.body)) c.function.ensures in
-    let main : c.defines_main.result ≡ is_main (source c.args.unit).function = c.defines_main.ensures ∙ ap is_main c.function-3.ensures in
+    ∙ ap (λ (e : Definition). found nothing_found (offences e) (locals e.body)) c.function.ensures.tree in
+    let main : c.defines_main.result ≡ is_main (source c.args.unit).function = c.defines_main.ensures ∙ ap is_main c.function-3.ensures.tree in
     IsChecked-found (source c.args.unit) _ c.in_ok-form.form is (answers_none (source c.args.unit).function _ is (sym c.first_offence.ensures ∙ c.in_default.is)) (sym main ∙ c.if-not-defines_main.false) c.in_ok-form.ensures.variables
-    (λ none. c.in_ok-form.ensures.form (ap offences c.function.ensures ∙ none) ∙ ap (λ d. (resolved d).body) c.function.ensures)
+    (λ none. c.in_ok-form.ensures.form (ap offences c.function.ensures.tree ∙ none) ∙ ap (λ d. (resolved d).body) c.function.ensures.tree)
