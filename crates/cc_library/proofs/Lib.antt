@@ -1,4 +1,0 @@
-pub mod Tables
-pub mod Words
-pub mod Fields
-pub mod Commands

@@ -1,4 +1,0 @@
-pub mod Name
-pub mod Apply
-pub mod Body
-pub mod Reading
