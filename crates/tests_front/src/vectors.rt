@@ -6,8 +6,14 @@ pub type Vector = (&'static [u8], &'static str);
 pub static VECTORS_1: [Vector; 45] = [
     (b"", "tokens 0"),
     (b"a/*b*/c", "tokens 2; 0 1 Identifier; 6 7 Identifier"),
-    (b"1+ +1", "tokens 4; 0 1 Number(Int, 1); 1 2 Punctuator(Plus); 3 4 Punctuator(Plus); 4 5 Number(Int, 1)"),
-    (b"1++1", "tokens 3; 0 1 Number(Int, 1); 1 3 Punctuator(PlusPlus); 3 4 Number(Int, 1)"),
+    (
+        b"1+ +1",
+        "tokens 4; 0 1 Number(Int, 1); 1 2 Punctuator(Plus); 3 4 Punctuator(Plus); 4 5 Number(Int, 1)",
+    ),
+    (
+        b"1++1",
+        "tokens 3; 0 1 Number(Int, 1); 1 3 Punctuator(PlusPlus); 3 4 Number(Int, 1)",
+    ),
     (b"0xe+1", "fault BadConstant 1 1"),
     (b"08", "fault BadConstant 1 1"),
     (b"1L", "fault BadConstant 1 1"),
@@ -31,8 +37,14 @@ pub static VECTORS_1: [Vector; 45] = [
     (b"018", "fault BadConstant 1 1"),
     (b"1u.", "fault BadConstant 1 1"),
     (b"0xE-2", "fault BadConstant 1 1"),
-    (b"0x1+1", "tokens 3; 0 3 Number(Int, 1); 3 4 Punctuator(Plus); 4 5 Number(Int, 1)"),
-    (b"1-1", "tokens 3; 0 1 Number(Int, 1); 1 2 Punctuator(Minus); 2 3 Number(Int, 1)"),
+    (
+        b"0x1+1",
+        "tokens 3; 0 3 Number(Int, 1); 3 4 Punctuator(Plus); 4 5 Number(Int, 1)",
+    ),
+    (
+        b"1-1",
+        "tokens 3; 0 1 Number(Int, 1); 1 2 Punctuator(Minus); 2 3 Number(Int, 1)",
+    ),
     (b"0", "tokens 1; 0 1 Number(Int, 0)"),
     (b"00", "tokens 1; 0 2 Number(Int, 0)"),
     (b"017", "tokens 1; 0 3 Number(Int, 15)"),
@@ -42,20 +54,38 @@ pub static VECTORS_1: [Vector; 45] = [
     (b"0XABCDEFU", "tokens 1; 0 9 Number(Unsigned, 11259375)"),
     (b"0xabcdef", "tokens 1; 0 8 Number(Int, 11259375)"),
     (b"2147483647", "tokens 1; 0 10 Number(Int, 2147483647)"),
-    (b"2147483648u", "tokens 1; 0 11 Number(Unsigned, 2147483648)"),
+    (
+        b"2147483648u",
+        "tokens 1; 0 11 Number(Unsigned, 2147483648)",
+    ),
     (b"0x7fffffff", "tokens 1; 0 10 Number(Int, 2147483647)"),
     (b"0x80000000", "tokens 1; 0 10 Number(Unsigned, 2147483648)"),
     (b"017777777777", "tokens 1; 0 12 Number(Int, 2147483647)"),
-    (b"020000000000", "tokens 1; 0 12 Number(Unsigned, 2147483648)"),
-    (b"037777777777", "tokens 1; 0 12 Number(Unsigned, 4294967295)"),
-    (b"4294967295u", "tokens 1; 0 11 Number(Unsigned, 4294967295)"),
+    (
+        b"020000000000",
+        "tokens 1; 0 12 Number(Unsigned, 2147483648)",
+    ),
+    (
+        b"037777777777",
+        "tokens 1; 0 12 Number(Unsigned, 4294967295)",
+    ),
+    (
+        b"4294967295u",
+        "tokens 1; 0 11 Number(Unsigned, 4294967295)",
+    ),
 ];
 
 pub static VECTORS_2: [Vector; 45] = [
     (b"0xFFFFFFFF", "tokens 1; 0 10 Number(Unsigned, 4294967295)"),
     (b"9u", "tokens 1; 0 2 Number(Unsigned, 9)"),
-    (b"000000000000000000000000000007", "tokens 1; 0 30 Number(Int, 7)"),
-    (b"0x00000000000000000000000000F", "tokens 1; 0 29 Number(Int, 15)"),
+    (
+        b"000000000000000000000000000007",
+        "tokens 1; 0 30 Number(Int, 7)",
+    ),
+    (
+        b"0x00000000000000000000000000F",
+        "tokens 1; 0 29 Number(Int, 15)",
+    ),
     (b"2147483648", "fault ConstantTooLarge 1 1"),
     (b"4294967296u", "fault ConstantTooLarge 1 1"),
     (b"0x100000000", "fault ConstantTooLarge 1 1"),
@@ -114,19 +144,58 @@ pub static VECTORS_3: [Vector; 45] = [
     (b"@\x0a08", "fault BadByte 1 1"),
     (b"/*@\x00\xff\"*/", "tokens 0"),
     (b"<<=", "tokens 1; 0 3 Punctuator(ShiftLeftAssign)"),
-    (b"<<<=", "tokens 2; 0 2 Punctuator(ShiftLeft); 2 4 Punctuator(LessOrEqual)"),
-    (b">>>=", "tokens 2; 0 2 Punctuator(ShiftRight); 2 4 Punctuator(GreaterOrEqual)"),
-    (b"<:", "tokens 2; 0 1 Punctuator(Less); 1 2 Punctuator(Colon)"),
-    (b"&&&", "tokens 2; 0 2 Punctuator(AndAnd); 2 3 Punctuator(Ampersand)"),
-    (b"|||", "tokens 2; 0 2 Punctuator(OrOr); 2 3 Punctuator(Bar)"),
-    (b"---", "tokens 2; 0 2 Punctuator(MinusMinus); 2 3 Punctuator(Minus)"),
-    (b"!==", "tokens 2; 0 2 Punctuator(NotEqual); 2 3 Punctuator(Assign)"),
-    (b"a+++b", "tokens 4; 0 1 Identifier; 1 3 Punctuator(PlusPlus); 3 4 Punctuator(Plus); 4 5 Identifier"),
-    (b"->", "tokens 2; 0 1 Punctuator(Minus); 1 2 Punctuator(Greater)"),
-    (b"%:", "tokens 2; 0 1 Punctuator(Percent); 1 2 Punctuator(Colon)"),
-    (b"===", "tokens 2; 0 2 Punctuator(Equal); 2 3 Punctuator(Assign)"),
-    (b"*=/=%=&=|=^=", "tokens 6; 0 2 Punctuator(StarAssign); 2 4 Punctuator(SlashAssign); 4 6 Punctuator(PercentAssign); 6 8 Punctuator(AmpersandAssign); 8 10 Punctuator(BarAssign); 10 12 Punctuator(CaretAssign)"),
-    (b"(){}[];,?:~", "tokens 11; 0 1 Punctuator(OpenParenthesis); 1 2 Punctuator(CloseParenthesis); 2 3 Punctuator(OpenBrace); 3 4 Punctuator(CloseBrace); 4 5 Punctuator(OpenBracket); 5 6 Punctuator(CloseBracket); 6 7 Punctuator(Semicolon); 7 8 Punctuator(Comma); 8 9 Punctuator(Question); 9 10 Punctuator(Colon); 10 11 Punctuator(Tilde)"),
+    (
+        b"<<<=",
+        "tokens 2; 0 2 Punctuator(ShiftLeft); 2 4 Punctuator(LessOrEqual)",
+    ),
+    (
+        b">>>=",
+        "tokens 2; 0 2 Punctuator(ShiftRight); 2 4 Punctuator(GreaterOrEqual)",
+    ),
+    (
+        b"<:",
+        "tokens 2; 0 1 Punctuator(Less); 1 2 Punctuator(Colon)",
+    ),
+    (
+        b"&&&",
+        "tokens 2; 0 2 Punctuator(AndAnd); 2 3 Punctuator(Ampersand)",
+    ),
+    (
+        b"|||",
+        "tokens 2; 0 2 Punctuator(OrOr); 2 3 Punctuator(Bar)",
+    ),
+    (
+        b"---",
+        "tokens 2; 0 2 Punctuator(MinusMinus); 2 3 Punctuator(Minus)",
+    ),
+    (
+        b"!==",
+        "tokens 2; 0 2 Punctuator(NotEqual); 2 3 Punctuator(Assign)",
+    ),
+    (
+        b"a+++b",
+        "tokens 4; 0 1 Identifier; 1 3 Punctuator(PlusPlus); 3 4 Punctuator(Plus); 4 5 Identifier",
+    ),
+    (
+        b"->",
+        "tokens 2; 0 1 Punctuator(Minus); 1 2 Punctuator(Greater)",
+    ),
+    (
+        b"%:",
+        "tokens 2; 0 1 Punctuator(Percent); 1 2 Punctuator(Colon)",
+    ),
+    (
+        b"===",
+        "tokens 2; 0 2 Punctuator(Equal); 2 3 Punctuator(Assign)",
+    ),
+    (
+        b"*=/=%=&=|=^=",
+        "tokens 6; 0 2 Punctuator(StarAssign); 2 4 Punctuator(SlashAssign); 4 6 Punctuator(PercentAssign); 6 8 Punctuator(AmpersandAssign); 8 10 Punctuator(BarAssign); 10 12 Punctuator(CaretAssign)",
+    ),
+    (
+        b"(){}[];,?:~",
+        "tokens 11; 0 1 Punctuator(OpenParenthesis); 1 2 Punctuator(CloseParenthesis); 2 3 Punctuator(OpenBrace); 3 4 Punctuator(CloseBrace); 4 5 Punctuator(OpenBracket); 5 6 Punctuator(CloseBracket); 6 7 Punctuator(Semicolon); 7 8 Punctuator(Comma); 8 9 Punctuator(Question); 9 10 Punctuator(Colon); 10 11 Punctuator(Tilde)",
+    ),
     (b"auto", "tokens 1; 0 4 Keyword(Auto)"),
     (b"break", "tokens 1; 0 5 Keyword(Break)"),
     (b"case", "tokens 1; 0 4 Keyword(Case)"),
@@ -228,13 +297,28 @@ pub static VECTORS_5: [Vector; 41] = [
     (b"do1", "tokens 1; 0 3 Identifier"),
     (b"\x0b\x0c\x09\x0d\x0a ", "tokens 0"),
     (b"a//b\x0ac", "tokens 2; 0 1 Identifier; 5 6 Identifier"),
-    (b"a/ /b", "tokens 4; 0 1 Identifier; 1 2 Punctuator(Slash); 3 4 Punctuator(Slash); 4 5 Identifier"),
+    (
+        b"a/ /b",
+        "tokens 4; 0 1 Identifier; 1 2 Punctuator(Slash); 3 4 Punctuator(Slash); 4 5 Identifier",
+    ),
     (b"a/**/b", "tokens 2; 0 1 Identifier; 5 6 Identifier"),
-    (b"1/2", "tokens 3; 0 1 Number(Int, 1); 1 2 Punctuator(Slash); 2 3 Number(Int, 2)"),
+    (
+        b"1/2",
+        "tokens 3; 0 1 Number(Int, 1); 1 2 Punctuator(Slash); 2 3 Number(Int, 2)",
+    ),
     (b"0x1e", "tokens 1; 0 4 Number(Int, 30)"),
     (b"0x1e+", "fault BadConstant 1 1"),
-    (b"0x1e +1", "tokens 3; 0 4 Number(Int, 30); 5 6 Punctuator(Plus); 6 7 Number(Int, 1)"),
-    (b"int main(void){}", "tokens 7; 0 3 Keyword(Int); 4 8 Identifier; 8 9 Punctuator(OpenParenthesis); 9 13 Keyword(Void); 13 14 Punctuator(CloseParenthesis); 14 15 Punctuator(OpenBrace); 15 16 Punctuator(CloseBrace)"),
+    (
+        b"0x1e +1",
+        "tokens 3; 0 4 Number(Int, 30); 5 6 Punctuator(Plus); 6 7 Number(Int, 1)",
+    ),
+    (
+        b"int main(void){}",
+        "tokens 7; 0 3 Keyword(Int); 4 8 Identifier; 8 9 Punctuator(OpenParenthesis); 9 13 Keyword(Void); 13 14 Punctuator(CloseParenthesis); 14 15 Punctuator(OpenBrace); 15 16 Punctuator(CloseBrace)",
+    ),
     (b"int main(void){0xe+1;}", "fault BadConstant 1 16"),
-    (b"int main(void){write_word(2147483648);}", "fault ConstantTooLarge 1 27"),
+    (
+        b"int main(void){write_word(2147483648);}",
+        "fault ConstantTooLarge 1 27",
+    ),
 ];
