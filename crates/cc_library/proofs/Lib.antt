@@ -1,0 +1,5 @@
+pub mod Tables
+pub mod Words
+pub mod Fields
+pub mod Commands
+pub mod Standing

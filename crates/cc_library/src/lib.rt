@@ -1,0 +1,24 @@
+//! The library: a map from names to stored units that survives any crash, over any disk.
+//!
+//! `name` is a name, `unit` and `units` are what is kept, `command` what changes it, `body` and `reading` a command as
+//! the body of a record, `replay` what records stand for, `library` the library and its calls.
+//! It hands out `Library`, `Name`, `Command`, `Edit`, `Kind`, `SharedUnit`, `command_body` and the faults.
+#![tactic(auto)]
+
+mod body;
+mod command;
+mod fault;
+mod library;
+mod name;
+mod reading;
+mod replay;
+mod unit;
+mod units;
+
+pub use body::command_body;
+pub use command::{Command, Edit, Kind};
+pub use fault::{LibraryFault, NameFault};
+pub use library::Library;
+pub use name::{NAME_BYTES, Name};
+pub use unit::SharedUnit;
+pub use units::UnitMap;
