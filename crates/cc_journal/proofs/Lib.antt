@@ -1,6 +1,6 @@
-mod Records
+pub mod Records
 mod Moments
-mod Images
+pub mod Images
 mod Steps
 mod Bytes
 mod Scan
