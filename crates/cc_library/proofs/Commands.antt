@@ -1,18 +1,15 @@
 -- A command that is read is spelled by the bytes, and a command that is spelled is read.
-use Rattle.std.proofs.Common.{◌≡◌, ℕ, zero, suc, ◌+◌, Bool, true, false, ◌&&◌, cond, eqb, List, [], ◌∷◌, ◌++◌, length, get_or, ◌<◌, Option, Some, None, refl, sym, ap, subst, ◌∙◌, append_assoc, arith, Result, Ok, Err}
-use Rattle.std.specs.Prelude.{IsTrue, IfOk}
+use Rattle.std.proofs.Common.{◌≡◌, ℕ, zero, suc, false, ◌&&◌, cond, eqb, List, [], ◌∷◌, ◌++◌, length, Some, None, refl, sym, ap, subst, ◌∙◌, arith}
+use Rattle.std.specs.Prelude.{IsTrue}
 use Rattle.std.proofs.lemmas.Bool.{eqb-true, ne_eqb}
 use Rattle.std.proofs.lemmas.List.{append-nil, nil_from_length}
 use Rattle.std.proofs.lemmas.Option.{none-some, same_Some}
-use Rattle.cc_link.specs.declared.unit.StoredUnit.{StoredUnit}
 use Rattle.cc_library.specs.declared.command.Command.{Command}
 use Rattle.cc_library.specs.declared.command.Command.TheVariants.{Add, Replace, Withdraw}
-use Rattle.cc_library.specs.declared.reading.ReadFault.{ReadFault}
-use Rattle.cc_library.specs.declared.reading.ReadFault.TheVariants.{NoCommand, OutOfMemory}
 use Rattle.cc_library.specs.Name.{is_name}
 use Rattle.cc_library.specs.Body.{AreBelow, IsUnit, IsCommand, Spells, body_of, name_field, unit_fields}
-use Rattle.cc_library.specs.Reading.{◌>>=◌, Gives, byte_in, name_in, unit_in, kind_in, command_in}
-use Rattle.cc_library.proofs.Fields.{bind_some, when_some, both_true, Takes, Takes-then, from_index, name_fields, unit_field}
+use Rattle.cc_library.specs.Reading.{◌>>=◌, name_in, unit_in, kind_in, command_in}
+use Rattle.cc_library.proofs.Fields.{bind_some, when_some, both_true, Takes, name_fields, unit_field}
 
 -- the kind's byte, the name and the rest of the body of a command
 abbrev kind_of : Command → ℕ

@@ -1,6 +1,6 @@
 -- A field that is read is the field that was written, and what was written is read again: for each kind of field, from
 -- its two halves, up to the unit.
-use Rattle.std.proofs.Common.{◌≡◌, ℕ, zero, suc, ◌+◌, ◌^◌, ◌<◌, ◌≤◌, Bool, true, false, ◌&&◌, cond, ltb, List, [], ◌∷◌, ◌++◌, length, get_or, take, drop, Option, Some, None, refl, sym, ap, subst, ◌∙◌, append_assoc, arith}
+use Rattle.std.proofs.Common.{◌≡◌, ℕ, zero, suc, ◌^◌, ◌<◌, ◌≤◌, Bool, true, false, ◌&&◌, cond, ltb, List, [], ◌∷◌, ◌++◌, length, get_or, take, drop, Option, Some, None, refl, sym, ap, subst, ◌∙◌, append_assoc, arith}
 use Rattle.std.specs.Prelude.{IsTrue, nat_le}
 use Rattle.std.specs.List.{flat_map}
 use Rattle.std.specs.Int.{w32, from_le_bytes, to_le_bytes}
@@ -13,7 +13,7 @@ use Rattle.cc_link.specs.declared.unit.Certificate.{Certificate}
 use Rattle.cc_link.specs.declared.unit.StoredUnit.{StoredUnit}
 use Rattle.cc_library.specs.Name.{is_name}
 use Rattle.cc_library.specs.Body.{AreBelow, IsUnit, bytes_field, words_field, name_field, unit_fields}
-use Rattle.cc_library.specs.Reading.{◌>>=◌, byte_in, taken, number_in, words_in, words_field_in, source_in, name_in, unit_in}
+use Rattle.cc_library.specs.Reading.{◌>>=◌, taken, number_in, words_in, words_field_in, source_in, name_in, unit_in}
 
 -- ---- tools
 

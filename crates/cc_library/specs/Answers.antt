@@ -7,7 +7,7 @@ use Rattle.cc_library.specs.declared.fault.LibraryFault.{LibraryFault}
 use Rattle.cc_library.specs.declared.fault.LibraryFault.TheVariants.{Exists, Absent, Full, DiskFault, Closed, Damaged, NotALibrary, OutOfMemory}
 use Rattle.cc_library.specs.Apply.{Units, apply, after, exists, absent}
 use Rattle.cc_library.specs.Body.{body_of, Spells}
-use Rattle.cc_library.specs.Recovered.{Recovers, View}
+use Rattle.cc_library.specs.Recovered.{Recovers, StandFor, View}
 
 -- `open`: 35 exactly where the device failed; else, of an honest disk with these bytes, 38 exactly where there is no right
 -- header, and 37 exactly where there is one and nothing is recovered
@@ -22,16 +22,16 @@ OpenFaults honest seen before after Absent = ⊥
 OpenFaults honest seen before after Full = ⊥
 OpenFaults honest seen before after Closed = ⊥
 
--- replaying records has no other faults
-abbrev pub ReplayFaults : List (List ℕ) → (List (List ℕ) → Units → Type 0) → LibraryFault → Type 0
-ReplayFaults bodies Stand Damaged = (units : Units) → Stand bodies units → ⊥
-ReplayFaults bodies Stand OutOfMemory = Unit {0}
-ReplayFaults bodies Stand DiskFault = ⊥
-ReplayFaults bodies Stand NotALibrary = ⊥
-ReplayFaults bodies Stand Exists = ⊥
-ReplayFaults bodies Stand Absent = ⊥
-ReplayFaults bodies Stand Full = ⊥
-ReplayFaults bodies Stand Closed = ⊥
+-- replaying records: 37 exactly where they stand for no map
+abbrev pub ReplayFaults : List (List ℕ) → LibraryFault → Type 0
+ReplayFaults bodies Damaged = (units : Units) → StandFor bodies units → ⊥
+ReplayFaults bodies OutOfMemory = Unit {0}
+ReplayFaults bodies DiskFault = ⊥
+ReplayFaults bodies NotALibrary = ⊥
+ReplayFaults bodies Exists = ⊥
+ReplayFaults bodies Absent = ⊥
+ReplayFaults bodies Full = ⊥
+ReplayFaults bodies Closed = ⊥
 
 -- one record more: 37 exactly where its body is that of no command that the map accepts
 abbrev pub ReplaysBody : Units → List ℕ → Result Units LibraryFault → Type 0

@@ -69,6 +69,11 @@ pub record IsUnit (unit : StoredUnit) : Type 0 where
   pub globals : length unit.image.globals ≤ 65536
   pub global_words : AreBelow (2 ^ 32) unit.image.globals
 
+-- the unit is one that can be, where there is one
+abbrev pub HoldsUnit : Option StoredUnit → Type 0
+HoldsUnit None = Unit {0}
+HoldsUnit (Some unit) = IsUnit unit
+
 -- what a command can be
 abbrev pub IsCommand : Command → Type 0
 IsCommand (Add name unit) = IsTrue (is_name name) × IsUnit unit

@@ -5,3 +5,4 @@ pub mod Body
 pub mod Reading
 pub mod Recovered
 pub mod Answers
+pub mod Runs

@@ -1,7 +1,8 @@
 // Writing a command as the body of a record.
-ghost use Rattle.std.specs.Prelude.{◌≡◌, ◌+◌, ◌++◌, ◌<◌, ◌^◌, length, IfOk, OnOk};
+ghost use Rattle.std.specs.Prelude.{◌≡◌, ◌+◌, ◌++◌, ◌<◌, ◌^◌, length, IfOk, IsTrue, OnOk};
 ghost use Rattle.std.specs.Option.{option_map};
-ghost use Rattle.cc_library.specs.Body.{HasUnit, body_bytes, body_of, unit_fields, unit_part, words_field};
+ghost use Rattle.cc_library.specs.Name.{is_name};
+ghost use Rattle.cc_library.specs.Body.{HasUnit, HoldsUnit, IsUnit, Spells, body_bytes, body_of, unit_fields, unit_part, words_field};
 
 use crate::command::{Command, Kind};
 use crate::name::Name;
@@ -18,7 +19,10 @@ pub fn command_body(
     unit: Option<&StoredUnit>,
 ) -> Result<Vec<u8>, AllocError>
     requires { HasUnit kind (option_map (λ u. u.now) unit) }
-    ensures { IfOk result (λ body. body.items ≡ body_bytes kind name.now (option_map (λ u. u.now) unit.entry)) }
+    ensures spelled { IfOk result (λ body. body.items ≡ body_bytes kind name.now (option_map (λ u. u.now) unit.entry)) }
+    // What is spelled keeps the limits of names and units.
+    ensures name { OnOk result (IsTrue (is_name name.now)) }
+    ensures unit { OnOk result (HoldsUnit (option_map (λ u. u.now) unit.entry)) }
 {
     let mut body = Vec::new(alloc);
     let bytes = name.bytes();
@@ -32,7 +36,7 @@ pub fn command_body(
 
 /// The body of the record of a command.
 pub fn body_of_command(alloc: Global, command: &Command) -> Result<Vec<u8>, AllocError>
-    ensures { IfOk result (λ body. body.items ≡ body_of command.now) }
+    ensures { IfOk result (λ body. Spells body.items command.now) }
 {
     match command {
         Command::Add(name, unit) => command_body(alloc, Kind::Add, name, Some(unit.stored())),
@@ -48,13 +52,16 @@ pub fn body_of_command(alloc: Global, command: &Command) -> Result<Vec<u8>, Allo
 
 // Adds the fields of a unit.
 fn put_unit(body: &mut Vec<u8>, unit: &StoredUnit) -> Result<(), AllocError>
-    ensures { OnOk result (body.new.items ≡ body.old.items ++ unit_fields unit.now) }
+    ensures put { OnOk result (body.new.items ≡ body.old.items ++ unit_fields unit.now) }
+    ensures unit { OnOk result (IsUnit unit.now) }
 {
     let source = unit.source.bytes();
     body.extend_from_slice(&(source.len() as u32).to_le_bytes())?;
     body.extend_from_slice(source)?;
-    put_words(body, unit.image.code.words())?;
-    put_words(body, unit.image.globals.words())
+    let code = unit.image.code.words();
+    put_words(body, code)?;
+    let globals = unit.image.globals.words();
+    put_words(body, globals)
 }
 
 // Adds how many words there are, and the words.

@@ -2,7 +2,8 @@
 //!
 //! `name` is a name, `unit` and `units` are what is kept, `command` what changes it, `body` and `reading` a command as
 //! the body of a record, `replay` what records stand for, `library` the library and its calls.
-//! It hands out `Library`, `Name`, `Command`, `Edit`, `Kind`, `SharedUnit`, `command_body` and the faults.
+//! It hands out `Library`, `Name`, `UnitMap`, `Command`, `Edit`, `Kind`, `SharedUnit`, `command_body`, `read_command`, `replay`
+//! and the faults.
 #![tactic(auto)]
 
 mod body;
@@ -15,10 +16,12 @@ mod replay;
 mod unit;
 mod units;
 
-pub use body::command_body;
+pub use body::{body_of_command, command_body};
 pub use command::{Command, Edit, Kind};
 pub use fault::{LibraryFault, NameFault};
 pub use library::Library;
 pub use name::{NAME_BYTES, Name};
+pub use reading::{ReadFault, read_command};
+pub use replay::replay;
 pub use unit::SharedUnit;
 pub use units::UnitMap;

@@ -1,17 +1,19 @@
 // The library and its calls.
-ghost use Rattle.std.specs.Prelude.{◌≡◌, ◌+◌, List, ℕ, false, IsTrue, IfOk, IfErr, OnOk, MatchResult};
+ghost use Rattle.std.specs.Prelude.{◌≡◌, ◌⊎◌, ◌+◌, [], List, ℕ, false, IsTrue, IfOk, IfErr, OnOk, MatchResult};
 ghost use Rattle.std.specs.Option.{option_map};
 ghost use Rattle.std.specs.Arc.{arc_value};
 ghost use Rattle.std.specs.FinMap as map;
 ghost use Rattle.cc_disk.specs.Images.{LeavesOnly, OnlyReads};
 ghost use Rattle.cc_journal.specs.Format.{HoldsRecords};
+ghost use Rattle.cc_library.specs.declared.command.Command.{Command};
 ghost use Rattle.cc_library.specs.declared.command.Command.TheVariants as command;
-ghost use Rattle.cc_library.specs.Apply.{after};
+ghost use Rattle.cc_library.specs.Apply.{after, after_all};
 ghost use Rattle.cc_library.specs.Recovered.{Recovers, RecoversAlone, RecoversOneOf, StandFor};
 ghost use Rattle.cc_library.specs.Answers.{OpenFaults, ChangeAnswers, ChangeLeaves};
+ghost use Rattle.cc_library.specs.Runs.{AreDone, AreEdited, HadNoRoom, IsEdited, IsRefused, Stopped};
 
 use crate::body::body_of_command;
-use crate::command::Command;
+use crate::command::{Command, Edit};
 use crate::fault::LibraryFault;
 use crate::name::Name;
 use crate::replay::replay;
@@ -64,6 +66,9 @@ impl<D: Disk> Library<D> {
         ensures records { IfOk result (λ l. IsTrue D.honest → HoldsRecords (D.seen disk) l.area l.bodies) }
         ensures stand { IfOk result (λ l. StandFor l.bodies l.units) }
         ensures open { IfOk result (λ l. l.closed ≡ false) }
+
+        // A new journal has no records, and its map is empty.
+        ensures fresh { IfOk result (λ l. IsTrue D.honest → (area : ℕ) → HoldsRecords (D.seen disk) area [] → (l.bodies ≡ []) × (l.units ≡ map.empty)) }
 
         // When each refusal comes.
         ensures sound { IfOk result (λ l. D.failures l.disk ≡ D.failures disk) }
@@ -182,6 +187,66 @@ impl<D: Disk> Library<D> {
             closed: _,
         } = self;
         journal.into_disk()
+    }
+
+    /// Does each edit in turn, opens the disk again after each 35, and stops where that opening is refused. It gives the
+    /// numbers of the edits done, in order, 0 for Ok, and the library as it is then, or why it stopped and the disk.
+    ///
+    /// 40 and no number where there is no room for all the numbers, which is taken first: then nothing was done. After that
+    /// only the refusals of `open`; of an honest disk these are 35 and 40.
+    pub fn run(
+        self,
+        alloc: Global,
+        edits: Vec<Edit>,
+    ) -> (Result<Library<D>, (LibraryFault, D)>, Vec<u32>)
+        // Each number is the reply at that point.
+        ensures numbers { IfOk result.0 (λ l. AreEdited D.honest D.failures self edits.items result.1.items l) }
+
+        // The map is the one before, folded over the edits with 0 and those with 35 that the reopening showed.
+        ensures folded { IfOk result.0 (λ l. IsTrue D.honest
+            → (done : List Command) × AreDone edits.items result.1.items done × (l.units ≡ after_all self.units done)) }
+
+        // While it is not closed, every image recovers to its map.
+        ensures kept { IfOk result.0 (λ l. IsTrue D.honest → l.closed ≡ false → (image : List ℕ) → D.may_leave l.disk image → RecoversAlone image l.units) }
+
+        // Where it stopped.
+        ensures stopped { IfErr result.0 (λ e. HadNoRoom self result.1.items e.0 e.1
+            ⊎ Stopped D.honest D.failures D.seen D.may_leave self edits.items result.1.items e.0 e.1) }
+        ensures size { MatchResult result.0 (λ l. D.size l.disk ≡ D.size self.disk) (λ e. D.size e.1 ≡ D.size self.disk) }
+    {
+        let Ok(mut numbers) = Vec::with_capacity(alloc, edits.len()) else {
+            return (
+                Err((LibraryFault::OutOfMemory, self.into_disk())),
+                Vec::new(alloc),
+            );
+        };
+        let mut library = self;
+        for edit in edits {
+            let (number, left) = library.edited(alloc, edit);
+            numbers.push(number).unwrap();
+            match left {
+                Ok(left) => library = left,
+                Err(refused) => return (Err(refused), numbers),
+            }
+        }
+        (Ok(library), numbers)
+    }
+
+    // One edit of a run: its number, and the library behind it, opened again where the device failed.
+    fn edited(
+        mut self,
+        alloc: Global,
+        edit: Edit,
+    ) -> (u32, Result<Library<D>, (LibraryFault, D)>)
+        ensures edited { IfOk result.1 (λ l. IsEdited D.honest D.failures self edit result.0 l) }
+        ensures refused { IfErr result.1 (λ e. (result.0 ≡ 35) × IsRefused D.honest D.failures D.seen D.may_leave self edit e.0 e.1) }
+        ensures size { MatchResult result.1 (λ l. D.size l.disk ≡ D.size self.disk) (λ e. D.size e.1 ≡ D.size self.disk) }
+    {
+        match self.change(alloc, edit) {
+            Ok(()) => (0, Ok(self)),
+            Err(LibraryFault::DiskFault) => (35, Library::open(alloc, self.into_disk())),
+            Err(fault) => (u32::from(fault.number()), Ok(self)),
+        }
     }
 
     // One change: the map is asked, all growths are made, then the journal decides.

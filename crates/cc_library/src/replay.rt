@@ -9,10 +9,13 @@ use crate::units::UnitMap;
 use cc_journal::Body;
 use std::alloc::Global;
 
-/// The map that the records stand for, the oldest first; 37 exactly where they stand for none.
+/// The map that records with these bodies stand for, the oldest first.
+///
+/// 37 exactly where they stand for none: a body is that of no command, or of one that the map so far refuses. 40 where
+/// memory ran out.
 pub fn replay(alloc: Global, bodies: &[Body]) -> Result<UnitMap, LibraryFault>
     ensures found { IfOk result (λ units. StandFor bodies.now units) }
-    ensures faults { IfErr result (λ fault. ReplayFaults bodies.now StandFor fault) }
+    ensures faults { IfErr result (λ fault. ReplayFaults bodies.now fault) }
 {
     let mut units = UnitMap::new(alloc);
     for body in bodies {

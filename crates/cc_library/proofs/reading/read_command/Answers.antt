@@ -1,9 +1,8 @@
 -- What is read is spelled, and what is spelled is read.
-use Rattle.std.proofs.Common.{◌≡◌, ℕ, List, get_or, ◌<◌, Option, Some, None, sym, ◌∙◌, subst, arith}
+use Rattle.std.proofs.Common.{ℕ, List, get_or, ◌<◌, subst, arith}
 use Rattle.std.specs.Prelude.{Result, Ok, Err, IfOk}
 use Rattle.cc_library.specs.declared.command.Command.{Command}
 use Rattle.cc_library.specs.declared.reading.ReadFault.{ReadFault}
-use Rattle.cc_library.specs.declared.reading.ReadFault.TheVariants.{NoCommand, OutOfMemory}
 use Rattle.cc_library.specs.Body.{Spells}
 use Rattle.cc_library.specs.Reading.{Gives, command_in}
 use Rattle.cc_library.proofs.Fields.{from_index}
