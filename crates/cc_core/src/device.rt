@@ -1,5 +1,5 @@
 // The device steps of a commit, and their failure.
-ghost use Rattle.std.specs.Prelude.{◌≡◌, ℕ, List, Option, Some, IfOk, OnErr, IsErrOf, length};
+ghost use Rattle.std.specs.Prelude.{◌≡◌, ℕ, List, Option, Some, IfOk, OnErr, IsErrOf, length, ◌<◌, ◌^◌};
 ghost use Rattle.cc_library.specs.Body.{body_of};
 ghost use Rattle.cc_core.specs.declared.command.Reply.{Reply};
 ghost use Rattle.cc_core.specs.declared.contents.Contents.{Contents};
@@ -10,10 +10,22 @@ ghost use Rattle.cc_core.specs.Ready.{IsReady};
 
 use crate::command::{Placed, Reply};
 use crate::contents::{Contents, Due, Phase};
-use crate::encoding::{body_of_command, frame};
 use crate::events::Answer;
 use crate::fault::CoreFault;
-use std::alloc::Global;
+use cc_library::body_of_command;
+use std::alloc::{AllocError, Global};
+
+// What stands behind the gate of a record with this body: its length, the body, and the next gate, closed.
+fn frame(alloc: Global, body: &[u8]) -> Result<Vec<u8>, AllocError>
+    requires { length body.now < 2 ^ 32 }
+    ensures { IfOk result (λ bytes. bytes.items ≡ behind_gate body.now) }
+{
+    let mut bytes = Vec::new(alloc);
+    bytes.extend_from_slice(&(body.len() as u32).to_le_bytes())?;
+    bytes.extend_from_slice(body)?;
+    bytes.push(0)?;
+    Ok(bytes)
+}
 
 // The body's write is done. The bytes are made before the device is called.
 pub(crate) fn write_body<P>(alloc: Global, contents: &mut Contents<P>) -> Answer

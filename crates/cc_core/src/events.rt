@@ -16,7 +16,6 @@ use crate::build::Build;
 use crate::command::{Placed, Reply, Request};
 use crate::contents::{Contents, Due, Phase};
 use crate::device::{fail, sync_body, sync_gate, write_body, write_gate};
-use crate::encoding::body_of_command;
 use crate::event::Event;
 use crate::fault::{BuildFault, CoreFault};
 use crate::job::{
@@ -25,7 +24,7 @@ use crate::job::{
 use crate::recovery::{crash, recover};
 use crate::sequence::Sequence;
 use crate::store::Store;
-use cc_library::{Command, SharedUnit, UnitMap};
+use cc_library::{Command, SharedUnit, UnitMap, body_of_command};
 use std::alloc::{AllocError, Global};
 
 /// What an event answers: a reply or none; 29 where it is not possible, 40 where memory was refused.

@@ -2,7 +2,7 @@
 //! Clients hand in jobs, workers take their pieces, one job at a time commits in four device steps, and its reply is given.
 //! A device step may fail, the disk may crash at any event, and the library is opened again.
 //! `command`: what is asked and kept. `build`: what makes units. `job`, `table`, `store`, `contents`: what a state holds.
-//! `event`, `events`, `encoding`, `device`, `recovery`: what may happen, and the step of each. `state`: the machine and its runs.
+//! `event`, `events`, `device`, `recovery`: what may happen, and the step of each. `state`: the machine and its runs.
 //! It hands out `State`, `run_events`, `Event`, `Build`, and the types of requests, places and replies.
 #![tactic(auto)]
 
@@ -10,7 +10,6 @@ pub mod build;
 pub mod command;
 mod contents;
 mod device;
-mod encoding;
 pub mod event;
 mod events;
 pub mod fault;
