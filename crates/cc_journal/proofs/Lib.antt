@@ -2,6 +2,6 @@ pub mod Records
 mod Moments
 pub mod Images
 mod Steps
-mod Bytes
+pub mod Bytes
 mod Scan
 mod Kept
