@@ -1,12 +1,12 @@
 -- What a step needs of the state, which every state that is reached has.
-use Rattle.std.specs.Prelude.{◌≡◌, ◌⊎◌, ℕ, ◌≤◌, ◌^◌, IsOk, List, [], ◌∷◌, ◌++◌, Some, None}
-use Rattle.std.specs.FinMap.{get}
+use Rattle.std.specs.Prelude.{◌≡◌, ◌⊎◌, ℕ, ◌≤◌, ◌^◌, List, [], ◌∷◌, ◌++◌, Some, None}
+use Rattle.std.specs.FinMap.{get, empty}
 use Rattle.cc_disk.specs.Model.{bytes_of, IsImage}
 use Rattle.cc_disk.specs.Images.{LeavesAlone}
 use Rattle.cc_journal.specs.Format.{HoldsAlone}
 use Rattle.cc_library.specs.declared.command.Command.{Command}
 use Rattle.cc_library.specs.declared.command.Command.TheVariants.{Add, Replace, Withdraw}
-use Rattle.cc_library.specs.Apply.{Units, apply, library_of}
+use Rattle.cc_library.specs.Apply.{Units, AreAccepted, library_of}
 use Rattle.cc_library.specs.Body.{body_of}
 use Rattle.cc_library.specs.Recovered.{StandFor}
 use Rattle.cc_core.specs.declared.command.Placed.{Placed}
@@ -35,7 +35,7 @@ HasRoom Acknowledge store command = Unit {0}
 abbrev pub IsOldOrNew : Units → List Placed → Type 0
 IsOldOrNew library order =
     (library ≡ library_of (commands order))
-    ⊎ ((front : List Placed) × (last : Placed) × (order ≡ front ++ last ∷ []) × IsOk (apply (library_of (commands front)) last.command) × (library ≡ library_of (commands front)))
+    ⊎ ((front : List Placed) × (last : Placed) × (order ≡ front ++ last ∷ []) × (library ≡ library_of (commands front)))
 
 -- the disk holds records that stand for a library of the order, and every byte is settled
 pub record IsRecoverable (store : StoreState) (order : List Placed) : Type 0 where
@@ -44,6 +44,7 @@ pub record IsRecoverable (store : StoreState) (order : List Placed) : Type 0 whe
   pub library : Units
   pub holds : HoldsAlone (bytes_of store.cells) store.area bodies
   pub stand : StandFor bodies library
+  pub accepted : AreAccepted empty (commands order)
   pub known : IsOldOrNew library order
 
 -- what the phase needs of the rest

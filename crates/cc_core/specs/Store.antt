@@ -13,6 +13,7 @@ use Rattle.cc_core.specs.declared.contents.Due.TheVariants.{WriteBody, SyncBody,
 
 -- a formatted disk: a header with area byte 0, a closed gate, and every byte settled
 pub record IsFormatted (area : ℕ) (store : StoreState) : Type 0 where
+  pub size : length store.cells ≡ 16 + 2 * area
   pub is_area : IsArea (length store.cells) area
   pub same_area : store.area ≡ area
   pub rest : List ℕ
