@@ -134,11 +134,17 @@ is_tied Less e = absurd (cc)
 is_tied Equal e = refl
 is_tied Greater e = absurd (cc)
 
-ok_absent : (b : Bool) (made : Units) (number : ℕ) → IsOk (cond b (Err {A = Units} number) (Ok made)) → b ≡ false
+abbrev refused_if : Bool → ℕ → Units → Result Units ℕ
+refused_if b number made = cond b (Err number) (Ok made)
+
+abbrev refused_unless : Bool → ℕ → Units → Result Units ℕ
+refused_unless b number made = cond b (Ok made) (Err number)
+
+ok_absent : (b : Bool) (made : Units) (number : ℕ) → IsOk (refused_if b number made) → b ≡ false
 ok_absent true made number ok = absurd (cc)
 ok_absent false made number ok = refl
 
-ok_present : (b : Bool) (made : Units) (number : ℕ) → IsOk (cond b (Ok made) (Err {A = Units} number)) → b ≡ true
+ok_present : (b : Bool) (made : Units) (number : ℕ) → IsOk (refused_unless b number made) → b ≡ true
 ok_present true made number ok = refl
 ok_present false made number ok = absurd (cc)
 
@@ -217,11 +223,11 @@ same_unit a b source code globals = λ i. record { source = source i; image = re
 decided_unit : (a b : StoredUnit) → (a ≡ b) ⊎ (a ≡ b → ⊥)
 decided_unit a b =
     elim (same_numbers a.source b.source) [
-      | inr no ↦ inr (λ same. no (ap (λ (u : StoredUnit). u.source) same))
+      | inr differ ↦ inr (λ same. differ (ap (λ (u : StoredUnit). u.source) same))
       | inl source ↦ elim (same_numbers a.image.code b.image.code) [
-        | inr no ↦ inr (λ same. no (ap (λ (u : StoredUnit). u.image.code) same))
+        | inr differ ↦ inr (λ same. differ (ap (λ (u : StoredUnit). u.image.code) same))
         | inl code ↦ elim (same_numbers a.image.globals b.image.globals) [
-          | inr no ↦ inr (λ same. no (ap (λ (u : StoredUnit). u.image.globals) same))
+          | inr differ ↦ inr (λ same. differ (ap (λ (u : StoredUnit). u.image.globals) same))
           | inl globals ↦ inl (same_unit a b source code globals)
         ]
       ]
@@ -230,7 +236,7 @@ decided_unit a b =
 decided_found : (found : Option StoredUnit) (unit : StoredUnit) → (found ≡ Some unit) ⊎ (found ≡ Some unit → ⊥)
 decided_found None unit = inr (λ e. no_longer_none unit e)
 decided_found (Some there) unit =
-    elim (decided_unit there unit) [ inl same ↦ inl (ap Some same) | inr no ↦ inr (λ e. no (cc)) ]
+    elim (decided_unit there unit) [ inl same ↦ inl (ap Some same) | inr differ ↦ inr (λ e. differ (cc)) ]
 
 decided_none : (found : Option StoredUnit) → (found ≡ None) ⊎ (found ≡ None → ⊥)
 decided_none None = inl refl

@@ -101,8 +101,8 @@ slice_get-front (z ∷ xs) ys (suc k) x is = slice_get-front xs ys k x is
 in_whole : (front rest whole : List Placed) → whole ≡ front ++ rest → (k : ℕ) (a : Placed) → slice_get front k ≡ Some a → slice_get whole k ≡ Some a
 in_whole front rest whole is k a there = ap (λ (l : List Placed). slice_get l k) is ∙ slice_get-front front rest k a there
 
-but_last_right : {is_right : StoredUnit → Type 0} (order : List Placed) → AreRight is_right order → AreRight is_right (but_last order)
-but_last_right {is_right} order right =
+but_last_right : (is_right : StoredUnit → Type 0) (order : List Placed) → AreRight is_right order → AreRight is_right (but_last order)
+but_last_right is_right order right =
     AreRight-front is_right (but_last order) (drop (length order - 1) order) (subst (AreRight is_right) (sym (take-append-drop (length order - 1) order)) right)
 
 -- after a crash the library can be opened
@@ -417,8 +417,8 @@ module _ {P : Type 0} (rules : Rules P) where
 
     live_right : (phase : Phase) (order : List Placed) → AreRight is_right order → EachUnit is_right (live phase order)
     live_right Idle order right = EachUnit-library is_right order right
-    live_right (Committing client placed due) order right = EachUnit-library is_right (but_last order) (but_last_right order right)
-    live_right Failed order right = EachUnit-library is_right (but_last order) (but_last_right order right)
+    live_right (Committing client placed due) order right = EachUnit-library is_right (but_last order) (but_last_right is_right order right)
+    live_right Failed order right = EachUnit-library is_right (but_last order) (but_last_right is_right order right)
     live_right Crashed order right = EachUnit-empty is_right
 
     pub sound_units : (s : Contents P) → IsSound is_right s → EachUnit is_right s.library

@@ -1,0 +1,10 @@
+-- Where a growth is refused the write of the body is due, so the event has a step.
+use Rattle.cc_core.specs.declared.contents.Due.TheVariants as due
+use Rattle.cc_core.proofs.Possible.{advances}
+use Rattle.cc_core.proofs.device.write_body.Goals as goal
+
+pub returns-in_err-body-clause-memory : goal.returns-in_err-body-clause-memory
+returns-in_err-body-clause-memory g c = ?
+
+pub returns-in_err-behind-clause-memory : goal.returns-in_err-behind-clause-memory
+returns-in_err-behind-clause-memory g c = ?
