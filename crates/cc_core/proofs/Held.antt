@@ -1,15 +1,15 @@
 -- What the images of the disk hold through a commit, one device step after the other. How: a write leaves each image as an
 -- image from before, but for its range; a sync leaves one image alone; the journal's lemmas say what such bytes hold.
-use Rattle.std.proofs.Common.{◌≡◌, ◌⊎◌, inl, inr, ⊎_elim, true, false, cond, ℕ, ◌+◌, ◌*◌, ◌%◌, ◌≤◌, List, [], ◌∷◌, ◌++◌, length, take, drop, map, refl, sym, ◌∙◌, ap, subst, arith, length-append, append_assoc}
-use Rattle.std.proofs.lemmas.List.{take_at, drop_at, take-take, take-append-le, length-take-le, length-map}
+use Rattle.std.proofs.Common.{◌≡◌, ◌⊎◌, inl, inr, ⊎_elim, true, false, cond, ℕ, ◌+◌, ◌*◌, ◌%◌, ◌<◌, ◌≤◌, List, [], ◌∷◌, ◌++◌, length, take, drop, get_or, map, refl, sym, ◌∙◌, ap, subst, arith, length-append, append_assoc}
+use Rattle.std.proofs.lemmas.List.{take_at, drop_at, drop_more, take-take, take-append-le, length-take-le, length-map}
 use Rattle.cc_disk.specs.declared.cell.Cell.{Cell}
 use Rattle.cc_disk.specs.Model.{bytes_of, IsImage, written, synced, crashed, settled, left}
 use Rattle.cc_disk.specs.Past.{bytes_are_image}
 use Rattle.cc_disk.specs.Images.{IsWritten, DiffersWithin, LeavesAlone}
 use Rattle.cc_disk.proofs.Cells.{length-image, written_images, bytes_of-written, synced_alone, bytes_of-synced, synced_adds_none}
-use Rattle.cc_journal.specs.Format.{header, open_gate, records, HoldsRecords, HoldsAlone, IsArea}
+use Rattle.cc_journal.specs.Format.{header, open_gate, record_bytes, records, HoldsRecords, HoldsAlone, IsArea}
 use Rattle.cc_journal.specs.Reading.{HoldsFrom}
-use Rattle.cc_journal.proofs.Records.{holds_alone, length-records_push}
+use Rattle.cc_journal.proofs.Records.{holds_alone, length-records_push, length-record_bytes}
 use Rattle.cc_journal.proofs.Images.{frame, length-frame, behind_gate, at_gate, committed, length-written}
 use Rattle.cc_library.specs.declared.command.Command.{Command}
 use Rattle.cc_library.specs.Body.{body_of}
@@ -274,3 +274,14 @@ crashed_same cells choice alone = alone (bytes_of (crashed cells choice)) (crash
 
 pub length-crashed : (cells : List Cell) (choice : List ℕ) → length (crashed cells choice) ≡ length cells
 length-crashed cells choice = sym (length-bytes_of (crashed cells choice)) ∙ length-image cells (bytes_of (crashed cells choice)) (crashed_image cells choice)
+
+-- ---- how many bytes records take
+
+-- one record more was counted
+pub taken_more : (bodies : List (List ℕ)) (i taken : ℕ) (d : List ℕ) → i < length bodies → taken + length (records (drop i bodies)) ≡ length (records bodies)
+    → taken + (length (get_or bodies i d) + 5) + length (records (drop (i + 1) bodies)) ≡ length (records bodies)
+taken_more bodies i taken d within so_far =
+    let body = get_or bodies i d in
+    let parts : length (records (drop i bodies)) ≡ length (record_bytes body) + length (records (drop (i + 1) bodies)) =
+    ap (λ (l : List (List ℕ)). length (records l)) (drop_more bodies i d within) ∙ length-append (record_bytes body) (records (drop (i + 1) bodies)) in
+    omega (arith, so_far, parts, length-record_bytes body)

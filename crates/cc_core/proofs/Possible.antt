@@ -22,6 +22,7 @@ use Rattle.cc_core.specs.declared.contents.Due.TheVariants as due
 use Rattle.cc_core.specs.declared.contents.Phase.{Phase}
 use Rattle.cc_core.specs.declared.contents.Phase.TheVariants.{Idle, Committing, Failed, Crashed}
 use Rattle.cc_core.specs.declared.event.Event.{Event}
+use Rattle.cc_core.specs.declared.event.Event.TheVariants as event
 use Rattle.cc_core.specs.declared.fault.CoreFault.{CoreFault}
 use Rattle.cc_core.specs.declared.fault.CoreFault.TheVariants as faults
 use Rattle.cc_core.specs.Rules.{Rules}
@@ -156,18 +157,18 @@ module _ {P : Type 0} where
   same_order old new is = not_longer old new (omega (arith, ap length is))
 
   step_puts_none : (rules : Rules P) (old : Contents P) (e : Event P) (reply : Option Reply) (new : Contents P) → IsNoBegin e → Step rules old e reply new → PutsCommand old new
-  step_puts_none rules old (event.Submit client call request) reply new no step = same_order old new (ap (λ (s : Contents P). s.order) step.new_is)
-  step_puts_none rules old (event.Take worker client part) reply new no step = same_order old new (ap (λ (s : Contents P). s.order) step.new_is)
-  step_puts_none rules old (event.Done worker piece) reply new no step = same_order old new (ap (λ (s : Contents P). s.order) step.new_is)
-  step_puts_none rules old (event.Refuse worker number) reply new no step = same_order old new (ap (λ (s : Contents P). s.order) step.new_is)
-  step_puts_none rules old (event.Begin client) reply new no step = absurd no
-  step_puts_none rules old event.WriteBody reply new no step = same_order old new (ap (λ (s : Contents P). s.order) step.new_is)
-  step_puts_none rules old event.SyncBody reply new no step = same_order old new (ap (λ (s : Contents P). s.order) step.new_is)
-  step_puts_none rules old event.WriteGate reply new no step = same_order old new (ap (λ (s : Contents P). s.order) step.new_is)
-  step_puts_none rules old event.SyncGate reply new no step = same_order old new (ap (λ (s : Contents P). s.order) step.new_is)
-  step_puts_none rules old event.Fail reply new no step = same_order old new (ap (λ (s : Contents P). s.order) step.new_is)
-  step_puts_none rules old (event.Ack client) reply new no step = same_order old new (ap (λ (s : Contents P). s.order) step.new_is)
-  step_puts_none rules old (event.Crash choice) reply new no step = same_order old new (ap (λ (s : Contents P). s.order) step.new_is)
+  step_puts_none rules old (event.Submit client call request) reply new plain step = same_order old new (ap (λ (s : Contents P). s.order) step.new_is)
+  step_puts_none rules old (event.Take worker client part) reply new plain step = same_order old new (ap (λ (s : Contents P). s.order) step.new_is)
+  step_puts_none rules old (event.Done worker piece) reply new plain step = same_order old new (ap (λ (s : Contents P). s.order) step.new_is)
+  step_puts_none rules old (event.Refuse worker number) reply new plain step = same_order old new (ap (λ (s : Contents P). s.order) step.new_is)
+  step_puts_none rules old (event.Begin client) reply new plain step = absurd plain
+  step_puts_none rules old event.WriteBody reply new plain step = same_order old new (ap (λ (s : Contents P). s.order) step.new_is)
+  step_puts_none rules old event.SyncBody reply new plain step = same_order old new (ap (λ (s : Contents P). s.order) step.new_is)
+  step_puts_none rules old event.WriteGate reply new plain step = same_order old new (ap (λ (s : Contents P). s.order) step.new_is)
+  step_puts_none rules old event.SyncGate reply new plain step = same_order old new (ap (λ (s : Contents P). s.order) step.new_is)
+  step_puts_none rules old event.Fail reply new plain step = same_order old new (ap (λ (s : Contents P). s.order) step.new_is)
+  step_puts_none rules old (event.Ack client) reply new plain step = same_order old new (ap (λ (s : Contents P). s.order) step.new_is)
+  step_puts_none rules old (event.Crash choice) reply new plain step = same_order old new (ap (λ (s : Contents P). s.order) step.new_is)
   step_puts_none rules old event.Recover reply new no step =
       not_longer old new
       (omega (arith, ap (λ (s : Contents P). length s.order) step.new_is, ap length step.longest.front, length-take-le step.longest.count old.order step.longest.within, step.longest.within))
@@ -175,5 +176,5 @@ module _ {P : Type 0} where
   -- so of what an event answers
   pub puts_none : (rules : Rules P) (old : Contents P) (e : Event P) (result : Result (Option Reply) CoreFault) (new : Contents P) → IsNoBegin e
       → IfOk result (λ reply. Step rules old e reply new) → OnOk result (PutsCommand old new)
-  puts_none rules old e (Ok reply) new no step = step_puts_none rules old e reply new no step
-  puts_none rules old e (Err fault) new no step = tt
+  puts_none rules old e (Ok reply) new plain step = step_puts_none rules old e reply new plain step
+  puts_none rules old e (Err fault) new plain step = refl

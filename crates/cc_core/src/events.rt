@@ -10,7 +10,7 @@ ghost use Rattle.cc_core.specs.Job.{job_of, planned, source_in, verdict, built, 
 ghost use Rattle.cc_library.specs.Body.{IsCommand};
 ghost use Rattle.cc_core.specs.Ready.{IsReady};
 ghost use Rattle.cc_core.specs.Run.{PutsCommand};
-ghost use Rattle.cc_core.specs.Step.{Step, IsImpossible, Submits, Takes, Finishes, Refuses, Begins, Acknowledges, IsFree, counted, placed_now};
+ghost use Rattle.cc_core.specs.Step.{Step, IsImpossible, Submits, Takes, Finishes, Refuses, Begins, Acknowledges, IsFree, IsUp, counted, placed_now};
 
 use crate::build::Build;
 use crate::command::{Placed, Reply, Request};
@@ -62,6 +62,16 @@ fn plan_job<B: Build>(
     }
 }
 
+// Whether a client may hand in a job.
+fn is_up(phase: &Phase) -> bool
+    ensures { IsTrue result ↔ IsUp phase.now }
+{
+    match phase {
+        Phase::Idle | Phase::Committing(_, _, _) | Phase::Failed => true,
+        Phase::Crashed => false,
+    }
+}
+
 // A client without a job hands one in.
 pub(crate) fn submit<B: Build>(
     build: &B,
@@ -78,10 +88,7 @@ pub(crate) fn submit<B: Build>(
         → (reply : Option Reply) × (new : Contents B.Piece) × (Submits B.rules contents.old client call request reply new) }
     ensures err { OnErr result (contents.new ≡ contents.old) }
 {
-    if let Phase::Crashed = contents.phase {
-        return Err(CoreFault::NotNow);
-    }
-    if contents.jobs.get(client).is_some() {
+    if !is_up(&contents.phase) || contents.jobs.get(client).is_some() {
         return Err(CoreFault::NotNow);
     }
     let job = plan_job(build, alloc, call, request)?;

@@ -4,7 +4,7 @@ ghost use Rattle.cc_library.specs.Apply.{AreAccepted};
 ghost use Rattle.cc_core.specs.declared.contents.Contents.{Contents};
 ghost use Rattle.cc_core.specs.declared.event.Event.{Event};
 ghost use Rattle.cc_core.specs.Step.{Step, IsImpossible, IsStart, commands};
-ghost use Rattle.cc_core.specs.Run.{Turn, Run, EachUnit, EachImageSurvives, EachImageIsRight, AreRising, live};
+ghost use Rattle.cc_core.specs.Run.{Turn, Run, EachUnit, EachImageSurvives, EachImageIsRight, PutsCommand, AreRising, live};
 
 use crate::build::Build;
 use crate::command::{Placed, Reply};
@@ -81,6 +81,8 @@ impl<B: Build> State<B> {
         ensures ok { IfOk result (λ reply. Step B.rules self.old event reply self.new) }
         ensures not_now { IsErrOf result CoreFault.NotNow ↔ IsImpossible B.rules self.old event }
         ensures err { OnErr result (self.new ≡ self.old) }
+        // A command that goes into the order has a spelling, as the types of names and units keep.
+        ensures puts { OnOk result (PutsCommand self.old self.new) }
     {
         take_step(&self.build, alloc, &mut self.contents, event)
     }
