@@ -7,5 +7,6 @@ pub mod Orders
 pub mod Held
 pub mod Ending
 pub mod Possible
+pub mod Reopening
 pub mod Sound
 pub mod Runs
