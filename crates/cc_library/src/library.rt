@@ -8,7 +8,8 @@ ghost use Rattle.cc_journal.specs.Format.{HoldsRecords};
 ghost use Rattle.cc_library.specs.declared.command.Command.{Command};
 ghost use Rattle.cc_library.specs.declared.command.Command.TheVariants as command;
 ghost use Rattle.cc_library.specs.Apply.{after, after_all};
-ghost use Rattle.cc_library.specs.Recovered.{Recovers, RecoversAlone, RecoversOneOf, StandFor};
+ghost use Rattle.cc_library.specs.Body.{body_of};
+ghost use Rattle.cc_library.specs.Recovered.{IsOldOrNew, Recovers, RecoversAlone, RecoversOneOf, StandFor};
 ghost use Rattle.cc_library.specs.Answers.{OpenFaults, ChangeAnswers, ChangeLeaves};
 ghost use Rattle.cc_library.specs.Runs.{AreDone, AreEdited, HadNoRoom, IsEdited, IsRefused, Stopped};
 
@@ -16,7 +17,7 @@ use crate::body::body_of_command;
 use crate::command::{Command, Edit};
 use crate::fault::LibraryFault;
 use crate::name::Name;
-use crate::replay::replay;
+use crate::replaying::replay;
 use crate::unit::SharedUnit;
 use crate::units::UnitMap;
 use cc_disk::Disk;
@@ -244,7 +245,10 @@ impl<D: Disk> Library<D> {
     {
         match self.change(alloc, edit) {
             Ok(()) => (0, Ok(self)),
-            Err(LibraryFault::DiskFault) => (35, Library::open(alloc, self.into_disk())),
+            Err(LibraryFault::DiskFault) => match Library::open(alloc, self.into_disk()) {
+                Ok(library) => (35, Ok(library)),
+                Err(refused) => (35, Err(refused)),
+            },
             Err(fault) => (u32::from(fault.number()), Ok(self)),
         }
     }
@@ -256,7 +260,8 @@ impl<D: Disk> Library<D> {
         ensures size { D.size self.new.disk ≡ D.size self.old.disk }
         ensures kept { OnOk result (IsTrue D.honest → (image : List ℕ) → D.may_leave self.new.disk image → RecoversAlone image self.new.units) }
         ensures moments { IsTrue D.honest → self.old.closed ≡ false
-            → LeavesOnly D.moment D.left_since self.old.disk self.new.disk (RecoversOneOf self.old.units (after self.old.units command)) }
+            → LeavesOnly D.moment D.left_since self.old.disk self.new.disk
+            (IsOldOrNew self.old.area self.old.bodies self.old.units (body_of command) (after self.old.units command)) }
     {
         // What the journal promises of its images, for the calls that end before a device call.
         let _ = self.journal.records();
@@ -276,7 +281,7 @@ impl<D: Disk> Library<D> {
                 Ok(())
             }
             Err(fault) => {
-                self.units.undo(&command);
+                self.units.undo(command);
                 self.closed = fault == JournalFault::DiskFault;
                 Err(LibraryFault::from(fault))
             }
