@@ -4,5 +4,6 @@ pub mod Fields
 pub mod Commands
 pub mod Standing
 pub mod Changing
+pub mod Refused
 pub mod Opening
 pub mod Running

@@ -61,6 +61,17 @@ module _ {D : Type 0} (honest : Bool) (failures : D → ℕ) where
   one_edit_more old mid new (e ∷ edits) [] edit number run one = absurd run
   one_edit_more old mid new (e ∷ edits) (n ∷ numbers) edit number run one = (run.0, run.1, one_edit_more run.0 mid new edits numbers edit number run.2 one)
 
+  -- after any other fault the library is as the change left it
+  pub goes_on_same : (old left : View D) (edit : Command) (fault : LibraryFault) → fault ≢ DiskFault → GoesOn {T = Unit {0}} honest failures old edit (Err fault) left left
+  goes_on_same old left edit DiskFault other = absurd (other refl)
+  goes_on_same old left edit Exists other = refl
+  goes_on_same old left edit Absent other = refl
+  goes_on_same old left edit Full other = refl
+  goes_on_same old left edit Closed other = refl
+  goes_on_same old left edit Damaged other = refl
+  goes_on_same old left edit NotALibrary other = refl
+  goes_on_same old left edit OutOfMemory other = refl
+
   unchanged : (old left mid : View D) → mid ≡ left → left ≡ old → mid.units ≡ old.units
   unchanged old left mid on leaves = ap (λ (v : View D). v.units) on ∙ ap (λ (v : View D). v.units) leaves
 

@@ -230,6 +230,8 @@ impl<D: Disk> Library<D> {
                 Err(refused) => return (Err(refused), numbers),
             }
         }
+        // What the journal promises of its images.
+        let _ = library.journal.records();
         (Ok(library), numbers)
     }
 
@@ -245,11 +247,13 @@ impl<D: Disk> Library<D> {
     {
         match self.change(alloc, edit) {
             Ok(()) => (0, Ok(self)),
-            Err(LibraryFault::DiskFault) => match Library::open(alloc, self.into_disk()) {
-                Ok(library) => (35, Ok(library)),
-                Err(refused) => (35, Err(refused)),
+            Err(fault) => match fault {
+                LibraryFault::DiskFault => match Library::open(alloc, self.into_disk()) {
+                    Ok(library) => (35, Ok(library)),
+                    Err(refused) => (35, Err(refused)),
+                },
+                other => (u32::from(other.number()), Ok(self)),
             },
-            Err(fault) => (u32::from(fault.number()), Ok(self)),
         }
     }
 

@@ -1,12 +1,16 @@
 -- Without a device call every image recovers to the old map; during the `append` to the old one or to the one after it.
 use Rattle.std.proofs.Common.{◌≡◌, ◌++◌, ◌∷◌, [], List, ℕ, false, refl, IsTrue, sym, ◌∙◌, ap, subst}
-use Rattle.std.specs.Prelude.{IsOk}
+use Rattle.std.specs.Prelude.{IsOk, Err}
 use Rattle.cc_disk.specs.Images.{LeavesOnly}
+use Rattle.cc_library.specs.declared.fault.LibraryFault.{LibraryFault}
+use Rattle.cc_library.specs.Faults.{fault_of}
 use Rattle.cc_library.specs.Apply.{apply, after}
+use Rattle.cc_library.specs.Answers.{ChangeLeaves}
 use Rattle.cc_library.specs.Body.{Spells, body_of}
 use Rattle.cc_library.specs.Recovered.{IsOldOrNew, View}
 use Rattle.cc_library.proofs.Changing.{is_accepted, done_is, back_is}
 use Rattle.cc_library.proofs.Standing.{quiet, appended, stands_after, stands_still, holds_recovers}
+use Rattle.cc_library.proofs.Refused.{seen_as, closed_is, leaves_err}
 use Rattle.cc_library.proofs.library.Library.change.Goals as goal
 
 -- ---- without a device call
@@ -84,7 +88,7 @@ invariant_of-self-in-Err g c =
     let back = back_is i.units c.begin.new.self c.undo.new.self c.args.command ok c.in_ok-begin.ensures.ok c.undo.ensures in
     record {
       stand = stands_still i.journal.bodies i.units c.append.new.self.bodies c.undo.new.self c.self.invariant.stand c.in-Err.ensures.refused back;
-      same = ?;
+      same = closed_is c.in-Err.fault c.eq-self-inside.result i.journal c.append.new.self c.eq-self-inside.ensures (sym c.self.invariant.same ∙ c.if-self.false) c.in-Err.ensures.untouched c.in-Err.ensures.closes;
     }
 
 pub returns-clause-moments : goal.returns-clause-moments
@@ -98,4 +102,12 @@ returns-clause-moments g c =
     (c.append.ensures.moments h (sym c.self.invariant.same ∙ not_closed)))
 
 pub returns-clause-leaves : goal.returns-clause-leaves
-returns-clause-leaves g c = let h = c.eq-self-inside in let k = c.from in ?
+returns-clause-leaves g c =
+    let i = c.self.inside in
+    let new : View g.row.D.Denot = seen_as c.append.new.self c.undo.new.self c.eq-self-inside.result in
+    let ok : IsOk (apply i.units c.args.command) = is_accepted (apply i.units c.args.command) (sym c.refusal.ensures ∙ c.in-None.is) in
+    let back = back_is i.units c.begin.new.self c.undo.new.self c.args.command ok c.in_ok-begin.ensures.ok c.undo.ensures in
+    subst (λ (f : LibraryFault). ChangeLeaves {T = Unit {0}} c.args.command c.args.self.now new (Err f)) (sym c.from.ensures)
+    (subst (λ (v : View g.row.D.Denot). ChangeLeaves {T = Unit {0}} c.args.command v new (Err (fault_of c.in-Err.fault))) c.self.view_is
+    (leaves_err c.in-Err.fault c.args.command i.journal c.append.new.self i.units c.undo.new.self i.closed c.eq-self-inside.result back c.in-Err.ensures.untouched c.in-Err.ensures.refused c.append.ensures.area
+    c.eq-self-inside.ensures c.if-self.false))
