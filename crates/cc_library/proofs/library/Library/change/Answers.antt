@@ -88,7 +88,7 @@ invariant_of-self-in-Err g c =
     let back = back_is i.units c.begin.new.self c.undo.new.self c.args.command ok c.in_ok-begin.ensures.ok c.undo.ensures in
     record {
       stand = stands_still i.journal.bodies i.units c.append.new.self.bodies c.undo.new.self c.self.invariant.stand c.in-Err.ensures.refused back;
-      same = closed_is c.in-Err.fault c.eq-self-inside.result i.journal c.append.new.self c.eq-self-inside.ensures (sym c.self.invariant.same ∙ c.if-self.false) c.in-Err.ensures.untouched c.in-Err.ensures.closes;
+      same = closed_is c.in-Err.fault c.eq-self-inside.result i.journal c.append.new.self c.eq-self-inside.ensures (sym c.self.invariant.same ∙ c.if-self.false) c.in-Err.ensures.untouched (λ p. c.in-Err.ensures.closes (ap Err p));
     }
 
 pub returns-clause-moments : goal.returns-clause-moments
