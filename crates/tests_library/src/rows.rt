@@ -21,7 +21,7 @@ fn changes_and_the_list(rt: HostRuntime) -> Result<(), Fail> {
     assert_eq!(rt; number(library.replace(alloc, name(b'a')?, unit(alloc, 3)?)), 0);
     let names = library.list(alloc)?;
     assert_eq!(rt; names.len(), 1);
-    assert!(rt; names.iter().all(|name| name.bytes() == b"a"));
+    assert!(rt; names.iter().all(|name| name.bytes() == b"a".as_slice()));
     assert_eq!(rt; word_of(&library, b'a')?, Some(3));
     assert_eq!(rt; word_of(&library, b'b')?, None);
     assert!(rt; Name::new(b"A".as_slice()).is_err());

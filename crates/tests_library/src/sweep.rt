@@ -83,8 +83,10 @@ fn a_run_goes_on_after_one_failure(rt: HostRuntime) -> Result<(), Fail> {
         assert_eq!(rt; numbers.len(), 4);
         let failed = numbers.iter().filter(|number| **number == 35).count();
         assert_eq!(rt; failed, usize::from(passes < CALLS), "{passes} calls");
+        let wanted = library.list(alloc)?;
         let disk = library.into_disk().into_disk();
-        assert!(rt; opened(alloc, disk).is_ok());
+        let again = opened(alloc, disk)?;
+        assert_eq!(rt; again.list(alloc)?.len(), wanted.len());
     }
     Ok(())
 }
