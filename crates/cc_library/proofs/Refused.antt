@@ -1,6 +1,9 @@
--- A change that the journal refused: what it leaves, and whether the library is closed.
-use Rattle.std.proofs.Common.{◌≡◌, ◌≢◌, Bool, true, false, sym, ap, ◌∙◌, refl}
+-- A change that was refused: without a device call every image recovers to the old map still; and what a change leaves that
+-- the journal refused, and whether the library is closed then.
+use Rattle.std.proofs.Common.{◌≡◌, ◌≢◌, ℕ, List, Bool, true, false, IsTrue, sym, ap, subst, ◌∙◌, refl}
 use Rattle.std.specs.Prelude.{Err}
+use Rattle.cc_disk.specs.Images.{LeavesOnly}
+use Rattle.cc_journal.specs.Format.{HoldsAlone}
 use denote.Enum.Bare.{sameb}
 use Rattle.cc_journal.specs.contracts.fault.JournalFault.{the_type}
 use Rattle.cc_journal.specs.declared.fault.JournalFault.{JournalFault}
@@ -8,14 +11,27 @@ use Rattle.cc_journal.specs.declared.fault.JournalFault.TheVariants as journal
 use Rattle.cc_journal.specs.Reading as journals
 use Rattle.cc_library.specs.declared.command.Command.{Command}
 use Rattle.cc_library.specs.Faults.{fault_of}
-use Rattle.cc_library.specs.Apply.{Units}
-use Rattle.cc_library.specs.Recovered.{View}
+use Rattle.cc_library.specs.Apply.{Units, after}
+use Rattle.cc_library.specs.Body.{body_of}
+use Rattle.cc_library.specs.Recovered.{StandFor, IsOldOrNew, View}
 use Rattle.cc_library.specs.Answers.{ChangeLeaves}
+use Rattle.cc_library.proofs.Standing.{quiet}
 
 module _ {D : Type 0} where
   -- what contracts see of a library with this journal and this map
   abbrev pub seen_as : journals.View D → Units → Bool → View D
   seen_as j units closed = record { disk = j.disk; area = j.area; bodies = j.bodies; units = units; closed = closed }
+
+  -- without a device call
+  pub quiet_change : (honest : Bool) (moment : D → ℕ) (left_since : D → ℕ → List ℕ → Type 0) (may_leave : D → List ℕ → Type 0) (j : journals.View D) (units : Units) (closed : Bool) (old : View D) (command : Command)
+      → seen_as j units closed ≡ old → StandFor j.bodies units → closed ≡ j.closed
+      → (IsTrue honest → j.closed ≡ false → (image : List ℕ) → may_leave j.disk image → HoldsAlone image j.area j.bodies)
+      → (IsTrue honest → (image : List ℕ) → left_since j.disk (moment j.disk) image → may_leave j.disk image) → (d : D) → d ≡ j.disk
+      → IsTrue honest → old.closed ≡ false → LeavesOnly moment left_since old.disk d (IsOldOrNew old.area old.bodies old.units (body_of command) (after old.units command))
+  quiet_change honest moment left_since may_leave j units closed old command is stand same kept only_now d d_is =
+      subst (λ (v : View D). IsTrue honest → v.closed ≡ false → LeavesOnly moment left_since v.disk d (IsOldOrNew v.area v.bodies v.units (body_of command) (after v.units command))) is
+      (λ h not_closed. subst (λ (e : D). LeavesOnly moment left_since j.disk e (IsOldOrNew j.area j.bodies units (body_of command) (after units command))) (sym d_is)
+      (quiet moment left_since may_leave j.disk j.area j.bodies units (body_of command) (after units command) (kept h (sym same ∙ not_closed)) (only_now h) stand))
 
   still_open : (old new : journals.View D) (is_fault : Bool) → is_fault ≡ false → old.closed ≡ false → new ≡ old → is_fault ≡ new.closed
   still_open old new is_fault e was same = e ∙ sym (ap (λ (j : journals.View D). j.closed) same ∙ was)

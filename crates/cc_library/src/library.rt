@@ -7,7 +7,7 @@ ghost use Rattle.cc_disk.specs.Images.{LeavesOnly, OnlyReads};
 ghost use Rattle.cc_journal.specs.Format.{HoldsRecords};
 ghost use Rattle.cc_library.specs.declared.command.Command.{Command};
 ghost use Rattle.cc_library.specs.declared.command.Command.TheVariants as command;
-ghost use Rattle.cc_library.specs.Apply.{after, after_all};
+ghost use Rattle.cc_library.specs.Apply.{after, after_all, library_of};
 ghost use Rattle.cc_library.specs.Body.{body_of};
 ghost use Rattle.cc_library.specs.Recovered.{IsOldOrNew, Recovers, RecoversAlone, RecoversOneOf, StandFor};
 ghost use Rattle.cc_library.specs.Answers.{OpenFaults, ChangeAnswers, ChangeLeaves};
@@ -115,6 +115,10 @@ impl<D: Disk> Library<D> {
         // A crash at any moment of the call leaves the map before it or the map after it.
         ensures moments { IsTrue D.honest → self.old.closed ≡ false
             → LeavesOnly D.moment D.left_since self.old.disk self.new.disk (RecoversOneOf self.old.units (after self.old.units (command.Add name (arc_value unit)))) }
+
+        // So whatever it answers, after 35 too, every image recovers to one of the two.
+        ensures images { IsTrue D.honest → self.old.closed ≡ false
+            → (image : List ℕ) → D.may_leave self.new.disk image → RecoversOneOf self.old.units (after self.old.units (command.Add name (arc_value unit))) image }
     {
         self.change(alloc, Command::Add(name, SharedUnit::new(unit)))
     }
@@ -140,6 +144,10 @@ impl<D: Disk> Library<D> {
         // A crash at any moment of the call leaves the map before it or the map after it.
         ensures moments { IsTrue D.honest → self.old.closed ≡ false
             → LeavesOnly D.moment D.left_since self.old.disk self.new.disk (RecoversOneOf self.old.units (after self.old.units (command.Replace name (arc_value unit)))) }
+
+        // So whatever it answers, after 35 too, every image recovers to one of the two.
+        ensures images { IsTrue D.honest → self.old.closed ≡ false
+            → (image : List ℕ) → D.may_leave self.new.disk image → RecoversOneOf self.old.units (after self.old.units (command.Replace name (arc_value unit))) image }
     {
         self.change(alloc, Command::Replace(name, SharedUnit::new(unit)))
     }
@@ -160,6 +168,10 @@ impl<D: Disk> Library<D> {
         // A crash at any moment of the call leaves the map before it or the map after it.
         ensures moments { IsTrue D.honest → self.old.closed ≡ false
             → LeavesOnly D.moment D.left_since self.old.disk self.new.disk (RecoversOneOf self.old.units (after self.old.units (command.Withdraw name))) }
+
+        // So whatever it answers, after 35 too, every image recovers to one of the two.
+        ensures images { IsTrue D.honest → self.old.closed ≡ false
+            → (image : List ℕ) → D.may_leave self.new.disk image → RecoversOneOf self.old.units (after self.old.units (command.Withdraw name)) image }
     {
         self.change(alloc, Command::Withdraw(name))
     }
@@ -206,6 +218,10 @@ impl<D: Disk> Library<D> {
         // The map is the one before, folded over the edits with 0 and those with 35 that the reopening showed.
         ensures folded { IfOk result.0 (λ l. IsTrue D.honest
             → (done : List Command) × AreDone edits.items result.1.items done × (l.units ≡ after_all self.units done)) }
+
+        // On a new journal it is the fold of these from the empty map.
+        ensures from_new { IfOk result.0 (λ l. IsTrue D.honest → self.units ≡ map.empty
+            → (done : List Command) × AreDone edits.items result.1.items done × (l.units ≡ library_of done)) }
 
         // While it is not closed, every image recovers to its map.
         ensures kept { IfOk result.0 (λ l. IsTrue D.honest → l.closed ≡ false → (image : List ℕ) → D.may_leave l.disk image → RecoversAlone image l.units) }

@@ -1,6 +1,6 @@
 // Disks that nobody formatted so.
-use crate::helpers::{bytes_of, disk_of, formatted, name, opened, refusal, unit};
-use cc_disk::MemoryDisk;
+use crate::helpers::{bytes_of, disk_of, formatted, holds, name, opened, refusal, unit};
+use cc_disk::{FuseDisk, FuseMode, MemoryDisk};
 use cc_library::Library;
 use std::alloc::Global;
 use std::test::Fail;
@@ -69,6 +69,19 @@ fn each_closed_gate_is_an_empty_library(rt: HostRuntime) -> Result<(), Fail> {
             assert!(rt; library.list(alloc)?.is_empty(), "gate {gate}");
         }
     }
+    Ok(())
+}
+
+#[test]
+fn a_failure_hands_the_disk_back(rt: HostRuntime) -> Result<(), Fail> {
+    let alloc = rt.alloc();
+    let fuse = FuseDisk::new(disk_of(alloc, &two_records(alloc)?)?, 0, FuseMode::Once);
+    let Err((fault, fuse)) = Library::open(alloc, fuse) else {
+        panic!(rt; "opened");
+    };
+    assert_eq!(rt; fault.number(), 35);
+    let library = opened(alloc, fuse)?;
+    assert!(rt; holds(alloc, &library, (Some(1), Some(2)))?);
     Ok(())
 }
 

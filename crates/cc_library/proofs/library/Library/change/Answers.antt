@@ -9,8 +9,8 @@ use Rattle.cc_library.specs.Answers.{ChangeLeaves}
 use Rattle.cc_library.specs.Body.{Spells, body_of}
 use Rattle.cc_library.specs.Recovered.{IsOldOrNew, View}
 use Rattle.cc_library.proofs.Changing.{is_accepted, done_is, back_is}
-use Rattle.cc_library.proofs.Standing.{quiet, appended, stands_after, stands_still, holds_recovers}
-use Rattle.cc_library.proofs.Refused.{seen_as, closed_is, leaves_err}
+use Rattle.cc_library.proofs.Standing.{appended, stands_after, stands_still, holds_recovers}
+use Rattle.cc_library.proofs.Refused.{seen_as, quiet_change, closed_is, leaves_err}
 use Rattle.cc_library.proofs.library.Library.change.Goals as goal
 
 -- ---- without a device call
@@ -19,33 +19,29 @@ pub returns-in-Some-eq31-clause-moments : goal.returns-in-Some-eq31-clause-momen
 returns-in-Some-eq31-clause-moments g c =
     let D = g.D.Disk in
     let i = c.self.inside in
-    subst (λ (v : View g.row.D.Denot). IsTrue D.honest → v.closed ≡ false → LeavesOnly D.moment D.left_since v.disk v.disk (IsOldOrNew v.area v.bodies v.units (body_of c.args.command) (after v.units c.args.command))) c.self.view_is
-    (λ h not_closed. quiet D.moment D.left_since D.may_leave i.journal.disk i.journal.area i.journal.bodies i.units (body_of c.args.command) (after i.units c.args.command)
-    (c.records.ensures.kept h (sym c.self.invariant.same ∙ not_closed)) (λ image left. g.met.D.Disk.only_now i.journal.disk image h left) c.self.invariant.stand)
+    quiet_change D.honest D.moment D.left_since D.may_leave i.journal i.units i.closed c.args.self.now c.args.command c.self.view_is c.self.invariant.stand c.self.invariant.same c.records.ensures.kept
+    (λ h image left. g.met.D.Disk.only_now i.journal.disk image h left) c.args.self.now.disk (sym (ap (λ (v : View g.row.D.Denot). v.disk) c.self.view_is))
 
 pub returns-in-Some-clause-moments : goal.returns-in-Some-clause-moments
 returns-in-Some-clause-moments g c =
     let D = g.D.Disk in
     let i = c.self.inside in
-    subst (λ (v : View g.row.D.Denot). IsTrue D.honest → v.closed ≡ false → LeavesOnly D.moment D.left_since v.disk v.disk (IsOldOrNew v.area v.bodies v.units (body_of c.args.command) (after v.units c.args.command))) c.self.view_is
-    (λ h not_closed. quiet D.moment D.left_since D.may_leave i.journal.disk i.journal.area i.journal.bodies i.units (body_of c.args.command) (after i.units c.args.command)
-    (c.records.ensures.kept h (sym c.self.invariant.same ∙ not_closed)) (λ image left. g.met.D.Disk.only_now i.journal.disk image h left) c.self.invariant.stand)
+    quiet_change D.honest D.moment D.left_since D.may_leave i.journal i.units i.closed c.args.self.now c.args.command c.self.view_is c.self.invariant.stand c.self.invariant.same c.records.ensures.kept
+    (λ h image left. g.met.D.Disk.only_now i.journal.disk image h left) c.args.self.now.disk (sym (ap (λ (v : View g.row.D.Denot). v.disk) c.self.view_is))
 
 pub returns-in_err-body-clause-moments : goal.returns-in_err-body-clause-moments
 returns-in_err-body-clause-moments g c =
     let D = g.D.Disk in
     let i = c.self.inside in
-    subst (λ (v : View g.row.D.Denot). IsTrue D.honest → v.closed ≡ false → LeavesOnly D.moment D.left_since v.disk v.disk (IsOldOrNew v.area v.bodies v.units (body_of c.args.command) (after v.units c.args.command))) c.self.view_is
-    (λ h not_closed. quiet D.moment D.left_since D.may_leave i.journal.disk i.journal.area i.journal.bodies i.units (body_of c.args.command) (after i.units c.args.command)
-    (c.records.ensures.kept h (sym c.self.invariant.same ∙ not_closed)) (λ image left. g.met.D.Disk.only_now i.journal.disk image h left) c.self.invariant.stand)
+    quiet_change D.honest D.moment D.left_since D.may_leave i.journal i.units i.closed c.args.self.now c.args.command c.self.view_is c.self.invariant.stand c.self.invariant.same c.records.ensures.kept
+    (λ h image left. g.met.D.Disk.only_now i.journal.disk image h left) c.args.self.now.disk (sym (ap (λ (v : View g.row.D.Denot). v.disk) c.self.view_is))
 
 pub returns-in_err-begin-clause-moments : goal.returns-in_err-begin-clause-moments
 returns-in_err-begin-clause-moments g c =
     let D = g.D.Disk in
     let i = c.self.inside in
-    subst (λ (v : View g.row.D.Denot). IsTrue D.honest → v.closed ≡ false → LeavesOnly D.moment D.left_since v.disk i.journal.disk (IsOldOrNew v.area v.bodies v.units (body_of c.args.command) (after v.units c.args.command))) c.self.view_is
-    (λ h not_closed. quiet D.moment D.left_since D.may_leave i.journal.disk i.journal.area i.journal.bodies i.units (body_of c.args.command) (after i.units c.args.command)
-    (c.records.ensures.kept h (sym c.self.invariant.same ∙ not_closed)) (λ image left. g.met.D.Disk.only_now i.journal.disk image h left) c.self.invariant.stand)
+    quiet_change D.honest D.moment D.left_since D.may_leave i.journal i.units i.closed c.args.self.now c.args.command c.self.view_is c.self.invariant.stand c.self.invariant.same c.records.ensures.kept
+    (λ h image left. g.met.D.Disk.only_now i.journal.disk image h left) c.self.inside.journal.disk refl
 
 -- ---- the record was added
 

@@ -2,11 +2,18 @@
 use Rattle.std.proofs.Common.{◌≡◌, ◌+◌, ◌<◌, ◌++◌, ◌∷◌, [], List, ℕ, inr, false, IsTrue, length, vec_len, ap, sym, subst, ◌∙◌, append_assoc, length-append, refl, arith}
 use Rattle.std.proofs.lemmas.List.{append-nil, nil_from_length}
 use Rattle.cc_library.specs.declared.command.Command.{Command}
+use Rattle.cc_library.specs.Apply.{Units, after_all}
 use Rattle.cc_library.specs.Recovered.{RecoversAlone, View}
 use Rattle.cc_library.specs.Runs.{AreEdited}
 use Rattle.cc_library.proofs.Standing.{holds_recovers}
 use Rattle.cc_library.proofs.Running.{one_edit_more, folds}
 use Rattle.cc_library.proofs.library.Library.run.Goals as goal
+
+-- behind the last edit none is left
+all_taken : (taken rest edits : List Command) (n : ℕ) → n ≡ length rest → n ≡ 0 → taken ++ rest ≡ edits → taken ≡ edits
+all_taken taken rest edits n counted none parts =
+    let nothing : rest ≡ [] = nil_from_length rest (sym counted ∙ none) in
+    sym (append-nil taken) ∙ ap (λ (l : List Command). taken ++ l) (sym nothing) ∙ parts
 
 pub loop-edit-init : goal.loop-edit-init
 loop-edit-init g c =
@@ -69,22 +76,29 @@ returns-in-Err-clause-size g c =
 pub returns-clause-numbers : goal.returns-clause-numbers
 returns-clause-numbers g c =
     let D = g.D.Disk in
-    let inv = c.loop-edit.invariant in
     let rest = c.loop-edit.edit-iterator.rest in
-    let nothing : rest.items ≡ [] = nil_from_length rest.items (sym rest.ok.0 ∙ c.in-None.ensures.steps.0) in
-    let all : c.loop-edit.yielded ≡ c.args.edits.items = sym (append-nil c.loop-edit.yielded) ∙ ap (λ (l : List Command). c.loop-edit.yielded ++ l) (sym nothing) ∙ inv.edits in
-    subst (λ (es : List Command). AreEdited D.honest D.failures c.args.self es c.loop-edit.numbers.items c.loop-edit.library) all inv.edited
+    let all = all_taken c.loop-edit.yielded rest.items c.args.edits.items rest.len rest.ok.0 c.in-None.ensures.steps.0 c.loop-edit.invariant.edits in
+    subst (λ (es : List Command). AreEdited D.honest D.failures c.args.self es c.loop-edit.numbers.items c.loop-edit.library) all c.loop-edit.invariant.edited
 
 pub returns-clause-folded : goal.returns-clause-folded
 returns-clause-folded g c =
     let D = g.D.Disk in
-    let inv = c.loop-edit.invariant in
     let rest = c.loop-edit.edit-iterator.rest in
-    let nothing : rest.items ≡ [] = nil_from_length rest.items (sym rest.ok.0 ∙ c.in-None.ensures.steps.0) in
-    let all : c.loop-edit.yielded ≡ c.args.edits.items = sym (append-nil c.loop-edit.yielded) ∙ ap (λ (l : List Command). c.loop-edit.yielded ++ l) (sym nothing) ∙ inv.edits in
+    let all = all_taken c.loop-edit.yielded rest.items c.args.edits.items rest.len rest.ok.0 c.in-None.ensures.steps.0 c.loop-edit.invariant.edits in
     let run : AreEdited D.honest D.failures c.args.self c.args.edits.items c.loop-edit.numbers.items c.loop-edit.library =
-        subst (λ (es : List Command). AreEdited D.honest D.failures c.args.self es c.loop-edit.numbers.items c.loop-edit.library) all inv.edited in
+        subst (λ (es : List Command). AreEdited D.honest D.failures c.args.self es c.loop-edit.numbers.items c.loop-edit.library) all c.loop-edit.invariant.edited in
     λ h. folds D.honest D.failures c.args.self c.loop-edit.library c.args.edits.items c.loop-edit.numbers.items run h
+
+pub returns-clause-from_new : goal.returns-clause-from_new
+returns-clause-from_new g c =
+    let D = g.D.Disk in
+    let rest = c.loop-edit.edit-iterator.rest in
+    let all = all_taken c.loop-edit.yielded rest.items c.args.edits.items rest.len rest.ok.0 c.in-None.ensures.steps.0 c.loop-edit.invariant.edits in
+    let run : AreEdited D.honest D.failures c.args.self c.args.edits.items c.loop-edit.numbers.items c.loop-edit.library =
+        subst (λ (es : List Command). AreEdited D.honest D.failures c.args.self es c.loop-edit.numbers.items c.loop-edit.library) all c.loop-edit.invariant.edited in
+    λ h new.
+    let fold = folds D.honest D.failures c.args.self c.loop-edit.library c.args.edits.items c.loop-edit.numbers.items run h in
+    (fold.0, fold.1, fold.2 ∙ ap (λ (m : Units). after_all m fold.0) new)
 
 pub returns-clause-kept : goal.returns-clause-kept
 returns-clause-kept g c =
