@@ -1,6 +1,6 @@
 -- A change of the map in two halves, as a library makes it: what needs memory first, the rest when the journal has answered.
 use Rattle.std.proofs.Common.{◌≡◌, Bool, true, false, cond, refl, ap, ◌∙◌, ℕ}
-use Rattle.std.specs.Prelude.{Option, Some, None, Result, Ok, Err, IsOk}
+use Rattle.std.specs.Prelude.{None, Result, Ok, Err, IsOk}
 use Rattle.std.specs.Cmp.Lexicographic.{nat_list_cmp_total}
 use Rattle.std.specs.FinMap as map
 use Rattle.cc_library.specs.declared.command.Command.{Command}

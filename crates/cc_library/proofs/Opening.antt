@@ -1,5 +1,5 @@
 -- What an opened journal's records say of the image that they were read from, and when opening is refused.
-use Rattle.std.proofs.Common.{◌≡◌, ℕ, Bool, IsTrue, List, [], ◌++◌, ◌∷◌, sym, subst}
+use Rattle.std.proofs.Common.{◌≡◌, ℕ, Bool, IsTrue, List, [], ◌++◌, ◌∷◌, subst}
 use Rattle.std.specs.FinMap.{empty}
 use Rattle.cc_journal.specs.declared.fault.JournalFault.{JournalFault}
 use Rattle.cc_journal.specs.declared.fault.JournalFault.TheVariants as journal
@@ -9,7 +9,7 @@ use Rattle.cc_library.specs.declared.fault.LibraryFault.{LibraryFault}
 use Rattle.cc_library.specs.declared.fault.LibraryFault.TheVariants.{Exists, Absent, Full, DiskFault, Closed, Damaged, NotALibrary, OutOfMemory}
 use Rattle.cc_library.specs.Faults.{fault_of}
 use Rattle.cc_library.specs.Apply.{Units}
-use Rattle.cc_library.specs.Recovered.{StandFor, Recovers}
+use Rattle.cc_library.specs.Recovered.{StandFor}
 use Rattle.cc_library.specs.Answers.{OpenFaults, ReplayFaults}
 use Rattle.cc_library.proofs.Standing.{one_map, none_left}
 

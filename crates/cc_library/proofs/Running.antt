@@ -1,5 +1,5 @@
 -- Runs of edits: one edit more at the end, what a run folds to, and what opening a disk again shows after a failure.
-use Rattle.std.proofs.Common.{◌≡◌, ◌≢◌, ◌⊎◌, inl, inr, ℕ, ◌≤◌, Bool, true, IsTrue, List, [], ◌∷◌, ◌++◌, refl, sym, ap, subst, ◌∙◌, arith}
+use Rattle.std.proofs.Common.{◌≡◌, ◌≢◌, ◌⊎◌, inl, inr, ℕ, ◌≤◌, Bool, IsTrue, List, [], ◌∷◌, ◌++◌, refl, ap, subst, ◌∙◌, arith}
 use Rattle.std.specs.Prelude.{Result, Ok, Err}
 use Rattle.cc_disk.specs.Images.{LeavesOnly}
 use Rattle.cc_journal.specs.Format.{HasHeader, HoldsRecords}
@@ -7,7 +7,7 @@ use Rattle.cc_library.specs.declared.command.Command.{Command}
 use Rattle.cc_library.specs.declared.fault.LibraryFault.{LibraryFault}
 use Rattle.cc_library.specs.declared.fault.LibraryFault.TheVariants.{Exists, Absent, Full, DiskFault, Closed, Damaged, NotALibrary, OutOfMemory}
 use Rattle.cc_library.specs.Apply.{Units, after, after_all}
-use Rattle.cc_library.specs.Recovered.{Recovers, RecoversAlone, RecoversOneOf, IsOldOrNew, View}
+use Rattle.cc_library.specs.Recovered.{Recovers, IsOldOrNew, View}
 use Rattle.cc_library.specs.Answers.{OpenFaults, ChangeLeaves}
 use Rattle.cc_library.proofs.Opening.{has_header}
 use Rattle.cc_library.specs.Runs.{answer_number, AreDone, GoesOn, IsEdited, AreEdited}
@@ -100,6 +100,6 @@ module _ {D : Type 0} (honest : Bool) (failures : D → ℕ) where
       let rest = folds run.0 new edits numbers run.2 h in
       let one = run.1 in
       elim (one_edit_folds old run.0 e n one.answer one.left one.number_is one.leaves one.goes_on h) [
-        inl p ↦ (e ∷ rest.0, inl (rest.0, p.0, refl, rest.1), rest.2 ∙ ap (λ (m : Units). after_all m rest.0) p.1)
+        | inl p ↦ (e ∷ rest.0, inl (rest.0, p.0, refl, rest.1), rest.2 ∙ ap (λ (m : Units). after_all m rest.0) p.1)
         | inr p ↦ (rest.0, inr (p.0, rest.1), rest.2 ∙ ap (λ (m : Units). after_all m rest.0) p.1)
       ]

@@ -1,6 +1,6 @@
 -- What records stand for: one record more at the front or at the back, and that records stand for one map at most. From
 -- this, what images that hold records recover to.
-use Rattle.std.proofs.Common.{◌≡◌, ◌⊎◌, inl, inr, ℕ, ◌≤◌, List, [], ◌∷◌, ◌++◌, refl, sym, ap, subst, ◌∙◌, arith}
+use Rattle.std.proofs.Common.{◌≡◌, ◌⊎◌, inl, inr, ℕ, List, [], ◌∷◌, ◌++◌, refl, sym, ap, subst, ◌∙◌, arith}
 use Rattle.std.specs.Prelude.{IsOk, Err}
 use Rattle.std.specs.FinMap.{empty}
 use Rattle.cc_disk.specs.Images.{LeavesOnly}
@@ -11,7 +11,7 @@ use Rattle.cc_library.specs.declared.fault.LibraryFault.TheVariants.{Exists, Abs
 use Rattle.cc_library.specs.Apply.{Units, apply, after, after_all, AreAccepted}
 use Rattle.cc_library.specs.Answers.{ReplayFaults, ReplaysBody}
 use Rattle.cc_library.specs.Body.{Spells, body_of}
-use Rattle.cc_library.specs.Recovered.{AreSpelled, LeadTo, StandFor, Recovers, RecoversAlone, RecoversOneOf, IsOldOrNew}
+use Rattle.cc_library.specs.Recovered.{AreSpelled, LeadTo, StandFor, RecoversAlone, RecoversOneOf, IsOldOrNew}
 use Rattle.cc_library.proofs.Commands.{one_command}
 
 -- one record leads from a map to the next

@@ -4,7 +4,7 @@ use Rattle.cc_library.specs.declared.command.Command.{Command}
 use Rattle.cc_library.specs.declared.fault.LibraryFault.{LibraryFault}
 use Rattle.cc_library.specs.declared.fault.LibraryFault.TheVariants.{Exists, Absent, Full, DiskFault, Closed, Damaged, NotALibrary, OutOfMemory}
 use Rattle.cc_library.specs.Faults.{number_of}
-use Rattle.cc_library.specs.Apply.{Units, after, after_all}
+use Rattle.cc_library.specs.Apply.{after}
 use Rattle.cc_library.specs.Body.{body_of}
 use Rattle.cc_library.specs.Recovered.{RecoversOneOf, View}
 use Rattle.cc_library.specs.Answers.{OpenFaults, ChangeAnswers, ChangeLeaves}

@@ -252,11 +252,7 @@ impl<D: Disk> Library<D> {
     }
 
     // One edit of a run: its number, and the library behind it, opened again where the device failed.
-    fn edited(
-        mut self,
-        alloc: Global,
-        edit: Edit,
-    ) -> (u32, Result<Library<D>, (LibraryFault, D)>)
+    fn edited(mut self, alloc: Global, edit: Edit) -> (u32, Result<Library<D>, (LibraryFault, D)>)
         ensures edited { IfOk result.1 (λ l. IsEdited D.honest D.failures self edit result.0 l) }
         ensures refused { IfErr result.1 (λ e. (result.0 ≡ 35) × IsRefused D.honest D.failures D.seen D.may_leave self edit e.0 e.1) }
         ensures size { MatchResult result.1 (λ l. D.size l.disk ≡ D.size self.disk) (λ e. D.size e.1 ≡ D.size self.disk) }

@@ -34,18 +34,12 @@ pub fn name(letter: u8) -> Result<Name, Fail> {
 
 /// Add of that name with the unit of that word.
 pub fn add(alloc: Global, letter: u8, word: u32) -> Result<Command, Fail> {
-    Ok(Command::Add(
-        name(letter)?,
-        SharedUnit::new(unit(alloc, word)?),
-    ))
+    Ok(Command::Add(name(letter)?, SharedUnit::new(unit(alloc, word)?)))
 }
 
 /// Replace of that name with the unit of that word.
 pub fn replace(alloc: Global, letter: u8, word: u32) -> Result<Command, Fail> {
-    Ok(Command::Replace(
-        name(letter)?,
-        SharedUnit::new(unit(alloc, word)?),
-    ))
+    Ok(Command::Replace(name(letter)?, SharedUnit::new(unit(alloc, word)?)))
 }
 
 /// Withdraw of that name.
@@ -90,9 +84,11 @@ pub fn opened<D: Disk + Drop>(alloc: Global, disk: D) -> Result<Library<D>, Fail
 
 /// The first code word of the unit of that name, where it has one.
 pub fn word_of<D: Disk>(library: &Library<D>, letter: u8) -> Result<Option<u32>, Fail> {
-    Ok(library
-        .get(&name(letter)?)
-        .and_then(|unit| unit.image.code.words().first().copied()))
+    Ok(
+        library
+            .get(&name(letter)?)
+            .and_then(|unit| unit.image.code.words().first().copied()),
+    )
 }
 
 /// Whether the library holds units of these words under `a` and `b`, or none, and no others.
@@ -102,9 +98,11 @@ pub fn holds<D: Disk>(
     wanted: (Option<u32>, Option<u32>),
 ) -> Result<bool, Fail> {
     let count = usize::from(wanted.0.is_some()) + usize::from(wanted.1.is_some());
-    Ok(library.list(alloc)?.len() == count
-        && word_of(library, b'a')? == wanted.0
-        && word_of(library, b'b')? == wanted.1)
+    Ok(
+        library.list(alloc)?.len() == count
+            && word_of(library, b'a')? == wanted.0
+            && word_of(library, b'b')? == wanted.1,
+    )
 }
 
 /// The number of an answer, 0 for Ok.

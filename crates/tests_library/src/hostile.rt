@@ -116,7 +116,10 @@ fn every_change_of_a_byte_is_opened_or_refused(rt: HostRuntime) -> Result<(), Fa
                 changed[place] = byte;
             }
             let number = refusal(alloc, disk_of(alloc, &changed)?);
-            assert!(rt; number == 0 || number == 37 || number == 38, "byte {place} is {byte}");
+            assert!(rt;
+                number == 0 || number == 37 || number == 38,
+                "byte {place} is {byte}"
+            );
         }
     }
     Ok(())

@@ -16,9 +16,15 @@ fn changes_and_the_list(rt: HostRuntime) -> Result<(), Fail> {
     let alloc = rt.alloc();
     let mut library = opened(alloc, formatted(alloc, 128)?)?;
     assert_eq!(rt; number(library.add(alloc, name(b'a')?, unit(alloc, 1)?)), 0);
-    assert_eq!(rt; number(library.add(alloc, name(b'a')?, unit(alloc, 2)?)), 31);
+    assert_eq!(rt;
+        number(library.add(alloc, name(b'a')?, unit(alloc, 2)?)),
+        31
+    );
     assert_eq!(rt; number(library.withdraw(alloc, name(b'b')?)), 32);
-    assert_eq!(rt; number(library.replace(alloc, name(b'a')?, unit(alloc, 3)?)), 0);
+    assert_eq!(rt;
+        number(library.replace(alloc, name(b'a')?, unit(alloc, 3)?)),
+        0
+    );
     let names = library.list(alloc)?;
     assert_eq!(rt; names.len(), 1);
     assert!(rt; names.iter().all(|name| name.bytes() == b"a".as_slice()));
@@ -56,11 +62,21 @@ fn the_same_through_run(rt: HostRuntime) -> Result<(), Fail> {
 fn names_come_in_the_order_of_their_bytes(rt: HostRuntime) -> Result<(), Fail> {
     let alloc = rt.alloc();
     let mut library = opened(alloc, formatted(alloc, 256)?)?;
-    for bytes in [b"b".as_slice(), b"a".as_slice(), b"ab".as_slice(), b"a_".as_slice()] {
+    for bytes in [
+        b"b".as_slice(),
+        b"a".as_slice(),
+        b"ab".as_slice(),
+        b"a_".as_slice(),
+    ] {
         library.add(alloc, Name::new(bytes)?, unit(alloc, 0)?)?;
     }
     let names = library.list(alloc)?;
-    let wanted = [b"a".as_slice(), b"a_".as_slice(), b"ab".as_slice(), b"b".as_slice()];
+    let wanted = [
+        b"a".as_slice(),
+        b"a_".as_slice(),
+        b"ab".as_slice(),
+        b"b".as_slice(),
+    ];
     assert_eq!(rt; names.len(), wanted.len());
     for (name, bytes) in names.iter().zip(&wanted) {
         assert_eq!(rt; name.bytes(), *bytes);
@@ -82,11 +98,20 @@ fn with_a(alloc: Global, passes: u64) -> Result<Library<FuseDisk<MemoryDisk>>, F
 fn the_gate_decides(rt: HostRuntime) -> Result<(), Fail> {
     let alloc = rt.alloc();
     let mut library = with_a(alloc, 2)?;
-    assert_eq!(rt; number(library.add(alloc, name(b'b')?, unit(alloc, 2)?)), 35);
+    assert_eq!(rt;
+        number(library.add(alloc, name(b'b')?, unit(alloc, 2)?)),
+        35
+    );
     assert!(rt; holds(alloc, &library, (Some(1), None))?);
-    assert_eq!(rt; number(library.add(alloc, name(b'b')?, unit(alloc, 2)?)), 36);
+    assert_eq!(rt;
+        number(library.add(alloc, name(b'b')?, unit(alloc, 2)?)),
+        36
+    );
     assert_eq!(rt; number(library.withdraw(alloc, name(b'a')?)), 36);
-    assert_eq!(rt; number(library.replace(alloc, name(b'a')?, unit(alloc, 2)?)), 36);
+    assert_eq!(rt;
+        number(library.replace(alloc, name(b'a')?, unit(alloc, 2)?)),
+        36
+    );
     let disk = library.into_disk().into_disk();
     let both = opened(alloc, disk.crash(alloc, &[0xa5; 144])?)?;
     assert!(rt; holds(alloc, &both, (Some(1), Some(2)))?);
@@ -99,7 +124,10 @@ fn the_gate_decides(rt: HostRuntime) -> Result<(), Fail> {
 fn a_torn_body_counts_for_nothing(rt: HostRuntime) -> Result<(), Fail> {
     let alloc = rt.alloc();
     let mut library = with_a(alloc, 0)?;
-    assert_eq!(rt; number(library.add(alloc, name(b'b')?, unit(alloc, 2)?)), 35);
+    assert_eq!(rt;
+        number(library.add(alloc, name(b'b')?, unit(alloc, 2)?)),
+        35
+    );
     // The record of `a` ends with byte 40, the gate of the next is byte 41. Behind it the crash leaves a whole record, Withdraw
     // of `a`, and an open gate.
     let mut choice = [0xa5u8; 144];
@@ -119,8 +147,14 @@ fn a_full_area(rt: HostRuntime) -> Result<(), Fail> {
     library.add(alloc, name(b'a')?, unit(alloc, 1)?)?;
     library.add(alloc, name(b'b')?, unit(alloc, 2)?)?;
     // Two records of 25 bytes and the closed gate leave 13 bytes: one Withdraw of 9 fits, a third unit does not.
-    assert_eq!(rt; number(library.add(alloc, name(b'c')?, unit(alloc, 3)?)), 34);
-    assert_eq!(rt; number(library.replace(alloc, name(b'a')?, unit(alloc, 3)?)), 34);
+    assert_eq!(rt;
+        number(library.add(alloc, name(b'c')?, unit(alloc, 3)?)),
+        34
+    );
+    assert_eq!(rt;
+        number(library.replace(alloc, name(b'a')?, unit(alloc, 3)?)),
+        34
+    );
     assert_eq!(rt; number(library.withdraw(alloc, name(b'a')?)), 0);
     assert_eq!(rt; number(library.withdraw(alloc, name(b'b')?)), 34);
     let mut disk = library.into_disk();

@@ -105,7 +105,9 @@ fn a_run_stops_where_its_disk_is_not_opened_again(rt: HostRuntime) -> Result<(),
         let done = numbers.len() - 1;
         assert_eq!(rt; done as u64, (passes - 3) / 4);
         let library = opened(alloc, disk.into_disk())?;
-        assert!(rt; holds(alloc, &library, map_after(done))? || holds(alloc, &library, map_after(done + 1))?);
+        assert!(rt;
+            holds(alloc, &library, map_after(done))? || holds(alloc, &library, map_after(done + 1))?
+        );
     }
     Ok(())
 }

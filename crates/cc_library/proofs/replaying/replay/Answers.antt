@@ -1,12 +1,9 @@
 -- All records lead to the same maps as those that are left, turn by turn.
 use Rattle.std.proofs.Common.{◌≡◌, ℕ, suc, ◌+◌, ◌<◌, List, [], ◌∷◌, length, drop, get_or, sym, ap, subst, ◌∙◌, drop-cons, arith}
 use Rattle.std.proofs.lemmas.List.{drop_all}
-use Rattle.std.specs.Prelude.{IfErr, Err}
 use Rattle.std.proofs.lemmas.Result.{err_from_is_err_and}
-use Rattle.cc_library.specs.declared.fault.LibraryFault.{LibraryFault}
 use Rattle.cc_library.specs.Apply.{Units}
-use Rattle.cc_library.specs.Recovered.{LeadTo, StandFor}
-use Rattle.cc_library.specs.Answers.{ReplayFaults, ReplaysBody}
+use Rattle.cc_library.specs.Recovered.{LeadTo}
 use Rattle.cc_library.proofs.Standing.{step_before, step_behind, none_left, fails_here}
 use Rattle.cc_library.proofs.replaying.replay.Goals as goal
 

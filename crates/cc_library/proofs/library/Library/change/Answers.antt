@@ -1,5 +1,5 @@
 -- Without a device call every image recovers to the old map; during the `append` to the old one or to the one after it.
-use Rattle.std.proofs.Common.{◌≡◌, ◌++◌, ◌∷◌, [], List, ℕ, false, refl, IsTrue, sym, ◌∙◌, ap, subst}
+use Rattle.std.proofs.Common.{◌≡◌, List, ℕ, false, refl, IsTrue, sym, ◌∙◌, ap, subst}
 use Rattle.std.specs.Prelude.{IsOk, Err}
 use Rattle.cc_disk.specs.Images.{LeavesOnly}
 use Rattle.cc_library.specs.declared.fault.LibraryFault.{LibraryFault}
@@ -62,7 +62,7 @@ returns-in-Ok-clause-kept g c =
     let ok : IsOk (apply i.units c.args.command) = is_accepted (apply i.units c.args.command) (sym c.refusal.ensures ∙ c.in-None.is) in
     let done = done_is i.units c.begin.new.self c.finish.new.self c.args.command ok c.in_ok-begin.ensures.ok c.finish.ensures in
     let stand = stands_after i.journal.bodies i.units c.in_ok-body.body.items c.deref.result.now c.args.command c.append.new.self.bodies c.finish.new.self c.self.invariant.stand c.in_ok-body.ensures ok
-        c.deref.ensures.value c.in-Ok.ensures.added done in
+    c.deref.ensures.value c.in-Ok.ensures.added done in
     λ h image now. holds_recovers image c.append.new.self.area c.append.new.self.bodies c.finish.new.self (c.in-Ok.ensures.kept h image now) stand
 
 pub returns-in-Ok-clause-moments : goal.returns-in-Ok-clause-moments

@@ -1,5 +1,5 @@
 -- A change, and where the device failed in it, what opening the disk again shows.
-use Rattle.std.proofs.Common.{ℕ, refl, ap, subst, sym, ◌∙◌}
+use Rattle.std.proofs.Common.{refl, ap, subst, ◌∙◌}
 use Rattle.std.specs.Prelude.{Ok, Err}
 use Rattle.cc_journal.specs.Format.{HoldsRecords}
 use Rattle.cc_library.specs.declared.fault.LibraryFault.{LibraryFault}
@@ -30,7 +30,7 @@ returns-in-Ok-open-clause-edited g c =
     let new = c.in-Ok-open.library in
     let edit = c.args.edit in
     let answers : ChangeAnswers {T = Unit {0}} old edit (D.failures old.disk) (D.failures left.disk) (Err DiskFault) =
-        subst (λ (f : LibraryFault). ChangeAnswers {T = Unit {0}} old edit (D.failures old.disk) (D.failures left.disk) (Err f)) c.in-DiskFault.is c.in-Err.ensures.answers in
+    subst (λ (f : LibraryFault). ChangeAnswers {T = Unit {0}} old edit (D.failures old.disk) (D.failures left.disk) (Err f)) c.in-DiskFault.is c.in-Err.ensures.answers in
     let leaves : ChangeLeaves {T = Unit {0}} edit old left (Err DiskFault) = subst (λ (f : LibraryFault). ChangeLeaves {T = Unit {0}} edit old left (Err f)) c.in-DiskFault.is c.in-Err.ensures.leaves in
     record {
       answer = Err DiskFault;
@@ -59,11 +59,10 @@ returns-in-Err-open-clause-refused g c =
     let fault = c.in-Err-open.refused.0 in
     let disk = c.in-Err-open.refused.1 in
     let answers : ChangeAnswers {T = Unit {0}} old edit (D.failures old.disk) (D.failures left.disk) (Err DiskFault) =
-        subst (λ (f : LibraryFault). ChangeAnswers {T = Unit {0}} old edit (D.failures old.disk) (D.failures left.disk) (Err f)) c.in-DiskFault.is c.in-Err.ensures.answers in
+    subst (λ (f : LibraryFault). ChangeAnswers {T = Unit {0}} old edit (D.failures old.disk) (D.failures left.disk) (Err f)) c.in-DiskFault.is c.in-Err.ensures.answers in
     let leaves : ChangeLeaves {T = Unit {0}} edit old left (Err DiskFault) = subst (λ (f : LibraryFault). ChangeLeaves {T = Unit {0}} edit old left (Err f)) c.in-DiskFault.is c.in-Err.ensures.leaves in
     let refused : OpenFaults D.honest (D.seen left.disk) (D.failures left.disk) (D.failures disk) fault =
-        subst (λ (d : g.row.D.Denot). OpenFaults D.honest (D.seen d) (D.failures d) (D.failures disk) fault) c.into_disk.ensures c.in-Err-open.ensures.faults in
-    (
+    subst (λ (d : g.row.D.Denot). OpenFaults D.honest (D.seen d) (D.failures d) (D.failures disk) fault) c.into_disk.ensures c.in-Err-open.ensures.faults in (
       refl,
       record {
         left = left;

@@ -1,8 +1,8 @@
 -- The journal's records are what every image holds alone, and the map is what they stand for.
-use Rattle.std.proofs.Common.{◌≡◌, ℕ, List, [], IsTrue, sym, subst}
+use Rattle.std.proofs.Common.{◌≡◌, ℕ, List, [], sym, subst}
 use Rattle.cc_journal.specs.Format.{HoldsRecords, HoldsAlone}
 use Rattle.cc_library.specs.Recovered.{StandFor}
-use Rattle.cc_library.specs.Answers.{OpenFaults, ReplayFaults}
+use Rattle.cc_library.specs.Answers.{ReplayFaults}
 use Rattle.cc_library.proofs.Standing.{holds_recovers}
 use Rattle.cc_library.proofs.Opening.{replay_refused, journal_refused, new_map}
 use Rattle.cc_library.proofs.library.Library.open.Goals as goal

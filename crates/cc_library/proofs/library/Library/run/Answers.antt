@@ -1,5 +1,5 @@
 -- Each turn does one edit more and keeps its number; behind the last all edits are done.
-use Rattle.std.proofs.Common.{◌≡◌, ◌+◌, ◌<◌, ◌++◌, ◌∷◌, [], List, ℕ, inr, false, IsTrue, length, vec_len, ap, sym, subst, ◌∙◌, append_assoc, length-append, refl, arith}
+use Rattle.std.proofs.Common.{◌≡◌, ◌+◌, ◌++◌, ◌∷◌, [], List, ℕ, inr, false, IsTrue, length, vec_len, ap, sym, subst, ◌∙◌, append_assoc, length-append, refl, arith}
 use Rattle.std.proofs.lemmas.List.{append-nil, nil_from_length}
 use Rattle.cc_library.specs.declared.command.Command.{Command}
 use Rattle.cc_library.specs.Apply.{Units, after_all}
@@ -31,8 +31,8 @@ unwrap-requires g c =
     let inv = c.loop-edit.invariant in
     let counted : vec_len c.loop-edit.numbers ≡ length c.loop-edit.numbers.items = c.loop-edit.numbers.ok.0 in
     let parts : length c.args.edits.items ≡ length c.loop-edit.yielded + length (c.in-Some.edit ∷ c.next.new.self.rest.items) =
-        ap length (sym inv.edits) ∙ length-append c.loop-edit.yielded c.loop-edit.edit-iterator.rest.items
-        ∙ ap (λ (l : List Command). length c.loop-edit.yielded + length l) c.in-Some.ensures.steps.0 in
+    ap length (sym inv.edits) ∙ length-append c.loop-edit.yielded c.loop-edit.edit-iterator.rest.items
+    ∙ ap (λ (l : List Command). length c.loop-edit.yielded + length l) c.in-Some.ensures.steps.0 in
     c.push.ensures.succeeds (omega (arith, counted, inv.room, inv.count, parts))
 
 pub loop-edit-preserved : goal.loop-edit-preserved
@@ -86,7 +86,7 @@ returns-clause-folded g c =
     let rest = c.loop-edit.edit-iterator.rest in
     let all = all_taken c.loop-edit.yielded rest.items c.args.edits.items rest.len rest.ok.0 c.in-None.ensures.steps.0 c.loop-edit.invariant.edits in
     let run : AreEdited D.honest D.failures c.args.self c.args.edits.items c.loop-edit.numbers.items c.loop-edit.library =
-        subst (λ (es : List Command). AreEdited D.honest D.failures c.args.self es c.loop-edit.numbers.items c.loop-edit.library) all c.loop-edit.invariant.edited in
+    subst (λ (es : List Command). AreEdited D.honest D.failures c.args.self es c.loop-edit.numbers.items c.loop-edit.library) all c.loop-edit.invariant.edited in
     λ h. folds D.honest D.failures c.args.self c.loop-edit.library c.args.edits.items c.loop-edit.numbers.items run h
 
 pub returns-clause-from_new : goal.returns-clause-from_new
@@ -95,7 +95,7 @@ returns-clause-from_new g c =
     let rest = c.loop-edit.edit-iterator.rest in
     let all = all_taken c.loop-edit.yielded rest.items c.args.edits.items rest.len rest.ok.0 c.in-None.ensures.steps.0 c.loop-edit.invariant.edits in
     let run : AreEdited D.honest D.failures c.args.self c.args.edits.items c.loop-edit.numbers.items c.loop-edit.library =
-        subst (λ (es : List Command). AreEdited D.honest D.failures c.args.self es c.loop-edit.numbers.items c.loop-edit.library) all c.loop-edit.invariant.edited in
+    subst (λ (es : List Command). AreEdited D.honest D.failures c.args.self es c.loop-edit.numbers.items c.loop-edit.library) all c.loop-edit.invariant.edited in
     λ h new.
     let fold = folds D.honest D.failures c.args.self c.loop-edit.library c.args.edits.items c.loop-edit.numbers.items run h in
     (fold.0, fold.1, fold.2 ∙ ap (λ (m : Units). after_all m fold.0) new)
