@@ -1,14 +1,17 @@
 -- What records stand for: one record more at the front or at the back, and that records stand for one map at most. From
 -- this, what images that hold records recover to.
-use Rattle.std.proofs.Common.{◌≡◌, ◌⊎◌, inl, inr, ℕ, ◌≤◌, List, [], ◌∷◌, ◌++◌, refl, sym, ap, subst, ◌∙◌, arith}
-use Rattle.std.specs.Prelude.{IsOk}
+use Rattle.std.proofs.Common.{◌≡◌, ◌⊎◌, inl, inr, ℕ, List, [], ◌∷◌, ◌++◌, refl, sym, ap, subst, ◌∙◌, arith}
+use Rattle.std.specs.Prelude.{IsOk, Err}
 use Rattle.std.specs.FinMap.{empty}
 use Rattle.cc_disk.specs.Images.{LeavesOnly}
 use Rattle.cc_journal.specs.Format.{HoldsAlone, HoldsOldOrNew}
 use Rattle.cc_library.specs.declared.command.Command.{Command}
+use Rattle.cc_library.specs.declared.fault.LibraryFault.{LibraryFault}
+use Rattle.cc_library.specs.declared.fault.LibraryFault.TheVariants.{Exists, Absent, Full, DiskFault, Closed, Damaged, NotALibrary, OutOfMemory}
 use Rattle.cc_library.specs.Apply.{Units, apply, after, after_all, AreAccepted}
-use Rattle.cc_library.specs.Body.{Spells}
-use Rattle.cc_library.specs.Recovered.{AreSpelled, LeadTo, StandFor, Recovers, RecoversAlone, RecoversOneOf}
+use Rattle.cc_library.specs.Answers.{ReplayFaults, ReplaysBody}
+use Rattle.cc_library.specs.Body.{Spells, body_of}
+use Rattle.cc_library.specs.Recovered.{AreSpelled, LeadTo, StandFor, RecoversAlone, RecoversOneOf, IsOldOrNew}
 use Rattle.cc_library.proofs.Commands.{one_command}
 
 -- one record leads from a map to the next
@@ -48,6 +51,22 @@ no_step from body bodies (command ∷ commands) none spelled accepted = none com
 pub leads_nowhere : (from : Units) (body : List ℕ) (bodies : List (List ℕ)) (to : Units) → ((command : Command) → Spells body command → IsOk (apply from command) → ⊥) → LeadTo from (body ∷ bodies) to → ⊥
 leads_nowhere from body bodies to none l = no_step from body bodies l.commands none l.spelled l.accepted
 
+-- no records lead nowhere else
+pub none_left : (units : Units) → LeadTo units [] units
+none_left units = record { commands = []; spelled = tt; accepted = tt; map_is = refl }
+
+-- where the next record cannot be replayed, all of them stand for no map
+pub fails_here : (bodies : List (List ℕ)) (units : Units) (body : List ℕ) (behind : List (List ℕ)) (fault : LibraryFault) → ReplaysBody units body (Err fault)
+    → ((made : Units) → StandFor bodies made → LeadTo units (body ∷ behind) made) → ReplayFaults bodies fault
+fails_here bodies units body behind Damaged answer onward = λ made l. leads_nowhere units body behind made answer (onward made l)
+fails_here bodies units body behind OutOfMemory answer onward = tt
+fails_here bodies units body behind DiskFault answer onward = answer
+fails_here bodies units body behind NotALibrary answer onward = answer
+fails_here bodies units body behind Exists answer onward = answer
+fails_here bodies units body behind Absent answer onward = answer
+fails_here bodies units body behind Full answer onward = answer
+fails_here bodies units body behind Closed answer onward = answer
+
 same_commands : (bodies : List (List ℕ)) (xs ys : List Command) → AreSpelled bodies xs → AreSpelled bodies ys → xs ≡ ys
 same_commands [] [] [] p q = refl
 same_commands [] [] (y ∷ ys) p q = absurd q
@@ -77,6 +96,15 @@ one_more bodies units body command l s ok =
     subst (λ (m : Units). LeadTo empty (bodies ++ body ∷ []) (after m command)) (sym l.map_is)
     (pushed empty bodies l.commands body command l.spelled l.accepted s (subst (λ (m : Units). IsOk (apply m command)) l.map_is ok))
 
+pub stands_after : (bodies : List (List ℕ)) (units : Units) (body written : List ℕ) (command : Command) (more : List (List ℕ)) (new : Units) → StandFor bodies units → Spells body command → IsOk (apply units command)
+    → written ≡ body → more ≡ bodies ++ written ∷ [] → new ≡ after units command → StandFor more new
+stands_after bodies units body written command more new stand spelled ok same added is =
+    let all : bodies ++ body ∷ [] ≡ more = ap (λ (b : List ℕ). bodies ++ b ∷ []) (sym same) ∙ sym added in
+    subst (λ (m : Units). StandFor more m) (sym is) (subst (λ (bs : List (List ℕ)). StandFor bs (after units command)) all (one_more bodies units body command stand spelled ok))
+
+pub stands_still : (bodies : List (List ℕ)) (units : Units) (same : List (List ℕ)) (new : Units) → StandFor bodies units → same ≡ bodies → new ≡ units → StandFor same new
+stands_still bodies units same new stand bodies_are is = subst (λ (m : Units). StandFor same m) (sym is) (subst (λ (bs : List (List ℕ)). StandFor bs units) (sym bodies_are) stand)
+
 -- an image that holds records alone recovers to what they stand for alone
 pub holds_recovers : (image : List ℕ) (area : ℕ) (bodies : List (List ℕ)) (units : Units) → HoldsAlone image area bodies → StandFor bodies units → RecoversAlone image units
 holds_recovers image area bodies units h stand = record {
@@ -84,9 +112,14 @@ holds_recovers image area bodies units h stand = record {
   alone = λ others r. one_map empty bodies others units (subst (λ (bs : List (List ℕ)). StandFor bs others) (h.alone r.area r.bodies r.holds).1 r.stand) stand;
 }
 
-pub one_of : (image : List ℕ) (area : ℕ) (bodies : List (List ℕ)) (body : List ℕ) (old new : Units) → StandFor bodies old → StandFor (bodies ++ body ∷ []) new → HoldsOldOrNew area bodies body image → RecoversOneOf old new image
-one_of image area bodies body old new before behind (inl h) = inl (holds_recovers image area bodies old h before)
-one_of image area bodies body old new before behind (inr h) = inr (holds_recovers image area (bodies ++ body ∷ []) new h behind)
+pub one_of : (image : List ℕ) (area : ℕ) (bodies : List (List ℕ)) (body : List ℕ) (old new : Units) → StandFor bodies old → StandFor (bodies ++ body ∷ []) new → HoldsOldOrNew area bodies body image → IsOldOrNew area bodies old body new image
+one_of image area bodies body old new before behind (inl h) = inl (h, holds_recovers image area bodies old h before)
+one_of image area bodies body old new before behind (inr h) = inr (h, holds_recovers image area (bodies ++ body ∷ []) new h behind)
+
+-- of the maps alone
+pub either : (image : List ℕ) (area : ℕ) (bodies : List (List ℕ)) (old : Units) (body : List ℕ) (new : Units) → IsOldOrNew area bodies old body new image → RecoversOneOf old new image
+either image area bodies old body new (inl p) = inl p.1
+either image area bodies old body new (inr p) = inr p.1
 
 -- ---- moments
 
@@ -105,3 +138,23 @@ module _ {D : Type 0} (moment : D → ℕ) (left_since : D → ℕ → List ℕ 
   -- no call was made
   pub no_call : (Q : List ℕ → Type 0) (disk : D) → ((image : List ℕ) → left_since disk (moment disk) image → Q image) → LeavesOnly moment left_since disk disk Q
   no_call Q disk now = record { later = omega arith; each = now; before = λ t image earlier left. inl left }
+
+  -- between two calls, of a library whose every image holds its records alone
+  pub quiet : (may_leave : D → List ℕ → Type 0) (disk : D) (area : ℕ) (bodies : List (List ℕ)) (units : Units) (body : List ℕ) (new : Units)
+      → ((image : List ℕ) → may_leave disk image → HoldsAlone image area bodies) → ((image : List ℕ) → left_since disk (moment disk) image → may_leave disk image) → StandFor bodies units
+      → LeavesOnly moment left_since disk disk (IsOldOrNew area bodies units body new)
+  quiet may_leave disk area bodies units body new kept only_now stand =
+      no_call (IsOldOrNew area bodies units body new) disk (λ image left. let h = kept image (only_now image left) in inl (h, holds_recovers image area bodies units h stand))
+
+  -- during an `append`
+  pub appended : (old new : D) (area : ℕ) (bodies : List (List ℕ)) (body : List ℕ) (units : Units) (command : Command) → StandFor bodies units → Spells body command → IsOk (apply units command)
+      → LeavesOnly moment left_since old new (HoldsOldOrNew area bodies body) → LeavesOnly moment left_since old new (IsOldOrNew area bodies units (body_of command) (after units command))
+  appended old new area bodies body units command stand spelled ok run =
+      subst (λ (b : List ℕ). LeavesOnly moment left_since old new (IsOldOrNew area bodies units b (after units command))) spelled.spelled
+      (weaker (HoldsOldOrNew area bodies body) (IsOldOrNew area bodies units body (after units command)) old new
+      (λ image holds. one_of image area bodies body units (after units command) stand (one_more bodies units body command stand spelled ok) holds) run)
+
+  -- of the maps alone
+  pub maps_alone : (old new : D) (area : ℕ) (bodies : List (List ℕ)) (units : Units) (body : List ℕ) (made : Units) → LeavesOnly moment left_since old new (IsOldOrNew area bodies units body made)
+      → LeavesOnly moment left_since old new (RecoversOneOf units made)
+  maps_alone old new area bodies units body made run = weaker (IsOldOrNew area bodies units body made) (RecoversOneOf units made) old new (λ image p. either image area bodies units body made p) run

@@ -4,7 +4,7 @@ use Rattle.cc_library.specs.declared.command.Command.{Command}
 use Rattle.cc_library.specs.declared.fault.LibraryFault.{LibraryFault}
 use Rattle.cc_library.specs.declared.fault.LibraryFault.TheVariants.{Exists, Absent, Full, DiskFault, Closed, Damaged, NotALibrary, OutOfMemory}
 use Rattle.cc_library.specs.Faults.{number_of}
-use Rattle.cc_library.specs.Apply.{Units, after, after_all}
+use Rattle.cc_library.specs.Apply.{after}
 use Rattle.cc_library.specs.Body.{body_of}
 use Rattle.cc_library.specs.Recovered.{RecoversOneOf, View}
 use Rattle.cc_library.specs.Answers.{OpenFaults, ChangeAnswers, ChangeLeaves}
@@ -20,7 +20,7 @@ AreDone [] [] done = done ≡ []
 AreDone [] (number ∷ numbers) done = ⊥
 AreDone (edit ∷ edits) [] done = ⊥
 AreDone (edit ∷ edits) (number ∷ numbers) done =
-    (((number ≡ 0) ⊎ (number ≡ 35)) × (others : List Command) × (done ≡ edit ∷ others) × AreDone edits numbers others)
+    ((others : List Command) × ((number ≡ 0) ⊎ (number ≡ 35)) × (done ≡ edit ∷ others) × AreDone edits numbers others)
     ⊎ ((number ≢ 0) × AreDone edits numbers done)
 
 module _ {D : Type 0} where
@@ -42,7 +42,7 @@ module _ {D : Type 0} where
 
   -- one edit of a run: its number is that of the change's answer
   pub record IsEdited (honest : Bool) (failures : D → ℕ) (old : View D) (edit : Command) (number : ℕ) (new : View D) : Type 0 where
-    pub answer : Result Unit {0} LibraryFault
+    pub answer : Result (Unit {0}) LibraryFault
     pub left : View D
     pub number_is : number ≡ answer_number answer
     pub answers : ChangeAnswers old edit (failures old.disk) (failures left.disk) answer

@@ -1,7 +1,7 @@
 //! The library: a map from names to stored units that survives any crash, over any disk.
 //!
 //! `name` is a name, `unit` and `units` are what is kept, `command` what changes it, `body` and `reading` a command as
-//! the body of a record, `replay` what records stand for, `library` the library and its calls.
+//! the body of a record, `replaying` what records stand for, `library` the library and its calls.
 //! It hands out `Library`, `Name`, `UnitMap`, `Command`, `Edit`, `Kind`, `SharedUnit`, `command_body`, `read_command`, `replay`
 //! and the faults.
 #![tactic(auto)]
@@ -12,7 +12,7 @@ mod fault;
 mod library;
 mod name;
 mod reading;
-mod replay;
+mod replaying;
 mod unit;
 mod units;
 
@@ -22,6 +22,6 @@ pub use fault::{LibraryFault, NameFault};
 pub use library::Library;
 pub use name::{NAME_BYTES, Name};
 pub use reading::{ReadFault, read_command};
-pub use replay::replay;
+pub use replaying::replay;
 pub use unit::SharedUnit;
 pub use units::UnitMap;

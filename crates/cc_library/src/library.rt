@@ -7,8 +7,9 @@ ghost use Rattle.cc_disk.specs.Images.{LeavesOnly, OnlyReads};
 ghost use Rattle.cc_journal.specs.Format.{HoldsRecords};
 ghost use Rattle.cc_library.specs.declared.command.Command.{Command};
 ghost use Rattle.cc_library.specs.declared.command.Command.TheVariants as command;
-ghost use Rattle.cc_library.specs.Apply.{after, after_all};
-ghost use Rattle.cc_library.specs.Recovered.{Recovers, RecoversAlone, RecoversOneOf, StandFor};
+ghost use Rattle.cc_library.specs.Apply.{after, after_all, library_of};
+ghost use Rattle.cc_library.specs.Body.{body_of};
+ghost use Rattle.cc_library.specs.Recovered.{IsOldOrNew, Recovers, RecoversAlone, RecoversOneOf, StandFor};
 ghost use Rattle.cc_library.specs.Answers.{OpenFaults, ChangeAnswers, ChangeLeaves};
 ghost use Rattle.cc_library.specs.Runs.{AreDone, AreEdited, HadNoRoom, IsEdited, IsRefused, Stopped};
 
@@ -16,7 +17,7 @@ use crate::body::body_of_command;
 use crate::command::{Command, Edit};
 use crate::fault::LibraryFault;
 use crate::name::Name;
-use crate::replay::replay;
+use crate::replaying::replay;
 use crate::unit::SharedUnit;
 use crate::units::UnitMap;
 use cc_disk::Disk;
@@ -114,6 +115,10 @@ impl<D: Disk> Library<D> {
         // A crash at any moment of the call leaves the map before it or the map after it.
         ensures moments { IsTrue D.honest → self.old.closed ≡ false
             → LeavesOnly D.moment D.left_since self.old.disk self.new.disk (RecoversOneOf self.old.units (after self.old.units (command.Add name (arc_value unit)))) }
+
+        // So whatever it answers, after 35 too, every image recovers to one of the two.
+        ensures images { IsTrue D.honest → self.old.closed ≡ false
+            → (image : List ℕ) → D.may_leave self.new.disk image → RecoversOneOf self.old.units (after self.old.units (command.Add name (arc_value unit))) image }
     {
         self.change(alloc, Command::Add(name, SharedUnit::new(unit)))
     }
@@ -139,6 +144,10 @@ impl<D: Disk> Library<D> {
         // A crash at any moment of the call leaves the map before it or the map after it.
         ensures moments { IsTrue D.honest → self.old.closed ≡ false
             → LeavesOnly D.moment D.left_since self.old.disk self.new.disk (RecoversOneOf self.old.units (after self.old.units (command.Replace name (arc_value unit)))) }
+
+        // So whatever it answers, after 35 too, every image recovers to one of the two.
+        ensures images { IsTrue D.honest → self.old.closed ≡ false
+            → (image : List ℕ) → D.may_leave self.new.disk image → RecoversOneOf self.old.units (after self.old.units (command.Replace name (arc_value unit))) image }
     {
         self.change(alloc, Command::Replace(name, SharedUnit::new(unit)))
     }
@@ -159,6 +168,10 @@ impl<D: Disk> Library<D> {
         // A crash at any moment of the call leaves the map before it or the map after it.
         ensures moments { IsTrue D.honest → self.old.closed ≡ false
             → LeavesOnly D.moment D.left_since self.old.disk self.new.disk (RecoversOneOf self.old.units (after self.old.units (command.Withdraw name))) }
+
+        // So whatever it answers, after 35 too, every image recovers to one of the two.
+        ensures images { IsTrue D.honest → self.old.closed ≡ false
+            → (image : List ℕ) → D.may_leave self.new.disk image → RecoversOneOf self.old.units (after self.old.units (command.Withdraw name)) image }
     {
         self.change(alloc, Command::Withdraw(name))
     }
@@ -206,6 +219,10 @@ impl<D: Disk> Library<D> {
         ensures folded { IfOk result.0 (λ l. IsTrue D.honest
             → (done : List Command) × AreDone edits.items result.1.items done × (l.units ≡ after_all self.units done)) }
 
+        // On a new journal it is the fold of these from the empty map.
+        ensures from_new { IfOk result.0 (λ l. IsTrue D.honest → self.units ≡ map.empty
+            → (done : List Command) × AreDone edits.items result.1.items done × (l.units ≡ library_of done)) }
+
         // While it is not closed, every image recovers to its map.
         ensures kept { IfOk result.0 (λ l. IsTrue D.honest → l.closed ≡ false → (image : List ℕ) → D.may_leave l.disk image → RecoversAlone image l.units) }
 
@@ -229,23 +246,26 @@ impl<D: Disk> Library<D> {
                 Err(refused) => return (Err(refused), numbers),
             }
         }
+        // What the journal promises of its images.
+        let _ = library.journal.records();
         (Ok(library), numbers)
     }
 
     // One edit of a run: its number, and the library behind it, opened again where the device failed.
-    fn edited(
-        mut self,
-        alloc: Global,
-        edit: Edit,
-    ) -> (u32, Result<Library<D>, (LibraryFault, D)>)
+    fn edited(mut self, alloc: Global, edit: Edit) -> (u32, Result<Library<D>, (LibraryFault, D)>)
         ensures edited { IfOk result.1 (λ l. IsEdited D.honest D.failures self edit result.0 l) }
         ensures refused { IfErr result.1 (λ e. (result.0 ≡ 35) × IsRefused D.honest D.failures D.seen D.may_leave self edit e.0 e.1) }
         ensures size { MatchResult result.1 (λ l. D.size l.disk ≡ D.size self.disk) (λ e. D.size e.1 ≡ D.size self.disk) }
     {
         match self.change(alloc, edit) {
             Ok(()) => (0, Ok(self)),
-            Err(LibraryFault::DiskFault) => (35, Library::open(alloc, self.into_disk())),
-            Err(fault) => (u32::from(fault.number()), Ok(self)),
+            Err(fault) => match fault {
+                LibraryFault::DiskFault => match Library::open(alloc, self.into_disk()) {
+                    Ok(library) => (35, Ok(library)),
+                    Err(refused) => (35, Err(refused)),
+                },
+                other => (u32::from(other.number()), Ok(self)),
+            },
         }
     }
 
@@ -256,7 +276,8 @@ impl<D: Disk> Library<D> {
         ensures size { D.size self.new.disk ≡ D.size self.old.disk }
         ensures kept { OnOk result (IsTrue D.honest → (image : List ℕ) → D.may_leave self.new.disk image → RecoversAlone image self.new.units) }
         ensures moments { IsTrue D.honest → self.old.closed ≡ false
-            → LeavesOnly D.moment D.left_since self.old.disk self.new.disk (RecoversOneOf self.old.units (after self.old.units command)) }
+            → LeavesOnly D.moment D.left_since self.old.disk self.new.disk
+            (IsOldOrNew self.old.area self.old.bodies self.old.units (body_of command) (after self.old.units command)) }
     {
         // What the journal promises of its images, for the calls that end before a device call.
         let _ = self.journal.records();
@@ -276,7 +297,7 @@ impl<D: Disk> Library<D> {
                 Ok(())
             }
             Err(fault) => {
-                self.units.undo(&command);
+                self.units.undo(command);
                 self.closed = fault == JournalFault::DiskFault;
                 Err(LibraryFault::from(fault))
             }

@@ -134,11 +134,12 @@ impl UnitMap {
     }
 
     /// Takes back what a command has begun. It takes no memory.
-    pub fn undo(&mut self, command: &Command)
-        ensures { self.new ≡ undone self.old command.now }
+    pub fn undo(&mut self, command: Command)
+        ensures { self.new ≡ undone self.old command }
     {
-        if let Command::Add(name, _) = command {
-            self.remove(name);
+        match command {
+            Command::Add(name, _unit) => self.remove(&name),
+            Command::Replace(_, _) | Command::Withdraw(_) => {}
         }
     }
 

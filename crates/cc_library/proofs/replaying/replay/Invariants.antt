@@ -1,7 +1,7 @@
 use Rattle.std.proofs.Common.{drop}
 use Rattle.cc_library.specs.Apply.{Units}
 use Rattle.cc_library.specs.Recovered.{LeadTo, StandFor}
-use Rattle.cc_library.proofs.replay.replay.Given as goal
+use Rattle.cc_library.proofs.replaying.replay.Given as goal
 
 -- all records lead to the same maps as those that are left, from the map so far on
 abbrev pub invariant-loop-body : goal.invariant-loop-body
