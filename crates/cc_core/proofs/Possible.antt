@@ -34,6 +34,10 @@ use Rattle.cc_core.specs.Run.{PutsCommand}
 use Rattle.cc_core.specs.Ready.{IsRecoverable, IsFrontKept}
 use Rattle.cc_core.proofs.Orders.{front_longest, some_front}
 
+-- a phase that was matched by its parts
+pub committing_is : (phase : Phase) (a b : ℕ) (placed : Placed) (d e : Due) → phase ≡ Committing a placed d → d ≡ e → a ≡ b → phase ≡ Committing b placed e
+committing_is phase a b placed d e is due_is client_is = is ∙ (λ i. Committing (client_is i) placed (due_is i))
+
 module _ {P : Type 0} where
   pub submits : (rules : Rules P) (old : Contents P) (client call : ℕ) (request : Request) → IsUp old.phase → get old.jobs client ≡ None
       → (reply : Option Reply) × (new : Contents P) × Submits rules old client call request reply new
@@ -169,7 +173,7 @@ module _ {P : Type 0} where
   step_puts_none rules old event.Fail reply new plain step = same_order old new (ap (λ (s : Contents P). s.order) step.new_is)
   step_puts_none rules old (event.Ack client) reply new plain step = same_order old new (ap (λ (s : Contents P). s.order) step.new_is)
   step_puts_none rules old (event.Crash choice) reply new plain step = same_order old new (ap (λ (s : Contents P). s.order) step.new_is)
-  step_puts_none rules old event.Recover reply new no step =
+  step_puts_none rules old event.Recover reply new plain step =
       not_longer old new
       (omega (arith, ap (λ (s : Contents P). length s.order) step.new_is, ap length step.longest.front, length-take-le step.longest.count old.order step.longest.within, step.longest.within))
 
@@ -177,4 +181,4 @@ module _ {P : Type 0} where
   pub puts_none : (rules : Rules P) (old : Contents P) (e : Event P) (result : Result (Option Reply) CoreFault) (new : Contents P) → IsNoBegin e
       → IfOk result (λ reply. Step rules old e reply new) → OnOk result (PutsCommand old new)
   puts_none rules old e (Ok reply) new plain step = step_puts_none rules old e reply new plain step
-  puts_none rules old e (Err fault) new plain step = refl
+  puts_none rules old e (Err fault) new plain step = tt

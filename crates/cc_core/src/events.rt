@@ -398,7 +398,7 @@ pub(crate) fn take_step<B: Build>(
         Event::SyncGate => sync_gate(alloc, contents),
         Event::Fail => fail(alloc, contents),
         Event::Ack(client) => acknowledge(contents, client),
-        Event::Crash(choice) => crash(alloc, contents, choice.as_slice()),
+        Event::Crash(choice) => crash(alloc, contents, &choice),
         Event::Recover => recover(alloc, contents),
     }
 }

@@ -19,7 +19,11 @@ use cc_link::StoredUnit;
 use std::alloc::Global;
 
 // The disk crashes; the live map, jobs and workers are gone.
-pub(crate) fn crash<P: Drop>(alloc: Global, contents: &mut Contents<P>, choice: &[u8]) -> Answer
+pub(crate) fn crash<P: Drop>(
+    alloc: Global,
+    contents: &mut Contents<P>,
+    choice: &Sequence<u8>,
+) -> Answer
     ensures ok { IfOk result (λ reply. Crashes choice.now contents.old reply contents.new) }
     ensures not_now { IsErrOf result CoreFault.NotNow
         → (reply : Option Reply) (new : Contents P) → ¬ (Crashes choice.now contents.old reply new) }
@@ -27,7 +31,7 @@ pub(crate) fn crash<P: Drop>(alloc: Global, contents: &mut Contents<P>, choice: 
         → (reply : Option Reply) × (new : Contents P) × (Crashes choice.now contents.old reply new) }
     ensures err { OnErr result (contents.new ≡ contents.old) }
 {
-    contents.store.crash(alloc, choice)?;
+    contents.store.crash(alloc, choice.as_slice())?;
     contents.library = UnitMap::new(alloc);
     contents.jobs = Table::new(alloc);
     contents.workers = Table::new(alloc);
