@@ -37,7 +37,10 @@ pub(crate) fn write_body<P>(alloc: Global, contents: &mut Contents<P>) -> Answer
         → (reply : Option Reply) × (new : Contents P) × (Advances due.WriteBody contents.old reply new) }
     ensures err { OnErr result (contents.new ≡ contents.old) }
 {
-    let Phase::Committing(_, placed, Due::WriteBody) = &contents.phase else {
+    let Phase::Committing(_, placed, due) = &contents.phase else {
+        return Err(CoreFault::NotNow);
+    };
+    let Due::WriteBody = due else {
         return Err(CoreFault::NotNow);
     };
     let body = body_of_command(alloc, &placed.command)?;
@@ -96,7 +99,10 @@ pub(crate) fn sync_gate<P>(alloc: Global, contents: &mut Contents<P>) -> Answer
         → (reply : Option Reply) × (new : Contents P) × (Advances due.SyncGate contents.old reply new) }
     ensures err { OnErr result (contents.new ≡ contents.old) }
 {
-    let Phase::Committing(_, placed, Due::SyncGate) = &contents.phase else {
+    let Phase::Committing(_, placed, due) = &contents.phase else {
+        return Err(CoreFault::NotNow);
+    };
+    let Due::SyncGate = due else {
         return Err(CoreFault::NotNow);
     };
     let length = body_of_command(alloc, &placed.command)?.len();

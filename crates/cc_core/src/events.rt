@@ -353,12 +353,15 @@ pub(crate) fn acknowledge<P: Drop>(contents: &mut Contents<P>, client: u64) -> A
         → (reply : Option Reply) × (new : Contents P) × (Acknowledges contents.old client reply new) }
     ensures err { OnErr result (contents.new ≡ contents.old) }
 {
-    let Phase::Committing(committing, placed, Due::Acknowledge) = &contents.phase else {
+    let Phase::Committing(committing, placed, due) = &contents.phase else {
         return Err(CoreFault::NotNow);
     };
     if *committing != client {
         return Err(CoreFault::NotNow);
     }
+    let Due::Acknowledge = due else {
+        return Err(CoreFault::NotNow);
+    };
     contents.acknowledged.push(placed.again()?)?;
     if contents.library.apply(&placed.command).is_err() {
         contents.acknowledged.drop_last();
