@@ -1,3 +1,5 @@
+ghost use Rattle.std.specs.Prelude.{◌≤◌, ◌^◌};
+
 use crate::one_piece::OnePieceBuild;
 use crate::piece::{OnePiece, compiled};
 use cc_core::command::{Reply, Request};
@@ -111,10 +113,7 @@ fn look(
 
 #[test]
 fn two_clients_add_one_name(rt: HostRuntime) -> Result<(), Fail> {
-    let start = State::new(rt.alloc(), OnePieceBuild {}, AREA)?;
-    let Ok(mut state) = run_events(rt.alloc(), start, table(&rt)?) else {
-        return Err(Fail::from("out of memory"));
-    };
+    let mut state = run(&rt, table(&rt)?)?;
     look(&rt, &state, None, 0)?;
     expect(&rt, &mut state, Event::Begin(1), 29);
     look(&rt, &state, None, 0)?;
@@ -171,7 +170,7 @@ fn refused_by_the_library(
 
 #[test]
 fn begin_refuses(rt: HostRuntime) -> Result<(), Fail> {
-    let mut state = State::new(rt.alloc(), OnePieceBuild {}, AREA)?;
+    let mut state = start(&rt, AREA)?;
     refused_by_the_build(&rt, &mut state)?;
     refused_by_the_library(&rt, &mut state)?;
     look(&rt, &state, Some(b"x".as_slice()), 1)?;
@@ -224,7 +223,7 @@ fn while_taken(
 
 #[test]
 fn not_now(rt: HostRuntime) -> Result<(), Fail> {
-    let mut state = State::new(rt.alloc(), OnePieceBuild {}, AREA)?;
+    let mut state = start(&rt, AREA)?;
     too_early(&rt, &mut state)?;
     while_taken(&rt, &mut state)?;
     expect(&rt, &mut state, Event::Begin(1), 0);
@@ -244,33 +243,71 @@ fn until_begin(rt: &(impl Abort + AllocGlobal)) -> Result<Vec<Event<OnePiece>>, 
     Ok(events)
 }
 
+// A new state on a disk with areas of that size.
+fn start(rt: &(impl Abort + AllocGlobal), area: u32) -> Result<State<OnePieceBuild>, Fail>
+    requires least { 64 ≤ area }
+    requires most { area ≤ 2 ^ 30 }
+{
+    Ok(State::new(rt.alloc(), OnePieceBuild {}, area)?)
+}
+
 // The state after these events from the start.
 fn run(
     rt: &(impl Abort + AllocGlobal),
     events: Vec<Event<OnePiece>>,
 ) -> Result<State<OnePieceBuild>, Fail> {
-    let start = State::new(rt.alloc(), OnePieceBuild {}, AREA)?;
-    match run_events(rt.alloc(), start, events) {
+    match run_events(rt.alloc(), start(rt, AREA)?, events) {
         Ok(state) => Ok(state),
         Err(_) => Err(Fail::from("out of memory")),
     }
 }
 
-// A crash with these bytes at the places 16 to 79, and 0 elsewhere.
+// A crash with this byte at the places 0 to 79, and 0 behind them.
 fn crash(rt: &(impl Abort + AllocGlobal), byte: u8) -> Result<Event<OnePiece>, Fail> {
     let bytes = vec![in rt.alloc(); byte; 80]?;
     Ok(Event::Crash(Sequence::new(bytes)))
+}
+
+// The number of a device event of a commit, from 0, as the event.
+fn device_event(number: u32) -> Event<OnePiece> {
+    match number {
+        0 => Event::WriteBody,
+        1 => Event::SyncBody,
+        2 => Event::WriteGate,
+        _ => Event::SyncGate,
+    }
+}
+
+// The events up to Begin, so many device events, and one more.
+fn up_to(
+    rt: &(impl Abort + AllocGlobal),
+    done: u32,
+    last: Event<OnePiece>,
+) -> Result<Vec<Event<OnePiece>>, Fail> {
+    let mut events = until_begin(rt)?;
+    for number in 0..done {
+        events.push(device_event(number))?;
+    }
+    events.push(last)?;
+    Ok(events)
+}
+
+// The state after a crash behind these events, and the recovery.
+fn recovered(
+    rt: &(impl Abort + AllocGlobal),
+    mut events: Vec<Event<OnePiece>>,
+    byte: u8,
+) -> Result<State<OnePieceBuild>, Fail> {
+    events.push(crash(rt, byte)?)?;
+    events.push(Event::Recover)?;
+    run(rt, events)
 }
 
 // A crash behind the body's write alone leaves nothing, whatever it leaves of the body.
 #[test]
 fn crash_behind_the_body(rt: HostRuntime) -> Result<(), Fail> {
     for byte in [0x00u8, 0xa5, 0xff] {
-        let mut events = until_begin(&rt)?;
-        events.push(Event::WriteBody)?;
-        events.push(crash(&rt, byte)?)?;
-        events.push(Event::Recover)?;
-        let state = run(&rt, events)?;
+        let state = recovered(&rt, up_to(&rt, 0, Event::WriteBody)?, byte)?;
         look(&rt, &state, None, 0)?;
     }
     Ok(())
@@ -280,15 +317,7 @@ fn crash_behind_the_body(rt: HostRuntime) -> Result<(), Fail> {
 #[test]
 fn crash_behind_the_reply(rt: HostRuntime) -> Result<(), Fail> {
     for byte in [0x00u8, 0xa5, 0xff] {
-        let mut events = until_begin(&rt)?;
-        events.push(Event::WriteBody)?;
-        events.push(Event::SyncBody)?;
-        events.push(Event::WriteGate)?;
-        events.push(Event::SyncGate)?;
-        events.push(Event::Ack(1))?;
-        events.push(crash(&rt, byte)?)?;
-        events.push(Event::Recover)?;
-        let state = run(&rt, events)?;
+        let state = recovered(&rt, up_to(&rt, 4, Event::Ack(1))?, byte)?;
         look(&rt, &state, Some(b"one".as_slice()), 1)?;
     }
     Ok(())
@@ -297,48 +326,43 @@ fn crash_behind_the_reply(rt: HostRuntime) -> Result<(), Fail> {
 // A crash within the gate's write leaves the unit where it leaves the gate open, and nothing else; without a reply.
 #[test]
 fn crash_within_the_gate(rt: HostRuntime) -> Result<(), Fail> {
-    for byte in [0x00u8, 0xa5, 0xff] {
-        let mut events = until_begin(&rt)?;
-        events.push(Event::WriteBody)?;
-        events.push(Event::SyncBody)?;
-        events.push(Event::WriteGate)?;
-        events.push(crash(&rt, byte)?)?;
-        let mut state = run(&rt, events)?;
-        look(&rt, &state, None, 0)?;
-        expect(
-            &rt,
-            &mut state,
-            Event::Submit(4, 1, add(&rt, b"b", b"two")?),
-            29,
-        );
-        expect(&rt, &mut state, Event::Begin(1), 29);
-        expect(&rt, &mut state, Event::Recover, 0);
-        expect(&rt, &mut state, Event::Recover, 29);
-        let want = if byte == 0xa5 {
-            Some(b"one".as_slice())
-        } else {
-            None
-        };
-        look(&rt, &state, want, 0)?;
-    }
-    Ok(())
+    let open = recovered(&rt, up_to(&rt, 2, Event::WriteGate)?, 0xa5)?;
+    look(&rt, &open, Some(b"one".as_slice()), 0)?;
+    let closed = recovered(&rt, up_to(&rt, 2, Event::WriteGate)?, 0xff)?;
+    look(&rt, &closed, None, 0)
+}
+
+// From the crash until the recovery nothing else is possible, and the live map is empty.
+#[test]
+fn until_the_recovery(rt: HostRuntime) -> Result<(), Fail> {
+    let mut state = run(&rt, up_to(&rt, 2, Event::WriteGate)?)?;
+    expect(&rt, &mut state, crash(&rt, 0xa5)?, 0);
+    look(&rt, &state, None, 0)?;
+    let request = add(&rt, b"b", b"two")?;
+    expect(&rt, &mut state, Event::Submit(4, 1, request), 29);
+    expect(&rt, &mut state, Event::Begin(1), 29);
+    expect(&rt, &mut state, Event::SyncGate, 29);
+    expect(&rt, &mut state, Event::Recover, 0);
+    expect(&rt, &mut state, Event::Recover, 29);
+    look(&rt, &state, Some(b"one".as_slice()), 0)
 }
 
 // A failed step answers 35, and every later commit 36, until the disk is opened again.
 #[test]
 fn failed_step(rt: HostRuntime) -> Result<(), Fail> {
-    let mut events = until_begin(&rt)?;
-    events.push(Event::WriteBody)?;
-    let mut state = run(&rt, events)?;
+    let mut state = run(&rt, up_to(&rt, 0, Event::WriteBody)?)?;
     expect(&rt, &mut state, Event::Fail, 35);
-    look(&rt, &state, None, 0)?;
     expect(&rt, &mut state, Event::SyncBody, 29);
     expect(&rt, &mut state, Event::Fail, 29);
     prepare(&rt, &mut state, add(&rt, b"b", b"two")?, b"two")?;
     expect(&rt, &mut state, Event::Begin(7), 36);
-    expect(&rt, &mut state, crash(&rt, 0xa5)?, 0);
-    expect(&rt, &mut state, Event::Recover, 0);
-    look(&rt, &state, None, 0)?;
+    look(&rt, &state, None, 0)
+}
+
+// Behind the recovery commits are possible again.
+#[test]
+fn commits_behind_a_recovery(rt: HostRuntime) -> Result<(), Fail> {
+    let mut state = recovered(&rt, up_to(&rt, 0, Event::Fail)?, 0xa5)?;
     prepare(&rt, &mut state, add(&rt, b"a", b"two")?, b"two")?;
     expect(&rt, &mut state, Event::Begin(7), 0);
     commit(&rt, &mut state, 7);
@@ -348,28 +372,13 @@ fn failed_step(rt: HostRuntime) -> Result<(), Fail> {
 // Each step of a commit fails in its turn: nothing is acknowledged, and what is recovered is the map with the unit or without.
 #[test]
 fn each_step_fails(rt: HostRuntime) -> Result<(), Fail> {
-    for done in 0..4u32 {
-        let mut events = until_begin(&rt)?;
-        if done > 0 {
-            events.push(Event::WriteBody)?;
-        }
-        if done > 1 {
-            events.push(Event::SyncBody)?;
-        }
-        if done > 2 {
-            events.push(Event::WriteGate)?;
-        }
-        events.push(Event::Fail)?;
-        events.push(Event::Ack(1))?;
-        events.push(crash(&rt, 0xa5)?)?;
-        events.push(Event::Recover)?;
-        let state = run(&rt, events)?;
-        let want = if done > 1 {
-            Some(b"one".as_slice())
-        } else {
-            None
-        };
-        look(&rt, &state, want, 0)?;
+    for done in 0..2u32 {
+        let state = recovered(&rt, up_to(&rt, done, Event::Fail)?, 0xa5)?;
+        look(&rt, &state, None, 0)?;
+    }
+    for done in 2..4u32 {
+        let state = recovered(&rt, up_to(&rt, done, Event::Fail)?, 0xa5)?;
+        look(&rt, &state, Some(b"one".as_slice()), 0)?;
     }
     Ok(())
 }
@@ -378,7 +387,7 @@ fn each_step_fails(rt: HostRuntime) -> Result<(), Fail> {
 // 8 of the one code word, 4 of no globals. An area of 64 bytes has room for two and their closed gate, and not for three.
 #[test]
 fn full_area(rt: HostRuntime) -> Result<(), Fail> {
-    let mut state = State::new(rt.alloc(), OnePieceBuild {}, 64)?;
+    let mut state = start(&rt, 64)?;
     prepare(&rt, &mut state, add(&rt, b"a", b"one")?, b"one")?;
     expect(&rt, &mut state, Event::Begin(7), 0);
     commit(&rt, &mut state, 7);
