@@ -1,6 +1,6 @@
 -- The instruction of an instruction's word is that instruction, and the word of a word's instruction is that word.
 -- The fields of a word made of fields are those fields, by linear arithmetic; the table then computes.
-use Rattle.std.proofs.Common.{◌≡◌, ℕ, ◌+◌, ◌-◌, ◌*◌, ◌/◌, ◌%◌, ◌^◌, ◌<◌, Option, Some, None, option_map, refl, sym, ap, ◌∙◌, lit<, arith}
+use Rattle.std.proofs.Common.{◌≡◌, ℕ, ◌+◌, ◌*◌, ◌%◌, ◌^◌, ◌<◌, Some, refl, ap, ◌∙◌, lit<, arith}
 use Rattle.std.proofs.lemmas.Bool.Decides.{nat_tests}
 use Rattle.cc_rv32.specs.declared.instr.Instr.{Instr}
 use Rattle.cc_rv32.specs.declared.instr.Instr.TheVariants.{Op, OpImm, Shift, Load, Store, Branch, Lui, Auipc, Jal, Jalr, Ecall}
@@ -17,7 +17,7 @@ use Rattle.cc_rv32.specs.declared.instr.StoreOperation.TheVariants.{Sb, Sh, Sw}
 use Rattle.cc_rv32.specs.declared.instr.BranchOperation.{BranchOperation}
 use Rattle.cc_rv32.specs.declared.instr.BranchOperation.TheVariants.{Beq, Bne, Blt, Bge, Bltu, Bgeu}
 use Rattle.cc_rv32.specs.Fields.{bits, opcode, rd, funct3, rs1, rs2, funct7, sign_extended, immediate_I, immediate_S, immediate_B, immediate_U, immediate_J, IsImmediate, IsBranchOffset, IsJumpOffset}
-use Rattle.cc_rv32.specs.Table.{operation_of, immediate_operation_of, shift_operation_of, load_operation_of, store_operation_of, branch_operation_of, instruction_of, operation_funct3, operation_funct7, immediate_operation_funct3, shift_operation_funct3, shift_operation_funct7, load_operation_funct3, store_operation_funct3, branch_operation_funct3, fields_word, immediate_word, upper_word, encoding_of, IsEncodable}
+use Rattle.cc_rv32.specs.Table.{operation_of, immediate_operation_of, load_operation_of, store_operation_of, branch_operation_of, instruction_of, operation_funct3, operation_funct7, immediate_operation_funct3, shift_operation_funct3, shift_operation_funct7, load_operation_funct3, store_operation_funct3, branch_operation_funct3, fields_word, immediate_word, upper_word, encoding_of, IsEncodable}
 
 -- the six fields of a word
 pub record HasFields (w o d f3 s1 s2 f7 : ℕ) : Type 0 where

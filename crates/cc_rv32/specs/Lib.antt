@@ -2,6 +2,7 @@ pub mod Fields
 pub mod Table
 pub mod Machine
 pub mod Lowered
+pub mod Shown
 pub mod Simulated
 pub mod Simulation
 pub mod Listing

@@ -1,5 +1,5 @@
 -- In each arm the word is the table's, and the instruction of that word is the instruction.
-use Rattle.std.proofs.Common.{◌≡◌, Some, refl, sym, ap, ◌∙◌}
+use Rattle.std.proofs.Common.{Some, sym, ap, ◌∙◌}
 use Rattle.cc_rv32.specs.Table.{instruction_of, encoding_of}
 use Rattle.cc_rv32.proofs.RoundTrip.{decoded}
 use Rattle.cc_rv32.proofs.encode.encode.Goals as goal

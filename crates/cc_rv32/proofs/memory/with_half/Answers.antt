@@ -1,5 +1,5 @@
 -- At each place of the part the shift is a constant, and the rest is linear arithmetic.
-use Rattle.std.proofs.Common.{ℕ, ◌≡◌, ◌<◌, ◌≤◌, ◌⊎◌, inl, inr, ◌+◌, ◌-◌, ◌*◌, ◌/◌, ◌%◌, ◌^◌, subst, sym, arith, bit_and, Fits, w32}
+use Rattle.std.proofs.Common.{ℕ, ◌≡◌, ◌<◌, ◌≤◌, ◌⊎◌, inl, inr, ◌+◌, ◌-◌, ◌*◌, ◌/◌, ◌%◌, ◌^◌, subst, sym, arith, bit_and}
 use Rattle.std.proofs.lemmas.Nat.{and_mask}
 use Rattle.cc_rv32.specs.Machine.{with_part}
 use Rattle.cc_rv32.proofs.memory.with_half.Goals as goal
