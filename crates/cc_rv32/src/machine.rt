@@ -50,7 +50,7 @@ impl Machine {
         ensures code { self.new.code ≡ self.old.code }
         ensures run { IfOk result (λ outcome. shown_run self.new ≡ machine_run self.old.code 1 (shown_run self.old)) }
         ensures outcome { IfOk result (λ outcome. outcome ≡ self.new.outcome) }
-        ensures refused { OnErr result ((self.new ≡ self.old) × IsWrite self.new.code (shown_run self.new)) }
+        ensures refused { OnErr result ((shown_run self.new ≡ shown_run self.old) × IsWrite self.new.code (shown_run self.new)) }
     {
         self.run(1)
     }
@@ -68,10 +68,10 @@ impl Machine {
             × IsWrite self.new.code (shown_run self.new)) }
     {
         let simulator = &mut self.simulator;
-        match run_for(simulator, steps) {
-            Ok(()) => Ok(simulator.outcome),
-            Err(_) => Err(MachineFault::OutOfMemory),
-        }
+        let Ok(()) = run_for(simulator, steps) else {
+            return Err(MachineFault::OutOfMemory);
+        };
+        Ok(simulator.outcome)
     }
 
     /// The words that it has written so far, the oldest first. Takes no memory.
