@@ -1,7 +1,7 @@
 //! The simulator: an image, run on an input, a number of instructions at a time.
 
-ghost use Rattle.std.specs.Prelude.{◌≡◌, ◌+◌, ◌<◌, ℕ, List, IfOk, OnErr};
-ghost use Rattle.cc_rv32.specs.Machine.{machine_run, machine_behavior, start};
+ghost use Rattle.std.specs.Prelude.{◌≡◌, ◌≢◌, ◌+◌, ◌<◌, ℕ, List, IfOk, OnErr};
+ghost use Rattle.cc_rv32.specs.Machine.{Run, machine_run, machine_behavior, start};
 ghost use Rattle.cc_rv32.specs.Simulation.{shown_run, IsAfter};
 ghost use Rattle.cc_rv32.specs.Simulated.{IsWrite};
 
@@ -83,3 +83,10 @@ impl Machine {
         self.simulator.output.as_slice()
     }
 }
+
+/// What `m` and then `n` instructions come to is what `m + n` do, whatever the code and the run so far; and a run that has
+/// exited or trapped stays as it is, its state too.
+pub fn runs_go_on()
+    ensures additive { (code : List ℕ) (m n : ℕ) (r : Run) → machine_run code (m + n) r ≡ machine_run code n (machine_run code m r) }
+    ensures ended { (code : List ℕ) (n : ℕ) (r : Run) → r.outcome ≢ MachineOutcome.Going → machine_run code n r ≡ r }
+{}
