@@ -494,3 +494,38 @@ fn traps_outside_the_code(rt: HostRuntime) -> Result<(), Fail> {
     assert_eq!(rt; outcome, MachineOutcome::Trapped);
     Ok(())
 }
+
+// A store that is misaligned traps: what was written before stays, and nothing else comes.
+#[test]
+fn keeps_the_output_after_a_trap(rt: HostRuntime) -> Result<(), Fail> {
+    // addi x10, x0, 7; then a write; sw x10, -2(x2); another write
+    let code = [0x00700513, WRITE, ECALL, 0xfea12f23, ECALL];
+    let image = image_of(rt.alloc(), &code, &[])?;
+    let mut machine = Machine::new(rt.alloc(), &image, &[])?;
+    assert_eq!(rt; machine.run(3)?, MachineOutcome::Going);
+    assert_eq!(rt; machine.run(100)?, MachineOutcome::Trapped);
+    assert_eq!(rt; machine.output(), [7].as_slice());
+    assert_eq!(rt; machine.run(100)?, MachineOutcome::Trapped);
+    assert_eq!(rt; machine.output(), [7].as_slice());
+    Ok(())
+}
+
+// The globals of the image come first, and the last of the 65,536 words can be reached, the one behind it not.
+#[test]
+fn reaches_the_globals_to_their_ends(rt: HostRuntime) -> Result<(), Fail> {
+    // lui x8, 0x240; sw x8, -4(x8); lw x10, -4(x8)
+    let code = [
+        0x00240437, 0xfe842e23, 0xffc42503, WRITE, ECALL, EXIT, ECALL,
+    ];
+    assert_eq!(rt;
+        first_word(rt.alloc(), &code, &[5], &[])?.0,
+        Some(0x0024_0000)
+    );
+    // sw x8, 0(x8)
+    let code = [0x00240437, 0x00842023, WRITE, ECALL];
+    assert_eq!(rt;
+        first_word(rt.alloc(), &code, &[5], &[])?.1,
+        MachineOutcome::Trapped
+    );
+    Ok(())
+}
