@@ -7,3 +7,4 @@ pub mod Simulates
 pub mod Running
 pub mod Serving
 pub mod Starting
+pub mod Digits

@@ -7,8 +7,10 @@
 pub mod decode;
 pub mod encode;
 mod execute;
+pub mod fault;
 pub mod image;
 pub mod instr;
+pub mod listing;
 mod lowered;
 mod memory;
 pub mod operand;
