@@ -3,6 +3,6 @@
 #![tactic(auto)]
 
 #[cfg(test)]
-mod tests;
-#[cfg(test)]
 mod listing_tests;
+#[cfg(test)]
+mod tests;

@@ -4,6 +4,7 @@ use cc_rv32::encode::encode;
 use cc_rv32::image::{Code, Globals, Image, MOST_CODE};
 use cc_rv32::listing::list;
 use std::alloc::Global;
+use std::process::Abort;
 use std::test::Fail;
 
 // One word of each kind of operand, and one that is no instruction.
@@ -23,7 +24,7 @@ fn lists_each_kind_of_word(rt: HostRuntime) -> Result<(), Fail> {
         (0x05d00893, "addi x17, x0, 93"),
         (0x00000073, "ecall"),
     ] {
-        check_line(&rt, word, text)?;
+        check_line(&rt, rt.alloc(), word, text)?;
     }
     Ok(())
 }
@@ -79,7 +80,7 @@ fn lists_each_instruction(rt: HostRuntime) -> Result<(), Fail> {
         (0x800100e7, "jalr x1, -2048(x2)"),
         (0x7ff201e7, "jalr x3, 2047(x4)"),
     ] {
-        check_line(&rt, word, text)?;
+        check_line(&rt, rt.alloc(), word, text)?;
     }
     Ok(())
 }
@@ -105,12 +106,13 @@ fn lists_the_longest_code(rt: HostRuntime) -> Result<(), Fail> {
     Ok(())
 }
 
-fn check_line(rt: &HostRuntime, word: u32, text: &str) -> Result<(), Fail> {
+fn check_line(rt: &impl Abort, alloc: Global, word: u32, text: &str) -> Result<(), Fail> {
     let again = decode(word).map(encode);
-    assert_eq!(rt; again, if text == ".word" { None } else { Some(word) }, "at {word:08x}");
-    let code = vec![in rt.alloc(); word]?;
-    let listed = list(rt.alloc(), &image_of(code, Vec::new(rt.alloc()))?)?;
-    let line = format!(in rt.alloc(); "00010000 {word:08x} {text}\n")?;
+    let known = if text == ".word" { None } else { Some(word) };
+    assert_eq!(rt; again, known, "at {word:08x}");
+    let code = vec![in alloc; word]?;
+    let listed = list(alloc, &image_of(code, Vec::new(alloc))?)?;
+    let line = format!(in alloc; "00010000 {word:08x} {text}\n")?;
     assert_eq!(rt; listed.as_slice(), line.as_bytes(), "at {word:08x}");
     Ok(())
 }
