@@ -1,6 +1,6 @@
 -- The digits of a word in base 16, one more at a time: where the highest digits of a word are written, the next one
 -- behind them makes one more, and eight of them are the word's.
-use Rattle.std.proofs.Common.{◌≡◌, ℕ, suc, ◌+◌, ◌-◌, ◌*◌, ◌/◌, ◌%◌, ◌^◌, ◌<◌, ◌≤◌, List, [], ◌∷◌, ◌++◌, refl, sym, ◌∙◌, ap, arith, add-one, append_assoc, bit_and}
+use Rattle.std.proofs.Common.{◌≡◌, ℕ, ◌+◌, ◌-◌, ◌*◌, ◌/◌, ◌%◌, ◌^◌, ◌<◌, List, [], ◌∷◌, ◌++◌, sym, ◌∙◌, ap, arith, add-one, append_assoc, bit_and}
 use Rattle.std.proofs.Math.Nat.{div-div-eq-div-mul, div-one}
 use Rattle.std.proofs.lemmas.Nat.{pow-add, and_mask}
 use Rattle.cc_rv32.specs.Listing.{hexadecimal, hexadecimal_digit}

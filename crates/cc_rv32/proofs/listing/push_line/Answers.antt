@@ -1,5 +1,5 @@
 -- The parts of a line, written one behind the other, are the line.
-use Rattle.std.proofs.Common.{◌≡◌, List, ◌++◌, ℕ, ◌∙◌, ap, append_assoc, Result, Ok, Err, is_ok, OnOk, if◌then◌else◌, string_bytes, codes}
+use Rattle.std.proofs.Common.{◌≡◌, List, ◌++◌, ℕ, ◌∙◌, append_assoc, Result, Ok, Err, is_ok, OnOk, if◌then◌else◌, string_bytes, codes}
 use Rattle.cc_rv32.specs.Table.{instruction_of}
 use Rattle.cc_rv32.specs.Listing.{line, hexadecimal, word_text}
 use Rattle.cc_rv32.proofs.listing.push_line.Goals as goal
@@ -26,5 +26,5 @@ returns c =
     let instruction : List ℕ = word_text (instruction_of c.args.word) in
     ended c.push_str-3.result (string_bytes c.push_instruction.new.text) (codes "\n") (string_bytes c.push_str-3.new.self) (before ++ line c.args.address c.args.word) c.push_str-3.ensures.bytes
     (gathered before address (codes " ") word (codes " ") instruction (codes "\n")
-      (string_bytes c.push_hexadecimal.new.text) (string_bytes c.push_str.new.self) (string_bytes c.push_hexadecimal-2.new.text) (string_bytes c.push_str-2.new.self) (string_bytes c.push_instruction.new.text)
-      c.in_ok-push_hexadecimal.ensures c.in_ok-push_str.ensures.bytes c.in_ok-push_hexadecimal-2.ensures c.in_ok-push_str-2.ensures.bytes c.in_ok-push_instruction.ensures)
+    (string_bytes c.push_hexadecimal.new.text) (string_bytes c.push_str.new.self) (string_bytes c.push_hexadecimal-2.new.text) (string_bytes c.push_str-2.new.self) (string_bytes c.push_instruction.new.text)
+    c.in_ok-push_hexadecimal.ensures c.in_ok-push_str.ensures.bytes c.in_ok-push_hexadecimal-2.ensures c.in_ok-push_str-2.ensures.bytes c.in_ok-push_instruction.ensures)
