@@ -12,3 +12,4 @@ pub mod Advancing
 pub mod Padding
 pub mod After
 pub mod Turning
+pub mod Digits

@@ -10,6 +10,7 @@ mod execute;
 pub mod fault;
 pub mod image;
 pub mod instr;
+pub mod listing;
 mod lowered;
 pub mod machine;
 mod memory;
