@@ -1,7 +1,7 @@
 // The disk that fails on purpose, once or for good, after a number of calls.
 ghost use Rattle.std.specs.Prelude.{◌≡◌, ◌+◌, ◌-◌, ◌^◌, ◌≤◌, min, Bool, true, false, IsTrue, List, ℕ, length, take, drop, OnOk, OnErr, IsErr, is_ok, Some, if◌then◌else◌};
 ghost use Rattle.cc_disk.specs.Images.{IsWritten, DiffersWithin, UnsettlesWithin, AddsNone, LeavesAlone, Elapses};
-ghost use Rattle.cc_disk.specs.Fuse.{course_of, after_call};
+ghost use Rattle.cc_disk.specs.Fuse.{course_of, after_call, ReachesAndFails};
 
 use crate::count::FailureCount;
 use crate::disk::{Disk, DiskFault};
@@ -130,9 +130,10 @@ impl<D: Disk> Disk for FuseDisk<D> {
         // The mode decides, by how many calls came before.
         ensures fuse { self.new.ahead ≡ after_call self.old.ahead }
         ensures mode { self.new.mode ≡ self.old.mode }
-        ensures passes { course_of self.old.mode self.old.ahead false ≡ Course.Passes → self.new.failed ≡ self.old.failed }
+        ensures passes { course_of self.old.mode self.old.ahead false ≡ Course.Passes → (self.new.failed ≡ self.old.failed)
+            × D.reads self.old.disk place buffer.old (is_ok result) buffer.new self.new.disk }
         ensures fails { course_of self.old.mode self.old.ahead false ≡ Course.Fails
-            → IsErr result × (self.new.disk ≡ self.old.disk) }
+            → IsErr result × (self.new.disk ≡ self.old.disk) × (buffer.new ≡ buffer.old) }
     {
         let course = next_course(self.mode, self.ahead, false);
         self.ahead = one_less(self.ahead);
@@ -161,12 +162,15 @@ impl<D: Disk> Disk for FuseDisk<D> {
         // The mode decides, by how many calls came before.
         ensures fuse { self.new.ahead ≡ after_call self.old.ahead }
         ensures mode { self.new.mode ≡ self.old.mode }
-        ensures passes { course_of self.old.mode self.old.ahead true ≡ Course.Passes → self.new.failed ≡ self.old.failed }
+        ensures passes { course_of self.old.mode self.old.ahead true ≡ Course.Passes → (self.new.failed ≡ self.old.failed)
+            × D.writes self.old.disk place bytes.now (is_ok result) self.new.disk }
         ensures fails { course_of self.old.mode self.old.ahead true ≡ Course.Fails
             → IsErr result × (self.new.disk ≡ self.old.disk) }
-        ensures reaches { course_of self.old.mode self.old.ahead true ≡ Course.WritesAndFails
-            → IsErr result × ((D.failures self.new.disk ≡ D.failures self.old.disk) → IsTrue D.honest
-            → IsWritten (D.seen self.old.disk) place bytes.now (D.seen self.new.disk)) }
+        ensures reaches { course_of self.old.mode self.old.ahead true ≡ Course.WritesAndFails → IsErr result
+            × ReachesAndFails (D.writes self.old.disk place bytes.now) (D.failures self.old.disk) (D.failures self.new.disk) self.new.disk }
+        ensures reached { course_of self.old.mode self.old.ahead true ≡ Course.WritesAndFails
+            → (D.failures self.new.disk ≡ D.failures self.old.disk) → IsTrue D.honest
+            → IsWritten (D.seen self.old.disk) place bytes.now (D.seen self.new.disk) }
     {
         let course = next_course(self.mode, self.ahead, true);
         self.ahead = one_less(self.ahead);
@@ -198,7 +202,8 @@ impl<D: Disk> Disk for FuseDisk<D> {
         // The mode decides, by how many calls came before.
         ensures fuse { self.new.ahead ≡ after_call self.old.ahead }
         ensures mode { self.new.mode ≡ self.old.mode }
-        ensures passes { course_of self.old.mode self.old.ahead false ≡ Course.Passes → self.new.failed ≡ self.old.failed }
+        ensures passes { course_of self.old.mode self.old.ahead false ≡ Course.Passes → (self.new.failed ≡ self.old.failed)
+            × D.syncs self.old.disk (is_ok result) self.new.disk }
         ensures fails { course_of self.old.mode self.old.ahead false ≡ Course.Fails
             → IsErr result × (self.new.disk ≡ self.old.disk) }
     {
