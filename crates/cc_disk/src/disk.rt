@@ -32,6 +32,9 @@ impl DiskFault {
 ///
 /// These rules are the promise of an honest kind of disk, and the clauses below say them under `honest`. Of another kind
 /// only the size and the count of failures are known. An image is what a crash may leave.
+///
+/// A kind may say more of its calls than the rules: its own model, by `reads`, `writes` and `syncs`. A disk over another
+/// one then says which of its calls are the other's.
 pub trait Disk {
     /// How many bytes it has.
     ghost size: { Self → ℕ };
