@@ -5,7 +5,7 @@ use cc_core::event::Event;
 use cc_core::fault::{BuildFault, CoreFault, NameFault};
 use cc_core::name::Name;
 use cc_core::sequence::Sequence;
-use cc_core::state::{State, run_events};
+use cc_core::state::{State, replay_law, run_events};
 use std::alloc::{AllocError, Global};
 use std::process::Abort;
 use std::test::Fail;
@@ -255,4 +255,21 @@ fn names_and_numbers(rt: HostRuntime) -> Result<(), Fail> {
     assert_eq!(rt; list.get(3).copied(), None);
     assert_eq!(rt; list.into_vec().as_slice(), b"xyz".as_slice());
     Ok(())
+}
+
+// Names compare by their bytes, and one that was cloned is the same.
+#[test]
+fn names_in_order(rt: HostRuntime) -> Result<(), Fail> {
+    let a = name(&rt, b"a")?;
+    let longer = name(&rt, b"a_")?;
+    let b = name(&rt, b"b")?;
+    assert!(rt; a < longer && longer < b && a != b);
+    assert!(rt; a.clone()? == a);
+    Ok(())
+}
+
+// The law of a run holds of this build too.
+#[test]
+fn replaying_the_order() {
+    replay_law::<OnePieceBuild>();
 }
