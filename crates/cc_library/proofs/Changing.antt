@@ -1,0 +1,50 @@
+-- A change of the map in two halves, as a library makes it: what needs memory first, the rest when the journal has answered.
+use Rattle.std.proofs.Common.{◌≡◌, Bool, true, false, cond, refl, ap, ◌∙◌, ℕ}
+use Rattle.std.specs.Prelude.{None, Result, Ok, Err, IsOk}
+use Rattle.std.specs.Cmp.Lexicographic.{nat_list_cmp_total}
+use Rattle.std.specs.FinMap as map
+use Rattle.cc_library.specs.declared.command.Command.{Command}
+use Rattle.cc_library.specs.declared.command.Command.TheVariants.{Add, Replace, Withdraw}
+use Rattle.cc_library.specs.Apply.{Units, apply, after, kept, refusal, exists, absent, begun, finished, undone}
+use Rattle.cc_library.proofs.Tables.{put_and_taken}
+
+-- no number refuses what is accepted, and the other way round
+pub is_accepted : (answer : Result Units ℕ) → refusal answer ≡ None → IsOk answer
+is_accepted (Ok made) e = refl
+is_accepted (Err number) e = absurd (cc e)
+
+added : (there : Bool) (units made : Units) → IsOk {T = Units} {E = ℕ} (cond there (Err exists) (Ok made)) → made ≡ kept units (cond there (Err exists) (Ok made))
+added true units made ok = absurd (cc ok)
+added false units made ok = refl
+
+replaced : (there : Bool) (units made : Units) → cond there made units ≡ kept units (cond there (Ok made) (Err absent))
+replaced true units made = refl
+replaced false units made = refl
+
+withdrawn : (there : Bool) (units made : Units) → IsOk {T = Units} {E = ℕ} (cond there (Ok made) (Err absent)) → made ≡ kept units (cond there (Ok made) (Err absent))
+withdrawn true units made ok = refl
+withdrawn false units made ok = absurd (cc ok)
+
+-- a change that is begun and finished is done
+pub finished_is : (units : Units) (command : Command) → IsOk (apply units command) → finished (begun units command) command ≡ after units command
+finished_is units (Add name unit) ok = added (map.contains_key units name) units (map.insert units name unit) ok
+finished_is units (Replace name unit) ok = replaced (map.contains_key units name) units (map.insert units name unit)
+finished_is units (Withdraw name) ok = withdrawn (map.contains_key units name) units (map.remove units name) ok
+
+was_absent : (there : Bool) (made : Units) → IsOk {T = Units} {E = ℕ} (cond there (Err exists) (Ok made)) → there ≡ false
+was_absent true made ok = absurd (cc ok)
+was_absent false made ok = refl
+
+-- one that is begun and undone leaves the map
+pub undone_is : (units : Units) (command : Command) → IsOk (apply units command) → undone (begun units command) command ≡ units
+undone_is units (Add name unit) ok =
+    put_and_taken nat_list_cmp_total (map.slice_cmp-IsAntisymmetric map.nat_cmp-IsAntisymmetric) units name unit
+    (was_absent (map.contains_key units name) (map.insert units name unit) ok)
+undone_is units (Replace name unit) ok = refl
+undone_is units (Withdraw name) ok = refl
+
+pub done_is : (units mid new : Units) (command : Command) → IsOk (apply units command) → mid ≡ begun units command → new ≡ finished mid command → new ≡ after units command
+done_is units mid new command ok begins ends = ends ∙ ap (λ (m : Units). finished m command) begins ∙ finished_is units command ok
+
+pub back_is : (units mid new : Units) (command : Command) → IsOk (apply units command) → mid ≡ begun units command → new ≡ undone mid command → new ≡ units
+back_is units mid new command ok begins ends = ends ∙ ap (λ (m : Units). undone m command) begins ∙ undone_is units command ok

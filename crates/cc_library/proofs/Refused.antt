@@ -1,0 +1,63 @@
+-- A change that was refused: without a device call every image recovers to the old map still; and what a change leaves that
+-- the journal refused, and whether the library is closed then.
+use Rattle.std.proofs.Common.{◌≡◌, ◌≢◌, ℕ, List, Bool, true, false, IsTrue, sym, ap, subst, ◌∙◌, refl}
+use Rattle.std.specs.Prelude.{Err}
+use Rattle.cc_disk.specs.Images.{LeavesOnly}
+use Rattle.cc_journal.specs.Format.{HoldsAlone}
+use denote.Enum.Bare.{sameb}
+use Rattle.cc_journal.specs.contracts.fault.JournalFault.{the_type}
+use Rattle.cc_journal.specs.declared.fault.JournalFault.{JournalFault}
+use Rattle.cc_journal.specs.declared.fault.JournalFault.TheVariants as journal
+use Rattle.cc_journal.specs.Reading as journals
+use Rattle.cc_library.specs.declared.command.Command.{Command}
+use Rattle.cc_library.specs.Faults.{fault_of}
+use Rattle.cc_library.specs.Apply.{Units, after}
+use Rattle.cc_library.specs.Body.{body_of}
+use Rattle.cc_library.specs.Recovered.{StandFor, IsOldOrNew, View}
+use Rattle.cc_library.specs.Answers.{ChangeLeaves}
+use Rattle.cc_library.proofs.Standing.{quiet}
+
+module _ {D : Type 0} where
+  -- what contracts see of a library with this journal and this map
+  abbrev pub seen_as : journals.View D → Units → Bool → View D
+  seen_as j units closed = record { disk = j.disk; area = j.area; bodies = j.bodies; units = units; closed = closed }
+
+  -- without a device call
+  pub quiet_change : (honest : Bool) (moment : D → ℕ) (left_since : D → ℕ → List ℕ → Type 0) (may_leave : D → List ℕ → Type 0) (j : journals.View D) (units : Units) (closed : Bool) (old : View D) (command : Command)
+      → seen_as j units closed ≡ old → StandFor j.bodies units → closed ≡ j.closed
+      → (IsTrue honest → j.closed ≡ false → (image : List ℕ) → may_leave j.disk image → HoldsAlone image j.area j.bodies)
+      → (IsTrue honest → (image : List ℕ) → left_since j.disk (moment j.disk) image → may_leave j.disk image) → (d : D) → d ≡ j.disk
+      → IsTrue honest → old.closed ≡ false → LeavesOnly moment left_since old.disk d (IsOldOrNew old.area old.bodies old.units (body_of command) (after old.units command))
+  quiet_change honest moment left_since may_leave j units closed old command is stand same kept only_now d d_is =
+      subst (λ (v : View D). IsTrue honest → v.closed ≡ false → LeavesOnly moment left_since v.disk d (IsOldOrNew v.area v.bodies v.units (body_of command) (after v.units command))) is
+      (λ h not_closed. subst (λ (e : D). LeavesOnly moment left_since j.disk e (IsOldOrNew j.area j.bodies units (body_of command) (after units command))) (sym d_is)
+      (quiet moment left_since may_leave j.disk j.area j.bodies units (body_of command) (after units command) (kept h (sym same ∙ not_closed)) (only_now h) stand))
+
+  still_open : (old new : journals.View D) (is_fault : Bool) → is_fault ≡ false → old.closed ≡ false → new ≡ old → is_fault ≡ new.closed
+  still_open old new is_fault e was same = e ∙ sym (ap (λ (j : journals.View D). j.closed) same ∙ was)
+
+  -- the library is closed exactly where its journal is
+  pub closed_is : (fault : JournalFault) (is_fault : Bool) (old new : journals.View D) → is_fault ≡ sameb the_type fault journal.DiskFault → old.closed ≡ false
+      → (fault ≢ journal.DiskFault → new ≡ old) → (fault ≡ journal.DiskFault → new.closed ≡ true) → is_fault ≡ new.closed
+  closed_is journal.DiskFault is_fault old new e was untouched closes = e ∙ sym (closes refl)
+  closed_is journal.Full is_fault old new e was untouched closes = still_open old new is_fault e was (untouched (λ p. cc p))
+  closed_is journal.Closed is_fault old new e was untouched closes = still_open old new is_fault e was (untouched (λ p. cc p))
+  closed_is journal.Damaged is_fault old new e was untouched closes = still_open old new is_fault e was (untouched (λ p. cc p))
+  closed_is journal.NotALibrary is_fault old new e was untouched closes = still_open old new is_fault e was (untouched (λ p. cc p))
+  closed_is journal.OutOfMemory is_fault old new e was untouched closes = still_open old new is_fault e was (untouched (λ p. cc p))
+
+  untouched_is : (old new : journals.View D) (units made : Units) (closed is_fault : Bool) → made ≡ units → new ≡ old → is_fault ≡ false → closed ≡ false → seen_as new made is_fault ≡ seen_as old units closed
+  untouched_is old new units made closed is_fault back same e was =
+      let c : is_fault ≡ closed = e ∙ sym was in
+      λ i. seen_as (same i) (back i) (c i)
+
+  pub leaves_err : (fault : JournalFault) (command : Command) (old new : journals.View D) (units made : Units) (closed is_fault : Bool) → made ≡ units
+      → (fault ≢ journal.DiskFault → new ≡ old) → new.bodies ≡ old.bodies → new.area ≡ old.area → is_fault ≡ sameb the_type fault journal.DiskFault → closed ≡ false
+      → ChangeLeaves {T = Unit {0}} command (seen_as old units closed) (seen_as new made is_fault) (Err (fault_of fault))
+  leaves_err journal.DiskFault command old new units made closed is_fault back untouched bodies area e was =
+      λ i. record { disk = new.disk; area = area i; bodies = bodies i; units = back i; closed = e i }
+  leaves_err journal.Full command old new units made closed is_fault back untouched bodies area e was = untouched_is old new units made closed is_fault back (untouched (λ p. cc p)) e was
+  leaves_err journal.Closed command old new units made closed is_fault back untouched bodies area e was = untouched_is old new units made closed is_fault back (untouched (λ p. cc p)) e was
+  leaves_err journal.Damaged command old new units made closed is_fault back untouched bodies area e was = untouched_is old new units made closed is_fault back (untouched (λ p. cc p)) e was
+  leaves_err journal.NotALibrary command old new units made closed is_fault back untouched bodies area e was = untouched_is old new units made closed is_fault back (untouched (λ p. cc p)) e was
+  leaves_err journal.OutOfMemory command old new units made closed is_fault back untouched bodies area e was = untouched_is old new units made closed is_fault back (untouched (λ p. cc p)) e was

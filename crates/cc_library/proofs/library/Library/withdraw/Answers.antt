@@ -1,0 +1,25 @@
+-- The change tells the records of each image as well; here the maps are enough.
+use Rattle.cc_library.specs.declared.command.Command.TheVariants.{Withdraw}
+use Rattle.cc_library.specs.Apply.{after}
+use Rattle.cc_library.specs.Body.{body_of}
+use Rattle.cc_library.specs.Recovered.{RecoversOneOf}
+use Rattle.cc_library.proofs.Standing.{maps_alone}
+use Rattle.cc_library.proofs.Running.{of_now}
+use Rattle.cc_library.proofs.library.Library.withdraw.Goals as goal
+
+pub returns-clause-moments : goal.returns-clause-moments
+returns-clause-moments g c =
+    let D = g.D.Disk in
+    let old = c.args.self.now in
+    let new = c.change.new.self in
+    λ h not_closed. maps_alone D.moment D.left_since old.disk new.disk old.area old.bodies old.units (body_of (Withdraw c.args.name)) (after old.units (Withdraw c.args.name)) (c.change.ensures.moments h not_closed)
+
+pub returns-clause-images : goal.returns-clause-images
+returns-clause-images g c =
+    let D = g.D.Disk in
+    let old = c.args.self.now in
+    let new = c.change.new.self in
+    let made = after old.units (Withdraw c.args.name) in
+    λ h not_closed. of_now D.may_leave D.moment D.left_since old.disk new.disk (RecoversOneOf old.units made)
+    (maps_alone D.moment D.left_since old.disk new.disk old.area old.bodies old.units (body_of (Withdraw c.args.name)) made (c.change.ensures.moments h not_closed))
+    (λ t image le now. g.met.D.Disk.counts_now new.disk t image h le now)

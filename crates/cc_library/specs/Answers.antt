@@ -1,0 +1,81 @@
+-- Which answer a call of a library gives, when, and what it leaves. The failures are those that the disk has counted
+-- before the call and behind it.
+use Rattle.std.specs.Prelude.{◌≡◌, ℕ, ◌+◌, ◌<◌, ◌≤◌, Bool, true, false, IsTrue, IsOk, List, ◌∷◌, ◌++◌, [], Result, Ok, Err}
+use Rattle.cc_journal.specs.Format.{HasHeader, room_of}
+use Rattle.cc_library.specs.declared.command.Command.{Command}
+use Rattle.cc_library.specs.declared.fault.LibraryFault.{LibraryFault}
+use Rattle.cc_library.specs.declared.fault.LibraryFault.TheVariants.{Exists, Absent, Full, DiskFault, Closed, Damaged, NotALibrary, OutOfMemory}
+use Rattle.cc_library.specs.Apply.{Units, apply, after, exists, absent}
+use Rattle.cc_library.specs.Body.{body_of, Spells}
+use Rattle.cc_library.specs.Recovered.{Recovers, StandFor, View}
+
+-- `open`: 35 exactly where the device failed; else, of an honest disk with these bytes, 38 exactly where there is no right
+-- header, and 37 exactly where there is one and nothing is recovered
+abbrev pub OpenFaults : (honest : Bool) (seen : List ℕ) (before after : ℕ) → LibraryFault → Type 0
+OpenFaults honest seen before after DiskFault = after ≡ before + 1
+OpenFaults honest seen before after NotALibrary = (after ≡ before) × (IsTrue honest → (area : ℕ) → HasHeader seen area → ⊥)
+OpenFaults honest seen before after Damaged =
+    (after ≡ before) × (IsTrue honest → ((area : ℕ) × HasHeader seen area) × ((units : Units) → Recovers seen units → ⊥))
+OpenFaults honest seen before after OutOfMemory = after ≡ before
+OpenFaults honest seen before after Exists = ⊥
+OpenFaults honest seen before after Absent = ⊥
+OpenFaults honest seen before after Full = ⊥
+OpenFaults honest seen before after Closed = ⊥
+
+-- replaying records: 37 exactly where they stand for no map
+abbrev pub ReplayFaults : List (List ℕ) → LibraryFault → Type 0
+ReplayFaults bodies Damaged = (units : Units) → StandFor bodies units → ⊥
+ReplayFaults bodies OutOfMemory = Unit {0}
+ReplayFaults bodies DiskFault = ⊥
+ReplayFaults bodies NotALibrary = ⊥
+ReplayFaults bodies Exists = ⊥
+ReplayFaults bodies Absent = ⊥
+ReplayFaults bodies Full = ⊥
+ReplayFaults bodies Closed = ⊥
+
+-- one record more: 37 exactly where its body is that of no command that the map accepts
+abbrev pub ReplaysBody : Units → List ℕ → Result Units LibraryFault → Type 0
+ReplaysBody old body (Ok new) = (command : Command) × Spells body command × IsOk (apply old command) × (new ≡ after old command)
+ReplaysBody old body (Err Damaged) = (command : Command) → Spells body command → IsOk (apply old command) → ⊥
+ReplaysBody old body (Err OutOfMemory) = Unit {0}
+ReplaysBody old body (Err DiskFault) = ⊥
+ReplaysBody old body (Err NotALibrary) = ⊥
+ReplaysBody old body (Err Exists) = ⊥
+ReplaysBody old body (Err Absent) = ⊥
+ReplaysBody old body (Err Full) = ⊥
+ReplaysBody old body (Err Closed) = ⊥
+
+module _ {D : Type 0} where
+  -- the call reaches the journal: the library is not closed, and the map accepts the command
+  abbrev pub IsAsked : View D → Command → Type 0
+  IsAsked old command = (old.closed ≡ false) × IsOk (apply old.units command)
+
+  -- how many bytes the records take with the command's
+  abbrev pub room_with : View D → Command → ℕ
+  room_with old command = room_of (old.bodies ++ body_of command ∷ [])
+
+  -- when a change has which answer: 36 exactly where the library was closed, then 31 or 32 exactly where the map refuses,
+  -- then 34 exactly where the record does not fit, then 35 exactly where the device failed
+  abbrev pub ChangeAnswers : {T : Type 0} → View D → Command → (before after : ℕ) → Result T LibraryFault → Type 0
+  ChangeAnswers old command before after (Ok done) = IsAsked old command × (room_with old command ≤ old.area) × (after ≡ before)
+  ChangeAnswers old command before after (Err Closed) = (old.closed ≡ true) × (after ≡ before)
+  ChangeAnswers old command before after (Err Exists) = (old.closed ≡ false) × (apply old.units command ≡ Err exists) × (after ≡ before)
+  ChangeAnswers old command before after (Err Absent) = (old.closed ≡ false) × (apply old.units command ≡ Err absent) × (after ≡ before)
+  ChangeAnswers old command before after (Err Full) = IsAsked old command × (old.area < room_with old command) × (after ≡ before)
+  ChangeAnswers old command before after (Err DiskFault) = IsAsked old command × (room_with old command ≤ old.area) × (after ≡ before + 1)
+  ChangeAnswers old command before after (Err OutOfMemory) = IsAsked old command × (after ≡ before)
+  ChangeAnswers old command before after (Err Damaged) = ⊥
+  ChangeAnswers old command before after (Err NotALibrary) = ⊥
+
+  -- what a change leaves, but for the disk: at Ok the map after the command; after 35 the old map, closed; after any other
+  -- refusal everything is as before, the disk too
+  abbrev pub ChangeLeaves : {T : Type 0} → Command → (old new : View D) → Result T LibraryFault → Type 0
+  ChangeLeaves command old new (Ok done) = new ≡ record { disk = new.disk; area = old.area; bodies = old.bodies ++ body_of command ∷ []; units = after old.units command; closed = false }
+  ChangeLeaves command old new (Err DiskFault) = new ≡ record old { disk = new.disk; closed = true }
+  ChangeLeaves command old new (Err Closed) = new ≡ old
+  ChangeLeaves command old new (Err Exists) = new ≡ old
+  ChangeLeaves command old new (Err Absent) = new ≡ old
+  ChangeLeaves command old new (Err Full) = new ≡ old
+  ChangeLeaves command old new (Err OutOfMemory) = new ≡ old
+  ChangeLeaves command old new (Err Damaged) = new ≡ old
+  ChangeLeaves command old new (Err NotALibrary) = new ≡ old

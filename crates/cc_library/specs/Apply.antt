@@ -1,0 +1,72 @@
+-- The library as a map from names to units, what a command does to it, and what many do.
+use Rattle.std.specs.Prelude.{ℕ, List, [], ◌∷◌, Option, Some, None, Result, Ok, Err, IsOk, if◌then◌else◌}
+use Rattle.std.specs.Ordering.{nat_cmp}
+use Rattle.std.specs.Cmp.Lexicographic.{slice_cmp}
+use Rattle.std.specs.FinMap.{FinMap, empty, contains_key, insert, remove}
+use Rattle.cc_link.specs.declared.unit.StoredUnit.{StoredUnit}
+use Rattle.cc_library.specs.declared.command.Command.{Command}
+use Rattle.cc_library.specs.declared.command.Command.TheVariants.{Add, Replace, Withdraw}
+
+-- a finite map from names, in the order of their bytes, to units
+abbrev pub Units : Type 0
+Units = FinMap (slice_cmp nat_cmp) StoredUnit
+
+-- the number of the refusal that a name exists
+abbrev pub exists : ℕ
+exists = 31
+
+-- the number of the refusal that a name is absent
+abbrev pub absent : ℕ
+absent = 32
+
+-- Add sets an absent name, Replace sets a present one, Withdraw removes a present one; else a number refuses
+abbrev pub apply : Units → Command → Result Units ℕ
+apply units (Add name unit) = if contains_key units name then Err exists else Ok (insert units name unit)
+apply units (Replace name unit) = if contains_key units name then Ok (insert units name unit) else Err absent
+apply units (Withdraw name) = if contains_key units name then Ok (remove units name) else Err absent
+
+-- the map that was made, or the old one where the command was refused
+abbrev pub kept : Units → Result Units ℕ → Units
+kept units (Ok made) = made
+kept units (Err number) = units
+
+-- the map after a command; a refused one leaves it
+abbrev pub after : Units → Command → Units
+after units command = kept units (apply units command)
+
+-- the map after these commands, one after the other, from a map on
+abbrev pub after_all : Units → List Command → Units
+after_all units [] = units
+after_all units (command ∷ commands) = after_all (after units command) commands
+
+-- the map after these commands from the empty one
+abbrev pub library_of : List Command → Units
+library_of commands = after_all empty commands
+
+-- the number of a refusal, where there is one
+abbrev pub refusal : Result Units ℕ → Option ℕ
+refusal (Ok units) = None
+refusal (Err number) = Some number
+
+-- each of these commands is accepted by the map that those before it made
+abbrev pub AreAccepted : Units → List Command → Type 0
+AreAccepted units [] = Unit {0}
+AreAccepted units (command ∷ commands) = IsOk (apply units command) × AreAccepted (after units command) commands
+
+-- the map with the room that a command needs already taken: Add has set its name
+abbrev pub begun : Units → Command → Units
+begun units (Add name unit) = insert units name unit
+begun units (Replace name unit) = units
+begun units (Withdraw name) = units
+
+-- the command done, where it had begun
+abbrev pub finished : Units → Command → Units
+finished units (Add name unit) = units
+finished units (Replace name unit) = if contains_key units name then insert units name unit else units
+finished units (Withdraw name) = remove units name
+
+-- the command undone, where it had begun
+abbrev pub undone : Units → Command → Units
+undone units (Add name unit) = remove units name
+undone units (Replace name unit) = units
+undone units (Withdraw name) = units

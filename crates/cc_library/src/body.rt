@@ -1,0 +1,77 @@
+// Writing a command as the body of a record.
+ghost use Rattle.std.specs.Prelude.{◌≡◌, ◌+◌, ◌++◌, ◌<◌, ◌^◌, length, IfOk, IsTrue, OnOk};
+ghost use Rattle.std.specs.Option.{option_map};
+ghost use Rattle.cc_library.specs.Name.{is_name};
+ghost use Rattle.cc_library.specs.Body.{HasUnit, HoldsUnit, IsUnit, Spells, body_bytes, body_of, unit_fields, unit_part, words_field};
+
+use crate::command::{Command, Kind};
+use crate::name::Name;
+use cc_link::StoredUnit;
+use std::alloc::{AllocError, Global};
+
+/// The body of the record of a command of this kind, version 1: the byte 1; the kind's byte; the name's length as one
+/// byte, and the name; for Add and Replace the source's length, the source, the number of code words, these, the number
+/// of global words, and these, each number and word as four bytes, the lowest first.
+pub fn command_body(
+    alloc: Global,
+    kind: Kind,
+    name: &Name,
+    unit: Option<&StoredUnit>,
+) -> Result<Vec<u8>, AllocError>
+    requires { HasUnit kind (option_map (λ u. u.now) unit) }
+    ensures spelled { IfOk result (λ body. body.items ≡ body_bytes kind name.now (option_map (λ u. u.now) unit.entry)) }
+    // What is spelled keeps the limits of names and units.
+    ensures name { OnOk result (IsTrue (is_name name.now)) }
+    ensures unit { OnOk result (HoldsUnit (option_map (λ u. u.now) unit.entry)) }
+{
+    let mut body = Vec::new(alloc);
+    let bytes = name.bytes();
+    body.extend_from_slice(&[1, kind.number(), bytes.len() as u8])?;
+    body.extend_from_slice(bytes)?;
+    if let Some(unit) = unit {
+        put_unit(&mut body, unit)?;
+    }
+    Ok(body)
+}
+
+/// The body of the record of a command.
+pub fn body_of_command(alloc: Global, command: &Command) -> Result<Vec<u8>, AllocError>
+    ensures { IfOk result (λ body. Spells body.items command.now) }
+{
+    match command {
+        Command::Add(name, unit) => command_body(alloc, Kind::Add, name, Some(unit.stored())),
+        Command::Replace(name, unit) => command_body(
+            alloc,
+            Kind::Replace,
+            name,
+            Some(unit.stored()),
+        ),
+        Command::Withdraw(name) => command_body(alloc, Kind::Withdraw, name, None),
+    }
+}
+
+// Adds the fields of a unit.
+fn put_unit(body: &mut Vec<u8>, unit: &StoredUnit) -> Result<(), AllocError>
+    ensures put { OnOk result (body.new.items ≡ body.old.items ++ unit_fields unit.now) }
+    ensures unit { OnOk result (IsUnit unit.now) }
+{
+    let source = unit.source.bytes();
+    body.extend_from_slice(&(source.len() as u32).to_le_bytes())?;
+    body.extend_from_slice(source)?;
+    let code = unit.image.code.words();
+    put_words(body, code)?;
+    let globals = unit.image.globals.words();
+    put_words(body, globals)
+}
+
+// Adds how many words there are, and the words.
+fn put_words(body: &mut Vec<u8>, words: &[u32]) -> Result<(), AllocError>
+    requires { length words.now < 2 ^ 32 }
+    ensures { OnOk result (body.new.items ≡ body.old.items ++ words_field words.now) }
+{
+    body.extend_from_slice(&(words.len() as u32).to_le_bytes())?;
+    for word in words {
+        body.extend_from_slice(&word.to_le_bytes())?;
+    }
+    Ok(())
+}

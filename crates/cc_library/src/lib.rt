@@ -1,0 +1,27 @@
+//! The library: a map from names to stored units that survives any crash, over any disk.
+//!
+//! `name` is a name, `unit` and `units` are what is kept, `command` what changes it, `body` and `reading` a command as
+//! the body of a record, `replaying` what records stand for, `library` the library and its calls.
+//! It hands out `Library`, `Name`, `UnitMap`, `Command`, `Edit`, `Kind`, `SharedUnit`, `command_body`, `read_command`, `replay`
+//! and the faults.
+#![tactic(auto)]
+
+mod body;
+mod command;
+mod fault;
+mod library;
+mod name;
+mod reading;
+mod replaying;
+mod unit;
+mod units;
+
+pub use body::{body_of_command, command_body};
+pub use command::{Command, Edit, Kind};
+pub use fault::{LibraryFault, NameFault};
+pub use library::Library;
+pub use name::{NAME_BYTES, Name};
+pub use reading::{ReadFault, read_command};
+pub use replaying::replay;
+pub use unit::SharedUnit;
+pub use units::UnitMap;

@@ -1,0 +1,306 @@
+// The library and its calls.
+ghost use Rattle.std.specs.Prelude.{◌≡◌, ◌⊎◌, ◌+◌, [], List, ℕ, false, IsTrue, IfOk, IfErr, OnOk, MatchResult};
+ghost use Rattle.std.specs.Option.{option_map};
+ghost use Rattle.std.specs.Arc.{arc_value};
+ghost use Rattle.std.specs.FinMap as map;
+ghost use Rattle.cc_disk.specs.Images.{LeavesOnly, OnlyReads};
+ghost use Rattle.cc_journal.specs.Format.{HoldsRecords};
+ghost use Rattle.cc_library.specs.declared.command.Command.{Command};
+ghost use Rattle.cc_library.specs.declared.command.Command.TheVariants as command;
+ghost use Rattle.cc_library.specs.Apply.{after, after_all, library_of};
+ghost use Rattle.cc_library.specs.Body.{body_of};
+ghost use Rattle.cc_library.specs.Recovered.{IsOldOrNew, Recovers, RecoversAlone, RecoversOneOf, StandFor};
+ghost use Rattle.cc_library.specs.Answers.{OpenFaults, ChangeAnswers, ChangeLeaves};
+ghost use Rattle.cc_library.specs.Runs.{AreDone, AreEdited, HadNoRoom, IsEdited, IsRefused, Stopped};
+
+use crate::body::body_of_command;
+use crate::command::{Command, Edit};
+use crate::fault::LibraryFault;
+use crate::name::Name;
+use crate::replaying::replay;
+use crate::unit::SharedUnit;
+use crate::units::UnitMap;
+use cc_disk::Disk;
+use cc_journal::{Journal, JournalFault};
+use cc_link::StoredUnit;
+use std::alloc::{AllocError, Global};
+use std::marker::Model;
+use std::sync::Arc;
+
+/// A map from names to stored units on a disk. A change is kept through a power cut once its call has answered Ok.
+///
+/// A clause sees the disk, the size of an area in bytes, the bodies of the records (the oldest first), the map that they
+/// stand for, and whether the library is closed.
+#[derive(Drop)]
+pub struct Library<D: Disk> {
+    journal: Journal<D>,
+    units: UnitMap,
+    // Whether the journal is closed.
+    closed: bool,
+}
+
+impl<D: Disk> Model for Library<D> {
+    ghost use Rattle.std.specs.Coded.{coded_ℕ, coded_list};
+    ghost use Rattle.std.specs.FinMap as map;
+    ghost use Rattle.cc_link.specs.contracts.unit.StoredUnit as stored;
+    ghost use Rattle.cc_library.specs.Recovered.{View, IsKept, view_code};
+
+    ghost Value = { View D };
+
+    ghost coded = { view_code D.code (map.code (coded_list coded_ℕ) stored.the_row.coded) };
+
+    ghost view = { λ l. record { disk = l.journal.disk; area = l.journal.area; bodies = l.journal.bodies; units = l.units; closed = l.closed } };
+
+    ghost invariant = { λ l. IsKept l.journal.bodies l.units l.closed l.journal.closed };
+}
+
+impl<D: Disk> Library<D> {
+    /// Opens the library on a disk: syncs it, reads its records, and does their commands one after the other.
+    ///
+    /// Refusals, in this order, with the disk handed back: 35 where the device failed in the call, 38 where there is no
+    /// right header, 37 where an open record does not fit its area or the records are no list of accepted commands.
+    /// 40 where memory ran out.
+    pub fn open(alloc: Global, disk: D) -> Result<Library<D>, (LibraryFault, D)>
+        // What was recovered, of an honest disk, to which every image then recovers.
+        ensures recovered { IfOk result (λ l. IsTrue D.honest → Recovers (D.seen disk) l.units) }
+        ensures kept { IfOk result (λ l. IsTrue D.honest → (image : List ℕ) → D.may_leave l.disk image → RecoversAlone image l.units) }
+        ensures records { IfOk result (λ l. IsTrue D.honest → HoldsRecords (D.seen disk) l.area l.bodies) }
+        ensures stand { IfOk result (λ l. StandFor l.bodies l.units) }
+        ensures open { IfOk result (λ l. l.closed ≡ false) }
+
+        // A new journal has no records, and its map is empty.
+        ensures fresh { IfOk result (λ l. IsTrue D.honest → (area : ℕ) → HoldsRecords (D.seen disk) area [] → (l.bodies ≡ []) × (l.units ≡ map.empty)) }
+
+        // When each refusal comes.
+        ensures sound { IfOk result (λ l. D.failures l.disk ≡ D.failures disk) }
+        ensures faults { IfErr result (λ e. OpenFaults D.honest (D.seen disk) (D.failures disk) (D.failures e.1) e.0) }
+
+        // The disk has the same size and the same bytes, and no crash leaves anything new.
+        ensures size { MatchResult result (λ l. D.size l.disk ≡ D.size disk) (λ e. D.size e.1 ≡ D.size disk) }
+        ensures reads { MatchResult result
+            (λ l. IsTrue D.honest → OnlyReads D.seen D.may_leave D.moment D.left_since disk l.disk)
+            (λ e. IsTrue D.honest → OnlyReads D.seen D.may_leave D.moment D.left_since disk e.1) }
+    {
+        match Journal::open(alloc, disk) {
+            Ok(journal) => match replay(alloc, journal.records()) {
+                Ok(units) => Ok(Library {
+                    journal,
+                    units,
+                    closed: false,
+                }),
+                Err(fault) => Err((fault, journal.into_disk())),
+            },
+            Err((fault, disk)) => Err((LibraryFault::from(fault), disk)),
+        }
+    }
+
+    /// Sets the unit of an absent name. At Ok it is kept: every crash from then on leaves it.
+    ///
+    /// Refusals, in this order: 36 where the library is closed, 31 where the name has a unit, 34 where the record does
+    /// not fit, 35 where the device failed. 40 where memory ran out, before the first device call. Each leaves the map as
+    /// it was; after 35 the library is closed, and its disk has the map with or without the unit.
+    pub fn add(
+        &mut self,
+        alloc: Global,
+        name: Name,
+        unit: Arc<StoredUnit>,
+    ) -> Result<(), LibraryFault>
+        ensures answers { ChangeAnswers self.old (command.Add name (arc_value unit)) (D.failures self.old.disk) (D.failures self.new.disk) result }
+        ensures leaves { ChangeLeaves (command.Add name (arc_value unit)) self.old self.new result }
+        ensures size { D.size self.new.disk ≡ D.size self.old.disk }
+
+        // At Ok every image recovers to the map after it.
+        ensures kept { OnOk result (IsTrue D.honest → (image : List ℕ) → D.may_leave self.new.disk image → RecoversAlone image self.new.units) }
+
+        // A crash at any moment of the call leaves the map before it or the map after it.
+        ensures moments { IsTrue D.honest → self.old.closed ≡ false
+            → LeavesOnly D.moment D.left_since self.old.disk self.new.disk (RecoversOneOf self.old.units (after self.old.units (command.Add name (arc_value unit)))) }
+
+        // So whatever it answers, after 35 too, every image recovers to one of the two.
+        ensures images { IsTrue D.honest → self.old.closed ≡ false
+            → (image : List ℕ) → D.may_leave self.new.disk image → RecoversOneOf self.old.units (after self.old.units (command.Add name (arc_value unit))) image }
+    {
+        self.change(alloc, Command::Add(name, SharedUnit::new(unit)))
+    }
+
+    /// Sets the unit of a present name. At Ok it is kept: every crash from then on leaves it.
+    ///
+    /// Refusals, in this order: 36 where the library is closed, 32 where the name has no unit, 34 where the record does
+    /// not fit, 35 where the device failed. 40 where memory ran out, before the first device call. Each leaves the map as
+    /// it was; after 35 the library is closed, and its disk has the map with the old unit or with the new one.
+    pub fn replace(
+        &mut self,
+        alloc: Global,
+        name: Name,
+        unit: Arc<StoredUnit>,
+    ) -> Result<(), LibraryFault>
+        ensures answers { ChangeAnswers self.old (command.Replace name (arc_value unit)) (D.failures self.old.disk) (D.failures self.new.disk) result }
+        ensures leaves { ChangeLeaves (command.Replace name (arc_value unit)) self.old self.new result }
+        ensures size { D.size self.new.disk ≡ D.size self.old.disk }
+
+        // At Ok every image recovers to the map after it.
+        ensures kept { OnOk result (IsTrue D.honest → (image : List ℕ) → D.may_leave self.new.disk image → RecoversAlone image self.new.units) }
+
+        // A crash at any moment of the call leaves the map before it or the map after it.
+        ensures moments { IsTrue D.honest → self.old.closed ≡ false
+            → LeavesOnly D.moment D.left_since self.old.disk self.new.disk (RecoversOneOf self.old.units (after self.old.units (command.Replace name (arc_value unit)))) }
+
+        // So whatever it answers, after 35 too, every image recovers to one of the two.
+        ensures images { IsTrue D.honest → self.old.closed ≡ false
+            → (image : List ℕ) → D.may_leave self.new.disk image → RecoversOneOf self.old.units (after self.old.units (command.Replace name (arc_value unit))) image }
+    {
+        self.change(alloc, Command::Replace(name, SharedUnit::new(unit)))
+    }
+
+    /// Takes a present name out. At Ok it is out for good: every crash from then on leaves the map without it.
+    ///
+    /// Refusals, in this order: 36 where the library is closed, 32 where the name has no unit, 34 where the record does
+    /// not fit, 35 where the device failed. 40 where memory ran out, before the first device call. Each leaves the map as
+    /// it was; after 35 the library is closed, and its disk has the map with or without the name.
+    pub fn withdraw(&mut self, alloc: Global, name: Name) -> Result<(), LibraryFault>
+        ensures answers { ChangeAnswers self.old (command.Withdraw name) (D.failures self.old.disk) (D.failures self.new.disk) result }
+        ensures leaves { ChangeLeaves (command.Withdraw name) self.old self.new result }
+        ensures size { D.size self.new.disk ≡ D.size self.old.disk }
+
+        // At Ok every image recovers to the map after it.
+        ensures kept { OnOk result (IsTrue D.honest → (image : List ℕ) → D.may_leave self.new.disk image → RecoversAlone image self.new.units) }
+
+        // A crash at any moment of the call leaves the map before it or the map after it.
+        ensures moments { IsTrue D.honest → self.old.closed ≡ false
+            → LeavesOnly D.moment D.left_since self.old.disk self.new.disk (RecoversOneOf self.old.units (after self.old.units (command.Withdraw name))) }
+
+        // So whatever it answers, after 35 too, every image recovers to one of the two.
+        ensures images { IsTrue D.honest → self.old.closed ≡ false
+            → (image : List ℕ) → D.may_leave self.new.disk image → RecoversOneOf self.old.units (after self.old.units (command.Withdraw name)) image }
+    {
+        self.change(alloc, Command::Withdraw(name))
+    }
+
+    /// The unit of a name, where it has one. It takes no memory.
+    pub fn get(&self, name: &Name) -> Option<&Arc<StoredUnit>>
+        ensures { option_map (λ unit. arc_value unit.now) result ≡ map.get self.now.units name.now }
+    {
+        self.units.get(name)
+    }
+
+    /// The names, in the order of their bytes.
+    pub fn list(&self, alloc: Global) -> Result<Vec<Name>, AllocError>
+        ensures { IfOk result (λ names. names.items ≡ map.keys self.now.units) }
+    {
+        self.units.names(alloc)
+    }
+
+    /// The disk, as the calls so far left it. It takes no memory.
+    pub fn into_disk(self) -> D
+        ensures { result ≡ self.disk }
+    {
+        let Library {
+            journal,
+            units: _,
+            closed: _,
+        } = self;
+        journal.into_disk()
+    }
+
+    /// Does each edit in turn, opens the disk again after each 35, and stops where that opening is refused. It gives the
+    /// numbers of the edits done, in order, 0 for Ok, and the library as it is then, or why it stopped and the disk.
+    ///
+    /// 40 and no number where there is no room for all the numbers, which is taken first: then nothing was done. After that
+    /// only the refusals of `open`; of an honest disk these are 35 and 40.
+    pub fn run(
+        self,
+        alloc: Global,
+        edits: Vec<Edit>,
+    ) -> (Result<Library<D>, (LibraryFault, D)>, Vec<u32>)
+        // Each number is the reply at that point.
+        ensures numbers { IfOk result.0 (λ l. AreEdited D.honest D.failures self edits.items result.1.items l) }
+
+        // The map is the one before, folded over the edits with 0 and those with 35 that the reopening showed.
+        ensures folded { IfOk result.0 (λ l. IsTrue D.honest
+            → (done : List Command) × AreDone edits.items result.1.items done × (l.units ≡ after_all self.units done)) }
+
+        // On a new journal it is the fold of these from the empty map.
+        ensures from_new { IfOk result.0 (λ l. IsTrue D.honest → self.units ≡ map.empty
+            → (done : List Command) × AreDone edits.items result.1.items done × (l.units ≡ library_of done)) }
+
+        // While it is not closed, every image recovers to its map.
+        ensures kept { IfOk result.0 (λ l. IsTrue D.honest → l.closed ≡ false → (image : List ℕ) → D.may_leave l.disk image → RecoversAlone image l.units) }
+
+        // Where it stopped.
+        ensures stopped { IfErr result.0 (λ e. HadNoRoom self result.1.items e.0 e.1
+            ⊎ Stopped D.honest D.failures D.seen D.may_leave self edits.items result.1.items e.0 e.1) }
+        ensures size { MatchResult result.0 (λ l. D.size l.disk ≡ D.size self.disk) (λ e. D.size e.1 ≡ D.size self.disk) }
+    {
+        let Ok(mut numbers) = Vec::with_capacity(alloc, edits.len()) else {
+            return (
+                Err((LibraryFault::OutOfMemory, self.into_disk())),
+                Vec::new(alloc),
+            );
+        };
+        let mut library = self;
+        for edit in edits {
+            let (number, left) = library.edited(alloc, edit);
+            numbers.push(number).unwrap();
+            match left {
+                Ok(left) => library = left,
+                Err(refused) => return (Err(refused), numbers),
+            }
+        }
+        // What the journal promises of its images.
+        let _ = library.journal.records();
+        (Ok(library), numbers)
+    }
+
+    // One edit of a run: its number, and the library behind it, opened again where the device failed.
+    fn edited(mut self, alloc: Global, edit: Edit) -> (u32, Result<Library<D>, (LibraryFault, D)>)
+        ensures edited { IfOk result.1 (λ l. IsEdited D.honest D.failures self edit result.0 l) }
+        ensures refused { IfErr result.1 (λ e. (result.0 ≡ 35) × IsRefused D.honest D.failures D.seen D.may_leave self edit e.0 e.1) }
+        ensures size { MatchResult result.1 (λ l. D.size l.disk ≡ D.size self.disk) (λ e. D.size e.1 ≡ D.size self.disk) }
+    {
+        match self.change(alloc, edit) {
+            Ok(()) => (0, Ok(self)),
+            Err(fault) => match fault {
+                LibraryFault::DiskFault => match Library::open(alloc, self.into_disk()) {
+                    Ok(library) => (35, Ok(library)),
+                    Err(refused) => (35, Err(refused)),
+                },
+                other => (u32::from(other.number()), Ok(self)),
+            },
+        }
+    }
+
+    // One change: the map is asked, all growths are made, then the journal decides.
+    fn change(&mut self, alloc: Global, command: Command) -> Result<(), LibraryFault>
+        ensures answers { ChangeAnswers self.old command (D.failures self.old.disk) (D.failures self.new.disk) result }
+        ensures leaves { ChangeLeaves command self.old self.new result }
+        ensures size { D.size self.new.disk ≡ D.size self.old.disk }
+        ensures kept { OnOk result (IsTrue D.honest → (image : List ℕ) → D.may_leave self.new.disk image → RecoversAlone image self.new.units) }
+        ensures moments { IsTrue D.honest → self.old.closed ≡ false
+            → LeavesOnly D.moment D.left_since self.old.disk self.new.disk
+            (IsOldOrNew self.old.area self.old.bodies self.old.units (body_of command) (after self.old.units command)) }
+    {
+        // What the journal promises of its images, for the calls that end before a device call.
+        let _ = self.journal.records();
+        if self.closed {
+            return Err(LibraryFault::Closed);
+        }
+        match self.units.refusal(&command) {
+            None => {}
+            Some(31) => return Err(LibraryFault::Exists),
+            Some(_) => return Err(LibraryFault::Absent),
+        }
+        let body = body_of_command(alloc, &command)?;
+        self.units.begin(&command)?;
+        match self.journal.append(alloc, &body) {
+            Ok(()) => {
+                self.units.finish(command);
+                Ok(())
+            }
+            Err(fault) => {
+                self.units.undo(command);
+                self.closed = fault == JournalFault::DiskFault;
+                Err(LibraryFault::from(fault))
+            }
+        }
+    }
+}

@@ -1,0 +1,128 @@
+ghost use Rattle.std.specs.Prelude.{◌≡◌, ◌↔◌, IsOk, IfOk, IsTrue, length, ◌≤◌};
+ghost use Rattle.std.specs.Ordering.{nat_cmp, as_partial_cmp, eq_by_cmp};
+ghost use Rattle.std.specs.Cmp.Lexicographic.{slice_cmp};
+ghost use Rattle.std.specs.Cmp.{partial_order_from_own_ties};
+ghost use Rattle.std.specs.Cmp.Rules.{comparing};
+ghost use Rattle.std.proofs.Common.{rules};
+ghost use Rattle.std.specs.List.{list_all};
+ghost use Rattle.cc_library.specs.Name.{is_name, is_name_byte, is_small_letter};
+
+use crate::fault::NameFault;
+use std::cmp::Ordering;
+use std::marker::Model;
+
+/// The most bytes of a name.
+pub const NAME_BYTES: usize = 32;
+
+/// The name of a unit: 1 to 32 bytes, a small letter, then small letters, digits and `_`.
+/// Contracts see its bytes. They lie in the value, so a name takes no memory.
+#[derive(Clone, Drop)]
+pub struct Name {
+    bytes: [u8; 32],
+    len: usize,
+}
+
+impl Model for Name {
+    ghost use Rattle.std.specs.Prelude.{◌≤◌, ℕ, List, take, IsTrue};
+    ghost use Rattle.cc_library.specs.Name.{is_name};
+
+    ghost Value = { List ℕ };
+
+    ghost view = { λ n. take n.len n.bytes };
+
+    ghost invariant = { λ n. (n.len ≤ 32) × IsTrue (is_name (take n.len n.bytes)) };
+}
+
+fn is_letter(byte: u8) -> bool
+    ensures { result ≡ is_small_letter byte }
+{
+    b'a' <= byte && byte <= b'z'
+}
+
+fn is_later_byte(byte: u8) -> bool
+    ensures { result ≡ is_name_byte byte }
+{
+    is_letter(byte) || (b'0' <= byte && byte <= b'9') || byte == b'_'
+}
+
+fn are_later_bytes(bytes: &[u8]) -> bool
+    ensures { result ≡ list_all is_name_byte bytes.now }
+{
+    bytes.iter().all(|b| is_later_byte(*b))
+}
+
+fn are_name(bytes: &[u8]) -> bool
+    ensures { result ≡ is_name bytes.now }
+{
+    match bytes {
+        [] => false,
+        [first, later @ ..] => { is_letter(*first) && later.len() < 32 && are_later_bytes(later) }
+    }
+}
+
+impl Name {
+    /// The name with these bytes, or 33 `BadName` where they are none. It takes no memory.
+    pub fn new(bytes: &[u8]) -> Result<Name, NameFault>
+        ensures exact { IsOk result ↔ IsTrue (is_name bytes.now) }
+        ensures bytes { IfOk result (λ name. name ≡ bytes.now) }
+    {
+        if !are_name(bytes) {
+            return Err(NameFault::BadName);
+        }
+        let mut kept = [0u8; 32];
+        for (i, byte) in bytes.iter().enumerate() {
+            kept[i] = *byte;
+        }
+        Ok(Name {
+            bytes: kept,
+            len: bytes.len(),
+        })
+    }
+
+    /// The bytes of the name. It takes no memory.
+    pub fn bytes(&self) -> &[u8]
+        ensures bytes { result.now ≡ self.now }
+        ensures name { IsTrue (is_name self.now) }
+    {
+        &self.bytes[..self.len]
+    }
+}
+
+impl PartialEq for Name {
+    ghost eq = { eq_by_cmp (slice_cmp nat_cmp) };
+
+    ghost laws = { Prim.search (comparing, rules) };
+
+    fn eq(&self, other: &Name) -> bool {
+        self.cmp(other) == Ordering::Equal
+    }
+}
+
+impl Eq for Name {
+    ghost laws = { Prim.search (comparing, rules) };
+}
+
+impl PartialOrd for Name {
+    ghost partial_cmp = { as_partial_cmp (slice_cmp nat_cmp) };
+
+    ghost laws = { partial_order_from_own_ties (Prim.search (comparing, rules)) (Prim.search (comparing, rules)) };
+
+    fn partial_cmp(&self, other: &Name) -> Option<Ordering> {
+        Some(self.cmp(other))
+    }
+}
+
+// By bytes, from the first.
+impl Ord for Name {
+    ghost cmp = { slice_cmp nat_cmp };
+
+    ghost total = { Prim.search (comparing, rules) };
+
+    ghost matches_partial_cmp = { Prim.search (comparing, rules) };
+
+    ghost matches_eq = { Prim.search (comparing, rules) };
+
+    fn cmp(&self, other: &Name) -> Ordering {
+        self.bytes().cmp(other.bytes())
+    }
+}

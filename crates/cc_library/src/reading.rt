@@ -1,0 +1,208 @@
+// Reading a command from the body of a record.
+ghost use Rattle.std.specs.Prelude.{◌≡◌, ◌≤◌, List, ℕ, length, IfOk};
+ghost use Rattle.cc_library.specs.declared.command.Command.{Command};
+ghost use Rattle.cc_library.specs.Body.{Spells};
+ghost use Rattle.cc_library.specs.Reading.{Gives, byte_in, taken, number_in, words_in, words_field_in, source_in, name_in, unit_in, kind_in, command_in};
+
+use crate::command::Command;
+use crate::name::Name;
+use crate::unit::SharedUnit;
+use cc_link::{Source, StoredUnit};
+use cc_rv32::image::{Code, Globals, Image};
+use std::alloc::{AllocError, AllocFailed, Global};
+use std::sync::Arc;
+
+/// Why no command was read.
+#[derive(Clone, Copy, Debug, PartialEq, Eq)]
+pub enum ReadFault {
+    /// The bytes are no command.
+    NoCommand,
+    /// Memory ran out.
+    OutOfMemory,
+}
+
+impl From<AllocError> for ReadFault {
+    ghost use Rattle.cc_library.specs.declared.reading.ReadFault.TheVariants as fault;
+
+    ghost from_gives = { λ _ e. e ≡ fault.OutOfMemory };
+
+    fn from(_: AllocError) -> ReadFault {
+        ReadFault::OutOfMemory
+    }
+}
+
+impl<T: Drop> From<AllocFailed<T>> for ReadFault {
+    ghost use Rattle.cc_library.specs.declared.reading.ReadFault.TheVariants as fault;
+
+    ghost from_gives = { λ _ e. e ≡ fault.OutOfMemory };
+
+    fn from(_: AllocFailed<T>) -> ReadFault {
+        ReadFault::OutOfMemory
+    }
+}
+
+/// The command that the bytes are, all of them.
+pub fn read_command(alloc: Global, bytes: &[u8]) -> Result<Command, ReadFault>
+    // What is read is spelled so.
+    ensures found { IfOk result (λ command. Spells bytes.now command) }
+    // What is spelled so is read, and nothing else is.
+    ensures only { (command : Command) → Spells bytes.now command → Gives (λ c. c) result (Some command) }
+    ensures exact { Gives (λ command. command) result (command_in bytes.now) }
+{
+    command_at(alloc, bytes)
+}
+
+#[tactic(auto, unfolding(crate::specs::Reading::command_in))]
+fn command_at(alloc: Global, bytes: &[u8]) -> Result<Command, ReadFault>
+    ensures { Gives (λ command. command) result (command_in bytes.now) }
+{
+    let (version, rest) = byte_at(bytes)?;
+    let (kind, rest) = byte_at(rest)?;
+    let (name, rest) = name_at(rest)?;
+    let (command, rest) = kind_at(alloc, kind, name, rest)?;
+    if version == 1 && rest.is_empty() {
+        Ok(command)
+    } else {
+        Err(ReadFault::NoCommand)
+    }
+}
+
+#[tactic(auto, unfolding(crate::specs::Reading::kind_in))]
+fn kind_at(alloc: Global, kind: u8, name: Name, bytes: &[u8]) -> Result<(Command, &[u8]), ReadFault>
+    ensures { Gives (λ x. (x.0, x.1.now)) result (kind_in kind name bytes.now) }
+{
+    match kind {
+        1 => {
+            let (unit, rest) = unit_at(alloc, bytes)?;
+            Ok((Command::Add(name, unit), rest))
+        }
+        2 => {
+            let (unit, rest) = unit_at(alloc, bytes)?;
+            Ok((Command::Replace(name, unit), rest))
+        }
+        3 => Ok((Command::Withdraw(name), bytes)),
+        _ => Err(ReadFault::NoCommand),
+    }
+}
+
+#[tactic(auto, unfolding(crate::specs::Reading::unit_in))]
+fn unit_at(alloc: Global, bytes: &[u8]) -> Result<(SharedUnit, &[u8]), ReadFault>
+    ensures { Gives (λ x. (x.0, x.1.now)) result (unit_in bytes.now) }
+{
+    let (source, rest) = source_at(alloc, bytes)?;
+    let (code, rest) = code_at(alloc, rest)?;
+    let (globals, rest) = globals_at(alloc, rest)?;
+    let unit = StoredUnit {
+        source,
+        image: Image { code, globals },
+        certificate: None,
+    };
+    Ok((SharedUnit::new(Arc::new(alloc, unit)?), rest))
+}
+
+#[tactic(auto, unfolding(crate::specs::Reading::source_in))]
+fn source_at(alloc: Global, bytes: &[u8]) -> Result<(Source, &[u8]), ReadFault>
+    ensures { Gives (λ x. (x.0, x.1.now)) result (source_in bytes.now) }
+{
+    let (count, rest) = number_at(bytes)?;
+    if count > 65_536 {
+        return Err(ReadFault::NoCommand);
+    }
+    let (front, rest) = bytes_at(count as usize, rest)?;
+    match Source::new(Vec::from_slice(alloc, front)?) {
+        Ok(source) => Ok((source, rest)),
+        Err(_) => Err(ReadFault::NoCommand),
+    }
+}
+
+fn code_at(alloc: Global, bytes: &[u8]) -> Result<(Code, &[u8]), ReadFault>
+    ensures { Gives (λ x. (x.0, x.1.now)) result (words_field_in 1 131072 bytes.now) }
+{
+    let (words, rest) = words_field_at(alloc, 1, 131_072, bytes)?;
+    match Code::new(words) {
+        Ok(code) => Ok((code, rest)),
+        Err(_) => Err(ReadFault::NoCommand),
+    }
+}
+
+fn globals_at(alloc: Global, bytes: &[u8]) -> Result<(Globals, &[u8]), ReadFault>
+    ensures { Gives (λ x. (x.0, x.1.now)) result (words_field_in 0 65536 bytes.now) }
+{
+    let (words, rest) = words_field_at(alloc, 0, 65_536, bytes)?;
+    match Globals::new(words) {
+        Ok(globals) => Ok((globals, rest)),
+        Err(_) => Err(ReadFault::NoCommand),
+    }
+}
+
+#[tactic(auto, unfolding(crate::specs::Reading::name_in))]
+fn name_at(bytes: &[u8]) -> Result<(Name, &[u8]), ReadFault>
+    ensures { Gives (λ x. (x.0, x.1.now)) result (name_in bytes.now) }
+{
+    let (count, rest) = byte_at(bytes)?;
+    let (front, rest) = bytes_at(count as usize, rest)?;
+    match Name::new(front) {
+        Ok(name) => Ok((name, rest)),
+        Err(_) => Err(ReadFault::NoCommand),
+    }
+}
+
+// How many words there are, from `least` to `most`, and the words.
+#[tactic(auto, unfolding(crate::specs::Reading::words_field_in))]
+fn words_field_at(
+    alloc: Global,
+    least: u32,
+    most: u32,
+    bytes: &[u8],
+) -> Result<(Vec<u32>, &[u8]), ReadFault>
+    ensures given { Gives (λ x. (x.0.items, x.1.now)) result (words_field_in least most bytes.now) }
+    ensures least { IfOk result (λ x. least ≤ length x.0.items) }
+    ensures most { IfOk result (λ x. length x.0.items ≤ most) }
+{
+    let (count, rest) = number_at(bytes)?;
+    if count < least || most < count {
+        return Err(ReadFault::NoCommand);
+    }
+    words_at(alloc, count, rest)
+}
+
+fn words_at(alloc: Global, count: u32, bytes: &[u8]) -> Result<(Vec<u32>, &[u8]), ReadFault>
+    ensures given { Gives (λ x. (x.0.items, x.1.now)) result (words_in count bytes.now) }
+    ensures counted { IfOk result (λ x. length x.0.items ≡ count) }
+{
+    let mut words = Vec::new(alloc);
+    let mut rest = bytes;
+    for _ in 0..count {
+        let (word, after) = number_at(rest)?;
+        words.push(word)?;
+        rest = after;
+    }
+    Ok((words, rest))
+}
+
+fn number_at(bytes: &[u8]) -> Result<(u32, &[u8]), ReadFault>
+    ensures { Gives (λ x. (x.0, x.1.now)) result (number_in bytes.now) }
+{
+    let (front, rest) = bytes_at(4, bytes)?;
+    let number = u32::from_le_bytes([front[0], front[1], front[2], front[3]]);
+    Ok((number, rest))
+}
+
+fn bytes_at(count: usize, bytes: &[u8]) -> Result<(&[u8], &[u8]), ReadFault>
+    ensures given { Gives (λ x. (x.0.now, x.1.now)) result (taken count bytes.now) }
+    ensures counted { IfOk result (λ x. length x.0.now ≡ count) }
+{
+    if bytes.len() < count {
+        return Err(ReadFault::NoCommand);
+    }
+    Ok(bytes.split_at(count))
+}
+
+fn byte_at(bytes: &[u8]) -> Result<(u8, &[u8]), ReadFault>
+    ensures { Gives (λ x. (x.0, x.1.now)) result (byte_in bytes.now) }
+{
+    match bytes {
+        [] => Err(ReadFault::NoCommand),
+        [byte, rest @ ..] => Ok((*byte, rest)),
+    }
+}

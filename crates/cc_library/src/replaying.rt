@@ -1,0 +1,41 @@
+// What the records of a journal stand for.
+ghost use Rattle.std.specs.Prelude.{IfOk, IfErr};
+ghost use Rattle.cc_library.specs.Recovered.{StandFor};
+ghost use Rattle.cc_library.specs.Answers.{ReplayFaults, ReplaysBody};
+
+use crate::fault::LibraryFault;
+use crate::reading::{ReadFault, read_command};
+use crate::units::UnitMap;
+use cc_journal::Body;
+use std::alloc::Global;
+
+/// The map that records with these bodies stand for, the oldest first.
+///
+/// 37 exactly where they stand for none: a body is that of no command, or of one that the map so far refuses. 40 where
+/// memory ran out.
+pub fn replay(alloc: Global, bodies: &[Body]) -> Result<UnitMap, LibraryFault>
+    ensures found { IfOk result (λ units. StandFor bodies.now units) }
+    ensures faults { IfErr result (λ fault. ReplayFaults bodies.now fault) }
+{
+    let mut units = UnitMap::new(alloc);
+    for body in bodies {
+        units = replay_body(alloc, units, body)?;
+    }
+    Ok(units)
+}
+
+// The map after the command of one record more.
+fn replay_body(alloc: Global, mut units: UnitMap, body: &Body) -> Result<UnitMap, LibraryFault>
+    ensures { ReplaysBody units body.now result }
+{
+    let command = match read_command(alloc, body.as_slice()) {
+        Ok(command) => command,
+        Err(ReadFault::NoCommand) => return Err(LibraryFault::Damaged),
+        Err(ReadFault::OutOfMemory) => return Err(LibraryFault::OutOfMemory),
+    };
+    if units.refusal(&command).is_some() {
+        return Err(LibraryFault::Damaged);
+    }
+    units.apply(&command)?;
+    Ok(units)
+}

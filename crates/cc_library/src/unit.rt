@@ -1,0 +1,48 @@
+// A stored unit with several owners.
+ghost use Rattle.std.specs.Prelude.{◌≡◌, IfOk};
+ghost use Rattle.std.specs.Arc.{arc_value};
+
+use cc_link::StoredUnit;
+use std::alloc::AllocError;
+use std::marker::Model;
+use std::sync::Arc;
+
+/// A stored unit with several owners. A clause sees the unit.
+#[derive(Drop)]
+pub struct SharedUnit {
+    stored: Arc<StoredUnit>,
+}
+
+impl Model for SharedUnit {
+    ghost use Rattle.std.specs.Arc.{arc_value};
+    ghost use Rattle.cc_link.specs.declared.unit.StoredUnit.{StoredUnit};
+
+    ghost Value = { StoredUnit };
+
+    ghost view = { λ s. arc_value s.stored };
+}
+
+impl SharedUnit {
+    /// The unit behind this pointer. It takes no memory.
+    pub fn new(stored: Arc<StoredUnit>) -> SharedUnit
+        ensures { result ≡ arc_value stored }
+    {
+        SharedUnit { stored }
+    }
+
+    /// The unit. It takes no memory.
+    pub fn stored(&self) -> &Arc<StoredUnit>
+        ensures { arc_value result.now ≡ self.now }
+    {
+        &self.stored
+    }
+
+    /// One more owner of the unit. It takes no memory; it answers an error only past the most owners.
+    pub fn again(&self) -> Result<SharedUnit, AllocError>
+        ensures { IfOk result (λ s. s ≡ self.now) }
+    {
+        Ok(SharedUnit {
+            stored: Arc::try_clone(&self.stored)?,
+        })
+    }
+}

@@ -1,0 +1,162 @@
+// The units by name.
+ghost use Rattle.std.specs.Prelude.{◌≡◌, OnOk, OnErr, IfOk, IsOk, IsTrue};
+ghost use Rattle.std.specs.Option.{option_map};
+ghost use Rattle.std.specs.Arc.{arc_value};
+ghost use Rattle.std.specs.Ordering.{nat_cmp};
+ghost use Rattle.std.specs.Cmp.Lexicographic.{slice_cmp};
+ghost use Rattle.std.specs.FinMap as map;
+ghost use Rattle.cc_library.specs.Apply.{apply, after, refusal, begun, finished, undone};
+
+use crate::command::Command;
+use crate::name::Name;
+use crate::unit::SharedUnit;
+use cc_link::StoredUnit;
+use std::alloc::{AllocError, Global};
+use std::collections::BTreeMap;
+use std::marker::Model;
+use std::sync::Arc;
+
+/// The units by name, in the order of the names' bytes. A clause sees a finite map.
+#[derive(Drop)]
+pub struct UnitMap {
+    units: BTreeMap<Name, SharedUnit>,
+}
+
+impl Model for UnitMap {
+    ghost use Rattle.std.specs.Ordering.{nat_cmp};
+    ghost use Rattle.std.specs.Cmp.Lexicographic.{slice_cmp};
+    ghost use Rattle.std.specs.FinMap as map;
+    ghost use Rattle.cc_link.specs.declared.unit.StoredUnit.{StoredUnit};
+    ghost use Rattle.std.specs.Coded.{coded_ℕ, coded_list};
+    ghost use Rattle.cc_link.specs.contracts.unit.StoredUnit as stored;
+
+    ghost Value = { map.FinMap (slice_cmp nat_cmp) StoredUnit };
+
+    ghost coded = { map.code (coded_list coded_ℕ) stored.the_row.coded };
+
+    ghost view = { λ m. map.from_entries m.units.entries };
+}
+
+impl UnitMap {
+    /// The map without a unit. It takes no memory.
+    pub fn new(alloc: Global) -> UnitMap
+        ensures { result ≡ map.empty }
+    {
+        UnitMap {
+            units: BTreeMap::new(alloc),
+        }
+    }
+
+    /// The unit of this name, where there is one. It takes no memory.
+    pub fn get(&self, name: &Name) -> Option<&Arc<StoredUnit>>
+        ensures { option_map (λ unit. arc_value unit.now) result ≡ map.get self.now name.now }
+    {
+        match self.units.get(name) {
+            Some(unit) => Some(unit.stored()),
+            None => None,
+        }
+    }
+
+    /// Whether this name has a unit. It takes no memory.
+    pub fn contains(&self, name: &Name) -> bool
+        ensures { result ≡ map.contains_key self.now name.now }
+    {
+        self.units.contains_key(name)
+    }
+
+    /// The names, in the order of their bytes.
+    pub fn names(&self, alloc: Global) -> Result<Vec<Name>, AllocError>
+        ensures { IfOk result (λ names. names.items ≡ map.keys self.now) }
+    {
+        let mut names = Vec::new(alloc);
+        for name in self.units.keys() {
+            names.push(name.clone()?)?;
+        }
+        Ok(names)
+    }
+
+    /// Which number refuses the command now, 31 or 32, where one does. It takes no memory.
+    pub fn refusal(&self, command: &Command) -> Option<u8>
+        ensures { result ≡ refusal (apply self.now command.now) }
+    {
+        match command {
+            Command::Add(name, _) => { if self.contains(name) { Some(31) } else { None } }
+            Command::Replace(name, _) | Command::Withdraw(name) => {
+                if self.contains(name) { None } else { Some(32) }
+            }
+        }
+    }
+
+    /// Does the command, where the map does not refuse it. Without memory the map stays as it was.
+    pub fn apply(&mut self, command: &Command) -> Result<(), AllocError>
+        ensures ok { OnOk result (self.new ≡ after self.old command.now) }
+        ensures err { OnErr result (self.new ≡ self.old) }
+    {
+        if self.refusal(command).is_some() {
+            return Ok(());
+        }
+        match command {
+            Command::Add(name, unit) | Command::Replace(name, unit) => {
+                self.put(name.clone()?, unit.again()?)
+            }
+            Command::Withdraw(name) => {
+                self.remove(name);
+                Ok(())
+            }
+        }
+    }
+
+    /// Takes the room that an accepted command needs, so that it can be finished or undone without memory. Without
+    /// memory the map stays as it was.
+    pub fn begin(&mut self, command: &Command) -> Result<(), AllocError>
+        ensures ok { OnOk result (self.new ≡ begun self.old command.now) }
+        ensures err { OnErr result (self.new ≡ self.old) }
+    {
+        match command {
+            Command::Add(name, unit) => self.put(name.clone()?, unit.again()?),
+            Command::Replace(_, _) | Command::Withdraw(_) => Ok(()),
+        }
+    }
+
+    /// Does the rest of a command that has begun. It takes no memory.
+    pub fn finish(&mut self, command: Command)
+        ensures { self.new ≡ finished self.old command }
+    {
+        match command {
+            Command::Add(_, _) => {}
+            Command::Replace(name, unit) => {
+                if self.contains(&name) {
+                    let _ = self.put(name, unit);
+                }
+            }
+            Command::Withdraw(name) => self.remove(&name),
+        }
+    }
+
+    /// Takes back what a command has begun. It takes no memory.
+    pub fn undo(&mut self, command: Command)
+        ensures { self.new ≡ undone self.old command }
+    {
+        match command {
+            Command::Add(name, _unit) => self.remove(&name),
+            Command::Replace(_, _) | Command::Withdraw(_) => {}
+        }
+    }
+
+    // Sets the unit of a name. Without memory the map stays as it was; a present name takes none.
+    pub fn put(&mut self, name: Name, unit: SharedUnit) -> Result<(), AllocError>
+        ensures ok { OnOk result (self.new ≡ map.insert self.old name unit) }
+        ensures err { OnErr result (self.new ≡ self.old) }
+        ensures replaces { IsTrue (map.contains_key self.old name) → IsOk result }
+    {
+        let _ = self.units.insert(name, unit)?;
+        Ok(())
+    }
+
+    // Takes a name out, where it is there.
+    pub fn remove(&mut self, name: &Name)
+        ensures { self.new ≡ map.remove self.old name.now }
+    {
+        let _ = self.units.remove(name);
+    }
+}

@@ -1,0 +1,64 @@
+// A unit as the library keeps it.
+ghost use Rattle.std.specs.Prelude.{◌≡◌, ◌≤◌, ◌↔◌, length, IsOk, MatchResult};
+
+use cc_rv32::image::Image;
+use std::marker::Model;
+
+/// The most bytes of a source.
+pub const MOST_SOURCE: usize = 65_536;
+
+/// The source of a unit: any bytes, at most 65,536. A clause sees their list.
+#[derive(Debug, Drop)]
+pub struct Source {
+    bytes: Vec<u8>,
+}
+
+impl Model for Source {
+    ghost use Rattle.std.specs.Prelude.{ℕ, List, length, ◌≤◌};
+
+    ghost Value = { List ℕ };
+
+    ghost view = { λ s. s.bytes.items };
+
+    ghost invariant = { λ s. length s.bytes.items ≤ 65536 };
+}
+
+impl Source {
+    /// The source of these bytes, or the bytes back where they are more than 65,536. It takes no memory.
+    pub fn new(bytes: Vec<u8>) -> Result<Source, Vec<u8>>
+        ensures fits { IsOk result ↔ (length bytes.items ≤ 65536) }
+        ensures kept { MatchResult result (λ source. source ≡ bytes.items) (λ back. back ≡ bytes) }
+    {
+        if bytes.len() > MOST_SOURCE {
+            return Err(bytes);
+        }
+        Ok(Source { bytes })
+    }
+
+    /// The bytes.
+    pub fn bytes(&self) -> &[u8]
+        ensures bytes { result.now ≡ self.now }
+        ensures few { length self.now ≤ 65536 }
+    {
+        self.bytes.as_slice()
+    }
+
+    /// The bytes, given up. It takes no memory.
+    pub fn into_bytes(self) -> Vec<u8>
+        ensures { result.items ≡ self }
+    {
+        self.bytes
+    }
+}
+
+/// A certificate of a unit. There is none yet.
+#[derive(Drop)]
+pub enum Certificate {}
+
+/// A unit as the library keeps it: its source, the image that was made of it, and its certificate, where it has one.
+#[derive(Drop)]
+pub struct StoredUnit {
+    pub source: Source,
+    pub image: Image,
+    pub certificate: Option<Certificate>,
+}

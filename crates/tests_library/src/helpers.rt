@@ -1,0 +1,122 @@
+// Units, names and disks, and what a library holds.
+use cc_disk::{Disk, MemoryDisk};
+use cc_journal::format;
+use cc_library::{Command, Library, Name, SharedUnit};
+use cc_link::{Source, StoredUnit};
+use cc_rv32::image::{Code, Globals, Image};
+use std::alloc::Global;
+use std::sync::Arc;
+use std::test::Fail;
+
+/// A unit without source and globals, with this one code word.
+pub fn unit(alloc: Global, word: u32) -> Result<Arc<StoredUnit>, Fail> {
+    let Ok(source) = Source::new(Vec::new(alloc)) else {
+        return Err(Fail::from("no bytes are a source"));
+    };
+    let Ok(code) = Code::new(vec![in alloc; word; 1]?) else {
+        return Err(Fail::from("one word is code"));
+    };
+    let Ok(globals) = Globals::new(Vec::new(alloc)) else {
+        return Err(Fail::from("no words are globals"));
+    };
+    let stored = StoredUnit {
+        source,
+        image: Image { code, globals },
+        certificate: None,
+    };
+    Ok(Arc::new(alloc, stored)?)
+}
+
+/// The name with one letter.
+pub fn name(letter: u8) -> Result<Name, Fail> {
+    Ok(Name::new(&[letter])?)
+}
+
+/// Add of that name with the unit of that word.
+pub fn add(alloc: Global, letter: u8, word: u32) -> Result<Command, Fail> {
+    Ok(Command::Add(name(letter)?, SharedUnit::new(unit(alloc, word)?)))
+}
+
+/// Replace of that name with the unit of that word.
+pub fn replace(alloc: Global, letter: u8, word: u32) -> Result<Command, Fail> {
+    Ok(Command::Replace(name(letter)?, SharedUnit::new(unit(alloc, word)?)))
+}
+
+/// Withdraw of that name.
+pub fn withdraw(letter: u8) -> Result<Command, Fail> {
+    Ok(Command::Withdraw(name(letter)?))
+}
+
+/// A formatted disk with areas of that many bytes.
+pub fn formatted(alloc: Global, area: u32) -> Result<MemoryDisk, Fail> {
+    let mut disk = MemoryDisk::new(alloc, 16 + 2 * area as usize)?;
+    format(&mut disk, area)?;
+    Ok(disk)
+}
+
+/// A settled disk with these bytes.
+pub fn disk_of(alloc: Global, bytes: &[u8]) -> Result<MemoryDisk, Fail> {
+    let mut disk = MemoryDisk::new(alloc, bytes.len())?;
+    if bytes.len() <= disk.size() {
+        disk.write_at(0, bytes)?;
+    }
+    disk.sync()?;
+    Ok(disk)
+}
+
+/// All the bytes of a disk.
+pub fn bytes_of<D: Disk>(alloc: Global, disk: &mut D) -> Result<Vec<u8>, Fail> {
+    let size = disk.size();
+    let mut bytes = vec![in alloc; 0u8; size]?;
+    if bytes.len() <= size {
+        disk.read_at(0, &mut bytes)?;
+    }
+    Ok(bytes)
+}
+
+/// The library on a disk.
+pub fn opened<D: Disk + Drop>(alloc: Global, disk: D) -> Result<Library<D>, Fail> {
+    match Library::open(alloc, disk) {
+        Ok(library) => Ok(library),
+        Err(_) => Err(Fail::from("not opened")),
+    }
+}
+
+/// The first code word of the unit of that name, where it has one.
+pub fn word_of<D: Disk>(library: &Library<D>, letter: u8) -> Result<Option<u32>, Fail> {
+    Ok(
+        library
+            .get(&name(letter)?)
+            .and_then(|unit| unit.image.code.words().first().copied()),
+    )
+}
+
+/// Whether the library holds units of these words under `a` and `b`, or none, and no others.
+pub fn holds<D: Disk>(
+    alloc: Global,
+    library: &Library<D>,
+    wanted: (Option<u32>, Option<u32>),
+) -> Result<bool, Fail> {
+    let count = usize::from(wanted.0.is_some()) + usize::from(wanted.1.is_some());
+    Ok(
+        library.list(alloc)?.len() == count
+            && word_of(library, b'a')? == wanted.0
+            && word_of(library, b'b')? == wanted.1,
+    )
+}
+
+/// The number of an answer, 0 for Ok.
+pub fn number(answer: Result<(), cc_library::LibraryFault>) -> u8 {
+    match answer {
+        Ok(()) => 0,
+        Err(fault) => fault.number(),
+    }
+}
+
+/// The number of the fault with which the disk is refused, or 0.
+pub fn refusal<D: Disk + Drop>(alloc: Global, disk: D) -> u8 {
+    match Library::open(alloc, disk) {
+        Ok(_) => 0,
+        Err((fault, _)) => fault.number(),
+    }
+}
