@@ -53,7 +53,7 @@ fn every_failure_and_a_crash(rt: HostRuntime) -> Result<(), Fail> {
                 let library = opened(alloc, disk.crash(alloc, &[byte; 272])?)?;
                 assert!(rt;
                     holds(alloc, &library, map_after(done))?
-                        || holds(alloc, &library, map_after(done + 1))?,
+                        || holds(alloc, &library, map_after(done.saturating_add(1)))?,
                     "{passes} calls, {mode:?}, {byte}"
                 );
             }
@@ -102,11 +102,12 @@ fn a_run_stops_where_its_disk_is_not_opened_again(rt: HostRuntime) -> Result<(),
         };
         assert_eq!(rt; fault.number(), 35);
         assert_eq!(rt; numbers.last().copied(), Some(35));
-        let done = numbers.len() - 1;
+        let done = numbers.len().saturating_sub(1);
         assert_eq!(rt; done as u64, (passes - 3) / 4);
         let library = opened(alloc, disk.into_disk())?;
         assert!(rt;
-            holds(alloc, &library, map_after(done))? || holds(alloc, &library, map_after(done + 1))?
+            holds(alloc, &library, map_after(done))?
+                || holds(alloc, &library, map_after(done.saturating_add(1)))?
         );
     }
     Ok(())
