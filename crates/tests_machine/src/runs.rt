@@ -26,6 +26,177 @@ const TO_X5: u32 = 0x0005_0293;
 
 const TO_X6: u32 = 0x0005_0313;
 
+// What each operation gives on two words (rv32ui and rv32um).
+const OPERATIONS: [(Operation, u32, u32, u32); 92] = [
+    (Operation::Add, 0x0, 0x0, 0x0),
+    (Operation::Add, 0x1, 0x1, 0x2),
+    (Operation::Add, 0x7fffffff, 0x1, 0x80000000),
+    (Operation::Add, 0xffffffff, 0xffffffff, 0xfffffffe),
+    (Operation::Add, 0xffff8000, 0x80000000, 0x7fff8000),
+    (Operation::Sub, 0x1, 0x1, 0x0),
+    (Operation::Sub, 0x3, 0x7, 0xfffffffc),
+    (Operation::Sub, 0x0, 0xffff8000, 0x8000),
+    (Operation::Sub, 0x80000000, 0x1, 0x7fffffff),
+    (Operation::Sll, 0x1, 0x0, 0x1),
+    (Operation::Sll, 0x1, 0x1f, 0x80000000),
+    (Operation::Sll, 0x21212121, 0x7, 0x90909080),
+    (Operation::Sll, 0x21212121, 0xffffffc0, 0x21212121),
+    (Operation::Sll, 0x1, 0x20, 0x1),
+    (Operation::Slt, 0x3, 0x7, 0x1),
+    (Operation::Slt, 0x7, 0x3, 0x0),
+    (Operation::Slt, 0x80000000, 0x0, 0x1),
+    (Operation::Slt, 0x0, 0xffff8000, 0x0),
+    (Operation::Slt, 0xffffffff, 0x1, 0x1),
+    (Operation::Sltu, 0x3, 0x7, 0x1),
+    (Operation::Sltu, 0x7, 0x3, 0x0),
+    (Operation::Sltu, 0x0, 0xffff8000, 0x1),
+    (Operation::Sltu, 0x80000000, 0x0, 0x0),
+    (Operation::Sltu, 0xffffffff, 0x1, 0x0),
+    (Operation::Xor, 0xff00ff00, 0xf0f0f0f, 0xf00ff00f),
+    (Operation::Srl, 0x80000000, 0x0, 0x80000000),
+    (Operation::Srl, 0x80000000, 0x1f, 0x1),
+    (Operation::Srl, 0x21212121, 0x7, 0x424242),
+    (Operation::Srl, 0x21212121, 0xffffffc7, 0x424242),
+    (Operation::Sra, 0x80000000, 0x0, 0x80000000),
+    (Operation::Sra, 0x80000000, 0x1f, 0xffffffff),
+    (Operation::Sra, 0x81818181, 0x7, 0xff030303),
+    (Operation::Sra, 0x7fffffff, 0x1f, 0x0),
+    (Operation::Sra, 0x81818181, 0xffffffc0, 0x81818181),
+    (Operation::Or, 0xff00ff00, 0xf0f0f0f, 0xff0fff0f),
+    (Operation::And, 0xff00ff00, 0xf0f0f0f, 0xf000f00),
+    (Operation::Mul, 0x7e00, 0xb6db6db7, 0x1200),
+    (Operation::Mul, 0x80000000, 0xffff8000, 0x0),
+    (Operation::Mul, 0xff000000, 0xff000000, 0x0),
+    (Operation::Mul, 0xffffffff, 0x1, 0xffffffff),
+    (Operation::Mulh, 0xaaaaaaab, 0x2fe7d, 0xffff0081),
+    (Operation::Mulh, 0x2fe7d, 0xaaaaaaab, 0xffff0081),
+    (Operation::Mulh, 0xff000000, 0xff000000, 0x10000),
+    (Operation::Mulh, 0xffffffff, 0xffffffff, 0x0),
+    (Operation::Mulh, 0xffffffff, 0x1, 0xffffffff),
+    (Operation::Mulh, 0x80000000, 0x80000000, 0x40000000),
+    (Operation::Mulhsu, 0xaaaaaaab, 0x2fe7d, 0xffff0081),
+    (Operation::Mulhsu, 0x2fe7d, 0xaaaaaaab, 0x1fefe),
+    (Operation::Mulhsu, 0xff000000, 0xff000000, 0xff010000),
+    (Operation::Mulhsu, 0xffffffff, 0xffffffff, 0xffffffff),
+    (Operation::Mulhsu, 0xffffffff, 0x1, 0xffffffff),
+    (Operation::Mulhsu, 0x1, 0xffffffff, 0x0),
+    (Operation::Mulhsu, 0x80000000, 0xffffffff, 0x80000000),
+    (Operation::Mulhu, 0xaaaaaaab, 0x2fe7d, 0x1fefe),
+    (Operation::Mulhu, 0x2fe7d, 0xaaaaaaab, 0x1fefe),
+    (Operation::Mulhu, 0xff000000, 0xff000000, 0xfe010000),
+    (Operation::Mulhu, 0xffffffff, 0xffffffff, 0xfffffffe),
+    (Operation::Mulhu, 0xffffffff, 0x1, 0x0),
+    (Operation::Div, 0x14, 0x6, 0x3),
+    (Operation::Div, 0xffffffec, 0x6, 0xfffffffd),
+    (Operation::Div, 0x14, 0xfffffffa, 0xfffffffd),
+    (Operation::Div, 0xffffffec, 0xfffffffa, 0x3),
+    (Operation::Div, 0x80000000, 0x1, 0x80000000),
+    (Operation::Div, 0x80000000, 0xffffffff, 0x80000000),
+    (Operation::Div, 0x80000000, 0x0, 0xffffffff),
+    (Operation::Div, 0x1, 0x0, 0xffffffff),
+    (Operation::Div, 0x0, 0x0, 0xffffffff),
+    (Operation::Divu, 0x14, 0x6, 0x3),
+    (Operation::Divu, 0xffffffec, 0x6, 0x2aaaaaa7),
+    (Operation::Divu, 0x14, 0xfffffffa, 0x0),
+    (Operation::Divu, 0xffffffec, 0xfffffffa, 0x0),
+    (Operation::Divu, 0x80000000, 0x1, 0x80000000),
+    (Operation::Divu, 0x80000000, 0xffffffff, 0x0),
+    (Operation::Divu, 0x80000000, 0x0, 0xffffffff),
+    (Operation::Divu, 0x0, 0x0, 0xffffffff),
+    (Operation::Rem, 0x14, 0x6, 0x2),
+    (Operation::Rem, 0xffffffec, 0x6, 0xfffffffe),
+    (Operation::Rem, 0x14, 0xfffffffa, 0x2),
+    (Operation::Rem, 0xffffffec, 0xfffffffa, 0xfffffffe),
+    (Operation::Rem, 0x80000000, 0x1, 0x0),
+    (Operation::Rem, 0x80000000, 0xffffffff, 0x0),
+    (Operation::Rem, 0x80000000, 0x0, 0x80000000),
+    (Operation::Rem, 0x1, 0x0, 0x1),
+    (Operation::Rem, 0x0, 0x0, 0x0),
+    (Operation::Remu, 0x14, 0x6, 0x2),
+    (Operation::Remu, 0xffffffec, 0x6, 0x2),
+    (Operation::Remu, 0x14, 0xfffffffa, 0x14),
+    (Operation::Remu, 0xffffffec, 0xfffffffa, 0xffffffec),
+    (Operation::Remu, 0x80000000, 0x1, 0x0),
+    (Operation::Remu, 0x80000000, 0xffffffff, 0x80000000),
+    (Operation::Remu, 0x80000000, 0x0, 0x80000000),
+    (Operation::Remu, 0x0, 0x0, 0x0),
+];
+
+// The same with an immediate, as the word that it stands for.
+const IMMEDIATES: [(ImmediateOperation, u32, u32, u32); 9] = [
+    (ImmediateOperation::Addi, 0x7fffffff, 0x7ff, 0x800007fe),
+    (ImmediateOperation::Addi, 0x80000000, 0xfffff800, 0x7ffff800),
+    (ImmediateOperation::Slti, 0xffffffff, 1, 1),
+    (ImmediateOperation::Slti, 0, 0xfffff800, 0),
+    (ImmediateOperation::Sltiu, 0xffffffff, 1, 0),
+    (ImmediateOperation::Sltiu, 0, 0xfffff800, 1),
+    (ImmediateOperation::Xori, 0x00ff0f00, 0xffffff0f, 0xff00f00f),
+    (ImmediateOperation::Ori, 0xff00ff00, 0xffffff0f, 0xffffff0f),
+    (ImmediateOperation::Andi, 0xff00ff00, 0xffffff0f, 0xff00ff00),
+];
+
+// The same by a count.
+const SHIFTS: [(ShiftOperation, u32, u32, u32); 7] = [
+    (ShiftOperation::Slli, 0x21212121, 0, 0x21212121),
+    (ShiftOperation::Slli, 1, 31, 0x80000000),
+    (ShiftOperation::Srli, 0x80000000, 31, 1),
+    (ShiftOperation::Srli, 0x80000000, 0, 0x80000000),
+    (ShiftOperation::Srai, 0x80000000, 31, 0xffffffff),
+    (ShiftOperation::Srai, 0x81818181, 0, 0x81818181),
+    (ShiftOperation::Srai, 0x81818181, 7, 0xff030303),
+];
+
+// What each load gives at an offset from the globals 0ff000ff and f00f0ff0, or a trap.
+const LOADS: [(LoadOperation, u32, Option<u32>); 16] = [
+    (LoadOperation::Lb, 0, Some(0xffffffff)),
+    (LoadOperation::Lb, 1, Some(0)),
+    (LoadOperation::Lb, 2, Some(0xfffffff0)),
+    (LoadOperation::Lb, 3, Some(0x0f)),
+    (LoadOperation::Lbu, 0, Some(0xff)),
+    (LoadOperation::Lbu, 2, Some(0xf0)),
+    (LoadOperation::Lh, 0, Some(0xff)),
+    (LoadOperation::Lh, 6, Some(0xfffff00f)),
+    (LoadOperation::Lhu, 6, Some(0xf00f)),
+    (LoadOperation::Lhu, 4, Some(0x0ff0)),
+    (LoadOperation::Lw, 4, Some(0xf00f0ff0)),
+    (LoadOperation::Lw, 8, Some(0)),
+    (LoadOperation::Lh, 1, None),
+    (LoadOperation::Lhu, 3, None),
+    (LoadOperation::Lw, 2, None),
+    (LoadOperation::Lw, 0xfffffffc, None),
+];
+
+// What the first global, 0ff000ff, is after 12345678 was stored at an offset, or a trap.
+const STORES: [(StoreOperation, u32, Option<u32>); 8] = [
+    (StoreOperation::Sb, 0, Some(0x0ff00078)),
+    (StoreOperation::Sb, 3, Some(0x78f000ff)),
+    (StoreOperation::Sh, 0, Some(0x0ff05678)),
+    (StoreOperation::Sh, 2, Some(0x567800ff)),
+    (StoreOperation::Sw, 0, Some(0x12345678)),
+    (StoreOperation::Sh, 1, None),
+    (StoreOperation::Sw, 2, None),
+    (StoreOperation::Sb, 0xffffffff, None),
+];
+
+// Whether each branch is taken.
+const BRANCHES: [(BranchOperation, u32, u32, bool); 15] = [
+    (BranchOperation::Beq, 0xffffffff, 0xffffffff, true),
+    (BranchOperation::Beq, 0, 1, false),
+    (BranchOperation::Bne, 0, 0xffffffff, true),
+    (BranchOperation::Bne, 7, 7, false),
+    (BranchOperation::Blt, 0xffffffff, 1, true),
+    (BranchOperation::Blt, 1, 0xffffffff, false),
+    (BranchOperation::Blt, 1, 1, false),
+    (BranchOperation::Bge, 1, 0xffffffff, true),
+    (BranchOperation::Bge, 0xfffffffe, 0xffffffff, false),
+    (BranchOperation::Bge, 5, 5, true),
+    (BranchOperation::Bltu, 1, 0xffffffff, true),
+    (BranchOperation::Bltu, 0xffffffff, 1, false),
+    (BranchOperation::Bgeu, 0xffffffff, 1, true),
+    (BranchOperation::Bgeu, 1, 0xffffffff, false),
+    (BranchOperation::Bgeu, 0, 0, true),
+];
+
 fn image_of(alloc: Global, code: &[u32], globals: &[u32]) -> Result<Image, Fail> {
     let code = Code::new(Vec::from_slice(alloc, code)?)
         .ok()
@@ -101,100 +272,7 @@ fn reads_zero_past_the_input(rt: HostRuntime) -> Result<(), Fail> {
 // The operation on two input words, written.
 #[test]
 fn computes_on_two_registers(rt: HostRuntime) -> Result<(), Fail> {
-    for (operation, left, right, expected) in [
-        (Operation::Add, 0x0, 0x0, 0x0),
-        (Operation::Add, 0x1, 0x1, 0x2),
-        (Operation::Add, 0x7fffffff, 0x1, 0x80000000),
-        (Operation::Add, 0xffffffff, 0xffffffff, 0xfffffffe),
-        (Operation::Add, 0xffff8000, 0x80000000, 0x7fff8000),
-        (Operation::Sub, 0x1, 0x1, 0x0),
-        (Operation::Sub, 0x3, 0x7, 0xfffffffc),
-        (Operation::Sub, 0x0, 0xffff8000, 0x8000),
-        (Operation::Sub, 0x80000000, 0x1, 0x7fffffff),
-        (Operation::Sll, 0x1, 0x0, 0x1),
-        (Operation::Sll, 0x1, 0x1f, 0x80000000),
-        (Operation::Sll, 0x21212121, 0x7, 0x90909080),
-        (Operation::Sll, 0x21212121, 0xffffffc0, 0x21212121),
-        (Operation::Sll, 0x1, 0x20, 0x1),
-        (Operation::Slt, 0x3, 0x7, 0x1),
-        (Operation::Slt, 0x7, 0x3, 0x0),
-        (Operation::Slt, 0x80000000, 0x0, 0x1),
-        (Operation::Slt, 0x0, 0xffff8000, 0x0),
-        (Operation::Slt, 0xffffffff, 0x1, 0x1),
-        (Operation::Sltu, 0x3, 0x7, 0x1),
-        (Operation::Sltu, 0x7, 0x3, 0x0),
-        (Operation::Sltu, 0x0, 0xffff8000, 0x1),
-        (Operation::Sltu, 0x80000000, 0x0, 0x0),
-        (Operation::Sltu, 0xffffffff, 0x1, 0x0),
-        (Operation::Xor, 0xff00ff00, 0xf0f0f0f, 0xf00ff00f),
-        (Operation::Srl, 0x80000000, 0x0, 0x80000000),
-        (Operation::Srl, 0x80000000, 0x1f, 0x1),
-        (Operation::Srl, 0x21212121, 0x7, 0x424242),
-        (Operation::Srl, 0x21212121, 0xffffffc7, 0x424242),
-        (Operation::Sra, 0x80000000, 0x0, 0x80000000),
-        (Operation::Sra, 0x80000000, 0x1f, 0xffffffff),
-        (Operation::Sra, 0x81818181, 0x7, 0xff030303),
-        (Operation::Sra, 0x7fffffff, 0x1f, 0x0),
-        (Operation::Sra, 0x81818181, 0xffffffc0, 0x81818181),
-        (Operation::Or, 0xff00ff00, 0xf0f0f0f, 0xff0fff0f),
-        (Operation::And, 0xff00ff00, 0xf0f0f0f, 0xf000f00),
-        (Operation::Mul, 0x7e00, 0xb6db6db7, 0x1200),
-        (Operation::Mul, 0x80000000, 0xffff8000, 0x0),
-        (Operation::Mul, 0xff000000, 0xff000000, 0x0),
-        (Operation::Mul, 0xffffffff, 0x1, 0xffffffff),
-        (Operation::Mulh, 0xaaaaaaab, 0x2fe7d, 0xffff0081),
-        (Operation::Mulh, 0x2fe7d, 0xaaaaaaab, 0xffff0081),
-        (Operation::Mulh, 0xff000000, 0xff000000, 0x10000),
-        (Operation::Mulh, 0xffffffff, 0xffffffff, 0x0),
-        (Operation::Mulh, 0xffffffff, 0x1, 0xffffffff),
-        (Operation::Mulh, 0x80000000, 0x80000000, 0x40000000),
-        (Operation::Mulhsu, 0xaaaaaaab, 0x2fe7d, 0xffff0081),
-        (Operation::Mulhsu, 0x2fe7d, 0xaaaaaaab, 0x1fefe),
-        (Operation::Mulhsu, 0xff000000, 0xff000000, 0xff010000),
-        (Operation::Mulhsu, 0xffffffff, 0xffffffff, 0xffffffff),
-        (Operation::Mulhsu, 0xffffffff, 0x1, 0xffffffff),
-        (Operation::Mulhsu, 0x1, 0xffffffff, 0x0),
-        (Operation::Mulhsu, 0x80000000, 0xffffffff, 0x80000000),
-        (Operation::Mulhu, 0xaaaaaaab, 0x2fe7d, 0x1fefe),
-        (Operation::Mulhu, 0x2fe7d, 0xaaaaaaab, 0x1fefe),
-        (Operation::Mulhu, 0xff000000, 0xff000000, 0xfe010000),
-        (Operation::Mulhu, 0xffffffff, 0xffffffff, 0xfffffffe),
-        (Operation::Mulhu, 0xffffffff, 0x1, 0x0),
-        (Operation::Div, 0x14, 0x6, 0x3),
-        (Operation::Div, 0xffffffec, 0x6, 0xfffffffd),
-        (Operation::Div, 0x14, 0xfffffffa, 0xfffffffd),
-        (Operation::Div, 0xffffffec, 0xfffffffa, 0x3),
-        (Operation::Div, 0x80000000, 0x1, 0x80000000),
-        (Operation::Div, 0x80000000, 0xffffffff, 0x80000000),
-        (Operation::Div, 0x80000000, 0x0, 0xffffffff),
-        (Operation::Div, 0x1, 0x0, 0xffffffff),
-        (Operation::Div, 0x0, 0x0, 0xffffffff),
-        (Operation::Divu, 0x14, 0x6, 0x3),
-        (Operation::Divu, 0xffffffec, 0x6, 0x2aaaaaa7),
-        (Operation::Divu, 0x14, 0xfffffffa, 0x0),
-        (Operation::Divu, 0xffffffec, 0xfffffffa, 0x0),
-        (Operation::Divu, 0x80000000, 0x1, 0x80000000),
-        (Operation::Divu, 0x80000000, 0xffffffff, 0x0),
-        (Operation::Divu, 0x80000000, 0x0, 0xffffffff),
-        (Operation::Divu, 0x0, 0x0, 0xffffffff),
-        (Operation::Rem, 0x14, 0x6, 0x2),
-        (Operation::Rem, 0xffffffec, 0x6, 0xfffffffe),
-        (Operation::Rem, 0x14, 0xfffffffa, 0x2),
-        (Operation::Rem, 0xffffffec, 0xfffffffa, 0xfffffffe),
-        (Operation::Rem, 0x80000000, 0x1, 0x0),
-        (Operation::Rem, 0x80000000, 0xffffffff, 0x0),
-        (Operation::Rem, 0x80000000, 0x0, 0x80000000),
-        (Operation::Rem, 0x1, 0x0, 0x1),
-        (Operation::Rem, 0x0, 0x0, 0x0),
-        (Operation::Remu, 0x14, 0x6, 0x2),
-        (Operation::Remu, 0xffffffec, 0x6, 0x2),
-        (Operation::Remu, 0x14, 0xfffffffa, 0x14),
-        (Operation::Remu, 0xffffffec, 0xfffffffa, 0xffffffec),
-        (Operation::Remu, 0x80000000, 0x1, 0x0),
-        (Operation::Remu, 0x80000000, 0xffffffff, 0x80000000),
-        (Operation::Remu, 0x80000000, 0x0, 0x80000000),
-        (Operation::Remu, 0x0, 0x0, 0x0),
-    ] {
+    for (operation, left, right, expected) in OPERATIONS {
         let instr = Instr::Op {
             operation,
             rd: Register::new(10),
@@ -225,17 +303,7 @@ fn computes_on_two_registers(rt: HostRuntime) -> Result<(), Fail> {
 
 #[test]
 fn computes_on_immediates(rt: HostRuntime) -> Result<(), Fail> {
-    for (operation, left, immediate, expected) in [
-        (ImmediateOperation::Addi, 0x7fffffff, 0x7ff, 0x800007fe),
-        (ImmediateOperation::Addi, 0x80000000, 0xfffff800, 0x7ffff800),
-        (ImmediateOperation::Slti, 0xffffffff, 1, 1),
-        (ImmediateOperation::Slti, 0, 0xfffff800, 0),
-        (ImmediateOperation::Sltiu, 0xffffffff, 1, 0),
-        (ImmediateOperation::Sltiu, 0, 0xfffff800, 1),
-        (ImmediateOperation::Xori, 0x00ff0f00, 0xffffff0f, 0xff00f00f),
-        (ImmediateOperation::Ori, 0xff00ff00, 0xffffff0f, 0xffffff0f),
-        (ImmediateOperation::Andi, 0xff00ff00, 0xffffff0f, 0xff00ff00),
-    ] {
+    for (operation, left, immediate, expected) in IMMEDIATES {
         let instr = Instr::OpImm {
             operation,
             rd: Register::new(10),
@@ -250,15 +318,7 @@ fn computes_on_immediates(rt: HostRuntime) -> Result<(), Fail> {
             "{operation:?} of {left:08x} and {immediate:08x}"
         );
     }
-    for (operation, left, count, expected) in [
-        (ShiftOperation::Slli, 0x21212121, 0, 0x21212121),
-        (ShiftOperation::Slli, 1, 31, 0x80000000),
-        (ShiftOperation::Srli, 0x80000000, 31, 1),
-        (ShiftOperation::Srli, 0x80000000, 0, 0x80000000),
-        (ShiftOperation::Srai, 0x80000000, 31, 0xffffffff),
-        (ShiftOperation::Srai, 0x81818181, 0, 0x81818181),
-        (ShiftOperation::Srai, 0x81818181, 7, 0xff030303),
-    ] {
+    for (operation, left, count, expected) in SHIFTS {
         let instr = Instr::Shift {
             operation,
             rd: Register::new(10),
@@ -280,24 +340,7 @@ fn computes_on_immediates(rt: HostRuntime) -> Result<(), Fail> {
 #[test]
 fn loads_and_stores(rt: HostRuntime) -> Result<(), Fail> {
     let globals = [0x0ff000ff, 0xf00f0ff0];
-    for (operation, offset, expected) in [
-        (LoadOperation::Lb, 0, Some(0xffffffff)),
-        (LoadOperation::Lb, 1, Some(0)),
-        (LoadOperation::Lb, 2, Some(0xfffffff0)),
-        (LoadOperation::Lb, 3, Some(0x0f)),
-        (LoadOperation::Lbu, 0, Some(0xff)),
-        (LoadOperation::Lbu, 2, Some(0xf0)),
-        (LoadOperation::Lh, 0, Some(0xff)),
-        (LoadOperation::Lh, 6, Some(0xfffff00f)),
-        (LoadOperation::Lhu, 6, Some(0xf00f)),
-        (LoadOperation::Lhu, 4, Some(0x0ff0)),
-        (LoadOperation::Lw, 4, Some(0xf00f0ff0)),
-        (LoadOperation::Lw, 8, Some(0)),
-        (LoadOperation::Lh, 1, None),
-        (LoadOperation::Lhu, 3, None),
-        (LoadOperation::Lw, 2, None),
-        (LoadOperation::Lw, 0xfffffffc, None),
-    ] {
+    for (operation, offset, expected) in LOADS {
         let instr = Instr::Load {
             operation,
             rd: Register::new(10),
@@ -309,16 +352,7 @@ fn loads_and_stores(rt: HostRuntime) -> Result<(), Fail> {
         assert_eq!(rt; word, expected, "{operation:?} at {offset:08x}");
         assert_eq!(rt; outcome == MachineOutcome::Trapped, expected.is_none());
     }
-    for (operation, offset, expected) in [
-        (StoreOperation::Sb, 0, Some(0x0ff00078)),
-        (StoreOperation::Sb, 3, Some(0x78f000ff)),
-        (StoreOperation::Sh, 0, Some(0x0ff05678)),
-        (StoreOperation::Sh, 2, Some(0x567800ff)),
-        (StoreOperation::Sw, 0, Some(0x12345678)),
-        (StoreOperation::Sh, 1, None),
-        (StoreOperation::Sw, 2, None),
-        (StoreOperation::Sb, 0xffffffff, None),
-    ] {
+    for (operation, offset, expected) in STORES {
         let store = Instr::Store {
             operation,
             rs1: Register::new(8),
@@ -379,23 +413,7 @@ fn reaches_the_stack_to_its_ends(rt: HostRuntime) -> Result<(), Fail> {
 // A taken branch skips a write of 0.
 #[test]
 fn branches(rt: HostRuntime) -> Result<(), Fail> {
-    for (operation, left, right, taken) in [
-        (BranchOperation::Beq, 0xffffffff, 0xffffffff, true),
-        (BranchOperation::Beq, 0, 1, false),
-        (BranchOperation::Bne, 0, 0xffffffff, true),
-        (BranchOperation::Bne, 7, 7, false),
-        (BranchOperation::Blt, 0xffffffff, 1, true),
-        (BranchOperation::Blt, 1, 0xffffffff, false),
-        (BranchOperation::Blt, 1, 1, false),
-        (BranchOperation::Bge, 1, 0xffffffff, true),
-        (BranchOperation::Bge, 0xfffffffe, 0xffffffff, false),
-        (BranchOperation::Bge, 5, 5, true),
-        (BranchOperation::Bltu, 1, 0xffffffff, true),
-        (BranchOperation::Bltu, 0xffffffff, 1, false),
-        (BranchOperation::Bgeu, 0xffffffff, 1, true),
-        (BranchOperation::Bgeu, 1, 0xffffffff, false),
-        (BranchOperation::Bgeu, 0, 0, true),
-    ] {
+    for (operation, left, right, taken) in BRANCHES {
         let branch = Instr::Branch {
             operation,
             rs1: Register::new(5),
