@@ -136,7 +136,7 @@ const IMMEDIATES: [(ImmediateOperation, u32, u32, u32); 9] = [
 ];
 
 // The same by a count.
-const SHIFTS: [(ShiftOperation, u32, u32, u32); 7] = [
+const SHIFTS: [(ShiftOperation, u32, u8, u32); 7] = [
     (ShiftOperation::Slli, 0x21212121, 0, 0x21212121),
     (ShiftOperation::Slli, 1, 31, 0x80000000),
     (ShiftOperation::Srli, 0x80000000, 31, 1),
