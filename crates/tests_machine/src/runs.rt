@@ -197,6 +197,144 @@ const BRANCHES: [(BranchOperation, u32, u32, bool); 15] = [
     (BranchOperation::Bgeu, 0, 0, true),
 ];
 
+// What a program shows; its words and its input; the first word that it writes, and what it comes to.
+const PROGRAMS: [(&str, &[u32], &[u32], Option<u32>, MachineOutcome); 18] = [
+    (
+        "the stack's last word: sw x2, -4(x2); lw x10, -4(x2)",
+        &[0xfe212e23, 0xffc12503, WRITE, ECALL, EXIT, ECALL],
+        &[],
+        Some(0x0080_0000),
+        MachineOutcome::Exited(0x0080_0000),
+    ),
+    (
+        "behind the stack: sw x2, 0(x2)",
+        &[0x00212023, WRITE, ECALL],
+        &[],
+        None,
+        MachineOutcome::Trapped,
+    ),
+    (
+        "the stack's first word: lui x8, 0x600; sw x8, 0(x8); lw x10, 0(x8)",
+        &[
+            0x00600437, 0x00842023, 0x00042503, WRITE, ECALL, EXIT, ECALL,
+        ],
+        &[],
+        Some(0x0060_0000),
+        MachineOutcome::Exited(0x0060_0000),
+    ),
+    (
+        "before the stack: sw x8, -4(x8)",
+        &[0x00600437, 0xfe842e23, WRITE, ECALL],
+        &[],
+        None,
+        MachineOutcome::Trapped,
+    ),
+    (
+        "the last global: lui x8, 0x240; sw x8, -4(x8); lw x10, -4(x8)",
+        &[
+            0x00240437, 0xfe842e23, 0xffc42503, WRITE, ECALL, EXIT, ECALL,
+        ],
+        &[],
+        Some(0x0024_0000),
+        MachineOutcome::Exited(0x0024_0000),
+    ),
+    (
+        "behind the globals: sw x8, 0(x8)",
+        &[0x00240437, 0x00842023, WRITE, ECALL],
+        &[],
+        None,
+        MachineOutcome::Trapped,
+    ),
+    (
+        "jal x10, 8 skips a word that is none, and x10 is the address behind it",
+        &[0x0080056f, 0, WRITE, ECALL, EXIT, ECALL],
+        &[],
+        Some(0x0001_0004),
+        MachineOutcome::Exited(0x0001_0004),
+    ),
+    (
+        "auipc x5, 0; jalr x10, 13(x5): bit 0 of the target is cleared",
+        &[0x00000297, 0x00d28567, 0, WRITE, ECALL, EXIT, ECALL],
+        &[],
+        Some(0x0001_0008),
+        MachineOutcome::Exited(0x0001_0008),
+    ),
+    (
+        "jalr x0, 14(x5): no multiple of 4",
+        &[0x00000297, 0x00e28067, 0, WRITE, ECALL],
+        &[],
+        None,
+        MachineOutcome::Trapped,
+    ),
+    (
+        "beq x0, x0, 6: taken, to no multiple of 4",
+        &[0x00000363, WRITE, ECALL],
+        &[],
+        None,
+        MachineOutcome::Trapped,
+    ),
+    (
+        "bne x0, x0, 6: not taken",
+        &[0x00001363, WRITE, ECALL, EXIT, ECALL],
+        &[],
+        Some(0),
+        MachineOutcome::Exited(0),
+    ),
+    (
+        "jal x0, 6",
+        &[0x0060006f, WRITE, ECALL],
+        &[],
+        None,
+        MachineOutcome::Trapped,
+    ),
+    (
+        "x0 stays 0: addi x0, x0, 5; jal x0, 4; lui x0, 1; addi x10, x0, 0",
+        &[
+            0x00500013, 0x0040006f, 0x00001037, 0x00000513, WRITE, ECALL, EXIT, ECALL,
+        ],
+        &[],
+        Some(0),
+        MachineOutcome::Exited(0),
+    ),
+    (
+        "an unknown service",
+        &[ECALL],
+        &[],
+        None,
+        MachineOutcome::Trapped,
+    ),
+    (
+        "a word of the input",
+        &[READ, ECALL, WRITE, ECALL, EXIT, ECALL],
+        &[9],
+        Some(9),
+        MachineOutcome::Exited(9),
+    ),
+    (
+        "a word past the input, after one of it",
+        &[READ, ECALL, ECALL, WRITE, ECALL, EXIT, ECALL],
+        &[9],
+        Some(0),
+        MachineOutcome::Exited(0),
+    ),
+    (
+        "no input at all: addi x10, x0, 7 first",
+        &[0x00700513, READ, ECALL, WRITE, ECALL, EXIT, ECALL],
+        &[],
+        Some(0),
+        MachineOutcome::Exited(0),
+    ),
+    (
+        "what was written before a trap stays: addi x10, x0, 7; a write; sw x10, -2(x2)",
+        &[0x00700513, WRITE, ECALL, 0xfea12f23, ECALL],
+        &[],
+        Some(7),
+        MachineOutcome::Trapped,
+    ),
+];
+
+const GLOBALS: [u32; 2] = [0x0ff000ff, 0xf00f0ff0];
+
 fn image_of(alloc: Global, code: &[u32], globals: &[u32]) -> Result<Image, Fail> {
     let code = Code::new(Vec::from_slice(alloc, code)?)
         .ok()
@@ -257,18 +395,6 @@ fn runs_a_part_at_a_time(rt: HostRuntime) -> Result<(), Fail> {
     Ok(())
 }
 
-#[test]
-fn reads_zero_past_the_input(rt: HostRuntime) -> Result<(), Fail> {
-    let code = [
-        READ, ECALL, WRITE, ECALL, READ, ECALL, WRITE, ECALL, EXIT, ECALL,
-    ];
-    let image = image_of(rt.alloc(), &code, &[])?;
-    let mut machine = Machine::new(rt.alloc(), &image, &[9])?;
-    assert_eq!(rt; machine.run(100)?, MachineOutcome::Exited(0));
-    assert_eq!(rt; machine.output(), [9, 0].as_slice());
-    Ok(())
-}
-
 // The operation on two input words, written.
 #[test]
 fn computes_on_two_registers(rt: HostRuntime) -> Result<(), Fail> {
@@ -304,6 +430,7 @@ fn computes_on_two_registers(rt: HostRuntime) -> Result<(), Fail> {
 #[test]
 fn computes_on_immediates(rt: HostRuntime) -> Result<(), Fail> {
     for (operation, left, immediate, expected) in IMMEDIATES {
+        assert!(rt; Immediate::fits(immediate));
         let instr = Instr::OpImm {
             operation,
             rd: Register::new(10),
@@ -318,7 +445,13 @@ fn computes_on_immediates(rt: HostRuntime) -> Result<(), Fail> {
             "{operation:?} of {left:08x} and {immediate:08x}"
         );
     }
+    Ok(())
+}
+
+#[test]
+fn shifts_by_a_count(rt: HostRuntime) -> Result<(), Fail> {
     for (operation, left, count, expected) in SHIFTS {
+        assert!(rt; count < 32);
         let instr = Instr::Shift {
             operation,
             rd: Register::new(10),
@@ -338,9 +471,9 @@ fn computes_on_immediates(rt: HostRuntime) -> Result<(), Fail> {
 
 // lui x8, 0x200 comes first: the globals' address.
 #[test]
-fn loads_and_stores(rt: HostRuntime) -> Result<(), Fail> {
-    let globals = [0x0ff000ff, 0xf00f0ff0];
+fn loads(rt: HostRuntime) -> Result<(), Fail> {
     for (operation, offset, expected) in LOADS {
+        assert!(rt; Immediate::fits(offset));
         let instr = Instr::Load {
             operation,
             rd: Register::new(10),
@@ -348,11 +481,17 @@ fn loads_and_stores(rt: HostRuntime) -> Result<(), Fail> {
             offset: Immediate::new(offset),
         };
         let code = [0x00200437, encode(instr), WRITE, ECALL, EXIT, ECALL];
-        let (word, outcome) = first_word(rt.alloc(), &code, &globals, &[])?;
+        let (word, outcome) = first_word(rt.alloc(), &code, &GLOBALS, &[])?;
         assert_eq!(rt; word, expected, "{operation:?} at {offset:08x}");
         assert_eq!(rt; outcome == MachineOutcome::Trapped, expected.is_none());
     }
+    Ok(())
+}
+
+#[test]
+fn stores(rt: HostRuntime) -> Result<(), Fail> {
     for (operation, offset, expected) in STORES {
+        assert!(rt; Immediate::fits(offset));
         let store = Instr::Store {
             operation,
             rs1: Register::new(8),
@@ -371,42 +510,10 @@ fn loads_and_stores(rt: HostRuntime) -> Result<(), Fail> {
             EXIT,
             ECALL,
         ];
-        let (word, outcome) = first_word(rt.alloc(), &code, &globals, &[0x12345678])?;
+        let (word, outcome) = first_word(rt.alloc(), &code, &GLOBALS, &[0x12345678])?;
         assert_eq!(rt; word, expected, "{operation:?} at {offset:08x}");
         assert_eq!(rt; outcome == MachineOutcome::Trapped, expected.is_none());
     }
-    Ok(())
-}
-
-// The stack's last word, and the one behind it: x2 starts at the stack's end.
-#[test]
-fn reaches_the_stack_to_its_ends(rt: HostRuntime) -> Result<(), Fail> {
-    // sw x2, -4(x2); lw x10, -4(x2)
-    let code = [0xfe212e23, 0xffc12503, WRITE, ECALL, EXIT, ECALL];
-    assert_eq!(rt;
-        first_word(rt.alloc(), &code, &[], &[])?.0,
-        Some(0x0080_0000)
-    );
-    // sw x2, 0(x2)
-    let code = [0x00212023, WRITE, ECALL];
-    assert_eq!(rt;
-        first_word(rt.alloc(), &code, &[], &[])?.1,
-        MachineOutcome::Trapped
-    );
-    // lui x8, 0x600; sw x8, 0(x8); lw x10, 0(x8)
-    let code = [
-        0x00600437, 0x00842023, 0x00042503, WRITE, ECALL, EXIT, ECALL,
-    ];
-    assert_eq!(rt;
-        first_word(rt.alloc(), &code, &[], &[])?.0,
-        Some(0x0060_0000)
-    );
-    // sw x8, -4(x8)
-    let code = [0x00600437, 0xfe842e23, WRITE, ECALL];
-    assert_eq!(rt;
-        first_word(rt.alloc(), &code, &[], &[])?.1,
-        MachineOutcome::Trapped
-    );
     Ok(())
 }
 
@@ -448,56 +555,6 @@ fn branches(rt: HostRuntime) -> Result<(), Fail> {
     Ok(())
 }
 
-#[test]
-fn jumps(rt: HostRuntime) -> Result<(), Fail> {
-    // jal x10, 8 skips a word that is none; x10 is the address behind it
-    let code = [0x0080056f, 0, WRITE, ECALL, EXIT, ECALL];
-    assert_eq!(rt;
-        first_word(rt.alloc(), &code, &[], &[])?.0,
-        Some(0x00010004)
-    );
-    // auipc x5, 0; jalr x10, 13(x5): bit 0 of the target is cleared
-    let code = [0x00000297, 0x00d28567, 0, WRITE, ECALL, EXIT, ECALL];
-    assert_eq!(rt;
-        first_word(rt.alloc(), &code, &[], &[])?.0,
-        Some(0x00010008)
-    );
-    // jalr x0, 14(x5): no multiple of 4
-    let code = [0x00000297, 0x00e28067, 0, WRITE, ECALL];
-    assert_eq!(rt;
-        first_word(rt.alloc(), &code, &[], &[])?.1,
-        MachineOutcome::Trapped
-    );
-    // beq x0, x0, 6: taken to no multiple of 4; bne x0, x0, 6: not taken
-    let code = [0x00000363, WRITE, ECALL];
-    assert_eq!(rt;
-        first_word(rt.alloc(), &code, &[], &[])?.1,
-        MachineOutcome::Trapped
-    );
-    let code = [0x00001363, WRITE, ECALL, EXIT, ECALL];
-    assert_eq!(rt; first_word(rt.alloc(), &code, &[], &[])?.0, Some(0));
-    // jal x0, 6
-    let code = [0x0060006f, WRITE, ECALL];
-    assert_eq!(rt;
-        first_word(rt.alloc(), &code, &[], &[])?.1,
-        MachineOutcome::Trapped
-    );
-    Ok(())
-}
-
-#[test]
-fn leaves_x0_alone(rt: HostRuntime) -> Result<(), Fail> {
-    // addi x0, x0, 5; jal x0, 4; lui x0, 1; addi x10, x0, 0
-    let code = [
-        0x00500013, 0x0040006f, 0x00001037, 0x00000513, WRITE, ECALL, EXIT, ECALL,
-    ];
-    assert_eq!(rt;
-        first_word(rt.alloc(), &code, &[], &[])?,
-        (Some(0), MachineOutcome::Exited(0))
-    );
-    Ok(())
-}
-
 // A jump out of the code is done, and the fetch behind it traps; so does one past the last word.
 #[test]
 fn traps_outside_the_code(rt: HostRuntime) -> Result<(), Fail> {
@@ -507,43 +564,14 @@ fn traps_outside_the_code(rt: HostRuntime) -> Result<(), Fail> {
         assert_eq!(rt; machine.step()?, MachineOutcome::Going, "at {word:08x}");
         assert_eq!(rt; machine.step()?, MachineOutcome::Trapped, "at {word:08x}");
     }
-    // an unknown service
-    let (_, outcome) = first_word(rt.alloc(), &[ECALL], &[], &[])?;
-    assert_eq!(rt; outcome, MachineOutcome::Trapped);
     Ok(())
 }
 
-// A store that is misaligned traps: what was written before stays, and nothing else comes.
 #[test]
-fn keeps_the_output_after_a_trap(rt: HostRuntime) -> Result<(), Fail> {
-    // addi x10, x0, 7; then a write; sw x10, -2(x2); another write
-    let code = [0x00700513, WRITE, ECALL, 0xfea12f23, ECALL];
-    let image = image_of(rt.alloc(), &code, &[])?;
-    let mut machine = Machine::new(rt.alloc(), &image, &[])?;
-    assert_eq!(rt; machine.run(3)?, MachineOutcome::Going);
-    assert_eq!(rt; machine.run(100)?, MachineOutcome::Trapped);
-    assert_eq!(rt; machine.output(), [7].as_slice());
-    assert_eq!(rt; machine.run(100)?, MachineOutcome::Trapped);
-    assert_eq!(rt; machine.output(), [7].as_slice());
-    Ok(())
-}
-
-// The globals of the image come first, and the last of the 65,536 words can be reached, the one behind it not.
-#[test]
-fn reaches_the_globals_to_their_ends(rt: HostRuntime) -> Result<(), Fail> {
-    // lui x8, 0x240; sw x8, -4(x8); lw x10, -4(x8)
-    let code = [
-        0x00240437, 0xfe842e23, 0xffc42503, WRITE, ECALL, EXIT, ECALL,
-    ];
-    assert_eq!(rt;
-        first_word(rt.alloc(), &code, &[5], &[])?.0,
-        Some(0x0024_0000)
-    );
-    // sw x8, 0(x8)
-    let code = [0x00240437, 0x00842023, WRITE, ECALL];
-    assert_eq!(rt;
-        first_word(rt.alloc(), &code, &[5], &[])?.1,
-        MachineOutcome::Trapped
-    );
+fn runs_programs(rt: HostRuntime) -> Result<(), Fail> {
+    for (shows, code, input, word, outcome) in PROGRAMS {
+        let came = first_word(rt.alloc(), code, &[], input)?;
+        assert_eq!(rt; came, (word, outcome), "{shows}");
+    }
     Ok(())
 }
