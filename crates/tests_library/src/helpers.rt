@@ -113,6 +113,44 @@ pub fn number(answer: Result<(), cc_library::LibraryFault>) -> u8 {
     }
 }
 
+/// Adds a unit of that word: the number of the answer.
+pub fn added<D: Disk>(
+    alloc: Global,
+    library: &mut Library<D>,
+    letter: u8,
+    word: u32,
+) -> Result<u8, Fail> {
+    let unit = unit(alloc, word)?;
+    Ok(number(library.add(alloc, name(letter)?, unit)))
+}
+
+/// Replaces a unit by one of that word: the number of the answer.
+pub fn replaced<D: Disk>(
+    alloc: Global,
+    library: &mut Library<D>,
+    letter: u8,
+    word: u32,
+) -> Result<u8, Fail> {
+    let unit = unit(alloc, word)?;
+    Ok(number(library.replace(alloc, name(letter)?, unit)))
+}
+
+/// Withdraws a name: the number of the answer.
+pub fn withdrawn<D: Disk>(alloc: Global, library: &mut Library<D>, letter: u8) -> Result<u8, Fail> {
+    Ok(number(library.withdraw(alloc, name(letter)?)))
+}
+
+/// Whether a crash that leaves this byte where it may leaves a library that holds such units.
+pub fn crash_leaves(
+    alloc: Global,
+    disk: &MemoryDisk,
+    byte: u8,
+    wanted: (Option<u32>, Option<u32>),
+) -> Result<bool, Fail> {
+    let after = disk.crash(alloc, &[byte; 272])?;
+    holds(alloc, &opened(alloc, after)?, wanted)
+}
+
 /// The number of the fault with which the disk is refused, or 0.
 pub fn refusal<D: Disk + Drop>(alloc: Global, disk: D) -> u8 {
     match Library::open(alloc, disk) {

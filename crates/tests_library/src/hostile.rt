@@ -1,5 +1,5 @@
 // Disks that nobody formatted so.
-use crate::helpers::{bytes_of, disk_of, formatted, holds, name, opened, refusal, unit};
+use crate::helpers::{added, bytes_of, disk_of, formatted, holds, opened, refusal};
 use cc_disk::{FuseDisk, FuseMode, MemoryDisk};
 use cc_library::Library;
 use std::alloc::Global;
@@ -88,8 +88,8 @@ fn a_failure_hands_the_disk_back(rt: HostRuntime) -> Result<(), Fail> {
 // The bytes of a disk with two records.
 fn two_records(alloc: Global) -> Result<Vec<u8>, Fail> {
     let mut library: Library<MemoryDisk> = opened(alloc, formatted(alloc, 64)?)?;
-    library.add(alloc, name(b'a')?, unit(alloc, 1)?)?;
-    library.add(alloc, name(b'b')?, unit(alloc, 2)?)?;
+    let _ = added(alloc, &mut library, b'a', 1)?;
+    let _ = added(alloc, &mut library, b'b', 2)?;
     bytes_of(alloc, &mut library.into_disk())
 }
 

@@ -93,26 +93,32 @@ fn bytes_that_are_no_command(rt: HostRuntime) {
 fn a_map(rt: HostRuntime) -> Result<(), Fail> {
     let alloc = rt.alloc();
     let shared = SharedUnit::new(Arc::new(alloc, unit(alloc)?)?);
-    let a = || Name::new(b"a".as_slice());
     let mut map = UnitMap::new(alloc);
-    let add = Command::Add(a()?, shared.again()?);
+    let add = Command::Add(Name::new(b"a".as_slice())?, shared);
     assert_eq!(rt; map.refusal(&add), None);
     map.apply(&add)?;
     assert_eq!(rt; map.refusal(&add), Some(31));
-    assert_eq!(rt;
-        map.refusal(&Command::Withdraw(Name::new(b"b".as_slice())?)),
-        Some(32)
-    );
-    assert_eq!(rt; map.refusal(&Command::Replace(a()?, shared.again()?)), None);
-    map.apply(&Command::Add(Name::new(b"b".as_slice())?, shared.again()?))?;
-    map.apply(&Command::Add(Name::new(b"aa".as_slice())?, shared))?;
-    let names = map.names(alloc)?;
-    assert_eq!(rt; names.len(), 3);
-    assert_eq!(rt; names[0].bytes(), b"a".as_slice());
-    assert_eq!(rt; names[1].bytes(), b"aa".as_slice());
-    assert_eq!(rt; names[2].bytes(), b"b".as_slice());
-    assert!(rt; map.get(&a()?).is_some());
-    map.apply(&Command::Withdraw(a()?))?;
-    assert!(rt; map.get(&a()?).is_none());
+    assert!(rt; map.get(&Name::new(b"a".as_slice())?).is_some());
+    let withdraw = Command::Withdraw(Name::new(b"b".as_slice())?);
+    assert_eq!(rt; map.refusal(&withdraw), Some(32));
+    let withdraw = Command::Withdraw(Name::new(b"a".as_slice())?);
+    assert_eq!(rt; map.refusal(&withdraw), None);
+    map.apply(&withdraw)?;
+    assert!(rt; map.get(&Name::new(b"a".as_slice())?).is_none());
+    Ok(())
+}
+
+#[test]
+fn a_command_in_two_halves(rt: HostRuntime) -> Result<(), Fail> {
+    let alloc = rt.alloc();
+    let shared = SharedUnit::new(Arc::new(alloc, unit(alloc)?)?);
+    let mut map = UnitMap::new(alloc);
+    let add = Command::Add(Name::new(b"a".as_slice())?, shared);
+    map.begin(&add)?;
+    map.undo(add.again()?);
+    assert!(rt; map.names(alloc)?.is_empty());
+    map.begin(&add)?;
+    map.finish(add);
+    assert_eq!(rt; map.names(alloc)?.len(), 1);
     Ok(())
 }

@@ -1,5 +1,7 @@
 // Every point of failure of add, add, replace, withdraw, in each mode, and a crash behind it; and the same through `run`.
-use crate::helpers::{add, formatted, holds, name, opened, replace, unit, withdraw};
+use crate::helpers::{
+    add, added, crash_leaves, formatted, holds, opened, replace, replaced, withdraw, withdrawn,
+};
 use cc_disk::{FuseDisk, FuseMode, MemoryDisk};
 use cc_library::{Command, Library};
 use std::alloc::Global;
@@ -26,19 +28,31 @@ fn changed(alloc: Global, disk: FuseDisk<MemoryDisk>) -> Result<(MemoryDisk, usi
         Err((_, disk)) => return Ok((disk.into_disk(), 0)),
     };
     let mut done = 0;
-    if library.add(alloc, name(b'a')?, unit(alloc, 1)?).is_ok() {
+    if added(alloc, &mut library, b'a', 1)? == 0 {
         done = 1;
-        if library.add(alloc, name(b'b')?, unit(alloc, 2)?).is_ok() {
-            done = 2;
-            if library.replace(alloc, name(b'a')?, unit(alloc, 3)?).is_ok() {
-                done = 3;
-                if library.withdraw(alloc, name(b'b')?).is_ok() {
-                    done = 4;
-                }
-            }
-        }
+    }
+    if done == 1 && added(alloc, &mut library, b'b', 2)? == 0 {
+        done = 2;
+    }
+    if done == 2 && replaced(alloc, &mut library, b'a', 3)? == 0 {
+        done = 3;
+    }
+    if done == 3 && withdrawn(alloc, &mut library, b'b')? == 0 {
+        done = 4;
     }
     Ok((library.into_disk().into_disk(), done))
+}
+
+// Whether each crash leaves the map after what was done, or with one change more.
+fn is_right(alloc: Global, disk: &MemoryDisk, done: usize) -> Result<bool, Fail> {
+    for byte in [0x00u8, 0xa5, 0xff] {
+        let old = crash_leaves(alloc, disk, byte, map_after(done))?;
+        let new = crash_leaves(alloc, disk, byte, map_after(done.saturating_add(1)))?;
+        if !old && !new {
+            return Ok(false);
+        }
+    }
+    Ok(true)
 }
 
 #[test]
@@ -49,14 +63,7 @@ fn every_failure_and_a_crash(rt: HostRuntime) -> Result<(), Fail> {
             let fuse = FuseDisk::new(formatted(alloc, 128)?, passes, mode);
             let (disk, done) = changed(alloc, fuse)?;
             assert!(rt; done == 4 || passes < CALLS, "{passes} calls, {mode:?}");
-            for byte in [0x00u8, 0xa5, 0xff] {
-                let library = opened(alloc, disk.crash(alloc, &[byte; 272])?)?;
-                assert!(rt;
-                    holds(alloc, &library, map_after(done))?
-                        || holds(alloc, &library, map_after(done.saturating_add(1)))?,
-                    "{passes} calls, {mode:?}, {byte}"
-                );
-            }
+            assert!(rt; is_right(alloc, &disk, done)?, "{passes} calls, {mode:?}");
         }
     }
     Ok(())
