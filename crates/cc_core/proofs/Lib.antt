@@ -1,8 +1,12 @@
 pub mod Walks
 pub mod Tables
 pub mod Jobs
-pub mod Possible
 pub mod Lists
 pub mod Whole
+pub mod Orders
+pub mod Held
+pub mod Ending
+pub mod Possible
+pub mod Reopening
 pub mod Sound
 pub mod Runs

@@ -1,13 +1,13 @@
 -- A run goes on by one turn, and what is reached stays reached.
 use Rattle.std.proofs.Common.{◌≡◌, inl, List, [], ◌∷◌, ◌++◌, Option, Result, Ok, Err, refl, sym, subst}
-use Rattle.std.specs.Prelude.{IfOk, OnErr}
+use Rattle.std.specs.Prelude.{IfOk, OnErr, OnOk}
 use Rattle.cc_core.specs.declared.command.Reply.{Reply}
 use Rattle.cc_core.specs.declared.contents.Contents.{Contents}
 use Rattle.cc_core.specs.declared.event.Event.{Event}
 use Rattle.cc_core.specs.declared.fault.CoreFault.{CoreFault}
 use Rattle.cc_core.specs.Rules.{Rules}
 use Rattle.cc_core.specs.Step.{Step}
-use Rattle.cc_core.specs.Run.{Turn, Run, Reached}
+use Rattle.cc_core.specs.Run.{Turn, Run, Reached, PutsCommand}
 
 module _ {P : Type 0} (rules : Rules P) where
   -- a run and one more turn
@@ -17,9 +17,12 @@ module _ {P : Type 0} (rules : Rules P) where
 
   -- what a step reaches from what is reached is reached; a refused event changes nothing
   pub Reached-step : (old : Contents P) (e : Event P) (result : Result (Option Reply) CoreFault) (new : Contents P)
-      → Reached rules old → IfOk result (λ reply. Step rules old e reply new) → OnErr result (new ≡ old) → Reached rules new
-  Reached-step old e (Ok reply) new reached step err = record {
+      → Reached rules old → IfOk result (λ reply. Step rules old e reply new) → OnOk result (PutsCommand old new) → OnErr result (new ≡ old) → Reached rules new
+  Reached-step old e (Ok reply) new reached step puts err = record {
+    area = reached.area;
+    first = reached.first;
+    started = reached.started;
     events = reached.events ++ e ∷ [];
-    run = Run-push _ reached.events old e new reached.run (inl (reply, step));
+    run = Run-push _ reached.events old e new reached.run (inl (reply, step, puts));
   }
-  Reached-step old e (Err fault) new reached step err = subst (Reached rules) (sym err) reached
+  Reached-step old e (Err fault) new reached step puts err = subst (Reached rules) (sym err) reached

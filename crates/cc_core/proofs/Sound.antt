@@ -1,18 +1,27 @@
 -- What holds of the contents after any events. One record says it, each step keeps it, and so does a run.
-use Rattle.std.proofs.Common.{◌≡◌, ◌⊎◌, inl, inr, ℕ, ◌+◌, ◌-◌, ◌<◌, Bool, true, false, cond, List, [], ◌∷◌, ◌++◌, length, take, Option, Some, None, Result, Ok, Err, refl, sym, ap, subst, ◌∙◌, arith, All, Contains}
-use Rattle.std.specs.Prelude.{IsOk, slice_get, replicate, fold}
-use Rattle.std.specs.Ordering.{nat_cmp, eq_by_cmp}
-use Rattle.std.specs.declared.cmp.Ordering.{Ordering}
-use Rattle.std.specs.Cmp.{IsTotalOrder, nat_cmp_total}
-use Rattle.std.specs.Cmp.Lexicographic.{nat_list_cmp_total, slice_cmp}
-use Rattle.std.specs.FinMap.{FinMap, get, insert, remove, empty, contains_key, get-empty, get-insert, get-remove}
-use Rattle.std.proofs.lemmas.List.{length-replicate, length-set, map-append}
+-- How: beside the order and the jobs it says, by phase, what the disk's images hold; a device step goes on from one part of the
+-- commit to the next, a crash leaves one of the images, and a recovery reads it.
+use Rattle.std.proofs.Common.{◌≡◌, ◌⊎◌, inl, inr, ⊎_elim, ℕ, zero, suc, ◌+◌, ◌-◌, ◌<◌, ◌≤◌, ◌^◌, List, [], ◌∷◌, ◌++◌, length, take, drop, Option, Some, None, Result, Ok, Err, refl, sym, ap, subst, ◌∙◌, arith, All, Contains}
+use Rattle.std.specs.Prelude.{IsOk, slice_get, replicate}
+use Rattle.std.specs.Ordering.{nat_cmp}
+use Rattle.std.specs.Cmp.{nat_cmp_total}
+use Rattle.std.specs.FinMap.{FinMap, get, insert, remove, empty, get-empty}
+use Rattle.std.proofs.lemmas.List.{length-replicate, length-set, length-map, take-append-drop, take_at}
 use Rattle.std.proofs.lemmas.List.Elements.{All-replicate, All-weaker, All-push, All-nil, Contains-append_left, Contains-push}
-use Rattle.std.proofs.lemmas.List.Sums.{fold-append}
 use Rattle.std.proofs.lemmas.Option.{slice_get_within}
-use Rattle.cc_core.specs.declared.unit.StoredUnit.{StoredUnit}
-use Rattle.cc_core.specs.declared.command.Command.{Command}
-use Rattle.cc_core.specs.declared.command.Command.TheVariants as command
+use Rattle.cc_disk.specs.declared.cell.Cell.{Cell}
+use Rattle.cc_disk.specs.Model.{bytes_of, crashed}
+use Rattle.cc_disk.specs.Past.{bytes_are_image}
+use Rattle.cc_disk.specs.Images.{LeavesAlone}
+use Rattle.cc_journal.specs.Format.{header, records, HoldsRecords, HoldsAlone, IsArea}
+use Rattle.cc_journal.proofs.Records.{holds_alone, holds_same}
+use Rattle.cc_journal.proofs.Bytes.{empty_holds}
+use Rattle.cc_link.specs.declared.unit.StoredUnit.{StoredUnit}
+use Rattle.cc_library.specs.declared.command.Command.{Command}
+use Rattle.cc_library.specs.Apply.{Units, apply, after, library_of, AreAccepted}
+use Rattle.cc_library.specs.Body.{Spells, IsCommand, body_of}
+use Rattle.cc_library.specs.Recovered.{StandFor, Recovers, RecoversAlone}
+use Rattle.cc_library.proofs.Standing.{one_more, one_map, holds_recovers}
 use Rattle.cc_core.specs.declared.command.Request.{Request}
 use Rattle.cc_core.specs.declared.command.Request.TheVariants as request
 use Rattle.cc_core.specs.declared.command.Placed.{Placed}
@@ -21,40 +30,24 @@ use Rattle.cc_core.specs.declared.job.Job.{Job}
 use Rattle.cc_core.specs.declared.job.Progress.{Progress}
 use Rattle.cc_core.specs.declared.job.Progress.TheVariants.{Waiting, Taken, Made, Refused}
 use Rattle.cc_core.specs.declared.contents.Contents.{Contents}
+use Rattle.cc_core.specs.declared.contents.Due.{Due}
+use Rattle.cc_core.specs.declared.contents.Due.TheVariants as due
 use Rattle.cc_core.specs.declared.contents.Phase.{Phase}
-use Rattle.cc_core.specs.declared.contents.Phase.TheVariants.{Idle, Committing}
+use Rattle.cc_core.specs.declared.contents.Phase.TheVariants.{Idle, Committing, Failed, Crashed}
 use Rattle.cc_core.specs.declared.event.Event.{Event}
 use Rattle.cc_core.specs.declared.event.Event.TheVariants as event
-use Rattle.cc_core.specs.Library.{Library, apply, kept, after, library_of, AreAccepted}
 use Rattle.cc_core.specs.Rules.{Rules}
-use Rattle.cc_core.specs.Job.{planned, job_of, source_in, with_piece, verdict}
-use Rattle.cc_core.specs.Step.{Step, Begun, start, counted, placed_now}
-use Rattle.cc_core.specs.Run.{EachUnit, AreRising, commands, settled, committed, Turn, Run, Reached}
+use Rattle.cc_core.specs.Job.{planned, job_of, source_in, with_piece, closed, command_of, verdict}
+use Rattle.cc_core.specs.StoreState.{StoreState}
+use Rattle.cc_core.specs.Store.{IsFormatted, stepped, due_after, FailsTo, crashed_store}
+use Rattle.cc_core.specs.Step.{Step, Begun, Advances, Fails, Acknowledges, Crashes, Reopens, IsFree, IsStart, IsLongest, counted, placed_now, commands}
+use Rattle.cc_core.specs.Run.{EachUnit, AreRising, but_last, live, Survives, EachImageSurvives, EachImageIsRight, PutsCommand, Turn, Run, Reached}
+use Rattle.cc_core.specs.Ready.{HasRoom, IsFitting, IsRecoverable, IsReady, IsReadyIn}
 use Rattle.cc_core.proofs.Lists.{slice_get-set, slice_get-push, All-slice_get, take-push}
-use Rattle.cc_core.proofs.Whole.{IsRightCommand, IsNamed, IsLawful, verdict_right, verdict_taken}
-
-cond_cases : {A : Type 0} (b : Bool) (x y z : A) → cond b x y ≡ z → (x ≡ z) ⊎ (y ≡ z)
-cond_cases true x y z is = inl is
-cond_cases false x y z is = inr is
-
--- a value that is found after an insertion is the one inserted, or was found before
-module _ {K X : Type 0} {R : K → K → Ordering} (o : IsTotalOrder R) where
-  found-insert : (m : FinMap R X) (k : K) (v : X) (q : K) (x : X) → get (insert m k v) q ≡ Some x → (Some v ≡ Some x) ⊎ (get m q ≡ Some x)
-  found-insert m k v q x is = cond_cases (eq_by_cmp R q k) (Some v) (get m q) (Some x) (sym (get-insert o m k v q) ∙ is)
-
-  found-remove : (m : FinMap R X) (k q : K) (x : X) → get (remove m k) q ≡ Some x → get m q ≡ Some x
-  found-remove m k q x is =
-      elim (cond_cases (eq_by_cmp R q k) None (get m q) (Some x) (sym (get-remove o m k q) ∙ is)) [ inl h ↦ absurd (cc) | inr h ↦ h ]
-
--- in commit, the command in flight is the last of the order
-abbrev pub EndsInFlight : Phase → List Placed → Type 0
-EndsInFlight Idle order = Unit {0}
-EndsInFlight (Committing client placed) order = (front : List Placed) × (order ≡ front ++ placed ∷ [])
-
--- the command in flight has a right unit
-abbrev pub IsRightInFlight : (StoredUnit → Type 0) → Phase → Type 0
-IsRightInFlight is_right Idle = Unit {0}
-IsRightInFlight is_right (Committing client placed) = IsRightCommand is_right placed.command
+use Rattle.cc_core.proofs.Whole.{IsRightCommand, IsNamed, IsLawful, IsTaken, verdict_right, verdict_taken}
+use Rattle.cc_core.proofs.Orders.{found-insert, found-remove, AreRight, AreRight-push, AreRight-front, EachUnit-empty, EachUnit-library, library-push, AreAccepted-push, AreAccepted-before, but_last-push}
+use Rattle.cc_core.proofs.Held.{HoldsA, commit_goes_on, room_goes_on, failed_images, crashed_image, crashed_alone}
+use Rattle.cc_core.proofs.Ending.{LacksLast, HoldsOrder, HoldsFlight, HoldsCrash, IsKept, stand_more, ends_of, each_ends, ends_survives, kept_acked}
 
 -- each place is below this number
 abbrev pub AreBelow : ℕ → List Placed → Type 0
@@ -80,28 +73,61 @@ AreRising-push n order a rising below at i j b c lt first second =
       ]
     ]
 
--- a library whose units are right, and a right command, give a library whose units are right
-EachUnit-insert : (is_right : StoredUnit → Type 0) (library : Library) (name : List ℕ) (unit : StoredUnit) → EachUnit is_right library → is_right unit → EachUnit is_right (insert library name unit)
-EachUnit-insert is_right library name unit each right q u is =
-    elim (found-insert nat_list_cmp_total library name unit q u is) [ inl h ↦ let same : unit ≡ u = cc in subst is_right same right | inr h ↦ each q u h ]
+-- a formatted disk holds no records
+formatted_holds : (area : ℕ) (store : StoreState) (order : List Placed) → IsFormatted area store → order ≡ [] → HoldsOrder store order
+formatted_holds area store order f none =
+    let held : HoldsA store.area [] (bytes_of store.cells) = record {
+      holds = subst (λ (n : ℕ). HoldsRecords (bytes_of store.cells) n []) (sym f.same_area)
+          (empty_holds (bytes_of store.cells) f.rest (length store.cells) area f.bytes (length-map store.cells (λ (c : Cell). c.byte)) f.is_area);
+      header_is = ap (λ (l : List ℕ). take 16 l) f.bytes ∙ take_at (header 0 area) (0 ∷ f.rest) 16 refl ∙ ap (header 0) (sym f.same_area);
+    } in
+    record {
+      bodies = [];
+      rest = record { taken = f.unused; images = λ image now. subst (HoldsA store.area []) (sym (f.alone image now)) held };
+      stand = subst (λ (l : List Placed). StandFor [] (library_of (commands l))) (sym none) (record { commands = []; spelled = tt; accepted = tt; map_is = refl });
+    }
 
-EachUnit-kept : (is_right : StoredUnit → Type 0) (library : Library) (b : Bool) (made : Library) (first second : ℕ)
-    → EachUnit is_right library → EachUnit is_right made → EachUnit is_right (kept library (cond b (Err first) (Ok made))) × EachUnit is_right (kept library (cond b (Ok made) (Err second)))
-EachUnit-kept is_right library true made first second each new = (each, new)
-EachUnit-kept is_right library false made first second each new = (new, each)
+-- the area of a disk that is kept is within its limits
+area_most : (phase : Phase) (store : StoreState) (order acknowledged : List Placed) → IsKept phase store order acknowledged → store.area ≤ 2 ^ 30
+area_most phase store order acknowledged k =
+    (each_ends phase store order acknowledged k (bytes_of store.cells) (bytes_are_image store.cells)).held.holds.is_area.most
 
-EachUnit-after : (is_right : StoredUnit → Type 0) (library : Library) (c : Command) → EachUnit is_right library → IsRightCommand is_right c → EachUnit is_right (after library c)
-EachUnit-after is_right library (command.Add name unit) each right =
-    (EachUnit-kept is_right library (contains_key library name) (insert library name unit) 31 32 each (EachUnit-insert is_right library name unit each right)).0
-EachUnit-after is_right library (command.Replace name unit) each right =
-    (EachUnit-kept is_right library (contains_key library name) (insert library name unit) 31 32 each (EachUnit-insert is_right library name unit each right)).1
-EachUnit-after is_right library (command.Withdraw name) each right =
-    (EachUnit-kept is_right library (contains_key library name) (remove library name) 31 32 each (λ q u is. each q u (found-remove nat_list_cmp_total library name q u is))).1
+-- what stands at a place of the front stands there in the whole
+slice_get-front : {X : Type 0} (xs ys : List X) (k : ℕ) (x : X) → slice_get xs k ≡ Some x → slice_get (xs ++ ys) k ≡ Some x
+slice_get-front [] ys k x is = absurd (cc)
+slice_get-front (z ∷ xs) ys zero x is = is
+slice_get-front (z ∷ xs) ys (suc k) x is = slice_get-front xs ys k x is
 
--- commands that are accepted in their turns, and one more that is
-AreAccepted-push : (library : Library) (cs : List Command) (c : Command) → AreAccepted library cs → IsOk (apply (fold after library cs) c) → AreAccepted library (cs ++ c ∷ [])
-AreAccepted-push library [] c all taken = (taken, tt)
-AreAccepted-push library (d ∷ cs) c all taken = (all.0, AreAccepted-push (after library d) cs c all.1 taken)
+in_whole : (front rest whole : List Placed) → whole ≡ front ++ rest → (k : ℕ) (a : Placed) → slice_get front k ≡ Some a → slice_get whole k ≡ Some a
+in_whole front rest whole is k a there = ap (λ (l : List Placed). slice_get l k) is ∙ slice_get-front front rest k a there
+
+but_last_right : (is_right : StoredUnit → Type 0) (order : List Placed) → AreRight is_right order → AreRight is_right (but_last order)
+but_last_right is_right order right =
+    AreRight-front is_right (but_last order) (drop (length order - 1) order) (subst (AreRight is_right) (sym (take-append-drop (length order - 1) order)) right)
+
+-- after a crash the library can be opened
+recoverable : (store : StoreState) (order acknowledged : List Placed) → AreAccepted empty (commands order) → HoldsCrash store order acknowledged → IsRecoverable store order
+recoverable store order acknowledged all h = at h.ends.known
+  where
+    at : StandFor h.ends.bodies (library_of (commands order)) ⊎ LacksLast h.ends.bodies order acknowledged → IsRecoverable store order
+    at (inl whole) = record {
+      alone = h.alone;
+      bodies = h.ends.bodies;
+      library = library_of (commands order);
+      holds = holds_alone (bytes_of store.cells) store.area h.ends.bodies h.ends.held.holds;
+      stand = whole;
+      accepted = all;
+      known = inl refl;
+    }
+    at (inr lacks) = record {
+      alone = h.alone;
+      bodies = h.ends.bodies;
+      library = library_of (commands lacks.front);
+      holds = holds_alone (bytes_of store.cells) store.area h.ends.bodies h.ends.held.holds;
+      stand = lacks.stand;
+      accepted = all;
+      known = inr (lacks.front, lacks.last, lacks.is, refl);
+    }
 
 module _ {P : Type 0} (rules : Rules P) where
   -- a fresh job's pieces all wait
@@ -145,28 +171,26 @@ module _ {P : Type 0} (rules : Rules P) where
 
   -- what holds of the contents after any events
   pub record IsSound (is_right : StoredUnit → Type 0) (s : Contents P) : Type 0 where
-    pub replay : s.library ≡ library_of (committed s)
+    pub replay : s.library ≡ live s.phase s.order
     pub accepted : AreAccepted empty (commands s.order)
-    pub ends : EndsInFlight s.phase s.order
+    pub right : AreRight is_right s.order
     pub acked : All (Contains s.order) s.acknowledged
     pub rising : AreRising s.order
     pub below : AreBelow s.clock.number s.order
-    pub units : EachUnit is_right s.library
-    pub flying : IsRightInFlight is_right s.phase
     pub named : AllNamed s.jobs
+    pub disk : IsKept s.phase s.store s.order s.acknowledged
 
   module _ (is_right : StoredUnit → Type 0) (law : IsLawful rules is_right) where
-    pub start-IsSound : IsSound is_right start
-    start-IsSound = record {
-      replay = refl;
-      accepted = tt;
-      ends = tt;
-      acked = All-nil (Contains []);
-      rising = λ i j a b lt first second. absurd (cc);
-      below = λ k a is. absurd (cc);
-      units = λ name unit is. let none = sym (get-empty (slice_cmp nat_cmp) name) ∙ is in absurd (cc);
-      flying = tt;
-      named = λ client job is. let none = sym (get-empty nat_cmp client) ∙ is in absurd (cc);
+    pub start-IsSound : (area : ℕ) (s : Contents P) → IsStart area s → IsSound is_right s
+    start-IsSound area s st = record {
+      replay = st.library ∙ sym (λ i. live (st.phase i) (st.order i));
+      accepted = subst (λ (l : List Placed). AreAccepted empty (commands l)) (sym st.order) tt;
+      right = subst (AreRight is_right) (sym st.order) tt;
+      acked = subst (All (Contains s.order)) (sym st.acknowledged) (All-nil (Contains s.order));
+      rising = subst AreRising (sym st.order) (λ i j a b lt first second. absurd (cc));
+      below = subst (AreBelow s.clock.number) (sym st.order) (λ k a is. absurd (cc));
+      named = λ client job is. let none = sym (get-empty nat_cmp client) ∙ ap (λ jobs. get jobs client) (sym st.jobs) ∙ is in absurd (cc);
+      disk = subst (λ phase. IsKept phase s.store s.order s.acknowledged) (sym st.phase) (formatted_holds area s.store s.order st.formatted st.order);
     }
 
     -- a step that changes jobs and workers alone
@@ -174,87 +198,201 @@ module _ {P : Type 0} (rules : Rules P) where
     kept_IsSound s jobs workers sound named = record {
       replay = sound.replay;
       accepted = sound.accepted;
-      ends = sound.ends;
+      right = sound.right;
       acked = sound.acked;
       rising = sound.rising;
       below = λ k a is. let lt = sound.below k a is in omega arith;
-      units = sound.units;
-      flying = sound.flying;
       named = named;
+      disk = sound.disk;
     }
 
+    idle_of : (phase : Phase) → IsFree phase → closed phase ≡ None → phase ≡ Idle
+    idle_of Idle free open' = refl
+    idle_of (Committing client placed due) free open' = absurd free
+    idle_of Failed free open' = absurd (cc)
+    idle_of Crashed free open' = absurd free
+
     begun_IsSound : (s : Contents P) (client : ℕ) (v : Result Command ℕ) (reply : Option Reply) (new : Contents P)
-        → IsSound is_right s → s.phase ≡ Idle → ((c : Command) → v ≡ Ok c → IsRightCommand is_right c × IsOk (apply s.library c)) → Begun s client v reply new → IsSound is_right new
-    begun_IsSound s client (Err number) reply new sound idle right begun =
+        → IsSound is_right s → ((c : Command) → v ≡ Ok c → (s.phase ≡ Idle) × IsRightCommand is_right c × IsOk (apply s.library c) × IsFitting s.store c)
+        → Begun s client v reply new → PutsCommand s new → IsSound is_right new
+    begun_IsSound s client (Err number) reply new sound right begun puts =
         subst (IsSound is_right) (sym begun.1) (kept_IsSound s (remove s.jobs client) s.workers sound (AllNamed-remove s.jobs client sound.named))
-    begun_IsSound s client (Ok c) reply new sound idle right begun =
+    begun_IsSound s client (Ok c) reply new sound right begun puts =
         let placed = placed_now s c in
-        let library : s.library ≡ library_of (commands s.order) = sound.replay ∙ ap (λ phase. library_of (settled phase s.order)) idle in
-        let there : IsSound is_right (record (counted s) { order = s.order ++ placed ∷ []; phase = Committing client placed }) = record {
+        let r = right c refl in
+        let library : s.library ≡ library_of (commands s.order) = sound.replay ∙ ap (λ phase. live phase s.order) r.0 in
+        let ok : IsOk (apply (library_of (commands s.order)) c) = subst (λ l. IsOk (apply l c)) library r.2 in
+        let h : HoldsOrder s.store s.order = subst (λ phase. IsKept phase s.store s.order s.acknowledged) r.0 sound.disk in
+        let spelled : IsCommand c = puts placed (ap (λ (n : Contents P). n.order) begun.1) in
+        let there : IsSound is_right (record (counted s) { order = s.order ++ placed ∷ []; phase = Committing client placed due.WriteBody }) = record {
           replay = library ∙ ap (λ front. library_of (commands front)) (sym (take-push s.order placed));
-          accepted = subst (AreAccepted empty) (sym (map-append (λ (p : Placed). p.command) s.order (placed ∷ [])))
-              (AreAccepted-push empty (commands s.order) c sound.accepted (subst (λ l. IsOk (apply l c)) library (right c refl).1));
-          ends = (s.order, refl);
+          accepted = AreAccepted-push s.order placed sound.accepted ok;
+          right = AreRight-push is_right s.order placed sound.right r.1;
           acked = All-weaker (Contains s.order) (Contains (s.order ++ placed ∷ [])) (λ x in'. Contains-append_left s.order (placed ∷ []) x in') s.acknowledged sound.acked;
           rising = AreRising-push s.clock.number s.order placed sound.rising sound.below refl;
           below = AreBelow-push s.clock.number s.order placed sound.below refl;
-          units = sound.units;
-          flying = (right c refl).0;
           named = sound.named;
+          disk = record {
+            bodies = h.bodies;
+            front = s.order;
+            is = refl;
+            acked = sound.acked;
+            taken = ok;
+            stand = h.stand;
+            spelled = spelled;
+            room = r.3;
+            on_disk = h.rest;
+          };
         } in
         subst (IsSound is_right) (sym begun.1) there
 
-    acked_IsSound : (s : Contents P) (client : ℕ) (placed : Placed) → IsSound is_right s → s.phase ≡ Committing client placed
-        → IsSound is_right (record (counted s) { library = after s.library placed.command; acknowledged = s.acknowledged ++ placed ∷ []; jobs = remove s.jobs client; phase = Idle })
-    acked_IsSound s client placed sound committing =
-        let ends = subst (λ phase. EndsInFlight phase s.order) committing sound.ends in
-        let flying = subst (IsRightInFlight is_right) committing sound.flying in
-        let front = ends.0 in
-        let before : s.library ≡ library_of (commands front) =
-        sound.replay ∙ ap (λ phase. library_of (settled phase s.order)) committing
-        ∙ ap (λ order. library_of (commands (take (length order - 1) order))) ends.1
-        ∙ ap (λ (xs : List Placed). library_of (commands xs)) (take-push front placed) in
-        record {
-          replay = ap (λ library. after library placed.command) before
-              ∙ sym (fold-append after empty (commands front) (placed.command ∷ []))
-              ∙ ap library_of (sym (map-append (λ (p : Placed). p.command) front (placed ∷ [])))
-              ∙ ap (λ (order : List Placed). library_of (commands order)) (sym ends.1);
+    -- what is in commit
+    flight : (s : Contents P) (client : ℕ) (placed : Placed) (due : Due) → IsSound is_right s → s.phase ≡ Committing client placed due → HoldsFlight placed due s.store s.order s.acknowledged
+    flight s client placed due sound committing = subst (λ phase. IsKept phase s.store s.order s.acknowledged) committing sound.disk
+
+    advanced_IsSound : (due : Due) (s : Contents P) (reply : Option Reply) (new : Contents P) → IsSound is_right s → Advances due s reply new → IsSound is_right new
+    advanced_IsSound due s reply new sound step =
+        let f = flight s step.client step.placed due sound step.committing in
+        let there : IsSound is_right (record (counted s) { store = stepped due step.placed.command s.store; phase = Committing step.client step.placed (due_after due) }) = record {
+          replay = sound.replay ∙ ap (λ phase. live phase s.order) step.committing;
           accepted = sound.accepted;
-          ends = tt;
-          acked = All-push (Contains s.order) s.acknowledged placed sound.acked (subst (λ order. Contains order placed) (sym ends.1) (Contains-push front placed));
+          right = sound.right;
+          acked = sound.acked;
           rising = sound.rising;
           below = λ k a is. let lt = sound.below k a is in omega arith;
-          units = EachUnit-after is_right s.library placed.command sound.units flying;
-          flying = tt;
+          named = sound.named;
+          disk = record {
+            bodies = f.bodies;
+            front = f.front;
+            is = f.is;
+            acked = f.acked;
+            taken = f.taken;
+            stand = f.stand;
+            spelled = f.spelled;
+            room = room_goes_on due s.store step.placed.command f.room;
+            on_disk = commit_goes_on due s.store f.bodies step.placed.command f.room f.on_disk;
+          };
+        } in
+        subst (IsSound is_right) (sym step.new_is) there
+
+    failed_IsSound : (s : Contents P) (reply : Option Reply) (new : Contents P) → IsSound is_right s → Fails s reply new → IsSound is_right new
+    failed_IsSound s reply new sound step =
+        let f = flight s step.client step.placed step.due sound step.committing in
+        let there : IsSound is_right (record (counted s) { store = step.store; jobs = remove s.jobs step.client; phase = Failed }) = record {
+          replay = sound.replay ∙ ap (λ phase. live phase s.order) step.committing;
+          accepted = sound.accepted;
+          right = sound.right;
+          acked = sound.acked;
+          rising = sound.rising;
+          below = λ k a is. let lt = sound.below k a is in omega arith;
+          named = AllNamed-remove s.jobs step.client sound.named;
+          disk = λ image now.
+              ends_of step.placed step.store s.order s.acknowledged f.bodies f.front f.is f.acked f.taken f.stand f.spelled image
+              (failed_images step.due s.store step.store f.bodies step.placed.command f.room f.on_disk step.failed image now);
+        } in
+        subst (IsSound is_right) (sym step.new_is) there
+
+    acked_IsSound : (s : Contents P) (client : ℕ) (reply : Option Reply) (new : Contents P) → IsSound is_right s → Acknowledges s client reply new → IsSound is_right new
+    acked_IsSound s client reply new sound step =
+        let placed = step.placed in
+        let f = flight s client placed due.Acknowledge sound step.committing in
+        let before : s.library ≡ library_of (commands f.front) =
+        sound.replay ∙ ap (λ phase. live phase s.order) step.committing ∙ ap (λ (l : List Placed). library_of (commands l)) (but_last-push f.front placed s.order f.is) in
+        let there : IsSound is_right (record (counted s) { library = after s.library placed.command; acknowledged = s.acknowledged ++ placed ∷ []; jobs = remove s.jobs client; phase = Idle }) = record {
+          replay = ap (λ library. after library placed.command) before ∙ sym (library-push f.front placed) ∙ ap (λ (l : List Placed). library_of (commands l)) (sym f.is);
+          accepted = sound.accepted;
+          right = sound.right;
+          acked = All-push (Contains s.order) s.acknowledged placed sound.acked (subst (λ order. Contains order placed) (sym f.is) (Contains-push f.front placed));
+          rising = sound.rising;
+          below = λ k a is. let lt = sound.below k a is in omega arith;
           named = AllNamed-remove s.jobs client sound.named;
-        }
+          disk = record {
+            bodies = f.bodies ++ body_of placed.command ∷ [];
+            rest = f.on_disk;
+            stand = stand_more f.bodies f.front placed s.order f.is f.stand f.spelled f.taken;
+          };
+        } in
+        subst (IsSound is_right) (sym step.new_is) there
+
+    crashed_IsSound : (choice : List ℕ) (s : Contents P) (reply : Option Reply) (new : Contents P) → IsSound is_right s → Crashes choice s reply new → IsSound is_right new
+    crashed_IsSound choice s reply new sound step =
+        let there : IsSound is_right (record (counted s) { library = empty; jobs = empty; workers = empty; phase = Crashed; store = crashed_store choice s.store }) = record {
+          replay = refl;
+          accepted = sound.accepted;
+          right = sound.right;
+          acked = sound.acked;
+          rising = sound.rising;
+          below = λ k a is. let lt = sound.below k a is in omega arith;
+          named = λ client job is. let none = sym (get-empty nat_cmp client) ∙ is in absurd (cc);
+          disk = record {
+            alone = crashed_alone s.store.cells choice;
+            ends = each_ends s.phase s.store s.order s.acknowledged sound.disk (bytes_of (crashed s.store.cells choice)) (crashed_image s.store.cells choice);
+          };
+        } in
+        subst (IsSound is_right) (sym step.new_is) there
+
+    reopened_IsSound : (s : Contents P) (reply : Option Reply) (new : Contents P) → IsSound is_right s → Reopens s reply new → IsSound is_right new
+    reopened_IsSound s reply new sound step =
+        let h : HoldsCrash s.store s.order s.acknowledged = subst (λ phase. IsKept phase s.store s.order s.acknowledged) step.crashed sound.disk in
+        let e = h.ends in
+        let kept = step.kept in
+        let rest = drop step.longest.count s.order in
+        let whole : s.order ≡ kept ++ rest = sym (take-append-drop step.longest.count s.order) ∙ ap (λ (l : List Placed). l ++ rest) (sym step.longest.front) in
+        let same : step.bodies ≡ e.bodies = (holds_same (bytes_of s.store.cells) s.store.area s.store.area e.bodies step.bodies e.held.holds step.holds).1 in
+        let held : HoldsA s.store.area step.bodies (bytes_of s.store.cells) = record { holds = step.holds; header_is = e.held.header_is } in
+        let there : IsSound is_right (record (counted s) { library = step.library; order = kept; phase = Idle; store = record s.store { used = length (records step.bodies) } }) = record {
+          replay = sym step.longest.leads;
+          accepted = AreAccepted-before kept rest (subst (λ (l : List Placed). AreAccepted empty (commands l)) whole sound.accepted);
+          right = AreRight-front is_right kept rest (subst (AreRight is_right) whole sound.right);
+          acked = kept_acked e.bodies s.order s.acknowledged kept step.library sound.acked (subst (λ (bs : List (List ℕ)). StandFor bs step.library) same step.stand) e.known step.longest;
+          rising = λ i j a b lt first second. sound.rising i j a b lt (in_whole kept rest s.order whole i a first) (in_whole kept rest s.order whole j b second);
+          below = λ k a is. let lt = sound.below k a (in_whole kept rest s.order whole k a is) in omega arith;
+          named = sound.named;
+          disk = record {
+            bodies = step.bodies;
+            rest = record { taken = refl; images = λ image now. subst (HoldsA s.store.area step.bodies) (sym (h.alone image now)) held };
+            stand = subst (StandFor step.bodies) (sym step.longest.leads) step.stand;
+          };
+        } in
+        subst (IsSound is_right) (sym step.new_is) there
 
     -- each step keeps it
-    pub step_IsSound : (old : Contents P) (e : Event P) (reply : Option Reply) (new : Contents P) → IsSound is_right old → Step rules old e reply new → IsSound is_right new
-    step_IsSound old (event.Submit client call asked) reply new sound step =
+    pub step_IsSound : (old : Contents P) (e : Event P) (reply : Option Reply) (new : Contents P) → IsSound is_right old → Step rules old e reply new → PutsCommand old new → IsSound is_right new
+    step_IsSound old (event.Submit client call asked) reply new sound step puts =
         subst (IsSound is_right) (sym step.new_is) (kept_IsSound old _ _ sound (AllNamed-insert old.jobs client _ sound.named (job_named call asked)))
-    step_IsSound old (event.Take worker client part) reply new sound step =
+    step_IsSound old (event.Take worker client part) reply new sound step puts =
         subst (IsSound is_right) (sym step.new_is)
         (kept_IsSound old _ _ sound (AllNamed-insert old.jobs client _ sound.named
         (with_piece_named step.job part Taken (sound.named client step.job step.held) (λ source p from made. absurd (cc)))))
-    step_IsSound old (event.Done worker piece) reply new sound step =
+    step_IsSound old (event.Done worker piece) reply new sound step puts =
         subst (IsSound is_right) (sym step.new_is)
         (kept_IsSound old _ _ sound (AllNamed-insert old.jobs step.work.client _ sound.named
         (with_piece_named step.job step.work.part (Made piece) (sound.named step.work.client step.job step.held)
         (λ source p from made. let same : piece ≡ p = cc in let sources : rules.source_of piece ≡ source = cc (step.source) in
         (ap rules.source_of (sym same) ∙ sources, ap rules.part_of (sym same) ∙ step.part)))))
-    step_IsSound old (event.Refuse worker number) reply new sound step =
+    step_IsSound old (event.Refuse worker number) reply new sound step puts =
         subst (IsSound is_right) (sym step.new_is)
         (kept_IsSound old _ _ sound (AllNamed-insert old.jobs step.work.client _ sound.named
         (with_piece_named step.job step.work.part (Refused number) (sound.named step.work.client step.job step.held) (λ source p from made. absurd (cc)))))
-    step_IsSound old (event.Begin client) reply new sound step =
-        begun_IsSound old client (verdict rules old.library step.job) reply new sound step.idle
-        (λ c is. (verdict_right rules is_right law old.library step.job c (sound.named client step.job step.held) step.ready is, verdict_taken rules old.library step.job c is)) step.begun
-    step_IsSound old (event.Ack client) reply new sound step =
-        subst (IsSound is_right) (sym step.new_is) (acked_IsSound old client step.placed sound step.committing)
+    step_IsSound old (event.Begin client) reply new sound step puts =
+        begun_IsSound old client (verdict rules old.phase old.library old.store step.job) reply new sound
+        (λ c is. let t = verdict_taken rules old.phase old.library old.store step.job c is in (
+            idle_of old.phase step.free t.open',
+            verdict_right rules is_right law old.phase old.library old.store step.job c (sound.named client step.job step.held) step.ready is,
+            t.ok,
+            (t.fits, area_most old.phase old.store old.order old.acknowledged sound.disk),
+        )) step.begun puts
+    step_IsSound old event.WriteBody reply new sound step puts = advanced_IsSound due.WriteBody old reply new sound step
+    step_IsSound old event.SyncBody reply new sound step puts = advanced_IsSound due.SyncBody old reply new sound step
+    step_IsSound old event.WriteGate reply new sound step puts = advanced_IsSound due.WriteGate old reply new sound step
+    step_IsSound old event.SyncGate reply new sound step puts = advanced_IsSound due.SyncGate old reply new sound step
+    step_IsSound old event.Fail reply new sound step puts = failed_IsSound old reply new sound step
+    step_IsSound old (event.Ack client) reply new sound step puts = acked_IsSound old client reply new sound step
+    step_IsSound old (event.Crash choice) reply new sound step puts = crashed_IsSound choice old reply new sound step
+    step_IsSound old event.Recover reply new sound step puts = reopened_IsSound old reply new sound step
 
     turn_IsSound : (old : Contents P) (e : Event P) (new : Contents P) → IsSound is_right old → Turn rules old e new → IsSound is_right new
-    turn_IsSound old e new sound (inl step) = step_IsSound old e step.0 new sound step.1
+    turn_IsSound old e new sound (inl step) = step_IsSound old e step.0 new sound step.1 step.2
     turn_IsSound old e new sound (inr stays) = subst (IsSound is_right) (sym stays.1) sound
 
     -- and so does a run
@@ -264,4 +402,33 @@ module _ {P : Type 0} (rules : Rules P) where
 
     -- it holds of whatever is reached
     pub reached_IsSound : (s : Contents P) → Reached rules s → IsSound is_right s
-    reached_IsSound s reached = run_IsSound start reached.events s start-IsSound reached.run
+    reached_IsSound s reached = run_IsSound reached.first reached.events s (start-IsSound reached.area reached.first reached.started) reached.run
+
+    -- ---- what follows
+
+    pub sound_survives : (s : Contents P) → IsSound is_right s → EachImageSurvives s
+    sound_survives s sound image now = ends_survives s.store.area s.order s.acknowledged image sound.acked (each_ends s.phase s.store s.order s.acknowledged sound.disk image now)
+
+    pub sound_right : (s : Contents P) → IsSound is_right s → EachImageIsRight is_right s
+    sound_right s sound image library now recovered =
+        let v = sound_survives s sound image now in
+        subst (EachUnit is_right) (sym (v.recovers.alone library recovered))
+        (EachUnit-library is_right v.kept (AreRight-front is_right v.kept v.lost (subst (AreRight is_right) v.in_order sound.right)))
+
+    live_right : (phase : Phase) (order : List Placed) → AreRight is_right order → EachUnit is_right (live phase order)
+    live_right Idle order right = EachUnit-library is_right order right
+    live_right (Committing client placed due) order right = EachUnit-library is_right (but_last order) (but_last_right is_right order right)
+    live_right Failed order right = EachUnit-library is_right (but_last order) (but_last_right is_right order right)
+    live_right Crashed order right = EachUnit-empty is_right
+
+    pub sound_units : (s : Contents P) → IsSound is_right s → EachUnit is_right s.library
+    sound_units s sound = subst (EachUnit is_right) (sym sound.replay) (live_right s.phase s.order sound.right)
+
+    ready_in : (phase : Phase) (store : StoreState) (order acknowledged : List Placed) → AreAccepted empty (commands order) → IsKept phase store order acknowledged → IsReadyIn phase store order
+    ready_in Idle store order acknowledged all k = tt
+    ready_in (Committing client placed due) store order acknowledged all k = k.room
+    ready_in Failed store order acknowledged all k = tt
+    ready_in Crashed store order acknowledged all k = recoverable store order acknowledged all k
+
+    pub sound_ready : (s : Contents P) → IsSound is_right s → IsReady s
+    sound_ready s sound = ready_in s.phase s.store s.order s.acknowledged sound.accepted sound.disk

@@ -1,18 +1,23 @@
 -- A command that a job begins has a unit that is right: its pieces are all there, none was refused, and each
 -- names the job's source and its own place, so they are all of the source's pieces and the build's law holds.
-use Rattle.std.proofs.Common.{◌≡◌, ℕ, zero, suc, List, [], ◌∷◌, length, Option, Some, None, Result, Ok, Err, refl, sym, ap, subst, ◌∙◌}
-use Rattle.std.specs.Prelude.{slice_get, IsTrue, IsOk}
-use Rattle.cc_core.specs.declared.unit.StoredUnit.{StoredUnit}
-use Rattle.cc_core.specs.declared.command.Command.{Command}
-use Rattle.cc_core.specs.declared.command.Command.TheVariants as command
+use Rattle.std.proofs.Common.{◌≡◌, ℕ, zero, suc, ◌≤◌, Bool, true, false, if◌then◌else◌, List, [], ◌∷◌, length, Option, Some, None, Result, Ok, Err, refl, sym, ap, subst, ◌∙◌}
+use Rattle.std.specs.Prelude.{slice_get, IsTrue, IsOk, nat_le}
+use Rattle.std.proofs.lemmas.Bool.{leb-true}
+use Rattle.cc_link.specs.declared.unit.StoredUnit.{StoredUnit}
+use Rattle.cc_library.specs.declared.command.Command.{Command}
+use Rattle.cc_library.specs.declared.command.Command.TheVariants as command
 use Rattle.cc_core.specs.declared.command.Request.{Request}
 use Rattle.cc_core.specs.declared.command.Request.TheVariants as request
 use Rattle.cc_core.specs.declared.job.Job.{Job}
 use Rattle.cc_core.specs.declared.job.Progress.{Progress}
 use Rattle.cc_core.specs.declared.job.Progress.TheVariants.{Waiting, Taken, Made, Refused}
-use Rattle.cc_core.specs.Library.{Library, apply, refusal}
+use Rattle.cc_library.specs.Apply.{Units, apply, refusal}
+use Rattle.cc_library.specs.Body.{body_of}
+use Rattle.cc_core.specs.declared.contents.Phase.{Phase}
+use Rattle.cc_core.specs.StoreState.{StoreState}
+use Rattle.cc_core.specs.Store.{room_with}
 use Rattle.cc_core.specs.Rules.{Rules, AreWhole}
-use Rattle.cc_core.specs.Job.{source_in, unless, with_unit, accepted, all_there, first_refused, made_pieces, built, command_of, verdict}
+use Rattle.cc_core.specs.Job.{source_in, unless, with_unit, accepted, all_there, first_refused, made_pieces, built, command_of, closed, full, verdict}
 
 -- the unit of a command, where it has one, is right
 abbrev pub IsRightCommand : (StoredUnit → Type 0) → Command → Type 0
@@ -24,19 +29,37 @@ unless-Ok : {A : Type 0} (o : Option ℕ) (r : Result A ℕ) (x : A) → unless 
 unless-Ok None r x is = (refl, is)
 unless-Ok (Some number) r x is = absurd (cc)
 
-accepted-Ok : (library : Library) (r : Result Command ℕ) (c : Command) → accepted library r ≡ Ok c → r ≡ Ok c
-accepted-Ok library (Ok d) c is = (unless-Ok (refusal (apply library d)) (Ok d) c is).1
-accepted-Ok library (Err number) c is = is
-
-not_refused : {A : Type 0} (r : Result Library ℕ) (next : Result A ℕ) (x : A) → unless (refusal r) next ≡ Ok x → IsOk r
+not_refused : {A : Type 0} (r : Result Units ℕ) (next : Result A ℕ) (x : A) → unless (refusal r) next ≡ Ok x → IsOk r
 not_refused (Ok library) next x is = refl
 not_refused (Err number) next x is = absurd (cc)
 
-accepted-taken : (library : Library) (r : Result Command ℕ) (c : Command) → accepted library r ≡ Ok c → IsOk (apply library c)
-accepted-taken library (Ok d) c is =
-    let same : d ≡ c = let h = (unless-Ok (refusal (apply library d)) (Ok d) c is).1 in cc in
-    subst (λ e. IsOk (apply library e)) same (not_refused (apply library d) (Ok d) c is)
-accepted-taken library (Err number) c is = absurd (cc)
+not_full : {A : Type 0} (m n : ℕ) (next : Result A ℕ) (x : A) → unless (if nat_le m n then None else Some 34) next ≡ Ok x → m ≤ n
+not_full m n next x is = at (nat_le m n) refl is
+  where
+    at : (b : Bool) → nat_le m n ≡ b → unless (if b then None else Some 34) next ≡ Ok x → m ≤ n
+    at true le is = leb-true m n le
+    at false le is = absurd (cc)
+
+-- what a command that is taken is
+pub record IsTaken (phase : Phase) (library : Units) (store : StoreState) (r : Result Command ℕ) (c : Command) : Type 0 where
+  pub open' : closed phase ≡ None
+  pub same : r ≡ Ok c
+  pub ok : IsOk (apply library c)
+  pub fits : room_with store (body_of c) ≤ store.area
+
+accepted-taken : (phase : Phase) (library : Units) (store : StoreState) (r : Result Command ℕ) (c : Command) → accepted phase library store r ≡ Ok c → IsTaken phase library store r c
+accepted-taken phase library store (Ok d) c is =
+    let first = unless-Ok (closed phase) _ c is in
+    let second = unless-Ok (refusal (apply library d)) _ c first.1 in
+    let third = unless-Ok (full store d) (Ok d) c second.1 in
+    let same : d ≡ c = cc (third.1) in
+    record {
+      open' = first.0;
+      same = third.1;
+      ok = subst (λ e. IsOk (apply library e)) same (not_refused (apply library d) (unless (full store d) (Ok d)) c first.1);
+      fits = subst (λ e. room_with store (body_of e) ≤ store.area) same (not_full (room_with store (body_of d)) store.area (Ok d) c second.1);
+    }
+accepted-taken phase library store (Err number) c is = absurd (cc)
 
 module _ {P : Type 0} (rules : Rules P) where
   -- a job's pieces are planned for its source, and each that was made names that source and its own place
@@ -91,12 +114,13 @@ module _ {P : Type 0} (rules : Rules P) where
   command_right is_right law job (request.Withdraw name) c asks named there is =
       let same : command.Withdraw name ≡ c = cc in subst (IsRightCommand is_right) same tt
 
-  -- the library takes the command that a job begins
-  pub verdict_taken : (library : Library) (job : Job P) (c : Command) → verdict rules library job ≡ Ok c → IsOk (apply library c)
-  verdict_taken library job c is = accepted-taken library (command_of rules job job.request) c is
+  -- the command that a job begins is taken
+  pub verdict_taken : (phase : Phase) (library : Units) (store : StoreState) (job : Job P) (c : Command) → verdict rules phase library store job ≡ Ok c
+      → IsTaken phase library store (command_of rules job job.request) c
+  verdict_taken phase library store job c is = accepted-taken phase library store (command_of rules job job.request) c is
 
-  -- the command that a job begins has a right unit
-  pub verdict_right : (is_right : StoredUnit → Type 0) → IsLawful is_right → (library : Library) (job : Job P) (c : Command)
-      → IsNamed job → IsTrue (all_there job.pieces) → verdict rules library job ≡ Ok c → IsRightCommand is_right c
-  verdict_right is_right law library job c named there is =
-      command_right is_right law job job.request c refl named there (accepted-Ok library (command_of rules job job.request) c is)
+  -- and has a right unit
+  pub verdict_right : (is_right : StoredUnit → Type 0) → IsLawful is_right → (phase : Phase) (library : Units) (store : StoreState) (job : Job P) (c : Command)
+      → IsNamed job → IsTrue (all_there job.pieces) → verdict rules phase library store job ≡ Ok c → IsRightCommand is_right c
+  verdict_right is_right law phase library store job c named there is =
+      command_right is_right law job job.request c refl named there (verdict_taken phase library store job c is).same

@@ -1,16 +1,21 @@
 -- A client's job: how it begins, and what comes of it.
-use Rattle.std.specs.Prelude.{ℕ, Bool, true, false, List, [], ◌∷◌, slice_set, replicate, Option, Some, None, Result, Ok, Err}
+use Rattle.std.specs.Prelude.{ℕ, Bool, true, false, List, [], ◌∷◌, slice_set, replicate, Option, Some, None, Result, Ok, Err, nat_le, if◌then◌else◌}
 use Rattle.std.specs.List.{list_all}
-use Rattle.cc_core.specs.declared.unit.StoredUnit.{StoredUnit}
-use Rattle.cc_core.specs.declared.command.Command.{Command}
-use Rattle.cc_core.specs.declared.command.Command.TheVariants as command
+use Rattle.cc_link.specs.declared.unit.StoredUnit.{StoredUnit}
+use Rattle.cc_library.specs.declared.command.Command.{Command}
+use Rattle.cc_library.specs.declared.command.Command.TheVariants as command
 use Rattle.cc_core.specs.declared.command.Request.{Request}
 use Rattle.cc_core.specs.declared.command.Request.TheVariants as request
 use Rattle.cc_core.specs.declared.job.Job.{Job}
 use Rattle.cc_core.specs.declared.job.Progress.{Progress}
 use Rattle.cc_core.specs.declared.job.Progress.TheVariants.{Waiting, Taken, Made, Refused}
 use Rattle.cc_core.specs.Rules.{Rules}
-use Rattle.cc_core.specs.Library.{Library, apply, refusal}
+use Rattle.cc_core.specs.declared.contents.Phase.{Phase}
+use Rattle.cc_core.specs.declared.contents.Phase.TheVariants.{Idle, Committing, Failed, Crashed}
+use Rattle.cc_library.specs.Apply.{Units, apply, refusal}
+use Rattle.cc_library.specs.Body.{body_of}
+use Rattle.cc_core.specs.StoreState.{StoreState}
+use Rattle.cc_core.specs.Store.{room_with}
 
 -- the source that a request hands in, where it hands one in
 abbrev pub source_in : Request → Option (List ℕ)
@@ -28,10 +33,21 @@ abbrev pub with_unit : (StoredUnit → Command) → Result StoredUnit ℕ → Re
 with_unit make (Ok unit) = Ok (make unit)
 with_unit make (Err number) = Err number
 
--- a command that the library takes, or the number that refuses it
-abbrev pub accepted : Library → Result Command ℕ → Result Command ℕ
-accepted library (Ok command) = unless (refusal (apply library command)) (Ok command)
-accepted library (Err number) = Err number
+-- the number that refuses any command after a device step failed, until the disk is opened again
+abbrev pub closed : Phase → Option ℕ
+closed Idle = None
+closed (Committing client placed due) = None
+closed Failed = Some 36
+closed Crashed = None
+
+-- the number that refuses a command whose record does not fit its area
+abbrev pub full : StoreState → Command → Option ℕ
+full store command = if nat_le (room_with store (body_of command)) store.area then None else Some 34
+
+-- a command that is taken, or the number that refuses it: 36 after a failed step, then 31 or 32, then 34
+abbrev pub accepted : Phase → Units → StoreState → Result Command ℕ → Result Command ℕ
+accepted phase library store (Ok command) = unless (closed phase) (unless (refusal (apply library command)) (unless (full store command) (Ok command)))
+accepted phase library store (Err number) = Err number
 
 module _ {P : Type 0} where
   -- the job of a call whose source has this plan: each piece waits; a refused source has no pieces
@@ -88,5 +104,5 @@ module _ {P : Type 0} where
   command_of rules job (request.Withdraw name) = Ok (command.Withdraw name)
 
   -- the command that a job whose pieces are all there begins, or the number that refuses it
-  abbrev pub verdict : Rules P → Library → Job P → Result Command ℕ
-  verdict rules library job = accepted library (command_of rules job job.request)
+  abbrev pub verdict : Rules P → Phase → Units → StoreState → Job P → Result Command ℕ
+  verdict rules phase library store job = accepted phase library store (command_of rules job job.request)

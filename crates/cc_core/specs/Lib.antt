@@ -1,7 +1,8 @@
 pub mod Faults
-pub mod Name
-pub mod Library
 pub mod Rules
 pub mod Job
+pub mod StoreState
+pub mod Store
 pub mod Step
 pub mod Run
+pub mod Ready

@@ -1,50 +1,76 @@
 -- Whole runs of the protocol core, and what holds after any of them.
-use Rattle.std.specs.Prelude.{ℕ, ◌≡◌, ◌-◌, ◌<◌, ◌⊎◌, List, [], ◌∷◌, length, map, take, slice_get, Option, Some}
-use Rattle.std.specs.FinMap.{get}
-use Rattle.cc_core.specs.declared.unit.StoredUnit.{StoredUnit}
-use Rattle.cc_core.specs.declared.command.Command.{Command}
+use Rattle.std.specs.Prelude.{ℕ, ◌≡◌, ◌-◌, ◌<◌, ◌≤◌, ◌⊎◌, List, [], ◌∷◌, ◌++◌, length, take, slice_get, Option, Some, All, Contains}
+use Rattle.std.specs.FinMap.{get, empty}
+use Rattle.cc_disk.specs.Model.{IsImage}
+use Rattle.cc_link.specs.declared.unit.StoredUnit.{StoredUnit}
+use Rattle.cc_library.specs.Apply.{Units, library_of}
+use Rattle.cc_library.specs.Body.{IsCommand}
+use Rattle.cc_library.specs.Recovered.{Recovers, RecoversAlone}
 use Rattle.cc_core.specs.declared.command.Placed.{Placed}
 use Rattle.cc_core.specs.declared.command.Reply.{Reply}
 use Rattle.cc_core.specs.declared.contents.Contents.{Contents}
 use Rattle.cc_core.specs.declared.contents.Phase.{Phase}
-use Rattle.cc_core.specs.declared.contents.Phase.TheVariants.{Idle, Committing}
+use Rattle.cc_core.specs.declared.contents.Phase.TheVariants.{Idle, Committing, Failed, Crashed}
 use Rattle.cc_core.specs.declared.event.Event.{Event}
-use Rattle.cc_core.specs.Library.{Library}
 use Rattle.cc_core.specs.Rules.{Rules}
-use Rattle.cc_core.specs.Step.{Step, IsImpossible, start}
+use Rattle.cc_core.specs.Step.{Step, IsImpossible, IsStart, commands}
 
 -- each unit of the library has this property
-abbrev pub EachUnit : (StoredUnit → Type 0) → Library → Type 0
+abbrev pub EachUnit : (StoredUnit → Type 0) → Units → Type 0
 EachUnit is_right library = (name : List ℕ) (unit : StoredUnit) → get library name ≡ Some unit → is_right unit
 
 -- the places of these commands rise
 abbrev pub AreRising : List Placed → Type 0
 AreRising placed = (i j : ℕ) (a b : Placed) → i < j → slice_get placed i ≡ Some a → slice_get placed j ≡ Some b → a.place.number < b.place.number
 
--- the commands of an order, without their places
-abbrev pub commands : List Placed → List Command
-commands order = map (λ placed. placed.command) order
+-- all commands but the last
+abbrev pub but_last : List Placed → List Placed
+but_last order = take (length order - 1) order
 
--- the commands of an order, but for the one in flight, which is its last
-abbrev pub settled : Phase → List Placed → List Command
-settled Idle order = commands order
-settled (Committing client last) order = commands (take (length order - 1) order)
+-- the library that clients see: that of the order, without the command in commit or failed, which is its last; from a crash
+-- until the recovery it is empty
+abbrev pub live : Phase → List Placed → Units
+live Idle order = library_of (commands order)
+live (Committing client last due) order = library_of (commands (but_last order))
+live Failed order = library_of (commands (but_last order))
+live Crashed order = empty
+
+-- The image recovers, to the library of a front of the order and to no other. The front holds every acknowledged command, and
+-- lacks at most the last of the order.
+pub record Survives (image : List ℕ) (order acknowledged : List Placed) : Type 0 where
+  pub kept : List Placed
+  pub lost : List Placed
+  pub in_order : order ≡ kept ++ lost
+  pub few : length lost ≤ 1
+  pub acked : All (Contains kept) acknowledged
+  pub recovers : RecoversAlone image (library_of (commands kept))
 
 module _ {P : Type 0} where
-  -- the commands of the order without the one in flight
-  abbrev pub committed : Contents P → List Command
-  committed contents = settled contents.phase contents.order
+  -- every image of the disk survives so
+  abbrev pub EachImageSurvives : Contents P → Type 0
+  EachImageSurvives s = (image : List ℕ) → IsImage s.store.cells image → Survives image s.order s.acknowledged
+
+  -- each unit of whatever an image recovers to has this property, that of a command in commit or failed too
+  abbrev pub EachImageIsRight : (StoredUnit → Type 0) → Contents P → Type 0
+  EachImageIsRight is_right s = (image : List ℕ) (library : Units) → IsImage s.store.cells image → Recovers image library → EachUnit is_right library
+
+  -- a command that goes into the order has a spelling: its name is a name, its unit a unit, as their types keep
+  abbrev pub PutsCommand : Contents P → Contents P → Type 0
+  PutsCommand old new = (placed : Placed) → new.order ≡ old.order ++ placed ∷ [] → IsCommand placed.command
 
   -- one turn of a run: an event that has a step takes it, and at each other the state stays
   abbrev pub Turn : Rules P → Contents P → Event P → Contents P → Type 0
-  Turn rules old event new = ((reply : Option Reply) × Step rules old event reply new) ⊎ (IsImpossible rules old event × (new ≡ old))
+  Turn rules old event new = ((reply : Option Reply) × Step rules old event reply new × PutsCommand old new) ⊎ (IsImpossible rules old event × (new ≡ old))
 
   -- the run of these events, one turn after the other
   abbrev pub Run : Rules P → Contents P → List (Event P) → Contents P → Type 0
   Run rules old [] new = new ≡ old
   Run rules old (event ∷ events) new = (mid : Contents P) × (Turn rules old event mid × Run rules mid events new)
 
-  -- some events lead to these contents from the start
+  -- some events lead to these contents from a start
   pub record Reached (rules : Rules P) (new : Contents P) : Type 0 where
+    pub area : ℕ
+    pub first : Contents P
+    pub started : IsStart area first
     pub events : List (Event P)
-    pub run : Run rules start events new
+    pub run : Run rules first events new

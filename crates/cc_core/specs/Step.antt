@@ -1,7 +1,11 @@
 -- The protocol core, one step at a time: from an old state an event may give this reply, or none, and go on to the new state.
-use Rattle.std.specs.Prelude.{ℕ, ◌≡◌, ◌+◌, IsTrue, [], ◌∷◌, ◌++◌, slice_get, Option, Some, None, Result, Ok, Err}
+use Rattle.std.specs.Prelude.{ℕ, ◌≡◌, ◌+◌, ◌<◌, ◌≤◌, IsTrue, List, [], ◌∷◌, ◌++◌, length, map, take, slice_get, Option, Some, None, Result, Ok, Err}
 use Rattle.std.specs.FinMap.{get, insert, remove, empty}
-use Rattle.cc_core.specs.declared.command.Command.{Command}
+use Rattle.cc_disk.specs.Model.{bytes_of}
+use Rattle.cc_journal.specs.Format.{HoldsRecords, records}
+use Rattle.cc_library.specs.declared.command.Command.{Command}
+use Rattle.cc_library.specs.Apply.{Units, after, library_of}
+use Rattle.cc_library.specs.Recovered.{StandFor}
 use Rattle.cc_core.specs.declared.command.Request.{Request}
 use Rattle.cc_core.specs.declared.command.Placed.{Placed}
 use Rattle.cc_core.specs.declared.command.Reply.{Reply}
@@ -10,25 +14,54 @@ use Rattle.cc_core.specs.declared.job.Job.{Job}
 use Rattle.cc_core.specs.declared.job.Work.{Work}
 use Rattle.cc_core.specs.declared.job.Progress.TheVariants.{Waiting, Taken, Made, Refused}
 use Rattle.cc_core.specs.declared.contents.Contents.{Contents}
-use Rattle.cc_core.specs.declared.contents.Phase.TheVariants.{Idle, Committing}
+use Rattle.cc_core.specs.declared.contents.Due.{Due}
+use Rattle.cc_core.specs.declared.contents.Due.TheVariants as due
+use Rattle.cc_core.specs.declared.contents.Phase.{Phase}
+use Rattle.cc_core.specs.declared.contents.Phase.TheVariants.{Idle, Committing, Failed, Crashed}
 use Rattle.cc_core.specs.declared.event.Event.{Event}
 use Rattle.cc_core.specs.declared.event.Event.TheVariants as event
-use Rattle.cc_core.specs.Library.{after}
 use Rattle.cc_core.specs.Rules.{Rules}
 use Rattle.cc_core.specs.Job.{job_of, source_in, with_piece, all_there, verdict}
+use Rattle.cc_core.specs.StoreState.{StoreState}
+use Rattle.cc_core.specs.Store.{IsFormatted, stepped, due_after, FailsTo, crashed_store}
+
+-- from a crash until the recovery nothing else happens
+abbrev pub IsUp : Phase → Type 0
+IsUp Idle = Unit {0}
+IsUp (Committing client placed due) = Unit {0}
+IsUp Failed = Unit {0}
+IsUp Crashed = ⊥
+
+-- a commit may begin where no other is under way; after a failed step it is refused
+abbrev pub IsFree : Phase → Type 0
+IsFree Idle = Unit {0}
+IsFree (Committing client placed due) = ⊥
+IsFree Failed = Unit {0}
+IsFree Crashed = ⊥
+
+-- the commands of an order, without their places
+abbrev pub commands : List Placed → List Command
+commands order = map (λ placed. placed.command) order
+
+-- the longest front of the order whose library is this one
+pub record IsLongest (library : Units) (order kept : List Placed) : Type 0 where
+  pub count : ℕ
+  pub within : count ≤ length order
+  pub front : kept ≡ take count order
+  pub leads : library_of (commands kept) ≡ library
+  pub longest : (n : ℕ) → count < n → n ≤ length order → library_of (commands (take n order)) ≡ library → ⊥
 
 module _ {P : Type 0} where
-  -- nothing has happened
-  abbrev pub start : Contents P
-  start = record {
-    library = empty;
-    order = [];
-    acknowledged = [];
-    jobs = empty;
-    workers = empty;
-    phase = Idle;
-    clock = record { number = 0 };
-  }
+  -- nothing has happened, and the disk is formatted with areas of that size
+  pub record IsStart (area : ℕ) (new : Contents P) : Type 0 where
+    pub library : new.library ≡ empty
+    pub order : new.order ≡ []
+    pub acknowledged : new.acknowledged ≡ []
+    pub jobs : new.jobs ≡ empty
+    pub workers : new.workers ≡ empty
+    pub phase : new.phase ≡ Idle
+    pub formatted : IsFormatted area new.store
+    pub clock : new.clock.number ≡ 0
 
   -- one event more took a step
   abbrev pub counted : Contents P → Contents P
@@ -40,6 +73,7 @@ module _ {P : Type 0} where
 
   -- a client without a job hands one in
   pub record Submits (rules : Rules P) (old : Contents P) (client call : ℕ) (request : Request) (reply : Option Reply) (new : Contents P) : Type 0 where
+    pub up : IsUp old.phase
     pub free : get old.jobs client ≡ None
     pub silent : reply ≡ None
     pub new_is : new ≡ record (counted old) { jobs = insert old.jobs client (job_of rules call request) }
@@ -82,31 +116,79 @@ module _ {P : Type 0} where
       workers = remove old.workers worker;
     }
 
-  -- what a beginning leads to: a refusal is the reply and the job ends; a command goes last in the order and is committing
+  -- what a beginning leads to: a refusal is the reply and the job ends; a command goes last in the order, and the write of
+  -- its body is due
   abbrev pub Begun : Contents P → ℕ → Result Command ℕ → Option Reply → Contents P → Type 0
   Begun old client (Err number) reply new =
       (reply ≡ Some (replies.Refused number)) × (new ≡ record (counted old) { jobs = remove old.jobs client })
   Begun old client (Ok command) reply new =
-      (reply ≡ None) × (new ≡ record (counted old) { order = old.order ++ placed_now old command ∷ []; phase = Committing client (placed_now old command) })
+      (reply ≡ None) × (new ≡ record (counted old) { order = old.order ++ placed_now old command ∷ []; phase = Committing client (placed_now old command) due.WriteBody })
 
   -- a job whose pieces are all there begins, where no other commits
   pub record Begins (rules : Rules P) (old : Contents P) (client : ℕ) (reply : Option Reply) (new : Contents P) : Type 0 where
     pub job : Job P
-    pub idle : old.phase ≡ Idle
+    pub free : IsFree old.phase
     pub held : get old.jobs client ≡ Some job
     pub ready : IsTrue (all_there job.pieces)
-    pub begun : Begun old client (verdict rules old.library job) reply new
+    pub begun : Begun old client (verdict rules old.phase old.library old.store job) reply new
 
-  -- the reply to the command in commit: the library takes it, and the job ends
+  -- the device step that is due is done
+  pub record Advances (due : Due) (old : Contents P) (reply : Option Reply) (new : Contents P) : Type 0 where
+    pub client : ℕ
+    pub placed : Placed
+    pub committing : old.phase ≡ Committing client placed due
+    pub silent : reply ≡ None
+    pub new_is : new ≡ record (counted old) { store = stepped due placed.command old.store; phase = Committing client placed (due_after due) }
+
+  -- the device step that is due fails: the reply is 35, the job ends, and no device step is made any more
+  pub record Fails (old : Contents P) (reply : Option Reply) (new : Contents P) : Type 0 where
+    pub client : ℕ
+    pub placed : Placed
+    pub due : Due
+    pub store : StoreState
+    pub committing : old.phase ≡ Committing client placed due
+    pub failed : FailsTo due placed.command old.store store
+    pub told : reply ≡ Some (replies.Refused 35)
+    pub new_is : new ≡ record (counted old) { store = store; jobs = remove old.jobs client; phase = Failed }
+
+  -- the reply to the command that is on the disk: the library takes it, and the job ends
   pub record Acknowledges (old : Contents P) (client : ℕ) (reply : Option Reply) (new : Contents P) : Type 0 where
     pub placed : Placed
-    pub committing : old.phase ≡ Committing client placed
+    pub committing : old.phase ≡ Committing client placed due.Acknowledge
     pub done : reply ≡ Some replies.Done
     pub new_is : new ≡ record (counted old) {
       library = after old.library placed.command;
       acknowledged = old.acknowledged ++ placed ∷ [];
       jobs = remove old.jobs client;
       phase = Idle;
+    }
+
+  -- the disk crashes, at any time; the live map, jobs and workers are gone
+  pub record Crashes (choice : List ℕ) (old : Contents P) (reply : Option Reply) (new : Contents P) : Type 0 where
+    pub silent : reply ≡ None
+    pub new_is : new ≡ record (counted old) {
+      library = empty;
+      jobs = empty;
+      workers = empty;
+      phase = Crashed;
+      store = crashed_store choice old.store;
+    }
+
+  -- the library is opened: the live map is what the disk's records stand for, and the order its longest front that leads there
+  pub record Reopens (old : Contents P) (reply : Option Reply) (new : Contents P) : Type 0 where
+    pub crashed : old.phase ≡ Crashed
+    pub bodies : List (List ℕ)
+    pub library : Units
+    pub kept : List Placed
+    pub holds : HoldsRecords (bytes_of old.store.cells) old.store.area bodies
+    pub stand : StandFor bodies library
+    pub longest : IsLongest library old.order kept
+    pub silent : reply ≡ None
+    pub new_is : new ≡ record (counted old) {
+      library = library;
+      order = kept;
+      phase = Idle;
+      store = record old.store { used = length (records bodies) };
     }
 
   -- the step that an event takes; no reply is a reply
@@ -116,7 +198,14 @@ module _ {P : Type 0} where
   Step rules old (event.Done worker piece) reply new = Finishes rules old worker piece reply new
   Step rules old (event.Refuse worker number) reply new = Refuses old worker number reply new
   Step rules old (event.Begin client) reply new = Begins rules old client reply new
+  Step rules old event.WriteBody reply new = Advances due.WriteBody old reply new
+  Step rules old event.SyncBody reply new = Advances due.SyncBody old reply new
+  Step rules old event.WriteGate reply new = Advances due.WriteGate old reply new
+  Step rules old event.SyncGate reply new = Advances due.SyncGate old reply new
+  Step rules old event.Fail reply new = Fails old reply new
   Step rules old (event.Ack client) reply new = Acknowledges old client reply new
+  Step rules old (event.Crash choice) reply new = Crashes choice old reply new
+  Step rules old event.Recover reply new = Reopens old reply new
 
   -- the event takes no step
   abbrev pub IsImpossible : Rules P → Contents P → Event P → Type 0

@@ -1,17 +1,54 @@
 use crate::command::Placed;
 use crate::job::{Job, Work};
-use crate::library::UnitMap;
 use crate::place::Place;
 use crate::sequence::Sequence;
+use crate::store::Store;
 use crate::table::Table;
+use cc_library::UnitMap;
 
-/// Whether a command is in commit.
+/// What is due in a commit: a device step, or the reply.
+#[derive(Drop)]
+pub enum Due {
+    /// The write of the record's body and of the closed gate behind it.
+    WriteBody,
+    /// The sync that settles them.
+    SyncBody,
+    /// The write that opens the record's gate.
+    WriteGate,
+    /// The sync that settles it.
+    SyncGate,
+    /// The reply: the record is on the disk.
+    Acknowledge,
+}
+
+/// Whether a command is in commit, and whether the disk is usable.
 #[derive(Drop)]
 pub enum Phase {
     /// None is.
     Idle,
-    /// This client's is.
-    Committing(u64, Placed),
+    /// This client's is, and this is due.
+    Committing(u64, Placed, Due),
+    /// A device step has failed: no more are made until the library is opened again.
+    Failed,
+    /// The disk has crashed: the library has to be opened.
+    Crashed,
+}
+
+impl Phase {
+    ghost use Rattle.std.specs.Prelude.{◌≡◌, ℕ};
+    ghost use Rattle.cc_core.specs.declared.command.Placed.{Placed};
+    ghost use Rattle.cc_core.specs.declared.contents.Due.{Due};
+    ghost use Rattle.cc_core.specs.declared.contents.Phase.TheVariants.{Committing};
+
+    /// In a commit, this is due next.
+    pub(crate) fn go_on(&mut self, next: Due)
+        ensures { (client : ℕ) (placed : Placed) (due : Due)
+            → self.old ≡ Committing client placed due → self.new ≡ Committing client placed next }
+    {
+        if let Phase::Committing(_, _, due) = self {
+            *due = next;
+        }
+    }
 }
 
 /// What a state of the core holds, beside its build.
@@ -28,6 +65,8 @@ pub struct Contents<P> {
     /// What each worker has taken; a worker that is not named is idle.
     pub workers: Table<Work>,
     pub phase: Phase,
+    /// The disk.
+    pub store: Store,
     /// The place of the next event.
     pub clock: Place,
 }

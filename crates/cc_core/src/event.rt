@@ -1,4 +1,5 @@
 use crate::command::Request;
+use crate::sequence::Sequence;
 
 /// What may happen. Clients, calls and workers are any numbers; pieces are counted from 0.
 #[derive(Drop)]
@@ -13,6 +14,21 @@ pub enum Event<P> {
     Refuse(u64, u32),
     /// A client's job, whose pieces are all there, begins its commit.
     Begin(u64),
-    /// The reply is given to the client whose command is in commit.
+    /// The first device step of the commit: the record's body is written, and the closed gate behind it.
+    WriteBody,
+    /// The second: they are synced.
+    SyncBody,
+    /// The third: the record's gate is written open.
+    WriteGate,
+    /// The fourth: it is synced.
+    SyncGate,
+    /// The device step that is due fails.
+    Fail,
+    /// The reply is given to the client whose command is in commit, when all four steps are done.
     Ack(u64),
+    /// The disk crashes, and leaves byte `i` of this choice at each unsettled place `i`, 0 past its end. Behind the event
+    /// of a write this is a crash within that write; before that of a sync, one within that sync.
+    Crash(Sequence<u8>),
+    /// The library is opened after a crash.
+    Recover,
 }

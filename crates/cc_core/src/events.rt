@@ -2,23 +2,29 @@ ghost use Rattle.std.specs.Prelude.{◌≡◌, ◌↔◌, ◌++◌, ◌∷◌, [
 ghost use Rattle.std.specs.FinMap as table;
 ghost use Rattle.cc_core.specs.declared.command.Reply.{Reply};
 ghost use Rattle.cc_core.specs.declared.contents.Contents.{Contents};
+ghost use Rattle.cc_core.specs.declared.contents.Due.TheVariants as due;
 ghost use Rattle.cc_core.specs.declared.contents.Phase.TheVariants.{Committing};
 ghost use Rattle.cc_core.specs.declared.job.Job.{Job};
 ghost use Rattle.cc_core.specs.Faults.{RefusesAs};
 ghost use Rattle.cc_core.specs.Job.{job_of, planned, source_in, verdict, built, command_of, with_piece};
-ghost use Rattle.cc_core.specs.Step.{Step, IsImpossible, Submits, Takes, Finishes, Refuses, Begins, Acknowledges, counted, placed_now};
+ghost use Rattle.cc_library.specs.Body.{IsCommand};
+ghost use Rattle.cc_core.specs.Ready.{IsReady};
+ghost use Rattle.cc_core.specs.Run.{PutsCommand};
+ghost use Rattle.cc_core.specs.Step.{Step, IsImpossible, Submits, Takes, Finishes, Refuses, Begins, Acknowledges, IsFree, IsUp, counted, placed_now};
 
 use crate::build::Build;
-use crate::command::{Command, Placed, Reply, Request};
-use crate::contents::{Contents, Phase};
+use crate::command::{Placed, Reply, Request};
+use crate::contents::{Contents, Due, Phase};
+use crate::device::{fail, sync_body, sync_gate, write_body, write_gate};
 use crate::event::Event;
 use crate::fault::{BuildFault, CoreFault};
 use crate::job::{
     Job, Progress, Work, all_made, all_waiting, are_all_there, least_refused, set_progress,
 };
-use crate::library::UnitMap;
+use crate::recovery::{crash, recover};
 use crate::sequence::Sequence;
-use crate::unit::SharedUnit;
+use crate::store::Store;
+use cc_library::{Command, SharedUnit, UnitMap, body_of_command};
 use std::alloc::{AllocError, Global};
 
 /// What an event answers: a reply or none; 29 where it is not possible, 40 where memory was refused.
@@ -56,6 +62,16 @@ fn plan_job<B: Build>(
     }
 }
 
+// Whether a client may hand in a job.
+fn is_up(phase: &Phase) -> bool
+    ensures { IsTrue result ↔ IsUp phase.now }
+{
+    match phase {
+        Phase::Idle | Phase::Committing(_, _, _) | Phase::Failed => true,
+        Phase::Crashed => false,
+    }
+}
+
 // A client without a job hands one in.
 pub(crate) fn submit<B: Build>(
     build: &B,
@@ -72,7 +88,7 @@ pub(crate) fn submit<B: Build>(
         → (reply : Option Reply) × (new : Contents B.Piece) × (Submits B.rules contents.old client call request reply new) }
     ensures err { OnErr result (contents.new ≡ contents.old) }
 {
-    if contents.jobs.get(client).is_some() {
+    if !is_up(&contents.phase) || contents.jobs.get(client).is_some() {
         return Err(CoreFault::NotNow);
     }
     let job = plan_job(build, alloc, call, request)?;
@@ -228,17 +244,27 @@ fn make_command<B: Build>(
 fn decide<B: Build>(
     build: &B,
     alloc: Global,
+    phase: &Phase,
     library: &UnitMap,
+    store: &Store,
     job: &Job<B::Piece>,
 ) -> Result<Command, BuildFault>
-    ensures ok { IfOk result (λ command. verdict B.rules library.now job.now ≡ Ok command) }
-    ensures err { IfErr result (λ fault. RefusesAs fault (verdict B.rules library.now job.now)) }
+    ensures ok { IfOk result (λ command. verdict B.rules phase.now library.now store.now job.now ≡ Ok command) }
+    ensures command { IfOk result (λ command. IsCommand command) }
+    ensures err { IfErr result (λ fault. RefusesAs fault (verdict B.rules phase.now library.now store.now job.now)) }
 {
     let command = make_command(build, alloc, job)?;
-    match library.refusal(&command) {
-        None => Ok(command),
-        Some(number) => Err(BuildFault::Refused(number)),
+    if let Phase::Failed = phase {
+        return Err(BuildFault::Refused(36));
     }
+    if let Some(number) = library.refusal(&command) {
+        return Err(BuildFault::Refused(u32::from(number)));
+    }
+    let body = body_of_command(alloc, &command)?;
+    if !store.fits(&body) {
+        return Err(BuildFault::Refused(34));
+    }
+    Ok(command)
 }
 
 // Puts a command last in the order, in commit for this client.
@@ -249,7 +275,7 @@ fn put_in_order<P>(
 ) -> Result<(), AllocError>
     ensures ok { OnOk result (contents.new ≡ record (counted contents.old) {
       order = contents.old.order ++ placed_now contents.old command ∷ [];
-      phase = Committing client (placed_now contents.old command);
+      phase = Committing client (placed_now contents.old command) due.WriteBody;
     }) }
     ensures err { OnErr result (contents.new ≡ contents.old) }
 {
@@ -258,9 +284,19 @@ fn put_in_order<P>(
         command,
     };
     contents.order.push(placed.again()?)?;
-    contents.phase = Phase::Committing(client, placed);
+    contents.phase = Phase::Committing(client, placed, Due::WriteBody);
     contents.clock = contents.clock.next();
     Ok(())
+}
+
+// Whether a commit may begin, if only to be refused.
+fn is_free(phase: &Phase) -> bool
+    ensures { IsTrue result ↔ IsFree phase.now }
+{
+    match phase {
+        Phase::Idle | Phase::Failed => true,
+        Phase::Committing(_, _, _) | Phase::Crashed => false,
+    }
 }
 
 // A job whose pieces are all there begins, where no other commits.
@@ -276,17 +312,25 @@ pub(crate) fn begin<B: Build>(
     ensures memory { IsErrOf result CoreFault.OutOfMemory
         → (reply : Option Reply) × (new : Contents B.Piece) × (Begins B.rules contents.old client reply new) }
     ensures err { OnErr result (contents.new ≡ contents.old) }
+    ensures puts { OnOk result (PutsCommand contents.old contents.new) }
 {
-    let Phase::Idle = contents.phase else {
+    if !is_free(&contents.phase) {
         return Err(CoreFault::NotNow);
-    };
+    }
     let Some(job) = contents.jobs.get(client) else {
         return Err(CoreFault::NotNow);
     };
     if !are_all_there(job.pieces.as_slice()) {
         return Err(CoreFault::NotNow);
     }
-    match decide(build, alloc, &contents.library, job) {
+    match decide(
+        build,
+        alloc,
+        &contents.phase,
+        &contents.library,
+        &contents.store,
+        job,
+    ) {
         Ok(command) => {
             put_in_order(contents, client, command)?;
             Ok(None)
@@ -309,12 +353,15 @@ pub(crate) fn acknowledge<P: Drop>(contents: &mut Contents<P>, client: u64) -> A
         → (reply : Option Reply) × (new : Contents P) × (Acknowledges contents.old client reply new) }
     ensures err { OnErr result (contents.new ≡ contents.old) }
 {
-    let Phase::Committing(committing, placed) = &contents.phase else {
+    let Phase::Committing(committing, placed, due) = &contents.phase else {
         return Err(CoreFault::NotNow);
     };
     if *committing != client {
         return Err(CoreFault::NotNow);
     }
+    let Due::Acknowledge = due else {
+        return Err(CoreFault::NotNow);
+    };
     contents.acknowledged.push(placed.again()?)?;
     if contents.library.apply(&placed.command).is_err() {
         contents.acknowledged.drop_last();
@@ -334,9 +381,11 @@ pub(crate) fn take_step<B: Build>(
     contents: &mut Contents<B::Piece>,
     event: Event<B::Piece>,
 ) -> Answer
+    requires { IsReady contents.old }
     ensures ok { IfOk result (λ reply. Step B.rules contents.old event reply contents.new) }
     ensures not_now { IsErrOf result CoreFault.NotNow ↔ IsImpossible B.rules contents.old event }
     ensures err { OnErr result (contents.new ≡ contents.old) }
+    ensures puts { OnOk result (PutsCommand contents.old contents.new) }
 {
     match event {
         Event::Submit(client, call, request) => {
@@ -346,6 +395,13 @@ pub(crate) fn take_step<B: Build>(
         Event::Done(worker, piece) => finish(build, contents, worker, piece),
         Event::Refuse(worker, number) => refuse(contents, worker, number),
         Event::Begin(client) => begin(build, alloc, contents, client),
+        Event::WriteBody => write_body(alloc, contents),
+        Event::SyncBody => sync_body(contents),
+        Event::WriteGate => write_gate(contents),
+        Event::SyncGate => sync_gate(alloc, contents),
+        Event::Fail => fail(alloc, contents),
         Event::Ack(client) => acknowledge(contents, client),
+        Event::Crash(choice) => crash(alloc, contents, &choice),
+        Event::Recover => recover(alloc, contents),
     }
 }

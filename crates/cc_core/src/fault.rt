@@ -38,25 +38,6 @@ impl From<AllocError> for CoreFault {
     }
 }
 
-/// Why bytes are no name.
-#[derive(Debug, Drop, Error)]
-pub enum NameFault {
-    /// The bytes break the rule of names.
-    #[error("not a name")]
-    BadName,
-}
-
-impl NameFault {
-    /// The fault's number: 33.
-    pub fn number(&self) -> u32
-        ensures { result ≡ 33 }
-    {
-        match self {
-            NameFault::BadName => 33,
-        }
-    }
-}
-
 /// Why a build gives no answer, or no unit.
 #[derive(Debug, Drop, Error)]
 pub enum BuildFault {

@@ -1,10 +1,10 @@
-ghost use Rattle.std.specs.Prelude.{◌≡◌, ◌↔◌, ℕ, Option, IfOk, IfErr, OnErr, OnOk, IsErrOf, All, Contains, List};
+ghost use Rattle.std.specs.Prelude.{◌≡◌, ◌↔◌, ◌≤◌, ◌^◌, ℕ, Option, IfOk, IfErr, OnErr, OnOk, IsErrOf, All, Contains, List};
+ghost use Rattle.std.specs.FinMap.{empty};
+ghost use Rattle.cc_library.specs.Apply.{AreAccepted};
 ghost use Rattle.cc_core.specs.declared.contents.Contents.{Contents};
 ghost use Rattle.cc_core.specs.declared.event.Event.{Event};
-ghost use Rattle.cc_core.specs.Library.{library_of, AreAccepted};
-ghost use Rattle.std.specs.FinMap.{empty};
-ghost use Rattle.cc_core.specs.Step.{Step, IsImpossible, start};
-ghost use Rattle.cc_core.specs.Run.{Turn, Run, EachUnit, AreRising, commands, committed};
+ghost use Rattle.cc_core.specs.Step.{Step, IsImpossible, IsStart, commands};
+ghost use Rattle.cc_core.specs.Run.{Turn, Run, EachUnit, EachImageSurvives, EachImageIsRight, PutsCommand, AreRising, live};
 
 use crate::build::Build;
 use crate::command::{Placed, Reply};
@@ -12,15 +12,16 @@ use crate::contents::{Contents, Phase};
 use crate::event::Event;
 use crate::events::take_step;
 use crate::fault::CoreFault;
-use crate::library::UnitMap;
 use crate::place::Place;
 use crate::sequence::Sequence;
+use crate::store::Store;
 use crate::table::Table;
+use cc_library::UnitMap;
 use std::alloc::Global;
 use std::marker::Model;
 
-/// The protocol core over a build. Contracts see its contents, and its type keeps that some list of events leads
-/// to them from the start.
+/// The protocol core over a build and a disk in memory. Contracts see its contents, and its type keeps that some list of
+/// events leads to them from a start.
 #[derive(Drop)]
 pub struct State<B: Build> {
     build: B,
@@ -31,7 +32,7 @@ impl<B: Build> Model for State<B> {
     ghost use Rattle.cc_core.specs.declared.contents.Contents.{Contents};
     ghost use Rattle.std.specs.Coded.{codes};
     ghost use Rattle.std.specs.FinMap as map;
-    ghost use Rattle.cc_core.specs.contracts.library.UnitMap as units;
+    ghost use Rattle.cc_library.specs.contracts.units.UnitMap as units;
 
     ghost Value = { Contents B.Piece };
 
@@ -45,11 +46,16 @@ impl<B: Build> Model for State<B> {
 }
 
 impl<B: Build> State<B> {
-    /// The state in which nothing has happened.
-    pub fn new(alloc: Global, build: B) -> State<B>
-        ensures { result ≡ start }
+    /// The state in which nothing has happened, on a formatted disk of `16 + 2 * area` bytes. Its only fault is want of
+    /// memory (40).
+    pub fn new(alloc: Global, build: B, area: u32) -> Result<State<B>, CoreFault>
+        requires least { 64 ≤ area }
+        requires most { area ≤ 2 ^ 30 }
+        ensures start { IfOk result (λ state. IsStart area state) }
+        ensures err { IfErr result (λ fault. fault ≡ CoreFault.OutOfMemory) }
     {
-        State {
+        let store = Store::new(alloc, area)?;
+        Ok(State {
             build,
             contents: Contents {
                 library: UnitMap::new(alloc),
@@ -58,9 +64,10 @@ impl<B: Build> State<B> {
                 jobs: Table::new(alloc),
                 workers: Table::new(alloc),
                 phase: Phase::Idle,
+                store,
                 clock: Place::first(),
             },
-        }
+        })
     }
 
     /// Takes the step of an event, and answers the reply where the event gives one: done, or a number.
@@ -74,6 +81,8 @@ impl<B: Build> State<B> {
         ensures ok { IfOk result (λ reply. Step B.rules self.old event reply self.new) }
         ensures not_now { IsErrOf result CoreFault.NotNow ↔ IsImpossible B.rules self.old event }
         ensures err { OnErr result (self.new ≡ self.old) }
+        // A command that goes into the order has a spelling, as the types of names and units keep.
+        ensures puts { OnOk result (PutsCommand self.old self.new) }
     {
         take_step(&self.build, alloc, &mut self.contents, event)
     }
@@ -89,21 +98,24 @@ impl<B: Build> State<B> {
         }
     }
 
-    /// The live map: what the order gives, without the command in commit.
+    /// The live map: what the order gives, without the command in commit or failed; empty from a crash to the recovery.
     pub fn library(&self) -> &UnitMap
         ensures library { result.now ≡ self.now.library }
-        ensures replay { self.now.library ≡ library_of (committed self.now) }
+        ensures replay { self.now.library ≡ live self.now.phase self.now.order }
         ensures accepted { AreAccepted empty (commands self.now.order) }
         ensures units { EachUnit B.is_right self.now.library }
     {
         &self.contents.library
     }
 
-    /// The commands whose reply was given, each with its place, in the order of the replies.
+    /// The commands whose reply was given, each with its place, in the order of the replies. Whatever a crash leaves of the
+    /// disk recovers to a library that holds them.
     pub fn acked(&self) -> &[Placed]
         ensures acked { result.now ≡ self.now.acknowledged }
         ensures in_order { All (Contains self.now.order) self.now.acknowledged }
         ensures rising { AreRising self.now.order }
+        ensures survives { EachImageSurvives self.now }
+        ensures right { EachImageIsRight B.is_right self.now }
     {
         self.contents.acknowledged.as_slice()
     }
@@ -116,15 +128,21 @@ pub fn run_events<B: Build>(
     mut state: State<B>,
     events: Vec<Event<B::Piece>>,
 ) -> Result<State<B>, CoreFault>
+    // It is the run: a step for each event that has one, the state kept at each other.
     ensures run { IfOk result (λ new. Run B.rules state events.items new) }
-    // Replaying the order, without the command in commit, gives the library.
-    ensures replay { IfOk result (λ new. new.library ≡ library_of (committed new)) }
+    // Whatever a crash leaves of the disk recovers to the library of a front of the order, which holds every acknowledged
+    // command and lacks at most the last one.
+    ensures survives { IfOk result (λ new. EachImageSurvives new) }
+    // Each unit of what is recovered is right for its source.
+    ensures right { IfOk result (λ new. EachImageIsRight B.is_right new) }
+    // The live map is what the order gives, without the command in commit or failed; empty from a crash to the recovery.
+    ensures replay { IfOk result (λ new. new.library ≡ live new.phase new.order) }
     // Each command of the order was one that the library took in its turn.
     ensures accepted { IfOk result (λ new. AreAccepted empty (commands new.order)) }
     // Every acknowledged command is in the order, by its place.
     ensures acked { IfOk result (λ new. All (Contains new.order) new.acknowledged) }
     ensures rising { IfOk result (λ new. AreRising new.order) }
-    // Each unit in the library is right for its source.
+    // Each unit in the live map is right for its source.
     ensures units { IfOk result (λ new. EachUnit B.is_right new.library) }
     ensures err { IfErr result (λ fault. fault ≡ CoreFault.OutOfMemory) }
 {
@@ -136,8 +154,13 @@ pub fn run_events<B: Build>(
     Ok(state)
 }
 
-/// Whatever the events, replaying the order without the command in commit, from the empty library, gives the library.
-pub fn replay_law<B: Build>()
-    ensures { (events : List (Event B.Piece)) (new : Contents B.Piece)
-        → Run B.rules start events new → new.library ≡ library_of (committed new) }
+/// Whatever the events, from any start: whatever a crash leaves of the disk survives so, its units are right, and the live map
+/// is what the order gives.
+pub fn crash_law<B: Build>()
+    ensures survives { (area : ℕ) (first new : Contents B.Piece) (events : List (Event B.Piece))
+        → IsStart area first → Run B.rules first events new → EachImageSurvives new }
+    ensures right { (area : ℕ) (first new : Contents B.Piece) (events : List (Event B.Piece))
+        → IsStart area first → Run B.rules first events new → EachImageIsRight B.is_right new }
+    ensures replay { (area : ℕ) (first new : Contents B.Piece) (events : List (Event B.Piece))
+        → IsStart area first → Run B.rules first events new → new.library ≡ live new.phase new.order }
 {}

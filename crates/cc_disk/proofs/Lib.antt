@@ -1,3 +1,3 @@
-mod Cells
+pub mod Cells
 mod Moments
 mod Walk

@@ -1,7 +1,7 @@
-mod Records
+pub mod Records
 mod Moments
-mod Images
+pub mod Images
 mod Steps
-mod Bytes
+pub mod Bytes
 mod Scan
 mod Kept

@@ -1,7 +1,7 @@
 -- A build in which each source has one piece, which holds the unit.
 use Rattle.std.specs.Prelude.{ℕ, ◌≡◌, Bool, true, false, List, [], ◌∷◌, length, Result, Ok, Err, if◌then◌else◌, ◌==◌, refl}
 use Rattle.std.proofs.Common.{sym, ap, subst, ◌∙◌, cond}
-use Rattle.cc_core.specs.declared.unit.StoredUnit.{StoredUnit}
+use Rattle.cc_link.specs.declared.unit.StoredUnit.{StoredUnit}
 use Rattle.cc_core.specs.Rules.{Rules, AreWhole}
 use Rattle.tests_core.specs.declared.piece.OnePiece.{OnePiece}
 

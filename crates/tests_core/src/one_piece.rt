@@ -3,7 +3,7 @@ ghost use Rattle.tests_core.specs.OnePiece.{one_piece, is_right, law};
 use crate::piece::OnePiece;
 use cc_core::build::Build;
 use cc_core::fault::BuildFault;
-use cc_core::unit::StoredUnit;
+use cc_link::StoredUnit;
 use std::alloc::Global;
 use std::sync::Arc;
 
@@ -27,7 +27,7 @@ impl Build for OnePieceBuild {
     }
 
     fn names(&self, piece: &OnePiece, source: &[u8], part: u32) -> bool {
-        part == 0 && piece.unit.stored().source.as_slice() == source
+        part == 0 && piece.unit.stored().source.bytes() == source
     }
 
     fn unit(

@@ -1,7 +1,8 @@
 ghost use Rattle.std.specs.Prelude.{◌≡◌, ◌∷◌, [], ◌≤◌, ◌<◌, length, IfOk};
 
-use cc_core::sequence::Sequence;
-use cc_core::unit::{Image, SharedUnit, StoredUnit};
+use cc_library::SharedUnit;
+use cc_link::{Source, StoredUnit};
+use cc_rv32::image::{Code, Globals, Image};
 use std::alloc::{AllocError, Global};
 use std::sync::Arc;
 
@@ -17,16 +18,12 @@ pub fn compiled(alloc: Global, source: &[u8]) -> Result<OnePiece, AllocError>
     requires { length source.now ≤ 65536 }
     ensures { IfOk result (λ piece. piece.unit.source ≡ source.now) }
 {
-    let mut code = Vec::new(alloc);
-    code.push(source.len() as u32)?;
-    let kept = Vec::from_slice(alloc, source)?;
-    let image = Image {
-        code: Sequence::new(code),
-        globals: Sequence::new(Vec::new(alloc)),
-    };
+    let code = Code::new(vec![in alloc; source.len() as u32; 1]?).unwrap();
+    let globals = Globals::new(Vec::new(alloc)).unwrap();
+    let kept = Source::new(Vec::from_slice(alloc, source)?).unwrap();
     let unit = StoredUnit {
-        source: Sequence::new(kept),
-        image,
+        source: kept,
+        image: Image { code, globals },
         certificate: None,
     };
     let shared = Arc::new(alloc, unit)?;

@@ -2,13 +2,16 @@ use crate::one_piece::OnePieceBuild;
 use crate::piece::{OnePiece, compiled};
 use cc_core::command::{Reply, Request};
 use cc_core::event::Event;
-use cc_core::fault::{BuildFault, CoreFault, NameFault};
-use cc_core::name::Name;
+use cc_core::fault::{BuildFault, CoreFault};
 use cc_core::sequence::Sequence;
-use cc_core::state::{State, replay_law, run_events};
+use cc_core::state::{State, crash_law, run_events};
+use cc_library::Name;
 use std::alloc::{AllocError, Global};
 use std::process::Abort;
 use std::test::Fail;
+
+// The size of an area, in bytes.
+const AREA: u32 = 200;
 
 // What an event answers, as a number: 0 for no reply, 1 for done, else the refusal's or the fault's number.
 fn number(answer: Result<Option<Reply>, CoreFault>) -> u32 {
@@ -53,6 +56,16 @@ fn expect(
     assert_eq!(rt; number(state.step(rt.alloc(), event)), want);
 }
 
+// The four device events of a commit, and the reply.
+fn commit(rt: &(impl Abort + AllocGlobal), state: &mut State<OnePieceBuild>, client: u64) {
+    expect(rt, state, Event::Ack(client), 29);
+    expect(rt, state, Event::WriteBody, 0);
+    expect(rt, state, Event::SyncBody, 0);
+    expect(rt, state, Event::WriteGate, 0);
+    expect(rt, state, Event::SyncGate, 0);
+    expect(rt, state, Event::Ack(client), 1);
+}
+
 // A client submits a request, and its first piece is taken by worker 3 and handed in.
 fn prepare(
     rt: &(impl Abort + AllocGlobal),
@@ -89,7 +102,7 @@ fn look(
     let a = name(rt, b"a")?;
     match (state.library().get(&a), source) {
         (None, None) => {}
-        (Some(unit), Some(source)) => assert_eq!(rt; unit.source.as_slice(), source),
+        (Some(unit), Some(source)) => assert_eq!(rt; unit.source.bytes(), source),
         _ => assert!(rt; false, "another library"),
     }
     assert_eq!(rt; state.acked().len(), acknowledged);
@@ -98,14 +111,14 @@ fn look(
 
 #[test]
 fn two_clients_add_one_name(rt: HostRuntime) -> Result<(), Fail> {
-    let start = State::new(rt.alloc(), OnePieceBuild {});
+    let start = State::new(rt.alloc(), OnePieceBuild {}, AREA)?;
     let Ok(mut state) = run_events(rt.alloc(), start, table(&rt)?) else {
         return Err(Fail::from("out of memory"));
     };
     look(&rt, &state, None, 0)?;
     expect(&rt, &mut state, Event::Begin(1), 29);
     look(&rt, &state, None, 0)?;
-    expect(&rt, &mut state, Event::Ack(2), 1);
+    commit(&rt, &mut state, 2);
     expect(&rt, &mut state, Event::Begin(1), 31);
     look(&rt, &state, Some(b"two".as_slice()), 1)?;
     expect(
@@ -150,7 +163,7 @@ fn refused_by_the_library(
     expect(rt, state, Event::Begin(7), 32);
     prepare(rt, state, add(rt, b"a", b"x")?, b"x")?;
     expect(rt, state, Event::Begin(7), 0);
-    expect(rt, state, Event::Ack(7), 1);
+    commit(rt, state, 7);
     prepare(rt, state, add(rt, b"a", b"y")?, b"y")?;
     expect(rt, state, Event::Begin(7), 31);
     Ok(())
@@ -158,14 +171,14 @@ fn refused_by_the_library(
 
 #[test]
 fn begin_refuses(rt: HostRuntime) -> Result<(), Fail> {
-    let mut state = State::new(rt.alloc(), OnePieceBuild {});
+    let mut state = State::new(rt.alloc(), OnePieceBuild {}, AREA)?;
     refused_by_the_build(&rt, &mut state)?;
     refused_by_the_library(&rt, &mut state)?;
     look(&rt, &state, Some(b"x".as_slice()), 1)?;
     let replace = Request::Replace(name(&rt, b"a")?, text(rt.alloc(), b"new")?);
     prepare(&rt, &mut state, replace, b"new")?;
     expect(&rt, &mut state, Event::Begin(7), 0);
-    expect(&rt, &mut state, Event::Ack(7), 1);
+    commit(&rt, &mut state, 7);
     look(&rt, &state, Some(b"new".as_slice()), 2)?;
     expect(
         &rt,
@@ -174,7 +187,7 @@ fn begin_refuses(rt: HostRuntime) -> Result<(), Fail> {
         0,
     );
     expect(&rt, &mut state, Event::Begin(7), 0);
-    expect(&rt, &mut state, Event::Ack(7), 1);
+    commit(&rt, &mut state, 7);
     look(&rt, &state, None, 3)
 }
 
@@ -211,42 +224,175 @@ fn while_taken(
 
 #[test]
 fn not_now(rt: HostRuntime) -> Result<(), Fail> {
-    let mut state = State::new(rt.alloc(), OnePieceBuild {});
+    let mut state = State::new(rt.alloc(), OnePieceBuild {}, AREA)?;
     too_early(&rt, &mut state)?;
     while_taken(&rt, &mut state)?;
     expect(&rt, &mut state, Event::Begin(1), 0);
     expect(&rt, &mut state, Event::Ack(2), 29);
     expect(&rt, &mut state, Event::Begin(1), 29);
-    expect(&rt, &mut state, Event::Ack(1), 1);
+    commit(&rt, &mut state, 1);
     look(&rt, &state, Some(b"one".as_slice()), 1)
 }
 
-// Names, lists and numbers, by the rule of names and the list of numbers.
+// Client 1 adds `a` with the source `one`, up to its Begin.
+fn until_begin(rt: &(impl Abort + AllocGlobal)) -> Result<Vec<Event<OnePiece>>, Fail> {
+    let mut events = Vec::new(rt.alloc());
+    events.push(Event::Submit(1, 1, add(rt, b"a", b"one")?))?;
+    events.push(Event::Take(1, 1, 0))?;
+    events.push(Event::Done(1, piece(rt, b"one")?))?;
+    events.push(Event::Begin(1))?;
+    Ok(events)
+}
+
+// The state after these events from the start.
+fn run(
+    rt: &(impl Abort + AllocGlobal),
+    events: Vec<Event<OnePiece>>,
+) -> Result<State<OnePieceBuild>, Fail> {
+    let start = State::new(rt.alloc(), OnePieceBuild {}, AREA)?;
+    match run_events(rt.alloc(), start, events) {
+        Ok(state) => Ok(state),
+        Err(_) => Err(Fail::from("out of memory")),
+    }
+}
+
+// A crash with these bytes at the places 16 to 79, and 0 elsewhere.
+fn crash(rt: &(impl Abort + AllocGlobal), byte: u8) -> Result<Event<OnePiece>, Fail> {
+    let bytes = vec![in rt.alloc(); byte; 80]?;
+    Ok(Event::Crash(Sequence::new(bytes)))
+}
+
+// A crash behind the body's write alone leaves nothing, whatever it leaves of the body.
 #[test]
-fn names_and_numbers(rt: HostRuntime) -> Result<(), Fail> {
-    for bytes in [
-        b"a".as_slice(),
-        b"a_1",
-        b"z9",
-        b"abcdefghijklmnopqrstuvwxyz_01234",
-    ] {
-        assert_eq!(rt; name(&rt, bytes)?.bytes(), bytes);
+fn crash_behind_the_body(rt: HostRuntime) -> Result<(), Fail> {
+    for byte in [0x00u8, 0xa5, 0xff] {
+        let mut events = until_begin(&rt)?;
+        events.push(Event::WriteBody)?;
+        events.push(crash(&rt, byte)?)?;
+        events.push(Event::Recover)?;
+        let state = run(&rt, events)?;
+        look(&rt, &state, None, 0)?;
     }
-    for bytes in [
-        b"".as_slice(),
-        b"A",
-        b"1a",
-        b"_a",
-        b"a-b",
-        b"aB",
-        b"abcdefghijklmnopqrstuvwxyz_012345",
-    ] {
-        match Name::new(bytes) {
-            Ok(_) => assert!(rt; false, "a name"),
-            Err(fault) => assert_eq!(rt; fault.number(), 33),
+    Ok(())
+}
+
+// A crash behind the reply leaves the unit, which was acknowledged.
+#[test]
+fn crash_behind_the_reply(rt: HostRuntime) -> Result<(), Fail> {
+    for byte in [0x00u8, 0xa5, 0xff] {
+        let mut events = until_begin(&rt)?;
+        events.push(Event::WriteBody)?;
+        events.push(Event::SyncBody)?;
+        events.push(Event::WriteGate)?;
+        events.push(Event::SyncGate)?;
+        events.push(Event::Ack(1))?;
+        events.push(crash(&rt, byte)?)?;
+        events.push(Event::Recover)?;
+        let state = run(&rt, events)?;
+        look(&rt, &state, Some(b"one".as_slice()), 1)?;
+    }
+    Ok(())
+}
+
+// A crash within the gate's write leaves the unit where it leaves the gate open, and nothing else; without a reply.
+#[test]
+fn crash_within_the_gate(rt: HostRuntime) -> Result<(), Fail> {
+    for byte in [0x00u8, 0xa5, 0xff] {
+        let mut events = until_begin(&rt)?;
+        events.push(Event::WriteBody)?;
+        events.push(Event::SyncBody)?;
+        events.push(Event::WriteGate)?;
+        events.push(crash(&rt, byte)?)?;
+        let mut state = run(&rt, events)?;
+        look(&rt, &state, None, 0)?;
+        expect(
+            &rt,
+            &mut state,
+            Event::Submit(4, 1, add(&rt, b"b", b"two")?),
+            29,
+        );
+        expect(&rt, &mut state, Event::Begin(1), 29);
+        expect(&rt, &mut state, Event::Recover, 0);
+        expect(&rt, &mut state, Event::Recover, 29);
+        let want = if byte == 0xa5 {
+            Some(b"one".as_slice())
+        } else {
+            None
+        };
+        look(&rt, &state, want, 0)?;
+    }
+    Ok(())
+}
+
+// A failed step answers 35, and every later commit 36, until the disk is opened again.
+#[test]
+fn failed_step(rt: HostRuntime) -> Result<(), Fail> {
+    let mut events = until_begin(&rt)?;
+    events.push(Event::WriteBody)?;
+    let mut state = run(&rt, events)?;
+    expect(&rt, &mut state, Event::Fail, 35);
+    look(&rt, &state, None, 0)?;
+    expect(&rt, &mut state, Event::SyncBody, 29);
+    expect(&rt, &mut state, Event::Fail, 29);
+    prepare(&rt, &mut state, add(&rt, b"b", b"two")?, b"two")?;
+    expect(&rt, &mut state, Event::Begin(7), 36);
+    expect(&rt, &mut state, crash(&rt, 0xa5)?, 0);
+    expect(&rt, &mut state, Event::Recover, 0);
+    look(&rt, &state, None, 0)?;
+    prepare(&rt, &mut state, add(&rt, b"a", b"two")?, b"two")?;
+    expect(&rt, &mut state, Event::Begin(7), 0);
+    commit(&rt, &mut state, 7);
+    look(&rt, &state, Some(b"two".as_slice()), 1)
+}
+
+// Each step of a commit fails in its turn: nothing is acknowledged, and what is recovered is the map with the unit or without.
+#[test]
+fn each_step_fails(rt: HostRuntime) -> Result<(), Fail> {
+    for done in 0..4u32 {
+        let mut events = until_begin(&rt)?;
+        if done > 0 {
+            events.push(Event::WriteBody)?;
         }
+        if done > 1 {
+            events.push(Event::SyncBody)?;
+        }
+        if done > 2 {
+            events.push(Event::WriteGate)?;
+        }
+        events.push(Event::Fail)?;
+        events.push(Event::Ack(1))?;
+        events.push(crash(&rt, 0xa5)?)?;
+        events.push(Event::Recover)?;
+        let state = run(&rt, events)?;
+        let want = if done > 1 {
+            Some(b"one".as_slice())
+        } else {
+            None
+        };
+        look(&rt, &state, want, 0)?;
     }
-    assert_eq!(rt; NameFault::BadName.number(), 33);
+    Ok(())
+}
+
+// The record of a name of one byte and a source of three takes 28 bytes: gate, length, 4 bytes up to the name, 7 of the source,
+// 8 of the one code word, 4 of no globals. An area of 64 bytes has room for two and their closed gate, and not for three.
+#[test]
+fn full_area(rt: HostRuntime) -> Result<(), Fail> {
+    let mut state = State::new(rt.alloc(), OnePieceBuild {}, 64)?;
+    prepare(&rt, &mut state, add(&rt, b"a", b"one")?, b"one")?;
+    expect(&rt, &mut state, Event::Begin(7), 0);
+    commit(&rt, &mut state, 7);
+    prepare(&rt, &mut state, add(&rt, b"b", b"two")?, b"two")?;
+    expect(&rt, &mut state, Event::Begin(7), 0);
+    commit(&rt, &mut state, 7);
+    prepare(&rt, &mut state, add(&rt, b"c", b"six")?, b"six")?;
+    expect(&rt, &mut state, Event::Begin(7), 34);
+    look(&rt, &state, Some(b"one".as_slice()), 2)
+}
+
+// Lists and numbers, by the list of numbers.
+#[test]
+fn lists_and_numbers(rt: HostRuntime) -> Result<(), Fail> {
     assert_eq!(rt; CoreFault::OutOfMemory.number(), 40);
     assert_eq!(rt; BuildFault::OutOfMemory.number(), 40);
     assert_eq!(rt; BuildFault::Refused(22).number(), 22);
@@ -268,8 +414,8 @@ fn names_in_order(rt: HostRuntime) -> Result<(), Fail> {
     Ok(())
 }
 
-// The law of a run holds of this build too.
+// The crash theorem holds of this build too.
 #[test]
-fn replaying_the_order() {
-    replay_law::<OnePieceBuild>();
+fn whatever_a_crash_leaves() {
+    crash_law::<OnePieceBuild>();
 }

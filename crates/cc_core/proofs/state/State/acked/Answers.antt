@@ -1,7 +1,7 @@
 -- What holds of whatever is reached holds of this state.
 use Rattle.std.proofs.Common.{subst, All, Contains}
-use Rattle.cc_core.specs.Run.{AreRising}
-use Rattle.cc_core.proofs.Sound.{reached_IsSound}
+use Rattle.cc_core.specs.Run.{AreRising, EachImageSurvives, EachImageIsRight}
+use Rattle.cc_core.proofs.Sound.{reached_IsSound, sound_survives, sound_right}
 use Rattle.cc_core.proofs.state.State.acked.Goals as goal
 
 pub returns-clause-in_order : goal.returns-clause-in_order
@@ -13,3 +13,19 @@ pub returns-clause-rising : goal.returns-clause-rising
 returns-clause-rising g c =
     subst (λ s. AreRising s.order) c.self.view_is
     (reached_IsSound g.B.Build.rules g.B.Build.is_right g.met.B.Build.law c.self.inside.contents c.self.invariant).rising
+
+pub returns-clause-survives : goal.returns-clause-survives
+returns-clause-survives g c =
+    let rules = g.B.Build.rules in
+    let is_right = g.B.Build.is_right in
+    let law = g.met.B.Build.law in
+    let s = c.self.inside.contents in
+    subst (λ s. EachImageSurvives s) c.self.view_is (sound_survives rules is_right law s (reached_IsSound rules is_right law s c.self.invariant))
+
+pub returns-clause-right : goal.returns-clause-right
+returns-clause-right g c =
+    let rules = g.B.Build.rules in
+    let is_right = g.B.Build.is_right in
+    let law = g.met.B.Build.law in
+    let s = c.self.inside.contents in
+    subst (λ s. EachImageIsRight is_right s) c.self.view_is (sound_right rules is_right law s (reached_IsSound rules is_right law s c.self.invariant))

@@ -1,0 +1,18 @@
+-- Where a growth is refused the step is due, so the event has one.
+use Rattle.std.proofs.Common.{◌≡◌, refl}
+use Rattle.cc_core.specs.declared.contents.Due.TheVariants as due
+use Rattle.cc_core.specs.declared.contents.Phase.TheVariants.{Committing}
+use Rattle.cc_core.proofs.Possible.{advances, committing_is}
+use Rattle.cc_core.proofs.device.write_body.Goals as goal
+
+pub returns-in_err-body-clause-memory : goal.returns-in_err-body-clause-memory
+returns-in_err-body-clause-memory g c =
+    let at = c.in-Committing in
+    let committing = committing_is c.args.contents.now.phase at.field-0 at.field-0 at.placed at.due due.WriteBody at.is c.in-WriteBody.is refl in
+    λ _. advances due.WriteBody c.args.contents.now at.field-0 at.placed committing
+
+pub returns-in_err-behind-clause-memory : goal.returns-in_err-behind-clause-memory
+returns-in_err-behind-clause-memory g c =
+    let at = c.in-Committing in
+    let committing = committing_is c.args.contents.now.phase at.field-0 at.field-0 at.placed at.due due.WriteBody at.is c.in-WriteBody.is refl in
+    λ _. advances due.WriteBody c.args.contents.now at.field-0 at.placed committing

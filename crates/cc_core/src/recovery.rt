@@ -1,0 +1,96 @@
+// The crash, and the opening behind it.
+ghost use Rattle.std.specs.Prelude.{◌≡◌, ◌↔◌, ◌-◌, ℕ, List, Option, Some, IfOk, OnErr, IsErrOf, IsTrue, length, take};
+ghost use Rattle.std.specs.Arc.{arc_value};
+ghost use Rattle.cc_core.specs.declared.command.Placed.{Placed};
+ghost use Rattle.cc_core.specs.declared.command.Reply.{Reply};
+ghost use Rattle.cc_core.specs.declared.contents.Contents.{Contents};
+ghost use Rattle.cc_core.specs.Step.{Crashes, Reopens};
+ghost use Rattle.cc_core.specs.Run.{but_last};
+ghost use Rattle.cc_core.specs.Ready.{IsReady, IsInEffect, IsFrontKept};
+
+use crate::command::{Placed, Reply};
+use crate::contents::{Contents, Phase};
+use crate::events::Answer;
+use crate::fault::CoreFault;
+use crate::sequence::Sequence;
+use crate::table::Table;
+use cc_library::{Command, UnitMap};
+use cc_link::StoredUnit;
+use std::alloc::Global;
+
+// The disk crashes; the live map, jobs and workers are gone.
+pub(crate) fn crash<P: Drop>(
+    alloc: Global,
+    contents: &mut Contents<P>,
+    choice: &Sequence<u8>,
+) -> Answer
+    ensures ok { IfOk result (λ reply. Crashes choice.now contents.old reply contents.new) }
+    ensures not_now { IsErrOf result CoreFault.NotNow
+        → (reply : Option Reply) (new : Contents P) → ¬ (Crashes choice.now contents.old reply new) }
+    ensures memory { IsErrOf result CoreFault.OutOfMemory
+        → (reply : Option Reply) × (new : Contents P) × (Crashes choice.now contents.old reply new) }
+    ensures err { OnErr result (contents.new ≡ contents.old) }
+{
+    contents.store.crash(alloc, choice.as_slice())?;
+    contents.library = UnitMap::new(alloc);
+    contents.jobs = Table::new(alloc);
+    contents.workers = Table::new(alloc);
+    contents.phase = Phase::Crashed;
+    contents.clock = contents.clock.next();
+    Ok(None)
+}
+
+// Whether two units are the same: source, code and globals. There are no certificates yet.
+fn are_same(a: &StoredUnit, b: &StoredUnit) -> bool
+    ensures { IsTrue result ↔ (a.now ≡ b.now) }
+{
+    a.source.bytes() == b.source.bytes()
+        && a.image.code.words() == b.image.code.words()
+        && a.image.globals.words() == b.image.globals.words()
+}
+
+// Whether the map is as the command leaves it.
+fn is_in_effect(library: &UnitMap, command: &Command) -> bool
+    ensures { IsTrue result ↔ IsInEffect library.now command.now }
+{
+    match command {
+        Command::Add(name, unit) | Command::Replace(name, unit) => match library.get(name) {
+            Some(there) => are_same(there, unit.stored()),
+            None => false,
+        },
+        Command::Withdraw(name) => library.get(name).is_none(),
+    }
+}
+
+// Drops the last command where the map is not as it leaves it.
+fn drop_undone(order: &mut Sequence<Placed>, library: &UnitMap)
+    ensures { IsFrontKept library.now order.old order.new }
+{
+    if let Some(last) = order.as_slice().last() {
+        if !is_in_effect(library, &last.command) {
+            order.drop_last();
+        }
+    }
+}
+
+// The library is opened.
+pub(crate) fn recover<P: Drop>(alloc: Global, contents: &mut Contents<P>) -> Answer
+    requires { IsReady contents.old }
+    ensures ok { IfOk result (λ reply. Reopens contents.old reply contents.new) }
+    ensures not_now { IsErrOf result CoreFault.NotNow
+        → (reply : Option Reply) (new : Contents P) → ¬ (Reopens contents.old reply new) }
+    ensures memory { IsErrOf result CoreFault.OutOfMemory
+        → (reply : Option Reply) × (new : Contents P) × (Reopens contents.old reply new) }
+    ensures err { OnErr result (contents.new ≡ contents.old) }
+{
+    let Phase::Crashed = contents.phase else {
+        return Err(CoreFault::NotNow);
+    };
+    let (library, used) = contents.store.open(alloc)?;
+    drop_undone(&mut contents.order, &library);
+    contents.library = library;
+    contents.store.set_used(used);
+    contents.phase = Phase::Idle;
+    contents.clock = contents.clock.next();
+    Ok(None)
+}
