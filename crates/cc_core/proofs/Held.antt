@@ -1,23 +1,23 @@
 -- What the images of the disk hold through a commit, one device step after the other. How: a write leaves each image as an
 -- image from before, but for its range; a sync leaves one image alone; the journal's lemmas say what such bytes hold.
-use Rattle.std.proofs.Common.{◌≡◌, ◌⊎◌, inl, inr, ⊎_elim, true, false, cond, ℕ, ◌+◌, ◌*◌, ◌%◌, ◌<◌, ◌≤◌, List, [], ◌∷◌, ◌++◌, length, take, drop, get_or, map, refl, sym, ◌∙◌, ap, subst, arith, length-append, append_assoc}
+use Rattle.std.proofs.Common.{◌≡◌, ◌⊎◌, inl, inr, ⊎_elim, true, false, cond, ℕ, ◌+◌, ◌*◌, ◌%◌, ◌<◌, ◌≤◌, List, [], ◌∷◌, ◌++◌, length, take, drop, get_or, refl, sym, ◌∙◌, ap, subst, arith, length-append}
 use Rattle.std.proofs.lemmas.List.{take_at, drop_at, drop_more, take-take, take-append-le, length-take-le, length-map}
 use Rattle.cc_disk.specs.declared.cell.Cell.{Cell}
-use Rattle.cc_disk.specs.Model.{bytes_of, IsImage, written, synced, crashed, settled, left}
+use Rattle.cc_disk.specs.Model.{bytes_of, IsImage, written, crashed, settled, left}
 use Rattle.cc_disk.specs.Past.{bytes_are_image}
 use Rattle.cc_disk.specs.Images.{IsWritten, DiffersWithin, LeavesAlone}
 use Rattle.cc_disk.proofs.Cells.{length-image, written_images, bytes_of-written, synced_alone, bytes_of-synced, synced_adds_none}
-use Rattle.cc_journal.specs.Format.{header, open_gate, record_bytes, records, HoldsRecords, HoldsAlone, IsArea}
+use Rattle.cc_journal.specs.Format.{header, open_gate, record_bytes, records, HoldsRecords}
 use Rattle.cc_journal.specs.Reading.{HoldsFrom}
-use Rattle.cc_journal.proofs.Records.{holds_alone, length-records_push, length-record_bytes}
+use Rattle.cc_journal.proofs.Records.{length-records_push, length-record_bytes}
 use Rattle.cc_journal.proofs.Images.{frame, length-frame, behind_gate, at_gate, committed, length-written}
 use Rattle.cc_library.specs.declared.command.Command.{Command}
 use Rattle.cc_library.specs.Body.{body_of}
 use Rattle.cc_core.specs.declared.contents.Due.{Due}
 use Rattle.cc_core.specs.declared.contents.Due.TheVariants.{WriteBody, SyncBody, WriteGate, SyncGate, Acknowledge}
 use Rattle.cc_core.specs.StoreState.{StoreState}
-use Rattle.cc_core.specs.Store.{gate_of, with_cells, stepped, due_after, FailsTo}
-use Rattle.cc_core.specs.Ready.{IsFitting, HasRoom}
+use Rattle.cc_core.specs.Store.{stepped, due_after, FailsTo}
+use Rattle.cc_core.specs.Ready.{HasRoom}
 
 -- these records stand in area A of the image, whose area byte is 0
 pub record HoldsA (area : ℕ) (bodies : List (List ℕ)) (image : List ℕ) : Type 0 where

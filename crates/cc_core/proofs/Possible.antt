@@ -1,14 +1,12 @@
 -- Where what an event asks holds, it has a step: the new state is the one that the step names.
-use Rattle.std.proofs.Common.{◌≡◌, ◌⊎◌, inl, inr, ⊎_elim, ℕ, ◌+◌, ◌≤◌, refl, sym, ap, subst, ◌∙◌, Option, Some, None, arith, length, take, List}
+use Rattle.std.proofs.Common.{◌≡◌, ℕ, ◌+◌, ◌≤◌, refl, ap, ◌∙◌, Option, Some, None, arith, length, List}
 use Rattle.std.specs.Prelude.{slice_get, IsTrue, IfOk, OnOk, IsErrOf, ◌↔◌, Result, Ok, Err, ◌++◌, ◌∷◌, []}
 use Rattle.std.specs.FinMap.{get, insert, remove, empty}
 use Rattle.std.proofs.lemmas.List.{length-append, length-take-le}
-use Rattle.cc_journal.specs.Format.{HoldsRecords, records, open_gate}
-use Rattle.cc_disk.specs.Model.{bytes_of, written}
-use Rattle.cc_link.specs.declared.unit.StoredUnit.{StoredUnit}
+use Rattle.cc_journal.specs.Format.{records}
+use Rattle.cc_disk.specs.Model.{written}
 use Rattle.cc_library.specs.declared.command.Command.{Command}
-use Rattle.cc_library.specs.declared.command.Command.TheVariants as command
-use Rattle.cc_library.specs.Apply.{Units, after}
+use Rattle.cc_library.specs.Apply.{after}
 use Rattle.cc_library.specs.Body.{body_of}
 use Rattle.cc_core.specs.declared.command.Request.{Request}
 use Rattle.cc_core.specs.declared.command.Placed.{Placed}
@@ -29,9 +27,9 @@ use Rattle.cc_core.specs.Rules.{Rules}
 use Rattle.cc_core.specs.Job.{job_of, with_piece, all_there, verdict}
 use Rattle.cc_core.specs.StoreState.{StoreState}
 use Rattle.cc_core.specs.Store.{stepped, due_after, FailsTo, crashed_store, behind_gate, gate_of, with_cells}
-use Rattle.cc_core.specs.Step.{Step, IsImpossible, IsUp, IsFree, IsLongest, Submits, Takes, Begins, Begun, Advances, Fails, Acknowledges, Crashes, Reopens, counted, placed_now}
+use Rattle.cc_core.specs.Step.{Step, IsImpossible, IsUp, IsFree, Submits, Takes, Begins, Begun, Advances, Fails, Acknowledges, Crashes, Reopens, counted, placed_now}
 use Rattle.cc_core.specs.Run.{PutsCommand}
-use Rattle.cc_core.specs.Ready.{IsRecoverable, IsFrontKept}
+use Rattle.cc_core.specs.Ready.{IsRecoverable}
 use Rattle.cc_core.proofs.Orders.{front_longest, some_front}
 
 -- a phase that was matched by its parts
@@ -110,8 +108,7 @@ module _ {P : Type 0} where
 
   pub reopens : (old : Contents P) → old.phase ≡ Crashed → IsRecoverable old.store old.order → (reply : Option Reply) × (new : Contents P) × Reopens old reply new
   reopens old crashed r =
-      let kept = some_front r.library old.order in
-      (
+      let kept = some_front r.library old.order in (
         None,
         record (counted old) { library = r.library; order = kept.0; phase = Idle; store = record old.store { used = length (records r.bodies) } },
         record {

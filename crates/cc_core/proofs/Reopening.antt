@@ -1,9 +1,8 @@
 -- What is found on a disk after a crash is what the state says of it, so the recovery has its step.
-use Rattle.std.proofs.Common.{◌≡◌, ℕ, ◌+◌, ◌≤◌, List, Option, None, refl, sym, ap, subst, ◌∙◌, arith, length}
+use Rattle.std.proofs.Common.{◌≡◌, ℕ, ◌+◌, ◌≤◌, List, None, refl, sym, ap, subst, ◌∙◌, arith, length}
 use Rattle.std.specs.FinMap.{empty}
 use Rattle.cc_disk.specs.Model.{bytes_of, crashed}
-use Rattle.cc_disk.specs.declared.cell.Cell.{Cell}
-use Rattle.cc_journal.specs.Format.{records, room_of, HoldsRecords}
+use Rattle.cc_journal.specs.Format.{records, HoldsRecords}
 use Rattle.cc_library.specs.Apply.{Units}
 use Rattle.cc_library.specs.Recovered.{StandFor}
 use Rattle.cc_library.proofs.Standing.{one_map}

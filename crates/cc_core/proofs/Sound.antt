@@ -1,7 +1,7 @@
 -- What holds of the contents after any events. One record says it, each step keeps it, and so does a run.
 -- How: beside the order and the jobs it says, by phase, what the disk's images hold; a device step goes on from one part of the
 -- commit to the next, a crash leaves one of the images, and a recovery reads it.
-use Rattle.std.proofs.Common.{◌≡◌, ◌⊎◌, inl, inr, ⊎_elim, ℕ, zero, suc, ◌+◌, ◌-◌, ◌<◌, ◌≤◌, ◌^◌, List, [], ◌∷◌, ◌++◌, length, take, drop, Option, Some, None, Result, Ok, Err, refl, sym, ap, subst, ◌∙◌, arith, All, Contains}
+use Rattle.std.proofs.Common.{◌≡◌, ◌⊎◌, inl, inr, ℕ, zero, suc, ◌+◌, ◌-◌, ◌<◌, ◌≤◌, ◌^◌, List, [], ◌∷◌, ◌++◌, length, take, drop, Option, Some, None, Result, Ok, Err, refl, sym, ap, subst, ◌∙◌, arith, All, Contains}
 use Rattle.std.specs.Prelude.{IsOk, slice_get, replicate}
 use Rattle.std.specs.Ordering.{nat_cmp}
 use Rattle.std.specs.Cmp.{nat_cmp_total}
@@ -12,16 +12,14 @@ use Rattle.std.proofs.lemmas.Option.{slice_get_within}
 use Rattle.cc_disk.specs.declared.cell.Cell.{Cell}
 use Rattle.cc_disk.specs.Model.{bytes_of, crashed}
 use Rattle.cc_disk.specs.Past.{bytes_are_image}
-use Rattle.cc_disk.specs.Images.{LeavesAlone}
-use Rattle.cc_journal.specs.Format.{header, records, HoldsRecords, HoldsAlone, IsArea}
+use Rattle.cc_journal.specs.Format.{header, records, HoldsRecords}
 use Rattle.cc_journal.proofs.Records.{holds_alone, holds_same}
 use Rattle.cc_journal.proofs.Bytes.{empty_holds}
 use Rattle.cc_link.specs.declared.unit.StoredUnit.{StoredUnit}
 use Rattle.cc_library.specs.declared.command.Command.{Command}
-use Rattle.cc_library.specs.Apply.{Units, apply, after, library_of, AreAccepted}
-use Rattle.cc_library.specs.Body.{Spells, IsCommand, body_of}
-use Rattle.cc_library.specs.Recovered.{StandFor, Recovers, RecoversAlone}
-use Rattle.cc_library.proofs.Standing.{one_more, one_map, holds_recovers}
+use Rattle.cc_library.specs.Apply.{apply, after, library_of, AreAccepted}
+use Rattle.cc_library.specs.Body.{IsCommand, body_of}
+use Rattle.cc_library.specs.Recovered.{StandFor}
 use Rattle.cc_core.specs.declared.command.Request.{Request}
 use Rattle.cc_core.specs.declared.command.Request.TheVariants as request
 use Rattle.cc_core.specs.declared.command.Placed.{Placed}
@@ -37,14 +35,14 @@ use Rattle.cc_core.specs.declared.contents.Phase.TheVariants.{Idle, Committing, 
 use Rattle.cc_core.specs.declared.event.Event.{Event}
 use Rattle.cc_core.specs.declared.event.Event.TheVariants as event
 use Rattle.cc_core.specs.Rules.{Rules}
-use Rattle.cc_core.specs.Job.{planned, job_of, source_in, with_piece, closed, command_of, verdict}
+use Rattle.cc_core.specs.Job.{planned, job_of, source_in, with_piece, closed, verdict}
 use Rattle.cc_core.specs.StoreState.{StoreState}
-use Rattle.cc_core.specs.Store.{IsFormatted, stepped, due_after, FailsTo, crashed_store}
-use Rattle.cc_core.specs.Step.{Step, Begun, Advances, Fails, Acknowledges, Crashes, Reopens, IsFree, IsStart, IsLongest, counted, placed_now, commands}
-use Rattle.cc_core.specs.Run.{EachUnit, AreRising, but_last, live, Survives, EachImageSurvives, EachImageIsRight, PutsCommand, Turn, Run, Reached}
-use Rattle.cc_core.specs.Ready.{HasRoom, IsFitting, IsRecoverable, IsReady, IsReadyIn}
+use Rattle.cc_core.specs.Store.{IsFormatted, stepped, due_after, crashed_store}
+use Rattle.cc_core.specs.Step.{Step, Begun, Advances, Fails, Acknowledges, Crashes, Reopens, IsFree, IsStart, counted, placed_now, commands}
+use Rattle.cc_core.specs.Run.{EachUnit, AreRising, but_last, live, EachImageSurvives, EachImageIsRight, PutsCommand, Turn, Run, Reached}
+use Rattle.cc_core.specs.Ready.{IsFitting, IsRecoverable, IsReady, IsReadyIn}
 use Rattle.cc_core.proofs.Lists.{slice_get-set, slice_get-push, All-slice_get, take-push}
-use Rattle.cc_core.proofs.Whole.{IsRightCommand, IsNamed, IsLawful, IsTaken, verdict_right, verdict_taken}
+use Rattle.cc_core.proofs.Whole.{IsRightCommand, IsNamed, IsLawful, verdict_right, verdict_taken}
 use Rattle.cc_core.proofs.Orders.{found-insert, found-remove, AreRight, AreRight-push, AreRight-front, EachUnit-empty, EachUnit-library, library-push, AreAccepted-push, AreAccepted-before, but_last-push}
 use Rattle.cc_core.proofs.Held.{HoldsA, commit_goes_on, room_goes_on, failed_images, crashed_image, crashed_alone}
 use Rattle.cc_core.proofs.Ending.{LacksLast, HoldsOrder, HoldsFlight, HoldsCrash, IsKept, stand_more, ends_of, each_ends, ends_survives, kept_acked}
@@ -377,10 +375,10 @@ module _ {P : Type 0} (rules : Rules P) where
     step_IsSound old (event.Begin client) reply new sound step puts =
         begun_IsSound old client (verdict rules old.phase old.library old.store step.job) reply new sound
         (λ c is. let t = verdict_taken rules old.phase old.library old.store step.job c is in (
-            idle_of old.phase step.free t.open',
-            verdict_right rules is_right law old.phase old.library old.store step.job c (sound.named client step.job step.held) step.ready is,
-            t.ok,
-            (t.fits, area_most old.phase old.store old.order old.acknowledged sound.disk),
+          idle_of old.phase step.free t.open',
+          verdict_right rules is_right law old.phase old.library old.store step.job c (sound.named client step.job step.held) step.ready is,
+          t.ok,
+          (t.fits, area_most old.phase old.store old.order old.acknowledged sound.disk),
         )) step.begun puts
     step_IsSound old event.WriteBody reply new sound step puts = advanced_IsSound due.WriteBody old reply new sound step
     step_IsSound old event.SyncBody reply new sound step puts = advanced_IsSound due.SyncBody old reply new sound step

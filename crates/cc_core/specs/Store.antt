@@ -1,10 +1,10 @@
 -- The disk of the core: a journal in its area A, written step by step.
-use Rattle.std.specs.Prelude.{◌≡◌, ℕ, ◌+◌, ◌*◌, ◌≤◌, List, [], ◌∷◌, ◌++◌, length, replicate, refl}
+use Rattle.std.specs.Prelude.{◌≡◌, ℕ, ◌+◌, ◌*◌, List, [], ◌∷◌, ◌++◌, length}
 use Rattle.std.specs.Int.{w32, to_le_bytes}
 use Rattle.cc_disk.specs.declared.cell.Cell.{Cell}
-use Rattle.cc_disk.specs.Model.{bytes_of, IsImage, written, synced, crashed, settled}
+use Rattle.cc_disk.specs.Model.{bytes_of, IsImage, written, synced, crashed}
 use Rattle.cc_disk.specs.Images.{LeavesAlone}
-use Rattle.cc_journal.specs.Format.{header, open_gate, record_bytes, IsArea}
+use Rattle.cc_journal.specs.Format.{header, open_gate, IsArea}
 use Rattle.cc_library.specs.declared.command.Command.{Command}
 use Rattle.cc_library.specs.Body.{body_of}
 use Rattle.cc_core.specs.StoreState.{StoreState}

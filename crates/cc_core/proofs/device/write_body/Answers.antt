@@ -1,7 +1,6 @@
 -- Where a growth is refused the step is due, so the event has one.
-use Rattle.std.proofs.Common.{◌≡◌, refl}
+use Rattle.std.proofs.Common.{refl}
 use Rattle.cc_core.specs.declared.contents.Due.TheVariants as due
-use Rattle.cc_core.specs.declared.contents.Phase.TheVariants.{Committing}
 use Rattle.cc_core.proofs.Possible.{advances, committing_is}
 use Rattle.cc_core.proofs.device.write_body.Goals as goal
 

@@ -1,5 +1,5 @@
 -- No event has led there from the start.
-use Rattle.std.proofs.Common.{◌≡◌, refl, ap, ◌∙◌, []}
+use Rattle.std.proofs.Common.{refl, ap, ◌∙◌, []}
 use Rattle.cc_core.specs.declared.place.Place.{Place}
 use Rattle.cc_core.specs.declared.contents.Phase.TheVariants.{Idle}
 use Rattle.cc_core.proofs.state.State.new.Goals as goal

@@ -12,8 +12,7 @@ returns c =
     let area = c.in-Ok.journal.area in
     let bodies = c.in-Ok.journal.bodies in
     let same : bytes_of c.in_ok-copy.copy.cells ≡ bytes_of c.args.self.now.cells =
-    ap bytes_of c.in_ok-copy.ensures.cells ∙ ap (λ (s : StoreState). bytes_of (crashed s.cells [])) c.self.view_is ∙ crashed_same c.args.self.now.cells [] c.requires in
-    (
+    ap bytes_of c.in_ok-copy.ensures.cells ∙ ap (λ (s : StoreState). bytes_of (crashed s.cells [])) c.self.view_is ∙ crashed_same c.args.self.now.cells [] c.requires in (
       area,
       bodies,
       subst (λ (bytes : List ℕ). HoldsRecords bytes area bodies) same (c.in-Ok.ensures.records refl),
