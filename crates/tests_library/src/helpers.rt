@@ -1,7 +1,7 @@
 // Units, names and disks, and what a library holds.
 use cc_disk::{Disk, MemoryDisk};
 use cc_journal::format;
-use cc_library::{Command, Library, Name, SharedUnit};
+use cc_library::{Command, Library, LibraryFault, Name, SharedUnit};
 use cc_link::{Source, StoredUnit};
 use cc_rv32::image::{Code, Globals, Image};
 use std::alloc::Global;
@@ -82,6 +82,37 @@ pub fn opened<D: Disk + Drop>(alloc: Global, disk: D) -> Result<Library<D>, Fail
     }
 }
 
+/// The answer of opening a library.
+pub fn try_open<D: Disk>(alloc: Global, disk: D) -> Result<Library<D>, (LibraryFault, D)> {
+    Library::open(alloc, disk)
+}
+
+/// The answer of a run.
+pub fn ran<D: Disk>(
+    alloc: Global,
+    library: Library<D>,
+    edits: Vec<Command>,
+) -> (Result<Library<D>, (LibraryFault, D)>, Vec<u32>) {
+    library.run(alloc, edits)
+}
+
+/// Adds, adds, replaces and withdraws until one is refused: how many were done.
+pub fn changes_done<D: Disk>(alloc: Global, library: &mut Library<D>) -> Result<usize, Fail> {
+    if added(alloc, library, b'a', 1)? != 0 {
+        return Ok(0);
+    }
+    if added(alloc, library, b'b', 2)? != 0 {
+        return Ok(1);
+    }
+    if replaced(alloc, library, b'a', 3)? != 0 {
+        return Ok(2);
+    }
+    if withdrawn(alloc, library, b'b')? != 0 {
+        return Ok(3);
+    }
+    Ok(4)
+}
+
 /// The first code word of the unit of that name, where it has one.
 pub fn word_of<D: Disk>(library: &Library<D>, letter: u8) -> Result<Option<u32>, Fail> {
     Ok(
@@ -106,7 +137,7 @@ pub fn holds<D: Disk>(
 }
 
 /// The number of an answer, 0 for Ok.
-pub fn number(answer: Result<(), cc_library::LibraryFault>) -> u8 {
+pub fn number(answer: Result<(), LibraryFault>) -> u8 {
     match answer {
         Ok(()) => 0,
         Err(fault) => fault.number(),

@@ -1,5 +1,5 @@
 // Disks that nobody formatted so.
-use crate::helpers::{added, bytes_of, disk_of, formatted, holds, opened, refusal};
+use crate::helpers::{added, bytes_of, disk_of, formatted, holds, opened, refusal, try_open};
 use cc_disk::{FuseDisk, FuseMode, MemoryDisk};
 use cc_library::Library;
 use std::alloc::Global;
@@ -76,7 +76,7 @@ fn each_closed_gate_is_an_empty_library(rt: HostRuntime) -> Result<(), Fail> {
 fn a_failure_hands_the_disk_back(rt: HostRuntime) -> Result<(), Fail> {
     let alloc = rt.alloc();
     let fuse = FuseDisk::new(disk_of(alloc, &two_records(alloc)?)?, 0, FuseMode::Once);
-    let Err((fault, fuse)) = Library::open(alloc, fuse) else {
+    let Err((fault, fuse)) = try_open(alloc, fuse) else {
         panic!(rt; "opened");
     };
     assert_eq!(rt; fault.number(), 35);
