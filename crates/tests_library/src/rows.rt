@@ -1,6 +1,6 @@
 // The worked rows of the library.
 use crate::helpers::{
-    add, added, crash_leaves, formatted, holds, opened, replace, replaced, unit, withdraw,
+    add, added, crash_leaves, formatted, holds, opened, ran, replace, replaced, unit, withdraw,
     withdrawn,
 };
 use cc_disk::{FuseDisk, FuseMode, MemoryDisk};
@@ -41,7 +41,7 @@ fn four_edits(alloc: Global) -> Result<Vec<Command>, Fail> {
 fn the_same_through_run(rt: HostRuntime) -> Result<(), Fail> {
     let alloc = rt.alloc();
     let library = opened(alloc, formatted(alloc, 128)?)?;
-    let (library, numbers) = library.run(alloc, four_edits(alloc)?);
+    let (library, numbers) = ran(alloc, library, four_edits(alloc)?);
     assert_eq!(rt; numbers.as_slice(), [0u32, 31, 32, 0].as_slice());
     let Ok(library) = library else {
         panic!(rt; "the run stopped");

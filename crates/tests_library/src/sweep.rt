@@ -1,9 +1,9 @@
 // Every point of failure of add, add, replace, withdraw, in each mode, and a crash behind it; and the same through `run`.
 use crate::helpers::{
-    add, added, crash_leaves, formatted, holds, opened, replace, replaced, withdraw, withdrawn,
+    add, changes_done, crash_leaves, formatted, holds, opened, ran, replace, try_open, withdraw,
 };
 use cc_disk::{FuseDisk, FuseMode, MemoryDisk};
-use cc_library::{Command, Library};
+use cc_library::Command;
 use std::alloc::Global;
 use std::test::Fail;
 
@@ -23,23 +23,11 @@ fn map_after(done: usize) -> (Option<u32>, Option<u32>) {
 
 // Does the changes until one is refused: the disk, and how many were done.
 fn changed(alloc: Global, disk: FuseDisk<MemoryDisk>) -> Result<(MemoryDisk, usize), Fail> {
-    let mut library = match Library::open(alloc, disk) {
+    let mut library = match try_open(alloc, disk) {
         Ok(library) => library,
         Err((_, disk)) => return Ok((disk.into_disk(), 0)),
     };
-    let mut done = 0;
-    if added(alloc, &mut library, b'a', 1)? == 0 {
-        done = 1;
-    }
-    if done == 1 && added(alloc, &mut library, b'b', 2)? == 0 {
-        done = 2;
-    }
-    if done == 2 && replaced(alloc, &mut library, b'a', 3)? == 0 {
-        done = 3;
-    }
-    if done == 3 && withdrawn(alloc, &mut library, b'b')? == 0 {
-        done = 4;
-    }
+    let done = changes_done(alloc, &mut library)?;
     Ok((library.into_disk().into_disk(), done))
 }
 
@@ -83,7 +71,7 @@ fn a_run_goes_on_after_one_failure(rt: HostRuntime) -> Result<(), Fail> {
     let alloc = rt.alloc();
     for passes in 3..CALLS + 1 {
         let fuse = FuseDisk::new(formatted(alloc, 128)?, passes, FuseMode::Once);
-        let (library, numbers) = opened(alloc, fuse)?.run(alloc, four_edits(alloc)?);
+        let (library, numbers) = ran(alloc, opened(alloc, fuse)?, four_edits(alloc)?);
         let Ok(library) = library else {
             panic!(rt; "the run stopped at {passes} calls");
         };
@@ -103,7 +91,7 @@ fn a_run_stops_where_its_disk_is_not_opened_again(rt: HostRuntime) -> Result<(),
     let alloc = rt.alloc();
     for passes in 3..CALLS {
         let fuse = FuseDisk::new(formatted(alloc, 128)?, passes, FuseMode::Before);
-        let (stopped, numbers) = opened(alloc, fuse)?.run(alloc, four_edits(alloc)?);
+        let (stopped, numbers) = ran(alloc, opened(alloc, fuse)?, four_edits(alloc)?);
         let Err((fault, disk)) = stopped else {
             panic!(rt; "the run went on at {passes} calls");
         };
