@@ -23,12 +23,10 @@ sys.stdout.write(head + unit * count + tail)
 P
 }
 
-# millis RUNS COMMAND..: the milliseconds of so many runs
+# millis RUNS COMMAND..: the milliseconds of processor time of so many runs, which other work on the machine changes little
 millis() {
-  local runs=$1 start; shift
-  start=$(date +%s%N)
-  for _ in $(seq "$runs"); do "$@" >/dev/null; done
-  echo $(( ($(date +%s%N) - start) / 1000000 ))
+  local runs=$1 TIMEFORMAT='%U %S'; shift
+  { time for _ in $(seq "$runs"); do "$@" >/dev/null; done; } 2>&1 | awk '{ printf "%d\n", ($1 + $2) * 1000 }'
 }
 
 echo | "$program" check >/dev/null || true

@@ -1,5 +1,5 @@
 -- Which calls of a fuse disk reach its disk, and which fail.
-use Rattle.std.specs.Prelude.{ℕ, Bool, Option, Some, None, if◌then◌else◌}
+use Rattle.std.specs.Prelude.{◌≡◌, ℕ, ◌+◌, ◌⊎◌, Bool, true, false, Option, Some, None, if◌then◌else◌}
 use Rattle.std.proofs.Common.{zero, suc}
 use Rattle.cc_disk.specs.declared.fuse.FuseMode.{FuseMode}
 use Rattle.cc_disk.specs.declared.fuse.FuseMode.TheVariants.{Once, Before, Within}
@@ -29,3 +29,7 @@ abbrev pub after_call : Option ℕ → Option ℕ
 after_call (Some zero) = None
 after_call (Some (suc n)) = Some n
 after_call None = None
+
+-- A write that reached the disk and then fails. The fuse counts the failure, or the disk did where the write failed by itself.
+abbrev pub ReachesAndFails : {D : Type 0} → (write : Bool → D → Type 0) → (before after : ℕ) → D → Type 0
+ReachesAndFails write before after new = ((after ≡ before) × write true new) ⊎ ((after ≡ before + 1) × write false new)

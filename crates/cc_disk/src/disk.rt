@@ -1,5 +1,5 @@
 // What every disk is to those who use it: its calls, and the rules that an honest kind of disk keeps.
-ghost use Rattle.std.specs.Prelude.{◌≡◌, ◌+◌, ◌-◌, ◌^◌, ◌≤◌, min, Bool, IsTrue, List, ℕ, length, take, drop, OnOk, OnErr, is_ok, if◌then◌else◌};
+ghost use Rattle.std.specs.Prelude.{◌≡◌, ◌+◌, ◌-◌, ◌^◌, ◌≤◌, min, Bool, IsTrue, List, ℕ, ⊤, length, take, drop, OnOk, OnErr, is_ok, if◌then◌else◌};
 ghost use Rattle.cc_disk.specs.Images.{IsWritten, DiffersWithin, UnsettlesWithin, AddsNone, LeavesAlone, Elapses};
 
 use thiserror::Error;
@@ -32,6 +32,9 @@ impl DiskFault {
 ///
 /// These rules are the promise of an honest kind of disk, and the clauses below say them under `honest`. Of another kind
 /// only the size and the count of failures are known. An image is what a crash may leave.
+///
+/// A kind may say more of its calls than the rules: its own model, by `reads`, `writes` and `syncs`. A disk over another
+/// one then says which of its calls are the other's.
 pub trait Disk {
     /// How many bytes it has.
     ghost size: { Self → ℕ };
@@ -54,6 +57,16 @@ pub trait Disk {
     /// What a crash at some moment from that one on may have left, during a call or between two.
     ghost left_since: { Self → ℕ → List ℕ → Type 0 };
 
+    /// The kind's own model of a read, where it has one: the disk before, the place, the buffer before, whether it
+    /// answers Ok, the buffer and the disk behind.
+    ghost reads: { Self → ℕ → List ℕ → Bool → List ℕ → Self → Type 0 } = { λ _ _ _ _ _ _. ⊤ };
+
+    /// The same of a write: the disk before, the place, the bytes, whether it answers Ok, the disk behind.
+    ghost writes: { Self → ℕ → List ℕ → Bool → Self → Type 0 } = { λ _ _ _ _ _. ⊤ };
+
+    /// The same of a sync: the disk before, whether it answers Ok, the disk behind.
+    ghost syncs: { Self → Bool → Self → Type 0 } = { λ _ _ _. ⊤ };
+
     /// How many bytes the disk has.
     fn size(&self) -> usize
         ensures { result ≡ size self.now };
@@ -61,6 +74,7 @@ pub trait Disk {
     /// Fills the buffer with the bytes from `place` on. A failure (35) leaves any bytes in the buffer.
     fn read_at(&mut self, place: usize, buffer: &mut [u8]) -> Result<(), DiskFault>
         requires { place + length buffer.old ≤ size self.old }
+        ensures model { reads self.old place buffer.old (is_ok result) buffer.new self.new }
         ensures size { size self.new ≡ size self.old }
         ensures failures { failures self.new ≡ (if is_ok result then failures self.old else failures self.old + 1) }
         ensures read { OnOk result (IsTrue honest → buffer.new ≡ take (length buffer.old) (drop place (seen self.old))) }
@@ -72,6 +86,7 @@ pub trait Disk {
     /// Writes the bytes from `place` on, unsettled. A failure (35) leaves any bytes, unsettled, in the range.
     fn write_at(&mut self, place: usize, bytes: &[u8]) -> Result<(), DiskFault>
         requires { place + length bytes.now ≤ size self.old }
+        ensures model { writes self.old place bytes.now (is_ok result) self.new }
         ensures size { size self.new ≡ size self.old }
         ensures failures { failures self.new ≡ (if is_ok result then failures self.old else failures self.old + 1) }
         ensures written { OnOk result (IsTrue honest → IsWritten (seen self.old) place bytes.now (seen self.new)) }
@@ -82,6 +97,7 @@ pub trait Disk {
 
     /// Settles every byte. A failure (35) settles nothing and changes no byte.
     fn sync(&mut self) -> Result<(), DiskFault>
+        ensures model { syncs self.old (is_ok result) self.new }
         ensures size { size self.new ≡ size self.old }
         ensures failures { failures self.new ≡ (if is_ok result then failures self.old else failures self.old + 1) }
         ensures settled { OnOk result (IsTrue honest → LeavesAlone (seen self.old) (may_leave self.new)) }

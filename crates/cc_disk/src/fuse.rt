@@ -1,7 +1,6 @@
 // The disk that fails on purpose, once or for good, after a number of calls.
-ghost use Rattle.std.specs.Prelude.{◌≡◌, ◌+◌, ◌-◌, ◌^◌, ◌≤◌, min, Bool, true, false, IsTrue, List, ℕ, length, take, drop, OnOk, OnErr, IsErr, is_ok, Some, if◌then◌else◌};
-ghost use Rattle.cc_disk.specs.Images.{IsWritten, DiffersWithin, UnsettlesWithin, AddsNone, LeavesAlone, Elapses};
-ghost use Rattle.cc_disk.specs.Fuse.{course_of, after_call};
+ghost use Rattle.std.specs.Prelude.{◌≡◌, ◌+◌, true, false, Some};
+ghost use Rattle.cc_disk.specs.Fuse.{course_of, after_call, ReachesAndFails};
 
 use crate::count::FailureCount;
 use crate::disk::{Disk, DiskFault};
@@ -98,6 +97,8 @@ fn one_less(ahead: Option<u64>) -> Option<u64>
 }
 
 impl<D: Disk> Disk for FuseDisk<D> {
+    ghost use Rattle.cc_disk.specs.declared.fuse.Course.{Course};
+
     ghost size = { λ fuse. D.size fuse.disk };
 
     ghost failures = { λ fuse. fuse.failed + D.failures fuse.disk };
@@ -112,28 +113,30 @@ impl<D: Disk> Disk for FuseDisk<D> {
 
     ghost left_since = { λ fuse t image. D.left_since fuse.disk t image };
 
+    // The mode decides, by how many calls came before: the call is its disk's own, or fails and leaves the disk.
+    ghost reads = { λ old place buffer ok after new. (new.ahead ≡ after_call old.ahead) × (new.mode ≡ old.mode)
+        × (course_of old.mode old.ahead false ≡ Course.Passes
+        → (new.failed ≡ old.failed) × D.reads old.disk place buffer ok after new.disk)
+        × (course_of old.mode old.ahead false ≡ Course.Fails → (ok ≡ false) × (new.disk ≡ old.disk) × (after ≡ buffer)) };
+
+    // In the mode `Within` a write may also reach the disk and then fail.
+    ghost writes = { λ old place bytes ok new. (new.ahead ≡ after_call old.ahead) × (new.mode ≡ old.mode)
+        × (course_of old.mode old.ahead true ≡ Course.Passes
+        → (new.failed ≡ old.failed) × D.writes old.disk place bytes ok new.disk)
+        × (course_of old.mode old.ahead true ≡ Course.Fails → (ok ≡ false) × (new.disk ≡ old.disk))
+        × (course_of old.mode old.ahead true ≡ Course.WritesAndFails → (ok ≡ false)
+        × ReachesAndFails (D.writes old.disk place bytes) (D.failures old.disk) (D.failures new.disk) new.disk) };
+
+    ghost syncs = { λ old ok new. (new.ahead ≡ after_call old.ahead) × (new.mode ≡ old.mode)
+        × (course_of old.mode old.ahead false ≡ Course.Passes
+        → (new.failed ≡ old.failed) × D.syncs old.disk ok new.disk)
+        × (course_of old.mode old.ahead false ≡ Course.Fails → (ok ≡ false) × (new.disk ≡ old.disk)) };
+
     fn size(&self) -> usize {
         self.disk.size()
     }
 
-    fn read_at(&mut self, place: usize, buffer: &mut [u8]) -> Result<(), DiskFault>
-        requires { place + length buffer.old ≤ D.size self.old.disk }
-        ensures size { D.size self.new.disk ≡ D.size self.old.disk }
-        ensures failures { self.new.failed + D.failures self.new.disk
-            ≡ (if is_ok result then self.old.failed + D.failures self.old.disk else self.old.failed + D.failures self.old.disk + 1) }
-        ensures read { OnOk result (IsTrue D.honest → buffer.new ≡ take (length buffer.old) (drop place (D.seen self.old.disk))) }
-        ensures seen { IsTrue D.honest → D.seen self.new.disk ≡ D.seen self.old.disk }
-        ensures images { IsTrue D.honest → AddsNone (D.may_leave self.old.disk) (D.may_leave self.new.disk) }
-        ensures time { IsTrue D.honest → Elapses (D.moment self.old.disk) (D.moment self.new.disk)
-            (D.left_since self.old.disk) (D.left_since self.new.disk) (D.may_leave self.new.disk) }
-
-        // The mode decides, by how many calls came before.
-        ensures fuse { self.new.ahead ≡ after_call self.old.ahead }
-        ensures mode { self.new.mode ≡ self.old.mode }
-        ensures passes { course_of self.old.mode self.old.ahead false ≡ Course.Passes → self.new.failed ≡ self.old.failed }
-        ensures fails { course_of self.old.mode self.old.ahead false ≡ Course.Fails
-            → IsErr result × (self.new.disk ≡ self.old.disk) }
-    {
+    fn read_at(&mut self, place: usize, buffer: &mut [u8]) -> Result<(), DiskFault> {
         let course = next_course(self.mode, self.ahead, false);
         self.ahead = one_less(self.ahead);
         match course {
@@ -145,29 +148,7 @@ impl<D: Disk> Disk for FuseDisk<D> {
         }
     }
 
-    fn write_at(&mut self, place: usize, bytes: &[u8]) -> Result<(), DiskFault>
-        requires { place + length bytes.now ≤ D.size self.old.disk }
-        ensures size { D.size self.new.disk ≡ D.size self.old.disk }
-        ensures failures { self.new.failed + D.failures self.new.disk
-            ≡ (if is_ok result then self.old.failed + D.failures self.old.disk else self.old.failed + D.failures self.old.disk + 1) }
-        ensures written { OnOk result (IsTrue D.honest → IsWritten (D.seen self.old.disk) place bytes.now (D.seen self.new.disk)) }
-        ensures failed { OnErr result (IsTrue D.honest
-            → DiffersWithin place (length bytes.now) (D.seen self.old.disk) (D.seen self.new.disk)) }
-        ensures images { IsTrue D.honest
-            → UnsettlesWithin place (length bytes.now) (D.may_leave self.old.disk) (D.may_leave self.new.disk) }
-        ensures time { IsTrue D.honest → Elapses (D.moment self.old.disk) (D.moment self.new.disk)
-            (D.left_since self.old.disk) (D.left_since self.new.disk) (D.may_leave self.new.disk) }
-
-        // The mode decides, by how many calls came before.
-        ensures fuse { self.new.ahead ≡ after_call self.old.ahead }
-        ensures mode { self.new.mode ≡ self.old.mode }
-        ensures passes { course_of self.old.mode self.old.ahead true ≡ Course.Passes → self.new.failed ≡ self.old.failed }
-        ensures fails { course_of self.old.mode self.old.ahead true ≡ Course.Fails
-            → IsErr result × (self.new.disk ≡ self.old.disk) }
-        ensures reaches { course_of self.old.mode self.old.ahead true ≡ Course.WritesAndFails
-            → IsErr result × ((D.failures self.new.disk ≡ D.failures self.old.disk) → IsTrue D.honest
-            → IsWritten (D.seen self.old.disk) place bytes.now (D.seen self.new.disk)) }
-    {
+    fn write_at(&mut self, place: usize, bytes: &[u8]) -> Result<(), DiskFault> {
         let course = next_course(self.mode, self.ahead, true);
         self.ahead = one_less(self.ahead);
         match course {
@@ -185,23 +166,7 @@ impl<D: Disk> Disk for FuseDisk<D> {
         }
     }
 
-    fn sync(&mut self) -> Result<(), DiskFault>
-        ensures size { D.size self.new.disk ≡ D.size self.old.disk }
-        ensures failures { self.new.failed + D.failures self.new.disk
-            ≡ (if is_ok result then self.old.failed + D.failures self.old.disk else self.old.failed + D.failures self.old.disk + 1) }
-        ensures settled { OnOk result (IsTrue D.honest → LeavesAlone (D.seen self.old.disk) (D.may_leave self.new.disk)) }
-        ensures seen { IsTrue D.honest → D.seen self.new.disk ≡ D.seen self.old.disk }
-        ensures images { IsTrue D.honest → AddsNone (D.may_leave self.old.disk) (D.may_leave self.new.disk) }
-        ensures time { IsTrue D.honest → Elapses (D.moment self.old.disk) (D.moment self.new.disk)
-            (D.left_since self.old.disk) (D.left_since self.new.disk) (D.may_leave self.new.disk) }
-
-        // The mode decides, by how many calls came before.
-        ensures fuse { self.new.ahead ≡ after_call self.old.ahead }
-        ensures mode { self.new.mode ≡ self.old.mode }
-        ensures passes { course_of self.old.mode self.old.ahead false ≡ Course.Passes → self.new.failed ≡ self.old.failed }
-        ensures fails { course_of self.old.mode self.old.ahead false ≡ Course.Fails
-            → IsErr result × (self.new.disk ≡ self.old.disk) }
-    {
+    fn sync(&mut self) -> Result<(), DiskFault> {
         let course = next_course(self.mode, self.ahead, false);
         self.ahead = one_less(self.ahead);
         match course {

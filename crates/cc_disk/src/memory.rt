@@ -130,6 +130,15 @@ impl Disk for MemoryDisk {
 
     ghost left_since = { λ disk t image. LeftSince disk.cells disk.past t image };
 
+    ghost reads = { λ old place buffer ok after new. IsTrue ok
+        × (after ≡ take (length buffer) (drop place (bytes_of old.cells))) × (new ≡ old) };
+
+    ghost writes = { λ old place bytes ok new. IsTrue ok
+        × (new.cells ≡ written old.cells place bytes) × (new.past ≡ old.past ++ old.cells ∷ []) };
+
+    ghost syncs = { λ old ok new. IsTrue ok
+        × (new.cells ≡ synced old.cells) × (new.past ≡ old.past ++ old.cells ∷ []) };
+
     fn size(&self) -> usize {
         self.cells.len()
     }
@@ -148,6 +157,7 @@ impl Disk for MemoryDisk {
         requires { place + length bytes.now ≤ length self.old.cells }
         ensures answer { IsOk result }
         ensures cells { self.new.cells ≡ written self.old.cells place bytes.now }
+        ensures past { self.new.past ≡ self.old.past ++ self.old.cells ∷ [] }
         ensures size { length self.new.cells ≡ length self.old.cells }
         ensures written { IsWritten (bytes_of self.old.cells) place bytes.now (bytes_of self.new.cells) }
         ensures images { UnsettlesWithin place (length bytes.now) (IsImage self.old.cells) (IsImage self.new.cells) }
@@ -163,6 +173,7 @@ impl Disk for MemoryDisk {
     fn sync(&mut self) -> Result<(), DiskFault>
         ensures answer { IsOk result }
         ensures cells { self.new.cells ≡ synced self.old.cells }
+        ensures past { self.new.past ≡ self.old.past ++ self.old.cells ∷ [] }
         ensures size { length self.new.cells ≡ length self.old.cells }
         ensures settled { LeavesAlone (bytes_of self.old.cells) (IsImage self.new.cells) }
         ensures seen { bytes_of self.new.cells ≡ bytes_of self.old.cells }

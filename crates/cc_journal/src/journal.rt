@@ -1,8 +1,8 @@
 // The journal and its calls.
 ghost use Rattle.std.specs.Prelude.{◌≡◌, ◌≢◌, ◌⊎◌, ◌+◌, ◌*◌, ◌^◌, ◌<◌, ◌≤◌, ◌++◌, [], ◌∷◌, List, ℕ, true, false, IsTrue, length, IfOk, IfErr, MatchResult, OnOk, OnErr, IsErrOf, vec_len, vec_capacity};
 ghost use Rattle.std.specs.Int.{w32, to_le_bytes};
-ghost use Rattle.cc_disk.specs.Images.{LeavesAlone, LeavesOnly, OnlyReads};
-ghost use Rattle.cc_journal.specs.Format.{HoldsAlone, HoldsOldOrNew, HoldsRecords, IsArea, room_of};
+ghost use Rattle.cc_disk.specs.Images.{IsWritten, LeavesAlone, LeavesOnly, OnlyReads};
+ghost use Rattle.cc_journal.specs.Format.{HoldsAlone, HoldsOldOrNew, HoldsRecords, IsArea, record_bytes, room_of};
 ghost use Rattle.cc_journal.specs.Answers.{AppendAnswers, OpenFaults};
 
 use crate::body::Body;
@@ -109,6 +109,10 @@ impl<D: Disk> Journal<D> {
         ensures open { OnOk result (self.new.closed ≡ false) }
         ensures kept { OnOk result (IsTrue D.honest
             → (image : List ℕ) → D.may_leave self.new.disk image → HoldsAlone image self.new.area self.new.bodies) }
+
+        // The bytes of the disk change in one range alone: it has the record, its gate open, and a closed gate behind it.
+        ensures bytes { OnOk result (IsTrue D.honest → (place : ℕ)
+            × IsWritten (D.seen self.old.disk) place (record_bytes body.now ++ 0 ∷ []) (D.seen self.new.disk)) }
 
         // A refusal leaves the records; without a device call it leaves all, after 35 the journal is closed.
         ensures refused { OnErr result (self.new.bodies ≡ self.old.bodies) }

@@ -7,3 +7,9 @@ pub mod Simulates
 pub mod Running
 pub mod Serving
 pub mod Starting
+pub mod Chains
+pub mod Advancing
+pub mod Padding
+pub mod After
+pub mod Turning
+pub mod Digits

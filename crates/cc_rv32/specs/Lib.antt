@@ -3,5 +3,7 @@ pub mod Table
 pub mod Machine
 pub mod Lowered
 pub mod Shown
+pub mod Simulated
+pub mod Simulation
 pub mod Listing
 pub mod Rows

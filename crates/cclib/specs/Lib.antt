@@ -1,1 +1,3 @@
 pub mod Task
+pub mod Answer
+pub mod Fault

@@ -1,6 +1,7 @@
 // Every refusal of the program, with its line.
 
 ghost use Rattle.std.specs.Prelude.{◌≡◌};
+ghost use Rattle.cclib.specs.Fault.{fault_number, fault_place};
 
 use cc_meaning::MeaningFault;
 use cc_syntax::{Place, SyntaxFault};
@@ -12,16 +13,16 @@ use thiserror::Error;
 /// Why a task was not done.
 #[derive(Debug, Drop, Error)]
 pub enum Fault {
-    /// 1 to 7, 40.
+    /// 1 to 7, 40: the text has no tree.
     #[error(transparent)]
-    Syntax(#[from] SyntaxFault),
-    /// 11 to 21, 40.
+    Syntax(SyntaxFault),
+    /// 11 to 21, 40: the tree breaks a rule.
     #[error(transparent)]
-    Type(#[from] TypeFault),
-    /// 40.
+    Typing(TypeFault),
+    /// 40: memory was refused as the program ran.
     #[error(transparent)]
-    Meaning(#[from] MeaningFault),
-    /// 40.
+    Meaning(MeaningFault),
+    /// 40: memory was refused as the text was read.
     #[error("OutOfMemory")]
     OutOfMemory,
     /// 53: the text could not be read.
@@ -39,11 +40,13 @@ impl From<AllocError> for Fault {
 }
 
 impl Fault {
-    /// The number of the fault.
-    pub fn number(&self) -> u32 {
+    /// The number of the fault: 1 to 7, 11 to 21, 40, 53 or 54.
+    pub fn number(&self) -> u32
+        ensures { result ≡ fault_number self.now }
+    {
         match self {
             Fault::Syntax(fault) => fault.number(),
-            Fault::Type(fault) => fault.number(),
+            Fault::Typing(fault) => fault.number(),
             Fault::Meaning(fault) => fault.number(),
             Fault::OutOfMemory => 40,
             Fault::Read => 53,
@@ -52,10 +55,12 @@ impl Fault {
     }
 
     /// Where in the text the fault stands, where it stands in the text.
-    pub fn place(&self) -> Option<Place> {
+    pub fn place(&self) -> Option<Place>
+        ensures { result ≡ fault_place self.now }
+    {
         match self {
             Fault::Syntax(fault) => fault.place(),
-            Fault::Type(fault) => fault.place(),
+            Fault::Typing(fault) => fault.place(),
             Fault::Meaning(_) | Fault::OutOfMemory | Fault::Read | Fault::Write => None,
         }
     }

@@ -1,29 +1,57 @@
 // Doing a task over any reader and writer.
 
-ghost use Rattle.std.specs.Prelude.{◌≤◌};
+ghost use Rattle.std.specs.Prelude.{◌≡◌, ◌≤◌, IfOk, IfErr};
+ghost use Rattle.cc_syntax.specs.Source.{source};
+ghost use Rattle.cclib.specs.Answer.{IsProgram, Answers, IsRefused};
 
 use super::command_line::Task;
 use super::fault::Fault;
 use super::source::read_source;
 use cc_meaning::{Cause, Outcome, Stop, interpret};
 use cc_syntax::parse;
-use cc_typing::check;
+use cc_typing::{TypedUnit, check};
 use std::alloc::Global;
 use std::io::{self, Read, Write};
 
-// What a task answers, before it is written.
+/// What a task answers, before it is written.
 #[derive(Drop)]
-enum Answer {
+pub enum Answer {
+    /// The text is a program.
     Accepted,
+    /// What the program does.
     Ran(Outcome),
 }
 
-fn answer_to<R: Read>(alloc: Global, task: Task, reader: &mut R) -> Result<Answer, Fault> {
-    let text = read_source(alloc, reader)?;
-    let unit = check(alloc, parse(alloc, text.as_slice())?)?;
+/// The answer to a task for a program: that it is one, or what it does on the empty input.
+///
+/// 40 where memory was refused as the program ran.
+fn answer_of(alloc: Global, task: Task, program: &TypedUnit) -> Result<Answer, Fault>
+    requires { IsProgram (source program.now) }
+    ensures answer { IfOk result (λ answer. Answers task (source program.now).text answer) }
+    ensures refused { IfErr result (λ fault. IsRefused (source program.now).text fault) }
+{
     match task {
         Task::Check => Ok(Answer::Accepted),
-        Task::Interpret(steps) => Ok(Answer::Ran(interpret(alloc, &unit, &[], steps)?)),
+        Task::Interpret(steps) => match interpret(alloc, program, &[], steps) {
+            Ok(outcome) => Ok(Answer::Ran(outcome)),
+            Err(fault) => Err(Fault::Meaning(fault)),
+        },
+    }
+}
+
+/// The answer to a task for a text: from bytes over tokens, tree and resolved form to the outcome.
+///
+/// Refusals: those of `parse`, then those of `check`, and 40 where memory was refused.
+fn answer_for(alloc: Global, task: Task, text: &[u8]) -> Result<Answer, Fault>
+    ensures answer { IfOk result (λ answer. Answers task text.now answer) }
+    ensures refused { IfErr result (λ fault. IsRefused text.now fault) }
+{
+    match parse(alloc, text) {
+        Err(fault) => Err(Fault::Syntax(fault)),
+        Ok(unit) => match check(alloc, unit) {
+            Err(fault) => Err(Fault::Typing(fault)),
+            Ok(program) => answer_of(alloc, task, &program),
+        },
     }
 }
 
@@ -61,7 +89,8 @@ fn try_perform<R: Read, W: Write>(
     reader: &mut R,
     writer: &mut W,
 ) -> Result<(), Fault> {
-    let answer = answer_to(alloc, task, reader)?;
+    let text = read_source(alloc, reader)?;
+    let answer = answer_for(alloc, task, text.as_slice())?;
     write_answer(&answer, writer).map_err(|_| Fault::Write)
 }
 

@@ -6,7 +6,7 @@ use cc_core::command::{Reply, Request};
 use cc_core::event::Event;
 use cc_core::fault::{BuildFault, CoreFault};
 use cc_core::sequence::Sequence;
-use cc_core::state::{State, run_events};
+use cc_core::state::{State, crash_law, run_events};
 use cc_library::Name;
 use std::alloc::{AllocError, Global};
 use std::process::Abort;
@@ -410,4 +410,21 @@ fn lists_and_numbers(rt: HostRuntime) -> Result<(), Fail> {
     assert_eq!(rt; list.get(3).copied(), None);
     assert_eq!(rt; list.into_vec().as_slice(), b"xyz".as_slice());
     Ok(())
+}
+
+// Names compare by their bytes, and one that was cloned is the same.
+#[test]
+fn names_in_order(rt: HostRuntime) -> Result<(), Fail> {
+    let a = name(&rt, b"a")?;
+    let longer = name(&rt, b"a_")?;
+    let b = name(&rt, b"b")?;
+    assert!(rt; a < longer && longer < b && a != b);
+    assert!(rt; a.clone()? == a);
+    Ok(())
+}
+
+// The crash theorem holds of this build too.
+#[test]
+fn whatever_a_crash_leaves() {
+    crash_law::<OnePieceBuild>();
 }

@@ -1,8 +1,11 @@
 // Each public call of the front's libraries, once on its happy path.
 
-use cc_meaning::{Stop, interpret};
-use cc_syntax::{Place, SyntaxFault, parse, place_at};
-use cc_typing::{TypeFault, check};
+use cc_meaning::{MeaningFault, Stop, Words, interpret};
+use cc_syntax::{
+    Expression, Keyword, Place, Punctuator, Scalar, Statement, SyntaxFault, UnaryOperator, parse,
+    place_at, tokens_are_determined, trees_are_determined,
+};
+use cc_typing::{ResolvedExpression, ResolvedStatement, TypeFault, UnaryOperation, check};
 use std::test::Fail;
 
 #[test]
@@ -30,15 +33,127 @@ fn places(rt: HostRuntime) {
 }
 
 #[test]
-fn numbers_and_places_of_faults(rt: HostRuntime) -> Result<(), Fail> {
+fn numbers_of_faults(rt: HostRuntime) {
     let place = Place { line: 3, column: 2 };
-    assert_eq!(rt; SyntaxFault::TooDeep(place).number(), 6);
+    for (fault, number) in [
+        (SyntaxFault::BadByte(place), 1),
+        (SyntaxFault::UnclosedComment(place), 2),
+        (SyntaxFault::BadConstant(place), 3),
+        (SyntaxFault::ConstantTooLarge(place), 4),
+        (SyntaxFault::Unexpected(place), 5),
+        (SyntaxFault::TooDeep(place), 6),
+        (SyntaxFault::SourceTooLarge, 7),
+        (SyntaxFault::OutOfMemory, 40),
+    ] {
+        assert_eq!(rt; fault.number(), number);
+    }
+    for (fault, number) in [
+        (TypeFault::Unknown(place), 11),
+        (TypeFault::Redeclared(place), 12),
+        (TypeFault::WrongKind(place), 13),
+        (TypeFault::WrongCount(place), 14),
+        (TypeFault::VoidValue(place), 15),
+        (TypeFault::BadReturn(place), 16),
+        (TypeFault::BadAssign(place), 17),
+        (TypeFault::BadBreak(place), 18),
+        (TypeFault::NoMain(place), 19),
+        (TypeFault::Undefined(place), 20),
+        (TypeFault::TooMany(place), 21),
+        (TypeFault::OutOfMemory, 40),
+    ] {
+        assert_eq!(rt; fault.number(), number);
+    }
+    assert_eq!(rt; MeaningFault::OutOfMemory.number(), 40);
+}
+
+#[test]
+fn places_of_faults(rt: HostRuntime) {
+    let place = Place { line: 3, column: 2 };
     assert_eq!(rt; SyntaxFault::TooDeep(place).place(), Some(place));
-    assert_eq!(rt; SyntaxFault::SourceTooLarge.number(), 7);
     assert_eq!(rt; SyntaxFault::SourceTooLarge.place(), None);
-    assert_eq!(rt; SyntaxFault::OutOfMemory.number(), 40);
-    assert_eq!(rt; TypeFault::Undefined(place).number(), 20);
     assert_eq!(rt; TypeFault::Undefined(place).place(), Some(place));
     assert_eq!(rt; TypeFault::OutOfMemory.place(), None);
+}
+
+#[test]
+fn the_tree_of_a_text(rt: HostRuntime) -> Result<(), Fail> {
+    let unit = parse(rt.alloc(), b"int main(void){int i=5;return -i;}".as_slice())?;
+    let function = unit.function();
+    assert_eq!(rt; function.name.bytes.as_slice(), b"main".as_slice());
+    assert_eq!(rt; function.name.at, 4);
+    let [
+        Statement::Local(Scalar::Int, names),
+        Statement::Return(23, Some(value)),
+    ] = function.body.as_slice()
+    else {
+        return Err(Fail::new("the statements"));
+    };
+    let [name] = names.as_slice() else {
+        return Err(Fail::new("the declarators"));
+    };
+    assert_eq!(rt; name.name.bytes.as_slice(), b"i".as_slice());
+    assert_eq!(rt; name.name.at, 19);
+    assert!(rt; matches!(&name.initial, Some(Expression::Number(Scalar::Int, 5))));
+    let Expression::Unary(UnaryOperator::Minus, operand) = value else {
+        return Err(Fail::new("the value"));
+    };
+    let Expression::Name(used) = &**operand else {
+        return Err(Fail::new("the operand"));
+    };
+    assert_eq!(rt; used.bytes.as_slice(), b"i".as_slice());
+    assert_eq!(rt; used.at, 31);
     Ok(())
+}
+
+#[test]
+fn the_form_of_a_unit(rt: HostRuntime) -> Result<(), Fail> {
+    let unit = parse(rt.alloc(), b"int main(void){int i=5;return -i;}".as_slice())?;
+    let typed = check(rt.alloc(), unit)?;
+    let form = typed.form();
+    assert_eq!(rt; form.variables, 1);
+    let [
+        ResolvedStatement::Block(declared),
+        ResolvedStatement::Return(value),
+    ] = form.body.as_slice()
+    else {
+        return Err(Fail::new("the statements"));
+    };
+    let [
+        ResolvedStatement::Clear(0),
+        ResolvedStatement::Set(0, ResolvedExpression::Constant(5)),
+    ] = declared.as_slice()
+    else {
+        return Err(Fail::new("the declaration"));
+    };
+    let ResolvedExpression::Unary(UnaryOperation::Negate, operand) = value else {
+        return Err(Fail::new("the value"));
+    };
+    assert!(rt; matches!(&**operand, ResolvedExpression::Variable(0)));
+    Ok(())
+}
+
+// C99 6.4.1 and 6.4.6.
+#[test]
+fn spellings(rt: HostRuntime) {
+    assert_eq!(rt; Keyword::Auto.bytes(), b"auto".as_slice());
+    assert_eq!(rt; Keyword::While.bytes(), b"while".as_slice());
+    assert_eq!(rt; Keyword::Bool.bytes(), b"_Bool".as_slice());
+    assert_eq!(rt; Punctuator::OpenParenthesis.bytes(), b"(".as_slice());
+    assert_eq!(rt; Punctuator::NotEqual.bytes(), b"!=".as_slice());
+    assert_eq!(rt; Punctuator::ShiftRightAssign.bytes(), b">>=".as_slice());
+}
+
+#[test]
+fn words_of_a_vector(rt: HostRuntime) -> Result<(), Fail> {
+    let words = Words::from_vec(vec![in rt.alloc(); 7u32, 4294967295]?);
+    assert_eq!(rt; words.as_slice(), [7u32, 4294967295].as_slice());
+    assert_eq!(rt; words.into_vec().as_slice(), [7u32, 4294967295].as_slice());
+    Ok(())
+}
+
+// Their contracts are the laws; the calls do nothing.
+#[test]
+fn laws() {
+    tokens_are_determined();
+    trees_are_determined();
 }

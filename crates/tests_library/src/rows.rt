@@ -1,6 +1,7 @@
 // The worked rows of the library.
 use crate::helpers::{
-    add, bytes_of, formatted, holds, name, number, opened, replace, unit, withdraw, word_of,
+    add, added, crash_leaves, formatted, holds, opened, ran, replace, replaced, unit, withdraw,
+    withdrawn,
 };
 use cc_disk::{FuseDisk, FuseMode, MemoryDisk};
 use cc_library::{Command, Library, LibraryFault, Name};
@@ -15,22 +16,13 @@ const OPENING: u64 = 6;
 fn changes_and_the_list(rt: HostRuntime) -> Result<(), Fail> {
     let alloc = rt.alloc();
     let mut library = opened(alloc, formatted(alloc, 128)?)?;
-    assert_eq!(rt; number(library.add(alloc, name(b'a')?, unit(alloc, 1)?)), 0);
-    assert_eq!(rt;
-        number(library.add(alloc, name(b'a')?, unit(alloc, 2)?)),
-        31
-    );
-    assert_eq!(rt; number(library.withdraw(alloc, name(b'b')?)), 32);
-    assert_eq!(rt;
-        number(library.replace(alloc, name(b'a')?, unit(alloc, 3)?)),
-        0
-    );
+    assert_eq!(rt; added(alloc, &mut library, b'a', 1)?, 0);
+    assert_eq!(rt; added(alloc, &mut library, b'a', 2)?, 31);
+    assert_eq!(rt; withdrawn(alloc, &mut library, b'b')?, 32);
+    assert_eq!(rt; replaced(alloc, &mut library, b'a', 3)?, 0);
     let names = library.list(alloc)?;
     assert_eq!(rt; names.len(), 1);
     assert!(rt; names.iter().all(|name| name.bytes() == b"a".as_slice()));
-    assert_eq!(rt; word_of(&library, b'a')?, Some(3));
-    assert_eq!(rt; word_of(&library, b'b')?, None);
-    assert!(rt; Name::new(b"A".as_slice()).is_err());
     let again = opened(alloc, library.into_disk())?;
     assert!(rt; holds(alloc, &again, (Some(3), None))?);
     Ok(())
@@ -49,7 +41,7 @@ fn four_edits(alloc: Global) -> Result<Vec<Command>, Fail> {
 fn the_same_through_run(rt: HostRuntime) -> Result<(), Fail> {
     let alloc = rt.alloc();
     let library = opened(alloc, formatted(alloc, 128)?)?;
-    let (library, numbers) = library.run(alloc, four_edits(alloc)?);
+    let (library, numbers) = ran(alloc, library, four_edits(alloc)?);
     assert_eq!(rt; numbers.as_slice(), [0u32, 31, 32, 0].as_slice());
     let Ok(library) = library else {
         panic!(rt; "the run stopped");
@@ -87,7 +79,7 @@ fn names_come_in_the_order_of_their_bytes(rt: HostRuntime) -> Result<(), Fail> {
 // A library with `a` added, on a disk of 144 bytes whose next calls meet a fuse.
 fn with_a(alloc: Global, passes: u64) -> Result<Library<FuseDisk<MemoryDisk>>, Fail> {
     let mut library = opened(alloc, formatted(alloc, 64)?)?;
-    library.add(alloc, name(b'a')?, unit(alloc, 1)?)?;
+    let _ = added(alloc, &mut library, b'a', 1)?;
     opened(
         alloc,
         FuseDisk::new(library.into_disk(), passes, FuseMode::Within),
@@ -98,25 +90,22 @@ fn with_a(alloc: Global, passes: u64) -> Result<Library<FuseDisk<MemoryDisk>>, F
 fn the_gate_decides(rt: HostRuntime) -> Result<(), Fail> {
     let alloc = rt.alloc();
     let mut library = with_a(alloc, OPENING + 2)?;
-    assert_eq!(rt;
-        number(library.add(alloc, name(b'b')?, unit(alloc, 2)?)),
-        35
-    );
-    assert!(rt; holds(alloc, &library, (Some(1), None))?);
-    assert_eq!(rt;
-        number(library.add(alloc, name(b'b')?, unit(alloc, 2)?)),
-        36
-    );
-    assert_eq!(rt; number(library.withdraw(alloc, name(b'a')?)), 36);
-    assert_eq!(rt;
-        number(library.replace(alloc, name(b'a')?, unit(alloc, 2)?)),
-        36
-    );
+    assert_eq!(rt; added(alloc, &mut library, b'b', 2)?, 35);
     let disk = library.into_disk().into_disk();
-    let both = opened(alloc, disk.crash(alloc, &[0xa5; 144])?)?;
-    assert!(rt; holds(alloc, &both, (Some(1), Some(2)))?);
-    let one = opened(alloc, disk.crash(alloc, &[0; 144])?)?;
-    assert!(rt; holds(alloc, &one, (Some(1), None))?);
+    assert!(rt; crash_leaves(alloc, &disk, 0xa5, (Some(1), Some(2)))?);
+    assert!(rt; crash_leaves(alloc, &disk, 0, (Some(1), None))?);
+    Ok(())
+}
+
+#[test]
+fn after_a_failure_the_library_is_closed(rt: HostRuntime) -> Result<(), Fail> {
+    let alloc = rt.alloc();
+    let mut library = with_a(alloc, OPENING + 2)?;
+    assert_eq!(rt; added(alloc, &mut library, b'b', 2)?, 35);
+    assert!(rt; holds(alloc, &library, (Some(1), None))?);
+    assert_eq!(rt; added(alloc, &mut library, b'b', 2)?, 36);
+    assert_eq!(rt; withdrawn(alloc, &mut library, b'a')?, 36);
+    assert_eq!(rt; replaced(alloc, &mut library, b'a', 2)?, 36);
     Ok(())
 }
 
@@ -124,10 +113,7 @@ fn the_gate_decides(rt: HostRuntime) -> Result<(), Fail> {
 fn a_torn_body_counts_for_nothing(rt: HostRuntime) -> Result<(), Fail> {
     let alloc = rt.alloc();
     let mut library = with_a(alloc, OPENING)?;
-    assert_eq!(rt;
-        number(library.add(alloc, name(b'b')?, unit(alloc, 2)?)),
-        35
-    );
+    assert_eq!(rt; added(alloc, &mut library, b'b', 2)?, 35);
     // The record of `a` ends with byte 40, the gate of the next is byte 41. Behind it the crash leaves a whole record, Withdraw
     // of `a`, and an open gate.
     let mut choice = [0xa5u8; 144];
@@ -146,22 +132,14 @@ fn a_torn_body_counts_for_nothing(rt: HostRuntime) -> Result<(), Fail> {
 fn a_full_area(rt: HostRuntime) -> Result<(), Fail> {
     let alloc = rt.alloc();
     let mut library = opened(alloc, formatted(alloc, 64)?)?;
-    library.add(alloc, name(b'a')?, unit(alloc, 1)?)?;
-    library.add(alloc, name(b'b')?, unit(alloc, 2)?)?;
+    assert_eq!(rt; added(alloc, &mut library, b'a', 1)?, 0);
+    assert_eq!(rt; added(alloc, &mut library, b'b', 2)?, 0);
     // Two records of 25 bytes and the closed gate leave 13 bytes: one Withdraw of 9 fits, a third unit does not.
-    assert_eq!(rt;
-        number(library.add(alloc, name(b'c')?, unit(alloc, 3)?)),
-        34
-    );
-    assert_eq!(rt;
-        number(library.replace(alloc, name(b'a')?, unit(alloc, 3)?)),
-        34
-    );
-    assert_eq!(rt; number(library.withdraw(alloc, name(b'a')?)), 0);
-    assert_eq!(rt; number(library.withdraw(alloc, name(b'b')?)), 34);
-    let mut disk = library.into_disk();
-    assert_eq!(rt; bytes_of(alloc, &mut disk)?.len(), 144);
-    let library = opened(alloc, disk)?;
+    assert_eq!(rt; added(alloc, &mut library, b'c', 3)?, 34);
+    assert_eq!(rt; replaced(alloc, &mut library, b'a', 3)?, 34);
+    assert_eq!(rt; withdrawn(alloc, &mut library, b'a')?, 0);
+    assert_eq!(rt; withdrawn(alloc, &mut library, b'b')?, 34);
+    let library = opened(alloc, library.into_disk())?;
     assert!(rt; holds(alloc, &library, (None, Some(2)))?);
     Ok(())
 }

@@ -1,7 +1,9 @@
 // Every point of failure of add, add, replace, withdraw, in each mode, and a crash behind it; and the same through `run`.
-use crate::helpers::{add, formatted, holds, name, opened, replace, unit, withdraw};
+use crate::helpers::{
+    add, changes_done, crash_leaves, formatted, holds, opened, ran, replace, try_open, withdraw,
+};
 use cc_disk::{FuseDisk, FuseMode, MemoryDisk};
-use cc_library::{Command, Library};
+use cc_library::Command;
 use std::alloc::Global;
 use std::test::Fail;
 
@@ -21,24 +23,24 @@ fn map_after(done: usize) -> (Option<u32>, Option<u32>) {
 
 // Does the changes until one is refused: the disk, and how many were done.
 fn changed(alloc: Global, disk: FuseDisk<MemoryDisk>) -> Result<(MemoryDisk, usize), Fail> {
-    let mut library = match Library::open(alloc, disk) {
+    let mut library = match try_open(alloc, disk) {
         Ok(library) => library,
         Err((_, disk)) => return Ok((disk.into_disk(), 0)),
     };
-    let mut done = 0;
-    if library.add(alloc, name(b'a')?, unit(alloc, 1)?).is_ok() {
-        done = 1;
-        if library.add(alloc, name(b'b')?, unit(alloc, 2)?).is_ok() {
-            done = 2;
-            if library.replace(alloc, name(b'a')?, unit(alloc, 3)?).is_ok() {
-                done = 3;
-                if library.withdraw(alloc, name(b'b')?).is_ok() {
-                    done = 4;
-                }
-            }
+    let done = changes_done(alloc, &mut library)?;
+    Ok((library.into_disk().into_disk(), done))
+}
+
+// Whether each crash leaves the map after what was done, or with one change more.
+fn is_right(alloc: Global, disk: &MemoryDisk, done: usize) -> Result<bool, Fail> {
+    for byte in [0x00u8, 0xa5, 0xff] {
+        let old = crash_leaves(alloc, disk, byte, map_after(done))?;
+        let new = crash_leaves(alloc, disk, byte, map_after(done.saturating_add(1)))?;
+        if !old && !new {
+            return Ok(false);
         }
     }
-    Ok((library.into_disk().into_disk(), done))
+    Ok(true)
 }
 
 #[test]
@@ -49,14 +51,7 @@ fn every_failure_and_a_crash(rt: HostRuntime) -> Result<(), Fail> {
             let fuse = FuseDisk::new(formatted(alloc, 128)?, passes, mode);
             let (disk, done) = changed(alloc, fuse)?;
             assert!(rt; done == 4 || passes < CALLS, "{passes} calls, {mode:?}");
-            for byte in [0x00u8, 0xa5, 0xff] {
-                let library = opened(alloc, disk.crash(alloc, &[byte; 272])?)?;
-                assert!(rt;
-                    holds(alloc, &library, map_after(done))?
-                        || holds(alloc, &library, map_after(done.saturating_add(1)))?,
-                    "{passes} calls, {mode:?}, {byte}"
-                );
-            }
+            assert!(rt; is_right(alloc, &disk, done)?, "{passes} calls, {mode:?}");
         }
     }
     Ok(())
@@ -76,7 +71,7 @@ fn a_run_goes_on_after_one_failure(rt: HostRuntime) -> Result<(), Fail> {
     let alloc = rt.alloc();
     for passes in 3..CALLS + 1 {
         let fuse = FuseDisk::new(formatted(alloc, 128)?, passes, FuseMode::Once);
-        let (library, numbers) = opened(alloc, fuse)?.run(alloc, four_edits(alloc)?);
+        let (library, numbers) = ran(alloc, opened(alloc, fuse)?, four_edits(alloc)?);
         let Ok(library) = library else {
             panic!(rt; "the run stopped at {passes} calls");
         };
@@ -96,7 +91,7 @@ fn a_run_stops_where_its_disk_is_not_opened_again(rt: HostRuntime) -> Result<(),
     let alloc = rt.alloc();
     for passes in 3..CALLS {
         let fuse = FuseDisk::new(formatted(alloc, 128)?, passes, FuseMode::Before);
-        let (stopped, numbers) = opened(alloc, fuse)?.run(alloc, four_edits(alloc)?);
+        let (stopped, numbers) = ran(alloc, opened(alloc, fuse)?, four_edits(alloc)?);
         let Err((fault, disk)) = stopped else {
             panic!(rt; "the run went on at {passes} calls");
         };

@@ -1,6 +1,11 @@
-//! Tests of `cc_rv32` on values from outside: words as GNU as encodes them, words that the table lacks, and the lengths of
-//! images.
+//! Tests of `cc_rv32` on values from outside: words as GNU as encodes them, words that the table lacks, the lengths of
+//! images, the listing's table, worked runs, and vectors of the public RISC-V test suite (riscv-tests, rv32ui and rv32um) for
+//! each instruction.
 #![tactic(auto)]
 
+#[cfg(test)]
+mod listing_tests;
+#[cfg(test)]
+mod runs;
 #[cfg(test)]
 mod tests;

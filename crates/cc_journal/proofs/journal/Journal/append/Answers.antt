@@ -1,8 +1,9 @@
-use Rattle.std.proofs.Common.{◌≡◌, ◌+◌, ◌<◌, ◌≤◌, [], ◌∷◌, ◌++◌, false, IsTrue, refl, ◌∙◌, subst, arith}
+use Rattle.std.proofs.Common.{◌≡◌, ◌+◌, ◌<◌, ◌≤◌, ℕ, List, [], ◌∷◌, ◌++◌, length, false, IsTrue, refl, sym, ap, ◌∙◌, subst, arith, append_assoc}
+use Rattle.std.specs.Int.{w32, to_le_bytes}
 use Rattle.std.proofs.lemmas.Result.{err_from_is_err_and}
 use Rattle.std.proofs.lemmas.Grind.{common_steps}
-use Rattle.cc_disk.specs.Images.{LeavesOnly}
-use Rattle.cc_journal.specs.Format.{HoldsOldOrNew, room_of}
+use Rattle.cc_disk.specs.Images.{IsWritten, LeavesOnly}
+use Rattle.cc_journal.specs.Format.{HoldsOldOrNew, record_bytes, room_of}
 use Rattle.cc_journal.specs.Reading.{View}
 use Rattle.cc_journal.proofs.Images.{frame}
 use Rattle.cc_journal.proofs.Kept.{kept_alone, room_push, still, in_commit, kept_more}
@@ -93,3 +94,13 @@ returns-in-Ok-clause-kept g c =
     let pushed : c.push.new.self.items ≡ i.bodies.items ++ c.args.body.now ∷ [] = grind (arith, common_steps) in
     let kept = kept_more D.honest D.size D.seen D.may_leave D.moment D.left_since i.disk i.start i.area i.used i.bodies.items i.closed c.self.invariant c.args.body.now c.commit.new.disk c.deref.result.now c.push.new.self.items is pushed (omega arith) c.commit.ensures.size c.if-self.false c.in-Ok.ensures.written c.in-Ok.ensures.alone in
     λ h image now. kept_alone _ _ _ (D.may_leave c.commit.new.disk) _ _ _ _ _ kept h c.if-self.false image now
+
+pub returns-in-Ok-clause-bytes : goal.returns-in-Ok-clause-bytes
+returns-in-Ok-clause-bytes g c =
+    let D = g.D.Disk in
+    let i = c.self.inside in
+    let body = c.args.body.now in
+    let is : 0xa5 ∷ c.deref.result.now ≡ record_bytes body ++ 0 ∷ [] =
+    ap (λ (l : List ℕ). 0xa5 ∷ l) (c.deref.ensures.value ∙ c.in_ok-kept.ensures.behind ∙ sym (append_assoc (to_le_bytes w32 (length body)) body (0 ∷ []))) in
+    subst (λ (v : View g.row.D.Denot). IsTrue D.honest → (place : ℕ) × IsWritten (D.seen v.disk) place (record_bytes body ++ 0 ∷ []) (D.seen c.commit.new.disk)) c.self.view_is
+    (λ h. (i.start + i.used, subst (λ (l : List ℕ). IsWritten (D.seen i.disk) (i.start + i.used) l (D.seen c.commit.new.disk)) is (c.in-Ok.ensures.written h)))

@@ -1,0 +1,92 @@
+//! The simulator: an image, run on an input, a number of instructions at a time.
+
+ghost use Rattle.std.specs.Prelude.{◌≡◌, ◌≢◌, ◌+◌, ◌<◌, ℕ, List, IfOk, OnErr};
+ghost use Rattle.cc_rv32.specs.Machine.{Run, machine_run, machine_behavior, start};
+ghost use Rattle.cc_rv32.specs.Simulation.{shown_run, IsAfter};
+ghost use Rattle.cc_rv32.specs.Simulated.{IsWrite};
+
+use crate::fault::MachineFault;
+use crate::image::Image;
+use crate::outcome::MachineOutcome;
+use crate::simulator::{Simulator, run_for};
+use std::alloc::Global;
+use std::marker::Model;
+
+/// A machine that runs an image. A clause sees what it holds, and `shown_run` the run that this stands for.
+#[derive(Drop)]
+pub struct Machine {
+    simulator: Simulator,
+}
+
+impl Model for Machine {
+    ghost use Rattle.cc_rv32.specs.Simulation.{Simulation};
+
+    ghost Value = { Simulation };
+
+    ghost use Rattle.cc_rv32.specs.Simulation.{simulation_of};
+    ghost use Rattle.cc_rv32.specs.Simulated.{IsSound};
+
+    ghost view = { λ m. simulation_of m.simulator };
+
+    ghost invariant = { λ m. IsSound m.simulator };
+}
+
+impl Machine {
+    /// A machine with the image in place, before its first instruction: the program counter at 0x00010000, `x2` at
+    /// 0x00800000, all other registers and the stack 0, and these words as its input. 40 where memory for them, or for
+    /// the 2.25 MiB of globals and stack, was refused.
+    pub fn new(alloc: Global, image: &Image, input: &[u32]) -> Result<Self, MachineFault>
+        ensures start { IfOk result (λ m. IsAfter image.now input.now 0 m) }
+    {
+        match Simulator::new(alloc, image, input) {
+            Ok(simulator) => Ok(Machine { simulator }),
+            Err(_) => Err(MachineFault::OutOfMemory),
+        }
+    }
+
+    /// Does one instruction, unless it has exited or trapped, and tells what the run has come to. 40 only where the
+    /// instruction writes a word and the output could not grow; then nothing is done.
+    pub fn step(&mut self) -> Result<MachineOutcome, MachineFault>
+        ensures code { self.new.code ≡ self.old.code }
+        ensures run { IfOk result (λ outcome. shown_run self.new ≡ machine_run self.old.code 1 (shown_run self.old)) }
+        ensures outcome { IfOk result (λ outcome. outcome ≡ self.new.outcome) }
+        ensures refused { OnErr result ((shown_run self.new ≡ shown_run self.old) × IsWrite self.new.code (shown_run self.new)) }
+    {
+        self.run(1)
+    }
+
+    /// Does at most so many instructions, fewer where it exits or traps, and tells what the run has come to: what `a`
+    /// and then `b` instructions come to is what `a + b` do. 40 only where an instruction writes a word and the output
+    /// could not grow; then the instructions before that one are done.
+    pub fn run(&mut self, steps: u64) -> Result<MachineOutcome, MachineFault>
+        ensures code { self.new.code ≡ self.old.code }
+        ensures run { IfOk result (λ outcome. shown_run self.new ≡ machine_run self.old.code steps (shown_run self.old)) }
+        ensures outcome { IfOk result (λ outcome. outcome ≡ self.new.outcome) }
+        ensures behavior { IfOk result (λ outcome. (image : Image) (input : List ℕ) (done : ℕ) → IsAfter image input done self.old
+            → IsAfter image input (done + steps) self.new × (outcome ≡ (machine_behavior image input (done + steps)).outcome)) }
+        ensures refused { OnErr result ((k : ℕ) × (k < steps) × (shown_run self.new ≡ machine_run self.old.code k (shown_run self.old))
+            × IsWrite self.new.code (shown_run self.new)) }
+    {
+        let simulator = &mut self.simulator;
+        let Ok(()) = run_for(simulator, steps) else {
+            return Err(MachineFault::OutOfMemory);
+        };
+        Ok(simulator.outcome)
+    }
+
+    /// The words that it has written so far, the oldest first. Takes no memory.
+    pub fn output(&self) -> &[u32]
+        ensures words { result.now ≡ self.now.output }
+        ensures behavior { (image : Image) (input : List ℕ) (done : ℕ) → IsAfter image input done self.now
+            → result.now ≡ (machine_behavior image input done).output }
+    {
+        self.simulator.output.as_slice()
+    }
+}
+
+/// What `m` and then `n` instructions come to is what `m + n` do, whatever the code and the run so far; and a run that has
+/// exited or trapped stays as it is, its state too.
+pub fn runs_go_on()
+    ensures additive { (code : List ℕ) (m n : ℕ) (r : Run) → machine_run code (m + n) r ≡ machine_run code n (machine_run code m r) }
+    ensures ended { (code : List ℕ) (n : ℕ) (r : Run) → r.outcome ≢ MachineOutcome.Going → machine_run code n r ≡ r }
+{}

@@ -1,0 +1,577 @@
+use cc_rv32::encode::encode;
+use cc_rv32::image::{Code, Globals, Image};
+use cc_rv32::instr::{
+    BranchOperation, ImmediateOperation, Instr, LoadOperation, Operation, ShiftOperation,
+    StoreOperation,
+};
+use cc_rv32::machine::Machine;
+use cc_rv32::operand::{BranchOffset, Immediate, Register, ShiftCount};
+use cc_rv32::outcome::MachineOutcome;
+use std::alloc::Global;
+use std::test::Fail;
+
+const ECALL: u32 = 0x0000_0073;
+
+// addi x17, x0, 93
+const EXIT: u32 = 0x05d0_0893;
+
+// addi x17, x0, 1
+const WRITE: u32 = 0x0010_0893;
+
+// addi x17, x0, 2
+const READ: u32 = 0x0020_0893;
+
+// addi x5, x10, 0 and addi x6, x10, 0
+const TO_X5: u32 = 0x0005_0293;
+
+const TO_X6: u32 = 0x0005_0313;
+
+// What each operation gives on two words (rv32ui and rv32um).
+const OPERATIONS: [(Operation, u32, u32, u32); 92] = [
+    (Operation::Add, 0x0, 0x0, 0x0),
+    (Operation::Add, 0x1, 0x1, 0x2),
+    (Operation::Add, 0x7fffffff, 0x1, 0x80000000),
+    (Operation::Add, 0xffffffff, 0xffffffff, 0xfffffffe),
+    (Operation::Add, 0xffff8000, 0x80000000, 0x7fff8000),
+    (Operation::Sub, 0x1, 0x1, 0x0),
+    (Operation::Sub, 0x3, 0x7, 0xfffffffc),
+    (Operation::Sub, 0x0, 0xffff8000, 0x8000),
+    (Operation::Sub, 0x80000000, 0x1, 0x7fffffff),
+    (Operation::Sll, 0x1, 0x0, 0x1),
+    (Operation::Sll, 0x1, 0x1f, 0x80000000),
+    (Operation::Sll, 0x21212121, 0x7, 0x90909080),
+    (Operation::Sll, 0x21212121, 0xffffffc0, 0x21212121),
+    (Operation::Sll, 0x1, 0x20, 0x1),
+    (Operation::Slt, 0x3, 0x7, 0x1),
+    (Operation::Slt, 0x7, 0x3, 0x0),
+    (Operation::Slt, 0x80000000, 0x0, 0x1),
+    (Operation::Slt, 0x0, 0xffff8000, 0x0),
+    (Operation::Slt, 0xffffffff, 0x1, 0x1),
+    (Operation::Sltu, 0x3, 0x7, 0x1),
+    (Operation::Sltu, 0x7, 0x3, 0x0),
+    (Operation::Sltu, 0x0, 0xffff8000, 0x1),
+    (Operation::Sltu, 0x80000000, 0x0, 0x0),
+    (Operation::Sltu, 0xffffffff, 0x1, 0x0),
+    (Operation::Xor, 0xff00ff00, 0xf0f0f0f, 0xf00ff00f),
+    (Operation::Srl, 0x80000000, 0x0, 0x80000000),
+    (Operation::Srl, 0x80000000, 0x1f, 0x1),
+    (Operation::Srl, 0x21212121, 0x7, 0x424242),
+    (Operation::Srl, 0x21212121, 0xffffffc7, 0x424242),
+    (Operation::Sra, 0x80000000, 0x0, 0x80000000),
+    (Operation::Sra, 0x80000000, 0x1f, 0xffffffff),
+    (Operation::Sra, 0x81818181, 0x7, 0xff030303),
+    (Operation::Sra, 0x7fffffff, 0x1f, 0x0),
+    (Operation::Sra, 0x81818181, 0xffffffc0, 0x81818181),
+    (Operation::Or, 0xff00ff00, 0xf0f0f0f, 0xff0fff0f),
+    (Operation::And, 0xff00ff00, 0xf0f0f0f, 0xf000f00),
+    (Operation::Mul, 0x7e00, 0xb6db6db7, 0x1200),
+    (Operation::Mul, 0x80000000, 0xffff8000, 0x0),
+    (Operation::Mul, 0xff000000, 0xff000000, 0x0),
+    (Operation::Mul, 0xffffffff, 0x1, 0xffffffff),
+    (Operation::Mulh, 0xaaaaaaab, 0x2fe7d, 0xffff0081),
+    (Operation::Mulh, 0x2fe7d, 0xaaaaaaab, 0xffff0081),
+    (Operation::Mulh, 0xff000000, 0xff000000, 0x10000),
+    (Operation::Mulh, 0xffffffff, 0xffffffff, 0x0),
+    (Operation::Mulh, 0xffffffff, 0x1, 0xffffffff),
+    (Operation::Mulh, 0x80000000, 0x80000000, 0x40000000),
+    (Operation::Mulhsu, 0xaaaaaaab, 0x2fe7d, 0xffff0081),
+    (Operation::Mulhsu, 0x2fe7d, 0xaaaaaaab, 0x1fefe),
+    (Operation::Mulhsu, 0xff000000, 0xff000000, 0xff010000),
+    (Operation::Mulhsu, 0xffffffff, 0xffffffff, 0xffffffff),
+    (Operation::Mulhsu, 0xffffffff, 0x1, 0xffffffff),
+    (Operation::Mulhsu, 0x1, 0xffffffff, 0x0),
+    (Operation::Mulhsu, 0x80000000, 0xffffffff, 0x80000000),
+    (Operation::Mulhu, 0xaaaaaaab, 0x2fe7d, 0x1fefe),
+    (Operation::Mulhu, 0x2fe7d, 0xaaaaaaab, 0x1fefe),
+    (Operation::Mulhu, 0xff000000, 0xff000000, 0xfe010000),
+    (Operation::Mulhu, 0xffffffff, 0xffffffff, 0xfffffffe),
+    (Operation::Mulhu, 0xffffffff, 0x1, 0x0),
+    (Operation::Div, 0x14, 0x6, 0x3),
+    (Operation::Div, 0xffffffec, 0x6, 0xfffffffd),
+    (Operation::Div, 0x14, 0xfffffffa, 0xfffffffd),
+    (Operation::Div, 0xffffffec, 0xfffffffa, 0x3),
+    (Operation::Div, 0x80000000, 0x1, 0x80000000),
+    (Operation::Div, 0x80000000, 0xffffffff, 0x80000000),
+    (Operation::Div, 0x80000000, 0x0, 0xffffffff),
+    (Operation::Div, 0x1, 0x0, 0xffffffff),
+    (Operation::Div, 0x0, 0x0, 0xffffffff),
+    (Operation::Divu, 0x14, 0x6, 0x3),
+    (Operation::Divu, 0xffffffec, 0x6, 0x2aaaaaa7),
+    (Operation::Divu, 0x14, 0xfffffffa, 0x0),
+    (Operation::Divu, 0xffffffec, 0xfffffffa, 0x0),
+    (Operation::Divu, 0x80000000, 0x1, 0x80000000),
+    (Operation::Divu, 0x80000000, 0xffffffff, 0x0),
+    (Operation::Divu, 0x80000000, 0x0, 0xffffffff),
+    (Operation::Divu, 0x0, 0x0, 0xffffffff),
+    (Operation::Rem, 0x14, 0x6, 0x2),
+    (Operation::Rem, 0xffffffec, 0x6, 0xfffffffe),
+    (Operation::Rem, 0x14, 0xfffffffa, 0x2),
+    (Operation::Rem, 0xffffffec, 0xfffffffa, 0xfffffffe),
+    (Operation::Rem, 0x80000000, 0x1, 0x0),
+    (Operation::Rem, 0x80000000, 0xffffffff, 0x0),
+    (Operation::Rem, 0x80000000, 0x0, 0x80000000),
+    (Operation::Rem, 0x1, 0x0, 0x1),
+    (Operation::Rem, 0x0, 0x0, 0x0),
+    (Operation::Remu, 0x14, 0x6, 0x2),
+    (Operation::Remu, 0xffffffec, 0x6, 0x2),
+    (Operation::Remu, 0x14, 0xfffffffa, 0x14),
+    (Operation::Remu, 0xffffffec, 0xfffffffa, 0xffffffec),
+    (Operation::Remu, 0x80000000, 0x1, 0x0),
+    (Operation::Remu, 0x80000000, 0xffffffff, 0x80000000),
+    (Operation::Remu, 0x80000000, 0x0, 0x80000000),
+    (Operation::Remu, 0x0, 0x0, 0x0),
+];
+
+// The same with an immediate, as the word that it stands for.
+const IMMEDIATES: [(ImmediateOperation, u32, u32, u32); 9] = [
+    (ImmediateOperation::Addi, 0x7fffffff, 0x7ff, 0x800007fe),
+    (ImmediateOperation::Addi, 0x80000000, 0xfffff800, 0x7ffff800),
+    (ImmediateOperation::Slti, 0xffffffff, 1, 1),
+    (ImmediateOperation::Slti, 0, 0xfffff800, 0),
+    (ImmediateOperation::Sltiu, 0xffffffff, 1, 0),
+    (ImmediateOperation::Sltiu, 0, 0xfffff800, 1),
+    (ImmediateOperation::Xori, 0x00ff0f00, 0xffffff0f, 0xff00f00f),
+    (ImmediateOperation::Ori, 0xff00ff00, 0xffffff0f, 0xffffff0f),
+    (ImmediateOperation::Andi, 0xff00ff00, 0xffffff0f, 0xff00ff00),
+];
+
+// The same by a count.
+const SHIFTS: [(ShiftOperation, u32, u8, u32); 7] = [
+    (ShiftOperation::Slli, 0x21212121, 0, 0x21212121),
+    (ShiftOperation::Slli, 1, 31, 0x80000000),
+    (ShiftOperation::Srli, 0x80000000, 31, 1),
+    (ShiftOperation::Srli, 0x80000000, 0, 0x80000000),
+    (ShiftOperation::Srai, 0x80000000, 31, 0xffffffff),
+    (ShiftOperation::Srai, 0x81818181, 0, 0x81818181),
+    (ShiftOperation::Srai, 0x81818181, 7, 0xff030303),
+];
+
+// What each load gives at an offset from the globals 0ff000ff and f00f0ff0, or a trap.
+const LOADS: [(LoadOperation, u32, Option<u32>); 16] = [
+    (LoadOperation::Lb, 0, Some(0xffffffff)),
+    (LoadOperation::Lb, 1, Some(0)),
+    (LoadOperation::Lb, 2, Some(0xfffffff0)),
+    (LoadOperation::Lb, 3, Some(0x0f)),
+    (LoadOperation::Lbu, 0, Some(0xff)),
+    (LoadOperation::Lbu, 2, Some(0xf0)),
+    (LoadOperation::Lh, 0, Some(0xff)),
+    (LoadOperation::Lh, 6, Some(0xfffff00f)),
+    (LoadOperation::Lhu, 6, Some(0xf00f)),
+    (LoadOperation::Lhu, 4, Some(0x0ff0)),
+    (LoadOperation::Lw, 4, Some(0xf00f0ff0)),
+    (LoadOperation::Lw, 8, Some(0)),
+    (LoadOperation::Lh, 1, None),
+    (LoadOperation::Lhu, 3, None),
+    (LoadOperation::Lw, 2, None),
+    (LoadOperation::Lw, 0xfffffffc, None),
+];
+
+// What the first global, 0ff000ff, is after 12345678 was stored at an offset, or a trap.
+const STORES: [(StoreOperation, u32, Option<u32>); 8] = [
+    (StoreOperation::Sb, 0, Some(0x0ff00078)),
+    (StoreOperation::Sb, 3, Some(0x78f000ff)),
+    (StoreOperation::Sh, 0, Some(0x0ff05678)),
+    (StoreOperation::Sh, 2, Some(0x567800ff)),
+    (StoreOperation::Sw, 0, Some(0x12345678)),
+    (StoreOperation::Sh, 1, None),
+    (StoreOperation::Sw, 2, None),
+    (StoreOperation::Sb, 0xffffffff, None),
+];
+
+// Whether each branch is taken.
+const BRANCHES: [(BranchOperation, u32, u32, bool); 15] = [
+    (BranchOperation::Beq, 0xffffffff, 0xffffffff, true),
+    (BranchOperation::Beq, 0, 1, false),
+    (BranchOperation::Bne, 0, 0xffffffff, true),
+    (BranchOperation::Bne, 7, 7, false),
+    (BranchOperation::Blt, 0xffffffff, 1, true),
+    (BranchOperation::Blt, 1, 0xffffffff, false),
+    (BranchOperation::Blt, 1, 1, false),
+    (BranchOperation::Bge, 1, 0xffffffff, true),
+    (BranchOperation::Bge, 0xfffffffe, 0xffffffff, false),
+    (BranchOperation::Bge, 5, 5, true),
+    (BranchOperation::Bltu, 1, 0xffffffff, true),
+    (BranchOperation::Bltu, 0xffffffff, 1, false),
+    (BranchOperation::Bgeu, 0xffffffff, 1, true),
+    (BranchOperation::Bgeu, 1, 0xffffffff, false),
+    (BranchOperation::Bgeu, 0, 0, true),
+];
+
+// What a program shows; its words and its input; the first word that it writes, and what it comes to.
+const PROGRAMS: [(&str, &[u32], &[u32], Option<u32>, MachineOutcome); 18] = [
+    (
+        "the stack's last word: sw x2, -4(x2); lw x10, -4(x2)",
+        &[0xfe212e23, 0xffc12503, WRITE, ECALL, EXIT, ECALL],
+        &[],
+        Some(0x0080_0000),
+        MachineOutcome::Exited(0x0080_0000),
+    ),
+    (
+        "behind the stack: sw x2, 0(x2)",
+        &[0x00212023, WRITE, ECALL],
+        &[],
+        None,
+        MachineOutcome::Trapped,
+    ),
+    (
+        "the stack's first word: lui x8, 0x600; sw x8, 0(x8); lw x10, 0(x8)",
+        &[
+            0x00600437, 0x00842023, 0x00042503, WRITE, ECALL, EXIT, ECALL,
+        ],
+        &[],
+        Some(0x0060_0000),
+        MachineOutcome::Exited(0x0060_0000),
+    ),
+    (
+        "before the stack: sw x8, -4(x8)",
+        &[0x00600437, 0xfe842e23, WRITE, ECALL],
+        &[],
+        None,
+        MachineOutcome::Trapped,
+    ),
+    (
+        "the last global: lui x8, 0x240; sw x8, -4(x8); lw x10, -4(x8)",
+        &[
+            0x00240437, 0xfe842e23, 0xffc42503, WRITE, ECALL, EXIT, ECALL,
+        ],
+        &[],
+        Some(0x0024_0000),
+        MachineOutcome::Exited(0x0024_0000),
+    ),
+    (
+        "behind the globals: sw x8, 0(x8)",
+        &[0x00240437, 0x00842023, WRITE, ECALL],
+        &[],
+        None,
+        MachineOutcome::Trapped,
+    ),
+    (
+        "jal x10, 8 skips a word that is none, and x10 is the address behind it",
+        &[0x0080056f, 0, WRITE, ECALL, EXIT, ECALL],
+        &[],
+        Some(0x0001_0004),
+        MachineOutcome::Exited(0x0001_0004),
+    ),
+    (
+        "auipc x5, 0; jalr x10, 13(x5): bit 0 of the target is cleared",
+        &[0x00000297, 0x00d28567, 0, WRITE, ECALL, EXIT, ECALL],
+        &[],
+        Some(0x0001_0008),
+        MachineOutcome::Exited(0x0001_0008),
+    ),
+    (
+        "jalr x0, 14(x5): no multiple of 4",
+        &[0x00000297, 0x00e28067, 0, WRITE, ECALL],
+        &[],
+        None,
+        MachineOutcome::Trapped,
+    ),
+    (
+        "beq x0, x0, 6: taken, to no multiple of 4",
+        &[0x00000363, WRITE, ECALL],
+        &[],
+        None,
+        MachineOutcome::Trapped,
+    ),
+    (
+        "bne x0, x0, 6: not taken",
+        &[0x00001363, WRITE, ECALL, EXIT, ECALL],
+        &[],
+        Some(0),
+        MachineOutcome::Exited(0),
+    ),
+    (
+        "jal x0, 6",
+        &[0x0060006f, WRITE, ECALL],
+        &[],
+        None,
+        MachineOutcome::Trapped,
+    ),
+    (
+        "x0 stays 0: addi x0, x0, 5; jal x0, 4; lui x0, 1; addi x10, x0, 0",
+        &[
+            0x00500013, 0x0040006f, 0x00001037, 0x00000513, WRITE, ECALL, EXIT, ECALL,
+        ],
+        &[],
+        Some(0),
+        MachineOutcome::Exited(0),
+    ),
+    (
+        "an unknown service",
+        &[ECALL],
+        &[],
+        None,
+        MachineOutcome::Trapped,
+    ),
+    (
+        "a word of the input",
+        &[READ, ECALL, WRITE, ECALL, EXIT, ECALL],
+        &[9],
+        Some(9),
+        MachineOutcome::Exited(9),
+    ),
+    (
+        "a word past the input, after one of it",
+        &[READ, ECALL, ECALL, WRITE, ECALL, EXIT, ECALL],
+        &[9],
+        Some(0),
+        MachineOutcome::Exited(0),
+    ),
+    (
+        "no input at all: addi x10, x0, 7 first",
+        &[0x00700513, READ, ECALL, WRITE, ECALL, EXIT, ECALL],
+        &[],
+        Some(0),
+        MachineOutcome::Exited(0),
+    ),
+    (
+        "what was written before a trap stays: addi x10, x0, 7; a write; sw x10, -2(x2)",
+        &[0x00700513, WRITE, ECALL, 0xfea12f23, ECALL],
+        &[],
+        Some(7),
+        MachineOutcome::Trapped,
+    ),
+];
+
+const GLOBALS: [u32; 2] = [0x0ff000ff, 0xf00f0ff0];
+
+fn image_of(alloc: Global, code: &[u32], globals: &[u32]) -> Result<Image, Fail> {
+    let code = Code::new(Vec::from_slice(alloc, code)?)
+        .ok()
+        .ok_or("the code's length")?;
+    let globals = Globals::new(Vec::from_slice(alloc, globals)?)
+        .ok()
+        .ok_or("the globals' length")?;
+    Ok(Image { code, globals })
+}
+
+// What a program writes first and what it comes to, within a thousand instructions.
+fn first_word(
+    alloc: Global,
+    code: &[u32],
+    globals: &[u32],
+    input: &[u32],
+) -> Result<(Option<u32>, MachineOutcome), Fail> {
+    let image = image_of(alloc, code, globals)?;
+    let mut machine = Machine::new(alloc, &image, input)?;
+    let outcome = machine.run(1000)?;
+    Ok((machine.output().first().copied(), outcome))
+}
+
+#[test]
+fn runs_and_stays_ended(rt: HostRuntime) -> Result<(), Fail> {
+    let image = image_of(rt.alloc(), &[0x00500513, EXIT, ECALL], &[])?;
+    let mut machine = Machine::new(rt.alloc(), &image, &[])?;
+    assert_eq!(rt; machine.run(2)?, MachineOutcome::Going);
+    assert_eq!(rt; machine.run(1)?, MachineOutcome::Exited(5));
+    assert_eq!(rt; machine.run(1)?, MachineOutcome::Exited(5));
+    let mut whole = Machine::new(rt.alloc(), &image, &[])?;
+    assert_eq!(rt; whole.run(9)?, MachineOutcome::Exited(5));
+    let image = image_of(rt.alloc(), &[0], &[])?;
+    let mut none = Machine::new(rt.alloc(), &image, &[])?;
+    assert_eq!(rt; none.run(0)?, MachineOutcome::Going);
+    assert_eq!(rt; none.run(1)?, MachineOutcome::Trapped);
+    assert_eq!(rt; none.step()?, MachineOutcome::Trapped);
+    Ok(())
+}
+
+#[test]
+fn runs_a_part_at_a_time(rt: HostRuntime) -> Result<(), Fail> {
+    let code = [
+        0xfff00093, 0x0210b133, 0x00010513, 0x00100893, ECALL, EXIT, ECALL,
+    ];
+    let image = image_of(rt.alloc(), &code, &[])?;
+    let mut machine = Machine::new(rt.alloc(), &image, &[])?;
+    assert_eq!(rt; machine.run(6)?, MachineOutcome::Going);
+    assert_eq!(rt; machine.output(), [4294967294].as_slice());
+    assert_eq!(rt; machine.step()?, MachineOutcome::Exited(4294967294));
+    assert_eq!(rt; machine.output(), [4294967294].as_slice());
+    let mut whole = Machine::new(rt.alloc(), &image, &[])?;
+    assert_eq!(rt; whole.run(7)?, MachineOutcome::Exited(4294967294));
+    assert_eq!(rt; whole.output(), [4294967294].as_slice());
+    let image = image_of(rt.alloc(), &[0x00002083], &[])?;
+    let mut outside = Machine::new(rt.alloc(), &image, &[])?;
+    assert_eq!(rt; outside.run(1)?, MachineOutcome::Trapped);
+    Ok(())
+}
+
+// The operation on two input words, written.
+#[test]
+fn computes_on_two_registers(rt: HostRuntime) -> Result<(), Fail> {
+    for (operation, left, right, expected) in OPERATIONS {
+        let instr = Instr::Op {
+            operation,
+            rd: Register::new(10),
+            rs1: Register::new(5),
+            rs2: Register::new(6),
+        };
+        let code = [
+            READ,
+            ECALL,
+            TO_X5,
+            ECALL,
+            TO_X6,
+            encode(instr),
+            WRITE,
+            ECALL,
+            EXIT,
+            ECALL,
+        ];
+        let (word, _) = first_word(rt.alloc(), &code, &[], &[left, right])?;
+        assert_eq!(rt;
+            word,
+            Some(expected),
+            "{operation:?} of {left:08x} and {right:08x}"
+        );
+    }
+    Ok(())
+}
+
+#[test]
+fn computes_on_immediates(rt: HostRuntime) -> Result<(), Fail> {
+    for (operation, left, immediate, expected) in IMMEDIATES {
+        assert!(rt; Immediate::fits(immediate));
+        let instr = Instr::OpImm {
+            operation,
+            rd: Register::new(10),
+            rs1: Register::new(10),
+            immediate: Immediate::new(immediate),
+        };
+        let code = [READ, ECALL, encode(instr), WRITE, ECALL, EXIT, ECALL];
+        let (word, _) = first_word(rt.alloc(), &code, &[], &[left])?;
+        assert_eq!(rt;
+            word,
+            Some(expected),
+            "{operation:?} of {left:08x} and {immediate:08x}"
+        );
+    }
+    Ok(())
+}
+
+#[test]
+fn shifts_by_a_count(rt: HostRuntime) -> Result<(), Fail> {
+    for (operation, left, count, expected) in SHIFTS {
+        assert!(rt; count < 32);
+        let instr = Instr::Shift {
+            operation,
+            rd: Register::new(10),
+            rs1: Register::new(10),
+            count: ShiftCount::new(count),
+        };
+        let code = [READ, ECALL, encode(instr), WRITE, ECALL, EXIT, ECALL];
+        let (word, _) = first_word(rt.alloc(), &code, &[], &[left])?;
+        assert_eq!(rt;
+            word,
+            Some(expected),
+            "{operation:?} of {left:08x} by {count}"
+        );
+    }
+    Ok(())
+}
+
+// lui x8, 0x200 comes first: the globals' address.
+#[test]
+fn loads(rt: HostRuntime) -> Result<(), Fail> {
+    for (operation, offset, expected) in LOADS {
+        assert!(rt; Immediate::fits(offset));
+        let instr = Instr::Load {
+            operation,
+            rd: Register::new(10),
+            rs1: Register::new(8),
+            offset: Immediate::new(offset),
+        };
+        let code = [0x00200437, encode(instr), WRITE, ECALL, EXIT, ECALL];
+        let (word, outcome) = first_word(rt.alloc(), &code, &GLOBALS, &[])?;
+        assert_eq!(rt; word, expected, "{operation:?} at {offset:08x}");
+        assert_eq!(rt; outcome == MachineOutcome::Trapped, expected.is_none());
+    }
+    Ok(())
+}
+
+#[test]
+fn stores(rt: HostRuntime) -> Result<(), Fail> {
+    for (operation, offset, expected) in STORES {
+        assert!(rt; Immediate::fits(offset));
+        let store = Instr::Store {
+            operation,
+            rs1: Register::new(8),
+            rs2: Register::new(10),
+            offset: Immediate::new(offset),
+        };
+        // lw x10, 0(x8) behind it
+        let code = [
+            0x00200437,
+            READ,
+            ECALL,
+            encode(store),
+            0x00042503,
+            WRITE,
+            ECALL,
+            EXIT,
+            ECALL,
+        ];
+        let (word, outcome) = first_word(rt.alloc(), &code, &GLOBALS, &[0x12345678])?;
+        assert_eq!(rt; word, expected, "{operation:?} at {offset:08x}");
+        assert_eq!(rt; outcome == MachineOutcome::Trapped, expected.is_none());
+    }
+    Ok(())
+}
+
+// A taken branch skips a write of 0.
+#[test]
+fn branches(rt: HostRuntime) -> Result<(), Fail> {
+    for (operation, left, right, taken) in BRANCHES {
+        let branch = Instr::Branch {
+            operation,
+            rs1: Register::new(5),
+            rs2: Register::new(6),
+            offset: BranchOffset::new(12),
+        };
+        // addi x17, x0, 1; ecall; then addi x10, x0, 1
+        let code = [
+            READ,
+            ECALL,
+            TO_X5,
+            ECALL,
+            TO_X6,
+            0x00000513,
+            encode(branch),
+            WRITE,
+            ECALL,
+            0x00100513,
+            WRITE,
+            ECALL,
+            EXIT,
+            ECALL,
+        ];
+        let (word, _) = first_word(rt.alloc(), &code, &[], &[left, right])?;
+        let expected = if taken { 1 } else { 0 };
+        assert_eq!(rt;
+            word,
+            Some(expected),
+            "{operation:?} of {left:08x} and {right:08x}"
+        );
+    }
+    Ok(())
+}
+
+// A jump out of the code is done, and the fetch behind it traps; so does one past the last word.
+#[test]
+fn traps_outside_the_code(rt: HostRuntime) -> Result<(), Fail> {
+    for word in [0x0000_0013, 0x0080_006f, 0x0000_0067] {
+        let image = image_of(rt.alloc(), &[word], &[])?;
+        let mut machine = Machine::new(rt.alloc(), &image, &[])?;
+        assert_eq!(rt; machine.step()?, MachineOutcome::Going, "at {word:08x}");
+        assert_eq!(rt; machine.step()?, MachineOutcome::Trapped, "at {word:08x}");
+    }
+    Ok(())
+}
+
+#[test]
+fn runs_programs(rt: HostRuntime) -> Result<(), Fail> {
+    for (shows, code, input, word, outcome) in PROGRAMS {
+        let came = first_word(rt.alloc(), code, &[], input)?;
+        assert_eq!(rt; came, (word, outcome), "{shows}");
+    }
+    Ok(())
+}
