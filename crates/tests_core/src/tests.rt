@@ -111,22 +111,26 @@ fn look(
     Ok(())
 }
 
+// The worked table's other lines.
+fn one_of_two(
+    rt: &(impl Abort + AllocGlobal),
+    state: &mut State<OnePieceBuild>,
+) -> Result<(), Fail> {
+    look(rt, state, None, 0)?;
+    expect(rt, state, Event::Begin(1), 29);
+    commit(rt, state, 2);
+    expect(rt, state, Event::Begin(1), 31);
+    look(rt, state, Some(b"two".as_slice()), 1)?;
+    let request = add(rt, b"a", b"one")?;
+    expect(rt, state, Event::Submit(1, 2, request), 0);
+    Ok(())
+}
+
 #[test]
 fn two_clients_add_one_name(rt: HostRuntime) -> Result<(), Fail> {
-    let mut state = run(&rt, table(&rt)?)?;
-    look(&rt, &state, None, 0)?;
-    expect(&rt, &mut state, Event::Begin(1), 29);
-    look(&rt, &state, None, 0)?;
-    commit(&rt, &mut state, 2);
-    expect(&rt, &mut state, Event::Begin(1), 31);
-    look(&rt, &state, Some(b"two".as_slice()), 1)?;
-    expect(
-        &rt,
-        &mut state,
-        Event::Submit(1, 2, add(&rt, b"a", b"one")?),
-        0,
-    );
-    Ok(())
+    let events = table(&rt)?;
+    let mut state = run(&rt, events)?;
+    one_of_two(&rt, &mut state)
 }
 
 // Begin's numbers before the library is asked.
@@ -168,26 +172,29 @@ fn refused_by_the_library(
     Ok(())
 }
 
+// A new unit in the place of the old one, and then none.
+fn replaced_and_withdrawn(
+    rt: &(impl Abort + AllocGlobal),
+    state: &mut State<OnePieceBuild>,
+) -> Result<(), Fail> {
+    let replace = Request::Replace(name(rt, b"a")?, text(rt.alloc(), b"new")?);
+    prepare(rt, state, replace, b"new")?;
+    expect(rt, state, Event::Begin(7), 0);
+    commit(rt, state, 7);
+    look(rt, state, Some(b"new".as_slice()), 2)?;
+    let withdraw = Request::Withdraw(name(rt, b"a")?);
+    expect(rt, state, Event::Submit(7, 9, withdraw), 0);
+    expect(rt, state, Event::Begin(7), 0);
+    commit(rt, state, 7);
+    look(rt, state, None, 3)
+}
+
 #[test]
 fn begin_refuses(rt: HostRuntime) -> Result<(), Fail> {
     let mut state = start(&rt, AREA)?;
     refused_by_the_build(&rt, &mut state)?;
     refused_by_the_library(&rt, &mut state)?;
-    look(&rt, &state, Some(b"x".as_slice()), 1)?;
-    let replace = Request::Replace(name(&rt, b"a")?, text(rt.alloc(), b"new")?);
-    prepare(&rt, &mut state, replace, b"new")?;
-    expect(&rt, &mut state, Event::Begin(7), 0);
-    commit(&rt, &mut state, 7);
-    look(&rt, &state, Some(b"new".as_slice()), 2)?;
-    expect(
-        &rt,
-        &mut state,
-        Event::Submit(7, 9, Request::Withdraw(name(&rt, b"a")?)),
-        0,
-    );
-    expect(&rt, &mut state, Event::Begin(7), 0);
-    commit(&rt, &mut state, 7);
-    look(&rt, &state, None, 3)
+    replaced_and_withdrawn(&rt, &mut state)
 }
 
 // Events that are not possible before a piece is made.
@@ -221,16 +228,24 @@ fn while_taken(
     Ok(())
 }
 
+// Events that are not possible while another client's commit goes on.
+fn while_committing(
+    rt: &(impl Abort + AllocGlobal),
+    state: &mut State<OnePieceBuild>,
+) -> Result<(), Fail> {
+    expect(rt, state, Event::Begin(1), 0);
+    expect(rt, state, Event::Ack(2), 29);
+    expect(rt, state, Event::Begin(1), 29);
+    commit(rt, state, 1);
+    look(rt, state, Some(b"one".as_slice()), 1)
+}
+
 #[test]
 fn not_now(rt: HostRuntime) -> Result<(), Fail> {
     let mut state = start(&rt, AREA)?;
     too_early(&rt, &mut state)?;
     while_taken(&rt, &mut state)?;
-    expect(&rt, &mut state, Event::Begin(1), 0);
-    expect(&rt, &mut state, Event::Ack(2), 29);
-    expect(&rt, &mut state, Event::Begin(1), 29);
-    commit(&rt, &mut state, 1);
-    look(&rt, &state, Some(b"one".as_slice()), 1)
+    while_committing(&rt, &mut state)
 }
 
 // Client 1 adds `a` with the source `one`, up to its Begin.
@@ -292,111 +307,131 @@ fn up_to(
     Ok(events)
 }
 
-// The state after a crash behind these events, and the recovery.
-fn recovered(
+// These events, a crash, and the recovery.
+fn with_a_crash(
     rt: &(impl Abort + AllocGlobal),
     mut events: Vec<Event<OnePiece>>,
     byte: u8,
-) -> Result<State<OnePieceBuild>, Fail> {
+) -> Result<Vec<Event<OnePiece>>, Fail> {
     events.push(crash(rt, byte)?)?;
     events.push(Event::Recover)?;
-    run(rt, events)
+    Ok(events)
+}
+
+// What is recovered from a crash behind so many device events and one event more.
+fn recovers(
+    rt: &(impl Abort + AllocGlobal),
+    done: u32,
+    last: Event<OnePiece>,
+    byte: u8,
+    source: Option<&[u8]>,
+    acknowledged: usize,
+) -> Result<(), Fail> {
+    let events = with_a_crash(rt, up_to(rt, done, last)?, byte)?;
+    let state = run(rt, events)?;
+    look(rt, &state, source, acknowledged)
 }
 
 // A crash behind the body's write alone leaves nothing, whatever it leaves of the body.
 #[test]
 fn crash_behind_the_body(rt: HostRuntime) -> Result<(), Fail> {
-    for byte in [0x00u8, 0xa5, 0xff] {
-        let state = recovered(&rt, up_to(&rt, 0, Event::WriteBody)?, byte)?;
-        look(&rt, &state, None, 0)?;
-    }
-    Ok(())
+    recovers(&rt, 0, Event::WriteBody, 0x00, None, 0)?;
+    recovers(&rt, 0, Event::WriteBody, 0xa5, None, 0)?;
+    recovers(&rt, 0, Event::WriteBody, 0xff, None, 0)
 }
 
 // A crash behind the reply leaves the unit, which was acknowledged.
 #[test]
 fn crash_behind_the_reply(rt: HostRuntime) -> Result<(), Fail> {
-    for byte in [0x00u8, 0xa5, 0xff] {
-        let state = recovered(&rt, up_to(&rt, 4, Event::Ack(1))?, byte)?;
-        look(&rt, &state, Some(b"one".as_slice()), 1)?;
-    }
-    Ok(())
+    let one = Some(b"one".as_slice());
+    recovers(&rt, 4, Event::Ack(1), 0x00, one, 1)?;
+    recovers(&rt, 4, Event::Ack(1), 0xa5, one, 1)?;
+    recovers(&rt, 4, Event::Ack(1), 0xff, one, 1)
 }
 
 // A crash within the gate's write leaves the unit where it leaves the gate open, and nothing else; without a reply.
 #[test]
 fn crash_within_the_gate(rt: HostRuntime) -> Result<(), Fail> {
-    let open = recovered(&rt, up_to(&rt, 2, Event::WriteGate)?, 0xa5)?;
-    look(&rt, &open, Some(b"one".as_slice()), 0)?;
-    let closed = recovered(&rt, up_to(&rt, 2, Event::WriteGate)?, 0xff)?;
-    look(&rt, &closed, None, 0)
-}
-
-// From the crash until the recovery nothing else is possible, and the live map is empty.
-#[test]
-fn until_the_recovery(rt: HostRuntime) -> Result<(), Fail> {
-    let mut state = run(&rt, up_to(&rt, 2, Event::WriteGate)?)?;
-    expect(&rt, &mut state, crash(&rt, 0xa5)?, 0);
-    look(&rt, &state, None, 0)?;
-    let request = add(&rt, b"b", b"two")?;
-    expect(&rt, &mut state, Event::Submit(4, 1, request), 29);
-    expect(&rt, &mut state, Event::Begin(1), 29);
-    expect(&rt, &mut state, Event::SyncGate, 29);
-    expect(&rt, &mut state, Event::Recover, 0);
-    expect(&rt, &mut state, Event::Recover, 29);
-    look(&rt, &state, Some(b"one".as_slice()), 0)
-}
-
-// A failed step answers 35, and every later commit 36, until the disk is opened again.
-#[test]
-fn failed_step(rt: HostRuntime) -> Result<(), Fail> {
-    let mut state = run(&rt, up_to(&rt, 0, Event::WriteBody)?)?;
-    expect(&rt, &mut state, Event::Fail, 35);
-    expect(&rt, &mut state, Event::SyncBody, 29);
-    expect(&rt, &mut state, Event::Fail, 29);
-    prepare(&rt, &mut state, add(&rt, b"b", b"two")?, b"two")?;
-    expect(&rt, &mut state, Event::Begin(7), 36);
-    look(&rt, &state, None, 0)
-}
-
-// Behind the recovery commits are possible again.
-#[test]
-fn commits_behind_a_recovery(rt: HostRuntime) -> Result<(), Fail> {
-    let mut state = recovered(&rt, up_to(&rt, 0, Event::Fail)?, 0xa5)?;
-    prepare(&rt, &mut state, add(&rt, b"a", b"two")?, b"two")?;
-    expect(&rt, &mut state, Event::Begin(7), 0);
-    commit(&rt, &mut state, 7);
-    look(&rt, &state, Some(b"two".as_slice()), 1)
+    let one = Some(b"one".as_slice());
+    recovers(&rt, 2, Event::WriteGate, 0x00, None, 0)?;
+    recovers(&rt, 2, Event::WriteGate, 0xa5, one, 0)
 }
 
 // Each step of a commit fails in its turn: nothing is acknowledged, and what is recovered is the map with the unit or without.
 #[test]
 fn each_step_fails(rt: HostRuntime) -> Result<(), Fail> {
-    for done in 0..2u32 {
-        let state = recovered(&rt, up_to(&rt, done, Event::Fail)?, 0xa5)?;
-        look(&rt, &state, None, 0)?;
-    }
-    for done in 2..4u32 {
-        let state = recovered(&rt, up_to(&rt, done, Event::Fail)?, 0xa5)?;
-        look(&rt, &state, Some(b"one".as_slice()), 0)?;
-    }
-    Ok(())
+    let one = Some(b"one".as_slice());
+    recovers(&rt, 0, Event::Fail, 0xa5, None, 0)?;
+    recovers(&rt, 1, Event::Fail, 0xa5, None, 0)?;
+    recovers(&rt, 2, Event::Fail, 0xa5, one, 0)?;
+    recovers(&rt, 3, Event::Fail, 0xa5, one, 0)
+}
+
+// From a crash until the recovery nothing else is possible, and the live map is empty.
+fn until_recovery(
+    rt: &(impl Abort + AllocGlobal),
+    state: &mut State<OnePieceBuild>,
+) -> Result<(), Fail> {
+    expect(rt, state, crash(rt, 0xa5)?, 0);
+    look(rt, state, None, 0)?;
+    let request = add(rt, b"b", b"two")?;
+    expect(rt, state, Event::Submit(4, 1, request), 29);
+    expect(rt, state, Event::Begin(1), 29);
+    expect(rt, state, Event::SyncGate, 29);
+    expect(rt, state, Event::Recover, 0);
+    expect(rt, state, Event::Recover, 29);
+    look(rt, state, Some(b"one".as_slice()), 0)
+}
+
+#[test]
+fn until_the_recovery(rt: HostRuntime) -> Result<(), Fail> {
+    let events = up_to(&rt, 2, Event::WriteGate)?;
+    let mut state = run(&rt, events)?;
+    until_recovery(&rt, &mut state)
+}
+
+// A failed step answers 35, and every later commit 36; behind a recovery commits are possible again.
+fn failed_and_recovered(
+    rt: &(impl Abort + AllocGlobal),
+    state: &mut State<OnePieceBuild>,
+) -> Result<(), Fail> {
+    expect(rt, state, Event::Fail, 35);
+    expect(rt, state, Event::SyncBody, 29);
+    prepare(rt, state, add(rt, b"b", b"two")?, b"two")?;
+    expect(rt, state, Event::Begin(7), 36);
+    expect(rt, state, crash(rt, 0xa5)?, 0);
+    expect(rt, state, Event::Recover, 0);
+    prepare(rt, state, add(rt, b"a", b"two")?, b"two")?;
+    expect(rt, state, Event::Begin(7), 0);
+    commit(rt, state, 7);
+    look(rt, state, Some(b"two".as_slice()), 1)
+}
+
+#[test]
+fn failed_step(rt: HostRuntime) -> Result<(), Fail> {
+    let events = up_to(&rt, 0, Event::WriteBody)?;
+    let mut state = run(&rt, events)?;
+    failed_and_recovered(&rt, &mut state)
 }
 
 // The record of a name of one byte and a source of three takes 28 bytes: gate, length, 4 bytes up to the name, 7 of the source,
 // 8 of the one code word, 4 of no globals. An area of 64 bytes has room for two and their closed gate, and not for three.
+fn filled(rt: &(impl Abort + AllocGlobal), state: &mut State<OnePieceBuild>) -> Result<(), Fail> {
+    prepare(rt, state, add(rt, b"a", b"one")?, b"one")?;
+    expect(rt, state, Event::Begin(7), 0);
+    commit(rt, state, 7);
+    prepare(rt, state, add(rt, b"b", b"two")?, b"two")?;
+    expect(rt, state, Event::Begin(7), 0);
+    commit(rt, state, 7);
+    prepare(rt, state, add(rt, b"c", b"six")?, b"six")?;
+    expect(rt, state, Event::Begin(7), 34);
+    look(rt, state, Some(b"one".as_slice()), 2)
+}
+
 #[test]
 fn full_area(rt: HostRuntime) -> Result<(), Fail> {
     let mut state = start(&rt, 64)?;
-    prepare(&rt, &mut state, add(&rt, b"a", b"one")?, b"one")?;
-    expect(&rt, &mut state, Event::Begin(7), 0);
-    commit(&rt, &mut state, 7);
-    prepare(&rt, &mut state, add(&rt, b"b", b"two")?, b"two")?;
-    expect(&rt, &mut state, Event::Begin(7), 0);
-    commit(&rt, &mut state, 7);
-    prepare(&rt, &mut state, add(&rt, b"c", b"six")?, b"six")?;
-    expect(&rt, &mut state, Event::Begin(7), 34);
-    look(&rt, &state, Some(b"one".as_slice()), 2)
+    filled(&rt, &mut state)
 }
 
 // Lists and numbers, by the list of numbers.
