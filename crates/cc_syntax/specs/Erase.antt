@@ -107,24 +107,40 @@ statements_of (s ∷ rest) = next (statement_tree s) (statements_of rest)
 abbrev pub constant_tree : ConstantExpression → ConstantExpr
 constant_tree c = record { at = c.at; expr = expression_tree c.expression }
 
+-- the tree of a constant expression that may be left out
+abbrev pub optional_constant : Option ConstantExpression → Option ConstantExpr
+optional_constant c = option_map constant_tree c
+
+-- the trees of the values of a list
+abbrev pub constant_trees : List ConstantExpression → List ConstantExpr
+constant_trees cs = map constant_tree cs
+
 -- the tree of a parameter
 abbrev pub parameter_tree : Parameter → tree.Parameter
 parameter_tree p = record { scalar = p.scalar; name = option_map name_tree p.name }
 
+-- the trees of a function's parameters
+abbrev pub parameter_trees : List Parameter → List tree.Parameter
+parameter_trees ps = map parameter_tree ps
+
 -- the tree of what is said of a function
 abbrev pub signature_tree : Signature → tree.Signature
-signature_tree s = record { result = s.result; name = name_tree s.name; parameters = map parameter_tree s.parameters.items }
+signature_tree s = record { result = s.result; name = name_tree s.name; parameters = parameter_trees s.parameters.items }
 
 -- the tree of one name of a declaration of objects
 abbrev pub object_tree : Object → tree.Object
-object_tree (objects.Single x e) = tree.Single (name_tree x) (option_map constant_tree e)
-object_tree (objects.Array x n es) = tree.Array (name_tree x) (option_map constant_tree n) (map constant_tree es.items)
+object_tree (objects.Single x e) = tree.Single (name_tree x) (optional_constant e)
+object_tree (objects.Array x n es) = tree.Array (name_tree x) (optional_constant n) (constant_trees es.items)
+
+-- the trees of the names of a declaration of objects
+abbrev pub object_trees : List Object → List tree.Object
+object_trees os = map object_tree os
 
 -- the tree of an external declaration
 abbrev pub external_tree : External → tree.External
 external_tree (externals.Declaration s) = tree.Declaration (signature_tree s)
 external_tree (externals.Definition s body) = tree.Definition (signature_tree s) (statements_of body.items)
-external_tree (externals.Objects t os) = tree.Objects t (map object_tree os.items)
+external_tree (externals.Objects t os) = tree.Objects t (object_trees os.items)
 
 -- the trees of a unit
 abbrev pub external_trees : List External → List tree.External
