@@ -11,6 +11,10 @@ use Rattle.cc_syntax.specs.Parse.{SpellsText, IsParseRefusal}
 abbrev pub source : Unit → Source
 source u = record { text = u.text.items; externals = external_trees u.externals.items }
 
+-- a unit's tree
+abbrev pub UnitTree : Type 0
+UnitTree = List External
+
 -- the tree is answered, unless memory was refused
 abbrev pub AnswersTree : List External → Result Unit SyntaxFault → Type 0
 AnswersTree tree (Ok u) = (source u).externals ≡ tree

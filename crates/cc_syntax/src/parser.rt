@@ -16,15 +16,14 @@ mod state;
 mod step;
 mod stop;
 
-ghost use Rattle.std.specs.Prelude.{◌≡◌, ◌≤◌, List, length, IfOk, IfErr};
-ghost use Rattle.cc_syntax.specs.Tree.{External};
+ghost use Rattle.std.specs.Prelude.{◌≡◌, ◌≤◌, length, IfOk, IfErr};
 ghost use Rattle.cc_syntax.specs.Token.{lexemes};
 ghost use Rattle.cc_syntax.specs.Tokens.{AreInOrder, IsTokens};
 ghost use Rattle.cc_syntax.specs.Erase.{external_trees};
 ghost use Rattle.cc_syntax.specs.MachineView.{Refuses};
 ghost use Rattle.cc_syntax.specs.Parse.{SpellsText, IsParseRefusal, place_at_token};
 ghost use Rattle.cc_syntax.specs.Limits.{TreesAreOne, SpelledHaveNoFault};
-ghost use Rattle.cc_syntax.specs.Source.{source, AnswersTree, IsParse};
+ghost use Rattle.cc_syntax.specs.Source.{source, UnitTree, AnswersTree, IsParse};
 
 use crate::ast::External;
 use crate::fault::SyntaxFault;
@@ -98,7 +97,7 @@ pub fn parse(alloc: Global, text: &[u8]) -> Result<Unit, SyntaxFault>
     ensures text { IfOk result (λ u. (source u).text ≡ text.now) }
     ensures spelled { IfOk result (λ u. SpellsText text.now (source u).externals) }
     // Where the text spells a tree, that is the answer.
-    ensures only { (tree : List External) → length text.now ≤ 65536 → SpellsText text.now tree → AnswersTree tree result }
+    ensures only { (tree : UnitTree) → length text.now ≤ 65536 → SpellsText text.now tree → AnswersTree tree result }
     ensures refused { IfErr result (λ fault. IsParseRefusal text.now fault) }
 {
     parse_text(alloc, text)
