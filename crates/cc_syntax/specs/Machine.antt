@@ -15,7 +15,7 @@ use Rattle.cc_syntax.specs.declared.parser.role.Role.TheVariants as role
 use Rattle.cc_syntax.specs.Roles.{role_of}
 use Rattle.cc_syntax.specs.Token.{Lexeme}
 use Rattle.cc_syntax.specs.Tree.{Name, Expr, Number, Variable, Element, Call, Parenthesised, Unary, Cast, Binary, Conditional, Exprs, none, more, Target, AtVariable, AtElement, Action, Assign, Step, Evaluate, Declared, Start, Declares, Performs, Stmt, Block, Local, Perform, Return, Break, Continue, If, IfElse, While, DoWhile, For, Stmts, end, next, ConstantExpr, Parameter, Signature, Object, Single, Array, External, Declaration, Definition, Objects}
-use Rattle.cc_syntax.specs.Grammar.{precedence}
+use Rattle.cc_syntax.specs.Grammar.{Placed, precedence}
 
 -- what waits for an operand to its right, or for a closing token
 pub data Waiting : Type 0 where
@@ -695,6 +695,10 @@ role_level (InFull f p) r = 0
 -- the level of the statement or declaration that a token begins
 abbrev pub level_at : State → Lexeme → ℕ
 level_at s x = role_level s (role_of x.kind)
+
+-- a token with its standing, between two states
+abbrev pub standing : State → Lexeme → State → Placed
+standing s x m = record { token = x; count = count_of m; level = level_at s x }
 
 abbrev pub start : State
 start = AtFile [] Between

@@ -34,9 +34,8 @@ use Rattle.cc_syntax.specs.declared.parser.stop.Refusal as refusal
 use Rattle.cc_syntax.specs.declared.parser.stop.Refusal.TheVariants as refusals
 use Rattle.cc_syntax.specs.Erase.{name_tree, expression_tree, expressions_of, optional_tree, target_tree, optional_action, declarator_trees, beginning_tree, statement_tree, statements_of, optional_constant, constant_trees, signature_tree, object_trees, external_trees}
 use Rattle.cc_syntax.specs.Token.{Lexeme}
-use Rattle.cc_syntax.specs.Grammar.{Placed}
 use Rattle.cc_syntax.specs.Limits.{IsWithin, PassesLimit, UnexpectedAt, TooDeepAt, IsFineBefore}
-use Rattle.cc_syntax.specs.Machine.{step, count_of, level_at, Waiting, Parenthesis, Index, Arguments, Prefix, Casting, Infix, Then, Otherwise, Open, InBlock, InThen, InElse, InWhile, InDo, InFor, Inside, Spot, AsStatement, AsStart, AsLast, Test, ForIf, ForWhile, ForDo, Position, AsLocal, AsHeader, Purpose, ToPerform, ToAssign, ToStep, ToReturn, ToTest, ToGoOn, ToInitialise, Naming, Part, ToSize, ToSingle, ToValue, Context, OfBody, OfObject, Full, Phase, Operand, Operator, CastSign, CastType, Stage, Item, AfterThen, AfterDo, Testing, Ending, Returning, ForOpening, ForStarting, ForTesting, ForStepping, LocalSign, Declaring, HasDeclared, Stepping, StepNamed, Stepped, Outer, Between, ResultSign, Typed, Named, Parameters, OnlyVoid, ParameterNext, ParameterSign, ParameterTyped, ParameterNamed, Headed, ObjectNext, ObjectNamed, Sizing, Sized, Initialising, Listing, Valuing, Listed, State, AtFile, InBody, InFull}
+use Rattle.cc_syntax.specs.Machine.{step, standing, Waiting, Parenthesis, Index, Arguments, Prefix, Casting, Infix, Then, Otherwise, Open, InBlock, InThen, InElse, InWhile, InDo, InFor, Inside, Spot, AsStatement, AsStart, AsLast, Test, ForIf, ForWhile, ForDo, Position, AsLocal, AsHeader, Purpose, ToPerform, ToAssign, ToStep, ToReturn, ToTest, ToGoOn, ToInitialise, Naming, Part, ToSize, ToSingle, ToValue, Context, OfBody, OfObject, Full, Phase, Operand, Operator, CastSign, CastType, Stage, Item, AfterThen, AfterDo, Testing, Ending, Returning, ForOpening, ForStarting, ForTesting, ForStepping, LocalSign, Declaring, HasDeclared, Stepping, StepNamed, Stepped, Outer, Between, ResultSign, Typed, Named, Parameters, OnlyVoid, ParameterNext, ParameterSign, ParameterTyped, ParameterNamed, Headed, ObjectNext, ObjectNamed, Sizing, Sized, Initialising, Listing, Valuing, Listed, State, AtFile, InBody, InFull}
 
 abbrev pub waiting_view : waiting.Waiting → Waiting
 waiting_view waitings.Parenthesis = Parenthesis
@@ -164,10 +163,6 @@ Stops stops.TooDeep given = ⊥
 abbrev pub Gives : {X Y : Type 0} → (X → Y) → Result X stop.Stop → Option Y → Type 0
 Gives view (Ok x) given = given ≡ Some (view x)
 Gives view (Err e) given = Stops e given
-
--- a token with its standing, between two states
-abbrev pub standing : State → Lexeme → State → Placed
-standing s x m = record { token = x; count = count_of m; level = level_at s x }
 
 -- what a token comes to, its limits asked
 abbrev pub Advances : State → Lexeme → Result state.State stop.Stop → Type 0

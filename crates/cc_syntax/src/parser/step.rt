@@ -63,12 +63,12 @@ fn level_behind(count: usize, role: Role) -> usize
 
 /// How many open statements are left once a statement behind which no `else` stands is complete; none where a `do` waits
 /// for its `while`.
-fn rest(open: &[Open]) -> Option<usize>
-    ensures { result ≡ resting_depth (open_views open.now) }
+fn rest(statements: &[Open]) -> Option<usize>
+    ensures { result ≡ resting_depth (open_views statements.now) }
 {
-    let mut left = open.len();
+    let mut left = statements.len();
     while left > 0 {
-        match &open[left - 1] {
+        match &statements[left - 1] {
             Open::Block(_) => return Some(left),
             Open::Do => return None,
             _ => left -= 1,
