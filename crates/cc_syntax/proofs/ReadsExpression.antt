@@ -1,6 +1,6 @@
 -- Each expression that tokens spell is read from them: an induction on its tree. Behind its tokens the machine may still
 -- hold parts of it that wait, which any operator of the level reduces to the whole expression.
-use Rattle.std.proofs.Common.{◌≡◌, ◌≤◌, ℕ, suc, List, [], ◌∷◌, ◌++◌, Option, Some, refl, sym, ap, subst, ◌∙◌, arith, append_assoc, inl, inr}
+use Rattle.std.proofs.Common.{◌≡◌, ◌≤◌, ℕ, suc, List, [], ◌∷◌, ◌++◌, Some, refl, sym, ap, subst, ◌∙◌, arith, append_assoc, inl, inr}
 use Rattle.cc_syntax.specs.declared.ast.BinaryOperator.{BinaryOperator}
 use Rattle.cc_syntax.specs.declared.ast.BinaryOperator.TheVariants as binary
 use Rattle.cc_syntax.specs.declared.ast.UnaryOperator.{UnaryOperator}
@@ -13,11 +13,11 @@ use Rattle.cc_syntax.specs.declared.token.TokenKind.TheVariants as kind
 use Rattle.cc_syntax.specs.declared.parser.role.Role.TheVariants as role
 use Rattle.cc_syntax.specs.Token.{Lexeme}
 use Rattle.cc_syntax.specs.Tree.{Name, Expr, Number, Variable, Element, Call, Parenthesised, Unary, Cast, Binary, Conditional, Exprs, none, more}
-use Rattle.cc_syntax.specs.Roles.{keyword_role, punctuator_role}
-use Rattle.cc_syntax.specs.Grammar.{Marks, IsKeyword, sign_word, SpellsType, SpellsExpression, SpellsArguments, full_after, precedence, binary_punctuator, unary_punctuator, identifier}
-use Rattle.cc_syntax.specs.Machine.{State, InFull, CastSign, CastType, Context, Waiting, Parenthesis, Index, Arguments, Prefix, Casting, Infix, Then, Otherwise, Full, full_of, reduced, operate, ask, close, operator_step, operand_step, with_argument, name_of}
+use Rattle.cc_syntax.specs.Roles.{punctuator_role}
+use Rattle.cc_syntax.specs.Grammar.{Marks, SpellsType, SpellsExpression, SpellsArguments, full_after, precedence, binary_punctuator, unary_punctuator, identifier}
+use Rattle.cc_syntax.specs.Machine.{InFull, CastSign, CastType, Context, Waiting, Parenthesis, Index, Arguments, Prefix, Casting, Infix, Then, Otherwise, Full, full_of, reduced, operate, ask, close, operator_step, operand_step, with_argument, name_of}
 use Rattle.cc_syntax.proofs.MachineRuns.{Runs, token}
-use Rattle.cc_syntax.proofs.Forms.{operand, operator, count_after, count_after-append, runs-full, pops, keeps, Fits, fits-more, fits-stays}
+use Rattle.cc_syntax.proofs.Forms.{operand, operator, count_after, count_after-append, runs-full, pops, Fits, fits-more, fits-stays}
 
 -- the tokens of an expression lead behind it, whatever stands before
 pub record Read (c : Context) (n : ℕ) (ws : List Waiting) (l : ℕ) (xs : List Lexeme) (e : Expr) : Type 0 where
@@ -240,12 +240,12 @@ mutual
       let tail : List Lexeme = h.3 ++ h.1 ∷ h.4 in
       let inner : count_after (suc m) tail ≡ count_after (suc k) h.4 = count_after-append (suc m) h.3 (h.1 ∷ h.4) in
       let outer : count_after n (h.2 ++ h.0 ∷ tail) ≡ count_after (suc m) tail = count_after-append n h.2 (h.0 ∷ tail) in
-      let counted : count_after n (h.2 ++ h.0 ∷ h.3 ++ h.1 ∷ h.4) ≡ count_after (suc k) h.4 = outer ∙ inner in
+      let counted : count_after n (h.2 ++ (h.0 ∷ h.3 ++ h.1 ∷ h.4)) ≡ count_after (suc k) h.4 = outer ∙ inner in
       subst (λ (z : List Lexeme). Read c n ws l z (Conditional t a b)) (sym h.11)
       (record {
         last = right.last;
         waiting = right.waiting;
-        runs = subst (λ (j : ℕ). Runs (operand c n ws) (full_after n (h.2 ++ h.0 ∷ h.3 ++ h.1 ∷ h.4)) (operator c j right.waiting right.last)) (sym counted) (runs-full _ _ _ n h.2 (h.0 ∷ h.3 ++ h.1 ∷ h.4) test.runs middle);
+        runs = subst (λ (j : ℕ). Runs (operand c n ws) (full_after n (h.2 ++ (h.0 ∷ h.3 ++ h.1 ∷ h.4))) (operator c j right.waiting right.last)) (sym counted) (runs-full _ _ _ n h.2 (h.0 ∷ h.3 ++ h.1 ∷ h.4) test.runs middle);
         same = λ q k. right.same q (omega (arith, h.5, k)) ∙ pops q 1 _ _ (omega (arith, h.5, k));
       })
 
@@ -265,10 +265,10 @@ mutual
       let m = count_after n h.1 in
       let others = read_arguments (more f es) h.2 closing v (with_argument done e) c (suc m) ws tt h.5 k in
       let goes = ap (λ (r : Expr × List Waiting). close (full_of c inner.waiting m) role.Comma r) (inner.same 1 (omega arith)) in
-      let runs : Runs (operand c n (Arguments v done ∷ ws)) (full_after n (h.1 ++ h.0 ∷ h.2 ++ closing ∷ [])) (operator c (suc (count_after (suc m) h.2)) ws (Call v (appended (with_argument done e) (more f es)))) =
+      let runs : Runs (operand c n (Arguments v done ∷ ws)) (full_after n (h.1 ++ (h.0 ∷ h.2 ++ closing ∷ []))) (operator c (suc (count_after (suc m) h.2)) ws (Call v (appended (with_argument done e) (more f es)))) =
       runs-full _ _ _ n h.1 (h.0 ∷ h.2 ++ closing ∷ []) inner.runs
       (token (operator c m inner.waiting inner.last) (operand c (suc m) (Arguments v (with_argument done e) ∷ ws)) _ h.0 (kind.Punctuator punctuator.Comma) (suc m) 0 (full_after (suc m) (h.2 ++ closing ∷ [])) h.3 goes refl refl others) in
-      let grouped : (h.1 ++ h.0 ∷ h.2) ++ closing ∷ [] ≡ h.1 ++ h.0 ∷ h.2 ++ closing ∷ [] = append_assoc h.1 (h.0 ∷ h.2) (closing ∷ []) in
+      let grouped : (h.1 ++ h.0 ∷ h.2) ++ closing ∷ [] ≡ h.1 ++ (h.0 ∷ h.2 ++ closing ∷ []) = append_assoc h.1 (h.0 ∷ h.2) (closing ∷ []) in
       subst (λ (z : List Lexeme). Runs (operand c n (Arguments v done ∷ ws)) (full_after n (z ++ closing ∷ [])) (operator c (suc (count_after n z)) ws (Call v (appended (with_argument done e) (more f es))))) (sym h.6)
       (subst (λ (j : ℕ). Runs (operand c n (Arguments v done ∷ ws)) (full_after n ((h.1 ++ h.0 ∷ h.2) ++ closing ∷ [])) (operator c (suc j) ws (Call v (appended (with_argument done e) (more f es))))) (sym (count_after-append n h.1 (h.0 ∷ h.2)))
       (subst (λ (z : List Lexeme). Runs (operand c n (Arguments v done ∷ ws)) (full_after n z) (operator c (suc (count_after (suc m) h.2)) ws (Call v (appended (with_argument done e) (more f es))))) (sym grouped) runs))

@@ -141,7 +141,7 @@ abbrev mutual
   SpellsExpression level ts (Conditional c a b) =
       (question colon : Lexeme) × (test left right : List Lexeme) × (level ≤ 1) × Marks punctuator.Question question
       × Marks punctuator.Colon colon × SpellsExpression 2 test c × SpellsExpression 1 left a × SpellsExpression 1 right b
-      × (ts ≡ test ++ question ∷ left ++ colon ∷ right)
+      × (ts ≡ test ++ (question ∷ left ++ colon ∷ right))
 
   -- no argument, or one or more, separated by commas
   pub SpellsArguments : List Lexeme → Exprs → Type 0
@@ -212,7 +212,7 @@ SpellsDeclared ts d = (initial : List Placed) × SpellsInitial initial d.initial
 abbrev pub SpellsLocal : List Placed → Scalar → List Declared → Type 0
 SpellsLocal ts t ds =
     (type : List Lexeme) × (names : List Placed) × (semicolon : Lexeme) × SpellsType type t × SpellsRow SpellsDeclared names ds
-    × Marks punctuator.Semicolon semicolon × (ts ≡ map outside type ++ names ++ outside semicolon ∷ [])
+    × Marks punctuator.Semicolon semicolon × (ts ≡ map outside type ++ (names ++ outside semicolon ∷ []))
 
 -- a full expression, or nothing
 abbrev pub SpellsOptional : List Placed → Option Expr → Type 0
@@ -276,7 +276,7 @@ abbrev mutual
       × Marks punctuator.OpenParenthesis opening × Marks punctuator.CloseParenthesis closing × IsKeyword keyword.Else other
       × SpellsExpression 1 test e × SpellsStatement (suc level) part s × IsStatement s × IsClosed s
       × SpellsStatement (suc level) last t × IsStatement t
-      × (ts ≡ begins level (outside word ∷ outside opening ∷ full test ++ outside closing ∷ part ++ outside other ∷ last))
+      × (ts ≡ begins level (outside word ∷ outside opening ∷ full test ++ (outside closing ∷ part ++ outside other ∷ last)))
   SpellsStatement level ts (While e s) =
       (word opening closing : Lexeme) × (test : List Lexeme) × (body : List Placed) × IsKeyword keyword.While word
       × Marks punctuator.OpenParenthesis opening × Marks punctuator.CloseParenthesis closing × SpellsExpression 1 test e
@@ -286,13 +286,13 @@ abbrev mutual
       (word while opening closing semicolon : Lexeme) × (body : List Placed) × (test : List Lexeme) × IsKeyword keyword.Do word
       × IsKeyword keyword.While while × Marks punctuator.OpenParenthesis opening × Marks punctuator.CloseParenthesis closing
       × Marks punctuator.Semicolon semicolon × SpellsStatement (suc level) body s × IsStatement s × SpellsExpression 1 test e
-      × (ts ≡ begins level (outside word ∷ body ++ outside while ∷ outside opening ∷ full test ++ outside closing ∷ outside semicolon ∷ []))
+      × (ts ≡ begins level (outside word ∷ body ++ (outside while ∷ outside opening ∷ full test ++ outside closing ∷ outside semicolon ∷ [])))
   SpellsStatement level ts (For a e b s) =
       (word opening semicolon closing : Lexeme) × (starting test last body : List Placed) × IsKeyword keyword.For word
       × Marks punctuator.OpenParenthesis opening × Marks punctuator.Semicolon semicolon × Marks punctuator.CloseParenthesis closing
       × SpellsStart (suc level) starting a × SpellsOptional test e × SpellsOptionalAction last b
       × SpellsStatement (suc level) body s × IsStatement s
-      × (ts ≡ begins level (outside word ∷ outside opening ∷ starting ++ test ++ outside semicolon ∷ last ++ outside closing ∷ body))
+      × (ts ≡ begins level (outside word ∷ outside opening ∷ starting ++ (test ++ (outside semicolon ∷ last ++ outside closing ∷ body))))
 
   pub SpellsStatements : ℕ → List Placed → Stmts → Type 0
   SpellsStatements level ts end = ts ≡ []
@@ -322,7 +322,7 @@ SpellsList ts [] = ts ≡ []
 SpellsList ts (v ∷ vs) =
     (sign opening closing : Lexeme) × (row : List Placed) × (comma : List Lexeme) × Marks punctuator.Assign sign
     × Marks punctuator.OpenBrace opening × Marks punctuator.CloseBrace closing × SpellsRow SpellsConstantExpr row (v ∷ vs)
-    × IsOptionalComma comma × (ts ≡ outside sign ∷ outside opening ∷ row ++ map outside comma ++ outside closing ∷ [])
+    × IsOptionalComma comma × (ts ≡ outside sign ∷ outside opening ∷ row ++ (map outside comma ++ outside closing ∷ []))
 
 -- one name of a declaration of objects (C99 6.7, 6.7.5.2)
 abbrev pub SpellsObject : List Placed → Object → Type 0
@@ -360,7 +360,7 @@ abbrev pub SpellsSignature : List Placed → Signature → Type 0
 SpellsSignature ts f =
     (type : List Lexeme) × (opening closing : Lexeme) × (parameters : List Placed) × SpellsResult type f.result
     × Marks punctuator.OpenParenthesis opening × Marks punctuator.CloseParenthesis closing × SpellsParameters parameters f.parameters
-    × (ts ≡ map outside type ++ outside (identifier f.name) ∷ outside opening ∷ parameters ++ outside closing ∷ [])
+    × (ts ≡ map outside type ++ (outside (identifier f.name) ∷ outside opening ∷ parameters ++ outside closing ∷ []))
 
 -- each parameter has its name
 abbrev pub AreNamed : List Parameter → Type 0
@@ -377,7 +377,7 @@ SpellsExternal ts (Definition f body) =
     × (ts ≡ head ++ block)
 SpellsExternal ts (Objects t os) =
     (type : List Lexeme) × (row : List Placed) × (semicolon : Lexeme) × SpellsType type t × SpellsRow SpellsObject row os
-    × Marks punctuator.Semicolon semicolon × (ts ≡ map outside type ++ row ++ outside semicolon ∷ [])
+    × Marks punctuator.Semicolon semicolon × (ts ≡ map outside type ++ (row ++ outside semicolon ∷ []))
 
 -- external declarations, one behind the other
 abbrev pub SpellsExternals : List Placed → List External → Type 0

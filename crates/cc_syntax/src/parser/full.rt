@@ -354,8 +354,11 @@ fn step_assignment(
     if !waiting.is_empty() {
         return Err(Stop::Unexpected);
     }
-    match (context, target(operand)) {
-        (Context::Body(body, Purpose::Perform(spot)), Some(target)) => {
+    let Context::Body(body, purpose) = context else {
+        return Err(Stop::Unexpected);
+    };
+    match (purpose, target(operand)) {
+        (Purpose::Perform(spot), Some(target)) => {
             let purpose = Purpose::Assign(operator, target, spot);
             Ok(begin_full(alloc, Context::Body(body, purpose), count + 1))
         }
@@ -376,8 +379,11 @@ fn step_step(full: Full, operand: Expression, operator: StepOperator) -> Result<
     if !waiting.is_empty() {
         return Err(Stop::Unexpected);
     }
-    match (context, target(operand)) {
-        (Context::Body(body, Purpose::Perform(spot)), Some(target)) => {
+    let Context::Body(body, purpose) = context else {
+        return Err(Stop::Unexpected);
+    };
+    match (purpose, target(operand)) {
+        (Purpose::Perform(spot), Some(target)) => {
             Ok(State::Body(body, Stage::Stepped(operator, target, spot, count + 1)))
         }
         _ => Err(Stop::Unexpected),

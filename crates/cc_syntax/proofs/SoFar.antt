@@ -1,0 +1,75 @@
+-- What the tokens of a full expression that have come spell: for what waits, a relation with the tokens behind which it
+-- waits. Reading a token keeps it (KeepsExpression).
+use Rattle.std.proofs.Common.{◌≡◌, ◌≤◌, ℕ, suc, List, [], ◌∷◌, ◌++◌}
+use Rattle.cc_syntax.specs.declared.ast.Scalar.{Scalar}
+use Rattle.cc_syntax.specs.declared.token.Punctuator.TheVariants as punctuator
+use Rattle.cc_syntax.specs.Token.{Lexeme}
+use Rattle.cc_syntax.specs.Tree.{Expr, Exprs, none, more}
+use Rattle.cc_syntax.specs.Grammar.{identifier, Marks, IsKeyword, sign_word, SpellsType, SpellsExpression, SpellsArguments, precedence, unary_punctuator, binary_punctuator}
+use Rattle.cc_syntax.specs.Machine.{Waiting, Parenthesis, Index, Arguments, Prefix, Casting, Infix, Then, Otherwise}
+
+-- an expression of the level can fill the place
+abbrev pub Room : ℕ → List Waiting → Type 0
+Room l (Prefix op ∷ ws) = 12 ≤ l
+Room l (Casting t ∷ ws) = 12 ≤ l
+Room l (Infix op a ∷ ws) = suc (precedence op) ≤ l
+Room l _ = 1 ≤ l
+
+-- arguments, each with its comma
+abbrev pub ArgumentsSoFar : List Lexeme → Exprs → Type 0
+ArgumentsSoFar xs none = xs ≡ []
+ArgumentsSoFar xs (more e es) =
+    (front : List Lexeme) × (comma : Lexeme) × SpellsArguments front (more e es) × Marks punctuator.Comma comma
+    × (xs ≡ front ++ comma ∷ [])
+
+-- what waits for an operand, or for a closing token
+abbrev pub WaitingSoFar : List Waiting → List Lexeme → Type 0
+WaitingSoFar [] xs = xs ≡ []
+WaitingSoFar (Parenthesis ∷ ws) xs =
+    (front : List Lexeme) × (opening : Lexeme) × WaitingSoFar ws front × Marks punctuator.OpenParenthesis opening
+    × (xs ≡ front ++ opening ∷ [])
+WaitingSoFar (Index n ∷ ws) xs =
+    (front : List Lexeme) × (opening : Lexeme) × WaitingSoFar ws front × Marks punctuator.OpenBracket opening
+    × (xs ≡ front ++ identifier n ∷ opening ∷ [])
+WaitingSoFar (Arguments n es ∷ ws) xs =
+    (front row : List Lexeme) × (opening : Lexeme) × WaitingSoFar ws front × Marks punctuator.OpenParenthesis opening
+    × ArgumentsSoFar row es × (xs ≡ front ++ identifier n ∷ opening ∷ row)
+WaitingSoFar (Prefix op ∷ ws) xs =
+    (front : List Lexeme) × (sign : Lexeme) × WaitingSoFar ws front × Marks (unary_punctuator op) sign × (xs ≡ front ++ sign ∷ [])
+WaitingSoFar (Casting t ∷ ws) xs =
+    (front type : List Lexeme) × (opening closing : Lexeme) × WaitingSoFar ws front × Marks punctuator.OpenParenthesis opening
+    × SpellsType type t × Marks punctuator.CloseParenthesis closing × (xs ≡ front ++ (opening ∷ type ++ closing ∷ []))
+WaitingSoFar (Infix op a ∷ ws) xs =
+    (front left : List Lexeme) × (sign : Lexeme) × WaitingSoFar ws front × SpellsExpression (precedence op) left a
+    × Room (precedence op) ws × Marks (binary_punctuator op) sign × (xs ≡ front ++ (left ++ sign ∷ []))
+WaitingSoFar (Then c ∷ ws) xs =
+    (front test : List Lexeme) × (question : Lexeme) × WaitingSoFar ws front × SpellsExpression 2 test c × Room 1 ws
+    × Marks punctuator.Question question × (xs ≡ front ++ (test ++ question ∷ []))
+WaitingSoFar (Otherwise c a ∷ ws) xs =
+    (front test left : List Lexeme) × (question colon : Lexeme) × WaitingSoFar ws front × SpellsExpression 2 test c
+    × SpellsExpression 1 left a × Room 1 ws × Marks punctuator.Question question × Marks punctuator.Colon colon
+    × (xs ≡ front ++ (test ++ (question ∷ left ++ colon ∷ [])))
+
+-- an operand of some level behind what waits for it
+pub record Holds (ws : List Waiting) (e : Expr) (xs : List Lexeme) (low : ℕ) : Type 0 where
+  pub front : List Lexeme
+  pub part : List Lexeme
+  pub level : ℕ
+  pub waits : WaitingSoFar ws front
+  pub spelled : SpellsExpression level part e
+  pub room : Room level ws
+  pub tight : low ≤ level
+  pub whole : xs ≡ front ++ part
+
+-- behind the word `signed` or `unsigned` of a cast, or behind its type
+pub record Casts (ws : List Waiting) (xs : List Lexeme) (Word : List Lexeme → Type 0) : Type 0 where
+  pub front : List Lexeme
+  pub type : List Lexeme
+  pub opening : Lexeme
+  pub waits : WaitingSoFar ws front
+  pub opens : Marks punctuator.OpenParenthesis opening
+  pub word : Word type
+  pub whole : xs ≡ front ++ opening ∷ type
+
+abbrev pub IsSign : Scalar → List Lexeme → Type 0
+IsSign t xs = (word : Lexeme) × IsKeyword (sign_word t) word × (xs ≡ word ∷ [])
