@@ -1,12 +1,9 @@
 -- Each action that tokens spell is read from them: an assignment, an increment or decrement, an expression.
-use Rattle.std.proofs.Common.{◌≡◌, ℕ, true, false, suc, List, [], ◌∷◌, ◌++◌, length, map, Option, Some, Bool, refl, sym, ap, subst, ◌∙◌, arith, append_assoc, inl, inr}
+use Rattle.std.proofs.Common.{◌≡◌, ℕ, true, false, suc, List, [], ◌∷◌, ◌++◌, Some, Bool, refl, sym, ap, subst, ◌∙◌, arith, append_assoc, inl, inr}
 use Rattle.cc_syntax.specs.declared.ast.AssignmentOperator.{AssignmentOperator}
 use Rattle.cc_syntax.specs.declared.ast.AssignmentOperator.TheVariants as assignment
 use Rattle.cc_syntax.specs.declared.ast.StepOperator.{StepOperator}
 use Rattle.cc_syntax.specs.declared.ast.StepOperator.TheVariants as stepping
-use Rattle.cc_syntax.specs.declared.ast.Scalar.{Scalar}
-use Rattle.cc_syntax.specs.declared.ast.Scalar.TheVariants as scalar
-use Rattle.cc_syntax.specs.declared.token.Keyword.TheVariants as keyword
 use Rattle.cc_syntax.specs.declared.token.Punctuator.TheVariants as punctuator
 use Rattle.cc_syntax.specs.declared.token.TokenKind.{TokenKind}
 use Rattle.cc_syntax.specs.declared.token.TokenKind.TheVariants as kind
@@ -15,8 +12,8 @@ use Rattle.cc_syntax.specs.declared.parser.role.Role.TheVariants as role
 use Rattle.cc_syntax.specs.Token.{Lexeme}
 use Rattle.cc_syntax.specs.Tree.{Name, Expr, Variable, Element, Target, AtVariable, AtElement, Action, Assign, Step, Evaluate, Performs, Perform}
 use Rattle.cc_syntax.specs.Roles.{role_of, punctuator_role}
-use Rattle.cc_syntax.specs.Grammar.{Placed, outside, full, full_after, begins, identifier, Marks, IsKeyword, assignment_punctuator, step_punctuator, SpellsType, SpellsExpression, SpellsTarget, SpellsAction, SpellsInitial, SpellsDeclared, SpellsRow}
-use Rattle.cc_syntax.specs.Machine.{State, Operand, ForTesting, InFor, in_body, inside_of, settled, InBody, InFull, Inside, Stage, Item, ForStarting, ForStepping, Stepping, StepNamed, Stepped, HasDeclared, Declaring, LocalSign, Position, Context, OfBody, ToPerform, ToAssign, ToStep, ToInitialise, Spot, AsStatement, AsStart, AsLast, Waiting, Index, Full, full_of, reduced, close, assign, assigns, step_target, steps, acted, end_full, operator_step, operand_step, action_step, declares, declared, role_step, role_level, name_of, count_of}
+use Rattle.cc_syntax.specs.Grammar.{Placed, outside, full, full_after, begins, identifier, assignment_punctuator, step_punctuator, SpellsExpression, SpellsTarget, SpellsAction}
+use Rattle.cc_syntax.specs.Machine.{State, Operand, ForTesting, InFor, in_body, inside_of, settled, InBody, InFull, Inside, Item, Stepping, StepNamed, Stepped, Context, OfBody, ToPerform, ToAssign, ToStep, Spot, AsStatement, AsStart, AsLast, Waiting, Index, Full, full_of, reduced, close, assign, step_target, acted, end_full, operator_step, operand_step, action_step, role_step, role_level, name_of, count_of}
 use Rattle.cc_syntax.proofs.MachineRuns.{Runs, token, runs-append}
 use Rattle.cc_syntax.proofs.Forms.{operand, operator, count_after, count_after-append, full_after-append, runs-full}
 use Rattle.cc_syntax.proofs.Settles.{settled-count, none-some}
@@ -136,7 +133,7 @@ abbrev at_operand : State → Bool
 at_operand (InFull f Operand) = true
 at_operand _ = false
 
-no-operator : (c : Context) (n k : ℕ) (us ws : List Waiting) (last : Expr) → operand c n us ≡ operator c k ws last → ⊥
+pub no-operator : (c : Context) (n k : ℕ) (us ws : List Waiting) (last : Expr) → operand c n us ≡ operator c k ws last → ⊥
 no-operator c n k us ws last h = let e : true ≡ false = ap (λ (s : State). at_operand s) h in cc
 
 -- an action whose first token begins an expression

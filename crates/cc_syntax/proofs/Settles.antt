@@ -1,14 +1,13 @@
 -- A statement that is complete: what the machine makes of it at once, where an `else` may follow, and what it makes of it
 -- once another token has come.
-use Rattle.std.proofs.Common.{◌≡◌, ℕ, true, false, suc, List, [], ◌∷◌, ◌++◌, length, Option, Some, None, refl, sym, ap, subst, ◌∙◌}
+use Rattle.std.proofs.Common.{◌≡◌, true, false, List, [], ◌∷◌, ◌++◌, Option, Some, None, refl, sym, ap, ◌∙◌}
 use Rattle.std.specs.Prelude.{Bool}
 use Rattle.cc_syntax.specs.declared.parser.role.Role.{Role}
 use Rattle.cc_syntax.specs.declared.parser.role.Role.TheVariants as role
-use Rattle.cc_syntax.specs.Token.{Lexeme}
-use Rattle.cc_syntax.specs.Tree.{Name, Expr, Stmt, Stmts, If, IfElse, While, For}
+use Rattle.cc_syntax.specs.Tree.{Name, Expr, Stmt, If, IfElse, While, For}
 use Rattle.cc_syntax.specs.Roles.{role_of}
 use Rattle.cc_syntax.specs.Grammar.{Placed}
-use Rattle.cc_syntax.specs.Machine.{State, InBody, Inside, Stage, Item, AfterThen, AfterDo, Open, InBlock, InThen, InElse, InWhile, InDo, InFor, inside_of, in_body, settled, step, role_step, role_level, resting_step, resting_depth, resting_level, else_step, else_level, count_of, level_at, name_of}
+use Rattle.cc_syntax.specs.Machine.{State, Inside, Stage, Open, InBlock, InThen, InElse, InWhile, InDo, InFor, inside_of, in_body, settled, role_step, role_level, resting_step, resting_depth, resting_level, else_step, else_level, count_of, name_of}
 use Rattle.cc_syntax.proofs.MachineRuns.{Runs}
 
 -- the body with other open statements
