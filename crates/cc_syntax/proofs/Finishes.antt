@@ -221,7 +221,7 @@ ends (Arguments v us ∷ ws) c n e =
 ends (Then t ∷ ws) c n e =
     let d = Conditional t e zero_of in
     let last = Otherwise t e ∷ ws in
-    let whole : Ends c (suc (suc n)) last zero_of = earlier c (suc (suc n)) ws last d zero_of (pops 1 1 _ _ (omega arith)) (ends ws c (suc (suc n)) d) in
+    let whole : Ends c (suc (suc n)) last zero_of = earlier c (suc (suc n)) ws last d zero_of refl (ends ws c (suc (suc n)) d) in
     record {
       last = mark punctuator.Colon;
       after = operand c (suc n) last;

@@ -100,17 +100,17 @@ behind b AsStatement z = in_body (settled true b b.opened (Perform (Some z)))
 behind b AsStart z = InBody b (ForTesting (Performs (Some z)))
 behind b (AsLast a e) z = InBody (inside_of b b.finished (InFor a e (Some z) ∷ b.opened)) Item
 
-acted-behind : (p : Spot) (b : Inside) (z : Action) → acted b p z (role_of (terminator p)) ≡ Some (behind b p z)
+pub acted-behind : (p : Spot) (b : Inside) (z : Action) → acted b p z (role_of (terminator p)) ≡ Some (behind b p z)
 acted-behind AsStatement b z = refl
 acted-behind AsStart b z = refl
 acted-behind (AsLast a e) b z = refl
 
-action-closes : (p : Spot) → Closes (terminator p)
+pub action-closes : (p : Spot) → Closes (terminator p)
 action-closes AsStatement f e = refl
 action-closes AsStart f e = refl
 action-closes (AsLast a l) f e = refl
 
-named-ends : (p : Spot) (b : Inside) (op : StepOperator) (v x : Name) → role_step (InBody b (StepNamed op v p)) (role_of (terminator p)) x ≡ acted b p (Step op (AtVariable v)) (role_of (terminator p))
+pub named-ends : (p : Spot) (b : Inside) (op : StepOperator) (v x : Name) → role_step (InBody b (StepNamed op v p)) (role_of (terminator p)) x ≡ acted b p (Step op (AtVariable v)) (role_of (terminator p))
 named-ends AsStatement b op v x = refl
 named-ends AsStart b op v x = refl
 named-ends (AsLast a e) b op v x = refl

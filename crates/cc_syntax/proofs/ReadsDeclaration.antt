@@ -22,7 +22,7 @@ abbrev pub declared_state : Inside → Position → Scalar → List Declared →
 declared_state b AsLocal t ds = in_body (settled true b b.opened (Local t ds))
 declared_state b AsHeader t ds = InBody b (ForTesting (Declares t ds))
 
-declares-state : (b : Inside) (w : Position) (t : Scalar) (ds : List Declared) → declares b w t ds ≡ Some (declared_state b w t ds)
+pub declares-state : (b : Inside) (w : Position) (t : Scalar) (ds : List Declared) → declares b w t ds ≡ Some (declared_state b w t ds)
 declares-state b AsLocal t ds = refl
 declares-state b AsHeader t ds = refl
 
