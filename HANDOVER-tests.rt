@@ -4,7 +4,7 @@ use std::alloc::AllocError;
 
 type Row = (&'static [u8], u32, usize, usize);
 
-static OK: [&'static [u8]; 60] = [
+static OK: [&'static [u8]; 58] = [
     b"int main(void){}",
     b"int main(){write_word(-7/2);write_word(-7%2);return 0;}",
     b"int main(void){write_word(-1<1u);write_word(-8>>1u);write_word(1<<31);}",
@@ -46,8 +46,7 @@ static OK: [&'static [u8]; 60] = [
     b"void f(void){for(a++;;a--);}",
     b"void f(void){a>>=1;a&=1;a|=1;a^=1;a%=1;a/=1;a*=1;a-=1;}",
     b"void f(void){~!-+a;f(1,2,(3));(f());}",
-    b"void f(void){f()+g(h(1),2)[0;}",
-    b"void f(void){(signed)1;(signed int)1;(unsigned int)-1;((int))1;}",
+    b"void f(void){(signed)1;(signed int)1;(unsigned int)-1;(int)(1);}",
     b"int a[1+2*(3)];",
     b"int a[]={1+2,(3),-4};",
     b"int f(void){return (f)+1;}",
@@ -64,10 +63,9 @@ static OK: [&'static [u8]; 60] = [
     b"int x=1;int y=-1,z;unsigned u=1u;",
     b"int x;",
     b"void f(int);",
-    b"void f(int,int b){",
 ];
 
-static ROWS: [Row; 62] = [
+static ROWS: [Row; 64] = [
     (b"", 5, 1, 1),
     (b"int main(void){return 1 2;}", 5, 1, 25),
     (b"int main(void){0xe+1;}", 3, 1, 16),
@@ -130,6 +128,8 @@ static ROWS: [Row; 62] = [
     (b"int f(void){}}", 5, 1, 14),
     (b"int f(void,int);", 5, 1, 11),
     (b"int x;;", 5, 1, 7),
+    (b"void f(void){f()+g(h(1),2)[0;}", 5, 1, 27),
+    (b"void f(void){((int))1;}", 5, 1, 20),
 ];
 
 fn answer(rt: &HostRuntime, text: &[u8]) -> (u32, usize, usize) {
@@ -211,9 +211,9 @@ fn limits(rt: HostRuntime) -> Result<(), AllocError> {
     show(&rt, b"int x=-1", b"+1", 255, b";", (0, 0, 0))?;
     show(&rt, b"int x[]={-1", b"+1", 255, b",2,};", (0, 0, 0))?;
     show(&rt, b"int main(void){++a[-1", b"+1", 253, b"];}", (0, 0, 0))?;
-    show(&rt, b"int main(void){++a[-1", b"+1", 253, b"+1];}", (6, 1, 15 + 513))?;
+    show(&rt, b"int main(void){++a[-1", b"+1", 253, b"+1];}", (6, 1, 15 + 514))?;
     show(&rt, b"int main(void){a[-1", b"+1", 253, b"]++;}", (0, 0, 0))?;
-    show(&rt, b"int main(void){a[1", b"+1", 254, b"]++;}", (0, 0, 0))?;
+    show(&rt, b"int main(void){a[1", b"+1", 254, b"]++;}", (6, 1, 15 + 513))?;
     show(&rt, b"int main(void){a[-1", b"+1", 254, b"]++;}", (6, 1, 15 + 513))?;
     show(&rt, b"int main(void){f(", b"1,", 254, b"1);}", (0, 0, 0))?;
     show(&rt, b"int main(void){f(", b"1,", 255, b"1);}", (6, 1, 15 + 513))?;
@@ -225,14 +225,14 @@ fn limits(rt: HostRuntime) -> Result<(), AllocError> {
     show(&rt, b"int main(void){", b"if(1);else ", 62, b";}", (0, 0, 0))?;
     show(&rt, b"int main(void){", b"if(1);else ", 63, b";}", (6, 1, 16 + 11 * 62 + 5))?;
     show(&rt, b"int main(void){", b"{", 62, b"for(int i;;);", (6, 1, 16 + 62 + 4))?;
-    show(&rt, b"int main(void){", b"{", 62, b"for(i=1;;);", (6, 1, 16 + 62 + 9))?;
+    show(&rt, b"int main(void){", b"{", 62, b"for(i=1;;);", (6, 1, 16 + 62 + 10))?;
     show(&rt, b"int main(void){", b"{", 61, b"for(int i;;);", (5, 1, 16 + 61 + 13))?;
     show(&rt, b"int main(void){", b"do ", 62, b";", (5, 1, 16 + 62 * 3 + 1))?;
     show(&rt, b"int main(void){", b"do ", 63, b";", (6, 1, 16 + 63 * 3))?;
     show(&rt, b"int main(void){", b"{", 63, b"if", (6, 1, 16 + 63))?;
     show(&rt, b"int main(void){", b"{", 63, b"else", (5, 1, 16 + 63))?;
     show(&rt, b"int main(void){", b"while(1)", 63, b"int x;", (5, 1, 16 + 8 * 63))?;
-    show(&rt, b"int main(void){", b"{", 62, b"if(1);;", (5, 1, 16 + 62 + 7))?;
-    show(&rt, b"int main(void){", b"{", 62, b"if(1);else;", (5, 1, 16 + 62 + 11))?;
+    show(&rt, b"int main(void){", b"{", 62, b"if(1);;", (6, 1, 16 + 62 + 5))?;
+    show(&rt, b"int main(void){", b"{", 62, b"if(1);else;", (6, 1, 16 + 62 + 5))?;
     Ok(())
 }
