@@ -6,3 +6,4 @@ pub mod Rules
 pub mod Limits
 pub mod Fault
 pub mod Typed
+pub mod Rows
