@@ -1,3 +1,5 @@
 pub mod Outcome
 pub mod Meaning
+pub mod Function
+pub mod Rows
 pub mod Shown
