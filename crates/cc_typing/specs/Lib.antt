@@ -7,3 +7,5 @@ pub mod Limits
 pub mod Fault
 pub mod Typed
 pub mod Rows
+pub mod Resolve
+pub mod FormErase
