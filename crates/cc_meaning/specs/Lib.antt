@@ -2,4 +2,5 @@ pub mod Outcome
 pub mod Meaning
 pub mod Function
 pub mod Rows
+pub mod FormMeaning
 pub mod Shown

@@ -1,5 +1,5 @@
 -- The type of an expression (C99 6.5), and the value of a constant expression (C99 6.6).
-use Rattle.std.specs.Prelude.{ℕ, Bool, true, false, ◌&&◌, List, [], ◌∷◌, length, Option, Some, None, if◌then◌else◌, option_map}
+use Rattle.std.specs.Prelude.{ℕ, Bool, true, false, ◌&&◌, ◌-◌, List, [], ◌∷◌, ◌++◌, length, map, replicate, Option, Some, None, if◌then◌else◌, option_map, unwrap_or}
 use Rattle.cc_words.specs.Words.{lt_s}
 use Rattle.cc_syntax.specs.declared.ast.Scalar.{Scalar}
 use Rattle.cc_syntax.specs.declared.ast.Scalar.TheVariants.{Int, Unsigned}
@@ -101,3 +101,16 @@ array_length (Some c) values = option_map (elements_of_word (value_type [] c.exp
 abbrev pub object_words : Object → ℕ
 object_words (Single x initial) = 1
 object_words (Array x n values) = elim (array_length n values) [ None ↦ 0 | Some k ↦ k ]
+
+-- ---- objects before the run
+
+-- the word of an initialiser, and 0 without one (6.7.8)
+abbrev pub initial_word : Option ConstantExpr → ℕ
+initial_word None = 0
+initial_word (Some c) = unwrap_or (constant_word c) 0
+
+-- the words of an object: those of its list, and 0 for each element that the list does not reach (6.7.8)
+abbrev pub initial_words : Object → List ℕ
+initial_words (Single x e) = initial_word e ∷ []
+initial_words (Array x n values) =
+    map (λ (c : ConstantExpr). initial_word (Some c)) values ++ replicate (unwrap_or (array_length n values) 0 - length values) 0
