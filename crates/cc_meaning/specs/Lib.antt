@@ -3,4 +3,5 @@ pub mod Meaning
 pub mod Function
 pub mod Rows
 pub mod FormMeaning
+pub mod FormRows
 pub mod Shown
