@@ -39,9 +39,9 @@ in_scope v = v.inner ++ v.outer
 abbrev pub opened : Visible → Visible
 opened v = record { inner = []; outer = in_scope v }
 
--- the scope behind a declarator; a second declaration in one scope adds nothing
+-- the scope behind a declarator
 abbrev pub declared : List ℕ → Entity → Visible → Visible
-declared x entity v = record v { inner = if is_declared v.inner x then v.inner else record { name = x; entity = entity } ∷ v.inner }
+declared x entity v = record v { inner = record { name = x; entity = entity } ∷ v.inner }
 
 -- the scope behind the declaration of some locals
 abbrev pub all_declared : Scalar → List Declared → Visible → Visible
