@@ -29,8 +29,8 @@ impl Emitter {
     }
 
     /// How many instructions a jump that is written next skips, to go where so many stood behind it.
-    pub fn distance(&self, target: usize) -> u32 {
-        (self.items.len() - target) as u32
+    pub fn distance(&self, target: usize) -> usize {
+        self.items.len() - target
     }
 
     /// Writes another instruction in the place of one, before which so many stood behind.

@@ -3,8 +3,6 @@
 // The arguments of a call are its callee's first variables, and stand where the caller left them on the stack; the other
 // variables follow, and above them the words of unfinished expressions. A jump skips so many instructions behind itself.
 
-ghost use Rattle.std.specs.Prelude.{◌≡◌};
-
 /// An operation on one word.
 #[derive(Clone, Copy, PartialEq, Eq, Debug)]
 pub enum UnaryOperation {
@@ -44,8 +42,8 @@ pub enum BinaryOperation {
 /// Where an array's words are among those of all objects: the number of the first one, and how many there are.
 #[derive(Clone, Copy, PartialEq, Eq, Debug)]
 pub struct Extent {
-    pub place: u32,
-    pub length: u32,
+    pub place: usize,
+    pub length: usize,
 }
 
 /// One step of an interpreter over a stack of words.
@@ -54,22 +52,22 @@ pub enum Instruction {
     /// Pushes a word.
     Constant(u32),
     /// Pushes the word of a variable of the function.
-    Local(u32),
+    Local(usize),
     /// Pushes a word of the objects at file scope.
-    Global(u32),
+    Global(usize),
     /// Replaces an index by the array's element; goes wrong where there is none.
     Element(Extent),
     /// Makes a variable 0.
-    Clear(u32),
+    Clear(usize),
     /// Takes a word into a variable of the function.
-    SetLocal(u32),
+    SetLocal(usize),
     /// Takes a word into a word of the objects at file scope.
-    SetGlobal(u32),
+    SetGlobal(usize),
     /// Takes a word, and an index below it, and stores the word in the array's element.
     SetElement(Extent),
     /// Takes a word, and makes of a variable's old value and of it the new one.
-    UpdateLocal(BinaryOperation, u32),
-    UpdateGlobal(BinaryOperation, u32),
+    UpdateLocal(BinaryOperation, usize),
+    UpdateGlobal(BinaryOperation, usize),
     /// Takes a word, and an index below it, and makes of the element's old value and of the word the new one.
     UpdateElement(BinaryOperation, Extent),
     Unary(UnaryOperation),
@@ -80,19 +78,19 @@ pub enum Instruction {
     /// Replaces a word by 1, and 0 stays.
     Truth,
     /// Where the word is 0, leaves it and skips so many instructions; else takes it away.
-    AndThen(u32),
+    AndThen(usize),
     /// Where the word is not 0, replaces it by 1 and skips so many instructions; else takes it away.
-    OrElse(u32),
+    OrElse(usize),
     /// Skips so many instructions.
-    Jump(u32),
+    Jump(usize),
     /// Takes a word, and skips so many instructions where it is 0.
-    JumpIfZero(u32),
+    JumpIfZero(usize),
     /// Takes a word, and where it is not 0 goes back over so many instructions and itself.
-    Repeat(u32),
+    Repeat(usize),
     /// Spends a step; stops where none is left.
     Step,
     /// Calls the function with a number, in the order of definitions.
-    Call(u32),
+    Call(usize),
     /// Pushes the next word of the input, and 0 where none is left.
     Read,
     /// Appends a word to the output, and replaces it by 0.
@@ -104,9 +102,9 @@ pub enum Instruction {
 /// Where a function's instructions begin, how many parameters it has, and how many variables besides.
 #[derive(Clone, Copy, PartialEq, Eq, Debug)]
 pub struct Entry {
-    pub start: u32,
-    pub parameters: u32,
-    pub variables: u32,
+    pub start: usize,
+    pub parameters: usize,
+    pub variables: usize,
 }
 
 /// The resolved form of a unit: the instructions of all functions one behind the other, the functions in the order of
@@ -115,6 +113,6 @@ pub struct Entry {
 pub struct Form {
     pub code: Vec<Instruction>,
     pub functions: Vec<Entry>,
-    pub main: u32,
+    pub main: usize,
     pub words: Vec<u32>,
 }

@@ -27,8 +27,8 @@ pub enum Entity {
 /// Where a variable is.
 #[derive(Clone, Copy, PartialEq, Eq, Debug)]
 pub enum Variable {
-    Local(u32),
-    Global(u32),
+    Local(usize),
+    Global(usize),
 }
 
 /// The locals in scope, the oldest first, the names of file scope so far, and the numbers of all functions that the unit
@@ -103,11 +103,8 @@ impl<'a> Places<'a> {
     }
 
     /// The number of a function, in the order of definitions.
-    pub fn function(&self, name: &[u8]) -> u32 {
-        match self.functions.get(name) {
-            Some(number) => *number as u32,
-            None => 0,
-        }
+    pub fn function(&self, name: &[u8]) -> usize {
+        self.functions.get(name).copied().unwrap_or(0)
     }
 
     fn entity(&self, name: &[u8]) -> Entity {
@@ -120,7 +117,7 @@ impl<'a> Places<'a> {
     /// A variable, and the type of its value.
     pub fn variable(&self, name: &[u8]) -> (Variable, Scalar) {
         if let Some(number) = self.numbers.get(name) {
-            return (Variable::Local(*number as u32), self.locals[*number].scalar);
+            return (Variable::Local(*number), self.locals[*number].scalar);
         }
         let (extent, scalar) = self.array(name);
         (Variable::Global(extent.place), scalar)

@@ -222,7 +222,7 @@ impl<'a> Resolver<'a> {
     /// Writes a declaration whose names are in scope, and takes these back.
     fn declaration(&mut self, names: &'a [Declarator]) -> Result<(), AllocError> {
         for declarator in names.iter().rev() {
-            let number = (self.places.len() - 1) as u32;
+            let number = self.places.len() - 1;
             if let Some(tree) = &declarator.initial {
                 self.emit(Instruction::SetLocal(number))?;
                 self.expression(tree)?;
@@ -375,13 +375,13 @@ impl<'a> Resolver<'a> {
     }
 }
 
-fn declared_count(names: &[Declarator]) -> u32 {
-    names.len() as u32
+fn declared_count(names: &[Declarator]) -> usize {
+    names.len()
 }
 
 /// How many locals a statement declares.
 #[cycle(counting)]
-fn locals_of(statement: &Statement) -> u32 {
+fn locals_of(statement: &Statement) -> usize {
     match statement {
         Statement::Block(all) => locals(all.as_slice()),
         Statement::Local(_, names) => declared_count(names.as_slice()),
@@ -398,7 +398,7 @@ fn locals_of(statement: &Statement) -> u32 {
 }
 
 #[cycle(counting)]
-fn locals(all: &[Statement]) -> u32 {
+fn locals(all: &[Statement]) -> usize {
     let mut count = 0;
     for statement in all {
         count += locals_of(statement);
@@ -465,17 +465,17 @@ pub fn resolve(alloc: Global, externals: &[External]) -> Result<Form, AllocError
                 let entity = Entity::Function(signature.result);
                 resolver.places.declare_entity(signature.name.bytes.as_slice(), entity)?;
                 form.functions.push(Entry {
-                    start: form.code.len() as u32,
-                    parameters: signature.parameters.len() as u32,
+                    start: form.code.len(),
+                    parameters: signature.parameters.len(),
                     variables: locals(body.as_slice()),
                 })?;
                 resolver.function(signature, body.as_slice(), &mut form.code)?;
             }
             External::Objects(scalar, objects) => {
                 for object in objects {
-                    let place = form.words.len() as u32;
+                    let place = form.words.len();
                     object_words(object, &mut form.words)?;
-                    let length = form.words.len() as u32 - place;
+                    let length = form.words.len() - place;
                     let entity = Entity::Object(*scalar, Extent { place, length });
                     let name = object_name(object).bytes.as_slice();
                     resolver.places.declare_entity(name, entity)?;
