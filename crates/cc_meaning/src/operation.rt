@@ -1,10 +1,15 @@
 // What operations give on words.
 
+ghost use Rattle.std.specs.Prelude.{◌≡◌, ok_or};
+ghost use Rattle.cc_meaning.specs.FormMeaning.{unary_result, binary_result, cause_of_operation};
+
 use super::outcome::Cause;
 use cc_typing::{BinaryOperation, UnaryOperation};
 
 /// What an operation on one word gives.
-pub fn unary(operation: UnaryOperation, word: u32) -> u32 {
+pub fn unary(operation: UnaryOperation, word: u32) -> u32
+    ensures { result ≡ unary_result operation word }
+{
     match operation {
         UnaryOperation::Negate => cc_words::sub(0, word),
         UnaryOperation::Complement => !word,
@@ -13,7 +18,9 @@ pub fn unary(operation: UnaryOperation, word: u32) -> u32 {
 }
 
 /// What an operation on two words gives, or why it gives nothing.
-pub fn binary(operation: BinaryOperation, left: u32, right: u32) -> Result<u32, Cause> {
+pub fn binary(operation: BinaryOperation, left: u32, right: u32) -> Result<u32, Cause>
+    ensures { result ≡ ok_or (binary_result operation left right) (cause_of_operation operation) }
+{
     match operation {
         BinaryOperation::Multiply => Ok(cc_words::mul(left, right)),
         BinaryOperation::DivideSigned => cc_words::div_s(left, right).ok_or(Cause::Division),

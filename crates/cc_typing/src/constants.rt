@@ -1,10 +1,17 @@
 // The values of constant expressions (C99 6.6).
 
+ghost use Rattle.std.specs.Prelude.{◌≡◌, [], map, option_map};
+ghost use Rattle.cc_syntax.specs.Erase.{expression_tree, constant_tree};
+ghost use Rattle.cc_typing.specs.Operators.{unary_word, binary_word};
+ghost use Rattle.cc_typing.specs.Types.{value_type, constant_value, is_constant, constant_word, array_length};
+
 use super::operators::{binary_type, common_type, unary_type, working_type};
 use cc_syntax::{BinaryOperator, ConstantExpression, Expression, Scalar, UnaryOperator};
 
 /// The type of an expression without names.
-pub fn constant_type(tree: &Expression) -> Scalar {
+pub fn constant_type(tree: &Expression) -> Scalar
+    ensures { result ≡ value_type [] (expression_tree tree.now) }
+{
     match tree {
         Expression::Number(scalar, _) | Expression::Cast(scalar, _) => *scalar,
         Expression::Name(_) | Expression::Element(_, _) | Expression::Call(_, _) => Scalar::Int,
@@ -19,7 +26,9 @@ pub fn constant_type(tree: &Expression) -> Scalar {
     }
 }
 
-fn unary_word(operator: UnaryOperator, word: u32) -> u32 {
+fn unary_word(operator: UnaryOperator, word: u32) -> u32
+    ensures { result ≡ unary_word operator word }
+{
     match operator {
         UnaryOperator::Plus => word,
         UnaryOperator::Minus => cc_words::sub(0, word),
@@ -29,7 +38,9 @@ fn unary_word(operator: UnaryOperator, word: u32) -> u32 {
 }
 
 /// What a binary operator gives in the type in which it works, and nothing where it goes wrong.
-pub fn binary_word(operator: BinaryOperator, working: Scalar, a: u32, b: u32) -> Option<u32> {
+pub fn binary_word(operator: BinaryOperator, working: Scalar, a: u32, b: u32) -> Option<u32>
+    ensures { result ≡ binary_word operator working a b }
+{
     let signed = working == Scalar::Int;
     match operator {
         BinaryOperator::Multiply => Some(cc_words::mul(a, b)),
@@ -61,7 +72,9 @@ pub fn binary_word(operator: BinaryOperator, working: Scalar, a: u32, b: u32) ->
 }
 
 /// The word of an expression without names and calls, where it does not go wrong.
-pub fn constant_value(tree: &Expression) -> Option<u32> {
+pub fn constant_value(tree: &Expression) -> Option<u32>
+    ensures { result ≡ constant_value (expression_tree tree.now) }
+{
     match tree {
         Expression::Number(_, word) => Some(*word),
         Expression::Name(_) | Expression::Element(_, _) | Expression::Call(_, _) => None,
@@ -93,7 +106,9 @@ pub fn constant_value(tree: &Expression) -> Option<u32> {
 }
 
 /// Whether an expression has no name and no call.
-pub fn is_constant(tree: &Expression) -> bool {
+pub fn is_constant(tree: &Expression) -> bool
+    ensures { result ≡ is_constant (expression_tree tree.now) }
+{
     match tree {
         Expression::Number(_, _) => true,
         Expression::Name(_) | Expression::Element(_, _) | Expression::Call(_, _) => false,
@@ -108,7 +123,9 @@ pub fn is_constant(tree: &Expression) -> bool {
 }
 
 /// The word of a constant expression, where it is one.
-pub fn constant_word(constant: &ConstantExpression) -> Option<u32> {
+pub fn constant_word(constant: &ConstantExpression) -> Option<u32>
+    ensures { result ≡ constant_word (constant_tree constant.now) }
+{
     if is_constant(&constant.expression) {
         constant_value(&constant.expression)
     } else {
@@ -120,13 +137,15 @@ pub fn constant_word(constant: &ConstantExpression) -> Option<u32> {
 pub fn array_length(
     length: &Option<ConstantExpression>,
     values: &[ConstantExpression],
-) -> Option<u32> {
+) -> Option<usize>
+    ensures { result ≡ array_length (option_map constant_tree length.now) (map constant_tree values.now) }
+{
     let Some(constant) = length else {
-        return Some(values.len() as u32);
+        return Some(values.len());
     };
     let word = constant_word(constant)?;
     if constant_type(&constant.expression) == Scalar::Int && cc_words::lt_s(word, 0) != 0 {
         return Some(0);
     }
-    Some(word)
+    Some(word as usize)
 }

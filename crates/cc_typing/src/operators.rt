@@ -1,10 +1,16 @@
 // The types in which operators work, and the operations on words that they are there.
 
+ghost use Rattle.std.specs.Prelude.{◌≡◌};
+ghost use Rattle.cc_typing.specs.Operators.{common_type, working_type, binary_type, unary_type, applied_operator, step_operator};
+ghost use Rattle.cc_typing.specs.Resolve.{by_type, operation, unary_code, unary_code_of};
+
 use super::form::{BinaryOperation, UnaryOperation};
 use cc_syntax::{AssignmentOperator, BinaryOperator, Scalar, StepOperator, UnaryOperator};
 
 /// The type in which two operands meet (C99 6.3.1.8).
-pub fn common_type(left: Scalar, right: Scalar) -> Scalar {
+pub fn common_type(left: Scalar, right: Scalar) -> Scalar
+    ensures { result ≡ common_type left right }
+{
     match left {
         Scalar::Int => right,
         Scalar::Unsigned => Scalar::Unsigned,
@@ -12,7 +18,9 @@ pub fn common_type(left: Scalar, right: Scalar) -> Scalar {
 }
 
 /// The type in which an operator works: that of the left operand for a shift, else the common one.
-pub fn working_type(operator: BinaryOperator, left: Scalar, right: Scalar) -> Scalar {
+pub fn working_type(operator: BinaryOperator, left: Scalar, right: Scalar) -> Scalar
+    ensures { result ≡ working_type operator left right }
+{
     match operator {
         BinaryOperator::ShiftLeft | BinaryOperator::ShiftRight => left,
         _ => common_type(left, right),
@@ -20,7 +28,9 @@ pub fn working_type(operator: BinaryOperator, left: Scalar, right: Scalar) -> Sc
 }
 
 /// The type of what a binary operator gives.
-pub fn binary_type(operator: BinaryOperator, left: Scalar, right: Scalar) -> Scalar {
+pub fn binary_type(operator: BinaryOperator, left: Scalar, right: Scalar) -> Scalar
+    ensures { result ≡ binary_type operator left right }
+{
     match operator {
         BinaryOperator::Less
         | BinaryOperator::Greater
@@ -35,7 +45,9 @@ pub fn binary_type(operator: BinaryOperator, left: Scalar, right: Scalar) -> Sca
 }
 
 /// The type of what a unary operator gives.
-pub fn unary_type(operator: UnaryOperator, operand: Scalar) -> Scalar {
+pub fn unary_type(operator: UnaryOperator, operand: Scalar) -> Scalar
+    ensures { result ≡ unary_type operator operand }
+{
     match operator {
         UnaryOperator::Not => Scalar::Int,
         _ => operand,
@@ -43,7 +55,9 @@ pub fn unary_type(operator: UnaryOperator, operand: Scalar) -> Scalar {
 }
 
 /// A unary operator as an operation on a word; plus leaves its operand.
-pub fn unary_operation(operator: UnaryOperator) -> Option<UnaryOperation> {
+pub fn unary_operation(operator: UnaryOperator) -> Option<UnaryOperation>
+    ensures { unary_code operator ≡ unary_code_of result }
+{
     match operator {
         UnaryOperator::Plus => None,
         UnaryOperator::Minus => Some(UnaryOperation::Negate),
@@ -56,7 +70,9 @@ fn by_type(
     working: Scalar,
     signed: BinaryOperation,
     unsigned: BinaryOperation,
-) -> BinaryOperation {
+) -> BinaryOperation
+    ensures { result ≡ by_type working signed unsigned }
+{
     match working {
         Scalar::Int => signed,
         Scalar::Unsigned => unsigned,
@@ -64,7 +80,9 @@ fn by_type(
 }
 
 /// An operator in the type in which it works, as an operation on words.
-pub fn operation(operator: BinaryOperator, working: Scalar) -> BinaryOperation {
+pub fn operation(operator: BinaryOperator, working: Scalar) -> BinaryOperation
+    ensures { result ≡ operation operator working }
+{
     use BinaryOperation::*;
     match operator {
         BinaryOperator::Multiply => Multiply,
@@ -89,7 +107,9 @@ pub fn operation(operator: BinaryOperator, working: Scalar) -> BinaryOperation {
 }
 
 /// The operator that an assignment applies to the old value, none for `=`.
-pub fn applied_operator(operator: AssignmentOperator) -> Option<BinaryOperator> {
+pub fn applied_operator(operator: AssignmentOperator) -> Option<BinaryOperator>
+    ensures { result ≡ applied_operator operator }
+{
     match operator {
         AssignmentOperator::Plain => None,
         AssignmentOperator::Multiply => Some(BinaryOperator::Multiply),
@@ -105,10 +125,12 @@ pub fn applied_operator(operator: AssignmentOperator) -> Option<BinaryOperator> 
     }
 }
 
-/// What an increment or a decrement applies.
-pub fn step_operator(operator: StepOperator) -> BinaryOperator {
+/// The assignment that an increment or a decrement is, of the word 1.
+pub fn step_operator(operator: StepOperator) -> AssignmentOperator
+    ensures { result ≡ step_operator operator }
+{
     match operator {
-        StepOperator::Increment => BinaryOperator::Add,
-        StepOperator::Decrement => BinaryOperator::Subtract,
+        StepOperator::Increment => AssignmentOperator::Add,
+        StepOperator::Decrement => AssignmentOperator::Subtract,
     }
 }

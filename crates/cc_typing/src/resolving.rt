@@ -195,7 +195,7 @@ impl<'a> Resolver<'a> {
                 self.assignment(applied_operator(*operator), target, Some(right))
             }
             Action::Step(operator, target) => {
-                self.assignment(Some(step_operator(*operator)), target, None)
+                self.assignment(applied_operator(step_operator(*operator)), target, None)
             }
             Action::Evaluate(tree) => {
                 self.emit(Instruction::Drop)?;
@@ -418,7 +418,7 @@ fn object_words(object: &Object, words: &mut Vec<u32>) -> Result<(), AllocError>
     match object {
         Object::Single(_, initial) => words.push(word_of(initial.as_ref()))?,
         Object::Array(_, length, values) => {
-            let count = array_length(length, values.as_slice()).unwrap_or(0) as usize;
+            let count = array_length(length, values.as_slice()).unwrap_or(0);
             for value in values {
                 words.push(word_of(Some(value)))?;
             }
