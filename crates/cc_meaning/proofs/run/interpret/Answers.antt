@@ -16,7 +16,8 @@ returns-in-Ok c =
     let made = c.in_ok-variables in
     let enough : length made.variables.items ≡ form.result.now.variables = omega (arith, made.ensures.len) in
     let meant = form-behavior (source c.args.unit.now) c.args.input.now c.args.steps (form_tree form.result.now) made.variables.items c.new-2.result.items (form_statements_of c.as_slice.result.now) form.ensures.typed form.ensures.resolves form.ensures.within enough (ap form_statements_of c.as_slice.ensures.value) c.new-2.ensures.items in
-    ap (λ (o : List ℕ). stopped (outcome.Ended 0) o) c.from_vec-output.ensures ∙ sym c.in-Ok.ensures ∙ meant
+    let ended = rw c.in-Ok.is at c.start-halted.ensures in
+    ap (λ (o : List ℕ). stopped (outcome.Ended 0) o) c.from_vec-output.ensures ∙ sym ended ∙ meant
 
 pub returns-in-Err-Stopped : goal.returns-in-Err-Stopped
 returns-in-Err-Stopped c =
