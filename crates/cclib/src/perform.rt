@@ -1,6 +1,6 @@
 // Doing a task over any reader and writer.
 
-ghost use Rattle.std.specs.Prelude.{◌≡◌, ◌≤◌, IfOk, IfErr};
+ghost use Rattle.std.specs.Prelude.{◌≤◌, IfOk, IfErr};
 ghost use Rattle.cc_syntax.specs.Source.{source};
 ghost use Rattle.cclib.specs.Answer.{IsProgram, Answers, IsRefused};
 
