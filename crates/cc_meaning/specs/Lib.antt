@@ -1,6 +1,7 @@
 pub mod Outcome
 pub mod Meaning
+pub mod Function
 pub mod Rows
-pub mod Shown
 pub mod FormMeaning
-pub mod Work
+pub mod FormRows
+pub mod Shown

@@ -1,13 +1,11 @@
 pub mod Names
-pub mod Form
-pub mod Resolve
+pub mod Operators
 pub mod Scope
+pub mod Types
 pub mod Rules
+pub mod Limits
 pub mod Fault
 pub mod Typed
 pub mod Rows
+pub mod Resolve
 pub mod FormErase
-pub mod Within
-pub mod Bindings
-pub mod Findings
-pub mod Forms

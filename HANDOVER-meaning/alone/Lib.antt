@@ -1,0 +1,4 @@
+pub mod Tree
+pub mod Erase
+pub mod Place
+pub mod Source
