@@ -20,12 +20,12 @@ pub record IsProgram (s : Source) : Type 0 where
   pub typed : IsTyped s.function
   pub limits : IsWithinLimits s.function
 
--- the answer to a task for a program: that it is one, or what it does on the empty input within the steps
+-- the answer to a task for a program: that it is one, or what it does on the input words within the steps
 abbrev pub IsAnswer : Task → Source → Answer → Type 0
 IsAnswer Check s Accepted = Unit {0}
 IsAnswer Check s (Ran o) = ⊥
-IsAnswer (Interpret steps) s Accepted = ⊥
-IsAnswer (Interpret steps) s (Ran o) = outcome_shown o ≡ source_behavior s [] steps
+IsAnswer (Interpret steps words) s Accepted = ⊥
+IsAnswer (Interpret steps words) s (Ran o) = outcome_shown o ≡ source_behavior s words.items steps
 
 -- the answer to a task for a text, which is a program's
 pub record Answers (task : Task) (text : List ℕ) (answer : Answer) : Type 0 where
