@@ -1,7 +1,8 @@
-pub mod Numbers
 pub mod Tables
-pub mod Walks
+pub mod Numbers
+pub mod NameSets
+pub mod SameTypes
+pub mod Parts
 pub mod Trees
-pub mod First
-pub mod Inside
-pub mod Verdict
+pub mod Walks
+pub mod FileScopes

@@ -9,3 +9,6 @@ pub mod Typed
 pub mod Rows
 pub mod Resolve
 pub mod FormErase
+pub mod Entities
+pub mod Bindings
+pub mod Findings

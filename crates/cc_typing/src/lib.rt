@@ -1,21 +1,30 @@
-// The rules of scope and type of the C profile, and the resolved form of a unit that keeps them.
-//
-// `check` makes a `TypedUnit` of a parsed unit, or says which rule it breaks first (`fault`, `rule`). `resolve` is the
-// walk over the tree, with the symbol table (`scope`, `bindings`) and what is found wrong (`findings`). `form` is what
-// the walk makes: numbered variables and operations on words. The crate hands out these types and `check`.
+// Scratch.
 #![tactic(auto)]
 
 mod bindings;
-mod checking;
+mod around;
+mod constants;
+mod entity;
+mod expressions;
+mod externals;
 mod fault;
 mod findings;
 mod form;
-mod resolve;
+mod names;
+mod operators;
 mod rule;
 mod scope;
-mod typed;
+mod statements;
 
-pub use checking::check;
 pub use fault::TypeFault;
-pub use form::{BinaryOperation, Form, ResolvedExpression, ResolvedStatement, UnaryOperation};
-pub use typed::TypedUnit;
+pub use form::{BinaryOperation, Entry, Extent, Form, Instruction, UnaryOperation};
+pub use constants::{array_length, binary_word, constant_word};
+pub use operators::{applied_operator, operation, step_operator, unary_operation};
+pub use scope::Scope;
+pub use names::Names;
+pub use entity::differs;
+pub use around::Surroundings;
+pub use expressions::{action, optional_action, optional_value, value};
+pub use findings::Findings;
+pub use statements::all_statements;
+pub use externals::all_externals;
