@@ -4,13 +4,16 @@ use Rattle.std.specs.Prelude.{not, is_some}
 use Rattle.cc_syntax.specs.declared.ast.Scalar.{Scalar}
 use Rattle.cc_syntax.specs.Tree as tree
 use Rattle.cc_syntax.specs.Tree.{Parameter, Signature, Object, Single, Array, External, Declaration, Definition, Objects, Stmts, ConstantExpr}
-use Rattle.cc_typing.specs.Bindings.{file_level, file_of, file_with}
+use Rattle.cc_typing.specs.Bindings.{closed, file_level, file_of, file_with}
 use Rattle.cc_typing.specs.Findings.{Found, after, is_bad_length}
-use Rattle.cc_typing.specs.Limits.{object_name}
+use Rattle.cc_typing.specs.Names.{same_name}
 use Rattle.cc_typing.specs.Scope.{Variable, Elements, Entity, Binding, Visible, in_scope, found, is_declared, declared, FileScope, has_name, with_declared, with_function, with_object, with_objects, parameter_declared, parameters_declared, body_scope, file_scope_behind, function_entity}
 use Rattle.cc_typing.specs.Rules.{Around, broken_if, differs, constant_offences, optional_constant_offences, constants_offences, length_offences, object_offences, objects_offences, parameter_offences, parameters_offences, signature_offences, external_offences, externals_offences, statements_offences, called_in_constant, called_in_constants, called_in_optional_constant, called_in_object, called_in_objects, called_in_external, called, called_in_statements}
 use Rattle.cc_typing.specs.declared.rule.Offence.{Offence}
 use Rattle.cc_typing.specs.declared.rule.Rule.TheVariants.{Redeclared, WrongCount}
+use Rattle.cc_typing.specs.Entities.{optional_entity}
+use Rattle.cc_typing.specs.Types.{array_length}
+use Rattle.cc_typing.specs.declared.entity.Entity as code
 use Rattle.cc_typing.proofs.Parts as parts
 use Rattle.cc_typing.proofs.Parts.{two, three}
 
@@ -123,7 +126,7 @@ behind-same (Declaration s) g h same = record {
 }
 behind-same (Definition s body) g h same = record {
   bindings = ap (λ bs. (with_function s (record { bindings = bs; defined = [] })).bindings) same.bindings;
-  defined = λ x. ap (λ b. has_name (s.name.text ∷ []) x || b) (same.defined x);
+  defined = λ x. ap (λ b. same_name s.name.text x || b) (same.defined x);
 }
 behind-same (Objects t os) g h same = record {
   bindings = with_objects-same t os g h same.bindings;
@@ -157,3 +160,76 @@ Declaring-next g0 f0 all v names f e rest v' names' f' before es ef en =
           ∙ parts.next f f' _ (external_offences e (file_with v names)) (externals_offences rest there) (externals_offences (e ∷ rest) (file_with v names))
           (called_in_external e) (called rest) (called (e ∷ rest)) before.found refl refl ef;
     }
+
+-- ---- one external declaration
+
+module _ (v : Visible) (names : List (List ℕ)) (e : External) where
+  abbrev behind : List Binding
+  behind = (file_scope_behind e (file_with v names)).bindings
+
+  pub declaration-scope : (w u : Visible) (s : Signature) → e ≡ Declaration s → w ≡ body_scope s (file_of v) → u ≡ closed 0 w → u ≡ file_level behind
+  declaration-scope w u s is ew eu =
+      eu ∙ ap (closed 0) ew ∙ ap file_level (parameters_declared-outer s.parameters (file_level (with_function s (file_of v)).bindings))
+      ∙ sym (ap (λ x. file_level (file_scope_behind x (file_with v names)).bindings) is)
+
+  pub definition-scope : (w z u : Visible) (s : Signature) (body : Stmts) → e ≡ Definition s body → w ≡ body_scope s (file_of v) → z.outer ≡ w.outer → u ≡ closed 0 z → u ≡ file_level behind
+  definition-scope w z u s body is ew ez eu =
+      eu ∙ ap file_level (ez ∙ ap (λ (x : Visible). x.outer) ew ∙ parameters_declared-outer s.parameters (file_level (with_function s (file_of v)).bindings))
+      ∙ sym (ap (λ x. file_level (file_scope_behind x (file_with v names)).bindings) is)
+
+  pub definition-found : (w : Visible) (f g h k : Found) (s : Signature) (body : Stmts) (b : Bool) → e ≡ Definition s body → w ≡ body_scope s (file_of v) → b ≡ has_name names s.name.text
+      → g ≡ after f (signature_offences s (file_of v)) [] → h ≡ after g (broken_if b Redeclared s.name.at) []
+      → k ≡ after h (statements_offences body (record { result = s.result; in_loop = false }) w) (called_in_statements body)
+      → k ≡ after f (external_offences e (file_with v names)) (called_in_external e)
+  definition-found w f g h k s body b is ew eb eg eh ek =
+      let around : Around = record { result = s.result; in_loop = false } in
+      three f g h k (signature_offences s (file_of v)) (broken_if b Redeclared s.name.at) (statements_offences body around w) _ [] [] (called_in_statements body) _ eg eh ek
+      (ap (λ x. external_offences x (file_with v names)) is
+          ∙ ap (λ x. signature_offences s (file_of v) ++ (broken_if x Redeclared s.name.at ++ statements_offences body around (body_scope s (file_of v)))) (sym eb)
+          ∙ ap (λ x. signature_offences s (file_of v) ++ (broken_if b Redeclared s.name.at ++ statements_offences body around x)) (sym ew))
+      (ap called_in_external is)
+
+  pub objects-scope : (w : Visible) (t : Scalar) (os : List Object) → e ≡ Objects t os → w ≡ file_level (with_objects t os (file_of v)).bindings → w ≡ file_level behind
+  objects-scope w t os is ew = ew ∙ ap file_level (with_objects-same t os (file_of v) (file_with v names) refl) ∙ sym (ap (λ x. file_level (file_scope_behind x (file_with v names)).bindings) is)
+
+  pub objects-found : (f g : Found) (t : Scalar) (os : List Object) → e ≡ Objects t os → g ≡ after f (objects_offences t os (file_of v)) (called_in_objects os) → g ≡ after f (external_offences e (file_with v names)) (called_in_external e)
+  objects-found f g t os is eg =
+      eg ∙ ap (λ l. after f l (called_in_objects os)) (objects_offences-same t os (file_of v) (file_with v names) refl)
+      ∙ sym (ap (λ x. after f (external_offences x (file_with v names)) (called_in_external x)) is)
+
+  pub objects-defined : (t : Scalar) (os : List Object) → e ≡ Objects t os → (x : List ℕ) → has_name names x ≡ has_name (file_scope_behind e (file_with v names)).defined x
+  objects-defined t os is x = sym (ap (λ d. has_name d x) (with_objects-defined t os (file_with v names))) ∙ sym (ap (λ y. has_name (file_scope_behind y (file_with v names)).defined x) is)
+
+pub not_not : (b : Bool) → b ≡ not (not b)
+not_not true = refl
+not_not false = refl
+
+-- ---- an array
+
+four : (f g h k m : Found) (xs ys zs ws os : List Offence) (cs ds es gs all : List tree.Name) → g ≡ after f xs cs → h ≡ after g ys ds → k ≡ after h zs es → m ≡ after k ws gs
+    → os ≡ xs ++ (ys ++ (zs ++ ws)) → all ≡ cs ++ (ds ++ (es ++ gs)) → m ≡ after f os all
+four f g h k m xs ys zs ws os cs ds es gs all eg eh ek em eo ee =
+    two f g m xs (ys ++ (zs ++ ws)) os cs (ds ++ (es ++ gs)) all eg (three g h k m ys zs ws (ys ++ (zs ++ ws)) ds es gs (ds ++ (es ++ gs)) eh ek em refl refl) eo ee
+
+pub array-found : (v w : Visible) (t : Scalar) (f g h k m : Found) (x : tree.Name) (n : Option ConstantExpr) (values : List ConstantExpr) (o : Object) (again bad : Bool)
+    → v.inner ≡ [] → o ≡ Array x n values → again ≡ is_declared (in_scope v) x.text → bad ≡ is_bad_length (array_length n values) (length values)
+    → w ≡ file_level (with_declared x.text (Elements t) (file_of v)).bindings
+    → g ≡ after f (broken_if again Redeclared x.at) [] → h ≡ after g (optional_constant_offences (in_scope v) n) (called_in_optional_constant n)
+    → k ≡ after h (broken_if bad WrongCount x.at) [] → m ≡ after k (constants_offences (in_scope w) values) (called_in_constants values)
+    → m ≡ after f (object_offences t o (file_of v)) (called_in_object o)
+array-found v w t f g h k m x n values o again bad none is ea eb ew eg eh ek em =
+    let there : List Binding = (with_declared x.text (Elements t) (file_of v)).bindings in
+    let outside : in_scope v ≡ v.outer = in_scope-file v none in
+    four f g h k m (broken_if again Redeclared x.at) (optional_constant_offences (in_scope v) n) (broken_if bad WrongCount x.at) (constants_offences (in_scope w) values) _
+    [] (called_in_optional_constant n) [] (called_in_constants values) _ eg eh ek em
+    (ap (λ y. object_offences t y (file_of v)) is
+        ∙ ap (λ l. broken_if (is_declared v.outer x.text) Redeclared x.at ++ (optional_constant_offences v.outer n ++ (l ++ constants_offences there values))) (length-is (array_length n values) (length values) x.at)
+        ∙ ap (λ b. broken_if (is_declared v.outer x.text) Redeclared x.at ++ (optional_constant_offences v.outer n ++ (broken_if b WrongCount x.at ++ constants_offences there values))) (sym eb)
+        ∙ ap (λ (u : Visible). broken_if (is_declared v.outer x.text) Redeclared x.at ++ (optional_constant_offences v.outer n ++ (broken_if bad WrongCount x.at ++ constants_offences (in_scope u) values))) (sym ew)
+        ∙ ap (λ bs. broken_if (is_declared bs x.text) Redeclared x.at ++ (optional_constant_offences bs n ++ (broken_if bad WrongCount x.at ++ constants_offences (in_scope w) values))) (sym outside)
+        ∙ ap (λ b. broken_if b Redeclared x.at ++ (optional_constant_offences (in_scope v) n ++ (broken_if bad WrongCount x.at ++ constants_offences (in_scope w) values))) (sym ea))
+    (ap called_in_object is)
+
+pub is_some-entity : (e : Option code.Entity) → is_some e ≡ is_some (optional_entity e)
+is_some-entity None = refl
+is_some-entity (Some e) = refl

@@ -6,3 +6,7 @@ pub mod Parts
 pub mod Trees
 pub mod Walks
 pub mod FileScopes
+pub mod Counting
+pub mod First
+pub mod Verdict
+pub mod Definitions

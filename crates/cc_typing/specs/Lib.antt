@@ -12,3 +12,5 @@ pub mod FormErase
 pub mod Entities
 pub mod Bindings
 pub mod Findings
+pub mod Counts
+pub mod Checked

@@ -32,7 +32,8 @@ fn same_scalar(one: Scalar, other: Scalar) -> bool
     }
 }
 
-fn same_result(one: Option<Scalar>, other: Option<Scalar>) -> bool
+/// Whether two results are of one type.
+pub fn same_result(one: Option<Scalar>, other: Option<Scalar>) -> bool
     ensures { result ≡ same_result one other }
 {
     match one {

@@ -2,6 +2,7 @@
 #![tactic(auto)]
 
 mod bindings;
+mod checking;
 mod around;
 mod constants;
 mod entity;
@@ -10,11 +11,13 @@ mod externals;
 mod fault;
 mod findings;
 mod form;
+mod limits;
 mod names;
 mod operators;
 mod rule;
 mod scope;
 mod statements;
+mod typed;
 
 pub use fault::TypeFault;
 pub use form::{BinaryOperation, Entry, Extent, Form, Instruction, UnaryOperation};
@@ -28,3 +31,6 @@ pub use expressions::{action, optional_action, optional_value, value};
 pub use findings::Findings;
 pub use statements::all_statements;
 pub use externals::all_externals;
+pub use limits::with_excesses;
+pub use checking::check;
+pub use typed::TypedUnit;
