@@ -37,11 +37,9 @@ count-two c d e xs ys os ed ee eo = ee ∙ ap (λ k. count_after k ys) ed ∙ co
 -- where the limit was passed, it stays
 passed-once : (most at : ℕ) (xs : List Name) → passed most most (Some at) xs ≡ Some at
 passed-once most at [] = refl
-passed-once most at (x ∷ xs) = by (nat_lt most most) (let full : nat_lt most most ≡ false = grind (arith, nat_tests) in full)
-  where
-    by : (b : Bool) → b ≡ false → (if b then passed most (most + 1) (Some at) xs else passed most most (Some at) xs) ≡ Some at
-    by true e = absurd (let c : ⊥ = cc in c)
-    by false e = passed-once most at xs
+passed-once most at (x ∷ xs) =
+    let full : nat_lt most most ≡ false = grind (arith, nat_tests) in
+    ap (λ b. if b then passed most (most + 1) (Some at) xs else passed most most (Some at) xs) full ∙ passed-once most at xs
 
 -- the limit on what is left, once some are counted
 passed-left : (most left n : ℕ) (xs : List Name) → left + n ≡ most → excess_of (passed most n None xs) ≡ map too_many (take 1 (drop left xs))
@@ -72,9 +70,10 @@ words-once n at (o ∷ os) = words-once n at os
 
 pub words-are : (n : ℕ) (os : List Object) → excess_of (words_after (record { taken = n; past = None }) os).past ≡ word_excesses n os
 words-are n [] = refl
-words-are n (o ∷ os) = by (nat_lt most_words (n + object_words o))
+words-are n (o ∷ os) = by (nat_lt most_words (n + object_words o)) (words-are (n + object_words o) os)
   where
-    by : (b : Bool) → excess_of (words_after (if b then record { taken = n; past = Some (object_name o).at } else record { taken = n + object_words o; past = None }) os).past
+    by : (b : Bool) → excess_of (words_after (record { taken = n + object_words o; past = None }) os).past ≡ word_excesses (n + object_words o) os
+        → excess_of (words_after (if b then record { taken = n; past = Some (object_name o).at } else record { taken = n + object_words o; past = None }) os).past
         ≡ (if b then too_many (object_name o) ∷ [] else word_excesses (n + object_words o) os)
-    by true = ap (λ (w : WordCount). excess_of w.past) (words-once n (object_name o).at os)
-    by false = words-are (n + object_words o) os
+    by true e = ap (λ (w : WordCount). excess_of w.past) (words-once n (object_name o).at os)
+    by false e = e

@@ -115,7 +115,7 @@ external_offences-same (Declaration s) g h same = ap (λ bs. signature_offences 
 external_offences-same (Definition s body) g h same =
     let around : Around = record { result = s.result; in_loop = false } in
     ap (λ bs. signature_offences s (record { bindings = bs; defined = [] })
-        ++ (broken_if (has_name g.defined s.name.text) Redeclared s.name.at ++ statements_offences body around (body_scope s (record { bindings = bs; defined = [] })))) same.bindings
+    ++ (broken_if (has_name g.defined s.name.text) Redeclared s.name.at ++ statements_offences body around (body_scope s (record { bindings = bs; defined = [] })))) same.bindings
     ∙ ap (λ b. signature_offences s h ++ (broken_if b Redeclared s.name.at ++ statements_offences body around (body_scope s h))) (same.defined s.name.text)
 external_offences-same (Objects t os) g h same = objects_offences-same t os g h same.bindings
 
@@ -185,8 +185,8 @@ module _ (v : Visible) (names : List (List ℕ)) (e : External) where
       let around : Around = record { result = s.result; in_loop = false } in
       three f g h k (signature_offences s (file_of v)) (broken_if b Redeclared s.name.at) (statements_offences body around w) _ [] [] (called_in_statements body) _ eg eh ek
       (ap (λ x. external_offences x (file_with v names)) is
-          ∙ ap (λ x. signature_offences s (file_of v) ++ (broken_if x Redeclared s.name.at ++ statements_offences body around (body_scope s (file_of v)))) (sym eb)
-          ∙ ap (λ x. signature_offences s (file_of v) ++ (broken_if b Redeclared s.name.at ++ statements_offences body around x)) (sym ew))
+      ∙ ap (λ x. signature_offences s (file_of v) ++ (broken_if x Redeclared s.name.at ++ statements_offences body around (body_scope s (file_of v)))) (sym eb)
+      ∙ ap (λ x. signature_offences s (file_of v) ++ (broken_if b Redeclared s.name.at ++ statements_offences body around x)) (sym ew))
       (ap called_in_external is)
 
   pub objects-scope : (w : Visible) (t : Scalar) (os : List Object) → e ≡ Objects t os → w ≡ file_level (with_objects t os (file_of v)).bindings → w ≡ file_level behind
@@ -223,11 +223,11 @@ array-found v w t f g h k m x n values o again bad none is ea eb ew eg eh ek em 
     four f g h k m (broken_if again Redeclared x.at) (optional_constant_offences (in_scope v) n) (broken_if bad WrongCount x.at) (constants_offences (in_scope w) values) _
     [] (called_in_optional_constant n) [] (called_in_constants values) _ eg eh ek em
     (ap (λ y. object_offences t y (file_of v)) is
-        ∙ ap (λ l. broken_if (is_declared v.outer x.text) Redeclared x.at ++ (optional_constant_offences v.outer n ++ (l ++ constants_offences there values))) (length-is (array_length n values) (length values) x.at)
-        ∙ ap (λ b. broken_if (is_declared v.outer x.text) Redeclared x.at ++ (optional_constant_offences v.outer n ++ (broken_if b WrongCount x.at ++ constants_offences there values))) (sym eb)
-        ∙ ap (λ (u : Visible). broken_if (is_declared v.outer x.text) Redeclared x.at ++ (optional_constant_offences v.outer n ++ (broken_if bad WrongCount x.at ++ constants_offences (in_scope u) values))) (sym ew)
-        ∙ ap (λ bs. broken_if (is_declared bs x.text) Redeclared x.at ++ (optional_constant_offences bs n ++ (broken_if bad WrongCount x.at ++ constants_offences (in_scope w) values))) (sym outside)
-        ∙ ap (λ b. broken_if b Redeclared x.at ++ (optional_constant_offences (in_scope v) n ++ (broken_if bad WrongCount x.at ++ constants_offences (in_scope w) values))) (sym ea))
+    ∙ ap (λ l. broken_if (is_declared v.outer x.text) Redeclared x.at ++ (optional_constant_offences v.outer n ++ (l ++ constants_offences there values))) (length-is (array_length n values) (length values) x.at)
+    ∙ ap (λ b. broken_if (is_declared v.outer x.text) Redeclared x.at ++ (optional_constant_offences v.outer n ++ (broken_if b WrongCount x.at ++ constants_offences there values))) (sym eb)
+    ∙ ap (λ (u : Visible). broken_if (is_declared v.outer x.text) Redeclared x.at ++ (optional_constant_offences v.outer n ++ (broken_if bad WrongCount x.at ++ constants_offences (in_scope u) values))) (sym ew)
+    ∙ ap (λ bs. broken_if (is_declared bs x.text) Redeclared x.at ++ (optional_constant_offences bs n ++ (broken_if bad WrongCount x.at ++ constants_offences (in_scope w) values))) (sym outside)
+    ∙ ap (λ b. broken_if b Redeclared x.at ++ (optional_constant_offences (in_scope v) n ++ (broken_if bad WrongCount x.at ++ constants_offences (in_scope w) values))) (sym ea))
     (ap called_in_object is)
 
 pub is_some-entity : (e : Option code.Entity) → is_some e ≡ is_some (optional_entity e)

@@ -84,7 +84,7 @@ defined-next e rest left d d' whole el before ed = λ x.
 -- ---- what the walk over a whole unit finds
 
 module _ (es : List External) (v : Visible) (names defined : List (List ℕ)) (f g : Found) (start : v ≡ file_level first_file_scope.bindings) (fresh : f ≡ nothing_found defined)
-  (walked : g ≡ after f (externals_offences es (file_with v names)) (called es)) where
+    (walked : g ≡ after f (externals_offences es (file_with v names)) (called es)) where
   pub first-are : SameNames names first_file_scope.defined → noted g.first (excesses es) ≡ noted None (all_offences es)
   first-are builtins =
       let same : SameFile (file_with v names) first_file_scope = record { bindings = ap (λ (u : Visible). u.outer) start; defined = builtins } in

@@ -135,10 +135,10 @@ module _ (a : Around) (v : Visible) (t : Stmt) (f : Found) where
       four f g h k m (start_offences start u) (optional_offences (in_scope n) c) (optional_action_offences (in_scope n) behind) (statement_offences body w (opened n)) _
       (called_in_start start) (called_in_optional c) (called_in_optional_action behind) (called_in_statement body) _ eg eh ek em
       (ap (λ q. statement_offences q a v) is
-          ∙ ap (λ q. start_offences start (opened v) ++ (optional_offences (in_scope q) c ++ (optional_action_offences (in_scope q) behind ++ statement_offences b (within_loop a) (opened q)))) (sym there)
-          ∙ ap (λ q. start_offences start q ++ (optional_offences (in_scope n) c ++ (optional_action_offences (in_scope n) behind ++ statement_offences b (within_loop a) (opened n)))) (sym eu)
-          ∙ ap (λ q. start_offences start u ++ (optional_offences (in_scope n) c ++ (optional_action_offences (in_scope n) behind ++ statement_offences q (within_loop a) (opened n)))) (sym eb)
-          ∙ ap (λ q. start_offences start u ++ (optional_offences (in_scope n) c ++ (optional_action_offences (in_scope n) behind ++ statement_offences body q (opened n)))) (sym ew))
+      ∙ ap (λ q. start_offences start (opened v) ++ (optional_offences (in_scope q) c ++ (optional_action_offences (in_scope q) behind ++ statement_offences b (within_loop a) (opened q)))) (sym there)
+      ∙ ap (λ q. start_offences start q ++ (optional_offences (in_scope n) c ++ (optional_action_offences (in_scope n) behind ++ statement_offences b (within_loop a) (opened n)))) (sym eu)
+      ∙ ap (λ q. start_offences start u ++ (optional_offences (in_scope n) c ++ (optional_action_offences (in_scope n) behind ++ statement_offences q (within_loop a) (opened n)))) (sym eb)
+      ∙ ap (λ q. start_offences start u ++ (optional_offences (in_scope n) c ++ (optional_action_offences (in_scope n) behind ++ statement_offences body q (opened n)))) (sym ew))
       (ap called_in_statement is ∙ ap (λ q. called_in_start start ++ (called_in_optional c ++ (called_in_optional_action behind ++ called_in_statement q))) (sym eb))
 
 -- behind some statements of a list: what is done and what is left make the whole

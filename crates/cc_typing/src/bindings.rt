@@ -94,11 +94,13 @@ impl<'a> Bindings<'a> {
     pub fn pop(&mut self)
         ensures { self.new ≡ drop 1 self.old }
     {
-        let Some(Binding {
-            name,
-            entity: _,
-            hidden,
-        }) = self.list.pop()
+        let Some(
+            Binding {
+                name,
+                entity: _,
+                hidden,
+            },
+        ) = self.list.pop()
         else {
             return;
         };

@@ -143,7 +143,11 @@ fn signature<'a>(
     ensures found { OnOk result (findings.new ≡ after findings.old (signature_offences (signature_tree tree.now) (file_of scope.old)) []) }
 {
     let name = tree.name.bytes.as_slice();
-    findings.note_if(differs(scope.find(name), tree), Rule::Redeclared, tree.name.at);
+    findings.note_if(
+        differs(scope.find(name), tree),
+        Rule::Redeclared,
+        tree.name.at,
+    );
     scope.declare_in_file(name, Entity::Function(tree))?;
     parameters(scope, findings, tree.parameters.as_slice())
 }

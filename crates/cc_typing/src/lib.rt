@@ -1,9 +1,16 @@
-// Scratch.
+// The rules of scope and type of the C profile, and its limits.
+//
+// `check` makes a `TypedUnit` of a parsed unit, or says which rule or limit it breaks first (`checking`, `fault`, `rule`).
+// One walk goes over file scope (`externals`), statements and expressions. It keeps the names in scope (`scope`, on
+// `bindings` and `entity`), the functions that are defined (`names`), where a statement stands (`around`), and the first
+// of what it finds (`findings`). `limits` counts what is limited; `constants` has the values of constant expressions, and
+// `operators` the types in which operators work. `form` has the instructions that a typed unit becomes. The crate hands
+// out `check` and these types.
 #![tactic(auto)]
 
+mod around;
 mod bindings;
 mod checking;
-mod around;
 mod constants;
 mod entity;
 mod expressions;
@@ -19,18 +26,7 @@ mod scope;
 mod statements;
 mod typed;
 
+pub use checking::check;
 pub use fault::TypeFault;
 pub use form::{BinaryOperation, Entry, Extent, Form, Instruction, UnaryOperation};
-pub use constants::{array_length, binary_word, constant_word};
-pub use operators::{applied_operator, operation, step_operator, unary_operation};
-pub use scope::Scope;
-pub use names::Names;
-pub use entity::differs;
-pub use around::Surroundings;
-pub use expressions::{action, optional_action, optional_value, value};
-pub use findings::Findings;
-pub use statements::all_statements;
-pub use externals::all_externals;
-pub use limits::with_excesses;
-pub use checking::check;
 pub use typed::TypedUnit;

@@ -25,3 +25,20 @@ returns-then-not-defines_main-clause-refused c =
     let none : noted None (all_offences s.externals) ≡ None = sym (c.in_ok-found.ensures.first ∙ ap (λ es. noted None (all_offences es)) c.externals.ensures.tree) ∙ c.in_default.is in
     let main : defines_main s.externals ≡ false = sym (c.defines_main.ensures ∙ ap defines_main c.externals-2.ensures.tree) ∙ c.if-not-defines_main.true in
     inr (refused-main s _ none main (ap NoMain (c.place_at.ensures ∙ ap (λ text. place_of text (length text)) c.text-text.ensures)))
+
+pub returns-in-Some-undefined-clause-refused : goal.returns-in-Some-undefined-clause-refused
+returns-in-Some-undefined-clause-refused c =
+    let s = source c.args.unit in
+    let o = c.in-Some-undefined.offence in
+    let none : noted None (all_offences s.externals) ≡ None = sym (c.in_ok-found.ensures.first ∙ ap (λ es. noted None (all_offences es)) c.externals.ensures.tree) ∙ c.in_default.is in
+    let main : defines_main s.externals ≡ true = sym (c.defines_main.ensures ∙ ap defines_main c.externals-2.ensures.tree) ∙ c.if-not-defines_main.false in
+    let called : noted None (undefined_calls s.externals) ≡ Some o = sym (c.in_ok-found.ensures.undefined ∙ ap (λ es. noted None (undefined_calls es)) c.externals.ensures.tree) ∙ c.in-Some-undefined.is in
+    inr (refused-call s o _ none main called (c.fault-in-Some-undefined.ensures ∙ ap (fault_of o.rule) (c.place_in-place-in-Some-undefined.ensures ∙ ap (λ text. place_of text o.at) c.text-in-Some-undefined.ensures)))
+
+pub new-requires : goal.new-requires
+new-requires c =
+    let s = source c.args.unit in
+    let none : noted None (all_offences s.externals) ≡ None = sym (c.in_ok-found.ensures.first ∙ ap (λ es. noted None (all_offences es)) c.externals.ensures.tree) ∙ c.in_default.is in
+    let main : defines_main s.externals ≡ true = sym (c.defines_main.ensures ∙ ap defines_main c.externals-2.ensures.tree) ∙ c.if-not-defines_main.false in
+    let called : noted None (undefined_calls s.externals) ≡ None = sym (c.in_ok-found.ensures.undefined ∙ ap (λ es. noted None (undefined_calls es)) c.externals.ensures.tree) ∙ c.in_default-undefined.is in
+    checked s none main called

@@ -50,7 +50,7 @@ expression-returns-in-Call t c =
     (f ∷ []) [] (called_in_all (expressions_of all)) (called_in (expression_tree c.args.tree.now))
     c.note_call.ensures c.function.ensures c.arguments.ensures
     (ap (expression_offences bs) is ∙ ap (λ (l : List Expression). function_offences function (count_of (expressions_of l)) f.at ++ argument_offences bs (expressions_of l)) same
-        ∙ ap (λ n. function_offences function n f.at ++ argument_offences bs (expressions_of all)) (count_of-expressions all))
+    ∙ ap (λ n. function_offences function n f.at ++ argument_offences bs (expressions_of all)) (count_of-expressions all))
     (ap called_in is ∙ ap (λ (l : List Expression). f ∷ called_in_all (expressions_of l)) same)
 
 pub expression-returns-in-Binary : goal.expression-returns-in-Binary
@@ -63,11 +63,11 @@ expression-returns-in-Binary t c =
     two c.args.findings.now c.value-in-Binary.new.findings c.value-in-Binary-2.new.findings (value_offences bs a) (value_offences bs b) (expression_offences bs (expression_tree c.args.tree.now))
     (called_in a) (called_in b) (called_in (expression_tree c.args.tree.now)) c.value-in-Binary.ensures c.value-in-Binary-2.ensures
     (ap (λ (e : Expression). expression_offences bs (expression_tree e)) c.in-Binary.is
-        ∙ ap (λ (e : Expression). value_offences bs (expression_tree e) ++ value_offences bs (expression_tree c.in-Binary.right.value)) left
-        ∙ ap (λ (e : Expression). value_offences bs a ++ value_offences bs (expression_tree e)) right)
+    ∙ ap (λ (e : Expression). value_offences bs (expression_tree e) ++ value_offences bs (expression_tree c.in-Binary.right.value)) left
+    ∙ ap (λ (e : Expression). value_offences bs a ++ value_offences bs (expression_tree e)) right)
     (ap (λ (e : Expression). called_in (expression_tree e)) c.in-Binary.is
-        ∙ ap (λ (e : Expression). called_in (expression_tree e) ++ called_in (expression_tree c.in-Binary.right.value)) left
-        ∙ ap (λ (e : Expression). called_in a ++ called_in (expression_tree e)) right)
+    ∙ ap (λ (e : Expression). called_in (expression_tree e) ++ called_in (expression_tree c.in-Binary.right.value)) left
+    ∙ ap (λ (e : Expression). called_in a ++ called_in (expression_tree e)) right)
 
 pub expression-returns-in-Conditional : goal.expression-returns-in-Conditional
 expression-returns-in-Conditional t c =
@@ -85,13 +85,13 @@ expression-returns-in-Conditional t c =
     (called_in p) (called_in a) (called_in b) (called_in (expression_tree c.args.tree.now))
     c.value-in-Conditional.ensures c.value-in-Conditional-2.ensures c.value-in-Conditional-3.ensures
     (ap (λ (e : Expression). expression_offences bs (expression_tree e)) c.in-Conditional.is
-        ∙ ap (λ (e : Expression). value_offences bs (expression_tree e) ++ (value_offences bs (expression_tree h) ++ value_offences bs (expression_tree o))) first
-        ∙ ap (λ (e : Expression). value_offences bs p ++ (value_offences bs (expression_tree e) ++ value_offences bs (expression_tree o))) second
-        ∙ ap (λ (e : Expression). value_offences bs p ++ (value_offences bs a ++ value_offences bs (expression_tree e))) third)
+    ∙ ap (λ (e : Expression). value_offences bs (expression_tree e) ++ (value_offences bs (expression_tree h) ++ value_offences bs (expression_tree o))) first
+    ∙ ap (λ (e : Expression). value_offences bs p ++ (value_offences bs (expression_tree e) ++ value_offences bs (expression_tree o))) second
+    ∙ ap (λ (e : Expression). value_offences bs p ++ (value_offences bs a ++ value_offences bs (expression_tree e))) third)
     (ap (λ (e : Expression). called_in (expression_tree e)) c.in-Conditional.is
-        ∙ ap (λ (e : Expression). called_in (expression_tree e) ++ (called_in (expression_tree h) ++ called_in (expression_tree o))) first
-        ∙ ap (λ (e : Expression). called_in p ++ (called_in (expression_tree e) ++ called_in (expression_tree o))) second
-        ∙ ap (λ (e : Expression). called_in p ++ (called_in a ++ called_in (expression_tree e))) third)
+    ∙ ap (λ (e : Expression). called_in (expression_tree e) ++ (called_in (expression_tree h) ++ called_in (expression_tree o))) first
+    ∙ ap (λ (e : Expression). called_in p ++ (called_in (expression_tree e) ++ called_in (expression_tree o))) second
+    ∙ ap (λ (e : Expression). called_in p ++ (called_in a ++ called_in (expression_tree e))) third)
 
 pub value-returns : goal.value-returns
 value-returns t c =

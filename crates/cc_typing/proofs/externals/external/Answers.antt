@@ -29,7 +29,7 @@ returns-in_ok-insert-in-Definition-clause-found c =
     c.args.findings.now c.signature-in-Definition.new.findings c.note_if.new.self c.all_statements.new.findings s (statements_of c.in-Definition.body.items) c.contains.result
     (ap external_tree c.in-Definition.is) c.in_ok-signature-in-Definition.ensures.scope named c.in_ok-signature-in-Definition.ensures.found c.note_if.ensures
     (c.in_ok-all_statements-in-Definition.ensures.found
-        ∙ ap (λ l. after c.note_if.new.self (statements_offences (statements_of l) (record { result = s.result; in_loop = false }) c.signature-in-Definition.new.scope) (called_in_statements (statements_of l))) c.as_slice.ensures.value)
+    ∙ ap (λ l. after c.note_if.new.self (statements_offences (statements_of l) (record { result = s.result; in_loop = false }) c.signature-in-Definition.new.scope) (called_in_statements (statements_of l))) c.as_slice.ensures.value)
 
 pub returns-in_ok-objects-in-Objects-clause-scope :
     goal.returns-in_ok-objects-in-Objects-clause-scope
@@ -42,7 +42,7 @@ pub returns-in_ok-objects-in-Objects-clause-found :
 returns-in_ok-objects-in-Objects-clause-found c =
     objects-found c.args.scope.now c.args.defined.now (external_tree c.args.tree.now) c.args.findings.now c.objects.new.findings c.in-Objects.scalar (object_trees c.in-Objects.declared.items) (ap external_tree c.in-Objects.is)
     (c.in_ok-objects-in-Objects.ensures.found
-        ∙ ap (λ l. after c.args.findings.now (objects_offences c.in-Objects.scalar (object_trees l) (file_of c.args.scope.now)) (called_in_objects (object_trees l))) c.as_slice-in-Objects.ensures.value)
+    ∙ ap (λ l. after c.args.findings.now (objects_offences c.in-Objects.scalar (object_trees l) (file_of c.args.scope.now)) (called_in_objects (object_trees l))) c.as_slice-in-Objects.ensures.value)
 
 pub returns-in_ok-objects-in-Objects-clause-defined :
     goal.returns-in_ok-objects-in-Objects-clause-defined

@@ -43,7 +43,7 @@ statement-returns-in-Block-clause-found t c =
     let is = ap statement_tree c.in-Block.is ∙ statement_tree-block c.in-Block.all in
     on_ok c.block.result
     (λ e. e ∙ ap (λ l. after f (statements_offences (statements_of l) a (opened v)) (called_in_statements (statements_of l))) c.deref.ensures.value
-        ∙ sym (ap (λ u. after f (statement_offences u a v) (called_in_statement u)) is))
+    ∙ sym (ap (λ u. after f (statement_offences u a v) (called_in_statement u)) is))
     c.block.ensures.found
 
 pub statement-returns-in-If-clause-found : goal.statement-returns-in-If-clause-found
@@ -51,7 +51,7 @@ statement-returns-in-If-clause-found t c =
     let is = ap statement_tree c.in-If.is ∙ statement_tree-if c.in-If.condition c.in-If.held in
     on_ok c.inner_statement.result
     (λ e. if-found (around_of c.args.around) c.args.scope.now (statement_tree c.args.tree.now) c.args.findings.now c.value.new.findings c.inner_statement.new.findings (expression_tree c.in-If.condition)
-        (statement_tree c.in-If.held.value) (statement_tree c.deref-in-If.result.now) is (ap statement_tree c.deref-in-If.ensures) c.value.ensures e)
+    (statement_tree c.in-If.held.value) (statement_tree c.deref-in-If.result.now) is (ap statement_tree c.deref-in-If.ensures) c.value.ensures e)
     c.inner_statement.ensures.found
 
 pub statement-returns-in_ok-inner_statement-in-IfElse-clause-found :
@@ -62,9 +62,9 @@ statement-returns-in_ok-inner_statement-in-IfElse-clause-found t c =
     let other = statement_tree c.deref-in-IfElse-2.result.now in
     on_ok c.inner_statement-in-IfElse-2.result
     (λ e. if_else-found a c.args.scope.now (statement_tree c.args.tree.now) c.args.findings.now c.value-in-IfElse.new.findings c.inner_statement-in-IfElse.new.findings c.inner_statement-in-IfElse-2.new.findings
-        (expression_tree c.in-IfElse.condition) (statement_tree c.in-IfElse.held.value) (statement_tree c.in-IfElse.other.value) (statement_tree c.deref-in-IfElse.result.now) other is
-        (ap statement_tree c.deref-in-IfElse.ensures) (ap statement_tree c.deref-in-IfElse-2.ensures) c.value-in-IfElse.ensures c.in_ok-inner_statement-in-IfElse.ensures.found
-        (e ∙ ap (λ v. after c.inner_statement-in-IfElse.new.findings (statement_offences other a (opened v)) (called_in_statement other)) c.in_ok-inner_statement-in-IfElse.ensures.scope))
+    (expression_tree c.in-IfElse.condition) (statement_tree c.in-IfElse.held.value) (statement_tree c.in-IfElse.other.value) (statement_tree c.deref-in-IfElse.result.now) other is
+    (ap statement_tree c.deref-in-IfElse.ensures) (ap statement_tree c.deref-in-IfElse-2.ensures) c.value-in-IfElse.ensures c.in_ok-inner_statement-in-IfElse.ensures.found
+    (e ∙ ap (λ v. after c.inner_statement-in-IfElse.new.findings (statement_offences other a (opened v)) (called_in_statement other)) c.in_ok-inner_statement-in-IfElse.ensures.scope))
     c.inner_statement-in-IfElse-2.ensures.found
 
 pub statement-returns-in-While-clause-found : goal.statement-returns-in-While-clause-found
@@ -72,7 +72,7 @@ statement-returns-in-While-clause-found t c =
     let is = ap statement_tree c.in-While.is ∙ statement_tree-while c.in-While.condition c.in-While.body in
     on_ok c.inner_statement-in-While.result
     (λ e. while-found (around_of c.args.around) c.args.scope.now (statement_tree c.args.tree.now) c.args.findings.now (around_of c.within_loop.result) c.within_loop.ensures c.value-in-While.new.findings c.inner_statement-in-While.new.findings
-        (expression_tree c.in-While.condition) (statement_tree c.in-While.body.value) (statement_tree c.deref-in-While.result.now) is (ap statement_tree c.deref-in-While.ensures) c.value-in-While.ensures e)
+    (expression_tree c.in-While.condition) (statement_tree c.in-While.body.value) (statement_tree c.deref-in-While.result.now) is (ap statement_tree c.deref-in-While.ensures) c.value-in-While.ensures e)
     c.inner_statement-in-While.ensures.found
 
 pub statement-returns-in_ok-inner_statement-in-DoWhile-clause-found :
