@@ -10,3 +10,4 @@ pub mod Counting
 pub mod First
 pub mod Verdict
 pub mod Definitions
+pub mod Emitting

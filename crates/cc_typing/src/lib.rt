@@ -12,6 +12,7 @@ mod around;
 mod bindings;
 mod checking;
 mod constants;
+mod emitter;
 mod entity;
 mod expressions;
 mod externals;
