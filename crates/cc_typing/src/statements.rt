@@ -4,6 +4,7 @@
 
 ghost use Rattle.std.specs.Prelude.{◌≡◌, OnOk};
 ghost use Rattle.cc_syntax.specs.Erase.{expression_tree, optional_tree, optional_action, declarator_tree, declarator_trees, beginning_tree, statement_tree, statements_of};
+ghost use Rattle.cc_syntax.specs.Tree as tree;
 ghost use Rattle.cc_typing.specs.Findings.{after, around_of, declarator_offences, is_bad_return};
 ghost use Rattle.cc_typing.specs.Rules.{within_loop, declared_offences, start_offences, return_offences, statement_offences, statements_offences, called_in_optional, called_in_declared, called_in_start, called_in_statement, called_in_statements};
 ghost use Rattle.cc_typing.specs.Scope.{Variable, in_scope, opened, declared, all_declared, scope_behind, scope_behind_start};
@@ -14,7 +15,7 @@ use super::expressions::{optional_action, optional_value, value};
 use super::findings::Findings;
 use super::rule::Rule;
 use super::scope::Scope;
-use cc_syntax::{Beginning, Declarator, Expression, Scalar, Statement};
+use cc_syntax::{Action, Beginning, Declarator, Expression, Scalar, Statement};
 use std::alloc::AllocError;
 
 // One name of a declaration, which is in scope in its own initialiser.
@@ -156,15 +157,32 @@ fn statement<'a>(
             Ok(())
         }
         Statement::For(first, condition, following, body) => {
-            let names = scope.open();
-            beginning(scope, findings, first)?;
-            optional_value(scope, findings, condition);
-            optional_action(scope, findings, following);
-            inner_statement(scope, findings, within_loop(around), body)?;
-            scope.close(names);
-            Ok(())
+            for_statement(scope, findings, around, first, condition, following, body)
         }
     }
+}
+
+// A `for`, whose header is a scope around its body.
+#[cycle(statements)]
+fn for_statement<'a>(
+    scope: &mut Scope<'a>,
+    findings: &mut Findings,
+    around: Surroundings,
+    first: &'a Beginning,
+    condition: &Option<Expression>,
+    following: &Option<Action>,
+    body: &'a Statement,
+) -> Result<(), AllocError>
+    ensures scope { OnOk result (scope.new ≡ scope.old) }
+    ensures found { OnOk result (findings.new ≡ after findings.old (statement_offences (tree.For (beginning_tree first.now) (optional_tree condition.now) (optional_action following.now) (statement_tree body.now)) (around_of around) scope.old) (called_in_statement (tree.For (beginning_tree first.now) (optional_tree condition.now) (optional_action following.now) (statement_tree body.now)))) }
+{
+    let names = scope.open();
+    beginning(scope, findings, first)?;
+    optional_value(scope, findings, condition);
+    optional_action(scope, findings, following);
+    inner_statement(scope, findings, within_loop(around), body)?;
+    scope.close(names);
+    Ok(())
 }
 
 // A block, which is a scope.

@@ -1,6 +1,7 @@
 -- Each kind of statement in turn, and a list statement by statement.
-use Rattle.std.proofs.Common.{◌≡◌, ◌∙◌, ap, sym, subst}
+use Rattle.std.proofs.Common.{◌≡◌, ◌∙◌, refl, ap, sym, subst}
 use Rattle.cc_syntax.specs.Erase.{expression_tree, optional_tree, optional_action, beginning_tree, statement_tree, statements_of}
+use Rattle.cc_syntax.specs.Tree.{For}
 use Rattle.cc_typing.specs.Findings.{after, around_of}
 use Rattle.cc_typing.specs.Scope.{Visible, in_scope, opened, scope_behind}
 use Rattle.cc_typing.specs.Rules.{value_offences, statement_offences, statements_offences, called_in, called_in_statement, called_in_statements}
@@ -27,13 +28,30 @@ inner_statement-returns-clause-scope t c =
     ap (λ (v : Visible). v.outer) c.in_ok-statement.ensures.scope ∙ scope_behind_outer (statement_tree c.args.tree.now) c.open-names.new.self ∙ ap (λ (v : Visible). v.outer) c.open-names.ensures.scope in
     closed-is c.args.scope.now c.statement.new.scope c.close.new.self c.open-names.result outer c.open-names.ensures.around c.close.ensures
 
-pub statement-close-requires : goal.statement-close-requires
-statement-close-requires t c =
-    let first = beginning_tree c.in-For.first in
-    let outer : c.inner_statement-in-For.new.scope.outer ≡ in_scope c.args.scope.now =
-    ap (λ (v : Visible). v.outer) c.in_ok-inner_statement-in-For.ensures.scope ∙ ap (λ (v : Visible). v.outer) c.in_ok-beginning-in-For.ensures.scope
+pub for_statement-close-requires : goal.for_statement-close-requires
+for_statement-close-requires t c =
+    let first = beginning_tree c.args.first.now in
+    let outer : c.inner_statement.new.scope.outer ≡ in_scope c.args.scope.now =
+    ap (λ (v : Visible). v.outer) c.in_ok-inner_statement.ensures.scope ∙ ap (λ (v : Visible). v.outer) c.in_ok-beginning.ensures.scope
     ∙ scope_behind_start_outer first c.open-names.new.self ∙ ap (λ (v : Visible). v.outer) c.open-names.ensures.scope in
-    closes c.args.scope.now c.inner_statement-in-For.new.scope c.open-names.result outer c.open-names.ensures.around
+    closes c.args.scope.now c.inner_statement.new.scope c.open-names.result outer c.open-names.ensures.around
+
+pub for_statement-returns-clause-scope : goal.for_statement-returns-clause-scope
+for_statement-returns-clause-scope t c =
+    let first = beginning_tree c.args.first.now in
+    let outer : c.inner_statement.new.scope.outer ≡ in_scope c.args.scope.now =
+    ap (λ (v : Visible). v.outer) c.in_ok-inner_statement.ensures.scope ∙ ap (λ (v : Visible). v.outer) c.in_ok-beginning.ensures.scope
+    ∙ scope_behind_start_outer first c.open-names.new.self ∙ ap (λ (v : Visible). v.outer) c.open-names.ensures.scope in
+    closed-is c.args.scope.now c.inner_statement.new.scope c.close.new.self c.open-names.result outer c.open-names.ensures.around c.close.ensures
+
+pub for_statement-returns-clause-found : goal.for_statement-returns-clause-found
+for_statement-returns-clause-found t c =
+    let whole = For (beginning_tree c.args.first.now) (optional_tree c.args.condition.now) (optional_action c.args.following.now) (statement_tree c.args.body.now) in
+    for-found (around_of c.args.around) c.args.scope.now whole c.args.findings.now (around_of c.within_loop.result) c.within_loop.ensures
+    c.open-names.new.self c.beginning.new.scope c.open-names.ensures.scope
+    c.beginning.new.findings c.optional_value.new.findings c.optional_action.new.findings c.inner_statement.new.findings
+    (beginning_tree c.args.first.now) (optional_tree c.args.condition.now) (optional_action c.args.following.now) (statement_tree c.args.body.now) (statement_tree c.args.body.now)
+    refl refl c.in_ok-beginning.ensures.scope c.in_ok-beginning.ensures.found c.optional_value.ensures c.optional_action.ensures c.in_ok-inner_statement.ensures.found
 
 pub statement-returns-in-Block-clause-found : goal.statement-returns-in-Block-clause-found
 statement-returns-in-Block-clause-found t c =
@@ -85,22 +103,16 @@ statement-returns-in_ok-inner_statement-in-DoWhile-clause-found t c =
     test (statement_tree c.in-DoWhile.body.value) (statement_tree c.deref-in-DoWhile.result.now) is (ap statement_tree c.deref-in-DoWhile.ensures) c.in_ok-inner_statement-in-DoWhile.ensures.found
     (c.value-in-DoWhile.ensures ∙ ap (λ v. after c.inner_statement-in-DoWhile.new.findings (value_offences (in_scope v) test) (called_in test)) c.in_ok-inner_statement-in-DoWhile.ensures.scope)
 
-pub statement-returns-in_ok-inner_statement-in-For-clause-scope :
-    goal.statement-returns-in_ok-inner_statement-in-For-clause-scope
-statement-returns-in_ok-inner_statement-in-For-clause-scope t c =
+pub statement-returns-in-For-clause-found : goal.statement-returns-in-For-clause-found
+statement-returns-in-For-clause-found t c =
+    let f = c.args.findings.now in
+    let v = c.args.scope.now in
+    let a = around_of c.args.around in
     let first = beginning_tree c.in-For.first in
+    let test = optional_tree c.in-For.condition in
+    let next = optional_action c.in-For.following in
     let is = ap statement_tree c.in-For.is ∙ statement_tree-for c.in-For.first c.in-For.condition c.in-For.following c.in-For.body in
-    let outer : c.inner_statement-in-For.new.scope.outer ≡ in_scope c.args.scope.now =
-    ap (λ (v : Visible). v.outer) c.in_ok-inner_statement-in-For.ensures.scope ∙ ap (λ (v : Visible). v.outer) c.in_ok-beginning-in-For.ensures.scope
-    ∙ scope_behind_start_outer first c.open-names.new.self ∙ ap (λ (v : Visible). v.outer) c.open-names.ensures.scope in
-    closed-is c.args.scope.now c.inner_statement-in-For.new.scope c.close.new.self c.open-names.result outer c.open-names.ensures.around c.close.ensures ∙ sym (ap (λ s. scope_behind s c.args.scope.now) is)
-
-pub statement-returns-in_ok-inner_statement-in-For-clause-found :
-    goal.statement-returns-in_ok-inner_statement-in-For-clause-found
-statement-returns-in_ok-inner_statement-in-For-clause-found t c =
-    let is = ap statement_tree c.in-For.is ∙ statement_tree-for c.in-For.first c.in-For.condition c.in-For.following c.in-For.body in
-    for-found (around_of c.args.around) c.args.scope.now (statement_tree c.args.tree.now) c.args.findings.now (around_of c.within_loop-in-For.result) c.within_loop-in-For.ensures
-    c.open-names.new.self c.beginning.new.scope c.open-names.ensures.scope
-    c.beginning.new.findings c.optional_value.new.findings c.optional_action-in-For.new.findings c.inner_statement-in-For.new.findings
-    (beginning_tree c.in-For.first) (optional_tree c.in-For.condition) (optional_action c.in-For.following) (statement_tree c.in-For.body.value) (statement_tree c.deref-in-For.result.now)
-    is (ap statement_tree c.deref-in-For.ensures) c.in_ok-beginning-in-For.ensures.scope c.in_ok-beginning-in-For.ensures.found c.optional_value.ensures c.optional_action-in-For.ensures c.in_ok-inner_statement-in-For.ensures.found
+    on_ok c.for_statement.result
+    (λ e. e ∙ ap (λ s. after f (statement_offences (For first test next (statement_tree s)) a v) (called_in_statement (For first test next (statement_tree s)))) c.deref-in-For.ensures
+    ∙ sym (ap (λ u. after f (statement_offences u a v) (called_in_statement u)) is))
+    c.for_statement.ensures.found
