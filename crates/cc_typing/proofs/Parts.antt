@@ -1,5 +1,5 @@
 -- What is found in one part and then in the next is found in both.
-use Rattle.std.proofs.Common.{◌≡◌, ℕ, true, false, List, [], ◌∷◌, ◌++◌, Option, Some, None, refl, sym, ap, ◌∙◌, append_assoc, append-nil}
+use Rattle.std.proofs.Common.{◌≡◌, ℕ, true, false, List, [], ◌∷◌, ◌++◌, Option, Some, refl, sym, ap, ◌∙◌, append_assoc}
 use Rattle.cc_syntax.specs.Tree.{Name}
 use Rattle.cc_typing.specs.Rules.{undefined_among, broken_if}
 use Rattle.cc_typing.specs.Scope.{has_name}

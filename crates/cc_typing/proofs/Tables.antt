@@ -5,7 +5,7 @@ use Rattle.std.proofs.lemmas.List.{reverse-append}
 use Rattle.indexmap.specs.IndexMap.{IndexMap, get, Updates}
 use Rattle.cc_typing.specs.Scope as scope
 use Rattle.cc_typing.specs.Entities.{entity_of}
-use Rattle.cc_typing.specs.Bindings.{binding_of, bindings_of, newest, AreHidden, same_key, IsTable, number_in, number_of, entity_found}
+use Rattle.cc_typing.specs.Bindings.{binding_of, newest, AreHidden, same_key, IsTable, number_in, number_of, entity_found}
 use Rattle.cc_typing.specs.declared.bindings.Binding.{Binding}
 use Rattle.cc_typing.specs.declared.bindings.Newest.{Newest}
 

@@ -1,5 +1,5 @@
 -- The trees of calls and blocks, whose parts the code keeps as rows.
-use Rattle.std.proofs.Common.{◌≡◌, ℕ, suc, ◌+◌, List, [], ◌∷◌, length, refl, ap, ◌∙◌, arith, rules}
+use Rattle.std.proofs.Common.{◌≡◌, suc, ◌+◌, List, [], ◌∷◌, length, refl, ap, arith, rules}
 use Rattle.cc_syntax.specs.Tree as tree
 use Rattle.cc_syntax.specs.Erase.{name_tree, expression_tree, expressions_tree, expressions_of, statement_tree, statements_tree, statements_of, beginning_tree, optional_tree, optional_action}
 use Rattle.cc_syntax.specs.declared.ast.Expression as expression

@@ -1,5 +1,5 @@
 -- What is found in a whole unit decides whether it is typed.
-use Rattle.std.proofs.Common.{◌≡◌, ℕ, ◌⊎◌, inl, inr, Bool, true, false, ◌||◌, List, [], ◌∷◌, ◌++◌, length, Option, Some, None, refl, sym, ap, ◌∙◌}
+use Rattle.std.proofs.Common.{◌≡◌, ℕ, inl, inr, true, false, ◌||◌, List, [], ◌∷◌, ◌++◌, length, Some, None, refl, sym, ap, ◌∙◌}
 use Rattle.std.specs.Prelude.{not}
 use Rattle.cc_syntax.specs.Tree.{Name, Source, External, Declaration, Definition, Objects}
 use Rattle.cc_syntax.specs.Place.{place_of}
@@ -12,7 +12,7 @@ use Rattle.cc_typing.specs.Limits.{excesses}
 use Rattle.cc_typing.specs.Names.{same_name}
 use Rattle.cc_typing.specs.Rules.{offences, defines_main, undefined_among, undefined_calls, called, broken_if, externals_offences}
 use Rattle.cc_typing.specs.Scope.{Visible, has_name, FileScope, first_file_scope, file_scope_behind, file_scope_behind_all}
-use Rattle.cc_typing.specs.Typed.{IsFirst, IsRefusal, all_offences}
+use Rattle.cc_typing.specs.Typed.{IsRefusal, all_offences}
 use Rattle.cc_typing.specs.declared.fault.TypeFault.{TypeFault}
 use Rattle.cc_typing.specs.declared.fault.TypeFault.TheVariants.{NoMain}
 use Rattle.cc_typing.specs.declared.rule.Offence.{Offence}

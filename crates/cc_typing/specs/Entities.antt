@@ -1,13 +1,10 @@
 -- What the code keeps of names, as the definitions see it.
-use Rattle.std.specs.Prelude.{ℕ, ◌≡◌, Bool, List, [], ◌∷◌, length, map, reverse, take, drop, Option, Some, None, option_map, if◌then◌else◌, nat_eq}
+use Rattle.std.specs.Prelude.{ℕ, List, [], ◌∷◌, map, Option, Some, None}
 use Rattle.std.specs.Borrow.{Bor}
-use Rattle.std.specs.Cmp.Lexicographic.{pointwise}
-use Rattle.indexmap.specs.IndexMap.{IndexMap, get}
 use Rattle.cc_syntax.specs.declared.ast.Scalar.TheVariants.{Int}
 use Rattle.cc_syntax.specs.declared.ast.Scalar.{Scalar}
 use Rattle.cc_syntax.specs.Tree.{Parameter}
 use Rattle.cc_syntax.specs.Erase.{signature_tree}
-use Rattle.cc_typing.specs.Names.{same_name}
 use Rattle.cc_typing.specs.Scope as scope
 use Rattle.cc_typing.specs.Scope.{Visible, function_entity}
 use Rattle.cc_typing.specs.declared.entity.Entity.{Entity}

@@ -1,4 +1,4 @@
-use Rattle.std.proofs.Common.{◌≡◌, length, drop}
+use Rattle.std.proofs.Common.{◌≡◌, drop}
 use Rattle.cc_typing.specs.Scope.{same_scalars}
 use Rattle.cc_typing.proofs.SameTypes.{types_of}
 use Rattle.cc_typing.proofs.entity.same_types.Given as goal

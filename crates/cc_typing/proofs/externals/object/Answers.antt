@@ -1,12 +1,12 @@
 -- An array: its name, its length, and its list.
-use Rattle.std.proofs.Common.{◌≡◌, ◌∙◌, List, [], ◌∷◌, suc, length, map, refl, ap, sym}
+use Rattle.std.proofs.Common.{◌≡◌, ◌∙◌, List, [], ◌∷◌, suc, length, refl, ap, sym}
 use Rattle.std.specs.Prelude.{is_some}
-use Rattle.cc_syntax.specs.Erase.{name_tree, optional_constant, constant_tree, constant_trees, object_tree}
+use Rattle.cc_syntax.specs.Erase.{name_tree, optional_constant, constant_trees, object_tree}
 use Rattle.cc_syntax.specs.Tree.{Array}
 use Rattle.cc_syntax.specs.declared.ast.ConstantExpression.{ConstantExpression}
 use Rattle.cc_typing.specs.Bindings.{file_level, file_of}
 use Rattle.cc_typing.specs.Findings.{is_bad_length}
-use Rattle.cc_typing.specs.Scope.{Elements, found, is_declared, in_scope, with_declared}
+use Rattle.cc_typing.specs.Scope.{Elements, is_declared, in_scope, with_declared}
 use Rattle.cc_typing.specs.Types.{array_length}
 use Rattle.cc_typing.proofs.FileScopes.{array-found, is_some-entity}
 use Rattle.cc_typing.proofs.externals.object.Goals as goal

@@ -1,5 +1,5 @@
 -- Statement by statement.
-use Rattle.std.proofs.Common.{◌≡◌, ◌+◌, ◌++◌, ◌∙◌, ap, sym, drop}
+use Rattle.std.proofs.Common.{◌+◌, ◌++◌, ◌∙◌, ap, sym, drop}
 use Rattle.cc_syntax.specs.Erase.{beginning_tree, statement_tree, statements_of}
 use Rattle.cc_syntax.specs.declared.ast.Statement.{Statement}
 use Rattle.cc_typing.specs.Counts.{count_after}

@@ -1,5 +1,5 @@
 -- The limits of each function, then that on functions, then that on words.
-use Rattle.std.proofs.Common.{◌≡◌, ◌∙◌, ◌++◌, None, ap}
+use Rattle.std.proofs.Common.{◌≡◌, ◌∙◌, ◌++◌, ap}
 use Rattle.cc_syntax.specs.Erase.{external_trees}
 use Rattle.cc_typing.specs.Counts.{excess_of}
 use Rattle.cc_typing.specs.Findings.{noted}

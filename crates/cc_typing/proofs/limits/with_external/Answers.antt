@@ -1,5 +1,5 @@
 -- The parameters, and then the locals.
-use Rattle.std.proofs.Common.{◌≡◌, ◌∙◌, ◌++◌, None, ap, sym}
+use Rattle.std.proofs.Common.{◌≡◌, ◌∙◌, None, ap, sym}
 use Rattle.cc_syntax.specs.Erase.{signature_tree, statements_of, external_tree}
 use Rattle.cc_typing.specs.Counts.{count_after, excess_of}
 use Rattle.cc_typing.specs.Findings.{noted}

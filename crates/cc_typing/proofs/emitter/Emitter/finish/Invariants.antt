@@ -1,4 +1,4 @@
-use Rattle.std.proofs.Common.{◌≡◌, ◌++◌, length, reverse, vec_len}
+use Rattle.std.proofs.Common.{◌≡◌, ◌++◌, reverse, vec_len}
 use Rattle.cc_typing.proofs.emitter.Emitter.finish.Given as goal
 
 -- what is put, and then what is left, is what is to be put

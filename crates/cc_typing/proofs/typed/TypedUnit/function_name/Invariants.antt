@@ -1,6 +1,4 @@
 use Rattle.std.proofs.Common.{◌≡◌, ◌<◌, length, drop, slice_get}
-use Rattle.cc_syntax.specs.Erase.{external_trees}
-use Rattle.cc_typing.specs.Limits.{function_names}
 use Rattle.cc_typing.proofs.Definitions.{names_of}
 use Rattle.cc_typing.proofs.typed.TypedUnit.function_name.Given as goal
 
