@@ -1,7 +1,13 @@
-pub mod Numbers
 pub mod Tables
-pub mod Walks
+pub mod Numbers
+pub mod NameSets
+pub mod SameTypes
+pub mod Parts
 pub mod Trees
+pub mod Walks
+pub mod FileScopes
+pub mod Counting
 pub mod First
-pub mod Inside
 pub mod Verdict
+pub mod Definitions
+pub mod Emitting

@@ -9,3 +9,8 @@ pub mod Typed
 pub mod Rows
 pub mod Resolve
 pub mod FormErase
+pub mod Entities
+pub mod Bindings
+pub mod Findings
+pub mod Counts
+pub mod Checked

@@ -1,7 +1,7 @@
 -- The types in which operators work, and what they give on words. The numbers in parentheses are clauses of
 -- ISO/IEC 9899:1999. Typing needs the words for constant expressions; the value of any other expression is made of the
 -- same functions.
-use Rattle.std.specs.Prelude.{ℕ, zero, suc, ◌==◌, ◌&&◌, ◌||◌, Bool, true, false, not, if◌then◌else◌, Option, Some, None}
+use Rattle.std.specs.Prelude.{ℕ, ◌==◌, ◌&&◌, ◌||◌, Bool, not, if◌then◌else◌, Option, Some, None}
 use Rattle.cc_words.specs.Words.{truth_value, add, sub, mul, neg, complement, is_zero, eq, ne, lt_s, le_s, lt_u, le_u, div_s, rem_s, div_u, rem_u, shl, shr_s, shr_u, and, or, xor}
 use Rattle.cc_syntax.specs.declared.ast.Scalar.{Scalar}
 use Rattle.cc_syntax.specs.declared.ast.Scalar.TheVariants.{Int, Unsigned}

@@ -3,12 +3,12 @@ use Rattle.std.specs.Prelude.{◌≡◌, refl, ℕ, zero, suc, ◌+◌, ◌/◌,
 use Rattle.cc_syntax.specs.Tree as tree
 use Rattle.cc_syntax.specs.Tree.{Name, External}
 use Rattle.cc_syntax.specs.declared.ast.Scalar.TheVariants.{Int, Unsigned}
-use Rattle.cc_syntax.specs.declared.ast.UnaryOperator.TheVariants.{Plus, Minus, Complement, Not}
-use Rattle.cc_syntax.specs.declared.ast.BinaryOperator.TheVariants.{Multiply, Divide, Remainder, Add, Subtract, ShiftLeft, ShiftRight, Less, Greater, LessOrEqual, GreaterOrEqual, Equal, NotEqual, And, Xor, Or, LogicalAnd, LogicalOr}
+use Rattle.cc_syntax.specs.declared.ast.UnaryOperator.TheVariants.{Minus, Not}
+use Rattle.cc_syntax.specs.declared.ast.BinaryOperator.TheVariants.{Divide, Add, Less}
 use Rattle.cc_syntax.specs.declared.ast.AssignmentOperator.TheVariants as assignment
-use Rattle.cc_syntax.specs.declared.ast.StepOperator.TheVariants.{Increment, Decrement}
+use Rattle.cc_syntax.specs.declared.ast.StepOperator.TheVariants.{Increment}
 use Rattle.cc_typing.specs.Rules.{broken, offences, defines_main, undefined_calls}
-use Rattle.cc_typing.specs.Limits.{excesses, objects, word_excesses}
+use Rattle.cc_typing.specs.Limits.{excesses}
 use Rattle.cc_typing.specs.declared.rule.Rule.TheVariants.{Unknown, Redeclared, WrongKind, WrongCount, VoidValue, BadReturn, BadAssign, BadBreak, Undefined, TooMany}
 
 abbrev name : List ℕ → ℕ → Name

@@ -300,12 +300,32 @@ abbrev mutual
   called_in_statements end = []
   called_in_statements (next first rest) = called_in_statement first ++ called_in_statements rest
 
+-- those in constant expressions, each of which breaks a rule already
+abbrev pub called_in_constant : ConstantExpr → List Name
+called_in_constant c = called_in c.expr
+
+abbrev pub called_in_optional_constant : Option ConstantExpr → List Name
+called_in_optional_constant None = []
+called_in_optional_constant (Some c) = called_in_constant c
+
+abbrev pub called_in_constants : List ConstantExpr → List Name
+called_in_constants [] = []
+called_in_constants (c ∷ rest) = called_in_constant c ++ called_in_constants rest
+
+abbrev pub called_in_object : Object → List Name
+called_in_object (Single x initial) = called_in_optional_constant initial
+called_in_object (Array x n values) = called_in_optional_constant n ++ called_in_constants values
+
+abbrev pub called_in_objects : List Object → List Name
+called_in_objects [] = []
+called_in_objects (o ∷ rest) = called_in_object o ++ called_in_objects rest
+
 abbrev pub called_in_external : External → List Name
 called_in_external (Declaration s) = []
 called_in_external (Definition s body) = called_in_statements body
-called_in_external (Objects t os) = []
+called_in_external (Objects t os) = called_in_objects os
 
--- every call of a unit; a constant expression has none
+-- every call of a unit
 abbrev pub called : List External → List Name
 called [] = []
 called (e ∷ rest) = called_in_external e ++ called rest

@@ -1,5 +1,5 @@
 -- Which units are typed, and why another one is refused.
-use Rattle.std.specs.Prelude.{ℕ, ◌≡◌, ◌⊎◌, ◌<◌, ◌≤◌, Bool, true, false, List, [], ◌∷◌, ◌++◌, length, map, Contains}
+use Rattle.std.specs.Prelude.{ℕ, ◌≡◌, ◌⊎◌, ◌<◌, ◌≤◌, true, false, List, [], ◌++◌, length, map, Contains}
 use Rattle.std.specs.List.{AllByRecursion}
 use Rattle.cc_syntax.specs.Tree.{Name, External, Source}
 use Rattle.cc_syntax.specs.Place.{place_of}

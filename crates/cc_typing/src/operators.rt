@@ -66,11 +66,7 @@ pub fn unary_operation(operator: UnaryOperator) -> Option<UnaryOperation>
     }
 }
 
-fn by_type(
-    working: Scalar,
-    signed: BinaryOperation,
-    unsigned: BinaryOperation,
-) -> BinaryOperation
+fn by_type(working: Scalar, signed: BinaryOperation, unsigned: BinaryOperation) -> BinaryOperation
     ensures { result ≡ by_type working signed unsigned }
 {
     match working {
