@@ -1,5 +1,3 @@
-pub mod Loops
-pub mod Resolving
-pub mod Pieces
-pub mod Known
-pub mod Interpreting
+pub mod Lasting
+pub mod Steps
+pub mod Exact
