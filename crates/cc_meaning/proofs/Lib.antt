@@ -1,3 +1,5 @@
 pub mod Lasting
 pub mod Steps
 pub mod Exact
+pub mod Offences
+pub mod Named

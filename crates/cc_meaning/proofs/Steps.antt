@@ -244,7 +244,7 @@ module _ (call : ℕ → Calls) (steady : (f ws : List ℕ) → Steady Under (λ
 -- ---- calls
 
 -- a call behind the tests of its name and of how many are open, with what its body does
-abbrev begun : (writes reads allowed : Bool) → (ℕ → State → Run ℕ) → List ℕ → ℕ → State → Run ℕ
+abbrev pub begun : (writes reads allowed : Bool) → (ℕ → State → Run ℕ) → List ℕ → ℕ → State → Run ℕ
 begun writes reads allowed body ws n s =
     elim writes [
       true ↦ Gives 0 (record s { output = s.output ++ ws })
@@ -281,10 +281,10 @@ begun_lasts false false false body ws f n s lt =
     lasts_spend {A = ℕ} {B = ℕ} UpTo Under s.steps s (λ t. Wrong Depth t.output) (λ m t. Wrong Depth t.output) (λ j b v. omega arith) (λ i e. λ j b v. refl) (λ b u. begins_refl u.output)
 
 -- what the body of a call does
-abbrev body_part : List Function → ℕ → List ℕ → List ℕ → ℕ → State → Run ℕ
+abbrev pub body_part : List Function → ℕ → List ℕ → List ℕ → ℕ → State → Run ℕ
 body_part fs opened f ws n s = run_optional (function_named fs f) n (calls n fs (opened + 1)) ws s
 
-abbrev call_part : List Function → ℕ → List ℕ → List ℕ → ℕ → State → Run ℕ
+abbrev pub call_part : List Function → ℕ → List ℕ → List ℕ → ℕ → State → Run ℕ
 call_part fs opened f ws n s =
     begun (same_name f (codes "write_word")) (same_name f (codes "read_word")) (nat_lt opened most_open) (body_part fs opened f ws) ws n s
 
