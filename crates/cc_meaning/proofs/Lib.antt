@@ -6,3 +6,5 @@ pub mod Named
 pub mod Held
 pub mod Moves
 pub mod Plain
+pub mod Fits
+pub mod Expressions
