@@ -58,14 +58,14 @@ module _ (form : FormTree) (cs : List Activation) (total : ℕ) where
       → Meets form (conf p vs ops cs s) (Value form cs total (conf p vs ops cs s) v most vs (p + length code) ops) (part s)
 
   -- behind some moves, and at another way to write the place
-  value_after : (v : Environment) (most : ℕ) (vs ops : List ℕ) (c d : Configuration) (q q' : ℕ) (r : Run ℕ) → Leads form c d → q ≡ q'
+  pub value_after : (v : Environment) (most : ℕ) (vs ops : List ℕ) (c d : Configuration) (q q' : ℕ) (r : Run ℕ) → Leads form c d → q ≡ q'
       → Meets form d (Value form cs total d v most vs q ops) r → Meets form c (Value form cs total c v most vs q' ops) r
   value_after v most vs ops c d q q' r p e h =
       meets_after form c d (Value form cs total d v most vs q ops) (Value form cs total c v most vs q' ops) r p
       (λ w t x. record { fits = x.fits; leads = leads_then form c d (conf q' vs (w ∷ ops) cs t) p (subst (λ k. Leads form d (conf k vs (w ∷ ops) cs t)) e x.leads) }) h
 
   -- an instruction that pushes a word
-  pushes : (v : Environment) (most : ℕ) (vs before ops : List ℕ) (p q w : ℕ) (s : State) (i : Instruction) → slice_get form.code p ≡ Some i → Fits v total most vs s → q ≡ p + 1
+  pub pushes : (v : Environment) (most : ℕ) (vs before ops : List ℕ) (p q w : ℕ) (s : State) (i : Instruction) → slice_get form.code p ≡ Some i → Fits v total most vs s → q ≡ p + 1
       → instruction_move form i (conf (p + 1) vs before cs s) ≡ Goes (conf (p + 1) vs (w ∷ ops) cs s)
       → Value form cs total (conf p vs before cs s) v most vs q ops w s
   pushes v most vs before ops p q w s i e h at move = record {
@@ -103,13 +103,13 @@ module _ (form : FormTree) (cs : List Activation) (total : ℕ) where
           ap (λ b. if b then going else Stops (outcome.Wrong Index)) t.0
           ∙ ap (λ (o : Option ℕ). elim o [ None ↦ Stops (outcome.Wrong Index) | Some w ↦ Goes (conf p vs (w ∷ ops) cs s) ]) (sym past)) ]
 
-  element_meets : (v : Environment) (most : ℕ) (vs ops : List ℕ) (p i : ℕ) (x : List ℕ) (s : State) → slice_get form.code p ≡ Some (instruction.Element (extent_of v.places.objects x)) → Fits v total most vs s
+  pub element_meets : (v : Environment) (most : ℕ) (vs ops : List ℕ) (p i : ℕ) (x : List ℕ) (s : State) → slice_get form.code p ≡ Some (instruction.Element (extent_of v.places.objects x)) → Fits v total most vs s
       → Meets form (conf p vs (i ∷ ops) cs s) (Value form cs total (conf p vs (i ∷ ops) cs s) v most vs (p + 1) ops) (read_element x i s)
   element_meets v most vs ops p i x s e h = element_by v most vs ops p i x s (slice_get (words_of s.globals x) i) e h refl (element_move v most vs ops (p + 1) i x s h)
 
   -- ---- operators
 
-  unary_leads : (v : Environment) (most : ℕ) (vs ops : List ℕ) (p a : ℕ) (op : UnaryOperator) (s : State) → Stands form.code p (unary_code op) → Fits v total most vs s
+  pub unary_leads : (v : Environment) (most : ℕ) (vs ops : List ℕ) (p a : ℕ) (op : UnaryOperator) (s : State) → Stands form.code p (unary_code op) → Fits v total most vs s
       → Value form cs total (conf p vs (a ∷ ops) cs s) v most vs (p + length (unary_code op)) ops (unary_word op a) s
   unary_leads v most vs ops p a unary.Plus s st h = record {
     fits = h;
@@ -132,7 +132,7 @@ module _ (form : FormTree) (cs : List Activation) (total : ℕ) where
       (ap (λ (o : Option ℕ). elim o [ None ↦ Stops (outcome.Wrong (cause_of_operation (operation op t))) | Some x ↦ Goes (conf (p + 1) vs (x ∷ ops) cs s) ]) (plain.works t a b ∙ is))
 
   -- both operands, then the operator
-  abbrev both_operands : BinaryOperator → Scalar → (State → Run ℕ) → (State → Run ℕ) → State → Run ℕ
+  abbrev pub both_operands : BinaryOperator → Scalar → (State → Run ℕ) → (State → Run ℕ) → State → Run ℕ
   both_operands op t first second s =
       then_do (first s) (λ a u. unless_decided (decided op a) (λ x. then_do (second x) (λ b y. given op (binary_word op t a b) y)) u)
 
@@ -273,7 +273,7 @@ module _ (form : FormTree) (cs : List Activation) (total : ℕ) where
         (or_behind v most vs ops (p + l) (p + length code) a t right second u g in_right.0 in_right.1 in_last.0 (omega arith) (stands_end form.code p code st) got.fits))
 
   -- any operator of two operands
-  binary_meets : (v : Environment) (most : ℕ) (vs : List ℕ) (op : BinaryOperator) (t : Scalar) (left right : List Instruction) (first second : State → Run ℕ) → Kind op
+  pub binary_meets : (v : Environment) (most : ℕ) (vs : List ℕ) (op : BinaryOperator) (t : Scalar) (left right : List Instruction) (first second : State → Run ℕ) → Kind op
       → Part v most vs left first → Part v most vs right second → Part v most vs (joined op (operation op t) left right) (both_operands op t first second)
   binary_meets v most vs op t left right first second (IsAnd e) f g =
       subst (λ x. Part v most vs (joined x (operation x t) left right) (both_operands x t first second)) (sym e) (and_meets v most vs (operation LogicalAnd t) t left right first second f g)
@@ -313,7 +313,7 @@ module _ (form : FormTree) (cs : List Activation) (total : ℕ) where
             (jumps form (length right) (p + 1 + length left) q vs (x ∷ ops) cs t e' (omega arith) (stands_end form.code (p + 1 + length left + 1) right st')));
       }) (f (p + 1) ops s st h)
 
-  conditional_meets : (v : Environment) (most : ℕ) (vs : List ℕ) (test left right : List Instruction) (condition first second : State → Run ℕ)
+  pub conditional_meets : (v : Environment) (most : ℕ) (vs : List ℕ) (test left right : List Instruction) (condition first second : State → Run ℕ)
       → Part v most vs test condition → Part v most vs left first → Part v most vs right second
       → Part v most vs (test ++ instruction.JumpIfZero (length left + 1) ∷ left ++ instruction.Jump (length right) ∷ right) (λ s. then_do (condition s) (λ w t. choose w first second t))
   conditional_meets v most vs test left right condition first second k f g p ops s st h =

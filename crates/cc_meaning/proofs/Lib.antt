@@ -8,3 +8,4 @@ pub mod Moves
 pub mod Plain
 pub mod Fits
 pub mod Expressions
+pub mod Evaluates
