@@ -9,3 +9,5 @@ pub mod Plain
 pub mod Fits
 pub mod Expressions
 pub mod Evaluates
+pub mod Actions
+pub mod Performs
