@@ -11,3 +11,5 @@ pub mod Expressions
 pub mod Evaluates
 pub mod Actions
 pub mod Performs
+pub mod Blocks
+pub mod Loops
