@@ -13,3 +13,4 @@ pub mod Actions
 pub mod Performs
 pub mod Blocks
 pub mod Loops
+pub mod Executes
