@@ -14,3 +14,5 @@ pub mod Performs
 pub mod Blocks
 pub mod Loops
 pub mod Executes
+pub mod Scopes
+pub mod Called
