@@ -16,3 +16,4 @@ pub mod Loops
 pub mod Executes
 pub mod Scopes
 pub mod Called
+pub mod Units
