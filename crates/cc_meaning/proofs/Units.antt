@@ -197,3 +197,196 @@ objects_placed at [] h = refl
 objects_placed at (o ∷ rest) h =
     ap (λ k. record { name = (object_name o).text; extent = record { place = at; length = k } } ∷ places_from (at + k) (map (λ (x : Object). record { name = (object_name x).text; words = initial_words x }) rest)) h.0
     ∙ ap (λ (ps : List Placed). record { name = (object_name o).text; extent = record { place = at; length = object_words o } } ∷ ps) (objects_placed (at + object_words o) rest h.1)
+
+-- ---- the functions of a unit beside their instructions
+
+abbrev final_scope : List External → FileScope
+final_scope unit = file_scope_behind_all unit first_file_scope
+
+-- what a name takes, by what it stands for at the end of the unit
+takes_by : (unit : List External) → IsTyped unit → (x : List ℕ) (r : Option Scalar) (ts : List Scalar) (writes reads : Bool) → same_name x (codes "write_word") ≡ writes → same_name x (codes "read_word") ≡ reads
+    → found (final_scope unit).bindings x ≡ Some (scope.Function r ts) → has_name (final_scope unit).defined x ≡ true → Takes (names_in unit) (functions unit) x (length ts)
+takes_by unit typed x r ts true reads w d e has =
+    let builtin = keeps_externals unit first_file_scope (codes "write_word") (scope.Function None (Int ∷ [])) refl in
+    let is : Some (scope.Function r ts) ≡ Some (scope.Function None (Int ∷ [])) = sym e ∙ found_same (final_scope unit).bindings x (codes "write_word") w ∙ builtin in
+    let us : ts ≡ Int ∷ [] = cc in
+    Writes w (ap (λ (l : List Scalar). length l) us)
+takes_by unit typed x r ts false true w d e has =
+    let builtin = keeps_externals unit first_file_scope (codes "read_word") (scope.Function (Some Int) []) refl in
+    let is : Some (scope.Function r ts) ≡ Some (scope.Function (Some Int) []) = sym e ∙ found_same (final_scope unit).bindings x (codes "read_word") d ∙ builtin in
+    let us : ts ≡ [] = cc in
+    Reads w d (ap (λ (l : List Scalar). length l) us)
+takes_by unit typed x r ts false false w d e has =
+    let names = defined_names unit first_file_scope x has in
+    let no_writes : same_name (codes "write_word") x ≡ false = same_name_symm (codes "write_word") x ∙ w in
+    let no_reads : same_name (codes "read_word") x ≡ false = same_name_symm (codes "read_word") x ∙ d in
+    let before : has_name first_file_scope.defined x ≡ false =
+        ap (λ b. b || (same_name (codes "read_word") x || false)) no_writes ∙ ap (λ b. b || false) no_reads in
+    Enters w d (or_right_of (has_name first_file_scope.defined x) (has_name (names_in unit) x) before names)
+    (λ g is. same_count (final_scope unit).bindings x (length g.parameters) (length ts) (function_takes unit first_file_scope (final_scope unit) x g typed.0 refl is)
+      (record { result = r; scalars = ts; is = e; many = refl }))
+
+-- no variable is declared before the unit
+no_variables : (y : List ℕ) (u : Scalar) → found first_file_scope.bindings y ≡ Some (scope.Variable u) → ⊥
+no_variables y u e = none (same_name (codes "write_word") y) (same_name (codes "read_word") y) e
+  where
+    none : (a b : Bool) → (if a then Some (scope.Function None (Int ∷ [])) else (if b then Some (scope.Function (Some Int) []) else None)) ≡ Some (scope.Variable u) → ⊥
+    none true b e = let z : Some (scope.Function None (Int ∷ [])) ≡ Some (scope.Variable u) = e in cc
+    none false true e = let z : Some (scope.Function (Some Int) []) ≡ Some (scope.Variable u) = e in cc
+    none false false e = let z : None ≡ Some (scope.Variable u) = e in cc
+
+module _ (unit : List External) (typed : IsTyped unit) where
+  abbrev places : Places
+  places = places_of unit
+
+  abbrev known : List (List ℕ)
+  known = (final_scope unit).defined
+
+  abbrev TakesHere : List ℕ → ℕ → Type 0
+  TakesHere = Takes (names_in unit) (functions unit)
+
+  -- the scope of a body
+  body_scoped : (s : Signature) (body : Stmts) (rest : List External) (f : FileScope) → file_scope_behind_all rest (file_scope_behind (Definition s body) f) ≡ final_scope unit
+      → Scoped places known TakesHere (environment_of places s f)
+  body_scoped s body rest f whole =
+      let outer : List Binding = (with_function s f).bindings in
+      let stays : (x : List ℕ) (e : scope.Entity) → found outer x ≡ Some e → found (final_scope unit).bindings x ≡ Some e =
+          λ x e h. ap (λ (g : FileScope). found g.bindings x) (sym whole) ∙ keeps_externals rest (file_scope_behind (Definition s body) f) x e h in
+      scoped_parameters places known TakesHere s.parameters (record { inner = []; outer = outer }) []
+      (record {
+        placed = refl;
+        variable = λ x t e. inr (refl, variable_size unit first_file_scope x t no_variables (stays x (scope.Variable t) e));
+        function = λ x r ts e has. takes_by unit typed x r ts (same_name x (codes "write_word")) (same_name x (codes "read_word")) refl refl (stays x (scope.Function r ts) e) has;
+      })
+
+  -- functions, their instructions and their names, in the same order
+  abbrev Matched : List Function → List FunctionCode → List (List ℕ) → Type 0
+  Matched [] [] [] = Unit {0}
+  Matched (g ∷ gs) (c ∷ cs) (x ∷ xs) = (g.name ≡ x) × Defined places known (functions unit) g c × Matched gs cs xs
+  Matched gs cs xs = ⊥
+
+  matched : (ds : List External) (f : FileScope) → externals_offences ds f ≡ [] → undefined_among known (called ds) ≡ [] → file_scope_behind_all ds f ≡ final_scope unit
+      → Matched (functions_from ds f) (functions_code places f ds) (names_in ds)
+  matched [] f o d whole = tt
+  matched (Declaration s ∷ rest) f o d whole =
+      matched rest (file_scope_behind (Declaration s) f) (nil_right (external_offences (Declaration s) f) (externals_offences rest (file_scope_behind (Declaration s) f)) o) d whole
+  matched (Definition s body ∷ rest) f o d whole =
+      let f' = file_scope_behind (Definition s body) f in
+      let here = nil_left (external_offences (Definition s body) f) (externals_offences rest f') o in
+      let of_body = statements_offences body (record { result = s.result; in_loop = false }) (body_scope s f) in
+      let again = broken_if (has_name f.defined s.name.text) Redeclared s.name.at in (
+        refl,
+        record {
+          parameters = s.parameters;
+          named = refl;
+          many = refl;
+          environment = environment_of places s f;
+          names = refl;
+          visible = refl;
+          scoped = body_scoped s body rest f whole;
+          around = record { result = s.result; in_loop = false };
+          keeps_rules = nil_right again of_body (nil_right (signature_offences s f) (again ++ of_body) here);
+          called = defined_left known (called_in_statements body) (called rest) d;
+          code = refl;
+          variables = refl;
+        },
+        matched rest f' (nil_right (external_offences (Definition s body) f) (externals_offences rest f') o) (defined_right known (called_in_statements body) (called rest) d) whole,
+      )
+  matched (Objects t os ∷ rest) f o d whole =
+      matched rest (with_objects t os f) (nil_right (external_offences (Objects t os) f) (externals_offences rest (with_objects t os f)) o) d whole
+
+  -- a name among them: its function, its number, and where its instructions stand
+  record Listed (gs : List Function) (cs : List FunctionCode) (xs : List (List ℕ)) (code : List Instruction) (at : ℕ) (x : List ℕ) : Type 0 where
+    function : Function
+    instructions : FunctionCode
+    is : function_named gs x ≡ Some function
+    start : ℕ
+    entry : slice_get (entries_from at cs) (names_before xs x) ≡ Some (record { start = start; parameters = instructions.parameters; variables = instructions.variables })
+    stands : Stands code start instructions.code
+    means : Defined places known (functions unit) function instructions
+
+  listed_by : (g : Function) (gs : List Function) (c : FunctionCode) (cs : List FunctionCode) (y : List ℕ) (xs : List (List ℕ)) (code : List Instruction) (at : ℕ) (x : List ℕ) (b : Bool) → same_name y x ≡ b → g.name ≡ y
+      → Defined places known (functions unit) g c → Stands code at c.code → (b || has_name xs x) ≡ true → (has_name xs x ≡ true → Listed gs cs xs code (at + length c.code) x) → Listed (g ∷ gs) (c ∷ cs) (y ∷ xs) code at x
+  listed_by g gs c cs y xs code at x true e is d st has ih = record {
+    function = g;
+    instructions = c;
+    is = ap (λ b. if b then Some g else function_named gs x) (ap (λ z. same_name z x) is ∙ e);
+    start = at;
+    entry = ap (λ b. slice_get (entries_from at (c ∷ cs)) (if b then 0 else 1 + names_before xs x)) e;
+    stands = st;
+    means = d;
+  }
+  listed_by g gs c cs y xs code at x false e is d st has ih =
+      let r = ih has in
+      record {
+        function = r.function;
+        instructions = r.instructions;
+        is = ap (λ b. if b then Some g else function_named gs x) (ap (λ z. same_name z x) is ∙ e) ∙ r.is;
+        start = r.start;
+        entry =
+            ap (λ b. slice_get (entries_from at (c ∷ cs)) (if b then 0 else 1 + names_before xs x)) e
+            ∙ ap (λ k. slice_get (entries_from at (c ∷ cs)) k) (let z : 1 + names_before xs x ≡ suc (names_before xs x) = omega arith in z) ∙ r.entry;
+        stands = r.stands;
+        means = r.means;
+      }
+
+  listed : (gs : List Function) (cs : List FunctionCode) (xs : List (List ℕ)) (front : List Instruction) (at : ℕ) (x : List ℕ) → length front ≡ at → Matched gs cs xs → has_name xs x ≡ true → Listed gs cs xs (front ++ all_code cs) at x
+  listed [] [] [] front at x e m has = absurd (true≢false (sym has))
+  listed [] [] (y ∷ xs) front at x e m has = absurd m
+  listed [] (c ∷ cs) xs front at x e m has = absurd m
+  listed (g ∷ gs) [] xs front at x e m has = absurd m
+  listed (g ∷ gs) (c ∷ cs) [] front at x e m has = absurd m
+  listed (g ∷ gs) (c ∷ cs) (y ∷ xs) front at x e m has =
+      listed_by g gs c cs y xs (front ++ (c.code ++ all_code cs)) at x (same_name y x) refl m.0 m.1
+      (subst (λ p. Stands (front ++ (c.code ++ all_code cs)) p c.code) e (stands_in front c.code (all_code cs))) has
+      (λ has'. subst (λ code. Listed gs cs xs code (at + length c.code) x) (append_assoc front c.code (all_code cs))
+        (listed gs cs xs (front ++ c.code) (at + length c.code) x (length-append front c.code ∙ ap (λ k. k + length c.code) e) m.2 has'))
+
+  table : (x : List ℕ) → has_name places.functions x ≡ true → Entered (resolved unit) places known (functions unit) x
+  table x has =
+      let r = listed (functions unit) (unit_functions unit) (names_in unit) [] 0 x refl (matched unit first_file_scope typed.0 typed.2 refl) has in
+      record { function = r.function; code = r.instructions; is = r.is; start = r.start; entry = r.entry; stands = r.stands; means = r.means }
+
+  -- ---- the run
+
+  halts_as : (c : Configuration) (r : Run ℕ) → Meets (resolved unit) c (λ w u. Halts (resolved unit) c (record { stop = outcome.Ended w; output = u.output })) r → Halts (resolved unit) c (outcome_of r)
+  halts_as c (Gives w u) h = h
+  halts_as c (Going output) h = h
+  halts_as c (Wrong cause output) h = h
+
+  main_run : (input : List ℕ) (left : ℕ) (e : Entered (resolved unit) places known (functions unit) (codes "main")) → e.function.parameters ≡ []
+      → Halts (resolved unit) (conf e.start (replicate e.code.variables 0) [] [] (record { locals = []; globals = initial_globals unit; input = input; output = []; steps = left }))
+        (outcome_of (run_body e.function (suc left) (calls (suc left) (functions unit) 1) [] (record { locals = []; globals = initial_globals unit; input = input; output = []; steps = left })))
+  main_run input left e none =
+      let t : State = record { locals = []; globals = initial_globals unit; input = input; output = []; steps = left } in
+      halts_as (conf e.start (replicate e.code.variables 0) [] [] t) (run_body e.function (suc left) (calls (suc left) (functions unit) 1) [] t)
+      (main_meets (resolved unit) places known (functions unit) table (suc left) (codes "main", e) t 1 refl none (omega arith) (objects_placed 0 (objects unit) (all_fit unit first_file_scope typed.0)))
+
+  no_parameters : (e : Entered (resolved unit) places known (functions unit) (codes "main")) → e.function.parameters ≡ []
+  no_parameters e =
+      nil_from_length e.function.parameters
+      (same_count (final_scope unit).bindings (codes "main") (length e.function.parameters) 0 (function_takes unit first_file_scope (final_scope unit) (codes "main") e.function typed.0 refl e.is)
+        (main_takes unit first_file_scope (final_scope unit) typed.0 refl typed.1))
+
+  -- with no step left, and with one at least
+  behaves : (text input : List ℕ) (n : ℕ) (e : Entered (resolved unit) places known (functions unit) (codes "main"))
+      → (k : ℕ) × (form_behavior k (resolved unit) input n ≡ Some (source_behavior (record { text = text; externals = unit }) input n))
+  behaves text input zero e = (
+    0,
+    ap (λ o. started 0 (resolved unit) o input 0) e.entry,
+  )
+  behaves text input (suc left) e =
+      let t : State = record { locals = []; globals = initial_globals unit; input = input; output = []; steps = left } in
+      let entry : Entry = record { start = e.start; parameters = e.code.parameters; variables = e.code.variables } in
+      let h = main_run input left e (no_parameters e) in
+      let first : conf e.start (replicate e.code.variables 0) [] [] t ≡ first_configuration (resolved unit) entry input left =
+          ap (λ gs. record { now = record { next = e.start; variables = replicate e.code.variables 0; operands = [] }; callers = []; globals = gs; input = input; output = []; steps = left }) (words_laid (objects unit)) in
+      (
+        h.0,
+        ap (λ o. started h.0 (resolved unit) o input (suc left)) e.entry ∙ ap (form_run h.0 (resolved unit)) (sym first) ∙ h.1
+        ∙ ap (λ r. Some (outcome_of r)) (ap (λ o. run_optional o (suc left) (calls (suc left) (functions unit) 1) [] t) (sym e.is)),
+      )
+
+pub forms_mean_their_units : FormsMeanTheirUnits
+forms_mean_their_units source input n typed within =
+    behaves source.externals typed source.text input n (table source.externals typed (codes "main") (main_named source.externals typed.1))
