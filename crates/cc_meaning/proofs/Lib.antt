@@ -17,3 +17,4 @@ pub mod Executes
 pub mod Scopes
 pub mod Called
 pub mod Units
+pub mod Looped
