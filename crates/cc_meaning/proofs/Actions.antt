@@ -1,38 +1,23 @@
 -- The instructions of assignments, of other actions and of declarations do what the source says.
-use Rattle.std.proofs.Common.{◌≡◌, ℕ, zero, suc, ◌+◌, ◌<◌, ◌≤◌, Bool, true, false, if◌then◌else◌, List, [], ◌∷◌, ◌++◌, length, map, reverse, drop, nat_lt, ◌⊎◌, inl, inr, Option, Some, None, slice_get, slice_set, unwrap_or, refl, sym, ap, ◌∙◌, subst, arith, length-append}
-use Rattle.std.proofs.lemmas.Bool.{lt-ltb}
+use Rattle.std.proofs.Common.{◌≡◌, ℕ, suc, ◌+◌, ◌<◌, Bool, true, false, if◌then◌else◌, List, [], ◌∷◌, length, nat_lt, inl, inr, Option, Some, None, slice_get, slice_set, unwrap_or, refl, sym, ap, ◌∙◌, subst, arith}
 use Rattle.std.proofs.lemmas.Bool.Decides.{leb_tells}
-use Rattle.std.proofs.lemmas.List.{length-map, length-reverse}
 use Rattle.cc_syntax.specs.declared.ast.Scalar.{Scalar}
-use Rattle.cc_syntax.specs.declared.ast.Scalar.TheVariants.{Int}
 use Rattle.cc_syntax.specs.declared.ast.BinaryOperator.{BinaryOperator}
-use Rattle.cc_syntax.specs.Tree as tree
-use Rattle.cc_syntax.specs.Tree.{Name, Expr, Target, AtVariable, AtElement, Action, Assign, Step, Evaluate, Declared}
-use Rattle.cc_typing.specs.Names.{same_name}
-use Rattle.cc_typing.specs.Operators.{working_type, binary_word, applied_operator, step_operator}
-use Rattle.cc_typing.specs.Scope as scope
-use Rattle.cc_typing.specs.Scope.{found, is_declared, in_scope}
-use Rattle.cc_typing.specs.Types.{value_type, target_type}
-use Rattle.cc_typing.specs.Rules.{broken_if, array_offences, variable_offences, void_offences, expression_offences, value_offences, optional_offences, target_offences, action_offences, optional_action_offences, declared_offences, undefined_among, called_in, called_in_optional, called_in_target, called_in_action, called_in_optional_action, called_in_declared}
-use Rattle.cc_typing.specs.declared.rule.Rule.TheVariants.{BadAssign, Redeclared}
+use Rattle.cc_typing.specs.Operators.{working_type, binary_word}
 use Rattle.cc_typing.specs.declared.form.Extent.{Extent}
 use Rattle.cc_typing.specs.declared.form.BinaryOperation.{BinaryOperation}
-use Rattle.cc_typing.specs.declared.form.Instruction.{Instruction}
 use Rattle.cc_typing.specs.declared.form.Instruction.TheVariants as instruction
-use Rattle.cc_typing.specs.Resolve.{FormTree, Environment, Places, types_in, with_local, with_locals, number_in, extent_of, operation, expression_code, store_of, store_element_of, applied, assignment_code, action_code, optional_action_code, initial_code, declared_code}
+use Rattle.cc_typing.specs.Resolve.{FormTree, Environment, number_in, extent_of, operation, store_of, store_element_of, applied}
 use Rattle.cc_meaning.specs.Outcome as outcome
 use Rattle.cc_meaning.specs.declared.outcome.Cause.TheVariants.{Index}
 use Rattle.cc_meaning.specs.Meaning as meaning
 use Rattle.cc_meaning.specs.Meaning.{State, Run, Gives, Going, Wrong, Flow, Falls, then_do, Calls, words_of, with_element, with_local_word, variable_word, stored, read_element, write_element, cause_of, given, evaluate, evaluate_or, Destination, ToVariable, ToElement, old_value, write, new_value, perform, perform_optional, declare}
-use Rattle.cc_meaning.specs.FormMeaning.{Activation, Configuration, Move, Goes, Stops, Stuck, instruction_move, binary_result, cause_of_operation, only_if, with_word, operated}
-use Rattle.cc_meaning.proofs.Offences.{nil_left, nil_right, defined_left, defined_right, variable_found}
-use Rattle.cc_meaning.proofs.Named.{name_is_itself, there}
-use Rattle.cc_meaning.proofs.Held.{words_in, names_of, length_words, reads_local, no_local, all_of, set_right, newest_last, get_past, length_slice_set, Finds}
-use Rattle.cc_meaning.proofs.Moves.{Halts, Leads, leads_refl, leads_then, conf, Meets, meets_then, meets_after, meets_same, Stands, stands_end, stands_left, stands_right, instructed, instructed_last}
-use Rattle.cc_meaning.proofs.Plain.{IsPlain, IsPlainIfAny, applied_is_plain, step_is_plain}
-use Rattle.cc_meaning.proofs.Fits.{Fits, Readable, Scoped, scoped_local, found_object, Sets, sets_local, Puts, puts_element, stored_object}
-use Rattle.cc_meaning.proofs.Expressions.{Value, CallsMeet, Part, pushes}
-use Rattle.cc_meaning.proofs.Evaluates.{expression_meets}
+use Rattle.cc_meaning.specs.FormMeaning.{Activation, Configuration, Move, Goes, Stops, instruction_move, binary_result, cause_of_operation, only_if, with_word, operated}
+use Rattle.cc_meaning.proofs.Named.{there}
+use Rattle.cc_meaning.proofs.Held.{reads_local, no_local, all_of, get_past}
+use Rattle.cc_meaning.proofs.Moves.{Leads, leads_then, conf, Meets, meets_after, meets_same, instructed, instructed_last}
+use Rattle.cc_meaning.proofs.Plain.{IsPlain, IsPlainIfAny}
+use Rattle.cc_meaning.proofs.Fits.{Fits, Readable, found_object, Sets, sets_local, Puts, puts_element, stored_object}
 
 -- an action falls through, and leaves no operand
 pub record Acted (form : FormTree) (cs : List Activation) (total : ℕ) (c : Configuration) (v : Environment) (most q : ℕ) (flow : Flow) (t : State) : Type 0 where

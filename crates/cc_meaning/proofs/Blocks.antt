@@ -1,20 +1,18 @@
 -- How a statement is left, in the resolved form; scopes and lists of locals.
-use Rattle.std.proofs.Common.{◌≡◌, ℕ, zero, suc, ◌+◌, ◌-◌, ◌<◌, ◌≤◌, List, [], ◌∷◌, ◌++◌, length, map, reverse, take, drop, Option, Some, None, slice_get, refl, sym, ap, ◌∙◌, subst, arith, length-append, append_assoc, take-append-drop}
+use Rattle.std.proofs.Common.{◌≡◌, ℕ, zero, suc, ◌+◌, ◌-◌, ◌≤◌, List, [], ◌∷◌, ◌++◌, length, reverse, take, drop, Some, slice_get, refl, sym, ap, ◌∙◌, subst, arith, length-append, append_assoc, take-append-drop}
 use Rattle.std.proofs.lemmas.List.{length-map, reverse-append, map-append, drop_at}
 use Rattle.cc_syntax.specs.declared.ast.Scalar.{Scalar}
 use Rattle.cc_syntax.specs.Tree as tree
 use Rattle.cc_syntax.specs.Tree.{Declared, Start, Declares, Performs, Stmt, Stmts, end, next, Block, Perform, Return, Break, Continue, If, IfElse, While, DoWhile, For}
-use Rattle.cc_typing.specs.Scope as scope
-use Rattle.cc_typing.specs.Scope.{all_declared, scope_behind, scope_behind_start}
-use Rattle.cc_typing.specs.Limits.{declared_names, start_names, locals_of, locals}
-use Rattle.cc_typing.specs.declared.form.Instruction.{Instruction}
+use Rattle.cc_typing.specs.Scope.{all_declared, scope_behind}
+use Rattle.cc_typing.specs.Limits.{locals_of}
 use Rattle.cc_typing.specs.declared.form.Instruction.TheVariants as instruction
-use Rattle.cc_typing.specs.Resolve.{FormTree, Environment, Places, inner, with_local, with_locals, behind, behind_start}
-use Rattle.cc_meaning.specs.Meaning.{Local, State, Run, Gives, Going, Wrong, Flow, Falls, Breaks, Continues, Returns, then_do, left_scope, in_block}
+use Rattle.cc_typing.specs.Resolve.{FormTree, Environment, Places, with_local, with_locals, behind}
+use Rattle.cc_meaning.specs.Meaning.{Local, State, Run, Gives, Flow, Falls, Breaks, Continues, Returns, left_scope, in_block}
 use Rattle.cc_meaning.specs.FormMeaning.{Activation, Configuration}
 use Rattle.cc_meaning.proofs.Held.{names_of, words_in, places_from}
 use Rattle.cc_meaning.proofs.Moves.{Leads, leads_then, conf, Meets, meets_after, meets_then}
-use Rattle.cc_meaning.proofs.Fits.{Fits, Scoped, scoped_inner, scoped_local}
+use Rattle.cc_meaning.proofs.Fits.{Fits, Scoped, scoped_local}
 
 -- ---- environments
 

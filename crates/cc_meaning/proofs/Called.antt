@@ -1,29 +1,27 @@
 -- A call in the resolved form does what a call in the source does: by recursion on the number that bounds the calls.
-use Rattle.std.proofs.Common.{◌≡◌, ℕ, zero, suc, ◌+◌, ◌-◌, ◌<◌, ◌≤◌, Bool, true, false, true≢false, ◌||◌, if◌then◌else◌, List, [], ◌∷◌, ◌++◌, length, map, reverse, take, drop, replicate, nat_lt, nat_le, ◌⊎◌, inl, inr, Option, Some, None, slice_get, codes, refl, sym, ap, ◌∙◌, subst, arith, length-append, append-nil}
+use Rattle.std.proofs.Common.{◌≡◌, ℕ, zero, suc, ◌+◌, ◌<◌, ◌≤◌, Bool, true, false, if◌then◌else◌, List, [], ◌∷◌, ◌++◌, length, map, reverse, take, drop, replicate, nat_lt, Option, Some, None, slice_get, codes, refl, sym, ap, ◌∙◌, subst, arith, length-append, append-nil}
 use Rattle.std.proofs.lemmas.Bool.{le-leb}
 use Rattle.std.proofs.lemmas.List.{length-map, length-reverse, length-replicate, reverse-reverse, take_at, drop_at}
-use Rattle.cc_syntax.specs.declared.ast.Scalar.{Scalar}
-use Rattle.cc_syntax.specs.Tree.{Name, Stmts, Parameter}
+use Rattle.cc_syntax.specs.Tree.{Name, Parameter}
 use Rattle.cc_typing.specs.Names.{same_name}
-use Rattle.cc_typing.specs.Scope as scope
-use Rattle.cc_typing.specs.Scope.{Visible, has_name}
+use Rattle.cc_typing.specs.Scope.{has_name}
 use Rattle.cc_typing.specs.Rules.{Around, statements_offences, undefined_among, called_in_statements}
 use Rattle.cc_typing.specs.Limits.{locals}
 use Rattle.cc_typing.specs.declared.form.Entry.{Entry}
 use Rattle.cc_typing.specs.declared.form.Instruction.{Instruction}
 use Rattle.cc_typing.specs.declared.form.Instruction.TheVariants as instruction
-use Rattle.cc_typing.specs.Resolve.{FormTree, Environment, Places, types_in, names_before, call_of, Exits, statements_code, FunctionCode, all_code, entries_from, parameter_names}
+use Rattle.cc_typing.specs.Resolve.{FormTree, Environment, Places, names_before, call_of, statements_code, FunctionCode, parameter_names}
 use Rattle.cc_meaning.specs.Outcome as outcome
 use Rattle.cc_meaning.specs.declared.outcome.Cause.TheVariants.{Depth}
-use Rattle.cc_meaning.specs.Meaning.{Local, State, Run, Gives, Going, Wrong, Flow, Falls, Breaks, Continues, Returns, then_do, Calls, spend_of, Function, text_of, function_named, bound, result_of, run_body, run_optional, read_input, most_open, calls, execute_all}
+use Rattle.cc_meaning.specs.Meaning.{Local, State, Gives, Wrong, Flow, Falls, Breaks, Continues, Returns, Calls, spend_of, Function, text_of, function_named, bound, result_of, run_body, run_optional, read_input, most_open, calls, execute_all}
 use Rattle.cc_meaning.specs.FormMeaning.{Activation, Configuration, Move, Goes, Stops, instruction_move, call_move, stepped, entered, only_if, read_move}
 use Rattle.cc_meaning.proofs.Named.{same_name_symm, call_begins}
 use Rattle.cc_meaning.proofs.Steps.{begun, body_part}
 use Rattle.cc_meaning.proofs.Held.{names_of, words_in, newest_last, places_from}
 use Rattle.cc_meaning.proofs.Moves.{Halts, Leads, leads_refl, leads_then, conf, Meets, meets_then, meets_after, meets_same, Stands, stands_end, stands_left, stands_right, instructed, instructed_last}
 use Rattle.cc_meaning.proofs.Fits.{Fits, Scoped}
-use Rattle.cc_meaning.proofs.Expressions.{Value, CallsMeet, pushes}
-use Rattle.cc_meaning.proofs.Blocks.{over, Leaves, Brings, Done}
+use Rattle.cc_meaning.proofs.Expressions.{Value, CallsMeet}
+use Rattle.cc_meaning.proofs.Blocks.{Leaves, Done}
 use Rattle.cc_meaning.proofs.Executes.{execute_all_meets}
 
 -- ---- parameters

@@ -1,22 +1,18 @@
 -- The instructions of each expression push its value: by recursion on the tree. What a call does is handed in.
-use Rattle.std.proofs.Common.{◌≡◌, ℕ, zero, suc, ◌+◌, ◌<◌, ◌≤◌, Bool, true, false, List, [], ◌∷◌, ◌++◌, length, reverse, Option, Some, None, slice_get, refl, sym, ap, ◌∙◌, subst, arith, length-append}
-use Rattle.cc_syntax.specs.declared.ast.Scalar.{Scalar}
-use Rattle.cc_syntax.specs.Tree as tree
+use Rattle.std.proofs.Common.{◌≡◌, ℕ, ◌+◌, ◌<◌, List, [], ◌∷◌, ◌++◌, length, reverse, refl, sym, subst, arith, length-append}
 use Rattle.cc_syntax.specs.Tree.{Name, Expr, Exprs, none, more, Number, Variable, Element, Call, Parenthesised, Unary, Cast, Binary, Conditional}
 use Rattle.cc_typing.specs.Operators.{working_type, unary_word}
-use Rattle.cc_typing.specs.Scope as scope
 use Rattle.cc_typing.specs.Scope.{found}
 use Rattle.cc_typing.specs.Types.{value_type}
 use Rattle.cc_typing.specs.Rules.{array_offences, function_offences, count_of, void_offences, expression_offences, argument_offences, undefined_among, called_in, called_in_all}
 use Rattle.cc_typing.specs.declared.rule.Rule.TheVariants.{WrongKind}
-use Rattle.cc_typing.specs.declared.form.Instruction.{Instruction}
 use Rattle.cc_typing.specs.declared.form.Instruction.TheVariants as instruction
-use Rattle.cc_typing.specs.Resolve.{FormTree, Environment, Places, types_in, extent_of, operation, unary_code, load, call_of, joined, expression_code, arguments_code}
-use Rattle.cc_meaning.specs.Meaning.{State, Run, Gives, then_do, choose, Calls, variable_word, read_element, evaluate, evaluate_all}
-use Rattle.cc_meaning.specs.FormMeaning.{Activation, Configuration}
+use Rattle.cc_typing.specs.Resolve.{FormTree, Environment, Places, types_in, extent_of, unary_code, load, call_of, expression_code, arguments_code}
+use Rattle.cc_meaning.specs.Meaning.{State, Gives, then_do, Calls, variable_word, read_element, evaluate, evaluate_all}
+use Rattle.cc_meaning.specs.FormMeaning.{Activation}
 use Rattle.cc_meaning.proofs.Offences.{nil_left, nil_right, defined_left, defined_right, is_defined, variable_found, function_found}
 use Rattle.cc_meaning.proofs.Held.{newest_last}
-use Rattle.cc_meaning.proofs.Moves.{Leads, leads_refl, leads_then, conf, Meets, meets_then, meets_after, Stands, stands_left, stands_right, instructed}
+use Rattle.cc_meaning.proofs.Moves.{Leads, leads_refl, leads_then, conf, Meets, meets_then, meets_after, Stands, stands_left, stands_right}
 use Rattle.cc_meaning.proofs.Plain.{kind_of}
 use Rattle.cc_meaning.proofs.Fits.{Fits, Scoped, load_move}
 use Rattle.cc_meaning.proofs.Expressions.{Value, Values, CallsMeet, Part, value_after, pushes, element_meets, unary_leads, binary_meets, conditional_meets}

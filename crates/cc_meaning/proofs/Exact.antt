@@ -1,11 +1,9 @@
 -- An answer takes just the steps that it spends, and with more steps a run only goes on.
-use Rattle.std.proofs.Common.{◌≡◌, ℕ, zero, suc, ◌+◌, ◌-◌, ◌<◌, ◌≤◌, List, [], ◌∷◌, ◌++◌, length, Option, Some, None, slice_get, codes, refl, sym, ap, ◌∙◌, subst, arith}
-use Rattle.cc_syntax.specs.Tree.{External, Source}
-use Rattle.cc_meaning.specs.Outcome as outcome
-use Rattle.cc_meaning.specs.Outcome.{Stop, Outcome}
-use Rattle.cc_meaning.specs.Meaning.{State, Run, Gives, Going, Wrong, Function, functions, calls, run_optional, initial_globals, outcome_of, source_behavior}
-use Rattle.cc_meaning.specs.Function.{Shared, Answer, Effect, Answers, Unfinished, Failed, effect_of, state_within, name_of_function, call_function, body_of_function, IsExact, Begins, GoesOn, RunsGoOn}
-use Rattle.cc_meaning.proofs.Lasting.{at, written, Lasts, Under}
+use Rattle.std.proofs.Common.{◌≡◌, ℕ, suc, ◌+◌, ◌-◌, ◌≤◌, List, [], slice_get, codes, refl, ap, ◌∙◌, arith}
+use Rattle.cc_syntax.specs.Tree.{External}
+use Rattle.cc_meaning.specs.Meaning.{Run, Gives, Going, Wrong, functions, calls, run_optional, initial_globals, outcome_of}
+use Rattle.cc_meaning.specs.Function.{Shared, Answer, Answers, Unfinished, Failed, effect_of, state_within, name_of_function, call_function, body_of_function, IsExact, GoesOn, RunsGoOn}
+use Rattle.cc_meaning.proofs.Lasting.{written, Lasts, Under}
 use Rattle.cc_meaning.proofs.Steps.{calls_steady, run_optional_steady}
 
 exact_of : (n left : ℕ) (a : Answer) (r : Run ℕ) (go : ℕ → ℕ → Run ℕ) → Lasts Under n r go → effect_of r ≡ Answers a left

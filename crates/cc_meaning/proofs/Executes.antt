@@ -1,26 +1,26 @@
 -- The instructions of each statement do what the source says: by recursion on the tree. What a call does is handed in.
-use Rattle.std.proofs.Common.{◌≡◌, ℕ, zero, suc, ◌+◌, ◌<◌, ◌≤◌, Bool, true, false, List, [], ◌∷◌, ◌++◌, length, Option, Some, None, slice_get, refl, sym, ap, ◌∙◌, subst, arith, length-append}
+use Rattle.std.proofs.Common.{◌≡◌, ℕ, zero, suc, ◌+◌, ◌<◌, ◌≤◌, List, [], ◌∷◌, ◌++◌, length, Option, Some, None, slice_get, refl, sym, ap, ◌∙◌, subst, arith, length-append}
 use Rattle.std.proofs.lemmas.List.{length-map}
 use Rattle.cc_syntax.specs.declared.ast.Scalar.{Scalar}
 use Rattle.cc_syntax.specs.Tree as tree
 use Rattle.cc_syntax.specs.Tree.{Expr, Action, Declared, Start, Declares, Performs, Stmt, Stmts, end, next, Block, Perform, Return, Break, Continue, If, IfElse, While, DoWhile, For}
 use Rattle.cc_typing.specs.Scope.{Binding, Visible, in_scope, opened, scope_behind, scope_behind_start}
-use Rattle.cc_typing.specs.Rules.{broken, void_offences, expression_offences, value_offences, optional_offences, optional_action_offences, declared_offences, start_offences, return_offences, Around, within_loop, statement_offences, statements_offences, undefined_among, called_in, called_in_optional, called_in_optional_action, called_in_declared, called_in_start, called_in_statement, called_in_statements}
+use Rattle.cc_typing.specs.Rules.{broken, void_offences, expression_offences, value_offences, optional_offences, optional_action_offences, start_offences, return_offences, Around, within_loop, statement_offences, statements_offences, undefined_among, called_in, called_in_optional, called_in_optional_action, called_in_start, called_in_statement, called_in_statements}
 use Rattle.cc_typing.specs.declared.rule.Rule.TheVariants.{BadReturn}
-use Rattle.cc_typing.specs.Limits.{declared_names, start_names, locals_of, locals}
+use Rattle.cc_typing.specs.Limits.{start_names, locals_of, locals}
 use Rattle.cc_typing.specs.declared.form.Instruction.{Instruction}
 use Rattle.cc_typing.specs.declared.form.Instruction.TheVariants as instruction
 use Rattle.cc_typing.specs.Resolve.{FormTree, Environment, Places, types_in, inner, with_locals, behind, behind_start, expression_code, optional_action_code, Exits, further, declared_code, start_code, value_code, condition_code, turns_code, loop_code, exits_of_body, statement_code, statements_code}
 use Rattle.cc_meaning.specs.Meaning.{State, Run, Gives, Flow, Falls, Breaks, Continues, Returns, then_do, choose, Calls, behind_flow, begin_body, turns, evaluate, evaluate_or, perform_optional, declare, start, in_block, return, execute, execute_all}
 use Rattle.cc_meaning.specs.FormMeaning.{Activation, Configuration}
 use Rattle.cc_meaning.proofs.Offences.{nil_left, nil_right, defined_left, defined_right}
-use Rattle.cc_meaning.proofs.Moves.{Leads, leads_refl, leads_then, conf, Meets, meets_then, meets_after, meets_same, Stands, stands_end, stands_left, stands_right, jumps}
+use Rattle.cc_meaning.proofs.Moves.{Leads, leads_refl, leads_then, conf, Meets, meets_then, meets_after, Stands, stands_end, stands_left, stands_right, jumps}
 use Rattle.cc_meaning.proofs.Fits.{Fits, Scoped, scoped_inner}
 use Rattle.cc_meaning.proofs.Expressions.{Value, CallsMeet, Part, pushes, branches, passes}
 use Rattle.cc_meaning.proofs.Evaluates.{expression_meets}
-use Rattle.cc_meaning.proofs.Actions.{Acted, acted_after}
+use Rattle.cc_meaning.proofs.Actions.{Acted}
 use Rattle.cc_meaning.proofs.Performs.{optional_meets, declare_meets}
-use Rattle.cc_meaning.proofs.Blocks.{over, with_locals_visible, with_locals_places, with_locals_length, with_locals_over, scoped_locals, Behind, behind_is, fits_env, Reaches, Leaves, Brings, Done, done_after, reaches_after, leaves_after, reaches_leaves, block_meets}
+use Rattle.cc_meaning.proofs.Blocks.{over, with_locals_visible, with_locals_places, with_locals_length, with_locals_over, scoped_locals, behind_is, fits_env, Reaches, Leaves, Done, done_after, reaches_after, leaves_after, reaches_leaves, block_meets}
 use Rattle.cc_meaning.proofs.Loops.{Loop, turns_length, loop_stands, turns_meet, begins_meet}
 
 -- behind the first part of a `for` header

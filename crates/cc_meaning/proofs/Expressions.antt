@@ -1,6 +1,5 @@
 -- The instructions of an expression push its value. By recursion on the tree; what a call does is handed in.
-use Rattle.std.proofs.Common.{◌≡◌, ℕ, zero, suc, ◌+◌, ◌<◌, ◌≤◌, Bool, true, false, not, if◌then◌else◌, ◌==◌, ◌&&◌, ◌||◌, List, [], ◌∷◌, ◌++◌, length, reverse, nat_lt, nat_le, inl, inr, Option, Some, None, slice_get, refl, sym, ap, ◌∙◌, subst, arith, length-append, append_assoc}
-use Rattle.std.proofs.lemmas.Bool.{lt-ltb}
+use Rattle.std.proofs.Common.{◌≡◌, ℕ, zero, suc, ◌+◌, ◌<◌, ◌≤◌, true, not, if◌then◌else◌, ◌&&◌, List, [], ◌∷◌, ◌++◌, length, reverse, inl, inr, Option, Some, None, slice_get, refl, sym, ap, ◌∙◌, subst, arith, length-append}
 use Rattle.std.proofs.lemmas.Bool.Decides.{leb_tells}
 use Rattle.std.proofs.Math.Dec.{eqb-suc-zero}
 use Rattle.cc_words.specs.Words.{truth_value}
@@ -9,28 +8,21 @@ use Rattle.cc_syntax.specs.declared.ast.UnaryOperator.{UnaryOperator}
 use Rattle.cc_syntax.specs.declared.ast.UnaryOperator.TheVariants as unary
 use Rattle.cc_syntax.specs.declared.ast.BinaryOperator.{BinaryOperator}
 use Rattle.cc_syntax.specs.declared.ast.BinaryOperator.TheVariants.{LogicalAnd, LogicalOr}
-use Rattle.cc_syntax.specs.Tree as tree
-use Rattle.cc_syntax.specs.Tree.{Name, Expr, Exprs, none, more, Number, Variable, Element, Call, Parenthesised, Unary, Cast, Binary, Conditional}
-use Rattle.cc_typing.specs.Operators.{working_type, unary_word, binary_word, decided, is_true}
-use Rattle.cc_typing.specs.Scope.{Binding, found}
-use Rattle.cc_typing.specs.Types.{value_type}
-use Rattle.cc_typing.specs.Rules.{array_offences, function_offences, count_of, void_offences, expression_offences, argument_offences, undefined_among, called_in, called_in_all}
-use Rattle.cc_typing.specs.declared.rule.Rule.TheVariants.{WrongKind}
+use Rattle.cc_typing.specs.Operators.{unary_word, binary_word, decided, is_true}
 use Rattle.cc_typing.specs.declared.form.Extent.{Extent}
 use Rattle.cc_typing.specs.declared.form.BinaryOperation.{BinaryOperation}
 use Rattle.cc_typing.specs.declared.form.Instruction.{Instruction}
 use Rattle.cc_typing.specs.declared.form.Instruction.TheVariants as instruction
-use Rattle.cc_typing.specs.Resolve.{FormTree, Environment, Places, types_in, extent_of, operation, unary_code, load, call_of, joined, expression_code, arguments_code}
+use Rattle.cc_typing.specs.Resolve.{FormTree, Environment, Places, extent_of, operation, unary_code, call_of, joined}
 use Rattle.cc_meaning.specs.Outcome as outcome
 use Rattle.cc_meaning.specs.declared.outcome.Cause.TheVariants.{Index}
-use Rattle.cc_meaning.specs.Meaning.{State, Run, Gives, Going, Wrong, then_do, choose, Calls, words_of, variable_word, read_element, cause_of, given, unless_decided, evaluate, evaluate_all}
-use Rattle.cc_meaning.specs.FormMeaning.{Activation, Configuration, Move, Goes, Stops, Stuck, instruction_move, binary_result, cause_of_operation, only_if, with_word, branch}
-use Rattle.cc_meaning.proofs.Offences.{nil_left, nil_right, defined_left, defined_right, is_defined, variable_found, function_found}
+use Rattle.cc_meaning.specs.Meaning.{State, Run, Gives, Wrong, then_do, choose, Calls, words_of, read_element, cause_of, given, unless_decided}
+use Rattle.cc_meaning.specs.FormMeaning.{Activation, Configuration, Move, Goes, Stops, instruction_move, cause_of_operation, with_word}
 use Rattle.cc_meaning.proofs.Named.{there}
-use Rattle.cc_meaning.proofs.Held.{all_of, get_past, newest_last, Finds}
-use Rattle.cc_meaning.proofs.Moves.{Halts, Leads, leads_refl, leads_then, conf, Meets, meets_then, meets_after, meets_same, Stands, stands_end, stands_left, stands_right, instructed, instructed_last, may_jump, jumps}
-use Rattle.cc_meaning.proofs.Plain.{IsPlain, Kind, IsAnd, IsOr, IsOther, kind_of}
-use Rattle.cc_meaning.proofs.Fits.{Fits, Scoped, found_object, load_move}
+use Rattle.cc_meaning.proofs.Held.{all_of, get_past}
+use Rattle.cc_meaning.proofs.Moves.{Leads, leads_refl, leads_then, conf, Meets, meets_then, meets_after, meets_same, Stands, stands_end, stands_left, stands_right, instructed, instructed_last, may_jump, jumps}
+use Rattle.cc_meaning.proofs.Plain.{IsPlain, Kind, IsAnd, IsOr, IsOther}
+use Rattle.cc_meaning.proofs.Fits.{Fits, found_object}
 
 -- the form gives a word behind some instructions, over the operands that were there
 pub record Value (form : FormTree) (cs : List Activation) (total : ℕ) (c : Configuration) (v : Environment) (most : ℕ) (vs : List ℕ) (q : ℕ) (ops : List ℕ) (w : ℕ) (t : State) : Type 0 where

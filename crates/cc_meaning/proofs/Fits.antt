@@ -1,21 +1,18 @@
 -- When a configuration of the form stands for a state of the source, and how variables and elements are read and written in
 -- it.
-use Rattle.std.proofs.Common.{◌≡◌, ℕ, zero, suc, ◌+◌, ◌<◌, ◌≤◌, Bool, true, false, if◌then◌else◌, List, [], ◌∷◌, ◌++◌, length, map, reverse, nat_lt, ◌⊎◌, inl, inr, Option, Some, None, is_some, slice_get, slice_set, unwrap_or, refl, sym, ap, ◌∙◌, subst, arith}
+use Rattle.std.proofs.Common.{◌≡◌, ℕ, ◌+◌, ◌<◌, ◌≤◌, Bool, true, false, if◌then◌else◌, List, [], ◌∷◌, ◌++◌, length, reverse, nat_lt, ◌⊎◌, inl, inr, Option, Some, None, is_some, slice_get, slice_set, unwrap_or, refl, sym, ap, ◌∙◌, subst, arith}
 use Rattle.std.proofs.lemmas.Bool.{lt-ltb}
-use Rattle.std.proofs.lemmas.Bool.Decides.{leb_tells}
 use Rattle.cc_syntax.specs.declared.ast.Scalar.{Scalar}
 use Rattle.cc_typing.specs.Names.{same_name}
 use Rattle.cc_typing.specs.Scope as scope
 use Rattle.cc_typing.specs.Scope.{Binding, found, declared}
-use Rattle.cc_typing.specs.declared.form.Extent.{Extent}
-use Rattle.cc_typing.specs.declared.form.Instruction.{Instruction}
 use Rattle.cc_typing.specs.declared.form.Instruction.TheVariants as instruction
-use Rattle.cc_typing.specs.Resolve.{FormTree, Environment, Places, Placed, types_in, inner, with_local, number_in, extent_of, load}
-use Rattle.cc_meaning.specs.Meaning.{Local, Global, State, Run, Gives, Wrong, local_word, words_of, with_local_word, with_element, variable_word, stored, read_element}
-use Rattle.cc_meaning.specs.FormMeaning.{Activation, Configuration, Move, Goes, Stops, Stuck, instruction_move, with_word, only_if}
+use Rattle.cc_typing.specs.Resolve.{FormTree, Environment, Places, types_in, inner, with_local, number_in, extent_of, load}
+use Rattle.cc_meaning.specs.Meaning.{State, local_word, words_of, with_local_word, with_element, variable_word, stored}
+use Rattle.cc_meaning.specs.FormMeaning.{Activation, Goes, instruction_move, with_word}
 use Rattle.cc_meaning.proofs.Named.{there}
-use Rattle.cc_meaning.proofs.Held.{names_of, words_in, length_words, ReadsLocal, reads_local, no_local, WritesLocal, writes_local, all_of, places_from, Finds, finds, places_keep, length_slice_set, get_below}
-use Rattle.cc_meaning.proofs.Moves.{Leads, conf}
+use Rattle.cc_meaning.proofs.Held.{names_of, words_in, reads_local, no_local, writes_local, all_of, places_from, Finds, finds, places_keep, length_slice_set, get_below}
+use Rattle.cc_meaning.proofs.Moves.{conf}
 
 -- the variables are the words of the locals, the oldest first, with others behind them that no name has; the objects stand
 -- where they are placed; at most so many steps are left

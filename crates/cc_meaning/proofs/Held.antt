@@ -1,6 +1,6 @@
 -- Locals as numbered variables, and globals as one list of words.
-use Rattle.std.proofs.Common.{◌≡◌, ℕ, zero, suc, ◌+◌, ◌-◌, ◌<◌, ◌≤◌, Bool, true, false, true≢false, if◌then◌else◌, List, [], ◌∷◌, ◌++◌, length, map, reverse, take, drop, nat_lt, Option, Some, None, is_some, slice_get, slice_set, refl, sym, ap, ◌∙◌, subst, arith, append_assoc, append-nil, length-append}
-use Rattle.std.proofs.lemmas.List.{reverse-append, map-append, length-map, length-reverse, take-append-drop, length-drop, length-take-le}
+use Rattle.std.proofs.Common.{◌≡◌, ℕ, zero, suc, ◌+◌, ◌<◌, ◌≤◌, Bool, true, false, if◌then◌else◌, List, [], ◌∷◌, ◌++◌, length, map, reverse, Some, None, slice_get, slice_set, refl, sym, ap, ◌∙◌, subst, arith, append_assoc, length-append}
+use Rattle.std.proofs.lemmas.List.{reverse-append, length-map, length-reverse}
 use Rattle.cc_typing.specs.Names.{same_name}
 use Rattle.cc_typing.specs.declared.form.Extent.{Extent}
 use Rattle.cc_typing.specs.Resolve.{Placed, extent_of, number_in}

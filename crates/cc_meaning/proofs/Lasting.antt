@@ -1,8 +1,8 @@
 -- A part of a run with more steps, and with a larger bound on its recursion. Three facts of each part: it only adds to the
 -- output; an answer takes just the steps that it spends, whatever the bound; what had no step left goes on, and what went
 -- wrong goes wrong the same. Here for the ways in which parts are put together.
-use Rattle.std.proofs.Common.{◌≡◌, ℕ, zero, suc, ◌+◌, ◌<◌, ◌≤◌, List, [], ◌∷◌, ◌++◌, Bool, true, false, length, Option, Some, None, refl, sym, ap, ◌∙◌, subst, arith, append_assoc, append-nil, add_assoc}
-use Rattle.cc_meaning.specs.Meaning.{Local, State, Run, Gives, Going, Wrong, Flow, Falls, Breaks, Continues, Returns, then_do, choose, spend_of, spend, behind_flow, behind_body, begin_body, turns, unless_decided}
+use Rattle.std.proofs.Common.{◌≡◌, ℕ, zero, suc, ◌+◌, ◌<◌, ◌≤◌, List, [], ◌++◌, Option, Some, None, refl, sym, ap, ◌∙◌, subst, arith, append_assoc, append-nil}
+use Rattle.cc_meaning.specs.Meaning.{Local, State, Run, Gives, Going, Wrong, Flow, Falls, Breaks, Continues, Returns, then_do, choose, spend_of, behind_flow, behind_body, begin_body, turns, unless_decided}
 use Rattle.cc_meaning.specs.Function.{Begins}
 
 -- the same state with so many steps left

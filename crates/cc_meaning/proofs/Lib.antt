@@ -18,3 +18,4 @@ pub mod Scopes
 pub mod Called
 pub mod Units
 pub mod Looped
+pub mod Ending

@@ -1,17 +1,17 @@
 -- The instructions of a loop do what the source's turns do.
-use Rattle.std.proofs.Common.{◌≡◌, ℕ, zero, suc, ◌+◌, ◌-◌, ◌<◌, ◌≤◌, Bool, true, false, List, [], ◌∷◌, ◌++◌, length, nat_le, Option, Some, None, slice_get, refl, sym, ap, ◌∙◌, subst, arith, length-append}
+use Rattle.std.proofs.Common.{◌≡◌, ℕ, zero, suc, ◌+◌, ◌-◌, ◌<◌, ◌≤◌, List, [], ◌∷◌, ◌++◌, length, Some, slice_get, refl, ap, ◌∙◌, arith, length-append}
 use Rattle.std.proofs.lemmas.Bool.{le-leb}
 use Rattle.cc_typing.specs.declared.form.Instruction.{Instruction}
 use Rattle.cc_typing.specs.declared.form.Instruction.TheVariants as instruction
-use Rattle.cc_typing.specs.Resolve.{FormTree, Environment, Places, turns_code, loop_code}
+use Rattle.cc_typing.specs.Resolve.{FormTree, Environment, Places, turns_code}
 use Rattle.cc_meaning.specs.Outcome as outcome
-use Rattle.cc_meaning.specs.Meaning.{State, Run, Gives, Going, Wrong, Flow, Falls, Breaks, Continues, Returns, then_do, choose, spend_of, behind_body, begin_body, turns}
-use Rattle.cc_meaning.specs.FormMeaning.{Activation, Configuration, Goes, Stops, instruction_move, only_if, jump, stepped}
-use Rattle.cc_meaning.proofs.Moves.{Halts, Leads, leads_refl, leads_then, conf, Meets, meets_then, meets_after, Stands, stands_end, stands_left, stands_right, instructed, instructed_last, may_jump, jumps}
+use Rattle.cc_meaning.specs.Meaning.{State, Run, Gives, Flow, Falls, Breaks, Continues, Returns, then_do, choose, spend_of, behind_body, begin_body, turns}
+use Rattle.cc_meaning.specs.FormMeaning.{Activation, Configuration, Goes, only_if, jump, stepped}
+use Rattle.cc_meaning.proofs.Moves.{Leads, conf, Meets, meets_then, Stands, stands_left, stands_right, instructed, instructed_last, may_jump}
 use Rattle.cc_meaning.proofs.Fits.{Fits}
 use Rattle.cc_meaning.proofs.Expressions.{Value, Part}
 use Rattle.cc_meaning.proofs.Actions.{Acted}
-use Rattle.cc_meaning.proofs.Blocks.{fits_most, Reaches, Brings, Done, done_after, reaches_after}
+use Rattle.cc_meaning.proofs.Blocks.{Reaches, Done, done_after, reaches_after}
 
 -- where the parts of a loop stand: its step, its body, what follows it, its test, and the instruction that goes back
 pub record Loop (code : List Instruction) (body following test : List Instruction) (p : ℕ) : Type 0 where

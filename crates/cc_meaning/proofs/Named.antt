@@ -1,6 +1,6 @@
 -- In a typed unit the functions have names of their own, which no builtin has; so a call by a function's name is a call of
 -- that function, and each function has its meaning.
-use Rattle.std.proofs.Common.{◌≡◌, ℕ, zero, suc, ◌+◌, ◌<◌, ◌≤◌, Bool, true, false, ◌||◌, if◌then◌else◌, List, [], ◌∷◌, ◌++◌, length, map, nat_lt, Option, Some, None, slice_get, unwrap_or, option_map, codes, refl, sym, ap, ◌∙◌, subst, arith}
+use Rattle.std.proofs.Common.{◌≡◌, ℕ, zero, suc, ◌+◌, ◌<◌, true, false, ◌||◌, if◌then◌else◌, List, [], ◌∷◌, ◌++◌, length, nat_lt, Option, Some, None, slice_get, unwrap_or, option_map, codes, refl, sym, ap, ◌∙◌, subst, arith}
 use Rattle.std.proofs.lemmas.Bool.{lt-ltb}
 use Rattle.std.proofs.lemmas.Option.{slice_get-map}
 use Rattle.std.proofs.lemmas.Cmp.{nat_list_eq_equiv}
@@ -12,8 +12,7 @@ use Rattle.cc_typing.specs.Rules.{broken_if, signature_offences, statements_offe
 use Rattle.cc_typing.specs.declared.rule.Rule.TheVariants.{Redeclared}
 use Rattle.cc_typing.specs.Typed.{IsTyped}
 use Rattle.cc_meaning.specs.Meaning.{State, Function, functions_from, functions, function_named, calls, run_optional, most_open}
-use Rattle.cc_meaning.specs.Function.{Shared, effect_of, state_within, name_of_function, call_function, body_of_function, Unfinished, Failed, HasMeaning, TypedUnitsHaveMeaning}
-use Rattle.cc_meaning.specs.declared.outcome.Cause.TheVariants.{Depth}
+use Rattle.cc_meaning.specs.Function.{Shared, effect_of, state_within, name_of_function, call_function, body_of_function, TypedUnitsHaveMeaning}
 use Rattle.cc_meaning.proofs.Offences.{nil_left, nil_right, not_broken, or_left, or_right}
 use Rattle.cc_meaning.proofs.Steps.{begun, body_part}
 use Rattle.cc_meaning.proofs.Exact.{exact_call, exact_body}

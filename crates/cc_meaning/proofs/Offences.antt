@@ -1,5 +1,5 @@
 -- What it says that a list of offences is empty.
-use Rattle.std.proofs.Common.{◌≡◌, ℕ, Bool, true, false, not, ◌||◌, ◌==◌, List, [], ◌∷◌, ◌++◌, length, Option, Some, None, refl, sym, ap, ◌∙◌}
+use Rattle.std.proofs.Common.{◌≡◌, ℕ, Bool, true, false, not, ◌||◌, ◌==◌, List, [], ◌∷◌, ◌++◌, length, Option, Some, None, refl, ap, ◌∙◌}
 use Rattle.std.proofs.lemmas.Bool.{eqb-true}
 use Rattle.cc_syntax.specs.declared.ast.Scalar.{Scalar}
 use Rattle.cc_syntax.specs.Tree.{Name}
@@ -7,7 +7,7 @@ use Rattle.cc_typing.specs.Scope.{Entity, Variable, Elements, Function, has_name
 use Rattle.cc_typing.specs.declared.rule.Offence.{Offence}
 use Rattle.cc_typing.specs.declared.rule.Rule.{Rule}
 use Rattle.cc_typing.specs.declared.rule.Rule.TheVariants.{Unknown, WrongKind, WrongCount, Undefined}
-use Rattle.cc_typing.specs.Rules.{broken, broken_if, variable_offences, function_offences, undefined_among}
+use Rattle.cc_typing.specs.Rules.{broken_if, variable_offences, function_offences, undefined_among}
 
 pub nil_left : {A : Type 0} (xs ys : List A) → xs ++ ys ≡ [] → xs ≡ []
 nil_left [] ys e = refl

@@ -1,34 +1,31 @@
 -- The instructions of each action and declaration do what the source says. What a call does is handed in.
-use Rattle.std.proofs.Common.{◌≡◌, ℕ, zero, suc, ◌+◌, ◌<◌, ◌≤◌, Bool, true, false, if◌then◌else◌, List, [], ◌∷◌, ◌++◌, length, map, reverse, drop, nat_lt, inl, inr, Option, Some, None, is_some, slice_get, slice_set, refl, sym, ap, ◌∙◌, subst, arith, length-append}
+use Rattle.std.proofs.Common.{◌≡◌, ℕ, ◌+◌, ◌<◌, ◌≤◌, if◌then◌else◌, List, [], ◌∷◌, ◌++◌, length, reverse, drop, Option, Some, None, is_some, slice_get, slice_set, refl, sym, ap, ◌∙◌, subst, arith, length-append}
 use Rattle.std.proofs.lemmas.Bool.{lt-ltb}
 use Rattle.std.proofs.lemmas.List.{length-map, length-reverse}
 use Rattle.cc_syntax.specs.declared.ast.Scalar.{Scalar}
 use Rattle.cc_syntax.specs.declared.ast.Scalar.TheVariants.{Int}
 use Rattle.cc_syntax.specs.declared.ast.BinaryOperator.{BinaryOperator}
-use Rattle.cc_syntax.specs.Tree as tree
-use Rattle.cc_syntax.specs.Tree.{Name, Expr, Target, AtVariable, AtElement, Action, Assign, Step, Evaluate, Declared}
-use Rattle.cc_typing.specs.Names.{same_name}
-use Rattle.cc_typing.specs.Operators.{working_type, applied_operator, step_operator}
-use Rattle.cc_typing.specs.Scope as scope
-use Rattle.cc_typing.specs.Scope.{found, is_declared, in_scope}
+use Rattle.cc_syntax.specs.Tree.{Expr, Target, AtVariable, AtElement, Action, Assign, Step, Evaluate, Declared}
+use Rattle.cc_typing.specs.Operators.{applied_operator, step_operator}
+use Rattle.cc_typing.specs.Scope.{found, is_declared}
 use Rattle.cc_typing.specs.Types.{value_type, target_type}
-use Rattle.cc_typing.specs.Rules.{broken_if, array_offences, variable_offences, void_offences, expression_offences, value_offences, optional_offences, target_offences, action_offences, optional_action_offences, declared_offences, undefined_among, called_in, called_in_optional, called_in_target, called_in_action, called_in_optional_action, called_in_declared}
+use Rattle.cc_typing.specs.Rules.{broken_if, array_offences, void_offences, expression_offences, value_offences, optional_offences, target_offences, action_offences, optional_action_offences, declared_offences, undefined_among, called_in, called_in_optional, called_in_target, called_in_action, called_in_optional_action, called_in_declared}
 use Rattle.cc_typing.specs.declared.rule.Rule.TheVariants.{BadAssign, Redeclared}
 use Rattle.cc_typing.specs.declared.form.Instruction.{Instruction}
 use Rattle.cc_typing.specs.declared.form.Instruction.TheVariants as instruction
 use Rattle.cc_typing.specs.Resolve.{FormTree, Environment, Places, types_in, with_local, with_locals, number_in, extent_of, expression_code, store_of, store_element_of, applied, assignment_code, action_code, optional_action_code, initial_code, declared_code}
 use Rattle.cc_meaning.specs.Meaning as meaning
 use Rattle.cc_meaning.specs.Meaning.{State, Run, Gives, Flow, Falls, then_do, Calls, with_local_word, with_element, stored, evaluate, evaluate_or, Destination, ToVariable, ToElement, write, new_value, perform, perform_optional, declare}
-use Rattle.cc_meaning.specs.FormMeaning.{Activation, Configuration, Goes, instruction_move, only_if}
+use Rattle.cc_meaning.specs.FormMeaning.{Activation, Configuration, Goes, only_if}
 use Rattle.cc_meaning.proofs.Offences.{nil_left, nil_right, defined_left, defined_right, variable_found}
 use Rattle.cc_meaning.proofs.Named.{name_is_itself}
-use Rattle.cc_meaning.proofs.Held.{words_in, names_of, set_right, newest_last, length_slice_set}
+use Rattle.cc_meaning.proofs.Held.{words_in, set_right, newest_last, length_slice_set}
 use Rattle.cc_meaning.proofs.Moves.{Leads, leads_refl, leads_then, conf, Meets, meets_then, meets_after, meets_same, Stands, stands_left, stands_right, instructed}
 use Rattle.cc_meaning.proofs.Plain.{IsPlainIfAny, applied_is_plain, step_is_plain}
 use Rattle.cc_meaning.proofs.Fits.{Fits, Readable, Scoped, scoped_local}
 use Rattle.cc_meaning.proofs.Expressions.{Value, CallsMeet, Part, pushes}
 use Rattle.cc_meaning.proofs.Evaluates.{expression_meets}
-use Rattle.cc_meaning.proofs.Actions.{Acted, acted_after, Stores, stores_local, store_meets, element_store_meets}
+use Rattle.cc_meaning.proofs.Actions.{Acted, acted_after, stores_local, store_meets, element_store_meets}
 
 -- a new variable, which is 0, takes the first word that no name had
 cleared_words : (ws junk : List ℕ) → 0 < length junk → slice_set (reverse ws ++ junk) (length ws) 0 ≡ reverse (0 ∷ ws) ++ drop 1 junk

@@ -1,5 +1,5 @@
 -- Operators and the operations that stand for them.
-use Rattle.std.proofs.Common.{◌≡◌, ℕ, Bool, List, [], ◌∷◌, ◌++◌, Option, Some, None, refl}
+use Rattle.std.proofs.Common.{◌≡◌, ℕ, List, [], ◌∷◌, ◌++◌, Option, Some, None, refl}
 use Rattle.cc_syntax.specs.declared.ast.Scalar.{Scalar}
 use Rattle.cc_syntax.specs.declared.ast.Scalar.TheVariants.{Int, Unsigned}
 use Rattle.cc_syntax.specs.declared.ast.BinaryOperator.{BinaryOperator}

@@ -1,17 +1,16 @@
 -- File scope in a typed unit: what a name stands for stays, a function's name stands for as many parameters as it has, and a
 -- variable's for an object of one word.
-use Rattle.std.proofs.Common.{◌≡◌, ℕ, zero, suc, ◌+◌, ◌-◌, ◌<◌, ◌≤◌, Bool, true, false, true≢false, not, ◌||◌, ◌&&◌, ◌==◌, if◌then◌else◌, List, [], ◌∷◌, ◌++◌, length, map, replicate, nat_lt, ◌⊎◌, inl, inr, Option, Some, None, is_some, option_map, unwrap_or, refl, sym, ap, ◌∙◌, subst, arith, length-append, append_assoc, append-nil}
+use Rattle.std.proofs.Common.{◌≡◌, ℕ, suc, ◌+◌, ◌-◌, Bool, true, false, true≢false, not, ◌||◌, ◌&&◌, ◌==◌, if◌then◌else◌, List, [], ◌∷◌, ◌++◌, length, map, replicate, nat_lt, inl, inr, Option, Some, None, is_some, option_map, unwrap_or, refl, sym, ap, ◌∙◌, subst, arith, length-append, append_assoc, append-nil}
 use Rattle.std.proofs.lemmas.List.{length-map, length-replicate}
 use Rattle.std.proofs.lemmas.Bool.Decides.{leb_tells}
 use Rattle.std.proofs.lemmas.Cmp.{nat_list_eq_equiv}
 use Rattle.cc_syntax.specs.declared.ast.Scalar.{Scalar}
-use Rattle.cc_syntax.specs.declared.ast.Scalar.TheVariants.{Int, Unsigned}
-use Rattle.cc_syntax.specs.Tree.{Name, ConstantExpr, Parameter, Signature, Object, Single, Array, External, Declaration, Definition, Objects}
+use Rattle.cc_syntax.specs.Tree.{ConstantExpr, Parameter, Signature, Object, Single, Array, External, Declaration, Definition, Objects}
 use Rattle.cc_typing.specs.Names.{same_name}
-use Rattle.cc_typing.specs.Scope.{Entity, Variable, Elements, Function, Binding, found, is_declared, FileScope, with_declared, function_entity, with_function, with_object, with_objects, file_scope_behind, file_scope_behind_all, same_scalar, same_scalars, same_result, same_entity}
+use Rattle.cc_typing.specs.Scope.{Entity, Variable, Elements, Function, Binding, found, is_declared, FileScope, with_declared, function_entity, with_function, with_object, with_objects, file_scope_behind, file_scope_behind_all, same_scalar, same_scalars, same_result}
 use Rattle.cc_typing.specs.Types.{constant_word, elements_of_word, array_length, object_words, initial_word, initial_words}
 use Rattle.cc_typing.specs.Types as types
-use Rattle.cc_typing.specs.Rules.{broken_if, differs, signature_offences, parameters_offences, constant_offences, optional_constant_offences, constants_offences, length_offences, object_offences, objects_offences, value_offences, external_offences, externals_offences}
+use Rattle.cc_typing.specs.Rules.{broken_if, differs, signature_offences, parameters_offences, optional_constant_offences, constants_offences, length_offences, object_offences, objects_offences, value_offences, external_offences, externals_offences}
 use Rattle.cc_typing.specs.declared.rule.Rule.TheVariants.{Redeclared, WrongKind, WrongCount}
 use Rattle.cc_typing.specs.Limits.{objects, object_name}
 use Rattle.cc_typing.specs.declared.form.Extent.{Extent}

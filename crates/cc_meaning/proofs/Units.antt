@@ -1,28 +1,27 @@
 -- The resolved form of a typed unit means the unit.
-use Rattle.std.proofs.Common.{◌≡◌, ℕ, zero, suc, ◌+◌, ◌<◌, ◌≤◌, Bool, true, false, true≢false, ◌||◌, ◌&&◌, ◌==◌, if◌then◌else◌, List, [], ◌∷◌, ◌++◌, length, map, replicate, nat_lt, inl, inr, Option, Some, None, slice_get, codes, refl, sym, ap, ◌∙◌, subst, arith, length-append, append_assoc}
+use Rattle.std.proofs.Common.{◌≡◌, ℕ, zero, suc, ◌+◌, Bool, true, false, true≢false, ◌||◌, ◌&&◌, ◌==◌, if◌then◌else◌, List, [], ◌∷◌, ◌++◌, length, map, replicate, inl, inr, Option, Some, None, slice_get, codes, refl, sym, ap, ◌∙◌, subst, arith, length-append, append_assoc}
 use Rattle.std.proofs.lemmas.List.{length-map, nil_from_length}
 use Rattle.std.proofs.lemmas.Bool.{eqb-true}
 use Rattle.cc_syntax.specs.declared.ast.Scalar.{Scalar}
 use Rattle.cc_syntax.specs.declared.ast.Scalar.TheVariants.{Int}
-use Rattle.cc_syntax.specs.Tree.{Name, Stmts, Parameter, Signature, Object, External, Declaration, Definition, Objects, Source}
+use Rattle.cc_syntax.specs.Tree.{Name, Stmts, Parameter, Signature, Object, External, Declaration, Definition, Objects}
 use Rattle.cc_typing.specs.Names.{same_name}
 use Rattle.cc_typing.specs.Scope as scope
 use Rattle.cc_typing.specs.Scope.{Binding, Visible, found, FileScope, has_name, first_file_scope, with_function, with_objects, file_scope_behind, file_scope_behind_all, parameter_declared, parameters_declared, body_scope, same_result}
 use Rattle.cc_typing.specs.Types.{object_words, initial_words}
-use Rattle.cc_typing.specs.Rules.{broken_if, signature_offences, statements_offences, external_offences, externals_offences, is_main, defines_main, undefined_among, called_in_statements, called_in_external, called}
+use Rattle.cc_typing.specs.Rules.{broken_if, signature_offences, statements_offences, external_offences, externals_offences, is_main, defines_main, undefined_among, called_in_statements, called}
 use Rattle.cc_typing.specs.declared.rule.Rule.TheVariants.{Redeclared}
-use Rattle.cc_typing.specs.Limits.{objects, object_name, function_names, locals}
+use Rattle.cc_typing.specs.Limits.{objects, object_name, function_names}
 use Rattle.cc_typing.specs.Typed.{IsTyped}
 use Rattle.cc_typing.specs.declared.form.Entry.{Entry}
-use Rattle.cc_typing.specs.declared.form.Extent.{Extent}
 use Rattle.cc_typing.specs.declared.form.Instruction.{Instruction}
-use Rattle.cc_typing.specs.Resolve.{FormTree, Environment, Places, Placed, types_in, placed_from, extent_of, number_in, names_before, parameter_names, environment_of, FunctionCode, function_code, functions_code, places_of, unit_functions, all_code, entries_from, all_words, resolved}
+use Rattle.cc_typing.specs.Resolve.{Places, Placed, placed_from, number_in, names_before, parameter_names, environment_of, FunctionCode, functions_code, places_of, unit_functions, all_code, entries_from, all_words, resolved}
 use Rattle.cc_meaning.specs.Outcome as outcome
 use Rattle.cc_meaning.specs.Outcome.{Outcome}
-use Rattle.cc_meaning.specs.Meaning.{Global, State, Run, Gives, Going, Wrong, Function, text_of, functions_from, functions, function_named, run_body, run_optional, most_open, calls, initial_globals, outcome_of, source_behavior}
-use Rattle.cc_meaning.specs.FormMeaning.{Configuration, form_run, stepped_start, first_configuration, started, form_behavior, FormsMeanTheirUnits}
-use Rattle.cc_meaning.proofs.Offences.{nil_left, nil_right, or_left, or_right, defined_left, defined_right}
-use Rattle.cc_meaning.proofs.Named.{same_name_symm, name_is_itself, objects_keep, call_begins}
+use Rattle.cc_meaning.specs.Meaning.{State, Run, Gives, Going, Wrong, Function, text_of, functions_from, functions, function_named, run_body, run_optional, calls, initial_globals, outcome_of, source_behavior}
+use Rattle.cc_meaning.specs.FormMeaning.{Configuration, form_run, first_configuration, started, form_behavior, FormsMeanTheirUnits}
+use Rattle.cc_meaning.proofs.Offences.{nil_left, nil_right, defined_left, defined_right}
+use Rattle.cc_meaning.proofs.Named.{same_name_symm, objects_keep}
 use Rattle.cc_meaning.proofs.Held.{all_of, places_from, get_right}
 use Rattle.cc_meaning.proofs.Moves.{Halts, conf, Meets, Stands}
 use Rattle.cc_meaning.proofs.Fits.{Readable, Scoped, scoped_local}
