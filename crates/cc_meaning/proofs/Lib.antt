@@ -19,3 +19,4 @@ pub mod Called
 pub mod Units
 pub mod Looped
 pub mod Ending
+pub mod Laying
