@@ -20,3 +20,4 @@ pub mod Units
 pub mod Looped
 pub mod Ending
 pub mod Laying
+pub mod Showing

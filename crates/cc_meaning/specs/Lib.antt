@@ -4,5 +4,6 @@ pub mod Function
 pub mod Rows
 pub mod FormMeaning
 pub mod Laid
+pub mod Shows
 pub mod FormRows
 pub mod Shown
