@@ -9,7 +9,7 @@ use Rattle.cc_typing.specs.Names.{same_name}
 use Rattle.cc_typing.specs.Scope as scope
 use Rattle.cc_typing.specs.Scope.{Binding, Visible, found, FileScope, has_name, first_file_scope, with_function, with_objects, file_scope_behind, file_scope_behind_all, parameter_declared, parameters_declared, body_scope, same_result}
 use Rattle.cc_typing.specs.Types.{object_words, initial_words}
-use Rattle.cc_typing.specs.Rules.{broken_if, signature_offences, statements_offences, external_offences, externals_offences, is_main, defines_main, undefined_among, called_in_statements, called}
+use Rattle.cc_typing.specs.Rules.{broken_if, signature_offences, statements_offences, external_offences, externals_offences, is_main, defines_main, undefined_among, called_in_statements, called_in_external, called}
 use Rattle.cc_typing.specs.declared.rule.Rule.TheVariants.{Redeclared}
 use Rattle.cc_typing.specs.Limits.{objects, object_name, function_names}
 use Rattle.cc_typing.specs.Typed.{IsTyped}
@@ -292,7 +292,7 @@ module _ (unit : List External) (typed : IsTyped unit) where
         matched rest f' (nil_right (external_offences (Definition s body) f) (externals_offences rest f') o) (defined_right known (called_in_statements body) (called rest) d) whole,
       )
   matched (Objects t os ∷ rest) f o d whole =
-      matched rest (with_objects t os f) (nil_right (external_offences (Objects t os) f) (externals_offences rest (with_objects t os f)) o) d whole
+      matched rest (with_objects t os f) (nil_right (external_offences (Objects t os) f) (externals_offences rest (with_objects t os f)) o) (defined_right known (called_in_external (Objects t os)) (called rest) d) whole
 
   -- a name among them: its function, its number, and where its instructions stand
   record Listed (gs : List Function) (cs : List FunctionCode) (xs : List (List ℕ)) (code : List Instruction) (at : ℕ) (x : List ℕ) : Type 0 where
