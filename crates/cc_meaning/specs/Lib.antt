@@ -3,5 +3,7 @@ pub mod Meaning
 pub mod Function
 pub mod Rows
 pub mod FormMeaning
+pub mod Laid
+pub mod Shows
 pub mod FormRows
 pub mod Shown

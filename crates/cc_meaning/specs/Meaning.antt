@@ -4,16 +4,15 @@
 --
 -- Steps are spent by the start of `main`, by each call of a defined function, and each time that the body of a loop
 -- begins. A number n, which is greater than the steps left, makes each recursion end and decides nothing.
-use Rattle.std.specs.Prelude.{ℕ, zero, suc, ◌+◌, ◌-◌, Bool, true, false, List, [], ◌∷◌, ◌++◌, length, drop, map, nat_lt, if◌then◌else◌, Option, Some, None, is_some, unwrap_or, slice_get, slice_set, codes}
+use Rattle.std.specs.Prelude.{ℕ, zero, suc, ◌+◌, ◌-◌, true, false, List, [], ◌∷◌, ◌++◌, length, drop, map, nat_lt, if◌then◌else◌, Option, Some, None, is_some, unwrap_or, slice_get, slice_set, codes}
 use Rattle.cc_syntax.specs.declared.ast.Scalar.{Scalar}
 use Rattle.cc_syntax.specs.declared.ast.Scalar.TheVariants.{Int}
 use Rattle.cc_syntax.specs.declared.ast.BinaryOperator.{BinaryOperator}
 use Rattle.cc_syntax.specs.declared.ast.BinaryOperator.TheVariants.{ShiftLeft, ShiftRight}
-use Rattle.cc_syntax.specs.declared.ast.AssignmentOperator.{AssignmentOperator}
 use Rattle.cc_syntax.specs.Tree as tree
 use Rattle.cc_syntax.specs.Tree.{Name, Expr, Exprs, none, more, Number, Variable, Element, Call, Parenthesised, Unary, Cast, Binary, Conditional, Target, AtVariable, AtElement, Action, Assign, Step, Evaluate, Declared, Start, Declares, Performs, Stmt, Stmts, end, next, Block, Perform, Return, Break, Continue, If, IfElse, While, DoWhile, For, Parameter, Object, External, Source}
 use Rattle.cc_typing.specs.Names.{same_name}
-use Rattle.cc_typing.specs.Operators.{working_type, unary_word, binary_word, decided, is_true, applied_operator, step_operator}
+use Rattle.cc_typing.specs.Operators.{working_type, unary_word, binary_word, decided, applied_operator, step_operator}
 use Rattle.cc_typing.specs.Scope as scope
 use Rattle.cc_typing.specs.Scope.{Binding, Visible, in_scope, opened, declared, scope_behind, scope_behind_start, body_scope, FileScope, first_file_scope, file_scope_behind}
 use Rattle.cc_typing.specs.Types.{value_type, target_type, initial_words}
