@@ -9,7 +9,7 @@ use Rattle.std.specs.FinMap.{get, insert, from_entries, nat_cmp-IsAntisymmetric}
 use Rattle.cc_core.specs.declared.job.Job.{Job}
 use Rattle.cc_core.specs.declared.job.Progress.{Progress}
 use Rattle.cc_core.specs.Job.{with_piece}
-use Rattle.cc_core.proofs.Tables.{get-map, insert-map}
+use Rattle.cc_library.proofs.Tables.{get-map, insert-map}
 
 module _ {P : Type 0} where
   pub set_piece-map : (m n : BTreeMap ℕ (Job P)) (client part : ℕ) (progress : Progress P) (found job : Job P) (pieces : List (Progress P))

@@ -1,5 +1,4 @@
 pub mod Walks
-pub mod Tables
 pub mod Jobs
 pub mod Lists
 pub mod Whole

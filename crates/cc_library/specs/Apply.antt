@@ -52,21 +52,3 @@ refusal (Err number) = Some number
 abbrev pub AreAccepted : Units → List Command → Type 0
 AreAccepted units [] = Unit {0}
 AreAccepted units (command ∷ commands) = IsOk (apply units command) × AreAccepted (after units command) commands
-
--- the map with the room that a command needs already taken: Add has set its name
-abbrev pub begun : Units → Command → Units
-begun units (Add name unit) = insert units name unit
-begun units (Replace name unit) = units
-begun units (Withdraw name) = units
-
--- the command done, where it had begun
-abbrev pub finished : Units → Command → Units
-finished units (Add name unit) = units
-finished units (Replace name unit) = if contains_key units name then insert units name unit else units
-finished units (Withdraw name) = remove units name
-
--- the command undone, where it had begun
-abbrev pub undone : Units → Command → Units
-undone units (Add name unit) = remove units name
-undone units (Replace name unit) = units
-undone units (Withdraw name) = units

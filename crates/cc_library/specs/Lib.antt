@@ -6,3 +6,4 @@ pub mod Reading
 pub mod Recovered
 pub mod Answers
 pub mod Runs
+pub mod Halves

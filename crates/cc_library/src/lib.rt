@@ -2,8 +2,8 @@
 //!
 //! `name` is a name, `unit` and `units` are what is kept, `command` what changes it, `body` and `reading` a command as
 //! the body of a record, `replaying` what records stand for, `library` the library and its calls.
-//! It hands out `Library`, `Name`, `UnitMap`, `Command`, `Edit`, `Kind`, `SharedUnit`, `command_body`, `read_command`, `replay`
-//! and the faults.
+//! It hands out `Library`, `Name`, `UnitMap`, `Command`, `Edit`, `Kind`, `SharedUnit`, `command_body`,
+//! `body_of_command`, `read_command`, `replay` and the faults.
 #![tactic(auto)]
 
 mod body;

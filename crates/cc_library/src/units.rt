@@ -5,7 +5,8 @@ ghost use Rattle.std.specs.Arc.{arc_value};
 ghost use Rattle.std.specs.Ordering.{nat_cmp};
 ghost use Rattle.std.specs.Cmp.Lexicographic.{slice_cmp};
 ghost use Rattle.std.specs.FinMap as map;
-ghost use Rattle.cc_library.specs.Apply.{apply, after, refusal, begun, finished, undone};
+ghost use Rattle.cc_library.specs.Apply.{apply, after, refusal};
+ghost use Rattle.cc_library.specs.Halves.{begun, finished, undone};
 
 use crate::command::Command;
 use crate::name::Name;
@@ -106,9 +107,9 @@ impl UnitMap {
         }
     }
 
-    /// Takes the room that an accepted command needs, so that it can be finished or undone without memory. Without
-    /// memory the map stays as it was.
-    pub fn begin(&mut self, command: &Command) -> Result<(), AllocError>
+    // Takes the room that an accepted command needs, so that it can be finished or undone without memory. Without
+    // memory the map stays as it was.
+    pub(crate) fn begin(&mut self, command: &Command) -> Result<(), AllocError>
         ensures ok { OnOk result (self.new ≡ begun self.old command.now) }
         ensures err { OnErr result (self.new ≡ self.old) }
     {
@@ -118,8 +119,8 @@ impl UnitMap {
         }
     }
 
-    /// Does the rest of a command that has begun. It takes no memory.
-    pub fn finish(&mut self, command: Command)
+    // Does the rest of a command that has begun. It takes no memory.
+    pub(crate) fn finish(&mut self, command: Command)
         ensures { self.new ≡ finished self.old command }
     {
         match command {
@@ -133,8 +134,8 @@ impl UnitMap {
         }
     }
 
-    /// Takes back what a command has begun. It takes no memory.
-    pub fn undo(&mut self, command: Command)
+    // Takes back what a command has begun. It takes no memory.
+    pub(crate) fn undo(&mut self, command: Command)
         ensures { self.new ≡ undone self.old command }
     {
         match command {
@@ -144,7 +145,7 @@ impl UnitMap {
     }
 
     // Sets the unit of a name. Without memory the map stays as it was; a present name takes none.
-    pub fn put(&mut self, name: Name, unit: SharedUnit) -> Result<(), AllocError>
+    pub(crate) fn put(&mut self, name: Name, unit: SharedUnit) -> Result<(), AllocError>
         ensures ok { OnOk result (self.new ≡ map.insert self.old name unit) }
         ensures err { OnErr result (self.new ≡ self.old) }
         ensures replaces { IsTrue (map.contains_key self.old name) → IsOk result }
@@ -154,7 +155,7 @@ impl UnitMap {
     }
 
     // Takes a name out, where it is there.
-    pub fn remove(&mut self, name: &Name)
+    pub(crate) fn remove(&mut self, name: &Name)
         ensures { self.new ≡ map.remove self.old name.now }
     {
         let _ = self.units.remove(name);

@@ -4,7 +4,7 @@ use Rattle.std.specs.Ordering.{nat_cmp}
 use Rattle.std.specs.Cmp.{nat_cmp_total}
 use Rattle.std.specs.FinMap as table
 use Rattle.cc_core.specs.Job.{with_piece}
-use Rattle.cc_core.proofs.Tables.{get-map}
+use Rattle.cc_library.proofs.Tables.{get-map}
 use Rattle.cc_core.proofs.Jobs.{set_piece-map}
 use Rattle.cc_core.proofs.job.set_progress.Goals as goal
 use Rattle.cc_core.proofs.job.set_progress.Goals.{in-Some, in_default+in-Made-1, in_default+in-Waiting-1}

@@ -2,7 +2,7 @@
 use Rattle.std.proofs.Common.{sym, ap, ◌∙◌}
 use Rattle.std.specs.Cmp.{nat_cmp_total}
 use Rattle.std.specs.FinMap as map
-use Rattle.cc_core.proofs.Tables.{get-map}
+use Rattle.cc_library.proofs.Tables.{get-map}
 use Rattle.cc_core.proofs.table.Table.get.Goals as goal
 
 pub returns : goal.returns

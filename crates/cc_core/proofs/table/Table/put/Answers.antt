@@ -2,7 +2,7 @@
 use Rattle.std.proofs.Common.{ap, ◌∙◌}
 use Rattle.std.specs.Cmp.{nat_cmp_total}
 use Rattle.std.specs.FinMap as map
-use Rattle.cc_core.proofs.Tables.{insert-map}
+use Rattle.cc_library.proofs.Tables.{insert-map}
 use Rattle.cc_core.proofs.table.Table.put.Goals as goal
 
 pub returns-clause-ok : goal.returns-clause-ok

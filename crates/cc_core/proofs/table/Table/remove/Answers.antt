@@ -2,7 +2,7 @@
 use Rattle.std.proofs.Common.{ap, ◌∙◌}
 use Rattle.std.specs.Cmp.{nat_cmp_total}
 use Rattle.std.specs.FinMap as map
-use Rattle.cc_core.proofs.Tables.{remove-map}
+use Rattle.cc_library.proofs.Tables.{remove-map}
 use Rattle.cc_core.proofs.table.Table.remove.Goals as goal
 
 pub returns : goal.returns
