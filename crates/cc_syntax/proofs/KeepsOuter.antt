@@ -1,6 +1,6 @@
 -- Reading a token keeps what the tokens before the state spell: at file scope, outside of full expressions.
-use Rattle.std.proofs.Common.{◌≡◌, Bool, true, false, List, [], ◌∷◌, ◌++◌, map, Option, Some, None, is_some, ◌&&◌, refl, sym, ap, subst, ◌∙◌, append_assoc, inl, inr}
-use Rattle.std.proofs.lemmas.Bool.{false≢true}
+use Rattle.std.proofs.Common.{◌≡◌, Bool, true, false, List, [], ◌∷◌, ◌++◌, map, Option, Some, None, is_some, refl, sym, ap, subst, ◌∙◌, append_assoc, inl, inr}
+use Rattle.std.proofs.lemmas.Bool.{false≢true, and_parts}
 use Rattle.std.proofs.lemmas.List.{append-nil}
 use Rattle.cc_syntax.specs.declared.ast.Scalar.{Scalar}
 use Rattle.cc_syntax.specs.declared.ast.Scalar.TheVariants as scalar
@@ -214,19 +214,13 @@ kept-parameter-sign r t f es before mine ts x h k o e = kept-parameter-typed r t
 
 named-parameters : (ps : List Parameter) → all_named ps ≡ true → AreNamed ps
 named-parameters [] h = tt
-named-parameters (p ∷ ps) h = (named p.name (both-left (is_some p.name) (all_named ps) h), named-parameters ps (both-right (is_some p.name) (all_named ps) h))
+named-parameters (p ∷ ps) h =
+    let both = and_parts (is_some p.name) (all_named ps) h in
+    (named p.name both.0, named-parameters ps both.1)
   where
     named : (n : Option Name) → is_some n ≡ true → (v : Name) × (n ≡ Some v)
     named None e = absurd (false≢true e)
     named (Some v) e = (v, refl)
-
-    both-left : (a b : Bool) → (a && b) ≡ true → a ≡ true
-    both-left true b e = refl
-    both-left false b e = e
-
-    both-right : (a b : Bool) → (a && b) ≡ true → b ≡ true
-    both-right true b e = e
-    both-right false b e = absurd (false≢true e)
 
 kept-defines : (named : Bool) (f : Signature) (es : List External) (before mine ts : List Placed) (x : Lexeme) → Marks punctuator.OpenBrace x → SpellsExternals before es → OuterSoFar (Headed f) mine → ts ≡ before ++ mine → (named ≡ true → AreNamed f.parameters) → Kept (defines es f named) ts x 1
 kept-defines true f es before mine ts x h k o e n =
