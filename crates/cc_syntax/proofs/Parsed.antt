@@ -6,22 +6,12 @@ use Rattle.cc_syntax.specs.declared.fault.SyntaxFault.TheVariants as fault
 use Rattle.cc_syntax.specs.declared.unit.Unit as unit
 use Rattle.cc_syntax.specs.Token.{Lexeme}
 use Rattle.cc_syntax.specs.Tree.{External}
-use Rattle.cc_syntax.specs.Tokens.{IsRefusal, IsFlawFault}
+use Rattle.cc_syntax.specs.Tokens.{IsFlawFault}
 use Rattle.cc_syntax.specs.Limits.{SpellsWithin, UnexpectedAt, TooDeepAt}
 use Rattle.cc_syntax.specs.Parse.{SpellsText, BreaksAt, IsParseRefusal}
 use Rattle.cc_syntax.specs.Source.{source, AnswersTree, IsParse}
 use Rattle.cc_syntax.proofs.Cuts.{tokens_are_one, tokens_have_no_flaw}
 use Rattle.cc_syntax.proofs.Verdict.{trees_are_one, spelled_have_no_fault}
-
-pub no_tokens : (text : List ℕ) (e : SyntaxFault) → IsRefusal text e → IsParseRefusal text e
-no_tokens text (fault.BadByte p) h = h
-no_tokens text (fault.UnclosedComment p) h = h
-no_tokens text (fault.BadConstant p) h = h
-no_tokens text (fault.ConstantTooLarge p) h = h
-no_tokens text (fault.Unexpected p) h = absurd h
-no_tokens text (fault.TooDeep p) h = absurd h
-no_tokens text fault.SourceTooLarge h = h
-no_tokens text fault.OutOfMemory h = h
 
 no_flaw : (text : List ℕ) (e : SyntaxFault) (tree : List External) → IsFlawFault text e → SpellsText text tree → ⊥
 no_flaw text e tree h s = tokens_have_no_flaw text s.tokens h.flaw h.at s.are h.first
