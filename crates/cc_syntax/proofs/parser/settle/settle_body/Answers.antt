@@ -13,12 +13,12 @@ returns-in-Block c =
 pub loop-last-preserved-in-Else : goal.loop-last-preserved-in-Else
 loop-last-preserved-in-Else c =
     c.loop-last.invariant
-    ∙ settled-else c.args.waits (body_view c.loop-last.body) _ _ _ (statement_tree c.loop-last.statement) _ _ _ c.in-Some.ensures.items (ap open_view c.in-Else.is) c.in_ok-if_else-in-Else.ensures
+    ∙ settled-else c.args.waits (body_view c.loop-last.body) _ _ _ (statement_tree c.loop-last.statement) _ _ _ c.in-Some.ensures.items (ap open_view c.in-Else.is) c.in_ok-statement-in-Else.ensures
 
 pub loop-last-preserved : goal.loop-last-preserved
 loop-last-preserved c =
     c.loop-last.invariant
-    ∙ settled-for c.args.waits (body_view c.loop-last.body) _ _ _ (statement_tree c.loop-last.statement) _ _ _ _ c.in-Some.ensures.items (ap open_view c.in-For.is) c.in_ok-for_loop-in-For.ensures
+    ∙ settled-for c.args.waits (body_view c.loop-last.body) _ _ _ (statement_tree c.loop-last.statement) _ _ _ _ c.in-Some.ensures.items (ap open_view c.in-For.is) c.in_ok-statement-in-For.ensures
 
 pub returns : goal.returns
 returns c =
