@@ -103,8 +103,8 @@ fn step_named(
 ) -> Result<State, Stop>
     ensures { Gives state_view result (named_step (external_trees externals.items) result_type (name_tree name) role) }
 {
-    match (role, result_type) {
-        (Role::OpenParenthesis, _) => {
+    match role {
+        Role::OpenParenthesis => {
             let signature = Signature {
                 result: result_type,
                 name,
@@ -112,15 +112,17 @@ fn step_named(
             };
             Ok(State::File(externals, Outer::Parameters(signature)))
         }
-        (_, Some(scalar)) => {
-            let naming = Naming {
-                scalar,
-                objects: Vec::new(alloc),
-                name,
-            };
-            step_object(externals, naming, role)
-        }
-        (_, None) => Err(Stop::Unexpected),
+        _ => match result_type {
+            Some(scalar) => {
+                let naming = Naming {
+                    scalar,
+                    objects: Vec::new(alloc),
+                    name,
+                };
+                step_object(externals, naming, role)
+            }
+            None => Err(Stop::Unexpected),
+        },
     }
 }
 
