@@ -1,13 +1,13 @@
 -- What one turn of the parser's loops comes to.
-use Rattle.std.proofs.Common.{◌≡◌, ℕ, suc, Bool, true, false, ◌&&◌, List, [], ◌∷◌, ◌++◌, length, Option, Some, None, is_some, ap, ◌∙◌, sym, refl}
+use Rattle.std.proofs.Common.{◌≡◌, Bool, true, false, ◌&&◌, List, [], ◌∷◌, ◌++◌, Option, Some, None, is_some, ap, ◌∙◌, sym, refl}
 use Rattle.std.specs.List.{list_all}
 use Rattle.std.specs.Option.{option_map}
-use Rattle.cc_syntax.specs.Tree.{Expr, Start, Action, Stmt, Stmts, IfElse, For}
+use Rattle.cc_syntax.specs.Tree.{Expr, Start, Action, Stmt, Stmts, If, IfElse, While, For}
 use Rattle.cc_syntax.specs.Erase.{name_tree, parameter_trees}
 use Rattle.cc_syntax.specs.declared.ast.Identifier.{Identifier}
 use Rattle.cc_syntax.specs.declared.ast.Parameter.{Parameter}
 use Rattle.cc_syntax.specs.declared.parser.state.Open as open_statement
-use Rattle.cc_syntax.specs.Machine.{Open, InBlock, InElse, InFor, Inside, Stage, Item, with_last, inside_of, settled, all_named}
+use Rattle.cc_syntax.specs.Machine.{Open, InBlock, InThen, InElse, InWhile, InDo, InFor, Inside, Stage, Item, with_last, inside_of, settled, all_named}
 use Rattle.cc_syntax.specs.MachineView.{open_view, open_views}
 use Rattle.cc_syntax.proofs.Views.{open_views-push}
 
@@ -25,6 +25,17 @@ all_named-trees (p ∷ ps) =
 -- the innermost open statement, seen by view
 pub open_views-last : (xs os : List open_statement.Open) (o : open_statement.Open) (v : Open) → xs ≡ os ++ o ∷ [] → open_view o ≡ v → open_views xs ≡ v ∷ open_views os
 open_views-last xs os o v e d = ap open_views e ∙ open_views-push os o ∙ ap (λ (u : Open). u ∷ open_views os) d
+
+-- which statements the body itself keeps as open does not matter
+pub settled-inside : (w : Bool) (b : Inside) (x os : List Open) (s : Stmt) → settled w b os s ≡ settled w (inside_of b b.finished x) os s
+settled-inside w b x [] s = refl
+settled-inside w b x (InBlock ss ∷ os) s = refl
+settled-inside true b x (InThen e ∷ os) s = refl
+settled-inside false b x (InThen e ∷ os) s = settled-inside false b x os (If e s)
+settled-inside w b x (InElse e t ∷ os) s = settled-inside w b x os (IfElse e t s)
+settled-inside w b x (InWhile e ∷ os) s = settled-inside w b x os (While e s)
+settled-inside w b x (InDo ∷ os) s = refl
+settled-inside w b x (InFor a e l ∷ os) s = settled-inside w b x os (For a e l s)
 
 -- a complete statement stands in the innermost block
 pub settled-block : (w : Bool) (b : Inside) (xs os : List open_statement.Open) (o : open_statement.Open) (s : Stmt) (ss rr : Stmts) (r : Inside) → xs ≡ os ++ o ∷ [] → open_view o ≡ InBlock ss → rr ≡ with_last ss s → r ≡ inside_of b b.finished (InBlock rr ∷ open_views os) → settled w b (open_views xs) s ≡ (r, Item)

@@ -12,9 +12,7 @@ use crate::ast::{
     Action, AssignmentOperator, BinaryOperator, ConstantExpression, Declarator, Expression,
     External, Identifier, Object, Scalar, Statement, StepOperator, Target, UnaryOperator,
 };
-use crate::parser::expression::{
-    call_of, complete, precedence_of, reduce, with_argument_of,
-};
+use crate::parser::expression::{call_of, complete, precedence_of, reduce, with_argument_of};
 use crate::parser::role::Role;
 use crate::parser::settle::{end_action, end_declaration, end_test, settled_state};
 use crate::parser::state::{
@@ -187,7 +185,14 @@ fn end_body_part(
             _ => Err(Stop::Unexpected),
         },
         Purpose::Initialise(position, scalar, declarators, name) => end_initialiser(
-            alloc, body, position, scalar, declarators, name, expression, role,
+            alloc,
+            body,
+            position,
+            scalar,
+            declarators,
+            name,
+            expression,
+            role,
         ),
     }
 }
@@ -341,12 +346,7 @@ fn close_waiting(
 }
 
 /// A closing token behind an operand.
-fn step_close(
-    alloc: Global,
-    full: Full,
-    operand: Expression,
-    role: Role,
-) -> Result<State, Stop>
+fn step_close(alloc: Global, full: Full, operand: Expression, role: Role) -> Result<State, Stop>
     requires { full.count ≤ 512 }
     ensures { Gives state_view result (close (full_view full) role (reduced 1 (waiting_views full.waiting.items) (expression_tree operand))) }
 {
@@ -472,12 +472,7 @@ fn step_name(alloc: Global, full: Full, operand: Expression, role: Role) -> Resu
 }
 
 /// A token behind an operand.
-fn step_operator(
-    alloc: Global,
-    full: Full,
-    operand: Expression,
-    role: Role,
-) -> Result<State, Stop>
+fn step_operator(alloc: Global, full: Full, operand: Expression, role: Role) -> Result<State, Stop>
     requires { full.count ≤ 512 }
     ensures { Gives state_view result (operator_step (full_view full) (expression_tree operand) role) }
 {

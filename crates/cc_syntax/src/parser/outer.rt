@@ -127,17 +127,11 @@ fn step_named(
 }
 
 /// The first token of a parameter.
-fn step_parameter(
-    externals: Vec<External>,
-    signature: Signature,
-    role: Role,
-) -> Result<State, Stop>
+fn step_parameter(externals: Vec<External>, signature: Signature, role: Role) -> Result<State, Stop>
     ensures { Gives state_view result (parameter_step (external_trees externals.items) (signature_tree signature) role) }
 {
     match role {
-        Role::Int => {
-            Ok(State::File(externals, Outer::ParameterTyped(signature, Scalar::Int)))
-        }
+        Role::Int => Ok(State::File(externals, Outer::ParameterTyped(signature, Scalar::Int))),
         Role::SignWord(scalar) => {
             Ok(State::File(externals, Outer::ParameterSign(signature, scalar)))
         }
@@ -161,11 +155,7 @@ fn step_parameters(
 }
 
 /// The closing parenthesis behind `void`.
-fn step_only_void(
-    externals: Vec<External>,
-    signature: Signature,
-    role: Role,
-) -> Result<State, Stop>
+fn step_only_void(externals: Vec<External>, signature: Signature, role: Role) -> Result<State, Stop>
     ensures { Gives state_view result (only_void_step (external_trees externals.items) (signature_tree signature) role) }
 {
     match role {

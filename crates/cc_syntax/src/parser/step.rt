@@ -1,6 +1,6 @@
 // One token.
 
-ghost use Rattle.std.specs.Prelude.{◌≡◌, ◌<◌, ◌≤◌, ◌^◌, length};
+ghost use Rattle.std.specs.Prelude.{◌≡◌, ◌<◌, ◌≤◌, ◌^◌, length, IfSome};
 ghost use Rattle.cc_syntax.specs.Machine.{name_of, role_step, role_level, count_of, item_level, resting_depth, stage_level};
 ghost use Rattle.cc_syntax.specs.MachineView.{state_view, stage_view, open_views, Gives};
 ghost use Rattle.cc_syntax.specs.Token.{lexeme};
@@ -64,7 +64,8 @@ fn level_behind(count: usize, role: Role) -> usize
 /// How many open statements are left once a statement behind which no `else` stands is complete; none where a `do` waits
 /// for its `while`.
 fn rest(statements: &[Open]) -> Option<usize>
-    ensures { result ≡ resting_depth (open_views statements.now) }
+    ensures depth { result ≡ resting_depth (open_views statements.now) }
+    ensures within { IfSome result (λ left. left ≤ length statements.now) }
 {
     let mut left = statements;
     while let Some((last, front)) = left.split_last() {
