@@ -169,9 +169,7 @@ fn end_body_part(
             _ => Err(Stop::Unexpected),
         },
         Purpose::Return(at) => match role {
-            Role::Semicolon => {
-                settled_state(alloc, body, Statement::Return(at, Some(expression)))
-            }
+            Role::Semicolon => settled_state(alloc, body, Statement::Return(at, Some(expression))),
             _ => Err(Stop::Unexpected),
         },
         Purpose::Test(test) => match role {
@@ -179,9 +177,7 @@ fn end_body_part(
             _ => Err(Stop::Unexpected),
         },
         Purpose::Continue(start) => match role {
-            Role::Semicolon => {
-                Ok(State::Body(body, Stage::ForStepping(start, Some(expression))))
-            }
+            Role::Semicolon => Ok(State::Body(body, Stage::ForStepping(start, Some(expression)))),
             _ => Err(Stop::Unexpected),
         },
         Purpose::Initialise(position, scalar, declarators, name) => end_initialiser(
