@@ -1,6 +1,6 @@
 -- From every state some tokens lead to the end of a unit: an operand where one is missing, what closes each part that is
 -- open, an empty statement for the part of an `if` or a loop, a closing brace for each block.
-use Rattle.std.proofs.Common.{◌≡◌, ℕ, Bool, true, false, suc, List, [], ◌∷◌, ◌++◌, Option, Some, None, refl, sym, ap, ◌∙◌, arith}
+use Rattle.std.proofs.Common.{◌≡◌, ℕ, Bool, true, false, suc, List, [], ◌∷◌, ◌++◌, Option, Some, None, refl, ap, ◌∙◌, arith}
 use Rattle.cc_syntax.specs.declared.ast.Scalar.{Scalar}
 use Rattle.cc_syntax.specs.declared.ast.Scalar.TheVariants as scalar
 use Rattle.cc_syntax.specs.declared.token.Keyword.TheVariants as keyword
@@ -13,10 +13,10 @@ use Rattle.cc_syntax.specs.Token.{Lexeme}
 use Rattle.cc_syntax.specs.Tree.{Name, Expr, Number, Element, Call, Parenthesised, Unary, Cast, Binary, Conditional, Target, AtVariable, AtElement, Action, Assign, Step, Evaluate, Declared, Start, Declares, Performs, Stmt, Block, Local, Perform, Return, If, IfElse, While, DoWhile, For, ConstantExpr, Signature, Object, Single, Array, External, Declaration, Definition, Objects}
 use Rattle.cc_syntax.specs.Roles.{role_of}
 use Rattle.cc_syntax.specs.Grammar.{Placed, precedence}
-use Rattle.cc_syntax.specs.Machine.{State, AtFile, InBody, InFull, Inside, Stage, Item, AfterThen, AfterDo, Testing, Ending, Returning, ForOpening, ForStarting, ForTesting, ForStepping, LocalSign, Declaring, HasDeclared, Stepping, StepNamed, Stepped, Outer, Between, ResultSign, Typed, Named, Parameters, OnlyVoid, ParameterNext, ParameterSign, ParameterTyped, ParameterNamed, Headed, ObjectNext, ObjectNamed, Sizing, Sized, Initialising, Listing, Valuing, Listed, Phase, Operand, Operator, CastSign, CastType, Full, Context, OfBody, OfObject, Purpose, ToPerform, ToAssign, ToStep, ToReturn, ToTest, ToGoOn, ToInitialise, Test, ForIf, ForWhile, ForDo, Position, AsLocal, AsHeader, Spot, AsStatement, AsStart, AsLast, Part, ToSize, ToSingle, ToValue, Naming, Open, InBlock, InThen, InElse, InWhile, InDo, InFor, Waiting, Parenthesis, Index, Arguments, Prefix, Casting, Infix, Then, Otherwise, in_body, settled, close_block, with_last, full_of, reduced, close, end_full, with_argument, with_object, with_parameter, constant, declared, operator_step, step, standing, name_of}
+use Rattle.cc_syntax.specs.Machine.{State, AtFile, InBody, InFull, Inside, Stage, Item, AfterThen, AfterDo, Testing, Ending, Returning, ForOpening, ForStarting, ForTesting, ForStepping, LocalSign, Declaring, HasDeclared, Stepping, StepNamed, Stepped, Outer, Between, ResultSign, Typed, Named, Parameters, OnlyVoid, ParameterNext, ParameterSign, ParameterTyped, ParameterNamed, Headed, ObjectNext, ObjectNamed, Sizing, Sized, Initialising, Listing, Valuing, Listed, Phase, Operand, Operator, CastSign, CastType, Full, Context, OfBody, OfObject, Purpose, ToPerform, ToAssign, ToStep, ToReturn, ToTest, ToGoOn, ToInitialise, ForIf, ForWhile, ForDo, Position, AsLocal, AsHeader, Spot, AsStatement, AsStart, AsLast, Part, ToSize, ToSingle, ToValue, Naming, Open, InBlock, InThen, InElse, InWhile, InDo, InFor, Waiting, Parenthesis, Index, Arguments, Prefix, Casting, Infix, Then, Otherwise, in_body, settled, close_block, with_last, full_of, reduced, close, end_full, with_argument, with_object, with_parameter, constant, declared, step, standing}
 use Rattle.cc_syntax.proofs.MachineRuns.{Runs}
-use Rattle.cc_syntax.proofs.Forms.{operand, operator, pops, keeps}
-use Rattle.cc_syntax.proofs.Settles.{within, settled-within}
+use Rattle.cc_syntax.proofs.Forms.{operand, operator, pops}
+use Rattle.cc_syntax.proofs.Settles.{within}
 use Rattle.cc_syntax.proofs.ReadsExpression.{precedence-within}
 use Rattle.cc_syntax.proofs.ReadsAction.{Closes, terminator, behind, acted-behind, action-closes, named-ends}
 use Rattle.cc_syntax.proofs.ReadsDeclaration.{declared_state, declares-state}

@@ -1,18 +1,16 @@
 -- Reading a token keeps what the tokens before the state spell: in a function's body, outside of full expressions.
-use Rattle.std.proofs.Common.{◌≡◌, ◌≤◌, ℕ, Bool, true, false, suc, List, [], ◌∷◌, ◌++◌, length, map, Option, Some, None, IfSome, refl, sym, ap, subst, ◌∙◌, append_assoc, inl, inr}
+use Rattle.std.proofs.Common.{◌≡◌, ℕ, Bool, true, false, suc, List, [], ◌∷◌, ◌++◌, Option, Some, refl, sym, ap, subst, ◌∙◌, append_assoc}
 use Rattle.std.proofs.lemmas.Bool.{false≢true}
 use Rattle.std.proofs.lemmas.List.{append-nil}
 use Rattle.cc_syntax.specs.declared.ast.Scalar.{Scalar}
-use Rattle.cc_syntax.specs.declared.ast.Scalar.TheVariants as scalar
 use Rattle.cc_syntax.specs.declared.token.Keyword.TheVariants as keyword
 use Rattle.cc_syntax.specs.declared.token.Punctuator.TheVariants as punctuator
 use Rattle.cc_syntax.specs.Token.{Lexeme}
-use Rattle.cc_syntax.specs.Tree.{Expr, Action, Start, Performs, Declares, Declared, Stmt, Local, If, IfElse, While, DoWhile, For, Stmts, end, next, Signature, External}
-use Rattle.cc_syntax.specs.Grammar.{Placed, outside, full, begins, Marks, IsKeyword, sign_word, SpellsExpression, SpellsStatement, SpellsStatements, IsStatement, IsClosed}
-use Rattle.cc_syntax.specs.Machine.{State, InBody, Inside, Stage, Item, AfterThen, AfterDo, Position, AsLocal, AsHeader, Spot, AsStatement, AsStart, AsLast, ForIf, ForWhile, Open, InBlock, InThen, InElse, InWhile, InDo, InFor, in_body, settled, with_last, count_of}
-use Rattle.cc_syntax.proofs.Settles.{settled-count}
+use Rattle.cc_syntax.specs.Tree.{Expr, Start, Performs, Declares, Declared, Stmt, Local, If, IfElse, While, For, Stmts, end, next}
+use Rattle.cc_syntax.specs.Grammar.{Placed, outside, full, begins, Marks, IsKeyword, SpellsStatement, SpellsStatements, IsStatement, IsClosed}
+use Rattle.cc_syntax.specs.Machine.{Inside, Stage, AsLocal, AsHeader, AsStatement, AsStart, AsLast, ForIf, ForWhile, Open, InBlock, InThen, InElse, InWhile, InDo, InFor, settled, with_last}
 use Rattle.cc_syntax.proofs.ReadsStatement.{CanStand}
-use Rattle.cc_syntax.proofs.SoFarBody.{depth, first, EndingSoFar, ThenSoFar, PartSoFar, TestingSoFar, DoSoFar, SteppingSoFar, StartingSoFar, ReturningSoFar, DeclarationSoFar, SpotSoFar, OpenSoFar, BodySoFar, StageSoFar}
+use Rattle.cc_syntax.proofs.SoFarBody.{depth, first, TestingSoFar, SteppingSoFar, StartingSoFar, ReturningSoFar, DeclarationSoFar, SpotSoFar, OpenSoFar, BodySoFar, StageSoFar}
 
 -- between two tokens of a body
 abbrev pub InBodySoFar : Inside × Stage → List Placed → Type 0
@@ -65,9 +63,10 @@ settled-so_far (InFor a e l ∷ os) w b s before inner h k c closed =
 -- where a statement begins
 
 pub begin_if : (os : List Open) (x : Lexeme) → IsKeyword keyword.If x → TestingSoFar ForIf os (first (depth os) 0 x ∷ [])
-begin_if os x h o ho test e c spelled hc =
-    (λ part s hs is. (x, o, c, test, part, h, ho, hc, spelled, hs, is, ap (λ (z : List Placed). first (depth os) 0 x ∷ outside o ∷ z) (append_assoc (full test) (outside c ∷ []) part)),
-    λ part last other s t hs is closed ho' ht it. (x, o, c, other, test, part, last, h, ho, hc, ho', spelled, hs, is, closed, ht, it, ap (λ (z : List Placed). first (depth os) 0 x ∷ outside o ∷ z) (grouped (full test) part last (outside c) (outside other))))
+begin_if os x h o ho test e c spelled hc = (
+  λ part s hs is. (x, o, c, test, part, h, ho, hc, spelled, hs, is, ap (λ (z : List Placed). first (depth os) 0 x ∷ outside o ∷ z) (append_assoc (full test) (outside c ∷ []) part)),
+  λ part last other s t hs is closed ho' ht it. (x, o, c, other, test, part, last, h, ho, hc, ho', spelled, hs, is, closed, ht, it, ap (λ (z : List Placed). first (depth os) 0 x ∷ outside o ∷ z) (grouped (full test) part last (outside c) (outside other))),
+)
   where
     grouped : (t part last : List Placed) (c o : Placed) → (((t ++ c ∷ []) ++ part) ++ o ∷ []) ++ last ≡ t ++ (c ∷ part ++ o ∷ last)
     grouped t part last c o = simp append_assoc

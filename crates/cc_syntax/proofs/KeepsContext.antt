@@ -1,21 +1,20 @@
 -- Reading a token in a full expression keeps what the tokens before the state spell: where it stays in the expression, and
 -- where it ends one in a function's body.
-use Rattle.std.proofs.Common.{◌≡◌, ℕ, suc, true, List, [], ◌∷◌, ◌++◌, Option, Some, None, refl, sym, ap, subst, ◌∙◌, append_assoc, inl, inr}
+use Rattle.std.proofs.Common.{◌≡◌, ℕ, suc, true, List, [], ◌∷◌, ◌++◌, Option, Some, None, refl, sym, ap, subst, ◌∙◌, append_assoc}
 use Rattle.std.proofs.lemmas.List.{append-nil}
-use Rattle.cc_syntax.specs.declared.token.Punctuator.TheVariants as punctuator
 use Rattle.cc_syntax.specs.declared.parser.role.Role.{Role}
 use Rattle.cc_syntax.specs.declared.parser.role.Role.TheVariants as role
 use Rattle.cc_syntax.specs.Token.{Lexeme}
-use Rattle.cc_syntax.specs.Tree.{Expr, Action, Assign, Evaluate, Performs, Perform, Stmt, DoWhile, Return}
-use Rattle.cc_syntax.specs.Grammar.{Placed, outside, full, full_after, Marks, SpellsExpression, SpellsAction, SpellsStatement, IsStatement, IsClosed}
-use Rattle.cc_syntax.specs.Machine.{State, AtFile, InBody, InFull, Inside, Stage, Item, Full, Phase, Context, OfBody, OfObject, Test, ForIf, ForWhile, ForDo, Spot, AsStatement, AsStart, AsLast, Open, InThen, InWhile, InFor, Waiting, settle, opens, acted, tested, in_body, settled, count_of}
+use Rattle.cc_syntax.specs.Tree.{Expr, Action, Perform, Stmt}
+use Rattle.cc_syntax.specs.Grammar.{Placed, outside, full, SpellsAction, SpellsStatement, IsClosed}
+use Rattle.cc_syntax.specs.Machine.{State, AtFile, InBody, InFull, Inside, Full, Phase, Context, OfBody, OfObject, Test, ForIf, ForWhile, ForDo, Spot, AsStatement, AsStart, AsLast, Open, InThen, InWhile, InFor, Waiting, settle, opens, acted, tested, settled}
 use Rattle.cc_syntax.proofs.Forms.{count_after, count_after-append, full_after-append}
-use Rattle.cc_syntax.proofs.Settles.{within, settled-count}
+use Rattle.cc_syntax.proofs.Settles.{settled-count}
 use Rattle.cc_syntax.proofs.ReadsStatement.{CanStand}
-use Rattle.cc_syntax.proofs.SoFarBody.{depth, BodySoFar, OpenSoFar, StageSoFar, SpotSoFar, TestedSoFar, leads}
+use Rattle.cc_syntax.proofs.SoFarBody.{depth, BodySoFar, OpenSoFar, SpotSoFar, TestedSoFar, leads}
 use Rattle.cc_syntax.proofs.KeepsPhase.{HasRole, PhaseSoFar, StaysIn}
 use Rattle.cc_syntax.proofs.KeepsBody.{InBodySoFar, regrouped, settled-so_far, can-statement}
-use Rattle.cc_syntax.proofs.SoFarUnit.{ContextSoFar, StartsAt, leads_of, FullSoFar, SoFar, Kept}
+use Rattle.cc_syntax.proofs.SoFarUnit.{StartsAt, leads_of, FullSoFar, Kept}
 
 starts-more : (c : Context) (xs : List Lexeme) (x : Lexeme) → StartsAt c xs → StartsAt c (xs ++ x ∷ [])
 starts-more (OfBody b p) xs x h = tt

@@ -1,17 +1,17 @@
 -- The token that ends a full expression in a function's body keeps what the tokens before the state spell.
-use Rattle.std.proofs.Common.{◌≡◌, ℕ, suc, true, List, [], ◌∷◌, ◌++◌, map, Option, Some, None, refl, sym, ap, subst, ◌∙◌, append_assoc, inl, inr}
+use Rattle.std.proofs.Common.{◌≡◌, ℕ, suc, List, [], ◌∷◌, ◌++◌, map, Option, Some, refl, sym, ap, subst, ◌∙◌, append_assoc, inl, inr}
 use Rattle.std.proofs.lemmas.List.{append-nil}
 use Rattle.cc_syntax.specs.declared.ast.Scalar.{Scalar}
 use Rattle.cc_syntax.specs.declared.token.Punctuator.TheVariants as punctuator
 use Rattle.cc_syntax.specs.declared.parser.role.Role.{Role}
 use Rattle.cc_syntax.specs.declared.parser.role.Role.TheVariants as role
 use Rattle.cc_syntax.specs.Token.{Lexeme}
-use Rattle.cc_syntax.specs.Tree.{Name, Expr, AtElement, Assign, Evaluate, Step, Declared, Declares, Local, Return}
-use Rattle.cc_syntax.specs.Grammar.{Placed, outside, full, full_after, begins, identifier, Marks, SpellsType, SpellsExpression, SpellsRow, SpellsDeclared, SpellsInitial}
-use Rattle.cc_syntax.specs.Machine.{State, InBody, Inside, Phase, Context, OfBody, Purpose, ToPerform, ToAssign, ToStep, ToReturn, ToTest, ToGoOn, ToInitialise, Position, AsLocal, AsHeader, Spot, AsStatement, AsStart, AsLast, Open, Waiting, declares, declared, end_in_body}
+use Rattle.cc_syntax.specs.Tree.{Name, Expr, Assign, Evaluate, Declared, Local, Return}
+use Rattle.cc_syntax.specs.Grammar.{Placed, outside, full, begins, identifier, Marks, SpellsExpression, SpellsRow, SpellsDeclared, SpellsInitial}
+use Rattle.cc_syntax.specs.Machine.{Inside, Phase, Context, OfBody, Purpose, ToPerform, ToAssign, ToStep, ToReturn, ToTest, ToGoOn, ToInitialise, Position, AsLocal, AsHeader, Open, Waiting, declares, declared, end_in_body}
 use Rattle.cc_syntax.proofs.Forms.{count_after, count_after-append, full_after-append}
 use Rattle.cc_syntax.proofs.ReadsStatement.{CanStand}
-use Rattle.cc_syntax.proofs.SoFarBody.{depth, first, position_level, BodySoFar, RowSoFar, DeclarationSoFar, DeclaredSoFar, NamedSoFar, leads}
+use Rattle.cc_syntax.proofs.SoFarBody.{first, position_level, BodySoFar, RowSoFar, DeclaredSoFar, NamedSoFar, leads}
 use Rattle.cc_syntax.proofs.KeepsPhase.{HasRole}
 use Rattle.cc_syntax.proofs.KeepsBody.{regrouped, can-statement}
 use Rattle.cc_syntax.proofs.SoFarUnit.{FullSoFar, Kept, leads_of}
@@ -36,7 +36,7 @@ row-comma S done ts comma h m = inr (ts, comma, h, m, refl)
 
 -- declarations
 
-deep : (before others names behind more : List Placed) (p : Placed) → (before ++ (p ∷ (others ++ (names ++ behind)))) ++ more ≡ before ++ (p ∷ (others ++ (names ++ (behind ++ more))))
+pub deep : (before others names behind more : List Placed) (p : Placed) → (before ++ (p ∷ (others ++ (names ++ behind)))) ++ more ≡ before ++ (p ∷ (others ++ (names ++ (behind ++ more))))
 deep before others names behind more p = simp append_assoc
 
 -- a declared name, with its initialiser, ended
@@ -59,7 +59,7 @@ kept-declared w b t ds v i initial before mine ts x behind h k n s same e =
     finish AsHeader inner start d g = (before, start ++ inner, k, d, g)
 
 -- the tokens of a full expression with one more
-pushed-tokens : (c : Context) (ws : List Waiting) (k : ℕ) (p : Phase) (ts : List Placed) (x : Lexeme) → (h : FullSoFar c ws k p ts) → ts ++ record { token = x; count = suc k; level = 0 } ∷ [] ≡ h.before ++ leads_of c (full (h.front ++ (h.xs ++ x ∷ [])))
+pub pushed-tokens : (c : Context) (ws : List Waiting) (k : ℕ) (p : Phase) (ts : List Placed) (x : Lexeme) → (h : FullSoFar c ws k p ts) → ts ++ record { token = x; count = suc k; level = 0 } ∷ [] ≡ h.before ++ leads_of c (full (h.front ++ (h.xs ++ x ∷ [])))
 pushed-tokens c ws k p ts x h =
     let y : Placed = record { token = x; count = suc k; level = 0 } in
     let old = full (h.front ++ h.xs) in
@@ -72,6 +72,19 @@ pushed-tokens c ws k p ts x h =
 valued : (w : Position) (t : Scalar) (ds : List Declared) (os : List Open) (mine : List Placed) (v : Name) (sign : Lexeme) (value : List Placed) → NamedSoFar w t ds (outside (identifier v) ∷ outside sign ∷ []) os mine → NamedSoFar w t ds (outside (identifier v) ∷ outside sign ∷ value) os (mine ++ value)
 valued w t ds os mine v sign value n =
     (n.0, n.1, n.2, n.3, n.4, n.5, n.6, ap (λ (z : List Placed). z ++ value) n.7 ∙ deep n.0 (map outside n.3) n.1 (outside (identifier v) ∷ outside sign ∷ []) value (first (position_level w os) 0 n.2))
+
+-- a declared name, with its initialiser, behind which another comes
+pub next-declared : (w : Position) (t : Scalar) (ds : List Declared) (os : List Open) (mine : List Placed) (v : Name) (i : Option Expr) (initial : List Placed) (x : Lexeme) → Marks punctuator.Comma x → SpellsInitial initial i → NamedSoFar w t ds (outside (identifier v) ∷ initial) os mine → NamedSoFar w t (ds ++ declared v i ∷ []) [] os (mine ++ outside x ∷ [])
+next-declared w t ds os mine v i initial x h s n =
+    let one : List Placed = outside (identifier v) ∷ initial in
+    let row : SpellsRow SpellsDeclared (n.1 ++ one) (ds ++ declared v i ∷ []) = row-done SpellsDeclared ds (declared v i) n.1 one n.6 (initial, s, refl) in
+    let names : List Placed = (n.1 ++ one) ++ outside x ∷ [] in
+    let p = first (position_level w os) 0 n.2 in
+    let grouped : n.1 ++ (one ++ outside x ∷ []) ≡ names ++ [] = sym (append_assoc n.1 one (outside x ∷ [])) ∙ sym (append-nil names) in
+    let tokens : mine ++ outside x ∷ [] ≡ n.0 ++ (p ∷ (map outside n.3 ++ (names ++ []))) =
+    ap (λ (z : List Placed). z ++ outside x ∷ []) n.7 ∙ deep n.0 (map outside n.3) n.1 one (outside x ∷ []) p
+    ∙ ap (λ (z : List Placed). n.0 ++ (p ∷ (map outside n.3 ++ z))) grouped in
+    (n.0, names, n.2, n.3, n.4, n.5, row-comma SpellsDeclared (ds ++ declared v i ∷ []) (n.1 ++ one) x row h, tokens)
 
 -- the token behind a full expression in a body
 pub kept-end : (p : Purpose) (r : Role) (b : Inside) (ws : List Waiting) (n : ℕ) (q : Phase) (e : Expr) (ts : List Placed) (x : Lexeme) → HasRole r x → (h : FullSoFar (OfBody b p) ws n q ts) → SpellsExpression 1 h.xs e → Kept (end_in_body b p n e r) ts x 0
@@ -144,19 +157,10 @@ kept-end (ToInitialise w t ds v) role.Comma b ws n q e ts x h f k =
     let u = c.3 in
     let plain : f.front ++ f.xs ≡ f.xs = ap (λ (z : List Lexeme). z ++ f.xs) u.2 in
     let value = full f.xs in
-    let m = valued w t ds b.opened c.1 v u.0 value u.3 in
-    let one : List Placed = outside (identifier v) ∷ outside u.0 ∷ value in
-    let row : SpellsRow SpellsDeclared (m.1 ++ one) (ds ++ declared v (Some e) ∷ []) = row-done SpellsDeclared ds (declared v (Some e)) m.1 one m.6 (outside u.0 ∷ value, (u.0, f.xs, u.1, k, refl), refl) in
-    let names : List Placed = (m.1 ++ one) ++ outside x ∷ [] in
-    let p = first (position_level w b.opened) 0 m.2 in
-    let mine : List Placed = m.0 ++ (p ∷ (map outside m.3 ++ (names ++ []))) in
-    let grouped : names ++ [] ≡ m.1 ++ (one ++ outside x ∷ []) = append-nil names ∙ append_assoc m.1 one (outside x ∷ []) in
-    let tokens : ts ++ outside x ∷ [] ≡ c.0 ++ mine =
+    let tokens : ts ++ outside x ∷ [] ≡ c.0 ++ ((c.1 ++ value) ++ outside x ∷ []) =
     regrouped ts f.before (full (f.front ++ f.xs)) (outside x ∷ []) f.whole ∙ ap (λ (z : List Lexeme). f.before ++ (full z ++ outside x ∷ [])) plain
-    ∙ regrouped f.before c.0 c.1 (value ++ outside x ∷ []) c.4 ∙ ap (λ (z : List Placed). c.0 ++ z) (sym (append_assoc c.1 value (outside x ∷ [])))
-    ∙ ap (λ (z : List Placed). c.0 ++ (z ++ outside x ∷ [])) m.7 ∙ ap (λ (z : List Placed). c.0 ++ z) (deep m.0 (map outside m.3) m.1 one (outside x ∷ []) p)
-    ∙ ap (λ (z : List Placed). c.0 ++ (m.0 ++ (p ∷ (map outside m.3 ++ z)))) (sym grouped) in
-    (c.0, mine, c.2, (m.0, names, m.2, m.3, m.4, m.5, row-comma SpellsDeclared (ds ++ declared v (Some e) ∷ []) (m.1 ++ one) x row h, refl), tokens)
+    ∙ regrouped f.before c.0 c.1 (value ++ outside x ∷ []) c.4 ∙ ap (λ (z : List Placed). c.0 ++ z) (sym (append_assoc c.1 value (outside x ∷ []))) in
+    (c.0, (c.1 ++ value) ++ outside x ∷ [], c.2, next-declared w t ds b.opened (c.1 ++ value) v (Some e) (outside u.0 ∷ value) x h (u.0, f.xs, u.1, k, refl) (valued w t ds b.opened c.1 v u.0 value u.3), tokens)
 kept-end (ToInitialise w t ds v) role.Semicolon b ws n q e ts x h f k =
     let c = f.context in
     let u = c.3 in

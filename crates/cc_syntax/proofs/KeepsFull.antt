@@ -1,32 +1,29 @@
 -- A token of a full expression keeps what its tokens spell: those that stay in it. With what waits and the operand behind
 -- it, the tokens that came are spelled (SoFar); where nothing waits any more, the whole expression is.
-use Rattle.std.proofs.Common.{◌≡◌, ◌≤◌, ℕ, suc, List, [], ◌∷◌, ◌++◌, refl, sym, ap, subst, ◌∙◌, arith, append_assoc, inl, inr}
-use Rattle.cc_syntax.specs.declared.ast.Scalar.{Scalar}
+use Rattle.std.proofs.Common.{◌≡◌, ◌≤◌, ℕ, List, [], ◌∷◌, ◌++◌, refl, sym, ap, subst, ◌∙◌, arith, append_assoc}
 use Rattle.cc_syntax.specs.declared.ast.BinaryOperator.{BinaryOperator}
 use Rattle.cc_syntax.specs.declared.token.Punctuator.TheVariants as punctuator
 use Rattle.cc_syntax.specs.declared.token.TokenKind.{TokenKind}
 use Rattle.cc_syntax.specs.declared.token.TokenKind.TheVariants as kind
 use Rattle.cc_syntax.specs.Token.{Lexeme}
 use Rattle.cc_syntax.specs.Tree.{Name, Expr, Number, Variable, Element, Call, Parenthesised, Unary, Cast, Binary, Conditional, Exprs, none, more}
-use Rattle.cc_syntax.specs.Grammar.{identifier, Marks, SpellsType, SpellsExpression, SpellsArguments, precedence, binary_punctuator}
+use Rattle.cc_syntax.specs.Grammar.{identifier, Marks, SpellsExpression, SpellsArguments, precedence, binary_punctuator}
 use Rattle.cc_syntax.specs.Machine.{Waiting, Parenthesis, Index, Arguments, Infix, Then, Otherwise, with_argument, name_of}
-use Rattle.cc_syntax.proofs.SoFar.{Room, ArgumentsSoFar, WaitingSoFar, Holds}
+use Rattle.cc_syntax.proofs.SoFar.{ArgumentsSoFar, WaitingSoFar, Holds}
 use Rattle.cc_syntax.proofs.KeepsExpression.{spells-looser, room-most, room-one, Reduces}
 
 pub identified : (x : Lexeme) → x.kind ≡ kind.Identifier → x ≡ identifier (name_of x)
 identified x h = ap (λ (k : TokenKind). let y : Lexeme = record { kind = k; text = x.text; at = x.at } in y) h
 
 -- an expression has a token
-pub HasToken : List Lexeme → Type 0
+abbrev pub HasToken : List Lexeme → Type 0
 HasToken xs = (y : Lexeme) × (ys : List Lexeme) × (xs ≡ y ∷ ys)
 
 append-token : (a b : List Lexeme) (x : Lexeme) → HasToken (a ++ x ∷ b)
-unfolding HasToken
 append-token [] b x = (x, b, refl)
 append-token (y ∷ a) b x = (y, a ++ x ∷ b, refl)
 
 pub has_token : (e : Expr) (l : ℕ) (xs : List Lexeme) → SpellsExpression l xs e → HasToken xs
-unfolding HasToken
 has_token (Number t w) l xs h = (h.0, [], h.2)
 has_token (Variable v) l xs h = (identifier v, [], h)
 has_token (Element v e) l xs h = (identifier v, h.0 ∷ h.2 ++ h.1 ∷ [], h.6)

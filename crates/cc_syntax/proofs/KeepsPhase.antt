@@ -1,9 +1,7 @@
 -- Reading a token in a full expression keeps what its tokens spell, where the token stays in it.
-use Rattle.std.proofs.Common.{◌≡◌, ◌≤◌, ℕ, suc, List, [], ◌∷◌, ◌++◌, Option, Some, None, refl, sym, ap, subst, ◌∙◌, arith, append_assoc, inl, inr}
+use Rattle.std.proofs.Common.{◌≡◌, suc, List, [], ◌∷◌, ◌++◌, Option, Some, None, refl, ap, ◌∙◌, append_assoc, inl, inr}
 use Rattle.cc_syntax.specs.declared.ast.Scalar.{Scalar}
 use Rattle.cc_syntax.specs.declared.ast.Scalar.TheVariants as scalar
-use Rattle.cc_syntax.specs.declared.ast.UnaryOperator.TheVariants as unary
-use Rattle.cc_syntax.specs.declared.ast.BinaryOperator.TheVariants as binary
 use Rattle.cc_syntax.specs.declared.token.Keyword.{Keyword}
 use Rattle.cc_syntax.specs.declared.token.Keyword.TheVariants as keyword
 use Rattle.cc_syntax.specs.declared.token.Punctuator.{Punctuator}
@@ -13,13 +11,12 @@ use Rattle.cc_syntax.specs.declared.token.TokenKind.TheVariants as kind
 use Rattle.cc_syntax.specs.declared.parser.role.Role.{Role}
 use Rattle.cc_syntax.specs.declared.parser.role.Role.TheVariants as role
 use Rattle.cc_syntax.specs.Token.{Lexeme}
-use Rattle.cc_syntax.specs.Tree.{Expr, Number, Variable, Element, Call, Parenthesised, Unary, Cast, Binary, Conditional, Exprs, none, more}
+use Rattle.cc_syntax.specs.Tree.{Expr, Number, Variable, none}
 use Rattle.cc_syntax.specs.Roles.{role_of, keyword_role, punctuator_role}
-use Rattle.cc_syntax.specs.Grammar.{Marks, IsKeyword, sign_word, unary_punctuator, binary_punctuator, assignment_punctuator, step_punctuator, SpellsType, precedence}
-use Rattle.cc_syntax.specs.Machine.{State, AtFile, InBody, InFull, Full, Phase, Operand, Operator, CastSign, CastType, Waiting, Parenthesis, Index, Arguments, Prefix, Casting, Infix, Then, Otherwise, cast, call_of_none, operand_step, cast_step, cast_sign_step, open_name, operate, ask, close, name_of}
+use Rattle.cc_syntax.specs.Grammar.{Marks, IsKeyword, sign_word, unary_punctuator, binary_punctuator, assignment_punctuator, step_punctuator, SpellsType}
+use Rattle.cc_syntax.specs.Machine.{State, AtFile, InBody, InFull, Full, Phase, Operand, Operator, CastSign, CastType, Waiting, Parenthesis, Index, Arguments, Then, cast, call_of_none, operand_step, cast_step, cast_sign_step, open_name, close, name_of}
 use Rattle.cc_syntax.proofs.SoFar.{WaitingSoFar, Holds, Casts, IsSign}
-use Rattle.cc_syntax.proofs.KeepsExpression.{Reduces}
-use Rattle.cc_syntax.proofs.KeepsFull.{identified, holds-one, kept-binary, kept-question, kept-colon, kept-parenthesis, kept-index, kept-comma, kept-call, kept-call-none, kept-open-call, kept-open-index}
+use Rattle.cc_syntax.proofs.KeepsFull.{identified, holds-one, kept-colon, kept-parenthesis, kept-index, kept-comma, kept-call, kept-call-none, kept-open-call, kept-open-index}
 
 -- which tokens have a role
 abbrev pub HasRole : Role → Lexeme → Type 0
@@ -172,16 +169,19 @@ sign-type t ws xs k = record { front = k.front; type = k.type; opening = k.openi
 
 pub kept-cast-word : (r : Role) (f : Full) (t : Scalar) (xs : List Lexeme) (x : Lexeme) → HasRole r x → Casts f.waiting xs (IsSign t) → StaysIn f (xs ++ x ∷ []) (cast_sign_step f t r)
 kept-cast-word role.Int f t xs x h k =
-    let w = k.word in
-    (refl, refl, record {
-      front = k.front;
-      type = k.type ++ x ∷ [];
-      opening = k.opening;
-      waits = k.waits;
-      opens = k.opens;
-      word = inr (inr (w.0, x, w.1, h, ap (λ (z : List Lexeme). z ++ x ∷ []) w.2));
-      whole = ap (λ (z : List Lexeme). z ++ x ∷ []) k.whole ∙ append_assoc k.front (k.opening ∷ k.type) (x ∷ []);
-    })
+    let w = k.word in (
+      refl,
+      refl,
+      record {
+        front = k.front;
+        type = k.type ++ x ∷ [];
+        opening = k.opening;
+        waits = k.waits;
+        opens = k.opens;
+        word = inr (inr (w.0, x, w.1, h, ap (λ (z : List Lexeme). z ++ x ∷ []) w.2));
+        whole = ap (λ (z : List Lexeme). z ++ x ∷ []) k.whole ∙ append_assoc k.front (k.opening ∷ k.type) (x ∷ []);
+      },
+    )
 kept-cast-word r f t xs x h k = kept-cast r f t xs x h (sign-type t f.waiting xs k)
 
 -- a parenthesis or bracket behind a name

@@ -1,5 +1,5 @@
 -- Each external declaration, and each unit, that tokens spell is read from them.
-use Rattle.std.proofs.Common.{◌≡◌, ℕ, Bool, true, false, suc, List, [], ◌∷◌, ◌++◌, map, Option, Some, None, refl, sym, ap, subst, ◌∙◌, arith, append_assoc, inl, inr}
+use Rattle.std.proofs.Common.{◌≡◌, ℕ, Bool, true, List, [], ◌∷◌, ◌++◌, map, Option, Some, None, refl, sym, ap, subst, ◌∙◌, arith, append_assoc, inl, inr}
 use Rattle.std.specs.Prelude.{◌&&◌, is_some}
 use Rattle.cc_syntax.specs.declared.ast.Scalar.{Scalar}
 use Rattle.cc_syntax.specs.declared.ast.Scalar.TheVariants as scalar
@@ -13,12 +13,12 @@ use Rattle.cc_syntax.specs.declared.parser.role.Role.TheVariants as role
 use Rattle.cc_syntax.specs.Token.{Lexeme}
 use Rattle.cc_syntax.specs.Tree.{Name, Expr, Stmts, end, Block, ConstantExpr, Parameter, Signature, Object, Single, Array, External, Declaration, Definition, Objects}
 use Rattle.cc_syntax.specs.Roles.{role_of}
-use Rattle.cc_syntax.specs.Grammar.{Placed, outside, full, begins, identifier, Marks, SpellsType, SpellsStatement, SpellsRow, BeginsAt, SpellsConstantExpr, SpellsOptionalConstant, IsOptionalComma, SpellsList, SpellsObject, optional_identifier, SpellsParameter, SpellsParameters, SpellsResult, SpellsSignature, AreNamed, SpellsExternal, SpellsExternals, SpellsUnit}
-use Rattle.cc_syntax.specs.Machine.{State, AtFile, InBody, Inside, Item, Outer, Between, ResultSign, Typed, Named, Parameters, OnlyVoid, ParameterNext, ParameterSign, ParameterTyped, ParameterNamed, Headed, ObjectNext, ObjectNamed, Sizing, Sized, Initialising, Listing, Valuing, Listed, Naming, Context, OfObject, ToSize, ToSingle, ToValue, Waiting, full_of, reduced, close, first_step, with_object, with_parameter, signature_of, all_named, defines, end_list, role_step, role_level, name_of, count_of, start}
+use Rattle.cc_syntax.specs.Grammar.{Placed, outside, full, identifier, Marks, SpellsType, SpellsStatement, SpellsRow, BeginsAt, SpellsConstantExpr, SpellsOptionalConstant, IsOptionalComma, SpellsList, SpellsObject, optional_identifier, SpellsParameter, SpellsParameters, SpellsResult, SpellsSignature, AreNamed, SpellsExternal, SpellsExternals, SpellsUnit}
+use Rattle.cc_syntax.specs.Machine.{State, AtFile, InBody, Inside, Item, Between, ResultSign, Typed, Named, Parameters, OnlyVoid, ParameterNext, ParameterSign, ParameterTyped, ParameterNamed, Headed, ObjectNext, ObjectNamed, Sizing, Sized, Initialising, Listing, Valuing, Listed, Naming, Context, OfObject, ToSize, ToSingle, ToValue, Waiting, full_of, close, first_step, with_object, with_parameter, signature_of, all_named, defines, end_list, role_step, role_level, name_of, count_of, start}
 use Rattle.cc_syntax.proofs.MachineRuns.{Runs, token, runs-append}
 use Rattle.cc_syntax.proofs.Forms.{operand, operator, count_after}
 use Rattle.cc_syntax.proofs.Settles.{none-some}
-use Rattle.cc_syntax.proofs.ReadsAction.{read_full, no-operator, Closes}
+use Rattle.cc_syntax.proofs.ReadsAction.{read_full, Closes}
 use Rattle.cc_syntax.proofs.ReadsStatement.{appended, appended-end, Top, body_at, read_statements}
 
 -- the words of a type
@@ -148,7 +148,7 @@ read_parameter p ts es f s z x w h k =
     let m = behind_parameter z es (with_parameter f p.scalar p.name) in
     let name = map outside (optional_identifier p.name) in
     let runs = read_words p.scalar h.0 s (λ t. AtFile es (ParameterTyped f t)) (λ t. AtFile es (ParameterSign f t)) (InParameter es f p.scalar) (name ++ outside x ∷ []) m w (in-typed es f p.scalar) (in-sign es f p.scalar) h.1
-        (λ a i. read_parameter_name p.name es f p.scalar a z x i k) in
+    (λ a i. read_parameter_name p.name es f p.scalar a z x i k) in
     subst (λ (ps : List Placed). Runs s ps m) (sym (append_assoc (map outside h.0) name (outside x ∷ [])) ∙ ap (λ (ps : List Placed). ps ++ outside x ∷ []) (sym h.2)) runs
 
 abbrev with_parameters : Signature → List Parameter → Signature
@@ -214,8 +214,8 @@ read_signature f ts es h =
     let parameters : Runs (AtFile es (Parameters g)) (h.3 ++ outside h.2 ∷ []) m = read_parameters f.parameters h.3 es g h.2 h.7 h.6 refl in
     subst (λ (z : List Placed). Runs (AtFile es Between) z m) (sym h.8)
     (read_result f.result h.0 es (outside (identifier f.name) ∷ outside h.1 ∷ h.3 ++ outside h.2 ∷ []) m h.4 (λ a first.
-        token a (AtFile es (Named f.result f.name)) m (identifier f.name) kind.Identifier 0 0 (outside h.1 ∷ h.3 ++ outside h.2 ∷ []) refl (first.named f.name) refl first.begun
-        (token (AtFile es (Named f.result f.name)) (AtFile es (Parameters g)) m h.1 (kind.Punctuator punctuator.OpenParenthesis) 0 0 (h.3 ++ outside h.2 ∷ []) h.5 (opens f.result) refl refl parameters)))
+    token a (AtFile es (Named f.result f.name)) m (identifier f.name) kind.Identifier 0 0 (outside h.1 ∷ h.3 ++ outside h.2 ∷ []) refl (first.named f.name) refl first.begun
+    (token (AtFile es (Named f.result f.name)) (AtFile es (Parameters g)) m h.1 (kind.Punctuator punctuator.OpenParenthesis) 0 0 (h.3 ++ outside h.2 ∷ []) h.5 (opens f.result) refl refl parameters)))
   where
     opens : (r : Option Scalar) → role_step (AtFile es (Named r f.name)) role.OpenParenthesis (name_of h.1) ≡ Some (AtFile es (Parameters (signature_of r f.name)))
     opens None = refl

@@ -1,22 +1,17 @@
 -- What the tokens before a state spell. For a statement that has begun it is said by what would complete it: whatever
 -- parts are still missing, with them the tokens spell the statement. So it is proved once, where the statement begins, and
 -- each further token takes a part away.
-use Rattle.std.proofs.Common.{◌≡◌, ◌≤◌, ℕ, Bool, true, suc, List, [], ◌∷◌, ◌++◌, ◌⊎◌, length, map, Option, Some, None}
+use Rattle.std.proofs.Common.{◌≡◌, ℕ, suc, List, [], ◌∷◌, ◌++◌, ◌⊎◌, length, map, Option, Some}
 use Rattle.cc_syntax.specs.declared.ast.Scalar.{Scalar}
 use Rattle.cc_syntax.specs.declared.token.Keyword.TheVariants as keyword
 use Rattle.cc_syntax.specs.declared.token.Punctuator.TheVariants as punctuator
-use Rattle.cc_syntax.specs.declared.token.TokenKind.TheVariants as kind
-use Rattle.cc_syntax.specs.declared.parser.role.Role.{Role}
-use Rattle.cc_syntax.specs.declared.parser.role.Role.TheVariants as role
 use Rattle.cc_syntax.specs.Token.{Lexeme}
-use Rattle.cc_syntax.specs.Tree.{Name, Expr, Target, Action, Step, Declared, Start, Declares, Performs, Stmt, Block, Local, Perform, Return, If, IfElse, While, DoWhile, For, Stmts, ConstantExpr, Parameter, Signature, Object, Single, Array, External, Declaration, Definition, Objects}
-use Rattle.cc_syntax.specs.Roles.{role_of}
-use Rattle.cc_syntax.specs.Grammar.{Placed, outside, full, begins, identifier, Marks, IsKeyword, sign_word, unary_punctuator, binary_punctuator, assignment_punctuator, step_punctuator, SpellsType, SpellsExpression, SpellsTarget, SpellsAction, SpellsRow, SpellsDeclared, SpellsLocal, SpellsOptional, SpellsOptionalAction, SpellsStart, SpellsStatement, SpellsStatements, IsStatement, IsClosed, BeginsAt, SpellsConstantExpr, SpellsOptionalConstant, SpellsObject, SpellsParameter, SpellsResult, SpellsSignature, AreNamed, SpellsExternals}
-use Rattle.cc_syntax.specs.Machine.{State, AtFile, InBody, InFull, Inside, Stage, Item, AfterThen, AfterDo, Testing, Ending, Returning, ForOpening, ForStarting, ForTesting, ForStepping, LocalSign, Declaring, HasDeclared, Stepping, StepNamed, Stepped, Phase, Operand, Operator, CastSign, CastType, Context, OfBody, OfObject, Purpose, ToPerform, ToAssign, ToStep, ToReturn, ToTest, ToGoOn, ToInitialise, Test, ForIf, ForWhile, ForDo, Position, AsLocal, AsHeader, Spot, AsStatement, AsStart, AsLast, Open, InBlock, InThen, InElse, InWhile, InDo, InFor, Waiting}
+use Rattle.cc_syntax.specs.Tree.{Expr, Action, Step, Declared, Start, Declares, Performs, Stmt, Local, Perform, Return, If, IfElse, While, DoWhile, For, Stmts, Signature, External}
+use Rattle.cc_syntax.specs.Grammar.{Placed, outside, full, begins, identifier, Marks, IsKeyword, sign_word, assignment_punctuator, step_punctuator, SpellsType, SpellsExpression, SpellsTarget, SpellsAction, SpellsRow, SpellsDeclared, SpellsLocal, SpellsOptional, SpellsOptionalAction, SpellsStart, SpellsStatement, SpellsStatements, IsStatement, IsClosed, SpellsSignature, AreNamed, SpellsExternals}
+use Rattle.cc_syntax.specs.Machine.{Stage, Item, AfterThen, AfterDo, Testing, Ending, Returning, ForOpening, ForStarting, ForTesting, ForStepping, LocalSign, Declaring, HasDeclared, Stepping, StepNamed, Stepped, Purpose, ToPerform, ToAssign, ToStep, ToReturn, ToTest, ToGoOn, ToInitialise, Test, ForIf, ForWhile, ForDo, Position, AsLocal, AsHeader, Spot, AsStatement, AsStart, AsLast, Open, InBlock, InThen, InElse, InWhile, InDo, InFor}
 use Rattle.cc_syntax.proofs.Forms.{count_after}
 use Rattle.cc_syntax.proofs.ReadsAction.{terminator}
 use Rattle.cc_syntax.proofs.ReadsStatement.{CanStand}
-use Rattle.cc_syntax.proofs.SoFar.{WaitingSoFar, Holds, Casts, IsSign}
 
 -- the level of what stands behind so many open statements
 abbrev pub depth : List Open → ℕ

@@ -1,15 +1,17 @@
--- The first token that breaks the grammar or a limit is the one at which the machine stops: every unit that begins so is
--- read through the same states (ReadsExternal). At most one tree is spelled.
+-- The first token that breaks the grammar or a limit is the one at which the machine stops: from what it has read some
+-- unit goes on (Finishes, Keeps), and every unit that begins so is read through the same states (ReadsExternal).
 use Rattle.std.proofs.Common.{◌≡◌, ◌<◌, ◌≤◌, ℕ, zero, suc, List, [], ◌∷◌, ◌++◌, length, take, drop, Option, Some, None, refl, sym, ap, subst, ◌∙◌, arith, append_assoc, inl, inr}
 use Rattle.std.specs.List.{AllByRecursion}
 use Rattle.std.proofs.lemmas.List.{map-append, take-append-drop}
 use Rattle.cc_syntax.specs.Token.{Lexeme}
 use Rattle.cc_syntax.specs.Tree.{External}
 use Rattle.cc_syntax.specs.Grammar.{Placed, SpellsUnit, tokens_of, Begins}
-use Rattle.cc_syntax.specs.Limits.{IsWithin, PassesLimit, SpellsWithin, UnexpectedAt, TooDeepAt, TreesAreOne, SpelledHaveNoFault}
-use Rattle.cc_syntax.specs.Machine.{State, AtFile, Outer, Between, step, standing, start, tree_of}
+use Rattle.cc_syntax.specs.Limits.{IsWithin, PassesLimit, SpellsWithin, UnexpectedAt, TooDeepAt, IsFineBefore, TreesAreOne, SpelledHaveNoFault}
+use Rattle.cc_syntax.specs.Machine.{State, AtFile, Between, step, standing, start, tree_of}
 use Rattle.cc_syntax.proofs.MachineRuns.{Runs, runs-append, runs-split, runs-one}
 use Rattle.cc_syntax.proofs.ReadsExternal.{read_unit}
+use Rattle.cc_syntax.proofs.Finishes.{IsUnit, finishes}
+use Rattle.cc_syntax.proofs.Keeps.{unit_spelled}
 
 -- the machine has come to the state over these tokens, and none of them passes a limit
 pub record Reached (s : State) (xs : List Lexeme) : Type 0 where
@@ -30,7 +32,7 @@ within-or-past : (p : Placed) → IsWithin p → PassesLimit p → ⊥
 within-or-past p h (inl c) = let low : p.count ≤ 512 = h.0 in omega (arith, low, c)
 within-or-past p h (inr l) = let low : p.level ≤ 64 = h.1 in omega (arith, low, l)
 
-pub tokens_of-append : (a b : List Placed) → tokens_of (a ++ b) ≡ tokens_of a ++ tokens_of b
+tokens_of-append : (a b : List Placed) → tokens_of (a ++ b) ≡ tokens_of a ++ tokens_of b
 tokens_of-append a b = map-append (λ (p : Placed). p.token) a b
 
 head-same : (x y : Lexeme) (xs ys : List Lexeme) → x ∷ xs ≡ y ∷ ys → (x ≡ y) × (xs ≡ ys)
@@ -55,6 +57,20 @@ follow (p ∷ ps) (u ∷ us) a s e zs h k t =
   where
     head-placed : (p u : Placed) → p ∷ [] ≡ u ∷ [] → p ≡ u
     head-placed p u e = cc
+
+-- some unit goes on from what was reached
+pub begins_from : (s : State) (xs : List Lexeme) → Reached s xs → Begins xs
+begins_from s xs r =
+    let f = finishes s in
+    let all = r.placed ++ f.rest in (
+      tokens_of f.rest,
+      f.tree,
+      (
+        all,
+        unit_spelled f.tree all f.unit (runs-append start s (AtFile f.tree Between) r.placed f.rest r.runs f.runs),
+        tokens_of-append r.placed f.rest ∙ ap (λ (z : List Lexeme). z ++ tokens_of f.rest) r.same,
+      ),
+    )
 
 -- the tokens before a place, and the one there
 pub record IsCutAt (tokens : List Lexeme) (k : ℕ) (x : Lexeme) : Type 0 where
@@ -109,6 +125,26 @@ none_too_deep s tokens k r j h d =
     ∙ ap (λ (z : List Lexeme). z ++ drop (suc j) (take k tokens)) (take-less (suc j) k tokens (omega (arith, h)) ∙ sym d.7) in
     in_run r.placed d.0 d.1 d.2 s d.3 (drop (suc j) (take k tokens)) r.runs r.fine d.6 same d.5
 
+pub fine_before : (s : State) (tokens : List Lexeme) (k : ℕ) → Reached s (take k tokens) → IsFineBefore tokens k
+fine_before s tokens k r = (begins_from s (take k tokens) r, none_too_deep s tokens k r)
+
+-- a token that passes a limit
+pub too_deep : (s m : State) (tokens : List Lexeme) (k : ℕ) (x : Lexeme) → Reached s (take k tokens) → IsCutAt tokens k x → step s x ≡ Some m → PassesLimit (standing s x m) → TooDeepAt tokens k
+too_deep s m tokens k x r c h past =
+    let f = finishes m in
+    let p = standing s x m in
+    let runs : Runs s (p ∷ f.rest) (AtFile f.tree Between) = (m, h, refl, refl, f.runs) in
+    let all = r.placed ++ p ∷ f.rest in (
+      r.placed,
+      f.rest,
+      p,
+      f.tree,
+      c.inside,
+      past,
+      unit_spelled f.tree all f.unit (runs-append start s (AtFile f.tree Between) r.placed (p ∷ f.rest) r.runs runs),
+      tokens_of-append r.placed (p ∷ []) ∙ ap (λ (z : List Lexeme). z ++ x ∷ []) r.same ∙ sym c.next,
+    )
+
 -- a token within the limits
 pub reach : (s m : State) (tokens : List Lexeme) (k : ℕ) (x : Lexeme) → Reached s (take k tokens) → IsCutAt tokens k x → step s x ≡ Some m → IsWithin (standing s x m) → Reached m (take (suc k) tokens)
 reach s m tokens k x r c h within =
@@ -122,6 +158,10 @@ reach s m tokens k x r c h within =
 
 pub at_start : Reached start []
 at_start = record { placed = []; runs = refl; fine = tt; same = refl }
+
+-- at the end of a unit its tree is spelled
+pub spelled_within : (tree : List External) (tokens : List Lexeme) → IsUnit tree → Reached (AtFile tree Between) tokens → SpellsWithin tokens tree
+spelled_within tree tokens u r = (r.placed, unit_spelled tree r.placed u r.runs, r.fine, r.same)
 
 -- tokens spell one tree at most
 pub trees_are_one : TreesAreOne

@@ -147,12 +147,7 @@ fn step_testing(alloc: Global, body: Body, test: Test, role: Role) -> Result<Sta
 }
 
 /// The semicolon of a statement.
-fn step_ending(
-    alloc: Global,
-    body: Body,
-    statement: Statement,
-    role: Role,
-) -> Result<State, Stop>
+fn step_ending(alloc: Global, body: Body, statement: Statement, role: Role) -> Result<State, Stop>
     ensures { Gives state_view result (ending_step (body_view body) (statement_tree statement) role) }
 {
     match role {
@@ -302,7 +297,16 @@ fn step_local_sign(
     let declarators = Vec::new(alloc);
     match role {
         Role::Int => Ok(State::Body(body, Stage::Declaring(position, scalar, declarators))),
-        _ => step_declaring(alloc, body, position, scalar, declarators, role, text, token),
+        _ => step_declaring(
+            alloc,
+            body,
+            position,
+            scalar,
+            declarators,
+            role,
+            text,
+            token,
+        ),
     }
 }
 
@@ -411,7 +415,14 @@ pub fn step_body(
             step_local_sign(alloc, body, position, scalar, role, text, token)
         }
         Stage::Declaring(position, scalar, declarators) => step_declaring(
-            alloc, body, position, scalar, declarators, role, text, token,
+            alloc,
+            body,
+            position,
+            scalar,
+            declarators,
+            role,
+            text,
+            token,
         ),
         Stage::Declared(position, scalar, declarators, name) => {
             step_declared(alloc, body, position, scalar, declarators, name, role)

@@ -75,9 +75,7 @@ pub fn complete(
         Waiting::Arguments(name, arguments) => {
             Ok(call_of(name, with_argument_of(arguments, operand)?))
         }
-        Waiting::Prefix(operator) => {
-            Ok(Expression::Unary(operator, Box::new(alloc, operand)?))
-        }
+        Waiting::Prefix(operator) => Ok(Expression::Unary(operator, Box::new(alloc, operand)?)),
         Waiting::Cast(scalar) => Ok(Expression::Cast(scalar, Box::new(alloc, operand)?)),
         Waiting::Infix(operator, left) => Ok(Expression::Binary(
             operator,

@@ -3,22 +3,20 @@
 ghost use Rattle.std.specs.Prelude.{◌≡◌, ◌≤◌, suc, [], ◌∷◌, ◌++◌, IfOk, Some, None, length};
 ghost use Rattle.std.specs.Option.{option_map};
 ghost use Rattle.cc_syntax.specs.Grammar.{precedence};
-ghost use Rattle.cc_syntax.specs.Erase.{name_tree, expression_tree, declarator_trees, optional_tree, external_trees, target_tree, object_tree, constant_tree, object_trees, constant_trees, optional_constant};
-ghost use Rattle.cc_syntax.specs.Machine.{name_of, reduced, full_of, goes_on, begins_full, end_in_body, end_in_object, end_full, close, operate, ask, open_name, target_of, assign, step_target, operator_step, cast, call_of_none, operand_step, cast_step, cast_sign_step, full_step, first_step, declared, separated, end_list_value, Operand};
-ghost use Rattle.cc_syntax.specs.MachineView.{waiting_view, waiting_views, context_view, full_view, phase_view, state_view, body_view, purpose_view, naming_view, part_view, Gives};
+ghost use Rattle.cc_syntax.specs.Erase.{name_tree, expression_tree, expressions_of, declarator_trees, optional_tree, external_trees, target_tree, object_tree, constant_tree, object_trees, constant_trees, optional_constant};
+ghost use Rattle.cc_syntax.specs.Machine.{name_of, reduced, full_of, goes_on, begins_full, end_in_body, end_in_object, end_full, close, operate, ask, open_name, target_of, assign, step_target, operator_step, cast, call_of_none, operand_step, cast_step, cast_sign_step, full_step, first_step, declared, separated, end_list_value, Operand, Arguments, ToInitialise};
+ghost use Rattle.cc_syntax.specs.MachineView.{waiting_view, waiting_views, context_view, full_view, phase_view, state_view, body_view, position_view, purpose_view, naming_view, part_view, Gives};
 ghost use Rattle.cc_syntax.specs.Token.{lexeme};
 
 use crate::ast::{
     Action, AssignmentOperator, BinaryOperator, ConstantExpression, Declarator, Expression,
     External, Identifier, Object, Scalar, Statement, StepOperator, Target, UnaryOperator,
 };
-use crate::parser::expression::{
-    call_of, complete, precedence_of, reduce, with_argument_of,
-};
+use crate::parser::expression::{call_of, complete, precedence_of, reduce, with_argument_of};
 use crate::parser::role::Role;
 use crate::parser::settle::{end_action, end_declaration, end_test, settled_state};
 use crate::parser::state::{
-    Body, Context, Full, Naming, Outer, Part, Phase, Purpose, Stage, State, Waiting,
+    Body, Context, Full, Naming, Outer, Part, Phase, Position, Purpose, Stage, State, Waiting,
 };
 use crate::parser::stop::Stop;
 use crate::token::Token;
@@ -117,6 +115,32 @@ pub fn end_object(
     }
 }
 
+/// The token behind the initialiser of a local; how many tokens it has does not matter.
+fn end_initialiser(
+    alloc: Global,
+    body: Body,
+    position: Position,
+    scalar: Scalar,
+    declarators: Vec<Declarator>,
+    name: Identifier,
+    initial: Expression,
+    role: Role,
+) -> Result<State, Stop>
+    ensures { Gives state_view result (end_in_body (body_view body) (ToInitialise (position_view position) scalar (declarator_trees declarators.items) (name_tree name)) 0 (expression_tree initial) role) }
+{
+    match role {
+        Role::Comma => {
+            let declarators = with_declarator(declarators, name, Some(initial))?;
+            Ok(State::Body(body, Stage::Declaring(position, scalar, declarators)))
+        }
+        Role::Semicolon => {
+            let declarators = with_declarator(declarators, name, Some(initial))?;
+            end_declaration(alloc, body, position, scalar, declarators)
+        }
+        _ => Err(Stop::Unexpected),
+    }
+}
+
 /// The token behind a full expression in a function's body.
 fn end_body_part(
     alloc: Global,
@@ -129,34 +153,43 @@ fn end_body_part(
     requires { count ≤ 512 }
     ensures { Gives state_view result (end_in_body (body_view body) (purpose_view purpose) count (expression_tree expression) role) }
 {
-    match (purpose, role) {
-        (Purpose::Perform(spot), _) => {
+    match purpose {
+        Purpose::Perform(spot) => {
             end_action(alloc, body, spot, Action::Evaluate(expression), role)
         }
-        (Purpose::Assign(operator, target, spot), _) => {
+        Purpose::Assign(operator, target, spot) => {
             let action = Action::Assign(operator, target, expression);
             end_action(alloc, body, spot, action, role)
         }
-        (Purpose::Step(operator, name, spot), Role::CloseBracket) => {
-            let target = Target::Element(name, expression);
-            Ok(State::Body(body, Stage::Stepped(operator, target, spot, count + 1)))
-        }
-        (Purpose::Return(at), Role::Semicolon) => {
-            settled_state(alloc, body, Statement::Return(at, Some(expression)))
-        }
-        (Purpose::Test(test), Role::CloseParenthesis) => end_test(alloc, body, test, expression),
-        (Purpose::Continue(start), Role::Semicolon) => {
-            Ok(State::Body(body, Stage::ForStepping(start, Some(expression))))
-        }
-        (Purpose::Initialise(position, scalar, declarators, name), Role::Comma) => {
-            let declarators = with_declarator(declarators, name, Some(expression))?;
-            Ok(State::Body(body, Stage::Declaring(position, scalar, declarators)))
-        }
-        (Purpose::Initialise(position, scalar, declarators, name), Role::Semicolon) => {
-            let declarators = with_declarator(declarators, name, Some(expression))?;
-            end_declaration(alloc, body, position, scalar, declarators)
-        }
-        _ => Err(Stop::Unexpected),
+        Purpose::Step(operator, name, spot) => match role {
+            Role::CloseBracket => {
+                let target = Target::Element(name, expression);
+                Ok(State::Body(body, Stage::Stepped(operator, target, spot, count + 1)))
+            }
+            _ => Err(Stop::Unexpected),
+        },
+        Purpose::Return(at) => match role {
+            Role::Semicolon => settled_state(alloc, body, Statement::Return(at, Some(expression))),
+            _ => Err(Stop::Unexpected),
+        },
+        Purpose::Test(test) => match role {
+            Role::CloseParenthesis => end_test(alloc, body, test, expression),
+            _ => Err(Stop::Unexpected),
+        },
+        Purpose::Continue(start) => match role {
+            Role::Semicolon => Ok(State::Body(body, Stage::ForStepping(start, Some(expression)))),
+            _ => Err(Stop::Unexpected),
+        },
+        Purpose::Initialise(position, scalar, declarators, name) => end_initialiser(
+            alloc,
+            body,
+            position,
+            scalar,
+            declarators,
+            name,
+            expression,
+            role,
+        ),
     }
 }
 
@@ -247,6 +280,30 @@ fn end_full_of(
     }
 }
 
+/// A closing token behind an argument of a call.
+fn close_argument(
+    full: Full,
+    name: Identifier,
+    arguments: Vec<Expression>,
+    argument: Expression,
+    role: Role,
+) -> Result<State, Stop>
+    requires { full.count ≤ 512 }
+    ensures { Gives state_view result (close (full_view full) role (expression_tree argument, Arguments (name_tree name) (expressions_of arguments.items) ∷ waiting_views full.waiting.items)) }
+{
+    match role {
+        Role::CloseParenthesis => {
+            let arguments = with_argument_of(arguments, argument)?;
+            Ok(with_token(full, Phase::Operator(call_of(name, arguments))))
+        }
+        Role::Comma => {
+            let arguments = with_argument_of(arguments, argument)?;
+            with_waiting(full, Waiting::Arguments(name, arguments))
+        }
+        _ => Err(Stop::Unexpected),
+    }
+}
+
 /// A closing token behind an expression, where this waits for it.
 fn close_waiting(
     alloc: Global,
@@ -258,37 +315,34 @@ fn close_waiting(
     requires { full.count ≤ 512 }
     ensures { Gives state_view result (close (full_view full) role (expression_tree expression, waiting_view opening ∷ waiting_views full.waiting.items)) }
 {
-    match (opening, role) {
-        (Waiting::Parenthesis, Role::CloseParenthesis) => {
-            let whole = Expression::Parenthesised(Box::new(alloc, expression)?);
-            Ok(with_token(full, Phase::Operator(whole)))
+    match opening {
+        Waiting::Parenthesis => match role {
+            Role::CloseParenthesis => {
+                let whole = Expression::Parenthesised(Box::new(alloc, expression)?);
+                Ok(with_token(full, Phase::Operator(whole)))
+            }
+            _ => Err(Stop::Unexpected),
+        },
+        Waiting::Index(name) => match role {
+            Role::CloseBracket => {
+                let whole = Expression::Element(name, Box::new(alloc, expression)?);
+                Ok(with_token(full, Phase::Operator(whole)))
+            }
+            _ => Err(Stop::Unexpected),
+        },
+        Waiting::Arguments(name, arguments) => {
+            close_argument(full, name, arguments, expression, role)
         }
-        (Waiting::Index(name), Role::CloseBracket) => {
-            let whole = Expression::Element(name, Box::new(alloc, expression)?);
-            Ok(with_token(full, Phase::Operator(whole)))
-        }
-        (Waiting::Arguments(name, arguments), Role::CloseParenthesis) => {
-            let arguments = with_argument_of(arguments, expression)?;
-            Ok(with_token(full, Phase::Operator(call_of(name, arguments))))
-        }
-        (Waiting::Arguments(name, arguments), Role::Comma) => {
-            let arguments = with_argument_of(arguments, expression)?;
-            with_waiting(full, Waiting::Arguments(name, arguments))
-        }
-        (Waiting::Then(test), Role::Colon) => {
-            with_waiting(full, Waiting::Otherwise(test, expression))
-        }
+        Waiting::Then(test) => match role {
+            Role::Colon => with_waiting(full, Waiting::Otherwise(test, expression)),
+            _ => Err(Stop::Unexpected),
+        },
         _ => Err(Stop::Unexpected),
     }
 }
 
 /// A closing token behind an operand.
-fn step_close(
-    alloc: Global,
-    full: Full,
-    operand: Expression,
-    role: Role,
-) -> Result<State, Stop>
+fn step_close(alloc: Global, full: Full, operand: Expression, role: Role) -> Result<State, Stop>
     requires { full.count ≤ 512 }
     ensures { Gives state_view result (close (full_view full) role (reduced 1 (waiting_views full.waiting.items) (expression_tree operand))) }
 {
@@ -354,15 +408,18 @@ fn step_assignment(
     if !waiting.is_empty() {
         return Err(Stop::Unexpected);
     }
-    let Context::Body(body, purpose) = context else {
-        return Err(Stop::Unexpected);
-    };
-    match (purpose, target(operand)) {
-        (Purpose::Perform(spot), Some(target)) => {
-            let purpose = Purpose::Assign(operator, target, spot);
-            Ok(begin_full(alloc, Context::Body(body, purpose), count + 1))
-        }
-        _ => Err(Stop::Unexpected),
+    match context {
+        Context::Body(body, purpose) => match purpose {
+            Purpose::Perform(spot) => match target(operand) {
+                Some(target) => {
+                    let purpose = Purpose::Assign(operator, target, spot);
+                    Ok(begin_full(alloc, Context::Body(body, purpose), count + 1))
+                }
+                None => Err(Stop::Unexpected),
+            },
+            _ => Err(Stop::Unexpected),
+        },
+        Context::Object(_, _, _) => Err(Stop::Unexpected),
     }
 }
 
@@ -379,14 +436,17 @@ fn step_step(full: Full, operand: Expression, operator: StepOperator) -> Result<
     if !waiting.is_empty() {
         return Err(Stop::Unexpected);
     }
-    let Context::Body(body, purpose) = context else {
-        return Err(Stop::Unexpected);
-    };
-    match (purpose, target(operand)) {
-        (Purpose::Perform(spot), Some(target)) => {
-            Ok(State::Body(body, Stage::Stepped(operator, target, spot, count + 1)))
-        }
-        _ => Err(Stop::Unexpected),
+    match context {
+        Context::Body(body, purpose) => match purpose {
+            Purpose::Perform(spot) => match target(operand) {
+                Some(target) => {
+                    Ok(State::Body(body, Stage::Stepped(operator, target, spot, count + 1)))
+                }
+                None => Err(Stop::Unexpected),
+            },
+            _ => Err(Stop::Unexpected),
+        },
+        Context::Object(_, _, _) => Err(Stop::Unexpected),
     }
 }
 
@@ -395,22 +455,20 @@ fn step_name(alloc: Global, full: Full, operand: Expression, role: Role) -> Resu
     requires { full.count ≤ 512 }
     ensures { Gives state_view result (open_name (full_view full) (expression_tree operand) role) }
 {
-    match (operand, role) {
-        (Expression::Name(name), Role::OpenParenthesis) => {
-            with_waiting(full, Waiting::Arguments(name, Vec::new(alloc)))
-        }
-        (Expression::Name(name), Role::OpenBracket) => with_waiting(full, Waiting::Index(name)),
+    match operand {
+        Expression::Name(name) => match role {
+            Role::OpenParenthesis => {
+                with_waiting(full, Waiting::Arguments(name, Vec::new(alloc)))
+            }
+            Role::OpenBracket => with_waiting(full, Waiting::Index(name)),
+            _ => Err(Stop::Unexpected),
+        },
         _ => Err(Stop::Unexpected),
     }
 }
 
 /// A token behind an operand.
-fn step_operator(
-    alloc: Global,
-    full: Full,
-    operand: Expression,
-    role: Role,
-) -> Result<State, Stop>
+fn step_operator(alloc: Global, full: Full, operand: Expression, role: Role) -> Result<State, Stop>
     requires { full.count ≤ 512 }
     ensures { Gives state_view result (operator_step (full_view full) (expression_tree operand) role) }
 {

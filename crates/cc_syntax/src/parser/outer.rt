@@ -103,8 +103,8 @@ fn step_named(
 ) -> Result<State, Stop>
     ensures { Gives state_view result (named_step (external_trees externals.items) result_type (name_tree name) role) }
 {
-    match (role, result_type) {
-        (Role::OpenParenthesis, _) => {
+    match role {
+        Role::OpenParenthesis => {
             let signature = Signature {
                 result: result_type,
                 name,
@@ -112,30 +112,26 @@ fn step_named(
             };
             Ok(State::File(externals, Outer::Parameters(signature)))
         }
-        (_, Some(scalar)) => {
-            let naming = Naming {
-                scalar,
-                objects: Vec::new(alloc),
-                name,
-            };
-            step_object(externals, naming, role)
-        }
-        (_, None) => Err(Stop::Unexpected),
+        _ => match result_type {
+            Some(scalar) => {
+                let naming = Naming {
+                    scalar,
+                    objects: Vec::new(alloc),
+                    name,
+                };
+                step_object(externals, naming, role)
+            }
+            None => Err(Stop::Unexpected),
+        },
     }
 }
 
 /// The first token of a parameter.
-fn step_parameter(
-    externals: Vec<External>,
-    signature: Signature,
-    role: Role,
-) -> Result<State, Stop>
+fn step_parameter(externals: Vec<External>, signature: Signature, role: Role) -> Result<State, Stop>
     ensures { Gives state_view result (parameter_step (external_trees externals.items) (signature_tree signature) role) }
 {
     match role {
-        Role::Int => {
-            Ok(State::File(externals, Outer::ParameterTyped(signature, Scalar::Int)))
-        }
+        Role::Int => Ok(State::File(externals, Outer::ParameterTyped(signature, Scalar::Int))),
         Role::SignWord(scalar) => {
             Ok(State::File(externals, Outer::ParameterSign(signature, scalar)))
         }
@@ -159,11 +155,7 @@ fn step_parameters(
 }
 
 /// The closing parenthesis behind `void`.
-fn step_only_void(
-    externals: Vec<External>,
-    signature: Signature,
-    role: Role,
-) -> Result<State, Stop>
+fn step_only_void(externals: Vec<External>, signature: Signature, role: Role) -> Result<State, Stop>
     ensures { Gives state_view result (only_void_step (external_trees externals.items) (signature_tree signature) role) }
 {
     match role {

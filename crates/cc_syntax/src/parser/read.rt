@@ -56,11 +56,7 @@ fn finished(state: State) -> Option<Vec<External>>
 
 /// The external declarations that all the tokens spell within the limits, or the first token that breaks the grammar or a
 /// limit.
-pub fn read_tokens(
-    alloc: Global,
-    text: &[u8],
-    tokens: &[Token],
-) -> Result<Vec<External>, Refusal>
+pub fn read_tokens(alloc: Global, text: &[u8], tokens: &[Token]) -> Result<Vec<External>, Refusal>
     requires { AreInOrder 0 tokens.now (length text.now) }
     ensures { MatchResult result (λ es. SpellsWithin (lexemes text.now tokens.now) (external_trees es.items)) (λ e. Refuses (lexemes text.now tokens.now) e) }
 {

@@ -1,9 +1,9 @@
 // Statements that are complete, and those that open.
 
-ghost use Rattle.std.specs.Prelude.{◌≡◌, ◌≤◌, IfOk, Some, None, [], true, false};
-ghost use Rattle.cc_syntax.specs.Erase.{statement_tree, statements_of, expression_tree, declarator_trees, action_tree};
-ghost use Rattle.cc_syntax.specs.Tree.{Block};
-ghost use Rattle.cc_syntax.specs.Machine.{settled, settle, opens, declares, acted, tested, close_block, declare};
+ghost use Rattle.std.specs.Prelude.{◌≡◌, ◌≤◌, IfOk, Some, None, [], ◌∷◌, true, false};
+ghost use Rattle.cc_syntax.specs.Erase.{statement_tree, statements_of, expression_tree, declarator_trees, beginning_tree, optional_tree, optional_action, action_tree};
+ghost use Rattle.cc_syntax.specs.Tree.{Block, IfElse, For};
+ghost use Rattle.cc_syntax.specs.Machine.{with_last, inside_of, settled, settle, opens, declares, acted, tested, close_block, declare};
 ghost use Rattle.cc_syntax.specs.MachineView.{open_view, open_views, body_view, stage_view, state_view, spot_view, test_view, position_view, Gives};
 
 use crate::ast::{Action, Beginning, Declarator, Expression, External, Scalar, Statement};
@@ -17,6 +17,61 @@ fn block(statements: Vec<Statement>) -> Statement
     ensures { statement_tree result ≡ Block (statements_of statements.items) }
 {
     Statement::Block(statements)
+}
+
+/// An `if` with its `else`.
+fn if_else(
+    alloc: Global,
+    test: Expression,
+    then: Statement,
+    otherwise: Statement,
+) -> Result<Statement, AllocError>
+    ensures { IfOk result (λ s. statement_tree s ≡ IfElse (expression_tree test) (statement_tree then) (statement_tree otherwise)) }
+{
+    let then = Box::new(alloc, then)?;
+    Ok(Statement::IfElse(test, then, Box::new(alloc, otherwise)?))
+}
+
+/// A `for` with its body.
+fn for_loop(
+    alloc: Global,
+    start: Beginning,
+    test: Option<Expression>,
+    last: Option<Action>,
+    body: Statement,
+) -> Result<Statement, AllocError>
+    ensures { IfOk result (λ s. statement_tree s ≡ For (beginning_tree start) (optional_tree test) (optional_action last) (statement_tree body)) }
+{
+    Ok(Statement::For(start, test, last, Box::new(alloc, body)?))
+}
+
+/// The statements with one more at the end.
+fn with_statement(
+    mut statements: Vec<Statement>,
+    statement: Statement,
+) -> Result<Vec<Statement>, AllocError>
+    ensures { IfOk result (λ ss. statements_of ss.items ≡ with_last (statements_of statements.items) (statement_tree statement)) }
+{
+    statements.push(statement)?;
+    Ok(statements)
+}
+
+/// The body with one more open statement.
+fn with_one_open(body: Body, one: Open) -> Result<Body, AllocError>
+    ensures { IfOk result (λ b. body_view b ≡ inside_of (body_view body) (statements_of body.finished.items) (open_view one ∷ open_views body.open.items)) }
+{
+    let mut body = body;
+    body.open.push(one)?;
+    Ok(body)
+}
+
+/// The body with one more finished statement.
+fn with_finished(body: Body, statement: Statement) -> Result<Body, AllocError>
+    ensures { IfOk result (λ b. body_view b ≡ inside_of (body_view body) (with_last (statements_of body.finished.items) (statement_tree statement)) (open_views body.open.items)) }
+{
+    let mut body = body;
+    body.finished.push(statement)?;
+    Ok(body)
 }
 
 /// The body once a statement is complete, and what comes next: the loops that wait for it end with it. Where an `else`
@@ -33,10 +88,10 @@ pub fn settle_body(
     let mut statement = statement;
     while let Some(last) = body.open.pop() {
         match last {
-            Open::Block(mut statements) => {
-                statements.push(statement)?;
-                body.open.push(Open::Block(statements))?;
-                return Ok((body, Stage::Item));
+            Open::Block(statements) => {
+                let statements = with_statement(statements, statement)?;
+                let inside = with_one_open(body, Open::Block(statements))?;
+                return Ok((inside, Stage::Item));
             }
             Open::Then(test) => {
                 if waits {
@@ -44,19 +99,16 @@ pub fn settle_body(
                 }
                 statement = Statement::If(test, Box::new(alloc, statement)?);
             }
-            Open::Else(test, then) => {
-                let then = Box::new(alloc, then)?;
-                statement = Statement::IfElse(test, then, Box::new(alloc, statement)?);
-            }
+            Open::Else(test, then) => statement = if_else(alloc, test, then, statement)?,
             Open::While(test) => statement = Statement::While(test, Box::new(alloc, statement)?),
             Open::Do => return Ok((body, Stage::AfterDo(statement))),
             Open::For(start, test, last) => {
-                statement = Statement::For(start, test, last, Box::new(alloc, statement)?);
+                statement = for_loop(alloc, start, test, last, statement)?;
             }
         }
     }
-    body.finished.push(statement)?;
-    Ok((body, Stage::Item))
+    let whole = with_finished(body, statement)?;
+    Ok((whole, Stage::Item))
 }
 
 /// The state in which a body's statement is complete.
@@ -67,13 +119,11 @@ pub fn settled_state(alloc: Global, body: Body, statement: Statement) -> Result<
     Ok(State::Body(body, stage))
 }
 
-/// The body with one more open statement.
+/// The state in which a statement has begun.
 pub fn with_open(body: Body, one: Open) -> Result<State, Stop>
     ensures { Gives state_view result (opens (body_view body) (open_view one)) }
 {
-    let mut body = body;
-    body.open.push(one)?;
-    Ok(State::Body(body, Stage::Item))
+    Ok(State::Body(with_one_open(body, one)?, Stage::Item))
 }
 
 /// The end of a declaration of locals.
@@ -105,18 +155,22 @@ pub fn end_action(
 ) -> Result<State, Stop>
     ensures { Gives state_view result (acted (body_view body) (spot_view spot) (action_tree action) role) }
 {
-    match (spot, role) {
-        (Spot::Statement, Role::Semicolon) => {
-            settled_state(alloc, body, Statement::Perform(Some(action)))
-        }
-        (Spot::Start, Role::Semicolon) => {
-            let start = Beginning::Action(Some(action));
-            Ok(State::Body(body, Stage::ForTesting(start)))
-        }
-        (Spot::Last(start, test), Role::CloseParenthesis) => {
-            with_open(body, Open::For(start, test, Some(action)))
-        }
-        _ => Err(Stop::Unexpected),
+    match spot {
+        Spot::Statement => match role {
+            Role::Semicolon => settled_state(alloc, body, Statement::Perform(Some(action))),
+            _ => Err(Stop::Unexpected),
+        },
+        Spot::Start => match role {
+            Role::Semicolon => {
+                let start = Beginning::Action(Some(action));
+                Ok(State::Body(body, Stage::ForTesting(start)))
+            }
+            _ => Err(Stop::Unexpected),
+        },
+        Spot::Last(start, test) => match role {
+            Role::CloseParenthesis => with_open(body, Open::For(start, test, Some(action))),
+            _ => Err(Stop::Unexpected),
+        },
     }
 }
 

@@ -1,6 +1,6 @@
 // One token.
 
-ghost use Rattle.std.specs.Prelude.{◌≡◌, ◌<◌, ◌≤◌, ◌^◌, length};
+ghost use Rattle.std.specs.Prelude.{◌≡◌, ◌<◌, ◌≤◌, ◌^◌, length, IfSome};
 ghost use Rattle.cc_syntax.specs.Machine.{name_of, role_step, role_level, count_of, item_level, resting_depth, stage_level};
 ghost use Rattle.cc_syntax.specs.MachineView.{state_view, stage_view, open_views, Gives};
 ghost use Rattle.cc_syntax.specs.Token.{lexeme};
@@ -64,14 +64,15 @@ fn level_behind(count: usize, role: Role) -> usize
 /// How many open statements are left once a statement behind which no `else` stands is complete; none where a `do` waits
 /// for its `while`.
 fn rest(statements: &[Open]) -> Option<usize>
-    ensures { result ≡ resting_depth (open_views statements.now) }
+    ensures depth { result ≡ resting_depth (open_views statements.now) }
+    ensures within { IfSome result (λ left. left ≤ length statements.now) }
 {
-    let mut left = statements.len();
-    while left > 0 {
-        match &statements[left - 1] {
-            Open::Block(_) => return Some(left),
+    let mut left = statements;
+    while let Some((last, front)) = left.split_last() {
+        match last {
+            Open::Block(_) => return Some(left.len()),
             Open::Do => return None,
-            _ => left -= 1,
+            _ => left = front,
         }
     }
     Some(0)
@@ -80,14 +81,19 @@ fn rest(statements: &[Open]) -> Option<usize>
 fn level_in(body: &Body, stage: &Stage, role: Role) -> usize
     ensures { result ≡ stage_level (open_views body.now.open.items) (stage_view stage.now) role }
 {
-    match (stage, role) {
-        (Stage::Item, _) => level_behind(body.open.len(), role),
-        (Stage::AfterThen(_, _), Role::Else) => 0,
-        (Stage::AfterThen(_, _), _) => match rest(body.open.as_slice()) {
-            Some(left) => level_behind(left, role),
-            None => 0,
+    match stage {
+        Stage::Item => level_behind(body.open.len(), role),
+        Stage::AfterThen(_, _) => match role {
+            Role::Else => 0,
+            _ => match rest(body.open.as_slice()) {
+                Some(left) => level_behind(left, role),
+                None => 0,
+            },
         },
-        (Stage::ForStarting, Role::Int | Role::SignWord(_)) => body.open.len() + 3,
+        Stage::ForStarting => match role {
+            Role::Int | Role::SignWord(_) => body.open.len() + 3,
+            _ => 0,
+        },
         _ => 0,
     }
 }

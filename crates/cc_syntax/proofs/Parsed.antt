@@ -1,0 +1,43 @@
+-- From the tokens of a text to the text: the exits of `parse`.
+use Rattle.std.proofs.Common.{◌≡◌, ◌≤◌, ℕ, List, length, Result, Ok, Err, refl, subst, arith}
+use Rattle.cc_syntax.specs.declared.place.Place.{Place}
+use Rattle.cc_syntax.specs.declared.fault.SyntaxFault.{SyntaxFault}
+use Rattle.cc_syntax.specs.declared.fault.SyntaxFault.TheVariants as fault
+use Rattle.cc_syntax.specs.declared.unit.Unit as unit
+use Rattle.cc_syntax.specs.Token.{Lexeme}
+use Rattle.cc_syntax.specs.Tree.{External}
+use Rattle.cc_syntax.specs.Tokens.{IsFlawFault}
+use Rattle.cc_syntax.specs.Limits.{SpellsWithin, UnexpectedAt, TooDeepAt}
+use Rattle.cc_syntax.specs.Parse.{SpellsText, BreaksAt, IsParseRefusal}
+use Rattle.cc_syntax.specs.Source.{source, AnswersTree, IsParse}
+use Rattle.cc_syntax.proofs.Cuts.{tokens_are_one, tokens_have_no_flaw}
+use Rattle.cc_syntax.proofs.Verdict.{trees_are_one, spelled_have_no_fault}
+
+no_flaw : (text : List ℕ) (e : SyntaxFault) (tree : List External) → IsFlawFault text e → SpellsText text tree → ⊥
+no_flaw text e tree h s = tokens_have_no_flaw text s.tokens h.flaw h.at s.are h.first
+
+no_break : (Breaks : List Lexeme → ℕ → Type 0) (text : List ℕ) (p : Place) (tree : List External) → BreaksAt Breaks text p → SpellsText text tree → ((ts : List Lexeme) (k : ℕ) → SpellsWithin ts tree → Breaks ts k → ⊥) → ⊥
+no_break Breaks text p tree h s none =
+    none h.tokens h.number (subst (λ (ts : List Lexeme). SpellsWithin ts tree) (tokens_are_one text s.tokens h.tokens s.are h.are) s.spelled) h.here
+
+-- a text that spells a tree is refused for want of memory alone
+spelled_refused : (text : List ℕ) (e : SyntaxFault) (tree : List External) → IsParseRefusal text e → length text ≤ 65536 → SpellsText text tree → e ≡ fault.OutOfMemory
+spelled_refused text (fault.BadByte p) tree h fits s = absurd (no_flaw text _ tree h s)
+spelled_refused text (fault.UnclosedComment p) tree h fits s = absurd (no_flaw text _ tree h s)
+spelled_refused text (fault.BadConstant p) tree h fits s = absurd (no_flaw text _ tree h s)
+spelled_refused text (fault.ConstantTooLarge p) tree h fits s = absurd (no_flaw text _ tree h s)
+spelled_refused text (fault.Unexpected p) tree h fits s = absurd (no_break UnexpectedAt text p tree h s (λ ts k w. (spelled_have_no_fault ts tree k w).0))
+spelled_refused text (fault.TooDeep p) tree h fits s = absurd (no_break TooDeepAt text p tree h s (λ ts k w. (spelled_have_no_fault ts tree k w).1))
+spelled_refused text fault.SourceTooLarge tree h fits s = absurd (omega (arith, h, fits))
+spelled_refused text fault.OutOfMemory tree h fits s = refl
+
+same_tree : (text : List ℕ) (a b : List External) → SpellsText text a → SpellsText text b → a ≡ b
+same_tree text a b h k =
+    let same = tokens_are_one text k.tokens h.tokens k.are h.are in
+    let w : SpellsWithin h.tokens b = subst (λ (ts : List Lexeme). SpellsWithin ts b) same k.spelled in
+    trees_are_one h.tokens a b (h.spelled.0, h.spelled.1, h.spelled.3) (w.0, w.1, w.3)
+
+-- where the text spells a tree, that is the answer
+pub only : (text : List ℕ) (r : Result unit.Unit SyntaxFault) → IsParse text r → (tree : List External) → length text ≤ 65536 → SpellsText text tree → AnswersTree tree r
+only text (Ok u) h tree fits s = same_tree text (source u).externals tree h.2 s
+only text (Err e) h tree fits s = spelled_refused text e tree h fits s

@@ -1,0 +1,39 @@
+use Rattle.std.proofs.Common.{length, Err, Result, ap, ◌∙◌, sym, arith}
+use Rattle.cc_syntax.specs.declared.token.TokenKind.TheVariants.{Identifier}
+use Rattle.cc_syntax.specs.declared.parser.stop.Stop as stop
+use Rattle.cc_syntax.specs.declared.parser.state.State as state
+use Rattle.std.specs.Option.{option_map}
+use Rattle.cc_syntax.specs.Erase.{external_trees}
+use Rattle.cc_syntax.specs.MachineView.{state_view}
+use Rattle.cc_syntax.proofs.TokenOrder.{in_order-at}
+use Rattle.cc_syntax.proofs.ReadsTokens.{stopped, past_limit, goes_on, finished, unfinished}
+use Rattle.cc_syntax.proofs.parser.read.read_tokens.Goals as goal
+
+pub advance-requires-clause-order : goal.advance-requires-clause-order
+advance-requires-clause-order c = (in_order-at c.args.tokens.now 0 (length c.args.text.now) c.loop-number.number (record { kind = Identifier; from = 0; to = 0 }) c.requires c.loop-number-test.true).0
+
+pub advance-requires-clause-within : goal.advance-requires-clause-within
+advance-requires-clause-within c = (in_order-at c.args.tokens.now 0 (length c.args.text.now) c.loop-number.number (record { kind = Identifier; from = 0; to = 0 }) c.requires c.loop-number-test.true).1
+
+pub returns-in-Err-Unexpected : goal.returns-in-Err-Unexpected
+returns-in-Err-Unexpected c =
+    stopped (state_view c.loop-number.state) c.args.text.now c.args.tokens.now c.loop-number.number (record { kind = Identifier; from = 0; to = 0 }) c.advance.result c.loop-number-test.true c.loop-number.invariant.reached c.advance.ensures (c.in-Err-Unexpected.is ∙ ap (λ (z : stop.Stop). let r : Result state.State stop.Stop = Err z in r) c.in-Err-Unexpected.field-0-is)
+
+pub returns-in-Err-TooDeep : goal.returns-in-Err-TooDeep
+returns-in-Err-TooDeep c =
+    past_limit (state_view c.loop-number.state) c.args.text.now c.args.tokens.now c.loop-number.number (record { kind = Identifier; from = 0; to = 0 }) c.advance.result c.loop-number-test.true c.loop-number.invariant.reached c.advance.ensures (c.in-Err-TooDeep.is ∙ ap (λ (z : stop.Stop). let r : Result state.State stop.Stop = Err z in r) c.in-Err-TooDeep.field-0-is)
+
+pub loop-number-preserved : goal.loop-number-preserved
+loop-number-preserved c =
+    let b = goes_on (state_view c.loop-number.state) c.args.text.now c.args.tokens.now c.loop-number.number (record { kind = Identifier; from = 0; to = 0 }) c.advance.result c.in-Ok.next c.loop-number-test.true c.loop-number.invariant.reached c.advance.ensures c.in-Ok.is in
+    record { reached = b.0; count = b.1 }
+
+pub returns-in-Some : goal.returns-in-Some
+returns-in-Some c =
+    finished (state_view c.loop-number.state) c.args.text.now c.args.tokens.now c.loop-number.number (external_trees c.in-Some.externals.items) c.loop-number-test.false c.loop-number.invariant.reached
+    (sym c.finished.ensures ∙ ap (λ o. option_map (λ es. external_trees es.items) o) c.in-Some.is)
+
+pub returns-in-None : goal.returns-in-None
+returns-in-None c =
+    unfinished (state_view c.loop-number.state) c.args.text.now c.args.tokens.now c.loop-number.number c.loop-number-test.false (omega arith) c.loop-number.invariant.reached
+    (sym c.finished.ensures ∙ ap (λ o. option_map (λ es. external_trees es.items) o) c.in-None.is)
