@@ -11,3 +11,6 @@ pub mod First
 pub mod Verdict
 pub mod Definitions
 pub mod Emitting
+pub mod ResolvingPlaces
+pub mod ResolvingExpressions
+pub mod ResolvingActions

@@ -14,3 +14,5 @@ pub mod Bindings
 pub mod Findings
 pub mod Counts
 pub mod Checked
+pub mod Places
+pub mod Emitted

@@ -22,6 +22,7 @@ mod form;
 mod limits;
 mod names;
 mod operators;
+mod resolver;
 mod rule;
 mod scope;
 mod statements;
