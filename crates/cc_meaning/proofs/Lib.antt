@@ -21,3 +21,4 @@ pub mod Looped
 pub mod Ending
 pub mod Laying
 pub mod Showing
+pub mod Running
