@@ -11,3 +11,5 @@ pub mod First
 pub mod Verdict
 pub mod Definitions
 pub mod Emitting
+pub mod ResolvingStatements
+pub mod ResolvingUnits

@@ -14,3 +14,4 @@ pub mod Bindings
 pub mod Findings
 pub mod Counts
 pub mod Checked
+pub mod Resolving
