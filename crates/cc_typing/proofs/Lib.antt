@@ -13,3 +13,6 @@ pub mod Definitions
 pub mod Emitting
 pub mod ResolvingStatements
 pub mod ResolvingUnits
+pub mod ResolvingPlaces
+pub mod ResolvingExpressions
+pub mod ResolvingActions

@@ -15,3 +15,5 @@ pub mod Findings
 pub mod Counts
 pub mod Checked
 pub mod Resolving
+pub mod Places
+pub mod Emitted

@@ -1,6 +1,6 @@
 // What is in scope, scope by scope.
 
-ghost use Rattle.std.specs.Prelude.{◌≡◌, ◌≤◌, [], length, IfOk, OnOk, option_map};
+ghost use Rattle.std.specs.Prelude.{◌≡◌, ◌≤◌, [], length, drop, IfOk, OnOk, option_map};
 ghost use Rattle.cc_typing.specs.Scope.{opened, declared, in_scope, is_declared, found, with_declared, first_file_scope};
 ghost use Rattle.cc_typing.specs.Entities.{entity_of, optional_entity};
 ghost use Rattle.cc_typing.specs.Bindings.{closed, file_level};
@@ -76,6 +76,16 @@ impl<'a> Scope<'a> {
         self.bindings.push(name, entity)?;
         self.inner += 1;
         Ok(again)
+    }
+
+    /// Takes the newest name of the innermost scope back, where it has one.
+    pub fn undeclare(&mut self)
+        ensures { self.new ≡ record self.old { inner = drop 1 self.old.inner } }
+    {
+        if self.inner > 0 {
+            self.bindings.pop();
+            self.inner -= 1;
+        }
     }
 
     /// Declares a name in file scope, where it is new; else what stands there stays.
