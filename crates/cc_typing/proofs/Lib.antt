@@ -11,6 +11,8 @@ pub mod First
 pub mod Verdict
 pub mod Definitions
 pub mod Emitting
+pub mod ResolvingStatements
+pub mod ResolvingUnits
 pub mod ResolvingPlaces
 pub mod ResolvingExpressions
 pub mod ResolvingActions

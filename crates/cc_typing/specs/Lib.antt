@@ -14,5 +14,6 @@ pub mod Bindings
 pub mod Findings
 pub mod Counts
 pub mod Checked
+pub mod Resolving
 pub mod Places
 pub mod Emitted

@@ -17,6 +17,7 @@ use super::fault::TypeFault;
 use super::findings::Findings;
 use super::limits::with_excesses;
 use super::names::Names;
+use super::resolver::resolve;
 use super::rule::{Offence, Rule};
 use super::scope::{READ_WORD, Scope, WRITE_WORD};
 use super::typed::TypedUnit;
@@ -49,7 +50,8 @@ pub fn check(alloc: Global, unit: Unit) -> Result<TypedUnit, TypeFault>
         let place = place_in(unit.text(), offence.at);
         return Err(fault(offence.rule, place));
     }
-    Ok(TypedUnit::new(unit))
+    let form = resolve(alloc, unit.externals())?;
+    Ok(TypedUnit::new(unit, form))
 }
 
 // The first offence, limits among them, and the first call of a function that is not defined.

@@ -4,8 +4,8 @@
 // One walk goes over file scope (`externals`), statements and expressions. It keeps the names in scope (`scope`, on
 // `bindings` and `entity`), the functions that are defined (`names`), where a statement stands (`around`), and the first
 // of what it finds (`findings`). `limits` counts what is limited; `constants` has the values of constant expressions, and
-// `operators` the types in which operators work. `form` has the instructions that a typed unit becomes. The crate hands
-// out `check` and these types.
+// `operators` the types in which operators work. `form` has the instructions that a typed unit becomes, and `resolver`
+// writes them, on `emitter`. The crate hands out `check` and these types.
 #![tactic(auto)]
 
 mod around;

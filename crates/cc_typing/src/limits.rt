@@ -29,7 +29,8 @@ pub struct Count {
 }
 
 impl Count {
-    fn new(most: usize) -> Count
+    /// No name yet.
+    pub fn new(most: usize) -> Count
         ensures { result ≡ record { most = most; names = 0; past = None } }
     {
         Count {
@@ -110,8 +111,9 @@ fn count_locals_of(count: &mut Count, statement: &Statement)
     }
 }
 
+/// Counts the locals that statements declare.
 #[cycle(locals)]
-fn count_locals(count: &mut Count, all: &[Statement])
+pub fn count_locals(count: &mut Count, all: &[Statement])
     ensures { count.new ≡ count_after count.old (locals (statements_of all.now)) }
 {
     for statement in all {
@@ -128,7 +130,8 @@ pub struct Words {
     past: Option<usize>,
 }
 
-fn object_words(object: &Object) -> usize
+/// How many words an object takes; none where its length is not known.
+pub fn object_words(object: &Object) -> usize
     ensures { result ≡ object_words (object_tree object.now) }
 {
     match object {

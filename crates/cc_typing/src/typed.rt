@@ -1,4 +1,4 @@
-// A unit that keeps the rules and limits.
+// A unit that keeps the rules and limits, with its resolved form.
 
 ghost use Rattle.std.specs.Prelude.{◌≡◌, ◌<◌, ◌≤◌, [], ◌∷◌, Some, MatchOption, length, slice_get};
 ghost use Rattle.cc_syntax.specs.Source.{source};
@@ -6,7 +6,9 @@ ghost use Rattle.cc_syntax.specs.Erase.{name_tree, external_tree};
 ghost use Rattle.cc_typing.specs.Counts.{defines};
 ghost use Rattle.cc_typing.specs.Typed.{IsTyped, IsWithinLimits, defined_names};
 ghost use Rattle.cc_typing.specs.Checked.{IsChecked};
+ghost use Rattle.cc_typing.specs.FormErase.{form_tree, Resolves};
 
+use super::form::Form;
 use cc_syntax::{External, Identifier, Unit};
 use std::marker::Model;
 
@@ -14,6 +16,7 @@ use std::marker::Model;
 #[derive(Drop)]
 pub struct TypedUnit {
     unit: Unit,
+    form: Form,
 }
 
 impl Model for TypedUnit {
@@ -21,6 +24,7 @@ impl Model for TypedUnit {
     ghost use Rattle.cc_syntax.specs.declared.unit.Unit.{Unit};
     ghost use Rattle.cc_syntax.specs.contracts.unit.Unit.{the_row};
     ghost use Rattle.cc_typing.specs.Checked.{IsChecked};
+    ghost use Rattle.cc_typing.specs.FormErase.{form_tree, Resolves};
 
     ghost Value = { Unit };
 
@@ -28,7 +32,7 @@ impl Model for TypedUnit {
 
     ghost view = { λ t. t.unit };
 
-    ghost invariant = { λ t. IsChecked (source t.unit) };
+    ghost invariant = { λ t. IsChecked (source t.unit) × Resolves (source t.unit).externals (form_tree t.form) };
 }
 
 fn definitions_in(external: &External) -> usize
@@ -52,11 +56,12 @@ fn defined_name(external: &External) -> Option<&Identifier>
 
 impl TypedUnit {
     // The one place where a typed unit is made.
-    pub(crate) fn new(unit: Unit) -> TypedUnit
-        requires { IsChecked (source unit) }
+    pub(crate) fn new(unit: Unit, form: Form) -> TypedUnit
+        requires checked { IsChecked (source unit) }
+        requires form { Resolves (source unit).externals (form_tree form) }
         ensures { result ≡ unit }
     {
-        TypedUnit { unit }
+        TypedUnit { unit, form }
     }
 
     /// The text, byte for byte.
@@ -95,12 +100,12 @@ impl TypedUnit {
         unreachable!()
     }
 
-    /// The unit, whose form other crates make.
-    pub fn unit(&self) -> &Unit
-        ensures same { result.now ≡ self.now }
+    /// The unit's resolved form: its instructions, with numbers in place of names.
+    pub fn form(&self) -> &Form
+        ensures form { Resolves (source self.now).externals (form_tree result.now) }
         ensures typed { IsTyped (source self.now).externals }
         ensures limits { IsWithinLimits (source self.now).externals }
     {
-        &self.unit
+        &self.form
     }
 }
