@@ -68,7 +68,7 @@ module _ (form : FormTree) (cs : List Activation) (total : ℕ) where
       let here : slice_get vs i ≡ Some r.word = ap (λ (l : List ℕ). slice_get l i) h.holds ∙ r.by_number in
       let old : r.word ≡ variable_word x s = sym (ap (λ (o : Option ℕ). unwrap_or o (unwrap_or (slice_get (words_of s.globals x) 0) 0)) r.by_name) in
       let one : (p w : ℕ) → only_if (nat_lt i (length vs)) (Goes (conf p (slice_set vs i w) [] cs s)) ≡ Goes (conf p (slice_set vs i w) [] cs (stored x w s)) =
-          λ p w. ap (λ b. only_if b (Goes (conf p (slice_set vs i w) [] cs s))) (q w).below ∙ ap Goes (sym ((q w).rest p cs)) in
+      λ p w. ap (λ b. only_if b (Goes (conf p (slice_set vs i w) [] cs s))) (q w).below ∙ ap Goes (sym ((q w).rest p cs)) in
       record {
         variables = λ w. slice_set vs i w;
         fits = λ w. (q w).fits;
@@ -89,15 +89,15 @@ module _ (form : FormTree) (cs : List Activation) (total : ℕ) where
       let is : (w : ℕ) → stored x w s ≡ record s { globals = with_element x 0 w s.globals } = λ w. stored_object v total most vs s x w h e in
       let at : place + 0 ≡ place = omega arith in
       let set : (p w : ℕ) → only_if (nat_lt place (length (all_of s.globals))) (Goes (record (conf p vs [] cs s) { globals = slice_set (all_of s.globals) place w })) ≡ Goes (conf p vs [] cs (stored x w s)) =
-          λ p w.
-              ap (λ b. only_if b (Goes (record (conf p vs [] cs s) { globals = slice_set (all_of s.globals) place w }))) (subst (λ k. nat_lt k (length (all_of s.globals)) ≡ true) at (q w).below)
-              ∙ ap (λ gs. Goes (record (conf p vs [] cs s) { globals = gs })) (subst (λ k. slice_set (all_of s.globals) k w ≡ all_of (with_element x 0 w s.globals)) at (q w).words)
-              ∙ ap (λ t. Goes (conf p vs [] cs t)) (sym (is w)) in
+      λ p w.
+      ap (λ b. only_if b (Goes (record (conf p vs [] cs s) { globals = slice_set (all_of s.globals) place w }))) (subst (λ k. nat_lt k (length (all_of s.globals)) ≡ true) at (q w).below)
+      ∙ ap (λ gs. Goes (record (conf p vs [] cs s) { globals = gs })) (subst (λ k. slice_set (all_of s.globals) k w ≡ all_of (with_element x 0 w s.globals)) at (q w).words)
+      ∙ ap (λ t. Goes (conf p vs [] cs t)) (sym (is w)) in
       let got = there (words_of s.globals x) 0 (let k = f.size in omega arith) in
       let here : slice_get (all_of s.globals) place ≡ Some got.0 = ap (λ k. slice_get (all_of s.globals) k) (sym at) ∙ f.reads 0 (omega arith) ∙ got.1 in
       let none : meaning.local_word s.locals x ≡ None = no_local s.locals x (ap (λ ns. number_in ns x) h.names ∙ e) in
       let old : got.0 ≡ variable_word x s =
-          sym (ap (λ (o : Option ℕ). unwrap_or o 0) got.1) ∙ sym (ap (λ (o : Option ℕ). unwrap_or o (unwrap_or (slice_get (words_of s.globals x) 0) 0)) none) in
+      sym (ap (λ (o : Option ℕ). unwrap_or o 0) got.1) ∙ sym (ap (λ (o : Option ℕ). unwrap_or o (unwrap_or (slice_get (words_of s.globals x) 0) 0)) none) in
       record {
         variables = λ w. vs;
         fits = λ w. subst (λ t. Fits v total most vs t) (sym (is w)) (q w).fits;
@@ -172,8 +172,11 @@ module _ (form : FormTree) (cs : List Activation) (total : ℕ) where
   element_move : (v : Environment) (most : ℕ) (vs : List ℕ) (op : BinaryOperator) (t : Scalar) (x : List ℕ) (i p w old : ℕ) (s : State) (o : Option ℕ) → IsPlain op → binary_word op t old w ≡ o
       → nat_lt i (extent_of v.places.objects x).length ≡ true → slice_get (all_of s.globals) ((extent_of v.places.objects x).place + i) ≡ Some old
       → instruction_move form (instruction.UpdateElement (operation op t) (extent_of v.places.objects x)) (conf p vs (w ∷ i ∷ []) cs s)
-        ≡ elim o [ None ↦ Stops (outcome.Wrong (cause_of op)) | Some new ↦ only_if (nat_lt ((extent_of v.places.objects x).place + i) (length (all_of s.globals)))
-            (Goes (record (conf p vs [] cs s) { globals = slice_set (all_of s.globals) ((extent_of v.places.objects x).place + i) new })) ]
+      ≡ elim o [
+        | None ↦ Stops (outcome.Wrong (cause_of op))
+        | Some new ↦ only_if (nat_lt ((extent_of v.places.objects x).place + i) (length (all_of s.globals)))
+            (Goes (record (conf p vs [] cs s) { globals = slice_set (all_of s.globals) ((extent_of v.places.objects x).place + i) new }))
+      ]
   element_move v most vs op t x i p w old s o plain is lt here =
       let ext : Extent = extent_of v.places.objects x in
       let go : ℕ → Move = λ new. only_if (nat_lt (ext.place + i) (length (all_of s.globals))) (Goes (record (conf p vs [] cs s) { globals = slice_set (all_of s.globals) (ext.place + i) new })) in
@@ -221,13 +224,14 @@ module _ (form : FormTree) (cs : List Activation) (total : ℕ) where
       let rest : ℕ → State → Run Flow = λ old y. then_do (given op (binary_word op (working_type op t u) old w) y) (λ new z. write_element x i new z) in
       let whole : Option ℕ → Run Flow = λ o. then_do (then_do (elim o [ None ↦ Wrong Index s.output | Some k ↦ Gives k s ]) (λ old y. given op (binary_word op (working_type op t u) old w) y)) (λ new z. write_element x i new z) in
       elim (leb_tells (suc i) ext.length) [
-        inl lt ↦
-          (let got = there (words_of s.globals x) i (let k = f.size in let z = lt.1 in omega arith) in
-          meets_same form c (Acted form cs total c v most (p + 1)) (whole (slice_get (words_of s.globals x) i)) (rest got.0 s) (ap whole got.1)
-          (element_update_by v most vs op (working_type op t u) x i p w got.0 s (binary_word op (working_type op t u) got.0 w) plain refl lt.0 h (f.reads i lt.1 ∙ got.1) e))
-      | inr ge ↦
-          (let past : slice_get (words_of s.globals x) i ≡ None = get_past (words_of s.globals x) i (let k = f.size in let z = ge.1 in omega arith) in
-          meets_same form c (Acted form cs total c v most (p + 1)) (whole (slice_get (words_of s.globals x) i)) (Wrong Index s.output) (ap whole past)
-          (instructed_last form (instruction.UpdateElement (operation op (working_type op t u)) ext) p vs (w ∷ i ∷ []) cs s (outcome.Wrong Index) e
+        | inl lt ↦
+            (let got = there (words_of s.globals x) i (let k = f.size in let z = lt.1 in omega arith) in
+            meets_same form c (Acted form cs total c v most (p + 1)) (whole (slice_get (words_of s.globals x) i)) (rest got.0 s) (ap whole got.1)
+            (element_update_by v most vs op (working_type op t u) x i p w got.0 s (binary_word op (working_type op t u) got.0 w) plain refl lt.0 h (f.reads i lt.1 ∙ got.1) e))
+        | inr ge ↦
+            (let past : slice_get (words_of s.globals x) i ≡ None = get_past (words_of s.globals x) i (let k = f.size in let z = ge.1 in omega arith) in
+            meets_same form c (Acted form cs total c v most (p + 1)) (whole (slice_get (words_of s.globals x) i)) (Wrong Index s.output) (ap whole past)
+            (instructed_last form (instruction.UpdateElement (operation op (working_type op t u)) ext) p vs (w ∷ i ∷ []) cs s (outcome.Wrong Index) e
             (ap (λ b. if b then with_word (slice_get (all_of s.globals) (ext.place + i)) (λ k. operated (operation op (working_type op t u)) k w (λ new. only_if (nat_lt (ext.place + i) (length (all_of s.globals)))
-              (Goes (record (conf (p + 1) vs [] cs s) { globals = slice_set (all_of s.globals) (ext.place + i) new })))) else Stops (outcome.Wrong Index)) ge.0))) ]
+            (Goes (record (conf (p + 1) vs [] cs s) { globals = slice_set (all_of s.globals) (ext.place + i) new })))) else Stops (outcome.Wrong Index)) ge.0)))
+      ]

@@ -122,7 +122,7 @@ module _ (form : FormTree) (places : Places) (defined : List (List ℕ)) (fs : L
   body_meets : (cs : List Activation) (n : ℕ) (call : Calls) → ((total : ℕ) → CallsMeet form places TakesHere cs total n call) → (g : Function) (fc : FunctionCode) (d : Defined places defined fs g fc) (p most : ℕ) (ws : List ℕ) (t : State)
       → length ws ≡ length g.parameters → Stands form.code p fc.code → most < n → t.steps ≤ most → places_from 0 t.globals ≡ places.objects
       → Meets form (conf p (ws ++ replicate fc.variables 0) [] cs t) (λ flow u. Returned cs (conf p (ws ++ replicate fc.variables 0) [] cs t) most (result_of flow) u)
-        (execute_all g.body n call g.visible (record t { locals = bound g.parameters ws [] }))
+      (execute_all g.body n call g.visible (record t { locals = bound g.parameters ws [] }))
   body_meets cs n call calls_meet g fc d p most ws t many st lt le placed =
       let v = d.environment in
       let vs = ws ++ replicate fc.variables 0 in
@@ -138,7 +138,7 @@ module _ (form : FormTree) (places : Places) (defined : List (List ℕ)) (fs : L
       let end_at = stands_end form.code p code in_code in
       let many' : length ws ≡ length d.parameters = many ∙ ap (λ (xs : List (List ℕ)). length xs) d.named ∙ length-map d.parameters (λ (x : Parameter). text_of x.name) in
       let names : names_of (bound g.parameters ws []) ≡ v.locals =
-          ap (λ xs. names_of (bound xs ws [])) d.named ∙ bound_names d.parameters ws [] many' ∙ sym d.names in
+      ap (λ xs. names_of (bound xs ws [])) d.named ∙ bound_names d.parameters ws [] many' ∙ sym d.names in
       let fits : Fits v total most vs u = record {
         names = names;
         placed = placed ∙ ap (λ (x : Places). x.objects) (sym d.scoped.placed);
@@ -149,14 +149,14 @@ module _ (form : FormTree) (places : Places) (defined : List (List ℕ)) (fs : L
       } in
       let size : total ≡ length ws + length (locals g.body) = length-append ws (replicate fc.variables 0) ∙ ap (λ k. length ws + k) (length-replicate fc.variables 0 ∙ d.variables) in
       let few : length v.locals ≡ length ws =
-          sym (ap (λ (xs : List (List ℕ)). length xs) names) ∙ length-map (bound g.parameters ws []) (λ (l : Local). l.name) ∙ sym (length-map (bound g.parameters ws []) (λ (l : Local). l.word))
-          ∙ sym (length-reverse (words_in (bound g.parameters ws []))) ∙ ap (λ (xs : List ℕ). length xs) (bound_variables g.parameters ws many) in
+      sym (ap (λ (xs : List (List ℕ)). length xs) names) ∙ length-map (bound g.parameters ws []) (λ (l : Local). l.name) ∙ sym (length-map (bound g.parameters ws []) (λ (l : Local). l.word))
+      ∙ sym (length-reverse (words_in (bound g.parameters ws []))) ∙ ap (λ (xs : List ℕ). length xs) (bound_variables g.parameters ws many) in
       let zero_more : q ≡ q + 0 = omega arith in
       meets_after form c c (Done form cs total places c most (Leaves form cs total c v most q) (Leaves form cs total c v most q) (Leaves form cs total c v most q)) (λ flow y. Returned cs c most (result_of flow) y)
       (execute_all g.body n call g.visible u) (leads_refl form c) (λ flow y h. flow_returns cs total c v most q q q flow y d.scoped.placed in_last.0 in_last.1.0 refl refl h)
       (subst (λ y. Meets form c (Done form cs total places c most (Leaves form cs total c v most q) (Leaves form cs total c v most q) (Leaves form cs total c v most q)) (execute_all g.body n call y u)) d.visible
-        (execute_all_meets form cs total places defined TakesHere n call (calls_meet total) g.body v (record { breaks = 0; continues = 0 }) d.around most d.scoped lt d.keeps_rules d.called (omega arith)
-          p q q vs u zero_more zero_more end_at end_at in_code fits))
+      (execute_all_meets form cs total places defined TakesHere n call (calls_meet total) g.body v (record { breaks = 0; continues = 0 }) d.around most d.scoped lt d.keeps_rules d.called (omega arith)
+      p q q vs u zero_more zero_more end_at end_at in_code fits))
 
   -- ---- builtins
 
@@ -166,7 +166,7 @@ module _ (form : FormTree) (places : Places) (defined : List (List ℕ)) (fs : L
   write_meets n cs total v f [] p vs ops s most is one e h = absurd (omega arith)
   write_meets n cs total v f (w ∷ []) p vs ops s most is one e h =
       let called : call_of v f ≡ instruction.Write =
-          ap (λ b. if b then instruction.Write else (if same_name (codes "read_word") f then instruction.Read else instruction.Call (names_before v.places.functions f))) (same_name_symm (codes "write_word") f ∙ is) in
+      ap (λ b. if b then instruction.Write else (if same_name (codes "read_word") f then instruction.Read else instruction.Call (names_before v.places.functions f))) (same_name_symm (codes "write_word") f ∙ is) in
       record {
         fits = record { names = h.names; placed = h.placed; junk = h.junk; holds = h.holds; room = h.room; steps = h.steps };
         leads = instructed form instruction.Write p vs (w ∷ ops) cs s (conf (p + 1) vs (0 ∷ ops) cs (record s { output = s.output ++ w ∷ [] })) (e ∙ ap Some called) refl;
@@ -189,8 +189,8 @@ module _ (form : FormTree) (places : Places) (defined : List (List ℕ)) (fs : L
       → Meets form (conf p vs (reverse ws ++ ops) cs s) (Value form cs total (conf p vs (reverse ws ++ ops) cs s) v most vs (p + 1) ops) (read_input s.input s)
   read_meets cs total v f [] p vs ops s most not_write is none e h =
       let called : call_of v f ≡ instruction.Read =
-          ap (λ b. if b then instruction.Write else (if same_name (codes "read_word") f then instruction.Read else instruction.Call (names_before v.places.functions f))) (same_name_symm (codes "write_word") f ∙ not_write)
-          ∙ ap (λ b. if b then instruction.Read else instruction.Call (names_before v.places.functions f)) (same_name_symm (codes "read_word") f ∙ is) in
+      ap (λ b. if b then instruction.Write else (if same_name (codes "read_word") f then instruction.Read else instruction.Call (names_before v.places.functions f))) (same_name_symm (codes "write_word") f ∙ not_write)
+      ∙ ap (λ b. if b then instruction.Read else instruction.Call (names_before v.places.functions f)) (same_name_symm (codes "read_word") f ∙ is) in
       read_by cs total v p vs ops s most s.input refl (e ∙ ap Some called) h
   read_meets cs total v f (w ∷ rest) p vs ops s most not_write is none e h = absurd (omega arith)
 
@@ -199,7 +199,7 @@ module _ (form : FormTree) (places : Places) (defined : List (List ℕ)) (fs : L
   -- a frame is made of the arguments
   entering : (start variables left p : ℕ) (ws vs ops : List ℕ) (cs : List Activation) (s : State) (count : ℕ) → count ≡ length ws
       → entered (record { start = start; parameters = count; variables = variables }) left (conf p vs (reverse ws ++ ops) cs s)
-        ≡ Goes (conf start (ws ++ replicate variables 0) [] (record { next = p; variables = vs; operands = ops } ∷ cs) (record s { steps = left }))
+      ≡ Goes (conf start (ws ++ replicate variables 0) [] (record { next = p; variables = vs; operands = ops } ∷ cs) (record s { steps = left }))
   entering start variables left p ws vs ops cs s count e =
       let c = conf p vs (reverse ws ++ ops) cs s in
       let size = length-reverse ws in
@@ -225,7 +225,7 @@ module _ (form : FormTree) (places : Places) (defined : List (List ℕ)) (fs : L
   -- what a call move does
   call_moves : (x : List ℕ) (e : Entered form places defined fs x) (v : Environment) (c : Configuration) → v.places ≡ places
       → instruction_move form (instruction.Call (names_before v.places.functions x)) c
-        ≡ call_move (Some (record { start = e.start; parameters = e.code.parameters; variables = e.code.variables })) c
+      ≡ call_move (Some (record { start = e.start; parameters = e.code.parameters; variables = e.code.variables })) c
   call_moves x e v c pl = ap (λ (q : Places). call_move (slice_get form.functions (names_before q.functions x)) c) pl ∙ ap (λ o. call_move o c) e.entry
 
   -- behind the step of a call
@@ -233,13 +233,13 @@ module _ (form : FormTree) (places : Places) (defined : List (List ℕ)) (fs : L
       (most left : ℕ) (allowed : Bool) (e : Entered form places defined fs f) → v.places ≡ places → length e.function.parameters ≡ length ws → slice_get form.code p ≡ Some (instruction.Call (names_before v.places.functions f))
       → Fits v total most vs s → most < suc m → s.steps ≡ suc left → nat_lt (1 + length cs) most_open ≡ allowed
       → Meets form (conf p vs (reverse ws ++ ops) cs s) (Value form cs total (conf p vs (reverse ws ++ ops) cs s) v most vs (p + 1) ops)
-        (elim allowed [ true ↦ run_optional (function_named fs f) m (calls m fs (1 + length cs + 1)) ws (record s { steps = left }) | false ↦ Wrong Depth s.output ])
+      (elim allowed [ true ↦ run_optional (function_named fs f) m (calls m fs (1 + length cs + 1)) ws (record s { steps = left }) | false ↦ Wrong Depth s.output ])
   entered_by cs total m ih v f ws p vs ops s most left false e pl many at h lt is deep =
       let c = conf (p + 1) vs (reverse ws ++ ops) cs s in
       let entry : Entry = record { start = e.start; parameters = e.code.parameters; variables = e.code.variables } in
       instructed_last form (instruction.Call (names_before v.places.functions f)) p vs (reverse ws ++ ops) cs s (outcome.Wrong Depth) at
       (call_moves f e v c pl ∙ ap (λ k. stepped k (λ l. if nat_lt (1 + length cs) most_open then entered entry l c else Stops (outcome.Wrong Depth))) is
-        ∙ ap (λ b. if b then entered entry left c else Stops (outcome.Wrong Depth)) deep)
+      ∙ ap (λ b. if b then entered entry left c else Stops (outcome.Wrong Depth)) deep)
   entered_by cs total m ih v f ws p vs ops s most left true e pl many at h lt is deep =
       let before = conf p vs (reverse ws ++ ops) cs s in
       let c = conf (p + 1) vs (reverse ws ++ ops) cs s in
@@ -252,34 +252,34 @@ module _ (form : FormTree) (places : Places) (defined : List (List ℕ)) (fs : L
       let t : State = record s { steps = left } in
       let inside = conf e.start (ws ++ replicate fc.variables 0) [] (a ∷ cs) t in
       let to : Leads form before inside =
-          instructed form (instruction.Call (names_before v.places.functions f)) p vs (reverse ws ++ ops) cs s inside at
-          (call_moves f e v c pl ∙ ap (λ k. stepped k (λ l. if nat_lt (1 + length cs) most_open then entered entry l c else Stops (outcome.Wrong Depth))) is
-            ∙ ap (λ b. if b then entered entry left c else Stops (outcome.Wrong Depth)) deep ∙ entering e.start fc.variables left (p + 1) ws vs ops cs s fc.parameters count) in
+      instructed form (instruction.Call (names_before v.places.functions f)) p vs (reverse ws ++ ops) cs s inside at
+      (call_moves f e v c pl ∙ ap (λ k. stepped k (λ l. if nat_lt (1 + length cs) most_open then entered entry l c else Stops (outcome.Wrong Depth))) is
+      ∙ ap (λ b. if b then entered entry left c else Stops (outcome.Wrong Depth)) deep ∙ entering e.start fc.variables left (p + 1) ws vs ops cs s fc.parameters count) in
       let call' : Calls = calls m fs (1 + length cs + 1) in
       let meets : (total' : ℕ) → CallsMeet form places TakesHere (a ∷ cs) total' m call' =
-          λ total'. subst (λ k. CallsMeet form places TakesHere (a ∷ cs) total' m (calls m fs k)) (let z : 1 + length (a ∷ cs) ≡ 1 + length cs + 1 = omega arith in z) (ih (a ∷ cs) total') in
+      λ total'. subst (λ k. CallsMeet form places TakesHere (a ∷ cs) total' m (calls m fs k)) (let z : 1 + length (a ∷ cs) ≡ 1 + length cs + 1 = omega arith in z) (ih (a ∷ cs) total') in
       let steps = h.steps in
       meets_same form before (Value form cs total before v most vs (p + 1) ops) (run_optional (function_named fs f) m call' ws t) (run_body g m call' ws t) (ap (λ o. run_optional o m call' ws t) e.is)
       (meets_then form before (λ flow u. Returned (a ∷ cs) before left (result_of flow) u) (Value form cs total before v most vs (p + 1) ops) (execute_all g.body m call' g.visible (record t { locals = bound g.parameters ws [] }))
-        (λ flow u. Gives (result_of flow) (record u { locals = t.locals }))
-        (meets_after form before inside (λ flow u. Returned (a ∷ cs) inside left (result_of flow) u) (λ flow u. Returned (a ∷ cs) before left (result_of flow) u) (execute_all g.body m call' g.visible (record t { locals = bound g.parameters ws [] })) to
-          (λ flow u r. record {
-            place = r.place;
-            variables = r.variables;
-            operands = r.operands;
-            here = r.here;
-            leads = leads_then form before inside (conf r.place r.variables (result_of flow ∷ r.operands) (a ∷ cs) u) to r.leads;
-            placed = r.placed;
-            steps = r.steps;
-          })
-          (body_meets (a ∷ cs) m call' meets g fc d e.start left ws t (sym many) e.stands (omega arith) (omega arith) (h.placed ∙ ap (λ (x : Places). x.objects) pl)))
-        (λ flow u r. returns_to cs total v (p + 1) most left (result_of flow) vs ops s u before pl (omega arith) h r))
+      (λ flow u. Gives (result_of flow) (record u { locals = t.locals }))
+      (meets_after form before inside (λ flow u. Returned (a ∷ cs) inside left (result_of flow) u) (λ flow u. Returned (a ∷ cs) before left (result_of flow) u) (execute_all g.body m call' g.visible (record t { locals = bound g.parameters ws [] })) to
+      (λ flow u r. record {
+        place = r.place;
+        variables = r.variables;
+        operands = r.operands;
+        here = r.here;
+        leads = leads_then form before inside (conf r.place r.variables (result_of flow ∷ r.operands) (a ∷ cs) u) to r.leads;
+        placed = r.placed;
+        steps = r.steps;
+      })
+      (body_meets (a ∷ cs) m call' meets g fc d e.start left ws t (sym many) e.stands (omega arith) (omega arith) (h.placed ∙ ap (λ (x : Places). x.objects) pl)))
+      (λ flow u r. returns_to cs total v (p + 1) most left (result_of flow) vs ops s u before pl (omega arith) h r))
 
   spent_by : (cs : List Activation) (total m : ℕ) (ih : (cs : List Activation) (total : ℕ) → CallsMeet form places TakesHere cs total m (calls m fs (1 + length cs))) (v : Environment) (f ws : List ℕ) (p : ℕ) (vs ops : List ℕ) (s : State)
       (most left : ℕ) (e : Entered form places defined fs f) → v.places ≡ places → length e.function.parameters ≡ length ws → slice_get form.code p ≡ Some (instruction.Call (names_before v.places.functions f))
       → Fits v total most vs s → most < suc m → s.steps ≡ left
       → Meets form (conf p vs (reverse ws ++ ops) cs s) (Value form cs total (conf p vs (reverse ws ++ ops) cs s) v most vs (p + 1) ops)
-        (spend_of left (λ t. elim (nat_lt (1 + length cs) most_open) [ true ↦ body_part fs (1 + length cs) f ws m t | false ↦ Wrong Depth t.output ]) s)
+      (spend_of left (λ t. elim (nat_lt (1 + length cs) most_open) [ true ↦ body_part fs (1 + length cs) f ws m t | false ↦ Wrong Depth t.output ]) s)
   spent_by cs total m ih v f ws p vs ops s most zero e pl many at h lt is =
       let c = conf (p + 1) vs (reverse ws ++ ops) cs s in
       let entry : Entry = record { start = e.start; parameters = e.code.parameters; variables = e.code.variables } in
@@ -299,13 +299,13 @@ module _ (form : FormTree) (places : Places) (defined : List (List ℕ)) (fs : L
       let c = conf p vs (reverse ws ++ ops) cs s in
       meets_same form c (Value form cs total c v most vs (p + 1) ops) (calls (suc m) fs (1 + length cs) f ws s) (read_input s.input s)
       (ap (λ b. begun b (same_name f (codes "read_word")) (nat_lt (1 + length cs) most_open) (body_part fs (1 + length cs) f ws) ws m s) not_write
-        ∙ ap (λ b. begun false b (nat_lt (1 + length cs) most_open) (body_part fs (1 + length cs) f ws) ws m s) is) (read_meets cs total v f ws p vs ops s most not_write is none at h)
+      ∙ ap (λ b. begun false b (nat_lt (1 + length cs) most_open) (body_part fs (1 + length cs) f ws) ws m s) is) (read_meets cs total v f ws p vs ops s most not_write is none at h)
   call_by cs total m ih v f ws p vs ops s most pl (Enters not_write other has many) at h lt =
       let c = conf p vs (reverse ws ++ ops) cs s in
       let e = table f has in
       let called : call_of v f ≡ instruction.Call (names_before v.places.functions f) =
-          ap (λ b. if b then instruction.Write else (if same_name (codes "read_word") f then instruction.Read else instruction.Call (names_before v.places.functions f))) (same_name_symm (codes "write_word") f ∙ not_write)
-          ∙ ap (λ b. if b then instruction.Read else instruction.Call (names_before v.places.functions f)) (same_name_symm (codes "read_word") f ∙ other) in
+      ap (λ b. if b then instruction.Write else (if same_name (codes "read_word") f then instruction.Read else instruction.Call (names_before v.places.functions f))) (same_name_symm (codes "write_word") f ∙ not_write)
+      ∙ ap (λ b. if b then instruction.Read else instruction.Call (names_before v.places.functions f)) (same_name_symm (codes "read_word") f ∙ other) in
       meets_same form c (Value form cs total c v most vs (p + 1) ops) (calls (suc m) fs (1 + length cs) f ws s) (begun false false (nat_lt (1 + length cs) most_open) (body_part fs (1 + length cs) f ws) ws m s)
       (call_begins fs (1 + length cs) f ws m s not_write other) (spent_by cs total m ih v f ws p vs ops s most s.steps e pl (many e.function e.is) (at ∙ ap Some called) h lt refl)
 
@@ -318,15 +318,15 @@ module _ (form : FormTree) (places : Places) (defined : List (List ℕ)) (fs : L
   -- a body that no other calls: the run stops as the source does
   pub main_meets : (n : ℕ) (e : (x : List ℕ) × Entered form places defined fs x) (t : State) (opened : ℕ) → opened ≡ 1 → (e.1).function.parameters ≡ [] → t.steps < n → places_from 0 t.globals ≡ places.objects
       → Meets form (conf (e.1).start (replicate (e.1).code.variables 0) [] [] t) (λ w u. Halts form (conf (e.1).start (replicate (e.1).code.variables 0) [] [] t) (record { stop = outcome.Ended w; output = u.output }))
-        (run_body (e.1).function n (calls n fs opened) [] t)
+      (run_body (e.1).function n (calls n fs opened) [] t)
   main_meets n e t opened one none lt placed =
       let x = e.1 in
       let g = x.function in
       let c = conf x.start (replicate x.code.variables 0) [] [] t in
       let meets : (total' : ℕ) → CallsMeet form places TakesHere [] total' n (calls n fs opened) =
-          λ total'. subst (λ k. CallsMeet form places TakesHere [] total' n (calls n fs k)) (let z : 1 + 0 ≡ opened = omega arith in z) (calls_meet n [] total') in
+      λ total'. subst (λ k. CallsMeet form places TakesHere [] total' n (calls n fs k)) (let z : 1 + 0 ≡ opened = omega arith in z) (calls_meet n [] total') in
       meets_then form c (λ flow u. Returned [] c t.steps (result_of flow) u) (λ w u. Halts form c (record { stop = outcome.Ended w; output = u.output })) (execute_all g.body n (calls n fs opened) g.visible (record t { locals = bound g.parameters [] [] }))
       (λ flow u. Gives (result_of flow) (record u { locals = t.locals }))
       (body_meets [] n (calls n fs opened) meets g x.code x.means x.start t.steps [] t (ap (λ (xs : List (List ℕ)). length xs) (sym none)) x.stands lt (omega arith) placed)
       (λ flow u r. (r.leads).goes (record { stop = outcome.Ended (result_of flow); output = u.output })
-        (instructed_last form instruction.Return r.place r.variables (result_of flow ∷ r.operands) [] u (outcome.Ended (result_of flow)) r.here refl))
+      (instructed_last form instruction.Return r.place r.variables (result_of flow ∷ r.operands) [] u (outcome.Ended (result_of flow)) r.here refl))

@@ -36,7 +36,7 @@ module _ (form : FormTree) (cs : List Activation) (total : ℕ) (places : Places
       meets_then form c (Value form cs total c v most vs (p + length code) ops) (Value form cs total c v most vs (p + length (code ++ last)) ops) (evaluate e (types_in v) call s)
       (λ i t. read_element x.text i t) (f p ops s (stands_left form.code p code last st) h)
       (λ i t got. value_after form cs total v most vs ops c (conf (p + length code) vs (i ∷ ops) cs t) (p + length code + 1) (p + length (code ++ last)) (read_element x.text i t) got.leads (omega arith)
-        (element_meets form cs total v most vs ops (p + length code) i x.text t in_last.0 got.fits))
+      (element_meets form cs total v most vs ops (p + length code) i x.text t in_last.0 got.fits))
 
   unary_part : (e : Expr) (op : _) (v : Environment) (most : ℕ) (vs : List ℕ) → Part form cs total v most vs (expression_code v e) (evaluate e (types_in v) call)
       → Part form cs total v most vs (expression_code v (Unary op e)) (evaluate (Unary op e) (types_in v) call)
@@ -47,7 +47,7 @@ module _ (form : FormTree) (cs : List Activation) (total : ℕ) (places : Places
       meets_then form c (Value form cs total c v most vs (p + length code) ops) (Value form cs total c v most vs (p + length (code ++ unary_code op)) ops) (evaluate e (types_in v) call s)
       (λ a t. Gives (unary_word op a) t) (f p ops s (stands_left form.code p code (unary_code op) st) h)
       (λ a t got. value_after form cs total v most vs ops c (conf (p + length code) vs (a ∷ ops) cs t) (p + length code + length (unary_code op)) (p + length (code ++ unary_code op)) (Gives (unary_word op a) t) got.leads (omega arith)
-        (unary_leads form cs total v most vs ops (p + length code) a op t (stands_right form.code p (p + length code) code (unary_code op) refl st) got.fits))
+      (unary_leads form cs total v most vs ops (p + length code) a op t (stands_right form.code p (p + length code) code (unary_code op) refl st) got.fits))
 
   call_part : (f : Name) (es : Exprs) (v : Environment) (most : ℕ) (vs : List ℕ) → Scoped places defined Takes v → most < n → Takes f.text (count_of es) → Arguments v most vs es
       → Part form cs total v most vs (expression_code v (Call f es)) (evaluate (Call f es) (types_in v) call)
@@ -60,7 +60,7 @@ module _ (form : FormTree) (cs : List Activation) (total : ℕ) (places : Places
       meets_then form c (Values form cs total c v most vs (p + length code) (count_of es) ops) (Value form cs total c v most vs (p + length (code ++ last)) ops) (evaluate_all es (types_in v) call s)
       (λ ws t. call f.text ws t) (args p ops s (stands_left form.code p code last st) h)
       (λ ws t got. value_after form cs total v most vs ops c (conf (p + length code) vs (reverse ws ++ ops) cs t) (p + length code + 1) (p + length (code ++ last)) (call f.text ws t) got.leads (omega arith)
-        (calls_meet v f.text ws (p + length code) vs ops t most scoped.placed (subst (Takes f.text) (sym got.many) takes) in_last.0 got.fits lt))
+      (calls_meet v f.text ws (p + length code) vs ops t most scoped.placed (subst (Takes f.text) (sym got.many) takes) in_last.0 got.fits lt))
 
   takes_of : (f : Name) (es : Exprs) (v : Environment) → Scoped places defined Takes v → function_offences (found (types_in v) f.text) (count_of es) f.at ≡ []
       → undefined_among defined (called_in (Call f es)) ≡ [] → Takes f.text (count_of es)
@@ -79,17 +79,17 @@ module _ (form : FormTree) (cs : List Activation) (total : ℕ) (places : Places
       meets_then form c (Value form cs total c v most vs q ops) (Values form cs total c v most vs end (1 + count_of rest) ops) (evaluate e (types_in v) call s)
       (λ w t. then_do (evaluate_all rest (types_in v) call t) (λ ws u. Gives (w ∷ ws) u)) (f p ops s (stands_left form.code p code others st) h)
       (λ w t got.
-        let d = conf q vs (w ∷ ops) cs t in
-        meets_after form c d (Values form cs total d v most vs end (1 + count_of rest) ops) (Values form cs total c v most vs end (1 + count_of rest) ops) (then_do (evaluate_all rest (types_in v) call t) (λ ws u. Gives (w ∷ ws) u)) got.leads
-        (λ ws u x. record { fits = x.fits; many = x.many; leads = leads_then form c d (conf end vs (reverse ws ++ ops) cs u) got.leads x.leads })
-        (meets_then form d (Values form cs total d v most vs (q + length others) (count_of rest) (w ∷ ops)) (Values form cs total d v most vs end (1 + count_of rest) ops) (evaluate_all rest (types_in v) call t) (λ ws u. Gives (w ∷ ws) u)
-          (g q (w ∷ ops) t (stands_right form.code p q code others refl st) got.fits)
-          (λ ws u x. record {
-            fits = x.fits;
-            many = (let k = x.many in omega arith);
-            leads = subst (λ (os : List ℕ). Leads form d (conf end vs os cs u)) (sym (newest_last w ws ops))
-                (subst (λ k. Leads form d (conf k vs (reverse ws ++ (w ∷ ops)) cs u)) (let z : q + length others ≡ end = omega arith in z) x.leads);
-          })))
+      let d = conf q vs (w ∷ ops) cs t in
+      meets_after form c d (Values form cs total d v most vs end (1 + count_of rest) ops) (Values form cs total c v most vs end (1 + count_of rest) ops) (then_do (evaluate_all rest (types_in v) call t) (λ ws u. Gives (w ∷ ws) u)) got.leads
+      (λ ws u x. record { fits = x.fits; many = x.many; leads = leads_then form c d (conf end vs (reverse ws ++ ops) cs u) got.leads x.leads })
+      (meets_then form d (Values form cs total d v most vs (q + length others) (count_of rest) (w ∷ ops)) (Values form cs total d v most vs end (1 + count_of rest) ops) (evaluate_all rest (types_in v) call t) (λ ws u. Gives (w ∷ ws) u)
+      (g q (w ∷ ops) t (stands_right form.code p q code others refl st) got.fits)
+      (λ ws u x. record {
+        fits = x.fits;
+        many = (let k = x.many in omega arith);
+        leads = subst (λ (os : List ℕ). Leads form d (conf end vs os cs u)) (sym (newest_last w ws ops))
+            (subst (λ k. Leads form d (conf k vs (reverse ws ++ (w ∷ ops)) cs u)) (let z : q + length others ≡ end = omega arith in z) x.leads);
+      })))
 
   mutual
     pub expression_meets : (e : Expr) (v : Environment) (most : ℕ) (vs : List ℕ) → Scoped places defined Takes v → most < n → expression_offences (types_in v) e ≡ [] → undefined_among defined (called_in e) ≡ []

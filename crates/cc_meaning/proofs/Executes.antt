@@ -62,7 +62,7 @@ module _ (form : FormTree) (cs : List Activation) (total : ℕ) (places : Places
   Does falls v x most code part =
       (p b k : ℕ) (vs : List ℕ) (t : State) → b ≡ p + length code + x.breaks → k ≡ p + length code + x.continues → b ≤ length form.code → k ≤ length form.code → Stands form.code p code → Fits v total most vs t
       → Meets form (conf p vs [] cs t)
-        (Done form cs total places (conf p vs [] cs t) most (falls (conf p vs [] cs t) (p + length code)) (Leaves form cs total (conf p vs [] cs t) v most b) (Leaves form cs total (conf p vs [] cs t) v most k)) (part t)
+      (Done form cs total places (conf p vs [] cs t) most (falls (conf p vs [] cs t) (p + length code)) (Leaves form cs total (conf p vs [] cs t) v most b) (Leaves form cs total (conf p vs [] cs t) v most k)) (part t)
 
   -- a statement, behind which there is an environment
   abbrev StatementDoes : Environment → Environment → Exits → ℕ → List Instruction → (State → Run Flow) → Type 0
@@ -77,7 +77,7 @@ module _ (form : FormTree) (cs : List Activation) (total : ℕ) (places : Places
   BlockDoes v x most code part =
       (p b k : ℕ) (vs : List ℕ) (t : State) → b ≡ p + length code + x.breaks → k ≡ p + length code + x.continues → b ≤ length form.code → k ≤ length form.code → Stands form.code p code → Fits v total most vs t
       → Meets form (conf p vs [] cs t)
-        (Done form cs total places (conf p vs [] cs t) most (Reaches form cs total (conf p vs [] cs t) v most (p + length code)) (Reaches form cs total (conf p vs [] cs t) v most b) (Reaches form cs total (conf p vs [] cs t) v most k)) (part t)
+      (Done form cs total places (conf p vs [] cs t) most (Reaches form cs total (conf p vs [] cs t) v most (p + length code)) (Reaches form cs total (conf p vs [] cs t) v most b) (Reaches form cs total (conf p vs [] cs t) v most k)) (part t)
 
   block_of_list : (v : Environment) (x : Exits) (most : ℕ) (code : List Instruction) (part : State → Run Flow) → ListDoes (inner v) x most code part → BlockDoes v x most code (in_block part)
   block_of_list v x most code part f p b k vs t eb ek lb lk st h =
@@ -86,11 +86,11 @@ module _ (form : FormTree) (cs : List Activation) (total : ℕ) (places : Places
       let q = p + length code in
       block_meets form cs total places c v most q b k vs t part h
       (done_after form cs total places c c most most (Leaves form cs total c w most q) (Leaves form cs total c w most b) (Leaves form cs total c w most k) (Leaves form cs total c v most q) (Leaves form cs total c v most b) (Leaves form cs total c v most k) (part t)
-        (leads_refl form c) (omega arith)
-        (λ u y. leaves_after form cs total c c w v [] most most q q u (leads_refl form c) refl refl (omega arith) refl y)
-        (λ u y. leaves_after form cs total c c w v [] most most b b u (leads_refl form c) refl refl (omega arith) refl y)
-        (λ u y. leaves_after form cs total c c w v [] most most k k u (leads_refl form c) refl refl (omega arith) refl y)
-        (f p b k vs t eb ek lb lk st (fits_env v w total most vs t refl refl h)))
+      (leads_refl form c) (omega arith)
+      (λ u y. leaves_after form cs total c c w v [] most most q q u (leads_refl form c) refl refl (omega arith) refl y)
+      (λ u y. leaves_after form cs total c c w v [] most most b b u (leads_refl form c) refl refl (omega arith) refl y)
+      (λ u y. leaves_after form cs total c c w v [] most most k k u (leads_refl form c) refl refl (omega arith) refl y)
+      (f p b k vs t eb ek lb lk st (fits_env v w total most vs t refl refl h)))
 
   list_of_statement : (v w : Environment) (extra : List (List ℕ)) (x : Exits) (most : ℕ) (code : List Instruction) (part : State → Run Flow) → w.locals ≡ extra ++ v.locals → w.places ≡ v.places
       → StatementDoes v w x most code part → ListDoes v x most code part
@@ -175,7 +175,7 @@ module _ (form : FormTree) (cs : List Activation) (total : ℕ) (places : Places
   arm_meets : (v : Environment) (x : Exits) (most p b k w : ℕ) (vs : List ℕ) (arm : List Instruction) (part : State → Run Flow) (t : State) → BlockDoes v x most arm part
       → slice_get form.code p ≡ Some (instruction.JumpIfZero (length arm)) → Stands form.code (p + 1) arm → b ≡ p + 1 + length arm + x.breaks → k ≡ p + 1 + length arm + x.continues → b ≤ length form.code → k ≤ length form.code → Fits v total most vs t
       → Meets form (conf p vs (w ∷ []) cs t) (Done form cs total places (conf p vs (w ∷ []) cs t) most (Reaches form cs total (conf p vs (w ∷ []) cs t) v most (p + 1 + length arm))
-          (Reaches form cs total (conf p vs (w ∷ []) cs t) v most b) (Reaches form cs total (conf p vs (w ∷ []) cs t) v most k)) (choose w part (λ u. Gives Falls u) t)
+      (Reaches form cs total (conf p vs (w ∷ []) cs t) v most b) (Reaches form cs total (conf p vs (w ∷ []) cs t) v most k)) (choose w part (λ u. Gives Falls u) t)
   arm_meets v x most p b k zero vs arm part t f e st eb ek lb lk h = record {
     variables = vs;
     fits = h;
@@ -202,18 +202,18 @@ module _ (form : FormTree) (cs : List Activation) (total : ℕ) (places : Places
       meets_then form c (Value form cs total c v most vs q []) (Done form cs total places c most (Reaches form cs total c v most end_at) (Reaches form cs total c v most b) (Reaches form cs total c v most k)) (condition t)
       (λ w u. choose w part (λ y. Gives Falls y) u) (f vs p [] t (stands_left form.code p test others st) h)
       (λ w u got.
-        let d = conf q vs (w ∷ []) cs u in
-        done_after form cs total places c d most most (Reaches form cs total d v most (q + 1 + length arm)) (Reaches form cs total d v most b) (Reaches form cs total d v most k) (Reaches form cs total c v most end_at) (Reaches form cs total c v most b) (Reaches form cs total c v most k)
-        (choose w part (λ y. Gives Falls y) u) got.leads (omega arith) (λ y z. reaches_after form cs total c d v v most most (q + 1 + length arm) end_at y got.leads refl refl (omega arith) (omega arith) z)
-        (λ y z. reaches_after form cs total c d v v most most b b y got.leads refl refl (omega arith) refl z) (λ y z. reaches_after form cs total c d v v most most k k y got.leads refl refl (omega arith) refl z)
-        (arm_meets v x most q b k w vs arm part u g in_arm.0 in_arm.1 (omega arith) (omega arith) lb lk got.fits))
+      let d = conf q vs (w ∷ []) cs u in
+      done_after form cs total places c d most most (Reaches form cs total d v most (q + 1 + length arm)) (Reaches form cs total d v most b) (Reaches form cs total d v most k) (Reaches form cs total c v most end_at) (Reaches form cs total c v most b) (Reaches form cs total c v most k)
+      (choose w part (λ y. Gives Falls y) u) got.leads (omega arith) (λ y z. reaches_after form cs total c d v v most most (q + 1 + length arm) end_at y got.leads refl refl (omega arith) (omega arith) z)
+      (λ y z. reaches_after form cs total c d v v most most b b y got.leads refl refl (omega arith) refl z) (λ y z. reaches_after form cs total c d v v most most k k y got.leads refl refl (omega arith) refl z)
+      (arm_meets v x most q b k w vs arm part u g in_arm.0 in_arm.1 (omega arith) (omega arith) lb lk got.fits))
 
   -- both arms
   arms_meet : (v : Environment) (x : Exits) (most p b k w : ℕ) (vs : List ℕ) (first second : List Instruction) (part other : State → Run Flow) (t : State) → BlockDoes v (further (length second + 1) x) most first part → BlockDoes v x most second other
       → slice_get form.code p ≡ Some (instruction.JumpIfZero (length first + 1)) → Stands form.code (p + 1) first → slice_get form.code (p + 1 + length first) ≡ Some (instruction.Jump (length second)) → Stands form.code (p + 1 + length first + 1) second
       → b ≡ p + 1 + length first + 1 + length second + x.breaks → k ≡ p + 1 + length first + 1 + length second + x.continues → b ≤ length form.code → k ≤ length form.code → Fits v total most vs t
       → Meets form (conf p vs (w ∷ []) cs t) (Done form cs total places (conf p vs (w ∷ []) cs t) most (Reaches form cs total (conf p vs (w ∷ []) cs t) v most (p + 1 + length first + 1 + length second))
-          (Reaches form cs total (conf p vs (w ∷ []) cs t) v most b) (Reaches form cs total (conf p vs (w ∷ []) cs t) v most k)) (choose w part other t)
+      (Reaches form cs total (conf p vs (w ∷ []) cs t) v most b) (Reaches form cs total (conf p vs (w ∷ []) cs t) v most k)) (choose w part other t)
   arms_meet v x most p b k zero vs first second part other t f g e st e' st' eb ek lb lk h =
       let c = conf p vs (zero ∷ []) cs t in
       let at = p + 1 + length first + 1 in
@@ -257,11 +257,11 @@ module _ (form : FormTree) (cs : List Activation) (total : ℕ) (places : Places
       meets_then form c (Value form cs total c v most vs q []) (Done form cs total places c most (Reaches form cs total c v most end_at) (Reaches form cs total c v most b) (Reaches form cs total c v most k)) (condition t)
       (λ w u. choose w part other u) (f vs p [] t (stands_left form.code p test (instruction.JumpIfZero (length first + 1) ∷ first) in_front) h)
       (λ w u got.
-        let d = conf q vs (w ∷ []) cs u in
-        done_after form cs total places c d most most (Reaches form cs total d v most z) (Reaches form cs total d v most b) (Reaches form cs total d v most k) (Reaches form cs total c v most end_at) (Reaches form cs total c v most b) (Reaches form cs total c v most k)
-        (choose w part other u) got.leads (omega arith) (λ y m. reaches_after form cs total c d v v most most z end_at y got.leads refl refl (omega arith) (omega arith) m)
-        (λ y m. reaches_after form cs total c d v v most most b b y got.leads refl refl (omega arith) refl m) (λ y m. reaches_after form cs total c d v v most most k k y got.leads refl refl (omega arith) refl m)
-        (arms_meet v x most q b k w vs first second part other u g r in_first.0 in_first.1 in_last.0 in_last.1 (omega arith) (omega arith) lb lk got.fits))
+      let d = conf q vs (w ∷ []) cs u in
+      done_after form cs total places c d most most (Reaches form cs total d v most z) (Reaches form cs total d v most b) (Reaches form cs total d v most k) (Reaches form cs total c v most end_at) (Reaches form cs total c v most b) (Reaches form cs total c v most k)
+      (choose w part other u) got.leads (omega arith) (λ y m. reaches_after form cs total c d v v most most z end_at y got.leads refl refl (omega arith) (omega arith) m)
+      (λ y m. reaches_after form cs total c d v v most most b b y got.leads refl refl (omega arith) refl m) (λ y m. reaches_after form cs total c d v v most most k k y got.leads refl refl (omega arith) refl m)
+      (arms_meet v x most q b k w vs first second part other u g r in_first.0 in_first.1 in_last.0 in_last.1 (omega arith) (omega arith) lb lk got.fits))
 
   -- ---- loops
 
@@ -279,8 +279,8 @@ module _ (form : FormTree) (cs : List Activation) (total : ℕ) (places : Places
   turns_there : (v : Environment) (body following test : List Instruction) (condition : State → Run ℕ) (inside part : State → Run Flow) (p : ℕ) → v.places ≡ places → Loop form.code body following test p
       → TestDoes v test condition → BodyDoes v (exits_of_body following test) body inside → FollowingDoes v following part → (i most : ℕ) (vs : List ℕ) (t : State) → most < i → most < n → Fits v total most vs t
       → Meets form (conf (p + 1 + length body + length following) vs [] cs t)
-        (Done form cs total places (conf (p + 1 + length body + length following) vs [] cs t) most (Reaches form cs total (conf (p + 1 + length body + length following) vs [] cs t) v most (p + 1 + length body + length following + length test + 1)) Never Never)
-        (turns i condition inside part t)
+      (Done form cs total places (conf (p + 1 + length body + length following) vs [] cs t) most (Reaches form cs total (conf (p + 1 + length body + length following) vs [] cs t) v most (p + 1 + length body + length following + length test + 1)) Never Never)
+      (turns i condition inside part t)
   turns_there v body following test condition inside part p pl loop tests bodies follows i most vs t lt less h =
       let ends = loop.ends in
       turns_meet form cs total n places v pl body following test p loop condition inside part i most Never Never vs t tests
@@ -310,7 +310,7 @@ module _ (form : FormTree) (cs : List Activation) (total : ℕ) (places : Places
   do_meets : (v : Environment) (body test : List Instruction) (condition : State → Run ℕ) (inside : State → Run Flow) → v.places ≡ places
       → TestDoes v test condition → BodyDoes v (exits_of_body [] test) body inside → (most p : ℕ) (vs : List ℕ) (t : State) → most < n → Stands form.code p (turns_code body [] test) → Fits v total most vs t
       → Meets form (conf p vs [] cs t) (Done form cs total places (conf p vs [] cs t) most (Reaches form cs total (conf p vs [] cs t) v most (p + length (turns_code body [] test))) Never Never)
-        (begin_body inside (turns (suc n) condition inside (λ u. Gives Falls u)) t)
+      (begin_body inside (turns (suc n) condition inside (λ u. Gives Falls u)) t)
   do_meets v body test condition inside pl tests bodies most p vs t lt st h =
       let c = conf p vs [] cs t in
       let loop = loop_stands form.code body [] test p st in
@@ -327,11 +327,11 @@ module _ (form : FormTree) (cs : List Activation) (total : ℕ) (places : Places
       done_after form cs total places c c most most (Reaches form cs total c v most q) Never Never (Reaches form cs total c v most end_at) Never Never (begin_body inside (turns (suc n) condition inside (λ u. Gives Falls u)) t) (leads_refl form c) (omega arith)
       (λ u y. reaches_after form cs total c c v v most most q end_at u (leads_refl form c) refl refl (omega arith) (omega arith) y) (λ u y. y) (λ u y. y)
       (begins_meet form cs total n places v pl body [] test p loop condition inside (λ u. Gives Falls u) most Never Never vs (turns (suc n) condition inside (λ u. Gives Falls u)) t
-        (λ fewer vs' u lt' fits. bodies fewer lt' (p + 1) q (p + 1 + length body) vs' u (omega arith) (omega arith) (omega arith) (omega arith) loop.has_body fits) lt h
-        (λ fewer vs' u lt' fits.
-          subst (λ m. Meets form (conf m vs' [] cs u) (Done form cs total places (conf m vs' [] cs u) fewer (Reaches form cs total (conf m vs' [] cs u) v fewer q) Never Never) (turns (suc n) condition inside (λ y. Gives Falls y) u))
-          (let z : p + 1 + length body + 0 ≡ p + 1 + length body = omega arith in z)
-          (turns_there v body [] test condition inside (λ y. Gives Falls y) p pl loop tests bodies nothing (suc n) fewer vs' u (omega arith) (omega arith) fits)))
+      (λ fewer vs' u lt' fits. bodies fewer lt' (p + 1) q (p + 1 + length body) vs' u (omega arith) (omega arith) (omega arith) (omega arith) loop.has_body fits) lt h
+      (λ fewer vs' u lt' fits.
+      subst (λ m. Meets form (conf m vs' [] cs u) (Done form cs total places (conf m vs' [] cs u) fewer (Reaches form cs total (conf m vs' [] cs u) v fewer q) Never Never) (turns (suc n) condition inside (λ y. Gives Falls y) u))
+      (let z : p + 1 + length body + 0 ≡ p + 1 + length body = omega arith in z)
+      (turns_there v body [] test condition inside (λ y. Gives Falls y) p pl loop tests bodies nothing (suc n) fewer vs' u (omega arith) (omega arith) fits)))
 
   -- a part that only falls through or returns is left as any statement is
   never_leaves : (v w : Environment) (x : Exits) (most : ℕ) (code : List Instruction) (part : State → Run Flow)
@@ -355,12 +355,12 @@ module _ (form : FormTree) (cs : List Activation) (total : ℕ) (places : Places
       meets_then form c (Acted form cs total c w most q) (Done form cs total places c most (Leaves form cs total c v most end_at) (Leaves form cs total c v most b) (Leaves form cs total c v most k)) (part t) (λ flow u. rest u)
       (f p vs t (stands_left form.code p code others st) h)
       (λ flow u got.
-        let d = conf q got.variables [] cs u in
-        let z = q + length others in
-        done_after form cs total places c d most most (Reaches form cs total d w most z) (Leaves form cs total d w most b) (Leaves form cs total d w most k) (Leaves form cs total c v most end_at) (Leaves form cs total c v most b) (Leaves form cs total c v most k) (rest u) got.leads (omega arith)
-        (λ y m. reaches_leaves form cs total c d w v extra most most z end_at y got.leads e pl (omega arith) (omega arith) m)
-        (λ y m. leaves_after form cs total c d w v extra most most b b y got.leads e pl (omega arith) refl m) (λ y m. leaves_after form cs total c d w v extra most most k k y got.leads e pl (omega arith) refl m)
-        (g q b k got.variables u (omega arith) (omega arith) lb lk (stands_right form.code p q code others refl st) got.fits))
+      let d = conf q got.variables [] cs u in
+      let z = q + length others in
+      done_after form cs total places c d most most (Reaches form cs total d w most z) (Leaves form cs total d w most b) (Leaves form cs total d w most k) (Leaves form cs total c v most end_at) (Leaves form cs total c v most b) (Leaves form cs total c v most k) (rest u) got.leads (omega arith)
+      (λ y m. reaches_leaves form cs total c d w v extra most most z end_at y got.leads e pl (omega arith) (omega arith) m)
+      (λ y m. leaves_after form cs total c d w v extra most most b b y got.leads e pl (omega arith) refl m) (λ y m. leaves_after form cs total c d w v extra most most k k y got.leads e pl (omega arith) refl m)
+      (g q b k got.variables u (omega arith) (omega arith) lb lk (stands_right form.code p q code others refl st) got.fits))
 
   -- behind a statement, the rest of a list
   flow_meets : (v w : Environment) (x : Exits) (most q end_at b k : ℕ) (others : List Instruction) (rest : State → Run Flow) (extra : List (List ℕ)) (c : Configuration) (flow : Flow) (u : State) → w.locals ≡ extra ++ v.locals → w.places ≡ v.places
@@ -434,9 +434,9 @@ module _ (form : FormTree) (cs : List Activation) (total : ℕ) (places : Places
         statement_of_block v x most (expression_code v c ++ instruction.JumpIfZero (length code) ∷ code)
         (λ t. then_do (evaluate c (types_in v) call t) (λ w u. choose w (in_block (execute s n call (opened v.visible))) (λ y. Gives Falls y) u))
         (if_meets v x most (expression_code v c) code (evaluate c (types_in v) call) (in_block (execute s n call (opened v.visible)))
-          (λ vs. used c v most vs scoped lt of_c (defined_left defined (called_in c) (called_in_statement s) d))
-          (block_of_statement s v x most code (execute s n call (opened v.visible)) scoped
-            (execute_meets s (inner v) x a most (scoped_inner places defined Takes v scoped) lt of_s (defined_right defined (called_in c) (called_in_statement s) d) room)))
+        (λ vs. used c v most vs scoped lt of_c (defined_left defined (called_in c) (called_in_statement s) d))
+        (block_of_statement s v x most code (execute s n call (opened v.visible)) scoped
+        (execute_meets s (inner v) x a most (scoped_inner places defined Takes v scoped) lt of_s (defined_right defined (called_in c) (called_in_statement s) d) room)))
     execute_meets (IfElse c s r) v x a most scoped lt o d room =
         let second = statement_code (inner v) x r in
         let first = statement_code (inner v) (further (length second + 1) x) s in
@@ -448,13 +448,13 @@ module _ (form : FormTree) (cs : List Activation) (total : ℕ) (places : Places
         statement_of_block v x most (expression_code v c ++ instruction.JumpIfZero (length first + 1) ∷ first ++ instruction.Jump (length second) ∷ second)
         (λ t. then_do (evaluate c (types_in v) call t) (λ w u. choose w (in_block (execute s n call (opened v.visible))) (in_block (execute r n call (opened v.visible))) u))
         (if_else_meets v x most (expression_code v c) first second (evaluate c (types_in v) call) (in_block (execute s n call (opened v.visible))) (in_block (execute r n call (opened v.visible)))
-          (λ vs. used c v most vs scoped lt of_c (defined_left defined (called_in c) (called_in_statement s ++ called_in_statement r) d))
-          (block_of_statement s v (further (length second + 1) x) most first (execute s n call (opened v.visible)) scoped
-            (execute_meets s (inner v) (further (length second + 1) x) a most scoped' lt (nil_left (statement_offences s a (opened v.visible)) (statement_offences r a (opened v.visible)) of_both)
-              (defined_left defined (called_in_statement s) (called_in_statement r) d_both) (omega arith)))
-          (block_of_statement r v x most second (execute r n call (opened v.visible)) scoped
-            (execute_meets r (inner v) x a most scoped' lt (nil_right (statement_offences s a (opened v.visible)) (statement_offences r a (opened v.visible)) of_both)
-              (defined_right defined (called_in_statement s) (called_in_statement r) d_both) (omega arith))))
+        (λ vs. used c v most vs scoped lt of_c (defined_left defined (called_in c) (called_in_statement s ++ called_in_statement r) d))
+        (block_of_statement s v (further (length second + 1) x) most first (execute s n call (opened v.visible)) scoped
+        (execute_meets s (inner v) (further (length second + 1) x) a most scoped' lt (nil_left (statement_offences s a (opened v.visible)) (statement_offences r a (opened v.visible)) of_both)
+        (defined_left defined (called_in_statement s) (called_in_statement r) d_both) (omega arith)))
+        (block_of_statement r v x most second (execute r n call (opened v.visible)) scoped
+        (execute_meets r (inner v) x a most scoped' lt (nil_right (statement_offences s a (opened v.visible)) (statement_offences r a (opened v.visible)) of_both)
+        (defined_right defined (called_in_statement s) (called_in_statement r) d_both) (omega arith))))
     execute_meets (While c s) v x a most scoped lt o d room =
         let test = expression_code v c in
         let out = exits_of_body [] test in
@@ -464,10 +464,10 @@ module _ (form : FormTree) (cs : List Activation) (total : ℕ) (places : Places
         let inside : State → Run Flow = in_block (execute s n call (opened v.visible)) in
         never_leaves v v x most (loop_code body [] test) (turns (suc n) (evaluate c (types_in v) call) inside (λ u. Gives Falls u))
         (λ p vs t st h. loop_meets v body [] test (evaluate c (types_in v) call) inside (λ u. Gives Falls u) scoped.placed
-          (λ most' vs' lt'. used c v most' vs' scoped lt' of_c (defined_left defined (called_in c) (called_in_statement s) d))
-          (λ most' lt'. block_of_statement s v out most' body (execute s n call (opened v.visible)) scoped
-            (execute_meets s (inner v) out (within_loop a) most' (scoped_inner places defined Takes v scoped) lt' of_s (defined_right defined (called_in c) (called_in_statement s) d) room))
-          (nothing_follows v) most p vs t lt st h)
+        (λ most' vs' lt'. used c v most' vs' scoped lt' of_c (defined_left defined (called_in c) (called_in_statement s) d))
+        (λ most' lt'. block_of_statement s v out most' body (execute s n call (opened v.visible)) scoped
+        (execute_meets s (inner v) out (within_loop a) most' (scoped_inner places defined Takes v scoped) lt' of_s (defined_right defined (called_in c) (called_in_statement s) d) room))
+        (nothing_follows v) most p vs t lt st h)
     execute_meets (DoWhile s c) v x a most scoped lt o d room =
         let test = expression_code v c in
         let out = exits_of_body [] test in
@@ -477,10 +477,10 @@ module _ (form : FormTree) (cs : List Activation) (total : ℕ) (places : Places
         let inside : State → Run Flow = in_block (execute s n call (opened v.visible)) in
         never_leaves v v x most (turns_code body [] test) (begin_body inside (turns (suc n) (evaluate c (types_in v) call) inside (λ u. Gives Falls u)))
         (λ p vs t st h. do_meets v body test (evaluate c (types_in v) call) inside scoped.placed
-          (λ most' vs' lt'. used c v most' vs' scoped lt' of_c (defined_right defined (called_in_statement s) (called_in c) d))
-          (λ most' lt'. block_of_statement s v out most' body (execute s n call (opened v.visible)) scoped
-            (execute_meets s (inner v) out (within_loop a) most' (scoped_inner places defined Takes v scoped) lt' of_s (defined_left defined (called_in_statement s) (called_in c) d) room))
-          most p vs t lt st h)
+        (λ most' vs' lt'. used c v most' vs' scoped lt' of_c (defined_right defined (called_in_statement s) (called_in c) d))
+        (λ most' lt'. block_of_statement s v out most' body (execute s n call (opened v.visible)) scoped
+        (execute_meets s (inner v) out (within_loop a) most' (scoped_inner places defined Takes v scoped) lt' of_s (defined_left defined (called_in_statement s) (called_in c) d) room))
+        most p vs t lt st h)
     execute_meets (For first c following s) v x a most scoped lt o d room =
         let w = inner v in
         let scoped' = scoped_inner places defined Takes v scoped in
@@ -505,21 +505,21 @@ module _ (form : FormTree) (cs : List Activation) (total : ℕ) (places : Places
         let d_loop = defined_right defined (called_in_start first) (called_in_optional c ++ (called_in_optional_action following ++ called_in_statement s)) d in
         let d_rest = defined_right defined (called_in_optional c) (called_in_optional_action following ++ called_in_statement s) d_loop in
         let part_at : Visible → State → Run Flow = λ y t.
-            then_do (start first call (opened v.visible) t) (λ flow u. turns (suc n) (evaluate_or 1 c (in_scope y) call) (in_block (execute s n call (opened y))) (perform_optional following (in_scope y) call) u) in
+        then_do (start first call (opened v.visible) t) (λ flow u. turns (suc n) (evaluate_or 1 c (in_scope y) call) (in_block (execute s n call (opened y))) (perform_optional following (in_scope y) call) u) in
         let inside : State → Run Flow = in_block (execute s n call (opened within.visible)) in
         let looped : StatementDoes within within x most (loop_code body next_part test) (turns (suc n) (evaluate_or 1 c (types_in within) call) inside (perform_optional following (types_in within) call)) =
-            never_leaves within within x most (loop_code body next_part test) (turns (suc n) (evaluate_or 1 c (types_in within) call) inside (perform_optional following (types_in within) call))
-            (λ p vs t st h. loop_meets within body next_part test (evaluate_or 1 c (types_in within) call) inside (perform_optional following (types_in within) call) i.scoped.placed
-              (λ most' vs' lt'. condition_meets c within most' vs' i.scoped lt' of_c (defined_left defined (called_in_optional c) (called_in_optional_action following ++ called_in_statement s) d_loop))
-              (λ most' lt'. block_of_statement s within out most' body (execute s n call (opened within.visible)) i.scoped
-                (execute_meets s (inner within) out (within_loop a) most' (scoped_inner places defined Takes within i.scoped) lt' of_s (defined_right defined (called_in_optional_action following) (called_in_statement s) d_rest) (omega arith)))
-              (λ most' lt' p' vs' u st' fits. optional_meets form cs total places defined Takes n call calls_meet following within most' vs' i.scoped lt' of_f (defined_left defined (called_in_optional_action following) (called_in_statement s) d_rest) p' u st' fits)
-              most p vs t lt st h) in
+        never_leaves within within x most (loop_code body next_part test) (turns (suc n) (evaluate_or 1 c (types_in within) call) inside (perform_optional following (types_in within) call))
+        (λ p vs t st h. loop_meets within body next_part test (evaluate_or 1 c (types_in within) call) inside (perform_optional following (types_in within) call) i.scoped.placed
+        (λ most' vs' lt'. condition_meets c within most' vs' i.scoped lt' of_c (defined_left defined (called_in_optional c) (called_in_optional_action following ++ called_in_statement s) d_loop))
+        (λ most' lt'. block_of_statement s within out most' body (execute s n call (opened within.visible)) i.scoped
+        (execute_meets s (inner within) out (within_loop a) most' (scoped_inner places defined Takes within i.scoped) lt' of_s (defined_right defined (called_in_optional_action following) (called_in_statement s) d_rest) (omega arith)))
+        (λ most' lt' p' vs' u st' fits. optional_meets form cs total places defined Takes n call calls_meet following within most' vs' i.scoped lt' of_f (defined_left defined (called_in_optional_action following) (called_in_statement s) d_rest) p' u st' fits)
+        most p vs t lt st h) in
         statement_of_block v x most code (in_block (part_at vis))
         (block_of_list v x most code (part_at vis)
-          (subst (λ y. ListDoes w x most code (part_at y)) i.visible
-            (first_then w within x most (start_code w first) (loop_code body next_part test) (start first call w.visible) (turns (suc n) (evaluate_or 1 c (types_in within) call) inside (perform_optional following (types_in within) call))
-              (start_meets first w most scoped' lt of_start d_start (omega arith)) i.extra i.locals i.placed looped)))
+        (subst (λ y. ListDoes w x most code (part_at y)) i.visible
+        (first_then w within x most (start_code w first) (loop_code body next_part test) (start first call w.visible) (turns (suc n) (evaluate_or 1 c (types_in within) call) inside (perform_optional following (types_in within) call))
+        (start_meets first w most scoped' lt of_start d_start (omega arith)) i.extra i.locals i.placed looped)))
 
     pub execute_all_meets : (ss : Stmts) (v : Environment) (x : Exits) (a : Around) (most : ℕ) → Scoped places defined Takes v → most < n → statements_offences ss a v.visible ≡ [] → undefined_among defined (called_in_statements ss) ≡ []
         → length v.locals + length (locals ss) ≤ total → ListDoes v x most (statements_code v x ss) (execute_all ss n call v.visible)
@@ -536,10 +536,10 @@ module _ (form : FormTree) (cs : List Activation) (total : ℕ) (places : Places
         let code = statement_code v (further (length others) x) first in
         let of_first = nil_left (statement_offences first a v.visible) (statements_offences rest a (scope_behind first v.visible)) o in
         let of_rest : statements_offences rest a w.visible ≡ [] =
-            subst (λ y. statements_offences rest a y ≡ []) (sym i.visible) (nil_right (statement_offences first a v.visible) (statements_offences rest a (scope_behind first v.visible)) o) in
+        subst (λ y. statements_offences rest a y ≡ []) (sym i.visible) (nil_right (statement_offences first a v.visible) (statements_offences rest a (scope_behind first v.visible)) o) in
         let names = length-append (locals_of first) (locals rest) in
         let few = i.room in
         subst (λ y. ListDoes v x most (code ++ others) (λ t. then_do (execute first n call v.visible t) (λ flow u. behind_flow flow (execute_all rest n call y) u))) i.visible
         (next_then v w x most code others (execute first n call v.visible) (execute_all rest n call w.visible) i.extra i.locals i.placed
-          (execute_meets first v (further (length others) x) a most scoped lt of_first (defined_left defined (called_in_statement first) (called_in_statements rest) d) (omega arith))
-          (execute_all_meets rest w x a most i.scoped lt of_rest (defined_right defined (called_in_statement first) (called_in_statements rest) d) (omega arith)))
+        (execute_meets first v (further (length others) x) a most scoped lt of_first (defined_left defined (called_in_statement first) (called_in_statements rest) d) (omega arith))
+        (execute_all_meets rest w x a most i.scoped lt of_rest (defined_right defined (called_in_statement first) (called_in_statements rest) d) (omega arith)))

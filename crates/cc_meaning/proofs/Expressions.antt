@@ -70,7 +70,7 @@ module _ (form : FormTree) (cs : List Activation) (total : ℕ) where
   element_by : (v : Environment) (most : ℕ) (vs ops : List ℕ) (p i : ℕ) (x : List ℕ) (s : State) (o : Option ℕ) → slice_get form.code p ≡ Some (instruction.Element (extent_of v.places.objects x)) → Fits v total most vs s
       → slice_get (words_of s.globals x) i ≡ o
       → instruction_move form (instruction.Element (extent_of v.places.objects x)) (conf (p + 1) vs (i ∷ ops) cs s)
-        ≡ elim o [ None ↦ Stops (outcome.Wrong Index) | Some w ↦ Goes (conf (p + 1) vs (w ∷ ops) cs s) ]
+      ≡ elim o [ None ↦ Stops (outcome.Wrong Index) | Some w ↦ Goes (conf (p + 1) vs (w ∷ ops) cs s) ]
       → Meets form (conf p vs (i ∷ ops) cs s) (Value form cs total (conf p vs (i ∷ ops) cs s) v most vs (p + 1) ops) (elim o [ None ↦ Wrong Index s.output | Some w ↦ Gives w s ])
   element_by v most vs ops p i x s None e h is move = instructed_last form (instruction.Element (extent_of v.places.objects x)) p vs (i ∷ ops) cs s (outcome.Wrong Index) e move
   element_by v most vs ops p i x s (Some w) e h is move = pushes v most vs (i ∷ ops) ops p (p + 1) w s (instruction.Element (extent_of v.places.objects x)) e h refl move
@@ -78,22 +78,23 @@ module _ (form : FormTree) (cs : List Activation) (total : ℕ) where
   -- what the instruction does, by what is in the array
   element_move : (v : Environment) (most : ℕ) (vs ops : List ℕ) (p i : ℕ) (x : List ℕ) (s : State) → Fits v total most vs s
       → instruction_move form (instruction.Element (extent_of v.places.objects x)) (conf p vs (i ∷ ops) cs s)
-        ≡ elim (slice_get (words_of s.globals x) i) [ None ↦ Stops (outcome.Wrong Index) | Some w ↦ Goes (conf p vs (w ∷ ops) cs s) ]
+      ≡ elim (slice_get (words_of s.globals x) i) [ None ↦ Stops (outcome.Wrong Index) | Some w ↦ Goes (conf p vs (w ∷ ops) cs s) ]
   element_move v most vs ops p i x s h =
       let ext : Extent = extent_of v.places.objects x in
       let f = found_object v total most vs s x h in
       let going : Move = with_word (slice_get (all_of s.globals) (ext.place + i)) (λ w. Goes (conf p vs (w ∷ ops) cs s)) in
       elim (leb_tells (suc i) ext.length) [
-        inl t ↦
-          (let lt : i < ext.length = t.1 in
-          let got = there (words_of s.globals x) i (let k = f.size in omega arith) in
-          ap (λ b. if b then going else Stops (outcome.Wrong Index)) t.0
-          ∙ ap (λ (o : Option ℕ). with_word o (λ w. Goes (conf p vs (w ∷ ops) cs s))) (f.reads i lt ∙ got.1)
-          ∙ ap (λ (o : Option ℕ). elim o [ None ↦ Stops (outcome.Wrong Index) | Some w ↦ Goes (conf p vs (w ∷ ops) cs s) ]) (sym got.1))
-      | inr t ↦
-          (let past : slice_get (words_of s.globals x) i ≡ None = get_past (words_of s.globals x) i (let k = f.size in let u = t.1 in omega arith) in
-          ap (λ b. if b then going else Stops (outcome.Wrong Index)) t.0
-          ∙ ap (λ (o : Option ℕ). elim o [ None ↦ Stops (outcome.Wrong Index) | Some w ↦ Goes (conf p vs (w ∷ ops) cs s) ]) (sym past)) ]
+        | inl t ↦
+            (let lt : i < ext.length = t.1 in
+            let got = there (words_of s.globals x) i (let k = f.size in omega arith) in
+            ap (λ b. if b then going else Stops (outcome.Wrong Index)) t.0
+            ∙ ap (λ (o : Option ℕ). with_word o (λ w. Goes (conf p vs (w ∷ ops) cs s))) (f.reads i lt ∙ got.1)
+            ∙ ap (λ (o : Option ℕ). elim o [ None ↦ Stops (outcome.Wrong Index) | Some w ↦ Goes (conf p vs (w ∷ ops) cs s) ]) (sym got.1))
+        | inr t ↦
+            (let past : slice_get (words_of s.globals x) i ≡ None = get_past (words_of s.globals x) i (let k = f.size in let u = t.1 in omega arith) in
+            ap (λ b. if b then going else Stops (outcome.Wrong Index)) t.0
+            ∙ ap (λ (o : Option ℕ). elim o [ None ↦ Stops (outcome.Wrong Index) | Some w ↦ Goes (conf p vs (w ∷ ops) cs s) ]) (sym past))
+      ]
 
   pub element_meets : (v : Environment) (most : ℕ) (vs ops : List ℕ) (p i : ℕ) (x : List ℕ) (s : State) → slice_get form.code p ≡ Some (instruction.Element (extent_of v.places.objects x)) → Fits v total most vs s
       → Meets form (conf p vs (i ∷ ops) cs s) (Value form cs total (conf p vs (i ∷ ops) cs s) v most vs (p + 1) ops) (read_element x i s)
@@ -118,7 +119,7 @@ module _ (form : FormTree) (cs : List Activation) (total : ℕ) where
   given_by v most vs ops p a b op t s None plain e h is =
       instructed_last form (instruction.Binary (operation op t)) p vs (b ∷ a ∷ ops) cs s (outcome.Wrong (cause_of op)) e
       (ap (λ (o : Option ℕ). elim o [ None ↦ Stops (outcome.Wrong (cause_of_operation (operation op t))) | Some w ↦ Goes (conf (p + 1) vs (w ∷ ops) cs s) ]) (plain.works t a b ∙ is)
-        ∙ ap (λ x. Stops (outcome.Wrong x)) (plain.fails t))
+      ∙ ap (λ x. Stops (outcome.Wrong x)) (plain.fails t))
   given_by v most vs ops p a b op t s (Some w) plain e h is =
       pushes v most vs (b ∷ a ∷ ops) ops p (p + 1) w s (instruction.Binary (operation op t)) e h refl
       (ap (λ (o : Option ℕ). elim o [ None ↦ Stops (outcome.Wrong (cause_of_operation (operation op t))) | Some x ↦ Goes (conf (p + 1) vs (x ∷ ops) cs s) ]) (plain.works t a b ∙ is))
@@ -138,24 +139,24 @@ module _ (form : FormTree) (cs : List Activation) (total : ℕ) where
       let l = length left in
       let r = length right in
       let end : p + l + r + 1 ≡ p + length (joined op (operation op t) left right) =
-          (let e = length-append (left ++ right) (instruction.Binary (operation op t) ∷ []) in let e' = length-append left right in let z : p + l + r + 1 ≡ p + length code = omega arith in z)
-          ∙ ap (λ xs. p + length xs) (sym joins) in
+      (let e = length-append (left ++ right) (instruction.Binary (operation op t) ∷ []) in let e' = length-append left right in let z : p + l + r + 1 ≡ p + length code = omega arith in z)
+      ∙ ap (λ xs. p + length xs) (sym joins) in
       let in_left = stands_left form.code p left right (stands_left form.code p (left ++ right) (instruction.Binary (operation op t) ∷ []) st') in
       let in_right = stands_right form.code p (p + l) left right refl (stands_left form.code p (left ++ right) (instruction.Binary (operation op t) ∷ []) st') in
       let in_last = stands_right form.code p (p + l + r) (left ++ right) (instruction.Binary (operation op t) ∷ []) (let e' = length-append left right in omega arith) st' in
       meets_then form c (Value form cs total c v most vs (p + l) ops) (Value form cs total c v most vs (p + length (joined op (operation op t) left right)) ops) (first s)
       (λ a u. unless_decided (decided op a) (λ x. then_do (second x) (λ b y. given op (binary_word op t a b) y)) u) (f p ops s in_left h)
       (λ a u got.
-        let d = conf (p + l) vs (a ∷ ops) cs u in
-        meets_same form c (Value form cs total c v most vs (p + length (joined op (operation op t) left right)) ops)
-        (unless_decided (decided op a) (λ x. then_do (second x) (λ b y. given op (binary_word op t a b) y)) u) (then_do (second u) (λ b y. given op (binary_word op t a b) y))
-        (ap (λ o. unless_decided o (λ x. then_do (second x) (λ b y. given op (binary_word op t a b) y)) u) (plain.undecided a))
-        (value_after v most vs ops c d (p + l + r + 1) (p + length (joined op (operation op t) left right)) (then_do (second u) (λ b y. given op (binary_word op t a b) y)) got.leads end
-          (meets_then form d (Value form cs total d v most vs (p + l + r) (a ∷ ops)) (Value form cs total d v most vs (p + l + r + 1) ops) (second u) (λ b y. given op (binary_word op t a b) y)
-            (g (p + l) (a ∷ ops) u in_right got.fits)
-            (λ b y got'.
-              value_after v most vs ops d (conf (p + l + r) vs (b ∷ a ∷ ops) cs y) (p + l + r + 1) (p + l + r + 1) (given op (binary_word op t a b) y) got'.leads refl
-              (given_by v most vs ops (p + l + r) a b op t y (binary_word op t a b) plain in_last.0 got'.fits refl)))))
+      let d = conf (p + l) vs (a ∷ ops) cs u in
+      meets_same form c (Value form cs total c v most vs (p + length (joined op (operation op t) left right)) ops)
+      (unless_decided (decided op a) (λ x. then_do (second x) (λ b y. given op (binary_word op t a b) y)) u) (then_do (second u) (λ b y. given op (binary_word op t a b) y))
+      (ap (λ o. unless_decided o (λ x. then_do (second x) (λ b y. given op (binary_word op t a b) y)) u) (plain.undecided a))
+      (value_after v most vs ops c d (p + l + r + 1) (p + length (joined op (operation op t) left right)) (then_do (second u) (λ b y. given op (binary_word op t a b) y)) got.leads end
+      (meets_then form d (Value form cs total d v most vs (p + l + r) (a ∷ ops)) (Value form cs total d v most vs (p + l + r + 1) ops) (second u) (λ b y. given op (binary_word op t a b) y)
+      (g (p + l) (a ∷ ops) u in_right got.fits)
+      (λ b y got'.
+      value_after v most vs ops d (conf (p + l + r) vs (b ∷ a ∷ ops) cs y) (p + l + r + 1) (p + l + r + 1) (given op (binary_word op t a b) y) got'.leads refl
+      (given_by v most vs ops (p + l + r) a b op t y (binary_word op t a b) plain in_last.0 got'.fits refl)))))
 
   -- ---- && and ||
 
@@ -171,11 +172,11 @@ module _ (form : FormTree) (cs : List Activation) (total : ℕ) where
       let c = conf p vs ops cs s in
       meets_then form c (Value form cs total c v most vs (p + length right) ops) (Value form cs total c v most vs q ops) (second s) (λ b y. given op (binary_word op t a b) y) (g p ops s st h)
       (λ b y got.
-        let d = conf (p + length right) vs (b ∷ ops) cs y in
-        let w = truth_value (is_true b) in
-        value_after v most vs ops c d q q (given op (binary_word op t a b) y) got.leads refl
-        (meets_same form d (Value form cs total d v most vs q ops) (given op (binary_word op t a b) y) (Gives w y) (ap (λ o. given op o y) (is b))
-          (pushes v most vs (b ∷ ops) ops (p + length right) q w y instruction.Truth e got.fits at refl)))
+      let d = conf (p + length right) vs (b ∷ ops) cs y in
+      let w = truth_value (is_true b) in
+      value_after v most vs ops c d q q (given op (binary_word op t a b) y) got.leads refl
+      (meets_same form d (Value form cs total d v most vs q ops) (given op (binary_word op t a b) y) (Gives w y) (ap (λ o. given op o y) (is b))
+      (pushes v most vs (b ∷ ops) ops (p + length right) q w y instruction.Truth e got.fits at refl)))
 
   and_code : (n : ℕ) (left right : List Instruction) → length ((left ++ instruction.AndThen n ∷ right) ++ instruction.Truth ∷ []) ≡ length left + 1 + length right + 1
   and_code n left right = let e = length-append (left ++ instruction.AndThen n ∷ right) (instruction.Truth ∷ []) in let e' = length-append left (instruction.AndThen n ∷ right) in omega arith
@@ -187,7 +188,7 @@ module _ (form : FormTree) (cs : List Activation) (total : ℕ) where
       → slice_get form.code p ≡ Some (instruction.AndThen (length right + 1)) → Stands form.code (p + 1) right → slice_get form.code (p + 1 + length right) ≡ Some instruction.Truth
       → q ≡ p + 1 + length right + 1 → q ≤ length form.code → Fits v total most vs s
       → Meets form (conf p vs (a ∷ ops) cs s) (Value form cs total (conf p vs (a ∷ ops) cs s) v most vs q ops)
-        (unless_decided (decided LogicalAnd a) (λ x. then_do (second x) (λ b y. given LogicalAnd (binary_word LogicalAnd t a b) y)) s)
+      (unless_decided (decided LogicalAnd a) (λ x. then_do (second x) (λ b y. given LogicalAnd (binary_word LogicalAnd t a b) y)) s)
   and_behind v most vs ops p q zero t right second s g e st e' at le h = record {
     fits = h;
     leads = instructed form (instruction.AndThen (length right + 1)) p vs (zero ∷ ops) cs s (conf q vs (0 ∷ ops) cs s) e
@@ -200,14 +201,14 @@ module _ (form : FormTree) (cs : List Activation) (total : ℕ) where
       meets_same form c (Value form cs total c v most vs q ops) (unless_decided (decided LogicalAnd (suc a)) rest s) (rest s)
       (ap (λ b. unless_decided (if b then None else Some 0) rest s) (true_word a))
       (value_after v most vs ops c (conf (p + 1) vs ops cs s) q q (rest s)
-        (instructed form (instruction.AndThen (length right + 1)) p vs (suc a ∷ ops) cs s (conf (p + 1) vs ops cs s) e refl) refl
-        (truth_meets v most vs ops (p + 1) q right second LogicalAnd t (suc a) s (λ b. ap (λ x. Some (truth_value (x && is_true b))) (true_word a)) g st e' at h))
+      (instructed form (instruction.AndThen (length right + 1)) p vs (suc a ∷ ops) cs s (conf (p + 1) vs ops cs s) e refl) refl
+      (truth_meets v most vs ops (p + 1) q right second LogicalAnd t (suc a) s (λ b. ap (λ x. Some (truth_value (x && is_true b))) (true_word a)) g st e' at h))
 
   or_behind : (v : Environment) (most : ℕ) (vs ops : List ℕ) (p q a : ℕ) (t : Scalar) (right : List Instruction) (second : State → Run ℕ) (s : State) → Part v most vs right second
       → slice_get form.code p ≡ Some (instruction.OrElse (length right + 1)) → Stands form.code (p + 1) right → slice_get form.code (p + 1 + length right) ≡ Some instruction.Truth
       → q ≡ p + 1 + length right + 1 → q ≤ length form.code → Fits v total most vs s
       → Meets form (conf p vs (a ∷ ops) cs s) (Value form cs total (conf p vs (a ∷ ops) cs s) v most vs q ops)
-        (unless_decided (decided LogicalOr a) (λ x. then_do (second x) (λ b y. given LogicalOr (binary_word LogicalOr t a b) y)) s)
+      (unless_decided (decided LogicalOr a) (λ x. then_do (second x) (λ b y. given LogicalOr (binary_word LogicalOr t a b) y)) s)
   or_behind v most vs ops p q zero t right second s g e st e' at le h =
       let c = conf p vs (zero ∷ ops) cs s in
       let rest : State → Run ℕ = λ x. then_do (second x) (λ b y. given LogicalOr (binary_word LogicalOr t zero b) y) in
@@ -242,8 +243,8 @@ module _ (form : FormTree) (cs : List Activation) (total : ℕ) where
       meets_then form c (Value form cs total c v most vs (p + l) ops) (Value form cs total c v most vs (p + length code) ops) (first s)
       (λ a u. unless_decided (decided LogicalAnd a) (λ x. then_do (second x) (λ b y. given LogicalAnd (binary_word LogicalAnd t a b) y)) u) (f p ops s in_left h)
       (λ a u got. value_after v most vs ops c (conf (p + l) vs (a ∷ ops) cs u) (p + length code) (p + length code)
-        (unless_decided (decided LogicalAnd a) (λ x. then_do (second x) (λ b y. given LogicalAnd (binary_word LogicalAnd t a b) y)) u) got.leads refl
-        (and_behind v most vs ops (p + l) (p + length code) a t right second u g in_right.0 in_right.1 in_last.0 (omega arith) (stands_end form.code p code st) got.fits))
+      (unless_decided (decided LogicalAnd a) (λ x. then_do (second x) (λ b y. given LogicalAnd (binary_word LogicalAnd t a b) y)) u) got.leads refl
+      (and_behind v most vs ops (p + l) (p + length code) a t right second u g in_right.0 in_right.1 in_last.0 (omega arith) (stands_end form.code p code st) got.fits))
 
   or_meets : (v : Environment) (most : ℕ) (vs : List ℕ) (o : BinaryOperation) (t : Scalar) (left right : List Instruction) (first second : State → Run ℕ)
       → Part v most vs left first → Part v most vs right second → Part v most vs (joined LogicalOr o left right) (both_operands LogicalOr t first second)
@@ -261,8 +262,8 @@ module _ (form : FormTree) (cs : List Activation) (total : ℕ) where
       meets_then form c (Value form cs total c v most vs (p + l) ops) (Value form cs total c v most vs (p + length code) ops) (first s)
       (λ a u. unless_decided (decided LogicalOr a) (λ x. then_do (second x) (λ b y. given LogicalOr (binary_word LogicalOr t a b) y)) u) (f p ops s in_left h)
       (λ a u got. value_after v most vs ops c (conf (p + l) vs (a ∷ ops) cs u) (p + length code) (p + length code)
-        (unless_decided (decided LogicalOr a) (λ x. then_do (second x) (λ b y. given LogicalOr (binary_word LogicalOr t a b) y)) u) got.leads refl
-        (or_behind v most vs ops (p + l) (p + length code) a t right second u g in_right.0 in_right.1 in_last.0 (omega arith) (stands_end form.code p code st) got.fits))
+      (unless_decided (decided LogicalOr a) (λ x. then_do (second x) (λ b y. given LogicalOr (binary_word LogicalOr t a b) y)) u) got.leads refl
+      (or_behind v most vs ops (p + l) (p + length code) a t right second u g in_right.0 in_right.1 in_last.0 (omega arith) (stands_end form.code p code st) got.fits))
 
   -- any operator of two operands
   pub binary_meets : (v : Environment) (most : ℕ) (vs : List ℕ) (op : BinaryOperator) (t : Scalar) (left right : List Instruction) (first second : State → Run ℕ) → Kind op
@@ -320,4 +321,4 @@ module _ (form : FormTree) (cs : List Activation) (total : ℕ) where
       meets_then form c (Value form cs total c v most vs (p + length test) ops) (Value form cs total c v most vs (p + length code) ops) (condition s) (λ w t. choose w first second t)
       (k p ops s (stands_left form.code p test (instruction.JumpIfZero (length left + 1) ∷ left) in_front) h)
       (λ w t got. value_after v most vs ops c (conf (p + length test) vs (w ∷ ops) cs t) (p + length test + 1 + length left + 1 + length right) (p + length code) (choose w first second t) got.leads (omega arith)
-        (arms_meet v most vs ops (p + length test) w left right first second t f g in_left.0 in_left.1 in_right.0 in_right.1 got.fits))
+      (arms_meet v most vs ops (p + length test) w left right first second t f g in_left.0 in_left.1 in_right.0 in_right.1 got.fits))

@@ -80,7 +80,7 @@ load_global form v total most p vs ops cs s x h e one =
     let f = found_object v total most vs s x h in
     let got = there (words_of s.globals x) 0 (let k = f.size in omega arith) in
     let here : slice_get (all_of s.globals) place ≡ Some got.0 =
-        ap (λ k. slice_get (all_of s.globals) k) (let z : place ≡ place + 0 = omega arith in z) ∙ f.reads 0 (omega arith) ∙ got.1 in
+    ap (λ k. slice_get (all_of s.globals) k) (let z : place ≡ place + 0 = omega arith in z) ∙ f.reads 0 (omega arith) ∙ got.1 in
     let none : local_word s.locals x ≡ None = no_local s.locals x (ap (λ ns. number_in ns x) h.names ∙ e) in
     ap (λ (o : Option ℕ). instruction_move form (elim o [ None ↦ instruction.Global (extent_of v.places.objects x).place | Some k ↦ instruction.Local k ]) (conf p vs ops cs s)) e
     ∙ ap (λ (o : Option ℕ). with_word o (λ w. Goes (conf p vs (w ∷ ops) cs s))) here

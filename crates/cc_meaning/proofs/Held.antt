@@ -73,7 +73,7 @@ reads_local_by : (l : Local) (behind : List Local) (junk : List ℕ) (x : List �
     → ((junk : List ℕ) → number_in (names_of behind) x ≡ Some i → ReadsLocal behind junk x i) → ReadsLocal (l ∷ behind) junk x i
 reads_local_by l behind junk x i true eq e ih =
     let at : i ≡ length (reverse (words_in behind)) + 0 =
-        (let k : length (names_of behind) ≡ i = cc in sym k ∙ length-map behind (λ (l : Local). l.name) ∙ sym (length_words behind)) ∙ (let z : length (reverse (words_in behind)) ≡ length (reverse (words_in behind)) + 0 = omega arith in z) in
+    (let k : length (names_of behind) ≡ i = cc in sym k ∙ length-map behind (λ (l : Local). l.name) ∙ sym (length_words behind)) ∙ (let z : length (reverse (words_in behind)) ≡ length (reverse (words_in behind)) + 0 = omega arith in z) in
     record {
       word = l.word;
       by_name = ap (λ c. if c then Some l.word else local_word behind x) eq;
@@ -112,7 +112,7 @@ writes_local_by : (l : Local) (behind : List Local) (junk : List ℕ) (x : List 
     → ((junk : List ℕ) → number_in (names_of behind) x ≡ Some i → WritesLocal behind junk x i w) → WritesLocal (l ∷ behind) junk x i w
 writes_local_by l behind junk x i w true eq e ih =
     let at : i ≡ length (reverse (words_in behind)) + 0 =
-        (let k : length (names_of behind) ≡ i = cc in sym k ∙ length-map behind (λ (l : Local). l.name) ∙ sym (length_words behind)) ∙ (let z : length (reverse (words_in behind)) ≡ length (reverse (words_in behind)) + 0 = omega arith in z) in
+    (let k : length (names_of behind) ≡ i = cc in sym k ∙ length-map behind (λ (l : Local). l.name) ∙ sym (length_words behind)) ∙ (let z : length (reverse (words_in behind)) ≡ length (reverse (words_in behind)) + 0 = omega arith in z) in
     let new : with_local_word x w (l ∷ behind) ≡ record l { word = w } ∷ behind = ap (λ c. if c then record l { word = w } ∷ behind else l ∷ with_local_word x w behind) eq in
     record {
       names = ap names_of new;

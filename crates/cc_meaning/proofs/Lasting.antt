@@ -100,8 +100,8 @@ lasts_behind W low k spent x t first later (Gives y u) e go h = (
 lasts_behind W low k spent x t first later (Going output) e go h = λ j b w.
     let f : k + j ≡ spent + (t.steps + j) = omega arith in
     let same : then_do (first b (k + j)) (λ z v. later z b v) ≡ later x b (at t (t.steps + j)) =
-        ap (λ n. then_do (first b n) (λ z v. later z b v)) f
-        ∙ ap (λ r. then_do r (λ z v. later z b v)) (go (t.steps + j) b (low.lower _ _ b (omega arith) w)) in
+    ap (λ n. then_do (first b n) (λ z v. later z b v)) f
+    ∙ ap (λ r. then_do r (λ z v. later z b v)) (go (t.steps + j) b (low.lower _ _ b (omega arith) w)) in
     subst (λ r. Begins output (written r)) (sym same) (h j b (low.lower _ _ b (omega arith) w))
 lasts_behind W low k spent x t first later (Wrong cause output) e go h = λ j b w.
     let f : k + j ≡ spent + (t.steps + j) = omega arith in
@@ -174,7 +174,7 @@ pub lasts_begin : {B : Type 0} (V W : ℕ → B → Type 0) → Lowers W → (s 
 lasts_begin V W low s body go bodies later within f g grows grows' =
     lasts_spend V W s.steps s (λ t. then_do (body t) (λ flow u. behind_body flow go u)) (λ b t. then_do (bodies b t) (λ flow u. behind_body flow (later b) u)) within
     (λ i e. lasts_then W low i (body (at s i)) (λ b j. bodies b (at s j)) (λ flow u. behind_body flow go u) (λ flow b u. behind_body flow (later b) u) (f i e)
-      (λ flow u le. lasts_body W flow go u later (g u (omega arith))) (λ flow b u. begins_body flow (later b) u (grows' b u)))
+    (λ flow u le. lasts_body W flow go u later (g u (omega arith))) (λ flow b u. begins_body flow (later b) u (grows' b u)))
     (λ b u. begins_then u.output (bodies b u) (λ flow v. behind_body flow (later b) v) (grows b u) (λ flow v. begins_body flow (later b) v (grows' b v)))
 
 -- ---- parts that are so from each state
@@ -275,7 +275,7 @@ module _ (test : ℕ → State → Run ℕ) (body behind : ℕ → State → Run
   turns_grow (suc i) n s =
       begins_then s.output (test n s) (λ w t. choose w (begin_body (body n) (next_turn i n)) (λ u. Gives Falls u) t) (tests.grows n s)
       (λ w t. begins_choose w (begin_body (body n) (next_turn i n)) (λ u. Gives Falls u) t
-        (begins_begin (body n) (next_turn i n) t (bodies.grows n) (next_grows i n (turns_grow i n))) (begins_refl t.output))
+      (begins_begin (body n) (next_turn i n) t (bodies.grows n) (next_grows i n (turns_grow i n))) (begins_refl t.output))
 
   turn_lasts : (i n : ℕ) (s : State) → s.steps < suc i → s.steps < n
       → ((v : State) → v.steps < i → v.steps < n → Lasts Both v.steps (turns_at i n v) (λ b j. turns_at b.0 b.1 (at v j)))
@@ -286,19 +286,19 @@ module _ (test : ℕ → State → Run ℕ) (body behind : ℕ → State → Run
       (λ w b t. choose w (begin_body (body b.1) (next_turn (less b.0) b.1)) (λ u. Gives Falls u) t)
       (lasts_by Both Under (λ b. b.1) s.steps (test n s) (λ m j. test m (at s j)) (λ b j. test b.1 (at s j)) (λ j b v. v.1) (λ j b v. refl) (tests.lasts n s le))
       (λ w t fewer. lasts_choose Both t.steps w (begin_body (body n) (next_turn i n)) (λ u. Gives Falls u) t
-        (λ b. begin_body (body b.1) (next_turn (less b.0) b.1)) (λ b u. Gives Falls u)
-        (lasts_begin Both Further further t (body n) (next_turn i n) (λ b. body b.1) (λ b. next_turn (less b.0) b.1) (λ j b v. v)
-          (λ k e. lasts_by Further Under (λ b. b.1) k (body n (at t k)) (λ m j. body m (at t j)) (λ b j. body b.1 (at t j)) (λ j b v. (let p = v.1 in omega arith)) (λ j b v. refl) (bodies.lasts n (at t k) (omega arith)))
-          (λ u fewer'.
-            lasts_then Further further u.steps (behind n u) (λ b j. behind b.1 (at u j)) (λ flow v. turns_at i n v) (λ flow b v. turns_at (less b.0) b.1 v)
-            (lasts_by Further Under (λ b. b.1) u.steps (behind n u) (λ m j. behind m (at u j)) (λ b j. behind b.1 (at u j)) (λ j b v. (let p = v.1 in omega arith)) (λ j b v. refl) (behinds.lasts n u (omega arith)))
-            (λ flow v fewer''. lasts_by Further Both (λ b. (less b.0, b.1)) v.steps (turns_at i n v) (λ b j. turns_at b.0 b.1 (at v j)) (λ b j. turns_at (less b.0) b.1 (at v j))
-              (λ j b p. (under_less j b.0 p.0, (let q = p.1 in omega arith))) (λ j b p. refl) (ih v (omega arith) (omega arith)))
-            (λ flow b v. turns_grow (less b.0) b.1 v))
-          (λ b u. bodies.grows b.1 u) (λ b u. next_grows (less b.0) b.1 (turns_grow (less b.0) b.1) u))
-        (lasts_gives Both Falls t))
+      (λ b. begin_body (body b.1) (next_turn (less b.0) b.1)) (λ b u. Gives Falls u)
+      (lasts_begin Both Further further t (body n) (next_turn i n) (λ b. body b.1) (λ b. next_turn (less b.0) b.1) (λ j b v. v)
+      (λ k e. lasts_by Further Under (λ b. b.1) k (body n (at t k)) (λ m j. body m (at t j)) (λ b j. body b.1 (at t j)) (λ j b v. (let p = v.1 in omega arith)) (λ j b v. refl) (bodies.lasts n (at t k) (omega arith)))
+      (λ u fewer'.
+      lasts_then Further further u.steps (behind n u) (λ b j. behind b.1 (at u j)) (λ flow v. turns_at i n v) (λ flow b v. turns_at (less b.0) b.1 v)
+      (lasts_by Further Under (λ b. b.1) u.steps (behind n u) (λ m j. behind m (at u j)) (λ b j. behind b.1 (at u j)) (λ j b v. (let p = v.1 in omega arith)) (λ j b v. refl) (behinds.lasts n u (omega arith)))
+      (λ flow v fewer''. lasts_by Further Both (λ b. (less b.0, b.1)) v.steps (turns_at i n v) (λ b j. turns_at b.0 b.1 (at v j)) (λ b j. turns_at (less b.0) b.1 (at v j))
+      (λ j b p. (under_less j b.0 p.0, (let q = p.1 in omega arith))) (λ j b p. refl) (ih v (omega arith) (omega arith)))
+      (λ flow b v. turns_grow (less b.0) b.1 v))
+      (λ b u. bodies.grows b.1 u) (λ b u. next_grows (less b.0) b.1 (turns_grow (less b.0) b.1) u))
+      (lasts_gives Both Falls t))
       (λ w b t. begins_choose w (begin_body (body b.1) (next_turn (less b.0) b.1)) (λ u. Gives Falls u) t
-        (begins_begin (body b.1) (next_turn (less b.0) b.1) t (bodies.grows b.1) (next_grows (less b.0) b.1 (turns_grow (less b.0) b.1))) (begins_refl t.output))
+      (begins_begin (body b.1) (next_turn (less b.0) b.1) t (bodies.grows b.1) (next_grows (less b.0) b.1 (turns_grow (less b.0) b.1))) (begins_refl t.output))
 
   turns_last : (i n : ℕ) (s : State) → s.steps < i → s.steps < n → Lasts Both s.steps (turns_at i n s) (λ b j. turns_at b.0 b.1 (at s j))
   turns_last zero n s lt le = absurd (omega arith)

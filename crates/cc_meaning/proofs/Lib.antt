@@ -21,3 +21,8 @@ pub mod Looped
 pub mod Ending
 pub mod Laying
 pub mod Showing
+pub mod Moving
+pub mod Taking
+pub mod Calling
+pub mod Fetching
+pub mod Running

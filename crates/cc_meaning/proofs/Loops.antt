@@ -87,8 +87,8 @@ module _ (form : FormTree) (cs : List Activation) (total n : ℕ) (places : Plac
   abbrev pub BodyDoes : Type 0
   BodyDoes = (most : ℕ) (vs : List ℕ) (t : State) → most < n → Fits v total most vs t
       → Meets form (conf body_at vs [] cs t)
-        (Done form cs total places (conf body_at vs [] cs t) most (Reaches form cs total (conf body_at vs [] cs t) v most following_at) (Reaches form cs total (conf body_at vs [] cs t) v most end_at) (Reaches form cs total (conf body_at vs [] cs t) v most following_at))
-        (inside t)
+      (Done form cs total places (conf body_at vs [] cs t) most (Reaches form cs total (conf body_at vs [] cs t) v most following_at) (Reaches form cs total (conf body_at vs [] cs t) v most end_at) (Reaches form cs total (conf body_at vs [] cs t) v most following_at))
+      (inside t)
 
   -- a step is spent, then the body is done
   step_by : (left most : ℕ) (b k : State → Type 0) (vs : List ℕ) (go : State → Run Flow) (t : State) → BodyDoes → t.steps ≡ left → most < n → Fits v total most vs t
@@ -102,13 +102,13 @@ module _ (form : FormTree) (cs : List Activation) (total n : ℕ) (places : Plac
       let c = conf p vs [] cs t in
       let d = conf body_at vs [] cs u in
       let to : Leads form c d =
-          instructed form instruction.Step p vs [] cs t d loop.begins (ap (λ l. stepped l (λ m. Goes (conf (p + 1) vs [] cs (record t { steps = m })))) e) in
+      instructed form instruction.Step p vs [] cs t d loop.begins (ap (λ l. stepped l (λ m. Goes (conf (p + 1) vs [] cs (record t { steps = m })))) e) in
       let fewer : left < most = let k = h.steps in omega arith in
       let fits : Fits v total left vs u = record { names = h.names; placed = h.placed; junk = h.junk; holds = h.holds; room = h.room; steps = omega arith } in
       done_after form cs total places c d left most (Reaches form cs total d v left end_at) b k (Reaches form cs total c v most end_at) b k (then_do (inside u) (λ flow x. behind_body flow go x)) to (omega arith)
       (λ x y. reaches_after form cs total c d v v left most end_at end_at x to refl refl (omega arith) refl y) (λ x y. y) (λ x y. y)
       (meets_then form d (Done form cs total places d left (Reaches form cs total d v left following_at) (Reaches form cs total d v left end_at) (Reaches form cs total d v left following_at)) (Ends d left b k) (inside u)
-        (λ flow x. behind_body flow go x) (does left vs u (omega arith) fits) (λ flow x got. behind_body_meets d left b k go flow x (λ vs' y fits'. f left vs' y fewer fits') got))
+      (λ flow x. behind_body flow go x) (does left vs u (omega arith) fits) (λ flow x got. behind_body_meets d left b k go flow x (λ vs' y fits'. f left vs' y fewer fits') got))
 
   pub begins_meet : (most : ℕ) (b k : State → Type 0) (vs : List ℕ) (go : State → Run Flow) (t : State) → BodyDoes → most < n → Fits v total most vs t
       → ((less : ℕ) (vs : List ℕ) (u : State) → less < most → Fits v total less vs u → Meets form (conf following_at vs [] cs u) (Ends (conf following_at vs [] cs u) less b k) (go u))
@@ -136,7 +136,7 @@ module _ (form : FormTree) (cs : List Activation) (total n : ℕ) (places : Plac
   tested : (i most w : ℕ) (b k : State → Type 0) (vs : List ℕ) (t : State) → BodyDoes → FollowingDoes → most < suc i → most < n → Fits v total most vs t
       → ((less : ℕ) (vs : List ℕ) (u : State) → less < i → less < n → Fits v total less vs u → Meets form (conf test_at vs [] cs u) (Ends (conf test_at vs [] cs u) less b k) (turns i condition inside behind u))
       → Meets form (conf repeat_at vs (w ∷ []) cs t) (Ends (conf repeat_at vs (w ∷ []) cs t) most b k)
-        (choose w (begin_body inside (λ u. then_do (behind u) (λ flow x. turns i condition inside behind x))) (λ u. Gives Falls u) t)
+      (choose w (begin_body inside (λ u. then_do (behind u) (λ flow x. turns i condition inside behind x))) (λ u. Gives Falls u) t)
   tested i most zero b k vs t does follows lt less h ih = record {
     variables = vs;
     fits = h;
@@ -150,14 +150,14 @@ module _ (form : FormTree) (cs : List Activation) (total n : ℕ) (places : Plac
       done_after form cs total places c d most most (Reaches form cs total d v most end_at) b k (Reaches form cs total c v most end_at) b k (begin_body inside go t) to (omega arith)
       (λ x y. reaches_after form cs total c d v v most most end_at end_at x to refl refl (omega arith) refl y) (λ x y. y) (λ x y. y)
       (begins_meet most b k vs go t does less h
-        (λ fewer vs' u lt' fits.
-          let e = conf following_at vs' [] cs u in
-          meets_then form e (Acted form cs total e v fewer test_at) (Ends e fewer b k) (behind u) (λ flow x. turns i condition inside behind x) (follows fewer vs' u (omega arith) fits)
-          (λ flow x got.
-            let g = conf test_at got.variables [] cs x in
-            done_after form cs total places e g fewer fewer (Reaches form cs total g v fewer end_at) b k (Reaches form cs total e v fewer end_at) b k (turns i condition inside behind x) got.leads (omega arith)
-            (λ y z. reaches_after form cs total e g v v fewer fewer end_at end_at y got.leads refl refl (omega arith) refl z) (λ y z. z) (λ y z. z)
-            (ih fewer got.variables x (omega arith) (omega arith) got.fits))))
+      (λ fewer vs' u lt' fits.
+      let e = conf following_at vs' [] cs u in
+      meets_then form e (Acted form cs total e v fewer test_at) (Ends e fewer b k) (behind u) (λ flow x. turns i condition inside behind x) (follows fewer vs' u (omega arith) fits)
+      (λ flow x got.
+      let g = conf test_at got.variables [] cs x in
+      done_after form cs total places e g fewer fewer (Reaches form cs total g v fewer end_at) b k (Reaches form cs total e v fewer end_at) b k (turns i condition inside behind x) got.leads (omega arith)
+      (λ y z. reaches_after form cs total e g v v fewer fewer end_at end_at y got.leads refl refl (omega arith) refl z) (λ y z. z) (λ y z. z)
+      (ih fewer got.variables x (omega arith) (omega arith) got.fits))))
 
   pub turns_meet : (i most : ℕ) (b k : State → Type 0) (vs : List ℕ) (t : State) → TestDoes → BodyDoes → FollowingDoes → most < i → most < n → Fits v total most vs t
       → Meets form (conf test_at vs [] cs t) (Ends (conf test_at vs [] cs t) most b k) (turns i condition inside behind t)
@@ -167,8 +167,8 @@ module _ (form : FormTree) (cs : List Activation) (total n : ℕ) (places : Plac
       meets_then form c (Value form cs total c v most vs repeat_at []) (Ends c most b k) (condition t)
       (λ w u. choose w (begin_body inside (λ x. then_do (behind x) (λ flow y. turns i condition inside behind y))) (λ x. Gives Falls x) u) (tests most vs less test_at [] t loop.has_test h)
       (λ w u got.
-        let d = conf repeat_at vs (w ∷ []) cs u in
-        done_after form cs total places c d most most (Reaches form cs total d v most end_at) b k (Reaches form cs total c v most end_at) b k
-        (choose w (begin_body inside (λ x. then_do (behind x) (λ flow y. turns i condition inside behind y))) (λ x. Gives Falls x) u) got.leads (omega arith)
-        (λ y z. reaches_after form cs total c d v v most most end_at end_at y got.leads refl refl (omega arith) refl z) (λ y z. z) (λ y z. z)
-        (tested i most w b k vs u does follows lt less got.fits (λ fewer vs' x lt' less' fits. turns_meet i fewer b k vs' x tests does follows lt' less' fits)))
+      let d = conf repeat_at vs (w ∷ []) cs u in
+      done_after form cs total places c d most most (Reaches form cs total d v most end_at) b k (Reaches form cs total c v most end_at) b k
+      (choose w (begin_body inside (λ x. then_do (behind x) (λ flow y. turns i condition inside behind y))) (λ x. Gives Falls x) u) got.leads (omega arith)
+      (λ y z. reaches_after form cs total c d v v most most end_at end_at y got.leads refl refl (omega arith) refl z) (λ y z. z) (λ y z. z)
+      (tested i most w b k vs u does follows lt less got.fits (λ fewer vs' x lt' less' fits. turns_meet i fewer b k vs' x tests does follows lt' less' fits)))

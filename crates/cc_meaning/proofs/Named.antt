@@ -44,7 +44,7 @@ apart_from (Definition s body ∷ rest) f e =
     let here = nil_left (external_offences (Definition s body) f) (externals_offences rest (file_scope_behind (Definition s body) f)) e in
     let behind = nil_right (external_offences (Definition s body) f) (externals_offences rest (file_scope_behind (Definition s body) f)) e in
     let again = nil_left (broken_if (has_name f.defined s.name.text) Redeclared s.name.at) (statements_offences body (record { result = s.result; in_loop = false }) (body_scope s f))
-        (nil_right (signature_offences s f) (broken_if (has_name f.defined s.name.text) Redeclared s.name.at ++ statements_offences body (record { result = s.result; in_loop = false }) (body_scope s f)) here) in
+    (nil_right (signature_offences s f) (broken_if (has_name f.defined s.name.text) Redeclared s.name.at ++ statements_offences body (record { result = s.result; in_loop = false }) (body_scope s f)) here) in
     (not_broken (has_name f.defined s.name.text) Redeclared s.name.at again, apart_from rest (file_scope_behind (Definition s body) f) behind)
 apart_from (Objects t os ∷ rest) f e =
     subst (λ names. Apart names (functions_from rest (with_objects t os f))) (objects_keep t os f)
@@ -88,7 +88,7 @@ numbered unit f typed h =
     let n = named_at first_file_scope.defined (functions unit) f g.0 (functions_apart unit typed) g.1 in
     let writes : same_name (codes "write_word") (g.0).name ≡ false = or_left (same_name (codes "write_word") (g.0).name) (same_name (codes "read_word") (g.0).name || false) n.0 in
     let reads : same_name (codes "read_word") (g.0).name ≡ false =
-        or_left (same_name (codes "read_word") (g.0).name) false (or_right (same_name (codes "write_word") (g.0).name) (same_name (codes "read_word") (g.0).name || false) n.0) in
+    or_left (same_name (codes "read_word") (g.0).name) false (or_right (same_name (codes "write_word") (g.0).name) (same_name (codes "read_word") (g.0).name || false) n.0) in
     record {
       function = g.0;
       is = g.1;

@@ -38,7 +38,7 @@ module _ (form : FormTree) (cs : List Activation) (total : ℕ) (places : Places
   variable_assigned : (v : Environment) (most : ℕ) (vs : List ℕ) (op : Option BinaryOperator) (t u : Scalar) (x : List ℕ) (right : List Instruction) (part : State → Run ℕ) → IsPlainIfAny op → Readable v x
       → Part form cs total v most vs right part → (p : ℕ) (s : State) → Stands form.code p (right ++ store_of (applied op t u) v x ∷ []) → Fits v total most vs s
       → Meets form (conf p vs [] cs s) (Acted form cs total (conf p vs [] cs s) v most (p + length (right ++ store_of (applied op t u) v x ∷ [])))
-        (then_do (part s) (λ w y. then_do (new_value op t u (ToVariable x) w y) (λ new z. write (ToVariable x) new z)))
+      (then_do (part s) (λ w y. then_do (new_value op t u (ToVariable x) w y) (λ new z. write (ToVariable x) new z)))
   variable_assigned v most vs op t u x right part plain r f p s st h =
       let last = store_of (applied op t u) v x ∷ [] in
       let c = conf p vs [] cs s in
@@ -47,8 +47,8 @@ module _ (form : FormTree) (cs : List Activation) (total : ℕ) (places : Places
       meets_then form c (Value form cs total c v most vs (p + length right) []) (Acted form cs total c v most (p + length (right ++ last))) (part s)
       (λ w y. then_do (new_value op t u (ToVariable x) w y) (λ new z. write (ToVariable x) new z)) (f p [] s (stands_left form.code p right last st) h)
       (λ w y got. acted_after form cs total v most c (conf (p + length right) vs (w ∷ []) cs y) (p + length right + 1) (p + length (right ++ last))
-        (then_do (new_value op t u (ToVariable x) w y) (λ new z. write (ToVariable x) new z)) got.leads (omega arith)
-        (store_meets form cs total v most vs op t u x (p + length right) w y plain r got.fits in_last.0))
+      (then_do (new_value op t u (ToVariable x) w y) (λ new z. write (ToVariable x) new z)) got.leads (omega arith)
+      (store_meets form cs total v most vs op t u x (p + length right) w y plain r got.fits in_last.0))
 
   -- the index of an element is found first
   record Indexed (c : Configuration) (v : Environment) (most : ℕ) (vs : List ℕ) (q : ℕ) (x : List ℕ) (d : Destination) (t : State) : Type 0 where
@@ -59,7 +59,7 @@ module _ (form : FormTree) (cs : List Activation) (total : ℕ) (places : Places
   element_assigned : (v : Environment) (most : ℕ) (vs : List ℕ) (op : Option BinaryOperator) (t u : Scalar) (x : List ℕ) (left right : List Instruction) (index part : State → Run ℕ) → IsPlainIfAny op
       → Part form cs total v most vs left index → Part form cs total v most vs right part → (p : ℕ) (s : State) → Stands form.code p ((left ++ right) ++ store_element_of (applied op t u) v x ∷ []) → Fits v total most vs s
       → Meets form (conf p vs [] cs s) (Acted form cs total (conf p vs [] cs s) v most (p + length ((left ++ right) ++ store_element_of (applied op t u) v x ∷ [])))
-        (then_do (then_do (index s) (λ i y. Gives (ToElement x i) y)) (λ d y. then_do (part y) (λ w z. then_do (new_value op t u d w z) (λ new k. write d new k))))
+      (then_do (then_do (index s) (λ i y. Gives (ToElement x i) y)) (λ d y. then_do (part y) (λ w z. then_do (new_value op t u d w z) (λ new k. write d new k))))
   element_assigned v most vs op t u x left right index part plain f g p s st h =
       let last = store_element_of (applied op t u) v x ∷ [] in
       let c = conf p vs [] cs s in
@@ -72,23 +72,23 @@ module _ (form : FormTree) (cs : List Activation) (total : ℕ) (places : Places
       let rest : Destination → State → Run Flow = λ d y. then_do (part y) (λ w z. then_do (new_value op t u d w z) (λ new k. write d new k)) in
       meets_then form c (Indexed c v most vs (p + length left) x) (Acted form cs total c v most end) (then_do (index s) (λ i y. Gives (ToElement x i) y)) rest
       (meets_then form c (Value form cs total c v most vs (p + length left) []) (Indexed c v most vs (p + length left) x) (index s) (λ i y. Gives (ToElement x i) y)
-        (f p [] s (stands_left form.code p left right in_both) h) (λ i y got. record { index = i; is = refl; value = got }))
+      (f p [] s (stands_left form.code p left right in_both) h) (λ i y got. record { index = i; is = refl; value = got }))
       (λ d y got.
-        let i = got.index in
-        let e = conf (p + length left) vs (i ∷ []) cs y in
-        meets_same form c (Acted form cs total c v most end) (rest d y) (rest (ToElement x i) y) (ap (λ k. rest k y) got.is)
-        (acted_after form cs total v most c e end end (rest (ToElement x i) y) got.value.leads refl
-          (meets_then form e (Value form cs total e v most vs (p + length left + length right) (i ∷ [])) (Acted form cs total e v most end) (part y)
-            (λ w z. then_do (new_value op t u (ToElement x i) w z) (λ new k. write (ToElement x i) new k)) (g (p + length left) (i ∷ []) y in_right got.value.fits)
-            (λ w z got'. acted_after form cs total v most e (conf (p + length left + length right) vs (w ∷ i ∷ []) cs z) (p + length left + length right + 1) end
-              (then_do (new_value op t u (ToElement x i) w z) (λ new k. write (ToElement x i) new k)) got'.leads (omega arith)
-              (element_store_meets form cs total v most vs op t u x i (p + length left + length right) w z plain got'.fits in_last.0)))))
+      let i = got.index in
+      let e = conf (p + length left) vs (i ∷ []) cs y in
+      meets_same form c (Acted form cs total c v most end) (rest d y) (rest (ToElement x i) y) (ap (λ k. rest k y) got.is)
+      (acted_after form cs total v most c e end end (rest (ToElement x i) y) got.value.leads refl
+      (meets_then form e (Value form cs total e v most vs (p + length left + length right) (i ∷ [])) (Acted form cs total e v most end) (part y)
+      (λ w z. then_do (new_value op t u (ToElement x i) w z) (λ new k. write (ToElement x i) new k)) (g (p + length left) (i ∷ []) y in_right got.value.fits)
+      (λ w z got'. acted_after form cs total v most e (conf (p + length left + length right) vs (w ∷ i ∷ []) cs z) (p + length left + length right + 1) end
+      (then_do (new_value op t u (ToElement x i) w z) (λ new k. write (ToElement x i) new k)) got'.leads (omega arith)
+      (element_store_meets form cs total v most vs op t u x i (p + length left + length right) w z plain got'.fits in_last.0)))))
 
   target_assigned : (v : Environment) (most : ℕ) (vs : List ℕ) (op : Option BinaryOperator) (t u : Scalar) (target : Target) (right : List Instruction) (part : State → Run ℕ) → Scoped places defined Takes v → most < n → IsPlainIfAny op
       → target_offences (types_in v) target ≡ [] → undefined_among defined (called_in_target target) ≡ [] → Part form cs total v most vs right part
       → (p : ℕ) (s : State) → Stands form.code p (assignment_code (applied op t u) v target right) → Fits v total most vs s
       → Meets form (conf p vs [] cs s) (Acted form cs total (conf p vs [] cs s) v most (p + length (assignment_code (applied op t u) v target right)))
-        (then_do (meaning.destination target (types_in v) call s) (λ d y. then_do (part y) (λ w z. then_do (new_value op t u d w z) (λ new k. write d new k))))
+      (then_do (meaning.destination target (types_in v) call s) (λ d y. then_do (part y) (λ w z. then_do (new_value op t u d w z) (λ new k. write d new k))))
   target_assigned v most vs op t u (AtVariable x) right part scoped lt plain e d f =
       let is = variable_found BadAssign (found (types_in v) x.text) x.at e in
       variable_assigned v most vs op t u x.text right part plain (scoped.variable x.text is.0 is.1) f
@@ -185,8 +185,8 @@ module _ (form : FormTree) (cs : List Activation) (total : ℕ) (places : Places
   stored_again : (x : List ℕ) (s : State) → stored x 0 (meaning.with_local x s) ≡ meaning.with_local x s
   stored_again x s =
       ap (λ b. if is_some (if b then Some 0 else meaning.local_word s.locals x)
-        then record (meaning.with_local x s) { locals = if b then record { name = x; word = 0 } ∷ s.locals else record { name = x; word = 0 } ∷ with_local_word x 0 s.locals }
-        else record (meaning.with_local x s) { globals = with_element x 0 0 s.globals }) (name_is_itself x)
+      then record (meaning.with_local x s) { locals = if b then record { name = x; word = 0 } ∷ s.locals else record { name = x; word = 0 } ∷ with_local_word x 0 s.locals }
+      else record (meaning.with_local x s) { globals = with_element x 0 0 s.globals }) (name_is_itself x)
 
   initial_value : (t : Scalar) (x : List ℕ) (e : Expr) (v : Environment) (most : ℕ) (vs : List ℕ) → Part form cs total (with_local t x v) most vs (expression_code (with_local t x v) e) (evaluate e (types_in (with_local t x v)) call)
       → (p : ℕ) (s : State) → Stands form.code p (expression_code (with_local t x v) e ++ instruction.SetLocal (length v.locals) ∷ []) → Fits (with_local t x v) total most vs s
@@ -200,24 +200,24 @@ module _ (form : FormTree) (cs : List Activation) (total : ℕ) (places : Places
       let size = length-append code last in
       let in_last = stands_right form.code p (p + length code) code last refl st in
       let setting : store_of None v' x ≡ instruction.SetLocal i =
-          ap (λ (o : Option ℕ). elim o [ None ↦ instruction.SetGlobal (extent_of v'.places.objects x).place | Some k ↦ instruction.SetLocal k ]) (newest_number t x v) in
+      ap (λ (o : Option ℕ). elim o [ None ↦ instruction.SetGlobal (extent_of v'.places.objects x).place | Some k ↦ instruction.SetLocal k ]) (newest_number t x v) in
       meets_after form c c (Value form cs total c v' most vs (p + length code) []) (Begun c v' most (p + length (code ++ last)) x) (evaluate e (types_in v') call s) (leads_refl form c)
       (λ w y got.
-        let q = stores_local form cs total v' most vs y x i got.fits (newest_number t x v) in
-        record {
-          variables = q.variables w;
-          fits = q.fits w;
-          leads = leads_then form c (conf (p + length code) vs (w ∷ []) cs y) (conf (p + length (code ++ last)) (q.variables w) [] cs (stored x w y)) got.leads
-              (instructed form (store_of None v' x) (p + length code) vs (w ∷ []) cs y (conf (p + length (code ++ last)) (q.variables w) [] cs (stored x w y)) (in_last.0 ∙ ap Some (sym setting))
-              (q.sets (p + length code + 1) w ∙ ap (λ k. Goes (conf k (q.variables w) [] cs (stored x w y))) (let z : p + length code + 1 ≡ p + length (code ++ last) = omega arith in z)));
-        })
+      let q = stores_local form cs total v' most vs y x i got.fits (newest_number t x v) in
+      record {
+        variables = q.variables w;
+        fits = q.fits w;
+        leads = leads_then form c (conf (p + length code) vs (w ∷ []) cs y) (conf (p + length (code ++ last)) (q.variables w) [] cs (stored x w y)) got.leads
+            (instructed form (store_of None v' x) (p + length code) vs (w ∷ []) cs y (conf (p + length (code ++ last)) (q.variables w) [] cs (stored x w y)) (in_last.0 ∙ ap Some (sym setting))
+            (q.sets (p + length code + 1) w ∙ ap (λ k. Goes (conf k (q.variables w) [] cs (stored x w y))) (let z : p + length code + 1 ≡ p + length (code ++ last) = omega arith in z)));
+      })
       (f p [] s (stands_left form.code p code last st) h)
 
   initial_meets : (t : Scalar) (x : List ℕ) (e : Option Expr) (v : Environment) (most : ℕ) (vs : List ℕ) → Scoped places defined Takes (with_local t x v) → most < n
       → optional_offences (types_in (with_local t x v)) e ≡ [] → undefined_among defined (called_in_optional e) ≡ []
       → (p : ℕ) (s : State) → Stands form.code p (initial_code (with_local t x v) (length v.locals) e) → Fits (with_local t x v) total most vs (meaning.with_local x s)
       → Meets form (conf p vs [] cs (meaning.with_local x s)) (Begun (conf p vs [] cs (meaning.with_local x s)) (with_local t x v) most (p + length (initial_code (with_local t x v) (length v.locals) e)) x)
-        (evaluate_or 0 e (types_in (with_local t x v)) call (meaning.with_local x s))
+      (evaluate_or 0 e (types_in (with_local t x v)) call (meaning.with_local x s))
   initial_meets t x None v most vs scoped lt o d p s st h =
       let s' = meaning.with_local x s in
       let again = stored_again x s in
@@ -262,10 +262,10 @@ module _ (form : FormTree) (cs : List Activation) (total : ℕ) (places : Places
       meets_after form c d' (Acted form cs total d' (with_locals t rest v') most end) (Acted form cs total c (with_locals t rest v') most end) (declare t (x ∷ rest) call v.visible s) to
       (λ flow y got. record { falls = got.falls; variables = got.variables; fits = got.fits; leads = leads_then form c d' (conf end got.variables [] cs y) to got.leads })
       (meets_then form d' (Begun d' v' most (p + 1 + length first) name) (Acted form cs total d' (with_locals t rest v') most end) (evaluate_or 0 x.initial (types_in v') call s')
-        (λ w y. declare t rest call v'.visible (stored name w y))
-        (initial_meets t name x.initial v most vs' scoped' lt (nil_left (optional_offences (types_in v') x.initial) (declared_offences t rest v'.visible) own) (defined_left defined (called_in_optional x.initial) (called_in_declared rest) d)
-          (p + 1) s (stands_left form.code (p + 1) first others st.1) fits')
-        (λ w y got. acted_after form cs total (with_locals t rest v') most d' (conf (p + 1 + length first) got.variables [] cs (stored name w y)) (p + 1 + length first + length others) end
-          (declare t rest call v'.visible (stored name w y)) got.leads (omega arith)
-          (declare_meets t rest v' most scoped' lt (nil_right (optional_offences (types_in v') x.initial) (declared_offences t rest v'.visible) own) (defined_right defined (called_in_optional x.initial) (called_in_declared rest) d)
-            (omega arith) (p + 1 + length first) got.variables (stored name w y) (stands_right form.code (p + 1) (p + 1 + length first) first others refl st.1) got.fits)))
+      (λ w y. declare t rest call v'.visible (stored name w y))
+      (initial_meets t name x.initial v most vs' scoped' lt (nil_left (optional_offences (types_in v') x.initial) (declared_offences t rest v'.visible) own) (defined_left defined (called_in_optional x.initial) (called_in_declared rest) d)
+      (p + 1) s (stands_left form.code (p + 1) first others st.1) fits')
+      (λ w y got. acted_after form cs total (with_locals t rest v') most d' (conf (p + 1 + length first) got.variables [] cs (stored name w y)) (p + 1 + length first + length others) end
+      (declare t rest call v'.visible (stored name w y)) got.leads (omega arith)
+      (declare_meets t rest v' most scoped' lt (nil_right (optional_offences (types_in v') x.initial) (declared_offences t rest v'.visible) own) (defined_right defined (called_in_optional x.initial) (called_in_declared rest) d)
+      (omega arith) (p + 1 + length first) got.variables (stored name w y) (stands_right form.code (p + 1) (p + 1 + length first) first others refl st.1) got.fits)))

@@ -189,8 +189,8 @@ sized_new y e' f ps q is one h = record {
       new_by f y x e' t (is_declared f.bindings y) (same_name y x) ((extent_of (ps ++ q ∷ []) x).length ≡ 1) refl refl e
       (λ old. extent_kept ps (q ∷ []) x (h.one x t old))
       (λ b c g.
-        let fresh : named_in ps x ≡ false = unknown (named_in ps x) (λ k. true≢false (sym (h.known x k) ∙ ap is_some (sym (found_same f.bindings y x c)) ∙ b)) in
-        ap (λ (z : Extent). z.length) (extent_last ps q x fresh (ap (λ (z : List ℕ). same_name z x) is ∙ c)) ∙ one t g);
+      let fresh : named_in ps x ≡ false = unknown (named_in ps x) (λ k. true≢false (sym (h.known x k) ∙ ap is_some (sym (found_same f.bindings y x c)) ∙ b)) in
+      ap (λ (z : Extent). z.length) (extent_last ps q x fresh (ap (λ (z : List ℕ). same_name z x) is ∙ c)) ∙ one t g);
 }
   where
     unknown : (b : Bool) → (b ≡ true → ⊥) → b ≡ false

@@ -91,9 +91,9 @@ module _ (call : ℕ → Calls) (steady : (f ws : List ℕ) → Steady Under (λ
         (λ ls a n t. unless_decided (decided op a) (λ u. then_do (evaluate right bs (call n) u) (λ b v. given op (binary_word op (working_type op (value_type bs left) (value_type bs right)) a b) v)) t)
         (evaluate_steady left bs)
         (λ ls a. steady_unless Under (decided op a)
-          (λ n u. then_do (evaluate right bs (call n) u) (λ b v. given op (binary_word op (working_type op (value_type bs left) (value_type bs right)) a b) v))
-          (steady_then Under under (λ n u. evaluate right bs (call n) u) (λ ls b n v. given op (binary_word op (working_type op (value_type bs left) (value_type bs right)) a b) v)
-            (evaluate_steady right bs) (λ ls b. given_steady op (binary_word op (working_type op (value_type bs left) (value_type bs right)) a b))))
+        (λ n u. then_do (evaluate right bs (call n) u) (λ b v. given op (binary_word op (working_type op (value_type bs left) (value_type bs right)) a b) v))
+        (steady_then Under under (λ n u. evaluate right bs (call n) u) (λ ls b n v. given op (binary_word op (working_type op (value_type bs left) (value_type bs right)) a b) v)
+        (evaluate_steady right bs) (λ ls b. given_steady op (binary_word op (working_type op (value_type bs left) (value_type bs right)) a b))))
     evaluate_steady (Conditional c a b) bs =
         steady_then Under under (λ n s. evaluate c bs (call n) s) (λ ls w n t. choose w (evaluate a bs (call n)) (evaluate b bs (call n)) t) (evaluate_steady c bs)
         (λ ls w. steady_choose Under w (λ n t. evaluate a bs (call n) t) (λ n t. evaluate b bs (call n) t) (evaluate_steady a bs) (evaluate_steady b bs))
@@ -138,8 +138,8 @@ module _ (call : ℕ → Calls) (steady : (f ws : List ℕ) → Steady Under (λ
       (λ ls d n t. then_do (evaluate e bs (call n) t) (λ w u. then_do (new_value (applied_operator op) (target_type bs target) (value_type bs e) d w u) (λ new v. write d new v)))
       (destination_steady target bs)
       (λ ls d. steady_then Under under (λ n t. evaluate e bs (call n) t)
-        (λ ls w n u. then_do (new_value (applied_operator op) (target_type bs target) (value_type bs e) d w u) (λ new v. write d new v)) (evaluate_steady e bs)
-        (λ ls w. assigned_steady (applied_operator op) (target_type bs target) (value_type bs e) d w))
+      (λ ls w n u. then_do (new_value (applied_operator op) (target_type bs target) (value_type bs e) d w u) (λ new v. write d new v)) (evaluate_steady e bs)
+      (λ ls w. assigned_steady (applied_operator op) (target_type bs target) (value_type bs e) d w))
   perform_steady (Step op target) bs =
       steady_then Under under (λ n s. destination target bs (call n) s)
       (λ ls d n t. then_do (new_value (applied_operator (step_operator op)) (target_type bs target) Int d 1 t) (λ new v. write d new v)) (destination_steady target bs)
@@ -192,12 +192,12 @@ module _ (call : ℕ → Calls) (steady : (f ws : List ℕ) → Steady Under (λ
     execute_steady (If c a) v =
         steady_then Under under (λ n s. evaluate c (in_scope v) (call n) s) (λ ls w n t. choose w (in_block (execute a n (call n) (opened v))) (λ u. Gives Falls u) t) (evaluate_steady c (in_scope v))
         (λ ls w. steady_choose Under w (λ n t. in_block (execute a n (call n) (opened v)) t) (λ n u. Gives Falls u)
-          (block_steady (λ n t. execute a n (call n) (opened v) t) (execute_steady a (opened v))) (steady_gives Under Falls))
+        (block_steady (λ n t. execute a n (call n) (opened v) t) (execute_steady a (opened v))) (steady_gives Under Falls))
     execute_steady (IfElse c a b) v =
         steady_then Under under (λ n s. evaluate c (in_scope v) (call n) s)
         (λ ls w n t. choose w (in_block (execute a n (call n) (opened v))) (in_block (execute b n (call n) (opened v))) t) (evaluate_steady c (in_scope v))
         (λ ls w. steady_choose Under w (λ n t. in_block (execute a n (call n) (opened v)) t) (λ n t. in_block (execute b n (call n) (opened v)) t)
-          (block_steady (λ n t. execute a n (call n) (opened v) t) (execute_steady a (opened v))) (block_steady (λ n t. execute b n (call n) (opened v) t) (execute_steady b (opened v))))
+        (block_steady (λ n t. execute a n (call n) (opened v) t) (execute_steady a (opened v))) (block_steady (λ n t. execute b n (call n) (opened v) t) (execute_steady b (opened v))))
     execute_steady (While c body) v =
         steady_turns (λ n s. evaluate c (in_scope v) (call n) s) (λ n s. in_block (execute body n (call n) (opened v)) s) (λ n t. Gives Falls t)
         (evaluate_steady c (in_scope v)) (block_steady (λ n t. execute body n (call n) (opened v) t) (execute_steady body (opened v))) (steady_gives Under Falls)
@@ -206,20 +206,20 @@ module _ (call : ℕ → Calls) (steady : (f ws : List ℕ) → Steady Under (λ
         (λ n s. turns (suc n) (evaluate c (in_scope v) (call n)) (in_block (execute body n (call n) (opened v))) (λ t. Gives Falls t) s)
         (block_steady (λ n t. execute body n (call n) (opened v) t) (execute_steady body (opened v)))
         (steady_turns (λ n s. evaluate c (in_scope v) (call n) s) (λ n s. in_block (execute body n (call n) (opened v)) s) (λ n t. Gives Falls t)
-          (evaluate_steady c (in_scope v)) (block_steady (λ n t. execute body n (call n) (opened v) t) (execute_steady body (opened v))) (steady_gives Under Falls))
+        (evaluate_steady c (in_scope v)) (block_steady (λ n t. execute body n (call n) (opened v) t) (execute_steady body (opened v))) (steady_gives Under Falls))
     execute_steady (For first c behind body) v =
         block_steady
         (λ n t. then_do (start first (call n) (opened v) t) (λ flow u. turns (suc n) (evaluate_or 1 c (in_scope (scope_behind_start first (opened v))) (call n))
-          (in_block (execute body n (call n) (opened (scope_behind_start first (opened v))))) (perform_optional behind (in_scope (scope_behind_start first (opened v))) (call n)) u))
+        (in_block (execute body n (call n) (opened (scope_behind_start first (opened v))))) (perform_optional behind (in_scope (scope_behind_start first (opened v))) (call n)) u))
         (steady_then Under under (λ n t. start first (call n) (opened v) t)
-          (λ ls flow n u. turns (suc n) (evaluate_or 1 c (in_scope (scope_behind_start first (opened v))) (call n))
-            (in_block (execute body n (call n) (opened (scope_behind_start first (opened v))))) (perform_optional behind (in_scope (scope_behind_start first (opened v))) (call n)) u)
-          (start_steady first (opened v))
-          (λ ls flow. steady_turns (λ n s. evaluate_or 1 c (in_scope (scope_behind_start first (opened v))) (call n) s)
-            (λ n s. in_block (execute body n (call n) (opened (scope_behind_start first (opened v)))) s) (λ n s. perform_optional behind (in_scope (scope_behind_start first (opened v))) (call n) s)
-            (evaluate_or_steady 1 c (in_scope (scope_behind_start first (opened v))))
-            (block_steady (λ n t. execute body n (call n) (opened (scope_behind_start first (opened v))) t) (execute_steady body (opened (scope_behind_start first (opened v)))))
-            (optional_steady behind (in_scope (scope_behind_start first (opened v))))))
+        (λ ls flow n u. turns (suc n) (evaluate_or 1 c (in_scope (scope_behind_start first (opened v))) (call n))
+        (in_block (execute body n (call n) (opened (scope_behind_start first (opened v))))) (perform_optional behind (in_scope (scope_behind_start first (opened v))) (call n)) u)
+        (start_steady first (opened v))
+        (λ ls flow. steady_turns (λ n s. evaluate_or 1 c (in_scope (scope_behind_start first (opened v))) (call n) s)
+        (λ n s. in_block (execute body n (call n) (opened (scope_behind_start first (opened v)))) s) (λ n s. perform_optional behind (in_scope (scope_behind_start first (opened v))) (call n) s)
+        (evaluate_or_steady 1 c (in_scope (scope_behind_start first (opened v))))
+        (block_steady (λ n t. execute body n (call n) (opened (scope_behind_start first (opened v))) t) (execute_steady body (opened (scope_behind_start first (opened v)))))
+        (optional_steady behind (in_scope (scope_behind_start first (opened v))))))
 
     pub execute_all_steady : (ss : Stmts) (v : Visible) → Steady Under (λ n t. execute_all ss n (call n) v t)
     execute_all_steady end v = steady_gives Under Falls
@@ -247,10 +247,12 @@ module _ (call : ℕ → Calls) (steady : (f ws : List ℕ) → Steady Under (λ
 abbrev pub begun : (writes reads allowed : Bool) → (ℕ → State → Run ℕ) → List ℕ → ℕ → State → Run ℕ
 begun writes reads allowed body ws n s =
     elim writes [
-      true ↦ Gives 0 (record s { output = s.output ++ ws })
-    | false ↦ elim reads [
-        true ↦ read_input s.input s
-      | false ↦ spend (λ t. elim allowed [ true ↦ body n t | false ↦ Wrong Depth t.output ]) s ] ]
+      | true ↦ Gives 0 (record s { output = s.output ++ ws })
+      | false ↦ elim reads [
+        | true ↦ read_input s.input s
+        | false ↦ spend (λ t. elim allowed [ true ↦ body n t | false ↦ Wrong Depth t.output ]) s
+      ]
+    ]
 
 -- a bound of a body, of which a call has one more
 abbrev UpTo : ℕ → ℕ → Type 0

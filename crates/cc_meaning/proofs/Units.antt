@@ -36,7 +36,7 @@ stands_in front [] back = omega (arith, length-append front back)
 stands_in front (i ∷ xs) back = (
   get_right front (i ∷ (xs ++ back)) 0 (length front) (omega arith),
   subst (λ code. Stands code (length front + 1) xs) (append_assoc front (i ∷ []) (xs ++ back))
-  (subst (λ p. Stands ((front ++ i ∷ []) ++ (xs ++ back)) p xs) (length-append front (i ∷ [])) (stands_in (front ++ i ∷ []) xs back)),
+      (subst (λ p. Stands ((front ++ i ∷ []) ++ (xs ++ back)) p xs) (length-append front (i ∷ [])) (stands_in (front ++ i ∷ []) xs back)),
 )
 
 -- ---- scopes
@@ -220,10 +220,10 @@ takes_by unit typed x r ts false false w d e has =
     let no_writes : same_name (codes "write_word") x ≡ false = same_name_symm (codes "write_word") x ∙ w in
     let no_reads : same_name (codes "read_word") x ≡ false = same_name_symm (codes "read_word") x ∙ d in
     let before : has_name first_file_scope.defined x ≡ false =
-        ap (λ b. b || (same_name (codes "read_word") x || false)) no_writes ∙ ap (λ b. b || false) no_reads in
+    ap (λ b. b || (same_name (codes "read_word") x || false)) no_writes ∙ ap (λ b. b || false) no_reads in
     Enters w d (or_right_of (has_name first_file_scope.defined x) (has_name (names_in unit) x) before names)
     (λ g is. same_count (final_scope unit).bindings x (length g.parameters) (length ts) (function_takes unit first_file_scope (final_scope unit) x g typed.0 refl is)
-      (record { result = r; scalars = ts; is = e; many = refl }))
+    (record { result = r; scalars = ts; is = e; many = refl }))
 
 -- no variable is declared before the unit
 no_variables : (y : List ℕ) (u : Scalar) → found first_file_scope.bindings y ≡ Some (scope.Variable u) → ⊥
@@ -250,7 +250,7 @@ module _ (unit : List External) (typed : IsTyped unit) where
   body_scoped s body rest f whole =
       let outer : List Binding = (with_function s f).bindings in
       let stays : (x : List ℕ) (e : scope.Entity) → found outer x ≡ Some e → found (final_scope unit).bindings x ≡ Some e =
-          λ x e h. ap (λ (g : FileScope). found g.bindings x) (sym whole) ∙ keeps_externals rest (file_scope_behind (Definition s body) f) x e h in
+      λ x e h. ap (λ (g : FileScope). found g.bindings x) (sym whole) ∙ keeps_externals rest (file_scope_behind (Definition s body) f) x e h in
       scoped_parameters places known TakesHere s.parameters (record { inner = []; outer = outer }) []
       (record {
         placed = refl;
@@ -339,7 +339,7 @@ module _ (unit : List External) (typed : IsTyped unit) where
       listed_by g gs c cs y xs (front ++ (c.code ++ all_code cs)) at x (same_name y x) refl m.0 m.1
       (subst (λ p. Stands (front ++ (c.code ++ all_code cs)) p c.code) e (stands_in front c.code (all_code cs))) has
       (λ has'. subst (λ code. Listed gs cs xs code (at + length c.code) x) (append_assoc front c.code (all_code cs))
-        (listed gs cs xs (front ++ c.code) (at + length c.code) x (length-append front c.code ∙ ap (λ k. k + length c.code) e) m.2 has'))
+      (listed gs cs xs (front ++ c.code) (at + length c.code) x (length-append front c.code ∙ ap (λ k. k + length c.code) e) m.2 has'))
 
   table : (x : List ℕ) → has_name places.functions x ≡ true → Entered (resolved unit) places known (functions unit) x
   table x has =
@@ -355,7 +355,7 @@ module _ (unit : List External) (typed : IsTyped unit) where
 
   main_run : (input : List ℕ) (left : ℕ) (e : Entered (resolved unit) places known (functions unit) (codes "main")) → e.function.parameters ≡ []
       → Halts (resolved unit) (conf e.start (replicate e.code.variables 0) [] [] (record { locals = []; globals = initial_globals unit; input = input; output = []; steps = left }))
-        (outcome_of (run_body e.function (suc left) (calls (suc left) (functions unit) 1) [] (record { locals = []; globals = initial_globals unit; input = input; output = []; steps = left })))
+      (outcome_of (run_body e.function (suc left) (calls (suc left) (functions unit) 1) [] (record { locals = []; globals = initial_globals unit; input = input; output = []; steps = left })))
   main_run input left e none =
       let t : State = record { locals = []; globals = initial_globals unit; input = input; output = []; steps = left } in
       halts_as (conf e.start (replicate e.code.variables 0) [] [] t) (run_body e.function (suc left) (calls (suc left) (functions unit) 1) [] t)
@@ -365,7 +365,7 @@ module _ (unit : List External) (typed : IsTyped unit) where
   no_parameters e =
       nil_from_length e.function.parameters
       (same_count (final_scope unit).bindings (codes "main") (length e.function.parameters) 0 (function_takes unit first_file_scope (final_scope unit) (codes "main") e.function typed.0 refl e.is)
-        (main_takes unit first_file_scope (final_scope unit) typed.0 refl typed.1))
+      (main_takes unit first_file_scope (final_scope unit) typed.0 refl typed.1))
 
   -- with no step left, and with one at least
   behaves : (text input : List ℕ) (n : ℕ) (e : Entered (resolved unit) places known (functions unit) (codes "main"))
@@ -379,11 +379,10 @@ module _ (unit : List External) (typed : IsTyped unit) where
       let entry : Entry = record { start = e.start; parameters = e.code.parameters; variables = e.code.variables } in
       let h = main_run input left e (no_parameters e) in
       let first : conf e.start (replicate e.code.variables 0) [] [] t ≡ first_configuration (resolved unit) entry input left =
-          ap (λ gs. record { now = record { next = e.start; variables = replicate e.code.variables 0; operands = [] }; callers = []; globals = gs; input = input; output = []; steps = left }) (words_laid (objects unit)) in
-      (
+      ap (λ gs. record { now = record { next = e.start; variables = replicate e.code.variables 0; operands = [] }; callers = []; globals = gs; input = input; output = []; steps = left }) (words_laid (objects unit)) in (
         h.0,
         ap (λ o. started h.0 (resolved unit) o input (suc left)) e.entry ∙ ap (form_run h.0 (resolved unit)) (sym first) ∙ h.1
-        ∙ ap (λ r. Some (outcome_of r)) (ap (λ o. run_optional o (suc left) (calls (suc left) (functions unit) 1) [] t) (sym e.is)),
+            ∙ ap (λ r. Some (outcome_of r)) (ap (λ o. run_optional o (suc left) (calls (suc left) (functions unit) 1) [] t) (sym e.is)),
       )
 
 pub forms_mean_their_units : FormsMeanTheirUnits

@@ -7,3 +7,4 @@ pub mod Laid
 pub mod Shows
 pub mod FormRows
 pub mod Shown
+pub mod Ran

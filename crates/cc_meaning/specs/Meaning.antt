@@ -368,12 +368,15 @@ abbrev pub calls : ℕ → List Function → ℕ → Calls
 calls zero fs opened f ws s = Going s.output
 calls (suc n) fs opened f ws s =
     elim (same_name f (codes "write_word")) [
-      true ↦ Gives 0 (record s { output = s.output ++ ws })
-    | false ↦ elim (same_name f (codes "read_word")) [
-        true ↦ read_input s.input s
-      | false ↦ spend (λ t. elim (nat_lt opened most_open) [
-          true ↦ run_optional (function_named fs f) n (calls n fs (opened + 1)) ws t
-        | false ↦ Wrong Depth t.output ]) s ] ]
+      | true ↦ Gives 0 (record s { output = s.output ++ ws })
+      | false ↦ elim (same_name f (codes "read_word")) [
+        | true ↦ read_input s.input s
+        | false ↦ spend (λ t. elim (nat_lt opened most_open) [
+          | true ↦ run_optional (function_named fs f) n (calls n fs (opened + 1)) ws t
+          | false ↦ Wrong Depth t.output
+        ]) s
+      ]
+    ]
 
 -- ---- programs
 

@@ -1,6 +1,6 @@
 // Texts at the limits and past them, and texts that are no programs.
 
-use super::{checks, repeated, run};
+use super::{checks, interprets, repeated, run};
 use crate::command_line::Task;
 use std::alloc::Global;
 use std::process::Abort;
@@ -74,6 +74,31 @@ fn levels_of_statements(rt: HostRuntime) -> Result<(), Fail> {
     let (_, written) = run(&rt, Task::Check, text.as_slice())?;
     assert_eq!(rt; written.as_slice(), b"fault 6 TooDeep at 1:79\n".as_slice());
     Ok(())
+}
+
+// A function that calls itself through an expression of 512 tokens in a statement of level 64, so many times.
+fn deepest(alloc: Global, times: u32) -> Result<String, Fail> {
+    let mut text = String::new(alloc);
+    text.push_str("int f(int n){")?;
+    for _ in 0..61u32 {
+        text.push_str("{")?;
+    }
+    text.push_str("if(n)return ")?;
+    for _ in 0..506u32 {
+        text.push_str("~")?;
+    }
+    text.push_str("f(n-1);")?;
+    for _ in 0..61u32 {
+        text.push_str("}")?;
+    }
+    text.push_str(&format!(in alloc; "return 7;}}int main(void){{write_word(f({times}));}}")?)?;
+    Ok(text)
+}
+
+#[test]
+fn calls_expressions_and_statements_at_once(rt: HostRuntime) -> Result<(), Fail> {
+    interprets(&rt, &deepest(rt.alloc(), 1022)?, 2000, "7\nended 0\n")?;
+    interprets(&rt, &deepest(rt.alloc(), 1023)?, 2000, "wrong Depth\n")
 }
 
 #[test]

@@ -9,6 +9,7 @@ use std::test::Fail;
 fn the_empty_main(rt: HostRuntime) -> Result<(), Fail> {
     interprets(&rt, "int main(void){}", 1, "ended 0\n")?;
     interprets(&rt, "int main(void){}", 0, "going\n")?;
+    checks(&rt, "int main(void){}", "ok\n")?;
     interprets(&rt, "int main(){}", 1, "ended 0\n")
 }
 
