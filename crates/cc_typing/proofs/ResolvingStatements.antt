@@ -1,8 +1,8 @@
 -- Instructions are written from the last one to the first: the names of a list come into scope first, and then what stands
 -- behind each of its members is there when the member is written.
-use Rattle.std.proofs.Common.{◌≡◌, ℕ, ◌+◌, ◌-◌, ◌≤◌, List, [], ◌∷◌, ◌++◌, length, length-append, reverse, set, Option, refl, sym, ap, ◌∙◌, append_assoc, arith}
+use Rattle.std.proofs.Common.{◌≡◌, ℕ, ◌+◌, ◌-◌, ◌≤◌, List, [], ◌∷◌, ◌++◌, length, length-append, reverse, set, refl, sym, ap, ◌∙◌, append_assoc, arith}
 use Rattle.std.proofs.lemmas.List.{set-append_right}
-use Rattle.cc_syntax.specs.Erase.{name_tree, optional_tree, declarator_trees, statement_tree, statements_of}
+use Rattle.cc_syntax.specs.Erase.{optional_tree, declarator_trees, statement_tree, statements_of}
 use Rattle.cc_syntax.specs.Tree as tree
 use Rattle.cc_syntax.specs.declared.ast.Scalar.{Scalar}
 use Rattle.cc_syntax.specs.declared.ast.Declarator.{Declarator}

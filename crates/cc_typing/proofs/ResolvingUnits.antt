@@ -1,17 +1,16 @@
 -- Objects, functions and external declarations, one after the other: what is done and what is left make the whole.
-use Rattle.std.proofs.Common.{◌≡◌, ℕ, suc, ◌+◌, ◌-◌, ◌<◌, ◌≤◌, List, [], ◌∷◌, ◌++◌, length, length-append, map, replicate, Bool, true, false, if◌then◌else◌, nat_lt, Option, Some, None, is_some, refl, sym, ap, ◌∙◌, append_assoc, arith}
+use Rattle.std.proofs.Common.{◌≡◌, ℕ, suc, ◌+◌, ◌-◌, ◌<◌, ◌≤◌, List, [], ◌∷◌, ◌++◌, length, length-append, map, replicate, Bool, true, false, if◌then◌else◌, nat_lt, Some, None, is_some, refl, sym, ap, ◌∙◌, append_assoc, arith}
 use Rattle.std.proofs.lemmas.Bool.{false≢true}
 use Rattle.std.proofs.lemmas.List.{append-nil}
 use Rattle.std.specs.Prelude.{codes}
 use Rattle.cc_syntax.specs.declared.ast.Scalar.{Scalar}
-use Rattle.cc_syntax.specs.Tree as tree
-use Rattle.cc_syntax.specs.Tree.{Name, Parameter, Signature, Object, Single, Array, External, Declaration, Definition, Objects, Stmts}
+use Rattle.cc_syntax.specs.Tree.{Name, Parameter, Object, External, Declaration, Definition, Objects}
 use Rattle.cc_typing.specs.Bindings.{closed, file_level, file_of}
-use Rattle.cc_typing.specs.Counts.{counted, passed, count_after, defines, objects_in}
+use Rattle.cc_typing.specs.Counts.{counted, passed, count_after, objects_in}
 use Rattle.cc_typing.specs.Limits.{objects, object_name, function_names, locals}
-use Rattle.cc_typing.specs.Resolve.{Placed, Places, Environment, FunctionCode, placed_from, parameter_names, function_code, functions_code, places_of, all_code, entries_from, all_words, unit_functions, names_before, FormTree, resolved}
+use Rattle.cc_typing.specs.Resolve.{Placed, Places, Environment, FunctionCode, placed_from, parameter_names, function_code, functions_code, places_of, all_code, entries_from, all_words, unit_functions, names_before, resolved}
 use Rattle.cc_typing.specs.Resolving.{place_behind, defined_texts}
-use Rattle.cc_typing.specs.Scope.{Binding, Visible, FileScope, first_file_scope, with_function, with_object, with_objects, parameter_declared, parameters_declared, file_scope_behind, body_scope}
+use Rattle.cc_typing.specs.Scope.{Binding, Visible, FileScope, first_file_scope, with_function, with_object, with_objects, parameter_declared, parameters_declared, file_scope_behind}
 use Rattle.cc_typing.specs.Types.{object_words, initial_words}
 use Rattle.cc_typing.specs.declared.form.Entry.{Entry}
 use Rattle.cc_typing.specs.declared.form.Instruction.{Instruction}

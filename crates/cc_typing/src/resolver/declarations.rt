@@ -3,7 +3,7 @@
 // Instructions are written from the last one to the first, so the names of a declaration come into scope before its
 // instructions are written, which then take them back one by one.
 
-ghost use Rattle.std.specs.Prelude.{◌≡◌, ◌-◌, ◌∷◌, ◌++◌, length, OnOk};
+ghost use Rattle.std.specs.Prelude.{◌≡◌, ◌∷◌, ◌++◌, length, OnOk};
 ghost use Rattle.cc_syntax.specs.Erase.{optional_tree, declarator_trees, beginning_tree};
 ghost use Rattle.cc_syntax.specs.declared.ast.Scalar.{Scalar};
 ghost use Rattle.cc_typing.specs.Resolve as resolve;
@@ -53,13 +53,9 @@ fn declarator(
     code: &mut Emitter,
     tree: &Declarator,
 ) -> Result<(), AllocError>
-    ensures names {
-        OnOk result ((t : Scalar) (w : resolve.Environment) → names.old ≡ with_local t tree.now.name.bytes.items w → names.new ≡ w)
-    }
-    ensures code {
-        OnOk result ((t : Scalar) (w : resolve.Environment) → names.old ≡ with_local t tree.now.name.bytes.items w
-        → code.new ≡ Clear (length w.locals) ∷ initial_code names.old (length w.locals) (optional_tree tree.now.initial) ++ code.old)
-    }
+    ensures names { OnOk result ((t : Scalar) (w : resolve.Environment) → names.old ≡ with_local t tree.now.name.bytes.items w → names.new ≡ w) }
+    ensures code { OnOk result ((t : Scalar) (w : resolve.Environment) → names.old ≡ with_local t tree.now.name.bytes.items w
+        → code.new ≡ Clear (length w.locals) ∷ initial_code names.old (length w.locals) (optional_tree tree.now.initial) ++ code.old) }
 {
     let number = names.len().saturating_sub(1);
     if let Some(tree) = &tree.initial {
@@ -77,13 +73,9 @@ pub fn declaration(
     code: &mut Emitter,
     trees: &[Declarator],
 ) -> Result<(), AllocError>
-    ensures names {
-        OnOk result ((t : Scalar) (w : resolve.Environment) → names.old ≡ with_locals t (declarator_trees trees.now) w → names.new ≡ w)
-    }
-    ensures code {
-        OnOk result ((t : Scalar) (w : resolve.Environment) → names.old ≡ with_locals t (declarator_trees trees.now) w
-        → code.new ≡ declared_code w t (declarator_trees trees.now) ++ code.old)
-    }
+    ensures names { OnOk result ((t : Scalar) (w : resolve.Environment) → names.old ≡ with_locals t (declarator_trees trees.now) w → names.new ≡ w) }
+    ensures code { OnOk result ((t : Scalar) (w : resolve.Environment) → names.old ≡ with_locals t (declarator_trees trees.now) w
+        → code.new ≡ declared_code w t (declarator_trees trees.now) ++ code.old) }
 {
     for tree in trees.iter().rev() {
         declarator(names, code, tree)?;
@@ -97,13 +89,9 @@ pub fn beginning(
     code: &mut Emitter,
     tree: &Beginning,
 ) -> Result<(), AllocError>
-    ensures names {
-        OnOk result ((w : resolve.Environment) → names.old ≡ behind_start (beginning_tree tree.now) w → names.new ≡ w)
-    }
-    ensures code {
-        OnOk result ((w : resolve.Environment) → names.old ≡ behind_start (beginning_tree tree.now) w
-        → code.new ≡ start_code w (beginning_tree tree.now) ++ code.old)
-    }
+    ensures names { OnOk result ((w : resolve.Environment) → names.old ≡ behind_start (beginning_tree tree.now) w → names.new ≡ w) }
+    ensures code { OnOk result ((w : resolve.Environment) → names.old ≡ behind_start (beginning_tree tree.now) w
+        → code.new ≡ start_code w (beginning_tree tree.now) ++ code.old) }
 {
     match tree {
         Beginning::Declaration(_, declared) => declaration(names, code, declared.as_slice()),

@@ -95,11 +95,9 @@ fn add_object<'a>(
     tree: &'a Object,
 ) -> Result<usize, AllocError>
     requires { place ≤ length words.old.items }
-    ensures places {
-        OnOk result (places.new ≡ record places.old {
-            objects = places.old.objects ++ record { name = (object_name (object_tree tree.now)).text; extent = record { place = place; length = object_words (object_tree tree.now) } } ∷ [];
-        })
-    }
+    ensures places { OnOk result (places.new ≡ record places.old {
+      objects = places.old.objects ++ record { name = (object_name (object_tree tree.now)).text; extent = record { place = place; length = object_words (object_tree tree.now) } } ∷ [];
+    }) }
     ensures words { OnOk result (words.new.items ≡ words.old.items ++ initial_words (object_tree tree.now)) }
     ensures behind { IfOk result (λ n. n ≡ place + object_words (object_tree tree.now)) }
     ensures fits { IfOk result (λ n. n ≤ length words.new.items) }

@@ -58,10 +58,8 @@ fn statement<'a>(
     requires breaks { exits.breaks ≤ length code.old }
     requires continues { exits.continues ≤ length code.old }
     ensures names { OnOk result ((w : resolve.Environment) → names.old ≡ behind (statement_tree tree.now) w → names.new ≡ w) }
-    ensures code {
-        OnOk result ((w : resolve.Environment) → names.old ≡ behind (statement_tree tree.now) w
-        → code.new ≡ statement_code w (exits_of (length code.old) exits) (statement_tree tree.now) ++ code.old)
-    }
+    ensures code { OnOk result ((w : resolve.Environment) → names.old ≡ behind (statement_tree tree.now) w
+        → code.new ≡ statement_code w (exits_of (length code.old) exits) (statement_tree tree.now) ++ code.old) }
 {
     match tree {
         Statement::Block(all) => block(names, code, exits, all),
@@ -124,10 +122,8 @@ fn conditional<'a>(
     requires continues { exits.continues ≤ length code.old }
     requires second { second ≤ length code.old }
     ensures names { OnOk result (names.new ≡ names.old) }
-    ensures code {
-        OnOk result (code.new ≡ conditional_code (expression_code names.old (expression_tree test.now))
-        (statement_code (inner names.old) (exits_of (length code.old) exits) (statement_tree held.now)) (length code.old - second) ++ code.old)
-    }
+    ensures code { OnOk result (code.new ≡ conditional_code (expression_code names.old (expression_tree test.now))
+        (statement_code (inner names.old) (exits_of (length code.old) exits) (statement_tree held.now)) (length code.old - second) ++ code.old) }
 {
     inner_statement(names, code, exits, held)?;
     code.emit(Instruction::JumpIfZero(code.distance(second)))?;
@@ -146,10 +142,8 @@ fn turns<'a>(
 ) -> Result<(), AllocError>
     requires { breaks < length code.old }
     ensures names { OnOk result (names.new ≡ names.old) }
-    ensures code {
-        OnOk result ((following test rest : List form.Instruction) → code.old ≡ following ++ (test ++ Repeat 0 ∷ rest) → breaks ≡ length rest
-        → code.new ≡ turns_code (statement_code (inner names.old) (exits_of_body following test) (statement_tree body.now)) following test ++ rest)
-    }
+    ensures code { OnOk result ((following test rest : List form.Instruction) → code.old ≡ following ++ (test ++ Repeat 0 ∷ rest) → breaks ≡ length rest
+        → code.new ≡ turns_code (statement_code (inner names.old) (exits_of_body following test) (statement_tree body.now)) following test ++ rest) }
     ensures longer { OnOk result (length code.old ≤ length code.new) }
 {
     let continues = code.len();
@@ -204,10 +198,8 @@ fn for_loop<'a>(
     body: &'a Statement,
 ) -> Result<(), AllocError>
     ensures names { OnOk result (names.new ≡ names.old) }
-    ensures code {
-        OnOk result ((x : resolve.Exits)
-        → code.new ≡ statement_code names.old x (tree.For (beginning_tree first.now) (optional_tree test.now) (optional_action following.now) (statement_tree body.now)) ++ code.old)
-    }
+    ensures code { OnOk result ((x : resolve.Exits)
+        → code.new ≡ statement_code names.old x (tree.For (beginning_tree first.now) (optional_tree test.now) (optional_action following.now) (statement_tree body.now)) ++ code.old) }
 {
     let around = names.open();
     declare_beginning(names, first)?;

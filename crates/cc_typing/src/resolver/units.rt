@@ -42,12 +42,10 @@ fn declare_parameters<'a>(
     names: &mut Environment<'a>,
     trees: &'a [Parameter],
 ) -> Result<(), AllocError>
-    ensures {
-        OnOk result (names.new ≡ record names.old {
-            visible = parameters_declared (parameter_trees trees.now) names.old.visible;
-            locals = parameter_names (parameter_trees trees.now) names.old.locals;
-        })
-    }
+    ensures { OnOk result (names.new ≡ record names.old {
+      visible = parameters_declared (parameter_trees trees.now) names.old.visible;
+      locals = parameter_names (parameter_trees trees.now) names.old.locals;
+    }) }
 {
     for tree in trees {
         names.declare_parameter(tree)?;
@@ -55,10 +53,7 @@ fn declare_parameters<'a>(
     Ok(())
 }
 
-fn declare_function<'a>(
-    names: &mut Environment<'a>,
-    tree: &'a Signature,
-) -> Result<(), AllocError>
+fn declare_function<'a>(names: &mut Environment<'a>, tree: &'a Signature) -> Result<(), AllocError>
     requires { names.old.visible.inner ≡ [] }
     ensures { OnOk result (names.new ≡ record names.old { visible = file_level (with_function (signature_tree tree.now) (file_of names.old.visible)).bindings }) }
 {
@@ -105,12 +100,10 @@ fn add_external<'a>(
     tree: &'a External,
 ) -> Result<usize, AllocError>
     requires { place ≤ length words.old.items }
-    ensures places {
-        OnOk result (places.new ≡ record {
-            objects = places.old.objects ++ placed_from place (objects_in (external_tree tree.now));
-            functions = places.old.functions ++ defined_texts (external_tree tree.now);
-        })
-    }
+    ensures places { OnOk result (places.new ≡ record {
+      objects = places.old.objects ++ placed_from place (objects_in (external_tree tree.now));
+      functions = places.old.functions ++ defined_texts (external_tree tree.now);
+    }) }
     ensures words { OnOk result (words.new.items ≡ words.old.items ++ all_words (objects_in (external_tree tree.now))) }
     ensures behind { IfOk result (λ n. n ≡ place_behind place (objects_in (external_tree tree.now))) }
     ensures fits { IfOk result (λ n. n ≤ length words.new.items) }
@@ -156,10 +149,8 @@ fn resolve_external<'a>(
     requires locals { names.old.locals ≡ [] }
     ensures names { OnOk result (names.new ≡ record names.old { visible = file_level (file_scope_behind (external_tree tree.now) (file_of names.old.visible)).bindings }) }
     ensures code { OnOk result (code.new.items ≡ code.old.items ++ all_code (functions_code names.old.places (file_of names.old.visible) (external_tree tree.now ∷ []))) }
-    ensures entries {
-        OnOk result (entries.new.items ≡ entries.old.items
-        ++ entries_from (length code.old.items) (functions_code names.old.places (file_of names.old.visible) (external_tree tree.now ∷ [])))
-    }
+    ensures entries { OnOk result (entries.new.items ≡ entries.old.items
+        ++ entries_from (length code.old.items) (functions_code names.old.places (file_of names.old.visible) (external_tree tree.now ∷ []))) }
 {
     match tree {
         External::Declaration(signature) => declare_function(names, signature),
