@@ -1,8 +1,6 @@
 // Each public call of the front's libraries, once on its happy path.
 
-use cc_meaning::{
-    MeaningFault, Stop, Words, functions_have_meaning, interpret, runs_go_on,
-};
+use cc_meaning::{MeaningFault, Stop, Words, functions_have_meaning, interpret, runs_go_on};
 use cc_syntax::{
     Expression, External, Keyword, Place, Punctuator, Scalar, Statement, SyntaxFault,
     UnaryOperator, parse, place_at, tokens_are_determined, trees_are_determined,
@@ -114,8 +112,16 @@ fn the_form_of_a_unit(rt: HostRuntime) -> Result<(), Fail> {
     let form = typed.form();
     assert_eq!(rt; form.main, 0);
     assert_eq!(rt; form.words.as_slice(), [3u32].as_slice());
-    let main = Entry { start: 0, parameters: 0, variables: 1 };
-    let f = Entry { start: 11, parameters: 1, variables: 0 };
+    let main = Entry {
+        start: 0,
+        parameters: 0,
+        variables: 1,
+    };
+    let f = Entry {
+        start: 11,
+        parameters: 1,
+        variables: 0,
+    };
     assert_eq!(rt; form.functions.as_slice(), [main, f].as_slice());
     let code = [
         Instruction::Clear(0),

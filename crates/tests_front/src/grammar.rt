@@ -27,7 +27,11 @@ fn texts_that_are_units(rt: HostRuntime) {
 #[test]
 fn texts_that_are_none(rt: HostRuntime) {
     for (index, (text, number, line, column)) in REFUSED.iter().enumerate() {
-        assert_eq!(rt; answer(rt.alloc(), text), (*number, *line, *column), "text {index}");
+        assert_eq!(rt;
+            answer(rt.alloc(), text),
+            (*number, *line, *column),
+            "text {index}"
+        );
     }
 }
 
@@ -45,7 +49,11 @@ fn repeats(
         text.push_str(middle)?;
     }
     text.push_str(behind)?;
-    assert_eq!(rt; answer(rt.alloc(), text.as_bytes()), wanted, "{before}{middle}..{behind}");
+    assert_eq!(rt;
+        answer(rt.alloc(), text.as_bytes()),
+        wanted,
+        "{before}{middle}..{behind}"
+    );
     Ok(())
 }
 
@@ -60,7 +68,12 @@ fn tokens_of_an_action(rt: HostRuntime) -> Result<(), Fail> {
     repeats(&rt, ("int main(void){a=-1", "+1", ";}"), 254, UNIT)?;
     repeats(&rt, ("int main(void){a=-1", "+1", ";}"), 255, (6, 1, 528))?;
     repeats(&rt, ("int main(void){++a[-1", "+1", "];}"), 253, UNIT)?;
-    repeats(&rt, ("int main(void){a[-1", "+1", "]++;}"), 254, (6, 1, 528))
+    repeats(
+        &rt,
+        ("int main(void){a[-1", "+1", "]++;}"),
+        254,
+        (6, 1, 528),
+    )
 }
 
 #[test]
@@ -78,8 +91,18 @@ fn levels_of_statements(rt: HostRuntime) -> Result<(), Fail> {
     repeats(&rt, ("int main(void){", "if(1)", ";}"), 62, UNIT)?;
     repeats(&rt, ("int main(void){", "if(1)", ";}"), 63, (6, 1, 331))?;
     repeats(&rt, ("int main(void){", "if(1);else ", ";}"), 62, UNIT)?;
-    repeats(&rt, ("int main(void){", "if(1);else ", ";}"), 63, (6, 1, 703))?;
-    repeats(&rt, ("int main(void){", "{", "for(int i;;);"), 62, (6, 1, 82))?;
+    repeats(
+        &rt,
+        ("int main(void){", "if(1);else ", ";}"),
+        63,
+        (6, 1, 703),
+    )?;
+    repeats(
+        &rt,
+        ("int main(void){", "{", "for(int i;;);"),
+        62,
+        (6, 1, 82),
+    )?;
     repeats(&rt, ("int main(void){", "{", "for(i=1;;);"), 62, (6, 1, 88))?;
     repeats(&rt, ("int main(void){", "do ", ";"), 63, (6, 1, 205))?;
     repeats(&rt, ("int main(void){", "{", "else"), 63, (5, 1, 79))?;
