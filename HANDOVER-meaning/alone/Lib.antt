@@ -1,4 +1,0 @@
-pub mod Tree
-pub mod Erase
-pub mod Place
-pub mod Source
