@@ -15,11 +15,24 @@ text() {
 import sys
 kind, size = sys.argv[1], int(sys.argv[2])
 head, tail = "int main(void){int a;", "}"
-unit = {"statements": "a=a*3+(a-1)/7;", "blocks": "{int b=a;a=b+1;}" , "comments": "/* a comment */a=1;", "names": "a=a+a+a+a+a+a+a+a;"}[kind]
-if kind == "blocks":  # at most 256 locals stand in a function
-    unit = "{{{{a=a+1;}}}}"
-count = (size - len(head) - len(tail)) // len(unit)
-sys.stdout.write(head + unit * count + tail)
+units = {
+    "statements": lambda i: "a=a*3+(a-1)/7;",
+    "blocks": lambda i: "{{{{a=a+1;}}}}",
+    "comments": lambda i: "/* a comment */a=1;",
+    "names": lambda i: "a=a+a+a+a+a+a+a+a;",
+    # at most 65,536 words of objects, at most 64 functions, at most 256 locals in each
+    "objects": lambda i: f"int g{i:05}=-{i}+1;",
+    "functions": lambda i: f"int f{i}(int x){{int " + ",".join(f"v{k}=x" for k in range(90)) + ";" + "".join(f"v{k}+=v{89-k};" for k in range(60)) + f"return {'f%d(v9)' % (i - 1) if i else 0};}}",
+}
+unit = units[kind]
+if kind in ("objects", "functions"):
+    head, tail = "", "int main(void){}"
+parts, left, i = [], size - len(head) - len(tail), 0
+while len(unit(i)) <= left:
+    parts.append(unit(i))
+    left -= len(unit(i))
+    i += 1
+sys.stdout.write(head + "".join(parts) + tail)
 P
 }
 
@@ -34,7 +47,7 @@ empty() { "$program" check < "$work/empty.c"; }
 echo 'int main(void){}' > "$work/empty.c"
 base=$(millis 40 empty)
 echo "40 starts of the program: $base ms"
-for kind in statements blocks comments names; do
+for kind in statements blocks comments names objects functions; do
   text "$kind" 8192 > "$work/small.c"
   text "$kind" 65536 > "$work/large.c"
   small() { "$program" check < "$work/small.c"; }

@@ -1,80 +1,174 @@
--- What comes behind a part of a run matters only up to the steps left, and a loop with turns enough for the steps left is
--- one and the same, however many more it is given.
-use Rattle.std.proofs.Common.{◌≡◌, ◌≢◌, ℕ, zero, suc, ◌-◌, ◌<◌, ◌≤◌, List, Result, Ok, Err, refl, ap, ◌∙◌, arith}
-use Rattle.cc_typing.specs.Form.{FormExpr, FormStmt, FormStmts, Block, Clear, Set, Write, Return, While, end, next}
-use Rattle.cc_meaning.specs.declared.outcome.Cause.{Cause}
-use Rattle.cc_meaning.specs.Outcome.{Outcome}
-use Rattle.cc_meaning.specs.Meaning.{choose}
-use Rattle.cc_meaning.specs.FormMeaning.{Store, Rest, value, on_word, with_variable, written, spent, loop, perform, perform_all}
+-- The instructions of a loop do what the source's turns do.
+use Rattle.std.proofs.Common.{◌≡◌, ℕ, zero, suc, ◌+◌, ◌-◌, ◌<◌, ◌≤◌, List, [], ◌∷◌, ◌++◌, length, Some, slice_get, refl, ap, ◌∙◌, arith, length-append}
+use Rattle.std.proofs.lemmas.Bool.{le-leb}
+use Rattle.cc_typing.specs.declared.form.Instruction.{Instruction}
+use Rattle.cc_typing.specs.declared.form.Instruction.TheVariants as instruction
+use Rattle.cc_typing.specs.Resolve.{FormTree, Environment, Places, turns_code}
+use Rattle.cc_meaning.specs.Outcome as outcome
+use Rattle.cc_meaning.specs.Meaning.{State, Run, Gives, Flow, Falls, Breaks, Continues, Returns, then_do, choose, spend_of, behind_body, begin_body, turns}
+use Rattle.cc_meaning.specs.FormMeaning.{Activation, Configuration, Goes, only_if, jump, stepped}
+use Rattle.cc_meaning.proofs.Moves.{Leads, conf, Meets, meets_then, Stands, stands_left, stands_right, instructed, instructed_last, may_jump}
+use Rattle.cc_meaning.proofs.Fits.{Fits}
+use Rattle.cc_meaning.proofs.Expressions.{Value, Part}
+use Rattle.cc_meaning.proofs.Actions.{Acted}
+use Rattle.cc_meaning.proofs.Blocks.{Reaches, Done, done_after, reaches_after}
 
--- two ways to go on that are the same where at most this many steps are left
-pub record IsSame (steps : ℕ) (f g : Rest) : Type 0 where
-  pub at : (s : Store) → s.steps ≤ steps → f s ≡ g s
+-- where the parts of a loop stand: its step, its body, what follows it, its test, and the instruction that goes back
+pub record Loop (code : List Instruction) (body following test : List Instruction) (p : ℕ) : Type 0 where
+  pub begins : slice_get code p ≡ Some instruction.Step
+  pub has_body : Stands code (p + 1) body
+  pub has_following : Stands code (p + 1 + length body) following
+  pub has_test : Stands code (p + 1 + length body + length following) test
+  pub repeats : slice_get code (p + 1 + length body + length following + length test) ≡ Some (instruction.Repeat (1 + length body + length following + length test))
+  pub ends : p + 1 + length body + length following + length test + 1 ≤ length code
 
-IsSame-less : (n m : ℕ) (f g : Rest) → m ≤ n → IsSame n f g → IsSame m f g
-IsSame-less n m f g le h = record { at = λ s k. h.at s (omega arith) }
+pub turns_length : (body following test : List Instruction) → length (turns_code body following test) ≡ 1 + length body + length following + length test + 1
+turns_length body following test =
+    let a = length-append (((instruction.Step ∷ body) ++ following) ++ test) (instruction.Repeat (1 + length body + length following + length test) ∷ []) in
+    let b = length-append ((instruction.Step ∷ body) ++ following) test in
+    let c = length-append (instruction.Step ∷ body) following in
+    omega arith
 
--- a part of a run that looks at what comes behind it only where no more steps are left than at its start
-pub record IsFair (body : Rest → Rest) : Type 0 where
-  pub same : (f g : Rest) (s : Store) → IsSame s.steps f g → body f s ≡ body g s
+pub loop_stands : (code body following test : List Instruction) (p : ℕ) → Stands code p (turns_code body following test) → Loop code body following test p
+loop_stands code body following test p st =
+    let last = instruction.Repeat (1 + length body + length following + length test) ∷ [] in
+    let one = instruction.Step ∷ body in
+    let b = length-append (one ++ following) test in
+    let c = length-append one following in
+    let in_three = stands_left code p ((one ++ following) ++ test) last st in
+    let in_two = stands_left code p (one ++ following) test in_three in
+    let in_one = stands_left code p one following in_two in
+    let at_last = stands_right code p (p + 1 + length body + length following + length test) ((one ++ following) ++ test) last (omega arith) st in
+    record {
+      begins = in_one.0;
+      has_body = in_one.1;
+      has_following = stands_right code p (p + 1 + length body) one following (omega arith) in_two;
+      has_test = stands_right code p (p + 1 + length body + length following) (one ++ following) test (omega arith) in_three;
+      repeats = at_last.0;
+      ends = at_last.1;
+    }
 
-on_word-same : (r : Result ℕ Cause) (o : List ℕ) (f g : ℕ → Outcome ℕ) → ((w : ℕ) → f w ≡ g w) → on_word r o f ≡ on_word r o g
-on_word-same (Ok w) o f g h = h w
-on_word-same (Err c) o f g h = refl
+module _ (form : FormTree) (cs : List Activation) (total n : ℕ) (places : Places) (v : Environment) (placed : v.places ≡ places) (body following test : List Instruction) (p : ℕ) (loop : Loop form.code body following test p)
+    (condition : State → Run ℕ) (inside behind : State → Run Flow) where
+  abbrev body_at : ℕ
+  body_at = p + 1
 
-spent-same : (j : ℕ) (f g : Rest) (s : Store) → ((k : ℕ) → suc k ≡ j → f (record s { steps = k }) ≡ g (record s { steps = k })) → spent j f s ≡ spent j g s
-spent-same zero f g s h = refl
-spent-same (suc k) f g s h = h k refl
+  abbrev following_at : ℕ
+  following_at = p + 1 + length body
 
-choose-same : (w : ℕ) (f g f' g' : Rest) (s : Store) → f s ≡ f' s → g s ≡ g' s → choose w f g s ≡ choose w f' g' s
-choose-same zero f g f' g' s a b = b
-choose-same (suc w) f g f' g' s a b = a
+  abbrev test_at : ℕ
+  test_at = p + 1 + length body + length following
 
-loop-same : (m : ℕ) (e : FormExpr) (body : Rest → Rest) (f g : Rest) (s : Store) → IsFair body → IsSame s.steps f g → loop m e body f s ≡ loop m e body g s
-loop-same zero e body f g s fair h = refl
-loop-same (suc m) e body f g s fair h =
-    on_word-same (value e s.variables) s.output _ _ (λ w. choose-same w _ f _ g s (spent-same s.steps (body (loop m e body f)) (body (loop m e body g)) s (λ k eq. fair.same (loop m e body f) (loop m e body g) (record s { steps = k }) (record { at = λ t le. loop-same m e body f g t fair (IsSame-less s.steps t.steps f g (omega arith) h) }))) (h.at s (omega arith)))
+  abbrev repeat_at : ℕ
+  repeat_at = p + 1 + length body + length following + length test
 
-loop-enough : (m n : ℕ) (e : FormExpr) (body : Rest → Rest) (f : Rest) (s : Store) → IsFair body → s.steps < m → s.steps < n → loop m e body f s ≡ loop n e body f s
-loop-enough zero n e body f s fair p q = absurd (omega arith)
-loop-enough (suc m) zero e body f s fair p q = absurd (omega arith)
-loop-enough (suc m) (suc n) e body f s fair p q =
-    on_word-same (value e s.variables) s.output _ _ (λ w. choose-same w _ f _ f s (spent-same s.steps (body (loop m e body f)) (body (loop n e body f)) s (λ k eq. fair.same (loop m e body f) (loop n e body f) (record s { steps = k }) (record { at = λ t le. loop-enough m n e body f t fair (omega arith) (omega arith) }))) refl)
+  abbrev end_at : ℕ
+  end_at = p + 1 + length body + length following + length test + 1
 
-mutual
-  pub perform-same : (a : FormStmt) (n : ℕ) (f g : Rest) (s : Store) → IsSame s.steps f g → perform a n f s ≡ perform a n g s
-  perform-same (Block all) n f g s h = perform_all-same all n f g s h
-  perform-same (Clear i) n f g s h = h.at (with_variable i 0 s) (omega arith)
-  perform-same (Set i e) n f g s h = on_word-same (value e s.variables) s.output _ _ (λ w. h.at (with_variable i w s) (omega arith))
-  perform-same (Write e) n f g s h = on_word-same (value e s.variables) s.output _ _ (λ w. h.at (written w s) (omega arith))
-  perform-same (Return e) n f g s h = refl
-  perform-same (While e body) n f g s h = loop-same (suc n) e (perform body n) f g s (record { same = perform-same body n }) h
+  -- what a loop comes to: it falls through, or returns
+  abbrev Ends : Configuration → ℕ → (b k : State → Type 0) → Flow → State → Type 0
+  Ends c most b k = Done form cs total places c most (Reaches form cs total c v most end_at) b k
 
-  pub perform_all-same : (all : FormStmts) (n : ℕ) (f g : Rest) (s : Store) → IsSame s.steps f g → perform_all all n f s ≡ perform_all all n g s
-  perform_all-same end n f g s h = h.at s (omega arith)
-  perform_all-same (next first rest) n f g s h =
-      perform-same first n (perform_all rest n f) (perform_all rest n g) s (record { at = λ t le. perform_all-same rest n f g t (IsSame-less s.steps t.steps f g le h) })
+  -- behind the body
+  behind_body_meets : (c : Configuration) (most : ℕ) (b k : State → Type 0) (go : State → Run Flow) (flow : Flow) (t : State)
+      → ((vs : List ℕ) (u : State) → Fits v total most vs u → Meets form (conf following_at vs [] cs u) (Ends (conf following_at vs [] cs u) most b k) (go u))
+      → Done form cs total places c most (Reaches form cs total c v most following_at) (Reaches form cs total c v most end_at) (Reaches form cs total c v most following_at) flow t
+      → Meets form c (Ends c most b k) (behind_body flow go t)
+  behind_body_meets c most b k go Falls t f h =
+      done_after form cs total places c (conf following_at h.variables [] cs t) most most (Reaches form cs total (conf following_at h.variables [] cs t) v most end_at) b k (Reaches form cs total c v most end_at) b k (go t) h.leads (omega arith)
+      (λ u x. reaches_after form cs total c (conf following_at h.variables [] cs t) v v most most end_at end_at u h.leads refl refl (omega arith) refl x) (λ u x. x) (λ u x. x) (f h.variables t h.fits)
+  behind_body_meets c most b k go Breaks t f h = h
+  behind_body_meets c most b k go Continues t f h =
+      done_after form cs total places c (conf following_at h.variables [] cs t) most most (Reaches form cs total (conf following_at h.variables [] cs t) v most end_at) b k (Reaches form cs total c v most end_at) b k (go t) h.leads (omega arith)
+      (λ u x. reaches_after form cs total c (conf following_at h.variables [] cs t) v v most most end_at end_at u h.leads refl refl (omega arith) refl x) (λ u x. x) (λ u x. x) (f h.variables t h.fits)
+  behind_body_meets c most b k go (Returns w) t f h = h
 
--- a loop whose body is a statement, with more turns than steps are left
-pub loop-turns : (m n k : ℕ) (e : FormExpr) (body : FormStmt) (f : Rest) (s : Store) → s.steps < m → s.steps < n → loop m e (perform body k) f s ≡ loop n e (perform body k) f s
-loop-turns m n k e body f s p q = loop-enough m n e (perform body k) f s (record { same = perform-same body k }) p q
+  -- the body of a turn, wherever its locals are
+  abbrev pub BodyDoes : Type 0
+  BodyDoes = (most : ℕ) (vs : List ℕ) (t : State) → most < n → Fits v total most vs t
+      → Meets form (conf body_at vs [] cs t)
+      (Done form cs total places (conf body_at vs [] cs t) most (Reaches form cs total (conf body_at vs [] cs t) v most following_at) (Reaches form cs total (conf body_at vs [] cs t) v most end_at) (Reaches form cs total (conf body_at vs [] cs t) v most following_at))
+      (inside t)
 
-choose-holds : (w : ℕ) (f g : Rest) (s : Store) → w ≢ 0 → choose w f g s ≡ f s
-choose-holds zero f g s h = absurd (h refl)
-choose-holds (suc w) f g s h = refl
+  -- a step is spent, then the body is done
+  step_by : (left most : ℕ) (b k : State → Type 0) (vs : List ℕ) (go : State → Run Flow) (t : State) → BodyDoes → t.steps ≡ left → most < n → Fits v total most vs t
+      → ((less : ℕ) (vs : List ℕ) (u : State) → less < most → Fits v total less vs u → Meets form (conf following_at vs [] cs u) (Ends (conf following_at vs [] cs u) less b k) (go u))
+      → Meets form (conf p vs [] cs t) (Ends (conf p vs [] cs t) most b k) (spend_of left (λ u. then_do (inside u) (λ flow x. behind_body flow go x)) t)
+  step_by zero most b k vs go t does e lt h f =
+      instructed_last form instruction.Step p vs [] cs t outcome.Going loop.begins
+      (ap (λ l. stepped l (λ m. Goes (conf (p + 1) vs [] cs (record t { steps = m })))) e)
+  step_by (suc left) most b k vs go t does e lt h f =
+      let u : State = record t { steps = left } in
+      let c = conf p vs [] cs t in
+      let d = conf body_at vs [] cs u in
+      let to : Leads form c d =
+      instructed form instruction.Step p vs [] cs t d loop.begins (ap (λ l. stepped l (λ m. Goes (conf (p + 1) vs [] cs (record t { steps = m })))) e) in
+      let fewer : left < most = let k = h.steps in omega arith in
+      let fits : Fits v total left vs u = record { names = h.names; placed = h.placed; junk = h.junk; holds = h.holds; room = h.room; steps = omega arith } in
+      done_after form cs total places c d left most (Reaches form cs total d v left end_at) b k (Reaches form cs total c v most end_at) b k (then_do (inside u) (λ flow x. behind_body flow go x)) to (omega arith)
+      (λ x y. reaches_after form cs total c d v v left most end_at end_at x to refl refl (omega arith) refl y) (λ x y. y) (λ x y. y)
+      (meets_then form d (Done form cs total places d left (Reaches form cs total d v left following_at) (Reaches form cs total d v left end_at) (Reaches form cs total d v left following_at)) (Ends d left b k) (inside u)
+      (λ flow x. behind_body flow go x) (does left vs u (omega arith) fits) (λ flow x got. behind_body_meets d left b k go flow x (λ vs' y fits'. f left vs' y fewer fits') got))
 
-pub spent-some : (j : ℕ) (f : Rest) (s : Store) → j ≢ 0 → spent j f s ≡ f (record s { steps = j - 1 })
-spent-some zero f s h = absurd (h refl)
-spent-some (suc k) f s h = let e : k ≡ suc k - 1 = omega arith in ap (λ (i : ℕ). f (record s { steps = i })) e
+  pub begins_meet : (most : ℕ) (b k : State → Type 0) (vs : List ℕ) (go : State → Run Flow) (t : State) → BodyDoes → most < n → Fits v total most vs t
+      → ((less : ℕ) (vs : List ℕ) (u : State) → less < most → Fits v total less vs u → Meets form (conf following_at vs [] cs u) (Ends (conf following_at vs [] cs u) less b k) (go u))
+      → Meets form (conf p vs [] cs t) (Ends (conf p vs [] cs t) most b k) (begin_body inside go t)
+  begins_meet most b k vs go t does lt h f = step_by t.steps most b k vs go t does refl lt h f
 
--- a turn that begins: with a step less the body is done, and behind it the same loop
-pub loop-turn : (n : ℕ) (e : FormExpr) (body : FormStmt) (f : Rest) (s : Store) (w : ℕ) → value e s.variables ≡ Ok w → w ≢ 0 → s.steps ≢ 0 → s.steps ≤ n → loop (suc n) e (perform body n) f s ≡ perform body n (loop (suc n) e (perform body n) f) (record s { steps = s.steps - 1 })
-loop-turn n e body f s w is holds some enough =
-    let again = perform body n (loop n e (perform body n) f) in
-    let turn : Rest = λ t. spent t.steps again t in
-    let after : Store = record s { steps = s.steps - 1 } in
-    let same : IsSame after.steps (loop n e (perform body n) f) (loop (suc n) e (perform body n) f) = record { at = λ t le. loop-turns n (suc n) n e body f t (omega arith) (omega arith) } in
-    ap (λ (r : Result ℕ Cause). on_word r s.output (λ v. choose {A = Rest} v turn f s)) is
-    ∙ choose-holds w turn f s holds
-    ∙ spent-some s.steps again s some
-    ∙ perform-same body n (loop n e (perform body n) f) (loop (suc n) e (perform body n) f) after same
+  -- back to the step
+  goes_back : (vs : List ℕ) (w : ℕ) (t : State) → Leads form (conf repeat_at vs (suc w ∷ []) cs t) (conf p vs [] cs t)
+  goes_back vs w t =
+      let size = 1 + length body + length following + length test in
+      let back_to : repeat_at + 1 - (size + 1) ≡ p = omega arith in
+      let ends = loop.ends in
+      instructed form (instruction.Repeat size) repeat_at vs (suc w ∷ []) cs t (conf p vs [] cs t) loop.repeats
+      (ap (λ b. only_if b (jump form (repeat_at + 1 - (size + 1)) (conf (repeat_at + 1) vs [] cs t))) (le-leb (size + 1) (repeat_at + 1) (omega arith))
+      ∙ ap (λ q. jump form q (conf (repeat_at + 1) vs [] cs t)) back_to ∙ may_jump form p (Goes (conf p vs [] cs t)) (omega arith))
+
+  abbrev pub TestDoes : Type 0
+  TestDoes = (most : ℕ) (vs : List ℕ) → most < n → Part form cs total v most vs test condition
+
+  abbrev pub FollowingDoes : Type 0
+  FollowingDoes = (most : ℕ) (vs : List ℕ) (t : State) → most < n → Fits v total most vs t
+      → Meets form (conf following_at vs [] cs t) (Acted form cs total (conf following_at vs [] cs t) v most test_at) (behind t)
+
+  -- behind the test
+  tested : (i most w : ℕ) (b k : State → Type 0) (vs : List ℕ) (t : State) → BodyDoes → FollowingDoes → most < suc i → most < n → Fits v total most vs t
+      → ((less : ℕ) (vs : List ℕ) (u : State) → less < i → less < n → Fits v total less vs u → Meets form (conf test_at vs [] cs u) (Ends (conf test_at vs [] cs u) less b k) (turns i condition inside behind u))
+      → Meets form (conf repeat_at vs (w ∷ []) cs t) (Ends (conf repeat_at vs (w ∷ []) cs t) most b k)
+      (choose w (begin_body inside (λ u. then_do (behind u) (λ flow x. turns i condition inside behind x))) (λ u. Gives Falls u) t)
+  tested i most zero b k vs t does follows lt less h ih = record {
+    variables = vs;
+    fits = h;
+    leads = instructed form (instruction.Repeat (1 + length body + length following + length test)) repeat_at vs (zero ∷ []) cs t (conf end_at vs [] cs t) loop.repeats refl;
+  }
+  tested i most (suc w) b k vs t does follows lt less h ih =
+      let c = conf repeat_at vs (suc w ∷ []) cs t in
+      let d = conf p vs [] cs t in
+      let go : State → Run Flow = λ u. then_do (behind u) (λ flow x. turns i condition inside behind x) in
+      let to = goes_back vs w t in
+      done_after form cs total places c d most most (Reaches form cs total d v most end_at) b k (Reaches form cs total c v most end_at) b k (begin_body inside go t) to (omega arith)
+      (λ x y. reaches_after form cs total c d v v most most end_at end_at x to refl refl (omega arith) refl y) (λ x y. y) (λ x y. y)
+      (begins_meet most b k vs go t does less h
+      (λ fewer vs' u lt' fits.
+      let e = conf following_at vs' [] cs u in
+      meets_then form e (Acted form cs total e v fewer test_at) (Ends e fewer b k) (behind u) (λ flow x. turns i condition inside behind x) (follows fewer vs' u (omega arith) fits)
+      (λ flow x got.
+      let g = conf test_at got.variables [] cs x in
+      done_after form cs total places e g fewer fewer (Reaches form cs total g v fewer end_at) b k (Reaches form cs total e v fewer end_at) b k (turns i condition inside behind x) got.leads (omega arith)
+      (λ y z. reaches_after form cs total e g v v fewer fewer end_at end_at y got.leads refl refl (omega arith) refl z) (λ y z. z) (λ y z. z)
+      (ih fewer got.variables x (omega arith) (omega arith) got.fits))))
+
+  pub turns_meet : (i most : ℕ) (b k : State → Type 0) (vs : List ℕ) (t : State) → TestDoes → BodyDoes → FollowingDoes → most < i → most < n → Fits v total most vs t
+      → Meets form (conf test_at vs [] cs t) (Ends (conf test_at vs [] cs t) most b k) (turns i condition inside behind t)
+  turns_meet zero most b k vs t tests does follows lt less h = absurd (omega arith)
+  turns_meet (suc i) most b k vs t tests does follows lt less h =
+      let c = conf test_at vs [] cs t in
+      meets_then form c (Value form cs total c v most vs repeat_at []) (Ends c most b k) (condition t)
+      (λ w u. choose w (begin_body inside (λ x. then_do (behind x) (λ flow y. turns i condition inside behind y))) (λ x. Gives Falls x) u) (tests most vs less test_at [] t loop.has_test h)
+      (λ w u got.
+      let d = conf repeat_at vs (w ∷ []) cs u in
+      done_after form cs total places c d most most (Reaches form cs total d v most end_at) b k (Reaches form cs total c v most end_at) b k
+      (choose w (begin_body inside (λ x. then_do (behind x) (λ flow y. turns i condition inside behind y))) (λ x. Gives Falls x) u) got.leads (omega arith)
+      (λ y z. reaches_after form cs total c d v v most most end_at end_at y got.leads refl refl (omega arith) refl z) (λ y z. z) (λ y z. z)
+      (tested i most w b k vs u does follows lt less got.fits (λ fewer vs' x lt' less' fits. turns_meet i fewer b k vs' x tests does follows lt' less' fits)))

@@ -1,6 +1,10 @@
 pub mod Outcome
 pub mod Meaning
+pub mod Function
 pub mod Rows
-pub mod Shown
 pub mod FormMeaning
-pub mod Work
+pub mod Laid
+pub mod Shows
+pub mod FormRows
+pub mod Shown
+pub mod Ran

@@ -1,16 +1,18 @@
 // What a C program does: its behavior on an input within a number of steps.
 //
-// `expression` evaluates, `machine` runs statements over pending work, `run` runs a typed unit; `outcome` has how a run
-// comes out, `fault` the refusal 40. The crate hands out `interpret` and these types, and in `specs/Meaning.antt` the
-// meaning of C, which `interpret` is proved to give.
+// `operation` has what operations give on words, `machine` runs a resolved form over one stack, `run` runs a typed unit; `laws`
+// has what holds of every program, `outcome` how a run comes out, `fault` the refusal 40. The crate hands out `interpret` and
+// these types, and in `specs/Meaning.antt` the meaning of C, which `interpret` is proved to give.
 #![tactic(auto)]
 
-mod expression;
 mod fault;
+mod laws;
 mod machine;
+mod operation;
 mod outcome;
 mod run;
 
 pub use fault::MeaningFault;
+pub use laws::{functions_have_meaning, runs_go_on};
 pub use outcome::{Cause, Outcome, Stop, Words};
 pub use run::interpret;

@@ -1,30 +1,17 @@
--- The states of the machine inside a function's body, and how tokens are counted in a full expression.
+-- The states of the machine in a full expression, and how tokens are counted there.
 use Rattle.std.proofs.Common.{◌≡◌, ◌<◌, ◌≤◌, ℕ, suc, List, [], ◌∷◌, ◌++◌, refl, sym, ap, subst, cond, leb, arith}
 use Rattle.std.proofs.lemmas.Bool.{lt-leb, le-leb}
 use Rattle.cc_syntax.specs.Token.{Lexeme}
-use Rattle.cc_syntax.specs.Tree.{Name, Expr, Stmt, Stmts, While}
+use Rattle.cc_syntax.specs.Tree.{Expr}
 use Rattle.cc_syntax.specs.Grammar.{Placed, full_after, precedence}
-use Rattle.cc_syntax.specs.Machine.{State, InBody, Inside, Item, Operand, Operator, Purpose, Waiting, Parenthesis, Prefix, Infix, Open, InBlock, InWhile, with_count, at_stage, settled, reduced, count_of}
+use Rattle.cc_syntax.specs.Machine.{State, InFull, Operand, Operator, Context, Waiting, Parenthesis, Index, Arguments, Prefix, Casting, Infix, Then, Otherwise, full_of, reduced}
 use Rattle.cc_syntax.proofs.MachineRuns.{Runs, runs-append}
 
--- a function's body at a stage
-abbrev pub inside : Name → Stmts → List Open → Inside
-inside n d os = record { name = n; finished = d; opened = os; stage = Item }
+abbrev pub operand : Context → ℕ → List Waiting → State
+operand c n ws = InFull (full_of c ws n) Operand
 
-abbrev pub item : Name → Stmts → List Open → State
-item n d os = InBody (inside n d os)
-
-abbrev pub operand : Inside → Purpose → ℕ → List Waiting → State
-operand b p n ws = at_stage b (Operand (with_count p n ws))
-
-abbrev pub operator : Inside → Purpose → ℕ → List Waiting → Expr → State
-operator b p n ws e = at_stage b (Operator (with_count p n ws) e)
-
--- a body whose statement is complete is between statements
-pub settled-count : (n : Name) (d : Stmts) (os : List Open) (s : Stmt) → 0 ≡ count_of (InBody (settled n d os s))
-settled-count n d [] s = refl
-settled-count n d (InBlock ss ∷ os) s = refl
-settled-count n d (InWhile e ∷ os) s = settled-count n d os (While e s)
+abbrev pub operator : Context → ℕ → List Waiting → Expr → State
+operator c n ws e = InFull (full_of c ws n) (Operator e)
 
 -- how many tokens there are behind those of a list
 abbrev pub count_after : ℕ → List Lexeme → ℕ
@@ -50,21 +37,31 @@ pops q t x y h = ap (λ v. cond v x y) (le-leb q t h)
 pub keeps : {A : Type 0} (q t : ℕ) (x y : A) → t < q → cond (leb q t) x y ≡ y
 keeps q t x y h = ap (λ v. cond v x y) (lt-leb q t h)
 
--- nothing that waits binds as tightly as a binary operator of the level
+-- nothing that waits binds as tightly as an operator of the level
 abbrev pub Fits : ℕ → List Waiting → Type 0
-Fits l [] = Unit {0}
-Fits l (Parenthesis ∷ ws) = Unit {0}
-Fits l (Prefix op ∷ ws) = 5 ≤ l
+Fits l (Prefix op ∷ ws) = 12 ≤ l
+Fits l (Casting t ∷ ws) = 12 ≤ l
 Fits l (Infix op a ∷ ws) = precedence op < l
+Fits l _ = Unit {0}
 
 pub fits-more : (l q : ℕ) (ws : List Waiting) → Fits l ws → l ≤ q → Fits q ws
 fits-more l q [] f h = tt
 fits-more l q (Parenthesis ∷ ws) f h = tt
-fits-more l q (Prefix op ∷ ws) f h = omega arith
+fits-more l q (Index n ∷ ws) f h = tt
+fits-more l q (Arguments n es ∷ ws) f h = tt
+fits-more l q (Prefix op ∷ ws) f h = omega (arith, f, h)
+fits-more l q (Casting t ∷ ws) f h = omega (arith, f, h)
 fits-more l q (Infix op a ∷ ws) f h = omega (arith, f, h)
+fits-more l q (Then c ∷ ws) f h = tt
+fits-more l q (Otherwise c a ∷ ws) f h = tt
 
-pub fits-stays : (l q : ℕ) (ws : List Waiting) (e : Expr) → Fits l ws → l ≤ q → 1 ≤ q → q ≤ 4 → reduced q ws e ≡ (e, ws)
+pub fits-stays : (l q : ℕ) (ws : List Waiting) (e : Expr) → Fits l ws → l ≤ q → 2 ≤ q → q ≤ 11 → reduced q ws e ≡ (e, ws)
 fits-stays l q [] e f h low high = refl
 fits-stays l q (Parenthesis ∷ ws) e f h low high = keeps q 0 _ _ (omega arith)
-fits-stays l q (Prefix op ∷ ws) e f h low high = absurd (omega arith)
+fits-stays l q (Index n ∷ ws) e f h low high = keeps q 0 _ _ (omega arith)
+fits-stays l q (Arguments n es ∷ ws) e f h low high = keeps q 0 _ _ (omega arith)
+fits-stays l q (Prefix op ∷ ws) e f h low high = absurd (omega (arith, f, h))
+fits-stays l q (Casting t ∷ ws) e f h low high = absurd (omega (arith, f, h))
 fits-stays l q (Infix op a ∷ ws) e f h low high = keeps q (precedence op) _ _ (omega (arith, f, h))
+fits-stays l q (Then c ∷ ws) e f h low high = keeps q 0 _ _ (omega arith)
+fits-stays l q (Otherwise c a ∷ ws) e f h low high = keeps q 1 _ _ (omega arith)

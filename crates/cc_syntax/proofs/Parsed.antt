@@ -5,33 +5,23 @@ use Rattle.cc_syntax.specs.declared.fault.SyntaxFault.{SyntaxFault}
 use Rattle.cc_syntax.specs.declared.fault.SyntaxFault.TheVariants as fault
 use Rattle.cc_syntax.specs.declared.unit.Unit as unit
 use Rattle.cc_syntax.specs.Token.{Lexeme}
-use Rattle.cc_syntax.specs.Tree.{Definition}
-use Rattle.cc_syntax.specs.Tokens.{IsRefusal, IsFlawFault}
+use Rattle.cc_syntax.specs.Tree.{External}
+use Rattle.cc_syntax.specs.Tokens.{IsFlawFault}
 use Rattle.cc_syntax.specs.Limits.{SpellsWithin, UnexpectedAt, TooDeepAt}
 use Rattle.cc_syntax.specs.Parse.{SpellsText, BreaksAt, IsParseRefusal}
 use Rattle.cc_syntax.specs.Source.{source, AnswersTree, IsParse}
 use Rattle.cc_syntax.proofs.Cuts.{tokens_are_one, tokens_have_no_flaw}
 use Rattle.cc_syntax.proofs.Verdict.{trees_are_one, spelled_have_no_fault}
 
-pub no_tokens : (text : List ℕ) (e : SyntaxFault) → IsRefusal text e → IsParseRefusal text e
-no_tokens text (fault.BadByte p) h = h
-no_tokens text (fault.UnclosedComment p) h = h
-no_tokens text (fault.BadConstant p) h = h
-no_tokens text (fault.ConstantTooLarge p) h = h
-no_tokens text (fault.Unexpected p) h = absurd h
-no_tokens text (fault.TooDeep p) h = absurd h
-no_tokens text fault.SourceTooLarge h = h
-no_tokens text fault.OutOfMemory h = h
-
-no_flaw : (text : List ℕ) (e : SyntaxFault) (tree : Definition) → IsFlawFault text e → SpellsText text tree → ⊥
+no_flaw : (text : List ℕ) (e : SyntaxFault) (tree : List External) → IsFlawFault text e → SpellsText text tree → ⊥
 no_flaw text e tree h s = tokens_have_no_flaw text s.tokens h.flaw h.at s.are h.first
 
-no_break : (Breaks : List Lexeme → ℕ → Type 0) (text : List ℕ) (p : Place) (tree : Definition) → BreaksAt Breaks text p → SpellsText text tree → ((ts : List Lexeme) (k : ℕ) → SpellsWithin ts tree → Breaks ts k → ⊥) → ⊥
+no_break : (Breaks : List Lexeme → ℕ → Type 0) (text : List ℕ) (p : Place) (tree : List External) → BreaksAt Breaks text p → SpellsText text tree → ((ts : List Lexeme) (k : ℕ) → SpellsWithin ts tree → Breaks ts k → ⊥) → ⊥
 no_break Breaks text p tree h s none =
     none h.tokens h.number (subst (λ (ts : List Lexeme). SpellsWithin ts tree) (tokens_are_one text s.tokens h.tokens s.are h.are) s.spelled) h.here
 
 -- a text that spells a tree is refused for want of memory alone
-spelled_refused : (text : List ℕ) (e : SyntaxFault) (tree : Definition) → IsParseRefusal text e → length text ≤ 65536 → SpellsText text tree → e ≡ fault.OutOfMemory
+spelled_refused : (text : List ℕ) (e : SyntaxFault) (tree : List External) → IsParseRefusal text e → length text ≤ 65536 → SpellsText text tree → e ≡ fault.OutOfMemory
 spelled_refused text (fault.BadByte p) tree h fits s = absurd (no_flaw text _ tree h s)
 spelled_refused text (fault.UnclosedComment p) tree h fits s = absurd (no_flaw text _ tree h s)
 spelled_refused text (fault.BadConstant p) tree h fits s = absurd (no_flaw text _ tree h s)
@@ -41,13 +31,13 @@ spelled_refused text (fault.TooDeep p) tree h fits s = absurd (no_break TooDeepA
 spelled_refused text fault.SourceTooLarge tree h fits s = absurd (omega (arith, h, fits))
 spelled_refused text fault.OutOfMemory tree h fits s = refl
 
-same_tree : (text : List ℕ) (a b : Definition) → SpellsText text a → SpellsText text b → a ≡ b
+same_tree : (text : List ℕ) (a b : List External) → SpellsText text a → SpellsText text b → a ≡ b
 same_tree text a b h k =
     let same = tokens_are_one text k.tokens h.tokens k.are h.are in
     let w : SpellsWithin h.tokens b = subst (λ (ts : List Lexeme). SpellsWithin ts b) same k.spelled in
     trees_are_one h.tokens a b (h.spelled.0, h.spelled.1, h.spelled.3) (w.0, w.1, w.3)
 
 -- where the text spells a tree, that is the answer
-pub only : (text : List ℕ) (r : Result unit.Unit SyntaxFault) → IsParse text r → (tree : Definition) → length text ≤ 65536 → SpellsText text tree → AnswersTree tree r
-only text (Ok u) h tree fits s = same_tree text (source u).function tree h.2 s
+pub only : (text : List ℕ) (r : Result unit.Unit SyntaxFault) → IsParse text r → (tree : List External) → length text ≤ 65536 → SpellsText text tree → AnswersTree tree r
+only text (Ok u) h tree fits s = same_tree text (source u).externals tree h.2 s
 only text (Err e) h tree fits s = spelled_refused text e tree h fits s

@@ -1,7 +1,7 @@
--- Each statement, and each unit, that tokens spell is read from them: an induction on its tree.
-use Rattle.std.proofs.Common.{◌≡◌, ℕ, Bool, true, false, suc, List, [], ◌∷◌, ◌++◌, length, map, Option, Some, None, option_and_then, refl, sym, ap, subst, ◌∙◌, arith, append_assoc, inl, inr}
+-- Each statement that tokens spell is read from them: an induction on its tree. Behind a statement that ends in an open
+-- `if` the machine waits for the token that tells; with any token but `else` it goes on as behind the statement.
+use Rattle.std.proofs.Common.{◌≡◌, ℕ, true, false, suc, List, [], ◌∷◌, ◌++◌, length, Option, Some, None, refl, sym, ap, subst, ◌∙◌, arith, append_assoc}
 use Rattle.cc_syntax.specs.declared.ast.Scalar.{Scalar}
-use Rattle.cc_syntax.specs.declared.ast.Scalar.TheVariants.{Int}
 use Rattle.cc_syntax.specs.declared.token.Keyword.TheVariants as keyword
 use Rattle.cc_syntax.specs.declared.token.Punctuator.TheVariants as punctuator
 use Rattle.cc_syntax.specs.declared.token.TokenKind.{TokenKind}
@@ -9,138 +9,169 @@ use Rattle.cc_syntax.specs.declared.token.TokenKind.TheVariants as kind
 use Rattle.cc_syntax.specs.declared.parser.role.Role.{Role}
 use Rattle.cc_syntax.specs.declared.parser.role.Role.TheVariants as role
 use Rattle.cc_syntax.specs.Token.{Lexeme}
-use Rattle.cc_syntax.specs.Tree.{Name, Expr, Declared, Stmt, Block, Local, Assign, Call, Return, While, Stmts, end, next, Definition}
+use Rattle.cc_syntax.specs.Tree.{Name, Expr, Declared, Action, Start, Declares, Performs, Stmt, Block, Local, Perform, Return, Break, Continue, If, IfElse, While, DoWhile, For, Stmts, end, next}
 use Rattle.cc_syntax.specs.Roles.{role_of}
-use Rattle.cc_syntax.specs.Grammar.{Placed, outside, full, full_after, identifier, SpellsExpression, SpellsDeclared, SpellsDeclaration, SpellsStatement, SpellsStatements, SpellsNoParameters, SpellsUnit, IsStatement}
-use Rattle.cc_syntax.specs.Machine.{State, AtHead, InBody, Done, Inside, Stage, Item, Named, Returning, Testing, Declaring, HasDeclared, Operand, Operator, Called, FunctionName, Opening, Parameters, Closing, Body, Purpose, ToAssign, ToCall, ToReturn, ToTest, ToInitialise, Waiting, Open, InBlock, InWhile, with_count, at_stage, settled, with_last, reduced, declared, declare, operator_step, operand_step, returning_step, close_parenthesis, close_full, end_full, go_on, whole, role_step, name_of, count_of, role_level, start}
+use Rattle.cc_syntax.specs.Grammar.{Placed, outside, full, begins, Marks, SpellsExpression, SpellsOptional, SpellsOptionalAction, SpellsStart, SpellsStatement, SpellsStatements, IsStatement, IsClosed}
+use Rattle.cc_syntax.specs.Machine.{State, InBody, Inside, Stage, Item, AfterThen, AfterDo, Testing, Ending, Returning, ForOpening, ForStarting, ForTesting, ForStepping, Declaring, LocalSign, AsLocal, AsHeader, Context, OfBody, ToReturn, ToTest, ToGoOn, Test, ForIf, ForWhile, ForDo, AsStatement, AsStart, AsLast, Open, InBlock, InThen, InElse, InWhile, InDo, InFor, Waiting, inside_of, in_body, settled, with_last, full_of, close, tested, declare, action_step, first_step, item_step, role_step, role_level, name_of, count_of}
 use Rattle.cc_syntax.proofs.MachineRuns.{Runs, token, runs-append}
-use Rattle.cc_syntax.proofs.Forms.{inside, item, operand, operator, settled-count, count_after, full_after-append}
-use Rattle.cc_syntax.proofs.ReadsExpression.{Read, read_expression}
-
--- the body at a stage
-abbrev at : Name → Stmts → List Open → Stage → State
-at n d os s = at_stage (inside n d os) s
-
--- a token behind which a statement is complete
-completes : (s : State) (n : Name) (d : Stmts) (os : List Open) (t : Stmt) (x : Lexeme) (k : TokenKind) → x.kind ≡ k → role_step s (role_of k) (name_of x) ≡ Some (InBody (settled n d os t)) → 0 ≡ role_level s (role_of k) → Runs s (outside x ∷ []) (InBody (settled n d os t))
-completes s n d os t x k h goes level = token s (InBody (settled n d os t)) (InBody (settled n d os t)) x k 0 0 [] h goes (settled-count n d os t) level refl
-
--- what a whole full expression leaves at its end
-whole-of : (b : Inside) (p : Purpose) (n : ℕ) (ws : List Waiting) (last e : Expr) → reduced 1 ws last ≡ (e, []) → whole (with_count p n ws) (reduced 1 ws last) ≡ Some (p, e)
-whole-of b p n ws last e h = ap (λ (r : Expr × List Waiting). whole (with_count p n ws) r) h
-
-ends : (b : Inside) (p : Purpose) (n : ℕ) (ws : List Waiting) (last e : Expr) → reduced 1 ws last ≡ (e, []) → operator_step b (with_count p n ws) last role.Semicolon ≡ end_full b p e
-ends b p n ws last e h = ap (λ (r : Option (Purpose × Expr)). option_and_then (λ (x : Purpose × Expr). end_full b x.0 x.1) r) (whole-of b p n ws last e h)
-
-separates : (b : Inside) (p : Purpose) (n : ℕ) (ws : List Waiting) (last e : Expr) → reduced 1 ws last ≡ (e, []) → operator_step b (with_count p n ws) last role.Comma ≡ go_on b p e
-separates b p n ws last e h = ap (λ (r : Option (Purpose × Expr)). option_and_then (λ (x : Purpose × Expr). go_on b x.0 x.1) r) (whole-of b p n ws last e h)
-
-closes : (b : Inside) (p : Purpose) (n : ℕ) (ws : List Waiting) (last e : Expr) → reduced 1 ws last ≡ (e, []) → operator_step b (with_count p n ws) last role.CloseParenthesis ≡ close_full b p n e
-closes b p n ws last e h = ap (λ (r : Expr × List Waiting). close_parenthesis b (with_count p n ws) r) h
-
--- a whole full expression
-read_full : (e : Expr) (xs : List Lexeme) (b : Inside) (p : Purpose) (n : ℕ) → SpellsExpression 1 xs e → Read b p n [] 1 xs e
-read_full e xs b p n h = read_expression e 1 xs b p n [] h tt (omega arith)
-
--- declarators: each ends with a semicolon or a comma
-data Separator : Type 0 where
-  Last : Separator
-  Further : Separator
-
-abbrev separator : Separator → TokenKind
-separator Last = kind.Punctuator punctuator.Semicolon
-separator Further = kind.Punctuator punctuator.Comma
-
-abbrev behind : Separator → Name → Stmts → List Open → List Declared → State
-behind Last n d os ds = InBody (settled n d os (Local Int ds))
-behind Further n d os ds = at n d os (Declaring ds)
-
-behind-count : (z : Separator) (n : Name) (d : Stmts) (os : List Open) (ds : List Declared) → 0 ≡ count_of (behind z n d os ds)
-behind-count Last n d os ds = settled-count n d os (Local Int ds)
-behind-count Further n d os ds = refl
-
-behind_name : (z : Separator) (n : Name) (d : Stmts) (os : List Open) (ds : List Declared) (v : Name) (x : Lexeme) → role_step (at n d os (HasDeclared ds v)) (role_of (separator z)) (name_of x) ≡ Some (behind z n d os (ds ++ declared v None ∷ []))
-behind_name Last n d os ds v x = refl
-behind_name Further n d os ds v x = refl
-
-behind_initial : (z : Separator) (n : Name) (d : Stmts) (os : List Open) (ds : List Declared) (v : Name) (x : Lexeme) (k : ℕ) (ws : List Waiting) (last e : Expr) → reduced 1 ws last ≡ (e, []) → role_step (operator (inside n d os) (ToInitialise ds v) k ws last) (role_of (separator z)) (name_of x) ≡ Some (behind z n d os (ds ++ declared v (Some e) ∷ []))
-behind_initial Last n d os ds v x k ws last e h = ends (inside n d os) (ToInitialise ds v) k ws last e h
-behind_initial Further n d os ds v x k ws last e h = separates (inside n d os) (ToInitialise ds v) k ws last e h
-
-behind_level : (z : Separator) (s : Stage) (n : Name) (d : Stmts) (os : List Open) → (s ≡ Item → ⊥) → 0 ≡ role_level (at n d os s) (role_of (separator z))
-behind_level z Item n d os h = absurd (h refl)
-behind_level z (Named v) n d os h = refl
-behind_level z (Returning a) n d os h = refl
-behind_level z Testing n d os h = refl
-behind_level z (Declaring ds) n d os h = refl
-behind_level z (HasDeclared ds v) n d os h = refl
-behind_level z (Operand f) n d os h = refl
-behind_level z (Operator f e) n d os h = refl
-behind_level z (Called v e k) n d os h = refl
-
-read_declared : (i : Option Expr) (v : Name) (ts : List Placed) (z : Separator) (x : Lexeme) (n : Name) (d : Stmts) (os : List Open) (ds : List Declared) → SpellsDeclared ts v i → x.kind ≡ separator z → Runs (at n d os (Declaring ds)) (ts ++ outside x ∷ []) (behind z n d os (ds ++ declared v i ∷ []))
-read_declared None v ts z x n d os ds h k =
-    let m = behind z n d os (ds ++ declared v None ∷ []) in
-    let runs : Runs (at n d os (Declaring ds)) ((outside (identifier v) ∷ []) ++ outside x ∷ []) m =
-    token (at n d os (Declaring ds)) (at n d os (HasDeclared ds v)) m (identifier v) kind.Identifier 0 0 (outside x ∷ []) refl refl refl refl
-    (token (at n d os (HasDeclared ds v)) m m x (separator z) 0 0 [] k (behind_name z n d os ds v x) (behind-count z n d os _) (behind_level z (HasDeclared ds v) n d os (λ e. cc)) refl) in
-    subst (λ (ps : List Placed). Runs (at n d os (Declaring ds)) (ps ++ outside x ∷ []) m) (sym h) runs
-read_declared (Some e) v ts z x n d os ds h k =
-    let m = behind z n d os (ds ++ declared v (Some e) ∷ []) in
-    let r = read_full e h.1 (inside n d os) (ToInitialise ds v) 0 h.3 in
-    let last = operator (inside n d os) (ToInitialise ds v) (count_after 0 h.1) r.waiting r.last in
-    let runs : Runs (at n d os (Declaring ds)) ((outside (identifier v) ∷ outside h.0 ∷ full h.1) ++ outside x ∷ []) m =
-    token (at n d os (Declaring ds)) (at n d os (HasDeclared ds v)) m (identifier v) kind.Identifier 0 0 (outside h.0 ∷ full h.1 ++ outside x ∷ []) refl refl refl refl
-    (token (at n d os (HasDeclared ds v)) (operand (inside n d os) (ToInitialise ds v) 0 []) m h.0 (kind.Punctuator punctuator.Assign) 0 0 (full h.1 ++ outside x ∷ []) h.2 refl refl refl
-    (runs-append _ last m (full h.1) (outside x ∷ []) r.runs
-    (token last m m x (separator z) 0 0 [] k (behind_initial z n d os ds v x _ r.waiting r.last e (r.same 1 (omega arith))) (behind-count z n d os _) (behind_level z (Operator (with_count (ToInitialise ds v) (count_after 0 h.1) r.waiting) r.last) n d os (λ e. cc)) refl))) in
-    subst (λ (ps : List Placed). Runs (at n d os (Declaring ds)) (ps ++ outside x ∷ []) m) (sym h.4) runs
-
-read_declaration : (es : List Declared) (ts : List Placed) (x : Lexeme) (n : Name) (d : Stmts) (os : List Open) (ds : List Declared) → SpellsDeclaration ts es → x.kind ≡ kind.Punctuator punctuator.Semicolon → Runs (at n d os (Declaring ds)) (ts ++ outside x ∷ []) (InBody (settled n d os (Local Int (ds ++ es))))
-read_declaration [] ts x n d os ds h k = absurd h
-read_declaration (e ∷ []) ts x n d os ds h k = read_declared e.initial e.name ts Last x n d os ds h k
-read_declaration (e ∷ f ∷ es) ts x n d os ds h k =
-    let m = InBody (settled n d os (Local Int (ds ++ e ∷ f ∷ es))) in
-    let first = read_declared e.initial e.name h.1 Further h.0 n d os ds h.4 h.3 in
-    let others = read_declaration (f ∷ es) h.2 x n d os (ds ++ e ∷ []) h.5 k in
-    let joined : Runs (at n d os (Declaring (ds ++ e ∷ []))) (h.2 ++ outside x ∷ []) m =
-    subst (λ (z : List Declared). Runs (at n d os (Declaring (ds ++ e ∷ []))) (h.2 ++ outside x ∷ []) (InBody (settled n d os (Local Int z)))) (append_assoc ds (e ∷ []) (f ∷ es)) others in
-    let runs = runs-append _ (at n d os (Declaring (ds ++ e ∷ []))) m (h.1 ++ outside h.0 ∷ []) (h.2 ++ outside x ∷ []) first joined in
-    subst (λ (ps : List Placed). Runs (at n d os (Declaring ds)) ps m) (regroup h.1 (outside h.0) h.2 (outside x) ∙ ap (λ (ps : List Placed). ps ++ outside x ∷ []) (sym h.6)) runs
-  where
-    regroup : (a : List Placed) (p : Placed) (b : List Placed) (q : Placed) → (a ++ p ∷ []) ++ (b ++ q ∷ []) ≡ (a ++ p ∷ b) ++ q ∷ []
-    regroup a p b q = simp append_assoc
-
--- an operand behind `return`
-returning : (b : Inside) (a : ℕ) (r : Role) (v : Name) (m : State) → operand_step b (with_count (ToReturn a) 0 []) r v ≡ Some m → returning_step b a r v ≡ Some m
-returning b a role.Semicolon v m h = cc
-returning b a role.Identifier v m h = h
-returning b a _ v m h = h
-
-abbrev at_operand : Stage → Bool
-at_operand (Operand f) = true
-at_operand _ = false
-
-abbrev wants_operand : State → Bool
-wants_operand (InBody b) = at_operand b.stage
-wants_operand _ = false
-
-no_operator : (b : Inside) (p : Purpose) (n k : ℕ) (us ws : List Waiting) (last : Expr) → operand b p n us ≡ operator b p k ws last → ⊥
-no_operator b p n k us ws last h = let e : true ≡ false = ap (λ (s : State). wants_operand s) h in cc
-
-read_operand : (b : Inside) (a : ℕ) (xs : List Lexeme) (k : ℕ) (ws : List Waiting) (last : Expr) → Runs (operand b (ToReturn a) 0 []) (full xs) (operator b (ToReturn a) k ws last) → Runs (at_stage b (Returning a)) (full xs) (operator b (ToReturn a) k ws last)
-read_operand b a [] k ws last h = absurd (no_operator b (ToReturn a) 0 k [] ws last h)
-read_operand b a (x ∷ xs) k ws last h = (h.0, returning b a (role_of x.kind) (name_of x) h.0 h.1, h.2, h.3, h.4)
+use Rattle.cc_syntax.proofs.Forms.{operand, operator, count_after}
+use Rattle.cc_syntax.proofs.Settles.{within, settled-within, settled-count, settled-rests, RestsAs, rests-on, none-some}
+use Rattle.cc_syntax.proofs.ReadsAction.{read_full, read_ended, Enters, read_action, no-operator}
+use Rattle.cc_syntax.proofs.ReadsDeclaration.{Begins, read_local}
 
 -- where a statement or declaration may stand
 abbrev pub CanStand : List Open → Stmt → Type 0
-CanStand (InWhile e ∷ os) s = IsStatement s
-CanStand os s = Unit {0}
+CanStand [] s = Unit {0}
+CanStand (InBlock ss ∷ os) s = Unit {0}
+CanStand (o ∷ os) s = IsStatement s
 
-can_declare : (n : Name) (d : Stmts) (os : List Open) (t : Scalar) (ds : List Declared) → CanStand os (Local t ds) → declare (inside n d os) os ≡ Some (at n d os (Declaring []))
-can_declare n d [] t ds h = refl
-can_declare n d (InBlock ss ∷ os) t ds h = refl
-can_declare n d (InWhile e ∷ os) t ds h = absurd h
+-- the tokens of a statement lead to a state behind it
+pub record Leads (b : Inside) (ts : List Placed) (s : Stmt) : Type 0 where
+  pub after : State
+  pub runs : Runs (InBody b Item) ts after
+  pub closed : IsClosed s → after ≡ in_body (settled true b b.opened s)
+  pub rests : RestsAs after (in_body (settled false b b.opened s))
+
+-- a statement behind whose last token the machine settles it
+leads : (b : Inside) (ts : List Placed) (s : Stmt) → Runs (InBody b Item) ts (in_body (settled true b b.opened s)) → Leads b ts s
+leads b ts s h = record { after = in_body (settled true b b.opened s); runs = h; closed = λ c. refl; rests = settled-rests b b.opened s }
+
+-- an action begins where a statement does, or at the ends of a `for` header
+
+item-acts : (r : Role) (b : Inside) (v : Name) (m : State) → action_step b AsStatement r v ≡ Some m → item_step b r v ≡ Some m
+item-acts role.OpenBrace b v m h = absurd (none-some _ m refl h)
+item-acts role.CloseBrace b v m h = absurd (none-some _ m refl h)
+item-acts role.Semicolon b v m h = absurd (none-some _ m refl h)
+item-acts role.Return b v m h = absurd (none-some _ m refl h)
+item-acts role.Break b v m h = absurd (none-some _ m refl h)
+item-acts role.Continue b v m h = absurd (none-some _ m refl h)
+item-acts role.If b v m h = absurd (none-some _ m refl h)
+item-acts role.While b v m h = absurd (none-some _ m refl h)
+item-acts role.Do b v m h = absurd (none-some _ m refl h)
+item-acts role.For b v m h = absurd (none-some _ m refl h)
+item-acts role.Int b v m h = absurd (none-some _ m refl h)
+item-acts (role.SignWord t) b v m h = absurd (none-some _ m refl h)
+item-acts r b v m h = h
+
+item-level : (r : Role) (b : Inside) (v : Name) (m : State) → action_step b AsStatement r v ≡ Some m → suc (suc (length b.opened)) ≡ role_level (InBody b Item) r
+item-level role.CloseBrace b v m h = absurd (none-some _ m refl h)
+item-level r b v m h = refl
+
+enters-item : (b : Inside) → Enters (InBody b Item) b AsStatement (suc (suc (length b.opened)))
+enters-item b = record { first = λ r v m h. item-acts r b v m h; begun = λ r v m h. item-level r b v m h }
+
+starting-acts : (r : Role) (b : Inside) (v : Name) (m : State) → action_step b AsStart r v ≡ Some m → role_step (InBody b ForStarting) r v ≡ Some m
+starting-acts role.Semicolon b v m h = absurd (none-some _ m refl h)
+starting-acts role.Int b v m h = absurd (none-some _ m refl h)
+starting-acts (role.SignWord t) b v m h = absurd (none-some _ m refl h)
+starting-acts r b v m h = h
+
+starting-level : (r : Role) (b : Inside) (v : Name) (m : State) → action_step b AsStart r v ≡ Some m → 0 ≡ role_level (InBody b ForStarting) r
+starting-level role.Int b v m h = absurd (none-some _ m refl h)
+starting-level (role.SignWord t) b v m h = absurd (none-some _ m refl h)
+starting-level r b v m h = refl
+
+enters-starting : (b : Inside) → Enters (InBody b ForStarting) b AsStart 0
+enters-starting b = record { first = λ r v m h. starting-acts r b v m h; begun = λ r v m h. starting-level r b v m h }
+
+stepping-acts : (r : Role) (b : Inside) (a : Start) (e : Option Expr) (v : Name) (m : State) → action_step b (AsLast a e) r v ≡ Some m → role_step (InBody b (ForStepping a e)) r v ≡ Some m
+stepping-acts role.CloseParenthesis b a e v m h = absurd (none-some _ m refl h)
+stepping-acts r b a e v m h = h
+
+enters-stepping : (b : Inside) (a : Start) (e : Option Expr) → Enters (InBody b (ForStepping a e)) b (AsLast a e) 0
+enters-stepping b a e = record { first = λ r v m h. stepping-acts r b a e v m h; begun = λ r v m h. refl }
+
+-- an expression where a full expression may begin, and the rest behind it
+enter_full : (xs : List Lexeme) (s : State) (c : Context) (k : ℕ) (ws : List Waiting) (last : Expr) (rest : List Placed) (m : State) → ((r : Role) (v : Name) (n : State) → first_step c r v ≡ Some n → role_step s r v ≡ Some n) → ((r : Role) → 0 ≡ role_level s r) → Runs (operand c 0 []) (full xs) (operator c k ws last) → Runs (operator c k ws last) rest m → Runs s (full xs ++ rest) m
+enter_full [] s c k ws last rest m first none h g = absurd (no-operator c 0 k [] ws last h)
+enter_full (x ∷ xs) s c k ws last rest m first none h g =
+    (h.0, first (role_of x.kind) (name_of x) h.0 h.1, h.2, none (role_of x.kind), runs-append h.0 (operator c k ws last) m _ rest h.4 g)
+
+returning-acts : (r : Role) (b : Inside) (at : ℕ) (v : Name) (m : State) → first_step (OfBody b (ToReturn at)) r v ≡ Some m → role_step (InBody b (Returning at)) r v ≡ Some m
+returning-acts role.Semicolon b at v m h = absurd (none-some _ m refl h)
+returning-acts r b at v m h = h
+
+testing-acts : (r : Role) (b : Inside) (a : Start) (v : Name) (m : State) → first_step (OfBody b (ToGoOn a)) r v ≡ Some m → role_step (InBody b (ForTesting a)) r v ≡ Some m
+testing-acts role.Semicolon b a v m h = absurd (none-some _ m refl h)
+testing-acts r b a v m h = h
+
+begins-item : (b : Inside) (t : Scalar) (ds : List Declared) → CanStand b.opened (Local t ds) → Begins (InBody b Item) b AsLocal (suc (suc (length b.opened)))
+begins-item b t ds h = record { int = λ v. can b.opened h (Declaring AsLocal _ []); sign = λ u v. can b.opened h (LocalSign AsLocal u); int_level = refl; sign_level = λ u. refl }
+  where
+    can : (os : List Open) → CanStand os (Local t ds) → (g : Stage) → declare b g os ≡ Some (InBody b g)
+    can [] h g = refl
+    can (InBlock ss ∷ os) h g = refl
+    can (InThen e ∷ os) h g = absurd h
+    can (InElse e s ∷ os) h g = absurd h
+    can (InWhile e ∷ os) h g = absurd h
+    can (InDo ∷ os) h g = absurd h
+    can (InFor a e l ∷ os) h g = absurd h
+
+begins-starting : (b : Inside) → Begins (InBody b ForStarting) b AsHeader (suc (suc (suc (length b.opened))))
+begins-starting b = record { int = λ v. refl; sign = λ u v. refl; int_level = refl; sign_level = λ u. refl }
+
+-- a condition in parentheses
+read_test : (e : Expr) (test : List Lexeme) (opening closing : Lexeme) (b : Inside) (k : Test) (m : State) → Marks punctuator.OpenParenthesis opening → Marks punctuator.CloseParenthesis closing → SpellsExpression 1 test e → tested b k e ≡ Some m → 0 ≡ count_of m → Runs (InBody b (Testing k)) (outside opening ∷ full test ++ outside closing ∷ []) m
+read_test e test opening closing b k m open_ close_ h goes counts =
+    token (InBody b (Testing k)) (operand (OfBody b (ToTest k)) 0 []) m opening (kind.Punctuator punctuator.OpenParenthesis) 0 0 (full test ++ outside closing ∷ []) open_ refl refl refl
+    (read_ended (OfBody b (ToTest k)) 0 test e closing (kind.Punctuator punctuator.CloseParenthesis) m 0 h close_ (λ f z. refl) goes counts)
+
+-- the first part of a `for` header
+read_start : (a : Start) (ts : List Placed) (b : Inside) → SpellsStart (suc (suc (suc (length b.opened)))) ts a → Runs (InBody b ForStarting) ts (InBody b (ForTesting a))
+read_start (Declares t ds) ts b h =
+    subst (λ (z : List Placed). Runs (InBody b ForStarting) z (InBody b (ForTesting (Declares t ds)))) (sym h.2)
+    (read_local t ds h.0 (InBody b ForStarting) b AsHeader (suc (suc (suc (length b.opened)))) (begins-starting b) h.1)
+read_start (Performs None) ts b h =
+    subst (λ (z : List Placed). Runs (InBody b ForStarting) z (InBody b (ForTesting (Performs None)))) (sym (h.4 ∙ ap (λ (z : List Placed). z ++ outside h.1 ∷ []) h.2))
+    (token (InBody b ForStarting) (InBody b (ForTesting (Performs None))) _ h.1 (kind.Punctuator punctuator.Semicolon) 0 0 [] h.3 refl refl refl refl)
+read_start (Performs (Some a)) ts b h =
+    let o = h.2 in
+    let runs = read_action a o.0 (InBody b ForStarting) b AsStart 0 h.1 (enters-starting b) o.1 h.3 in
+    subst (λ (z : List Placed). Runs (InBody b ForStarting) z (InBody b (ForTesting (Performs (Some a))))) (sym (h.4 ∙ ap (λ (z : List Placed). z ++ outside h.1 ∷ []) o.2))
+    (unlevelled o.0 h.1 runs)
+  where
+    unlevelled : (xs : List Lexeme) (x : Lexeme) → Runs (InBody b ForStarting) (begins 0 (full xs ++ outside x ∷ [])) (InBody b (ForTesting (Performs (Some a)))) → Runs (InBody b ForStarting) (full xs ++ outside x ∷ []) (InBody b (ForTesting (Performs (Some a))))
+    unlevelled [] x r = r
+    unlevelled (y ∷ ys) x r = r
+
+-- the condition of a `for`, with its semicolon
+read_testing : (e : Option Expr) (ts : List Placed) (x : Lexeme) (b : Inside) (a : Start) → SpellsOptional ts e → Marks punctuator.Semicolon x → Runs (InBody b (ForTesting a)) (ts ++ outside x ∷ []) (InBody b (ForStepping a e))
+read_testing None ts x b a h k =
+    subst (λ (z : List Placed). Runs (InBody b (ForTesting a)) (z ++ outside x ∷ []) (InBody b (ForStepping a None))) (sym h)
+    (token (InBody b (ForTesting a)) (InBody b (ForStepping a None)) _ x (kind.Punctuator punctuator.Semicolon) 0 0 [] k refl refl refl refl)
+read_testing (Some e) ts x b a h k =
+    let c = OfBody b (ToGoOn a) in
+    let m = InBody b (ForStepping a (Some e)) in
+    let r = read_full e h.0 c 0 h.1 in
+    let n = count_after 0 h.0 in
+    let last : Runs (operator c n r.waiting r.last) (outside x ∷ []) m =
+    token (operator c n r.waiting r.last) m m x (kind.Punctuator punctuator.Semicolon) 0 0 [] k (ap (λ (z : Expr × List Waiting). close (full_of c r.waiting n) role.Semicolon z) (r.same 1 (omega arith))) refl refl refl in
+    subst (λ (z : List Placed). Runs (InBody b (ForTesting a)) (z ++ outside x ∷ []) m) (sym h.2)
+    (enter_full h.0 (InBody b (ForTesting a)) c n r.waiting r.last (outside x ∷ []) m (λ r v z g. testing-acts r b a v z g) (λ r. refl) r.runs last)
+
+-- the last part of a `for` header, with its parenthesis
+read_last : (l : Option Action) (ts : List Placed) (x : Lexeme) (b : Inside) (a : Start) (e : Option Expr) → SpellsOptionalAction ts l → Marks punctuator.CloseParenthesis x → Runs (InBody b (ForStepping a e)) (ts ++ outside x ∷ []) (InBody (within b (InFor a e l ∷ b.opened)) Item)
+read_last None ts x b a e h k =
+    subst (λ (z : List Placed). Runs (InBody b (ForStepping a e)) (z ++ outside x ∷ []) (InBody (within b (InFor a e None ∷ b.opened)) Item)) (sym h)
+    (token (InBody b (ForStepping a e)) (InBody (within b (InFor a e None ∷ b.opened)) Item) _ x (kind.Punctuator punctuator.CloseParenthesis) 0 0 [] k refl refl refl refl)
+read_last (Some l) ts x b a e h k =
+    let m = InBody (within b (InFor a e (Some l) ∷ b.opened)) Item in
+    subst (λ (z : List Placed). Runs (InBody b (ForStepping a e)) (z ++ outside x ∷ []) m) (sym h.2)
+    (unlevelled h.0 x (read_action l h.0 (InBody b (ForStepping a e)) b (AsLast a e) 0 x (enters-stepping b a e) h.1 k))
+  where
+    unlevelled : (xs : List Lexeme) (y : Lexeme) → Runs (InBody b (ForStepping a e)) (begins 0 (full xs ++ outside y ∷ [])) (InBody (within b (InFor a e (Some l) ∷ b.opened)) Item) → Runs (InBody b (ForStepping a e)) (full xs ++ outside y ∷ []) (InBody (within b (InFor a e (Some l) ∷ b.opened)) Item)
+    unlevelled [] y r = r
+    unlevelled (z ∷ zs) y r = r
+
+-- a word, a condition in parentheses, and what stands behind them
+read_headed : (e : Expr) (test : List Lexeme) (word opening closing : Lexeme) (b : Inside) (k : Test) (w : TokenKind) (o : Open) (part : List Placed) (m : State) → word.kind ≡ w → Marks punctuator.OpenParenthesis opening → Marks punctuator.CloseParenthesis closing → SpellsExpression 1 test e → role_step (InBody b Item) (role_of w) (name_of word) ≡ Some (InBody b (Testing k)) → suc (suc (length b.opened)) ≡ role_level (InBody b Item) (role_of w) → tested b k e ≡ Some (InBody (within b (o ∷ b.opened)) Item) → Runs (InBody (within b (o ∷ b.opened)) Item) part m → Runs (InBody b Item) (begins (suc (suc (length b.opened))) (outside word ∷ outside opening ∷ full test ++ outside closing ∷ part)) m
+read_headed e test word opening closing b k w o part m kind_ open_ close_ h first lev goes rest =
+    let inner = InBody (within b (o ∷ b.opened)) Item in
+    let condition = read_test e test opening closing b k inner open_ close_ h goes refl in
+    let both : Runs (InBody b (Testing k)) ((outside opening ∷ full test ++ outside closing ∷ []) ++ part) m = runs-append (InBody b (Testing k)) inner m (outside opening ∷ full test ++ outside closing ∷ []) part condition rest in
+    let grouped : Runs (InBody b (Testing k)) (outside opening ∷ full test ++ outside closing ∷ part) m =
+    subst (λ (z : List Placed). Runs (InBody b (Testing k)) z m) (append_assoc (outside opening ∷ full test) (outside closing ∷ []) part) both in
+    token (InBody b Item) (InBody b (Testing k)) m word w 0 (suc (suc (length b.opened))) (outside opening ∷ full test ++ outside closing ∷ part) kind_ first refl lev grouped
 
 -- statements behind one another
 abbrev pub appended : Stmts → Stmts → Stmts
@@ -169,147 +200,181 @@ pub appended-end : (ss : Stmts) → appended end ss ≡ ss
 unfolding joined
 appended-end ss = appended-joined ss end
 
--- the body itself, or a block in it
-data Spot : Type 0 where
-  Top : Spot
-  Within : Stmts → List Open → Spot
+-- the outermost block of a body, or a block in it
+pub data Nest : Type 0 where
+  Top : Nest
+  Inner : List Open → Nest
 
-abbrev finished_at : Spot → Stmts → Stmts
-finished_at Top done = done
-finished_at (Within d os) done = d
+abbrev pub body_at : Nest → Inside → Stmts → Inside
+body_at Top b done = inside_of b done []
+body_at (Inner os) b done = within b (InBlock done ∷ os)
 
-abbrev opened_at : Spot → Stmts → List Open
-opened_at Top done = []
-opened_at (Within d os) done = InBlock done ∷ os
+settled-at : (z : Nest) (b : Inside) (done : Stmts) (s : Stmt) → in_body (settled false (body_at z b done) (body_at z b done).opened s) ≡ InBody (body_at z b (with_last done s)) Item
+settled-at Top b done s = refl
+settled-at (Inner os) b done s = refl
 
-settled_at : (z : Spot) (n : Name) (done : Stmts) (s : Stmt) → InBody (settled n (finished_at z done) (opened_at z done) s) ≡ item n (finished_at z (with_last done s)) (opened_at z (with_last done s))
-settled_at Top n done s = refl
-settled_at (Within d os) n done s = refl
+stands-at : (z : Nest) (b : Inside) (done : Stmts) (s : Stmt) → CanStand (body_at z b done).opened s
+stands-at Top b done s = tt
+stands-at (Inner os) b done s = tt
 
-stands_at : (z : Spot) (done : Stmts) (s : Stmt) → CanStand (opened_at z done) s
-stands_at Top done s = tt
-stands_at (Within d os) done s = tt
-
-deep_at : (z : Spot) (a b : Stmts) → length (opened_at z a) ≡ length (opened_at z b)
-deep_at Top a b = refl
-deep_at (Within d os) a b = refl
+deep-at : (z : Nest) (b : Inside) (d e : Stmts) → length (body_at z b d).opened ≡ length (body_at z b e).opened
+deep-at Top b d e = refl
+deep-at (Inner os) b d e = refl
 
 mutual
-  read_statement : (s : Stmt) (ts : List Placed) (n : Name) (d : Stmts) (os : List Open) → SpellsStatement (suc (suc (length os))) ts s → CanStand os s → Runs (item n d os) ts (InBody (settled n d os s))
-  read_statement (Block ss) ts n d os h c =
-      let m = InBody (settled n d os (Block ss)) in
-      let inner = read_statements ss h.2 n (Within d os) end h.5 in
-      let last : Runs (item n d (InBlock (appended end ss) ∷ os)) (outside h.1 ∷ []) m =
-      completes (item n d (InBlock (appended end ss) ∷ os)) n d os (Block ss) h.1 (kind.Punctuator punctuator.CloseBrace) h.4 (ap (λ (r : Stmts). Some (InBody (settled n d os (Block r)))) (appended-end ss)) refl in
-      subst (λ (ps : List Placed). Runs (item n d os) ps m) (sym h.6)
-      (token (item n d os) (item n d (InBlock end ∷ os)) m h.0 (kind.Punctuator punctuator.OpenBrace) 0 (suc (suc (length os))) (h.2 ++ outside h.1 ∷ []) h.3 refl refl refl
-      (runs-append _ (item n d (InBlock (appended end ss) ∷ os)) m h.2 (outside h.1 ∷ []) inner last))
-  read_statement (Local t ds) ts n d os h c =
-      let m = InBody (settled n d os (Local t ds)) in
-      let runs = read_declaration ds h.2 h.1 n d os [] h.6 h.5 in
-      let typed : Runs (at n d os (Declaring [])) (h.2 ++ outside h.1 ∷ []) m =
-      subst (λ (u : Scalar). Runs (at n d os (Declaring [])) (h.2 ++ outside h.1 ∷ []) (InBody (settled n d os (Local u ds)))) (sym h.3) runs in
-      subst (λ (ps : List Placed). Runs (item n d os) ps m) (sym h.7)
-      (token (item n d os) (at n d os (Declaring [])) m h.0 (kind.Keyword keyword.Int) 0 (suc (suc (length os))) (h.2 ++ outside h.1 ∷ []) h.4 (can_declare n d os t ds c) refl refl typed)
-  read_statement (Assign v e) ts n d os h c =
-      let m = InBody (settled n d os (Assign v e)) in
-      let b = inside n d os in
-      let r = read_full e h.2 b (ToAssign v) 2 h.5 in
-      let last = operator b (ToAssign v) (count_after 2 h.2) r.waiting r.last in
-      subst (λ (ps : List Placed). Runs (item n d os) ps m) (sym h.6)
-      (token (item n d os) (at n d os (Named v)) m (identifier v) kind.Identifier 1 (suc (suc (length os))) (record { token = h.0; count = 2; level = 0 } ∷ full_after 2 h.2 ++ outside h.1 ∷ []) refl refl refl refl
-      (token (at n d os (Named v)) (operand b (ToAssign v) 2 []) m h.0 (kind.Punctuator punctuator.Assign) 2 0 (full_after 2 h.2 ++ outside h.1 ∷ []) h.3 refl refl refl
-      (runs-append _ last m (full_after 2 h.2) (outside h.1 ∷ []) r.runs
-      (completes last n d os (Assign v e) h.1 (kind.Punctuator punctuator.Semicolon) h.4 (ends b (ToAssign v) (count_after 2 h.2) r.waiting r.last e (r.same 1 (omega arith))) refl))))
-  read_statement (Call v e) ts n d os h c =
-      let m = InBody (settled n d os (Call v e)) in
-      let b = inside n d os in
-      let r = read_full e h.3 b (ToCall v) 2 h.7 in
-      let k = count_after 2 h.3 in
-      let last = operator b (ToCall v) k r.waiting r.last in
-      let tail : Runs (operand b (ToCall v) 2 []) ((full_after 2 h.3 ++ record { token = h.1; count = suc k; level = 0 } ∷ []) ++ outside h.2 ∷ []) m =
-      runs-append _ (at n d os (Called v e (suc k))) m (full_after 2 h.3 ++ record { token = h.1; count = suc k; level = 0 } ∷ []) (outside h.2 ∷ [])
-      (runs-append _ last (at n d os (Called v e (suc k))) (full_after 2 h.3) (record { token = h.1; count = suc k; level = 0 } ∷ []) r.runs
-      (token last (at n d os (Called v e (suc k))) (at n d os (Called v e (suc k))) h.1 (kind.Punctuator punctuator.CloseParenthesis) (suc k) 0 [] h.5 (closes b (ToCall v) k r.waiting r.last e (r.same 1 (omega arith))) refl refl refl))
-      (completes (at n d os (Called v e (suc k))) n d os (Call v e) h.2 (kind.Punctuator punctuator.Semicolon) h.6 refl refl) in
-      let counted : Runs (operand b (ToCall v) 2 []) (full_after 2 (h.3 ++ h.1 ∷ []) ++ outside h.2 ∷ []) m =
-      subst (λ (ps : List Placed). Runs (operand b (ToCall v) 2 []) (ps ++ outside h.2 ∷ []) m) (sym (full_after-append 2 h.3 (h.1 ∷ []))) tail in
-      subst (λ (ps : List Placed). Runs (item n d os) ps m) (sym h.8)
-      (token (item n d os) (at n d os (Named v)) m (identifier v) kind.Identifier 1 (suc (suc (length os))) (record { token = h.0; count = 2; level = 0 } ∷ full_after 2 (h.3 ++ h.1 ∷ []) ++ outside h.2 ∷ []) refl refl refl refl
-      (token (at n d os (Named v)) (operand b (ToCall v) 2 []) m h.0 (kind.Punctuator punctuator.OpenParenthesis) 2 0 (full_after 2 (h.3 ++ h.1 ∷ []) ++ outside h.2 ∷ []) h.4 refl refl refl counted))
-  read_statement (Return a None) ts n d os h c =
-      let m = InBody (settled n d os (Return a None)) in
-      let last : Runs (at n d os (Returning a)) (outside h.1 ∷ []) m =
-      completes (at n d os (Returning a)) n d os (Return a None) h.1 (kind.Punctuator punctuator.Semicolon) h.5 refl refl in
-      let operands : Runs (at n d os (Returning a)) (h.2 ++ outside h.1 ∷ []) m =
-      subst (λ (ps : List Placed). Runs (at n d os (Returning a)) (ps ++ outside h.1 ∷ []) m) (sym h.6) last in
-      subst (λ (ps : List Placed). Runs (item n d os) ps m) (sym h.7)
-      (token (item n d os) (at n d os (Returning a)) m h.0 (kind.Keyword keyword.Return) 0 (suc (suc (length os))) (h.2 ++ outside h.1 ∷ []) h.3 (ap (λ (z : ℕ). Some (at n d os (Returning z))) h.4) refl refl operands)
-  read_statement (Return a (Some e)) ts n d os h c =
-      let m = InBody (settled n d os (Return a (Some e))) in
-      let b = inside n d os in
+  pub read_statement : (s : Stmt) (ts : List Placed) (b : Inside) → SpellsStatement (suc (suc (length b.opened))) ts s → CanStand b.opened s → Leads b ts s
+  read_statement (Block ss) ts b h c =
+      let os = b.opened in
+      let m = in_body (settled true b os (Block ss)) in
+      let done = body_at (Inner os) b (appended end ss) in
+      let settles : in_body (settled true (within b os) os (Block (appended end ss))) ≡ m =
+      ap in_body (settled-within true b os os (Block (appended end ss))) ∙ ap (λ (r : Stmts). in_body (settled true b os (Block r))) (appended-end ss) in
+      let last : Runs (InBody done Item) (outside h.1 ∷ []) m =
+      token (InBody done Item) m m h.1 (kind.Punctuator punctuator.CloseBrace) 0 0 [] h.4 (ap (λ (z : State). Some z) settles) (settled-count true b os (Block ss)) refl refl in
+      let inner = read_statements ss h.2 (Inner os) b end (outside h.1) m h.5 last in
+      leads b ts (Block ss)
+      (subst (λ (ps : List Placed). Runs (InBody b Item) ps m) (sym h.6)
+      (token (InBody b Item) (InBody (within b (InBlock end ∷ os)) Item) m h.0 (kind.Punctuator punctuator.OpenBrace) 0 (suc (suc (length os))) (h.2 ++ outside h.1 ∷ []) h.3 refl refl refl inner))
+  read_statement (Local t ds) ts b h c =
+      leads b ts (Local t ds)
+      (subst (λ (ps : List Placed). Runs (InBody b Item) ps (in_body (settled true b b.opened (Local t ds)))) (sym h.2)
+      (read_local t ds h.0 (InBody b Item) b AsLocal (suc (suc (length b.opened))) (begins-item b t ds c) h.1))
+  read_statement (Perform None) ts b h c =
+      let m = in_body (settled true b b.opened (Perform None)) in
+      leads b ts (Perform None)
+      (subst (λ (ps : List Placed). Runs (InBody b Item) ps m) (sym (h.4 ∙ ap (λ (z : List Placed). begins (suc (suc (length b.opened))) (z ++ outside h.1 ∷ [])) h.2))
+      (token (InBody b Item) m m h.1 (kind.Punctuator punctuator.Semicolon) 0 (suc (suc (length b.opened))) [] h.3 refl (settled-count true b b.opened (Perform None)) refl refl))
+  read_statement (Perform (Some a)) ts b h c =
+      let o = h.2 in
+      let m = in_body (settled true b b.opened (Perform (Some a))) in
+      leads b ts (Perform (Some a))
+      (subst (λ (ps : List Placed). Runs (InBody b Item) ps m) (sym (h.4 ∙ ap (λ (z : List Placed). begins (suc (suc (length b.opened))) (z ++ outside h.1 ∷ [])) o.2))
+      (read_action a o.0 (InBody b Item) b AsStatement (suc (suc (length b.opened))) h.1 (enters-item b) o.1 h.3))
+  read_statement (Return at None) ts b h c =
+      let m = in_body (settled true b b.opened (Return at None)) in
+      let last : Runs (InBody b (Returning at)) (h.2 ++ outside h.1 ∷ []) m =
+      subst (λ (z : List Placed). Runs (InBody b (Returning at)) (z ++ outside h.1 ∷ []) m) (sym h.6)
+      (token (InBody b (Returning at)) m m h.1 (kind.Punctuator punctuator.Semicolon) 0 0 [] h.5 refl (settled-count true b b.opened (Return at None)) refl refl) in
+      leads b ts (Return at None)
+      (subst (λ (ps : List Placed). Runs (InBody b Item) ps m) (sym h.7)
+      (token (InBody b Item) (InBody b (Returning at)) m h.0 (kind.Keyword keyword.Return) 0 (suc (suc (length b.opened))) (h.2 ++ outside h.1 ∷ []) h.3 (ap (λ (z : ℕ). Some (InBody b (Returning z))) h.4) refl refl last))
+  read_statement (Return at (Some e)) ts b h c =
+      let m = in_body (settled true b b.opened (Return at (Some e))) in
+      let k = OfBody b (ToReturn at) in
       let o = h.6 in
-      let r = read_full e o.0 b (ToReturn a) 0 o.1 in
-      let last = operator b (ToReturn a) (count_after 0 o.0) r.waiting r.last in
-      let runs : Runs (at n d os (Returning a)) (full o.0 ++ outside h.1 ∷ []) m =
-      runs-append _ last m (full o.0) (outside h.1 ∷ []) (read_operand b a o.0 (count_after 0 o.0) r.waiting r.last r.runs)
-      (completes last n d os (Return a (Some e)) h.1 (kind.Punctuator punctuator.Semicolon) h.5 (ends b (ToReturn a) (count_after 0 o.0) r.waiting r.last e (r.same 1 (omega arith))) refl) in
-      let operands : Runs (at n d os (Returning a)) (h.2 ++ outside h.1 ∷ []) m =
-      subst (λ (ps : List Placed). Runs (at n d os (Returning a)) (ps ++ outside h.1 ∷ []) m) (sym o.2) runs in
-      subst (λ (ps : List Placed). Runs (item n d os) ps m) (sym h.7)
-      (token (item n d os) (at n d os (Returning a)) m h.0 (kind.Keyword keyword.Return) 0 (suc (suc (length os))) (h.2 ++ outside h.1 ∷ []) h.3 (ap (λ (z : ℕ). Some (at n d os (Returning z))) h.4) refl refl operands)
-  read_statement (While e s) ts n d os h c =
-      let m = InBody (settled n d os (While e s)) in
-      let b = inside n d os in
-      let r = read_full e h.3 b ToTest 0 h.8 in
-      let last = operator b ToTest (count_after 0 h.3) r.waiting r.last in
-      let body = read_statement s h.4 n d (InWhile e ∷ os) h.9 h.10 in
-      let runs : Runs (operand b ToTest 0 []) (full h.3 ++ outside h.2 ∷ h.4) m =
-      runs-append _ last m (full h.3) (outside h.2 ∷ h.4) r.runs
-      (token last (item n d (InWhile e ∷ os)) m h.2 (kind.Punctuator punctuator.CloseParenthesis) 0 0 h.4 h.7 (closes b ToTest (count_after 0 h.3) r.waiting r.last e (r.same 1 (omega arith))) refl refl body) in
-      subst (λ (ps : List Placed). Runs (item n d os) ps m) (sym h.11)
-      (token (item n d os) (at n d os Testing) m h.0 (kind.Keyword keyword.While) 0 (suc (suc (length os))) (outside h.1 ∷ full h.3 ++ outside h.2 ∷ h.4) h.5 refl refl refl
-      (token (at n d os Testing) (operand b ToTest 0 []) m h.1 (kind.Punctuator punctuator.OpenParenthesis) 0 0 (full h.3 ++ outside h.2 ∷ h.4) h.6 refl refl refl runs))
+      let r = read_full e o.0 k 0 o.1 in
+      let n = count_after 0 o.0 in
+      let ends : Runs (operator k n r.waiting r.last) (outside h.1 ∷ []) m =
+      token (operator k n r.waiting r.last) m m h.1 (kind.Punctuator punctuator.Semicolon) 0 0 [] h.5 (ap (λ (z : Expr × List Waiting). close (full_of k r.waiting n) role.Semicolon z) (r.same 1 (omega arith))) (settled-count true b b.opened (Return at (Some e))) refl refl in
+      let last : Runs (InBody b (Returning at)) (h.2 ++ outside h.1 ∷ []) m =
+      subst (λ (z : List Placed). Runs (InBody b (Returning at)) (z ++ outside h.1 ∷ []) m) (sym o.2)
+      (enter_full o.0 (InBody b (Returning at)) k n r.waiting r.last (outside h.1 ∷ []) m (λ r v z g. returning-acts r b at v z g) (λ r. refl) r.runs ends) in
+      leads b ts (Return at (Some e))
+      (subst (λ (ps : List Placed). Runs (InBody b Item) ps m) (sym h.7)
+      (token (InBody b Item) (InBody b (Returning at)) m h.0 (kind.Keyword keyword.Return) 0 (suc (suc (length b.opened))) (h.2 ++ outside h.1 ∷ []) h.3 (ap (λ (z : ℕ). Some (InBody b (Returning z))) h.4) refl refl last))
+  read_statement (Break at) ts b h c =
+      let m = in_body (settled true b b.opened (Break at)) in
+      leads b ts (Break at)
+      (subst (λ (ps : List Placed). Runs (InBody b Item) ps m) (sym h.5)
+      (token (InBody b Item) (InBody b (Ending (Break at))) m h.0 (kind.Keyword keyword.Break) 0 (suc (suc (length b.opened))) (outside h.1 ∷ []) h.2 (ap (λ (z : ℕ). Some (InBody b (Ending (Break z)))) h.3) refl refl
+      (token (InBody b (Ending (Break at))) m m h.1 (kind.Punctuator punctuator.Semicolon) 0 0 [] h.4 refl (settled-count true b b.opened (Break at)) refl refl)))
+  read_statement (Continue at) ts b h c =
+      let m = in_body (settled true b b.opened (Continue at)) in
+      leads b ts (Continue at)
+      (subst (λ (ps : List Placed). Runs (InBody b Item) ps m) (sym h.5)
+      (token (InBody b Item) (InBody b (Ending (Continue at))) m h.0 (kind.Keyword keyword.Continue) 0 (suc (suc (length b.opened))) (outside h.1 ∷ []) h.2 (ap (λ (z : ℕ). Some (InBody b (Ending (Continue z)))) h.3) refl refl
+      (token (InBody b (Ending (Continue at))) m m h.1 (kind.Punctuator punctuator.Semicolon) 0 0 [] h.4 refl (settled-count true b b.opened (Continue at)) refl refl)))
+  read_statement (If e s) ts b h c =
+      let os = b.opened in
+      let part = read_statement s h.4 (within b (InThen e ∷ os)) h.9 h.10 in
+      record {
+        after = part.after;
+        runs = subst (λ (ps : List Placed). Runs (InBody b Item) ps part.after) (sym h.11)
+            (read_headed e h.3 h.0 h.1 h.2 b ForIf (kind.Keyword keyword.If) (InThen e) h.4 part.after h.5 h.6 h.7 h.8 refl refl refl part.runs);
+        closed = λ z. absurd z;
+        rests = subst (λ (z : Inside × Stage). RestsAs part.after (in_body z)) (settled-within false b (InThen e ∷ os) os (If e s)) part.rests;
+      }
+  read_statement (IfElse e s t) ts b h c =
+      let os = b.opened in
+      let part = read_statement s h.5 (within b (InThen e ∷ os)) h.12 h.13 in
+      let last = read_statement t h.6 (within b (InElse e s ∷ os)) h.15 h.16 in
+      let waits : part.after ≡ InBody (within b os) (AfterThen e s) = part.closed h.14 in
+      let behind : Runs part.after (outside h.3 ∷ h.6) last.after =
+      subst (λ (z : State). Runs z (outside h.3 ∷ h.6) last.after) (sym waits)
+      (token (InBody (within b os) (AfterThen e s)) (InBody (within b (InElse e s ∷ os)) Item) last.after h.3 (kind.Keyword keyword.Else) 0 0 h.6 h.10 refl refl refl last.runs) in
+      let both = runs-append (InBody (within b (InThen e ∷ os)) Item) part.after last.after h.5 (outside h.3 ∷ h.6) part.runs behind in
+      record {
+        after = last.after;
+        runs = subst (λ (ps : List Placed). Runs (InBody b Item) ps last.after) (sym h.17)
+            (read_headed e h.4 h.0 h.1 h.2 b ForIf (kind.Keyword keyword.If) (InThen e) (h.5 ++ outside h.3 ∷ h.6) last.after h.7 h.8 h.9 h.11 refl refl refl both);
+        closed = λ z. last.closed z ∙ ap in_body (settled-within true b (InElse e s ∷ os) os (IfElse e s t));
+        rests = subst (λ (z : Inside × Stage). RestsAs last.after (in_body z)) (settled-within false b (InElse e s ∷ os) os (IfElse e s t)) last.rests;
+      }
+  read_statement (While e s) ts b h c =
+      let os = b.opened in
+      let body = read_statement s h.4 (within b (InWhile e ∷ os)) h.9 h.10 in
+      record {
+        after = body.after;
+        runs = subst (λ (ps : List Placed). Runs (InBody b Item) ps body.after) (sym h.11)
+            (read_headed e h.3 h.0 h.1 h.2 b ForWhile (kind.Keyword keyword.While) (InWhile e) h.4 body.after h.5 h.6 h.7 h.8 refl refl refl body.runs);
+        closed = λ z. body.closed z ∙ ap in_body (settled-within true b (InWhile e ∷ os) os (While e s));
+        rests = subst (λ (z : Inside × Stage). RestsAs body.after (in_body z)) (settled-within false b (InWhile e ∷ os) os (While e s)) body.rests;
+      }
+  read_statement (DoWhile s e) ts b h c =
+      let os = b.opened in
+      let m = in_body (settled true b os (DoWhile s e)) in
+      let body = read_statement s h.5 (within b (InDo ∷ os)) h.12 h.13 in
+      let b' = within b os in
+      let ending = InBody b' (Ending (DoWhile s e)) in
+      let last : Runs ending (outside h.4 ∷ []) m =
+      token ending m m h.4 (kind.Punctuator punctuator.Semicolon) 0 0 [] h.11 (ap (λ (z : Inside × Stage). Some (in_body z)) (settled-within true b os os (DoWhile s e))) (settled-count true b os (DoWhile s e)) refl refl in
+      let condition = read_test e h.6 h.2 h.3 b' (ForDo s) ending h.9 h.10 h.14 refl refl in
+      let tail : Runs (InBody b' (Testing (ForDo s))) (outside h.2 ∷ full h.6 ++ outside h.3 ∷ outside h.4 ∷ []) m =
+      subst (λ (z : List Placed). Runs (InBody b' (Testing (ForDo s))) z m) (append_assoc (outside h.2 ∷ full h.6) (outside h.3 ∷ []) (outside h.4 ∷ []))
+      (runs-append (InBody b' (Testing (ForDo s))) ending m (outside h.2 ∷ full h.6 ++ outside h.3 ∷ []) (outside h.4 ∷ []) condition last) in
+      let whole : Runs (InBody b' (AfterDo s)) (outside h.1 ∷ outside h.2 ∷ full h.6 ++ outside h.3 ∷ outside h.4 ∷ []) m =
+      token (InBody b' (AfterDo s)) (InBody b' (Testing (ForDo s))) m h.1 (kind.Keyword keyword.While) 0 0 (outside h.2 ∷ full h.6 ++ outside h.3 ∷ outside h.4 ∷ []) h.8 refl refl refl tail in
+      let behind : Runs body.after (outside h.1 ∷ outside h.2 ∷ full h.6 ++ outside h.3 ∷ outside h.4 ∷ []) m =
+      body.rests (outside h.1) (outside h.2 ∷ full h.6 ++ outside h.3 ∷ outside h.4 ∷ []) m whole in
+      let both = runs-append (InBody (within b (InDo ∷ os)) Item) body.after m h.5 (outside h.1 ∷ outside h.2 ∷ full h.6 ++ outside h.3 ∷ outside h.4 ∷ []) body.runs behind in
+      leads b ts (DoWhile s e)
+      (subst (λ (ps : List Placed). Runs (InBody b Item) ps m) (sym h.15)
+      (token (InBody b Item) (InBody (within b (InDo ∷ os)) Item) m h.0 (kind.Keyword keyword.Do) 0 (suc (suc (length os))) (h.5 ++ (outside h.1 ∷ outside h.2 ∷ full h.6 ++ outside h.3 ∷ outside h.4 ∷ [])) h.7 refl refl refl both))
+  read_statement (For a e l s) ts b h c =
+      let os = b.opened in
+      let inner = within b (InFor a e l ∷ os) in
+      let body = read_statement s h.7 inner h.15 h.16 in
+      let m = body.after in
+      let starts = read_start a h.4 b h.12 in
+      let tests = read_testing e h.5 h.2 b a h.13 h.10 in
+      let lasts = read_last l h.6 h.3 b a e h.14 h.11 in
+      let end_ : Runs (InBody b (ForStepping a e)) (h.6 ++ outside h.3 ∷ h.7) m =
+      subst (λ (z : List Placed). Runs (InBody b (ForStepping a e)) z m) (append_assoc h.6 (outside h.3 ∷ []) h.7)
+      (runs-append (InBody b (ForStepping a e)) (InBody inner Item) m (h.6 ++ outside h.3 ∷ []) h.7 lasts body.runs) in
+      let tail : List Placed = h.6 ++ outside h.3 ∷ h.7 in
+      let middle : Runs (InBody b (ForTesting a)) (h.5 ++ outside h.2 ∷ tail) m =
+      subst (λ (z : List Placed). Runs (InBody b (ForTesting a)) z m) (append_assoc h.5 (outside h.2 ∷ []) tail)
+      (runs-append (InBody b (ForTesting a)) (InBody b (ForStepping a e)) m (h.5 ++ outside h.2 ∷ []) tail tests end_) in
+      let all : Runs (InBody b ForStarting) (h.4 ++ (h.5 ++ outside h.2 ∷ tail)) m =
+      runs-append (InBody b ForStarting) (InBody b (ForTesting a)) m h.4 (h.5 ++ outside h.2 ∷ tail) starts middle in
+      record {
+        after = m;
+        runs = subst (λ (ps : List Placed). Runs (InBody b Item) ps m) (sym h.17)
+            (token (InBody b Item) (InBody b ForOpening) m h.0 (kind.Keyword keyword.For) 0 (suc (suc (length os))) (outside h.1 ∷ h.4 ++ (h.5 ++ outside h.2 ∷ tail)) h.8 refl refl refl
+            (token (InBody b ForOpening) (InBody b ForStarting) m h.1 (kind.Punctuator punctuator.OpenParenthesis) 0 0 (h.4 ++ (h.5 ++ outside h.2 ∷ tail)) h.9 refl refl refl all));
+        closed = λ z. body.closed z ∙ ap in_body (settled-within true b (InFor a e l ∷ os) os (For a e l s));
+        rests = subst (λ (z : Inside × Stage). RestsAs m (in_body z)) (settled-within false b (InFor a e l ∷ os) os (For a e l s)) body.rests;
+      }
 
-  read_statements : (ss : Stmts) (ts : List Placed) (n : Name) (z : Spot) (done : Stmts) → SpellsStatements (suc (suc (length (opened_at z done)))) ts ss → Runs (item n (finished_at z done) (opened_at z done)) ts (item n (finished_at z (appended done ss)) (opened_at z (appended done ss)))
-  read_statements end ts n z done h = subst (λ (ps : List Placed). Runs (item n (finished_at z done) (opened_at z done)) ps (item n (finished_at z done) (opened_at z done))) (sym h) refl
-  read_statements (next s ss) ts n z done h =
-      let from = item n (finished_at z done) (opened_at z done) in
-      let middle = item n (finished_at z (with_last done s)) (opened_at z (with_last done s)) in
-      let last = item n (finished_at z (appended done (next s ss))) (opened_at z (appended done (next s ss))) in
-      let first : Runs from h.0 middle = subst (λ (m : State). Runs from h.0 m) (settled_at z n done s) (read_statement s h.0 n (finished_at z done) (opened_at z done) h.2 (stands_at z done s)) in
-      let others : Runs middle h.1 last = read_statements ss h.1 n z (with_last done s) (subst (λ (k : ℕ). SpellsStatements (suc (suc k)) h.1 ss) (deep_at z done (with_last done s)) h.3) in
-      subst (λ (ps : List Placed). Runs from ps last) (sym h.4) (runs-append from middle last h.0 h.1 first others)
-
--- the parameters of a function that has none
-read_parameters : (n : Name) (ps : List Lexeme) (x : Lexeme) → SpellsNoParameters ps → x.kind ≡ kind.Punctuator punctuator.CloseParenthesis → Runs (AtHead (Parameters n)) (map outside ps ++ outside x ∷ []) (AtHead (Body n))
-read_parameters n ps x (inl h) k =
-    subst (λ (qs : List Lexeme). Runs (AtHead (Parameters n)) (map outside qs ++ outside x ∷ []) (AtHead (Body n))) (sym h)
-    (token (AtHead (Parameters n)) (AtHead (Body n)) (AtHead (Body n)) x (kind.Punctuator punctuator.CloseParenthesis) 0 0 [] k refl refl refl refl)
-read_parameters n ps x (inr h) k =
-    subst (λ (qs : List Lexeme). Runs (AtHead (Parameters n)) (map outside qs ++ outside x ∷ []) (AtHead (Body n))) (sym h.2)
-    (token (AtHead (Parameters n)) (AtHead (Closing n)) (AtHead (Body n)) h.0 (kind.Keyword keyword.Void) 0 0 (outside x ∷ []) h.1 refl refl refl
-    (token (AtHead (Closing n)) (AtHead (Body n)) (AtHead (Body n)) x (kind.Punctuator punctuator.CloseParenthesis) 0 0 [] k refl refl refl refl))
-
-read_body : (n : Name) (ts : List Placed) (ss : Stmts) → SpellsStatement 1 ts (Block ss) → Runs (AtHead (Body n)) ts (Done (record { name = n; body = ss }))
-read_body n ts ss h =
-    let m = Done (record { name = n; body = ss }) in
-    let inner = read_statements ss h.2 n Top end h.5 in
-    let last : Runs (item n (appended end ss) []) (outside h.1 ∷ []) m =
-    token (item n (appended end ss) []) m m h.1 (kind.Punctuator punctuator.CloseBrace) 0 0 [] h.4 (ap (λ (r : Stmts). Some (Done (record { name = n; body = r }))) (appended-end ss)) refl refl refl in
-    subst (λ (ps : List Placed). Runs (AtHead (Body n)) ps m) (sym h.6)
-    (token (AtHead (Body n)) (item n end []) m h.0 (kind.Punctuator punctuator.OpenBrace) 0 1 (h.2 ++ outside h.1 ∷ []) h.3 refl refl refl
-    (runs-append _ (item n (appended end ss) []) m h.2 (outside h.1 ∷ []) inner last))
-
--- each unit that tokens spell is read from them
-pub read_unit : (f : Definition) (ts : List Placed) → SpellsUnit ts f → Runs start ts (Done f)
-read_unit f ts h =
-    let n = f.name in
-    let rest : Runs (AtHead (Parameters n)) ((map outside h.3 ++ outside h.2 ∷ []) ++ h.4) (Done f) =
-    runs-append _ (AtHead (Body n)) (Done f) (map outside h.3 ++ outside h.2 ∷ []) h.4 (read_parameters n h.3 h.2 h.7 h.8) (read_body n h.4 f.body h.9) in
-    let grouped : Runs (AtHead (Parameters n)) (map outside h.3 ++ outside h.2 ∷ h.4) (Done f) =
-    subst (λ (ps : List Placed). Runs (AtHead (Parameters n)) ps (Done f)) (append_assoc (map outside h.3) (outside h.2 ∷ []) h.4) rest in
-    subst (λ (ps : List Placed). Runs start ps (Done f)) (sym h.10)
-    (token start (AtHead FunctionName) (Done f) h.0 (kind.Keyword keyword.Int) 0 0 (outside (identifier n) ∷ outside h.1 ∷ map outside h.3 ++ outside h.2 ∷ h.4) h.5 refl refl refl
-    (token (AtHead FunctionName) (AtHead (Opening n)) (Done f) (identifier n) kind.Identifier 0 0 (outside h.1 ∷ map outside h.3 ++ outside h.2 ∷ h.4) refl refl refl refl
-    (token (AtHead (Opening n)) (AtHead (Parameters n)) (Done f) h.1 (kind.Punctuator punctuator.OpenParenthesis) 0 0 (map outside h.3 ++ outside h.2 ∷ h.4) h.6 refl refl refl grouped)))
+  -- the statements of a block, and the brace behind them
+  pub read_statements : (ss : Stmts) (ts : List Placed) (z : Nest) (b : Inside) (done : Stmts) (q : Placed) (m : State) → SpellsStatements (suc (suc (length (body_at z b done).opened))) ts ss → Runs (InBody (body_at z b (appended done ss)) Item) (q ∷ []) m → Runs (InBody (body_at z b done) Item) (ts ++ q ∷ []) m
+  read_statements end ts z b done q m h k = subst (λ (ps : List Placed). Runs (InBody (body_at z b done) Item) (ps ++ q ∷ []) m) (sym h) k
+  read_statements (next s ss) ts z b done q m h k =
+      let from = body_at z b done in
+      let middle = InBody (body_at z b (with_last done s)) Item in
+      let first = read_statement s h.0 from h.2 (stands-at z b done s) in
+      let others : Runs middle (h.1 ++ q ∷ []) m = read_statements ss h.1 z b (with_last done s) q m (subst (λ (n : ℕ). SpellsStatements (suc (suc n)) h.1 ss) (deep-at z b done (with_last done s)) h.3) k in
+      let rests : RestsAs first.after middle = subst (λ (g : State). RestsAs first.after g) (settled-at z b done s) first.rests in
+      let behind : Runs first.after (h.1 ++ q ∷ []) m = rests-on first.after middle m h.1 q [] rests others in
+      let both = runs-append (InBody from Item) first.after m h.0 (h.1 ++ q ∷ []) first.runs behind in
+      subst (λ (ps : List Placed). Runs (InBody from Item) ps m) (sym (append_assoc h.0 h.1 (q ∷ [])) ∙ ap (λ (ps : List Placed). ps ++ q ∷ []) (sym h.4)) both

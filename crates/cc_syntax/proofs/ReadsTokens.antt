@@ -1,25 +1,26 @@
 -- The loop over all tokens: what each of its exits answers.
-use Rattle.std.proofs.Common.{◌≡◌, ◌<◌, ◌≤◌, ◌+◌, ℕ, suc, List, length, take, get_or, Some, None, Result, Ok, Err, sym, ap, subst, ◌∙◌, arith}
+use Rattle.std.proofs.Common.{◌≡◌, ◌<◌, ◌≤◌, ◌+◌, ℕ, suc, List, [], ◌∷◌, length, take, get_or, Some, None, Result, Ok, Err, refl, sym, ap, subst, arith}
 use Rattle.std.proofs.lemmas.List.{take_all}
-use Rattle.cc_syntax.specs.declared.ast.Function.{Function}
 use Rattle.cc_syntax.specs.declared.token.Token.{Token}
 use Rattle.cc_syntax.specs.declared.parser.state.State as state
 use Rattle.cc_syntax.specs.declared.parser.stop.Stop as stop
 use Rattle.cc_syntax.specs.declared.parser.stop.Stop.TheVariants as stops
 use Rattle.cc_syntax.specs.declared.parser.stop.Refusal.TheVariants as refusals
 use Rattle.cc_syntax.specs.Token.{Lexeme, lexeme, lexemes}
-use Rattle.cc_syntax.specs.Tree.{Definition}
-use Rattle.cc_syntax.specs.Erase.{function_tree}
-use Rattle.cc_syntax.specs.Machine.{State, AtHead, InBody, Done, count_of, tree_of}
-use Rattle.cc_syntax.specs.MachineView.{state_view, Advances, Answers}
+use Rattle.cc_syntax.specs.Tree.{External}
+use Rattle.cc_syntax.specs.Limits.{SpellsWithin}
+use Rattle.cc_syntax.specs.Machine.{State, AtFile, Between, count_of, tree_of}
+use Rattle.cc_syntax.specs.MachineView.{state_view, Advances, Refuses}
+use Rattle.cc_syntax.proofs.Settles.{none-some}
+use Rattle.cc_syntax.proofs.Finishes.{IsUnit}
 use Rattle.cc_syntax.proofs.Verdict.{Reached, fine_before, unexpected, unexpected_end, too_deep, reach, spelled_within}
 use Rattle.cc_syntax.proofs.TokenOrder.{cut_at, length-lexemes}
 
-pub stopped : (s : State) (text : List ℕ) (ts : List Token) (k : ℕ) (d : Token) (r : Result state.State stop.Stop) → k < length ts → Reached s (take k (lexemes text ts)) → Advances s (lexeme text (get_or ts k d)) r → r ≡ Err stops.Unexpected → Answers (lexemes text ts) (Err (refusals.Unexpected k))
+pub stopped : (s : State) (text : List ℕ) (ts : List Token) (k : ℕ) (d : Token) (r : Result state.State stop.Stop) → k < length ts → Reached s (take k (lexemes text ts)) → Advances s (lexeme text (get_or ts k d)) r → r ≡ Err stops.Unexpected → Refuses (lexemes text ts) (refusals.Unexpected k)
 stopped s text ts k d r i h a e =
     (fine_before s (lexemes text ts) k h, unexpected s (lexemes text ts) k (lexeme text (get_or ts k d)) h (cut_at text ts k d i) (subst (λ (z : Result state.State stop.Stop). Advances s (lexeme text (get_or ts k d)) z) e a))
 
-pub past_limit : (s : State) (text : List ℕ) (ts : List Token) (k : ℕ) (d : Token) (r : Result state.State stop.Stop) → k < length ts → Reached s (take k (lexemes text ts)) → Advances s (lexeme text (get_or ts k d)) r → r ≡ Err stops.TooDeep → Answers (lexemes text ts) (Err (refusals.TooDeep k))
+pub past_limit : (s : State) (text : List ℕ) (ts : List Token) (k : ℕ) (d : Token) (r : Result state.State stop.Stop) → k < length ts → Reached s (take k (lexemes text ts)) → Advances s (lexeme text (get_or ts k d)) r → r ≡ Err stops.TooDeep → Refuses (lexemes text ts) (refusals.TooDeep k)
 past_limit s text ts k d r i h a e =
     let b = subst (λ (z : Result state.State stop.Stop). Advances s (lexeme text (get_or ts k d)) z) e a in
     (fine_before s (lexemes text ts) k h, too_deep s b.0 (lexemes text ts) k (lexeme text (get_or ts k d)) h (cut_at text ts k d i) b.1 b.2)
@@ -33,24 +34,22 @@ goes_on s text ts k d r next i h a e =
 all_of : (s : State) (text : List ℕ) (ts : List Token) (k : ℕ) → length ts ≤ k → Reached s (take k (lexemes text ts)) → Reached s (lexemes text ts)
 all_of s text ts k i h = subst (λ (z : List Lexeme). Reached s z) (take_all k (lexemes text ts) (omega (arith, length-lexemes text ts, i))) h
 
-done_of : (s : State) (f : Definition) → tree_of s ≡ Some f → s ≡ Done f
-done_of (AtHead h) f e = cc
-done_of (InBody b) f e = cc
-done_of (Done g) f e = let same : g ≡ f = cc in ap (λ (z : Definition). Done z) same
+-- the state behind a whole unit
+unit_state : (s : State) (tree : List External) → tree_of s ≡ Some tree → (s ≡ AtFile tree Between) × IsUnit tree
+unit_state (AtFile [] o) tree e = absurd (none-some None tree refl e)
+unit_state (AtFile (d ∷ ds) Between) tree e =
+    let same : d ∷ ds ≡ tree = cc in
+    (ap (λ (z : List External). AtFile z Between) same, subst (λ (z : List External). IsUnit z) same tt)
+unit_state _ tree e = absurd (none-some None tree refl e)
 
-not_done : (s : State) → tree_of s ≡ None → (f : Definition) → s ≡ Done f → ⊥
-not_done s e f h = absurd_some f (sym (ap (λ (z : State). tree_of z) h) ∙ e)
-  where
-    absurd_some : (f : Definition) → Some f ≡ None → ⊥
-    absurd_some f k = cc
+pub finished : (s : State) (text : List ℕ) (ts : List Token) (k : ℕ) (tree : List External) → length ts ≤ k → Reached s (take k (lexemes text ts)) → tree_of s ≡ Some tree → SpellsWithin (lexemes text ts) tree
+finished s text ts k tree i h e =
+    let unit = unit_state s tree e in
+    spelled_within tree (lexemes text ts) unit.1 (subst (λ (z : State). Reached z (lexemes text ts)) unit.0 (all_of s text ts k i h))
 
-pub finished : (s : State) (text : List ℕ) (ts : List Token) (k : ℕ) (f : Function) → length ts ≤ k → Reached s (take k (lexemes text ts)) → tree_of s ≡ Some (function_tree f) → Answers (lexemes text ts) (Ok f)
-finished s text ts k f i h e =
-    spelled_within (function_tree f) (lexemes text ts) (subst (λ (z : State). Reached z (lexemes text ts)) (done_of s (function_tree f) e) (all_of s text ts k i h))
-
-pub unfinished : (s : State) (text : List ℕ) (ts : List Token) (k : ℕ) → length ts ≤ k → k ≤ length ts → Reached s (take k (lexemes text ts)) → tree_of s ≡ None → Answers (lexemes text ts) (Err (refusals.Unexpected (length ts)))
+pub unfinished : (s : State) (text : List ℕ) (ts : List Token) (k : ℕ) → length ts ≤ k → k ≤ length ts → Reached s (take k (lexemes text ts)) → tree_of s ≡ None → Refuses (lexemes text ts) (refusals.Unexpected (length ts))
 unfinished s text ts k i j h e =
     let same : k ≡ length ts = omega arith in (
       fine_before s (lexemes text ts) (length ts) (subst (λ (z : ℕ). Reached s (take z (lexemes text ts))) same h),
-      unexpected_end s (lexemes text ts) (length ts) (all_of s text ts k i h) (sym (length-lexemes text ts)) (not_done s e),
+      unexpected_end s (lexemes text ts) (length ts) (all_of s text ts k i h) (sym (length-lexemes text ts)) e,
     )

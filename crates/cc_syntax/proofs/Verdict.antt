@@ -1,18 +1,17 @@
 -- The first token that breaks the grammar or a limit is the one at which the machine stops: from what it has read some
--- unit goes on (Finishes, KeepsBody), and every unit that begins so is read through the same states (ReadsStatement).
+-- unit goes on (Finishes, Keeps), and every unit that begins so is read through the same states (ReadsExternal).
 use Rattle.std.proofs.Common.{◌≡◌, ◌<◌, ◌≤◌, ℕ, zero, suc, List, [], ◌∷◌, ◌++◌, length, take, drop, Option, Some, None, refl, sym, ap, subst, ◌∙◌, arith, append_assoc, inl, inr}
 use Rattle.std.specs.List.{AllByRecursion}
 use Rattle.std.proofs.lemmas.List.{map-append, take-append-drop}
 use Rattle.cc_syntax.specs.Token.{Lexeme}
-use Rattle.cc_syntax.specs.Tree.{Definition}
+use Rattle.cc_syntax.specs.Tree.{External}
 use Rattle.cc_syntax.specs.Grammar.{Placed, SpellsUnit, tokens_of, Begins}
 use Rattle.cc_syntax.specs.Limits.{IsWithin, PassesLimit, SpellsWithin, UnexpectedAt, TooDeepAt, IsFineBefore, TreesAreOne, SpelledHaveNoFault}
-use Rattle.cc_syntax.specs.Machine.{State, Done, step, start}
-use Rattle.cc_syntax.specs.MachineView.{standing}
+use Rattle.cc_syntax.specs.Machine.{State, AtFile, Between, step, standing, start, tree_of}
 use Rattle.cc_syntax.proofs.MachineRuns.{Runs, runs-append, runs-split, runs-one}
-use Rattle.cc_syntax.proofs.ReadsStatement.{read_unit}
-use Rattle.cc_syntax.proofs.Finishes.{finishes}
-use Rattle.cc_syntax.proofs.KeepsBody.{so_far}
+use Rattle.cc_syntax.proofs.ReadsExternal.{read_unit}
+use Rattle.cc_syntax.proofs.Finishes.{IsUnit, finishes}
+use Rattle.cc_syntax.proofs.Keeps.{unit_spelled}
 
 -- the machine has come to the state over these tokens, and none of them passes a limit
 pub record Reached (s : State) (xs : List Lexeme) : Type 0 where
@@ -68,7 +67,7 @@ begins_from s xs r =
       f.tree,
       (
         all,
-        so_far all start (Done f.tree) [] refl (runs-append start s (Done f.tree) r.placed f.rest r.runs f.runs),
+        unit_spelled f.tree all f.unit (runs-append start s (AtFile f.tree Between) r.placed f.rest r.runs f.runs),
         tokens_of-append r.placed f.rest ∙ ap (λ (z : List Lexeme). z ++ tokens_of f.rest) r.same,
       ),
     )
@@ -93,18 +92,22 @@ unexpected s tokens k x r c h = inl (c.inside, no_unit)
         let same : tokens_of b.2.0 ≡ tokens_of r.placed ++ (x ∷ b.0) =
         b.2.2 ∙ ap (λ (z : List Lexeme). z ++ b.0) c.next ∙ append_assoc (take k tokens) (x ∷ []) b.0
         ∙ ap (λ (z : List Lexeme). z ++ (x ∷ b.0)) (sym r.same) in
-        let rest = follow r.placed b.2.0 start s (Done b.1) (x ∷ b.0) r.runs (read_unit b.1 b.2.0 b.2.1) same in
-        stuck (Done b.1) rest.0 b.0 rest.2 rest.3
+        let rest = follow r.placed b.2.0 start s (AtFile b.1 Between) (x ∷ b.0) r.runs (read_unit b.1 b.2.0 b.2.1) same in
+        stuck (AtFile b.1 Between) rest.0 b.0 rest.2 rest.3
 
 -- where the text ends before a unit does, no tree is spelled
-pub unexpected_end : (s : State) (tokens : List Lexeme) (k : ℕ) → Reached s tokens → k ≡ length tokens → ((d : Definition) → s ≡ Done d → ⊥) → UnexpectedAt tokens k
-unexpected_end s tokens k r e h = inr (e, λ tree spelled. h tree (runs-one start s (Done tree) r.placed spelled.0 r.runs (read_unit tree spelled.0 spelled.1) (r.same ∙ sym spelled.2)).1)
+pub unexpected_end : (s : State) (tokens : List Lexeme) (k : ℕ) → Reached s tokens → k ≡ length tokens → tree_of s ≡ None → UnexpectedAt tokens k
+unexpected_end s tokens k r e h = inr (e, λ tree spelled. none tree spelled.0 spelled.1 (runs-one start s (AtFile tree Between) r.placed spelled.0 r.runs (read_unit tree spelled.0 spelled.1) (r.same ∙ sym spelled.2)).1)
+  where
+    none : (tree : List External) (ts : List Placed) → SpellsUnit ts tree → s ≡ AtFile tree Between → ⊥
+    none [] ts u t = absurd u
+    none (d ∷ ds) ts u t = let e : None ≡ Some (d ∷ ds) = sym h ∙ ap (λ (z : State). tree_of z) t in cc
 
 -- no token that was read within the limits is too deep in any unit
-in_run : (placed front rest : List Placed) (p : Placed) (s : State) (tree : Definition) (zs : List Lexeme) → Runs start placed s → AllByRecursion IsWithin placed → SpellsUnit (front ++ p ∷ rest) tree → tokens_of placed ≡ tokens_of (front ++ p ∷ []) ++ zs → PassesLimit p → ⊥
+in_run : (placed front rest : List Placed) (p : Placed) (s : State) (tree : List External) (zs : List Lexeme) → Runs start placed s → AllByRecursion IsWithin placed → SpellsUnit (front ++ p ∷ rest) tree → tokens_of placed ≡ tokens_of (front ++ p ∷ []) ++ zs → PassesLimit p → ⊥
 in_run placed front rest p s tree zs runs fine unit same past =
-    let whole = subst (λ (z : List Placed). Runs start z (Done tree)) (sym (append_assoc front (p ∷ []) rest)) (read_unit tree (front ++ p ∷ rest) unit) in
-    let cut = runs-split start (Done tree) (front ++ p ∷ []) rest whole in
+    let whole = subst (λ (z : List Placed). Runs start z (AtFile tree Between)) (sym (append_assoc front (p ∷ []) rest)) (read_unit tree (front ++ p ∷ rest) unit) in
+    let cut = runs-split start (AtFile tree Between) (front ++ p ∷ []) rest whole in
     let goes = follow (front ++ p ∷ []) placed start cut.0 s zs cut.1 runs same in
     let shown : AllByRecursion IsWithin (front ++ p ∷ goes.0) = subst (λ (z : List Placed). AllByRecursion IsWithin z) (goes.1 ∙ append_assoc front (p ∷ []) goes.0) fine in
     within-or-past p (all-middle front p goes.0 shown) past
@@ -130,7 +133,7 @@ pub too_deep : (s m : State) (tokens : List Lexeme) (k : ℕ) (x : Lexeme) → R
 too_deep s m tokens k x r c h past =
     let f = finishes m in
     let p = standing s x m in
-    let runs : Runs s (p ∷ f.rest) (Done f.tree) = (m, h, refl, refl, f.runs) in
+    let runs : Runs s (p ∷ f.rest) (AtFile f.tree Between) = (m, h, refl, refl, f.runs) in
     let all = r.placed ++ p ∷ f.rest in (
       r.placed,
       f.rest,
@@ -138,7 +141,7 @@ too_deep s m tokens k x r c h past =
       f.tree,
       c.inside,
       past,
-      so_far all start (Done f.tree) [] refl (runs-append start s (Done f.tree) r.placed (p ∷ f.rest) r.runs runs),
+      unit_spelled f.tree all f.unit (runs-append start s (AtFile f.tree Between) r.placed (p ∷ f.rest) r.runs runs),
       tokens_of-append r.placed (p ∷ []) ∙ ap (λ (z : List Lexeme). z ++ x ∷ []) r.same ∙ sym c.next,
     )
 
@@ -157,16 +160,16 @@ pub at_start : Reached start []
 at_start = record { placed = []; runs = refl; fine = tt; same = refl }
 
 -- at the end of a unit its tree is spelled
-pub spelled_within : (f : Definition) (tokens : List Lexeme) → Reached (Done f) tokens → SpellsWithin tokens f
-spelled_within f tokens r = (r.placed, so_far r.placed start (Done f) [] refl r.runs, r.fine, r.same)
+pub spelled_within : (tree : List External) (tokens : List Lexeme) → IsUnit tree → Reached (AtFile tree Between) tokens → SpellsWithin tokens tree
+spelled_within tree tokens u r = (r.placed, unit_spelled tree r.placed u r.runs, r.fine, r.same)
 
 -- tokens spell one tree at most
 pub trees_are_one : TreesAreOne
 trees_are_one tokens a b h k =
-    done-same a b (runs-one start (Done a) (Done b) h.0 k.0 (read_unit a h.0 h.1) (read_unit b k.0 k.1) (h.2 ∙ sym k.2)).1
+    same a b (runs-one start (AtFile a Between) (AtFile b Between) h.0 k.0 (read_unit a h.0 h.1) (read_unit b k.0 k.1) (h.2 ∙ sym k.2)).1
   where
-    done-same : (a b : Definition) → Done a ≡ Done b → a ≡ b
-    done-same a b e = cc
+    same : (a b : List External) → AtFile a Between ≡ AtFile b Between → a ≡ b
+    same a b e = cc
 
 -- what is spelled within the limits has no fault
 pub spelled_have_no_fault : SpelledHaveNoFault
@@ -178,5 +181,5 @@ spelled_have_no_fault tokens tree k h = (no_unexpected, no_too_deep)
 
     no_too_deep : TooDeepAt tokens k → ⊥
     no_too_deep d =
-        in_run h.0 d.0 d.1 d.2 (Done tree) d.3 (drop (suc k) tokens) (read_unit tree h.0 h.1) h.2 d.6
+        in_run h.0 d.0 d.1 d.2 (AtFile tree Between) d.3 (drop (suc k) tokens) (read_unit tree h.0 h.1) h.2 d.6
         (h.3 ∙ sym (take-append-drop (suc k) tokens) ∙ ap (λ (z : List Lexeme). z ++ drop (suc k) tokens) (sym d.7)) d.5

@@ -1,73 +1,170 @@
 -- The grammar: which tokens spell which tree (C99 6.5 to 6.9), and how each token stands to the limits.
 use Rattle.std.specs.Prelude.{◌≡◌, ℕ, suc, ◌≤◌, List, [], ◌∷◌, ◌++◌, map, Option, Some, None, ◌⊎◌}
-use Rattle.cc_syntax.specs.declared.ast.Scalar.TheVariants.{Int}
+use Rattle.cc_syntax.specs.declared.ast.Scalar.{Scalar}
+use Rattle.cc_syntax.specs.declared.ast.Scalar.TheVariants as scalar
 use Rattle.cc_syntax.specs.declared.ast.UnaryOperator.{UnaryOperator}
 use Rattle.cc_syntax.specs.declared.ast.UnaryOperator.TheVariants as unary
 use Rattle.cc_syntax.specs.declared.ast.BinaryOperator.{BinaryOperator}
 use Rattle.cc_syntax.specs.declared.ast.BinaryOperator.TheVariants as binary
+use Rattle.cc_syntax.specs.declared.ast.AssignmentOperator.{AssignmentOperator}
+use Rattle.cc_syntax.specs.declared.ast.AssignmentOperator.TheVariants as assignment
+use Rattle.cc_syntax.specs.declared.ast.StepOperator.{StepOperator}
+use Rattle.cc_syntax.specs.declared.ast.StepOperator.TheVariants as stepping
+use Rattle.cc_syntax.specs.declared.token.Keyword.{Keyword}
 use Rattle.cc_syntax.specs.declared.token.Keyword.TheVariants as keyword
 use Rattle.cc_syntax.specs.declared.token.Punctuator.{Punctuator}
 use Rattle.cc_syntax.specs.declared.token.Punctuator.TheVariants as punctuator
 use Rattle.cc_syntax.specs.declared.token.TokenKind.TheVariants as kind
 use Rattle.cc_syntax.specs.Token.{Lexeme}
-use Rattle.cc_syntax.specs.Tree.{Name, Expr, Number, Variable, Parenthesised, Unary, Binary, Declared, Stmt, Block, Local, Assign, Call, Return, While, Stmts, end, next, Definition}
+use Rattle.cc_syntax.specs.Tree.{Name, Expr, Number, Variable, Element, Call, Parenthesised, Unary, Cast, Binary, Conditional, Exprs, none, more, Target, AtVariable, AtElement, Action, Assign, Step, Evaluate, Declared, Start, Declares, Performs, Stmt, Block, Local, Perform, Return, Break, Continue, If, IfElse, While, DoWhile, For, Stmts, end, next, ConstantExpr, Parameter, Signature, Object, Single, Array, External, Declaration, Definition, Objects}
 
 -- the punctuator of a unary operator (C99 6.5.3)
 abbrev pub unary_punctuator : UnaryOperator → Punctuator
 unary_punctuator unary.Plus = punctuator.Plus
 unary_punctuator unary.Minus = punctuator.Minus
+unary_punctuator unary.Complement = punctuator.Tilde
+unary_punctuator unary.Not = punctuator.Exclamation
 
--- the punctuator of a binary operator (C99 6.5.5 to 6.5.9)
+-- the punctuator of a binary operator (C99 6.5.5 to 6.5.14)
 abbrev pub binary_punctuator : BinaryOperator → Punctuator
 binary_punctuator binary.Multiply = punctuator.Star
 binary_punctuator binary.Divide = punctuator.Slash
 binary_punctuator binary.Remainder = punctuator.Percent
 binary_punctuator binary.Add = punctuator.Plus
 binary_punctuator binary.Subtract = punctuator.Minus
+binary_punctuator binary.ShiftLeft = punctuator.ShiftLeft
+binary_punctuator binary.ShiftRight = punctuator.ShiftRight
 binary_punctuator binary.Less = punctuator.Less
 binary_punctuator binary.Greater = punctuator.Greater
 binary_punctuator binary.LessOrEqual = punctuator.LessOrEqual
 binary_punctuator binary.GreaterOrEqual = punctuator.GreaterOrEqual
 binary_punctuator binary.Equal = punctuator.Equal
 binary_punctuator binary.NotEqual = punctuator.NotEqual
+binary_punctuator binary.And = punctuator.Ampersand
+binary_punctuator binary.Xor = punctuator.Caret
+binary_punctuator binary.Or = punctuator.Bar
+binary_punctuator binary.LogicalAnd = punctuator.AndAnd
+binary_punctuator binary.LogicalOr = punctuator.OrOr
 
--- how tightly a binary operator binds: equality (6.5.9), relation (6.5.8), sum (6.5.6), product (6.5.5)
+-- the punctuator of an assignment operator (C99 6.5.16)
+abbrev pub assignment_punctuator : AssignmentOperator → Punctuator
+assignment_punctuator assignment.Plain = punctuator.Assign
+assignment_punctuator assignment.Multiply = punctuator.StarAssign
+assignment_punctuator assignment.Divide = punctuator.SlashAssign
+assignment_punctuator assignment.Remainder = punctuator.PercentAssign
+assignment_punctuator assignment.Add = punctuator.PlusAssign
+assignment_punctuator assignment.Subtract = punctuator.MinusAssign
+assignment_punctuator assignment.ShiftLeft = punctuator.ShiftLeftAssign
+assignment_punctuator assignment.ShiftRight = punctuator.ShiftRightAssign
+assignment_punctuator assignment.And = punctuator.AmpersandAssign
+assignment_punctuator assignment.Xor = punctuator.CaretAssign
+assignment_punctuator assignment.Or = punctuator.BarAssign
+
+-- the punctuator of an increment or decrement (C99 6.5.2.4, 6.5.3.1)
+abbrev pub step_punctuator : StepOperator → Punctuator
+step_punctuator stepping.Increment = punctuator.PlusPlus
+step_punctuator stepping.Decrement = punctuator.MinusMinus
+
+-- how tightly a binary operator binds: `||` (6.5.14), `&&` (6.5.13), `|` (6.5.12), `^` (6.5.11), `&` (6.5.10), equality
+-- (6.5.9), relation (6.5.8), shift (6.5.7), sum (6.5.6), product (6.5.5). A conditional expression has level 1 (6.5.15),
+-- the operand of a unary operator or a cast level 12 (6.5.3, 6.5.4)
 abbrev pub precedence : BinaryOperator → ℕ
-precedence binary.Multiply = 4
-precedence binary.Divide = 4
-precedence binary.Remainder = 4
-precedence binary.Add = 3
-precedence binary.Subtract = 3
-precedence binary.Less = 2
-precedence binary.Greater = 2
-precedence binary.LessOrEqual = 2
-precedence binary.GreaterOrEqual = 2
-precedence binary.Equal = 1
-precedence binary.NotEqual = 1
+precedence binary.Multiply = 11
+precedence binary.Divide = 11
+precedence binary.Remainder = 11
+precedence binary.Add = 10
+precedence binary.Subtract = 10
+precedence binary.ShiftLeft = 9
+precedence binary.ShiftRight = 9
+precedence binary.Less = 8
+precedence binary.Greater = 8
+precedence binary.LessOrEqual = 8
+precedence binary.GreaterOrEqual = 8
+precedence binary.Equal = 7
+precedence binary.NotEqual = 7
+precedence binary.And = 6
+precedence binary.Xor = 5
+precedence binary.Or = 4
+precedence binary.LogicalAnd = 3
+precedence binary.LogicalOr = 2
 
 -- a token is a given punctuator
 abbrev pub Marks : Punctuator → Lexeme → Type 0
 Marks p x = x.kind ≡ kind.Punctuator p
 
+-- a token is a given keyword
+abbrev pub IsKeyword : Keyword → Lexeme → Type 0
+IsKeyword k x = x.kind ≡ kind.Keyword k
+
 -- the token of an identifier
 abbrev pub identifier : Name → Lexeme
 identifier n = record { kind = kind.Identifier; text = n.text; at = n.at }
 
--- The tokens of an expression in which each binary operator that no parentheses enclose binds at least as tightly as the
--- level. The operands of a binary operator have its own level on the left and the next one on the right, so each groups
--- to the left; that of a unary operator has level 5, and so no bare binary operator. Every number has type `int` so far.
-abbrev pub SpellsExpression : ℕ → List Lexeme → Expr → Type 0
-SpellsExpression level ts (Number t n) = (x : Lexeme) × (t ≡ Int) × (x.kind ≡ kind.Number t n) × (ts ≡ x ∷ [])
-SpellsExpression level ts (Variable n) = ts ≡ identifier n ∷ []
-SpellsExpression level ts (Parenthesised e) =
-    (opening closing : Lexeme) × (inner : List Lexeme) × Marks punctuator.OpenParenthesis opening × Marks punctuator.CloseParenthesis closing
-    × SpellsExpression 1 inner e × (ts ≡ opening ∷ inner ++ closing ∷ [])
-SpellsExpression level ts (Unary op e) =
-    (sign : Lexeme) × (operand : List Lexeme) × Marks (unary_punctuator op) sign × SpellsExpression 5 operand e
-    × (ts ≡ sign ∷ operand)
-SpellsExpression level ts (Binary op a b) =
-    (sign : Lexeme) × (left right : List Lexeme) × (level ≤ precedence op) × Marks (binary_punctuator op) sign
-    × SpellsExpression (precedence op) left a × SpellsExpression (suc (precedence op)) right b × (ts ≡ left ++ sign ∷ right)
+-- the word that says whether a type has a sign
+abbrev pub sign_word : Scalar → Keyword
+sign_word scalar.Int = keyword.Signed
+sign_word scalar.Unsigned = keyword.Unsigned
+
+-- a type: `int` alone, or `signed` or `unsigned` with `int` behind it or not (C99 6.7.2)
+abbrev pub SpellsType : List Lexeme → Scalar → Type 0
+SpellsType ts t =
+    ((word : Lexeme) × (t ≡ scalar.Int) × IsKeyword keyword.Int word × (ts ≡ word ∷ []))
+    ⊎ (((word : Lexeme) × IsKeyword (sign_word t) word × (ts ≡ word ∷ []))
+    ⊎ ((word int : Lexeme) × IsKeyword (sign_word t) word × IsKeyword keyword.Int int × (ts ≡ word ∷ int ∷ [])))
+
+-- The tokens of an expression in which each operator that no parentheses enclose binds at least as tightly as the level.
+-- The operands of a binary operator have its own level on the left and the next one on the right, so each groups to the
+-- left; a conditional expression groups to the right; the operand of a unary operator or a cast has level 12, and so no
+-- bare operator behind it.
+abbrev mutual
+  pub SpellsExpression : ℕ → List Lexeme → Expr → Type 0
+  SpellsExpression level ts (Number t n) = (x : Lexeme) × (x.kind ≡ kind.Number t n) × (ts ≡ x ∷ [])
+  SpellsExpression level ts (Variable n) = ts ≡ identifier n ∷ []
+  SpellsExpression level ts (Element n e) =
+      (opening closing : Lexeme) × (inner : List Lexeme) × Marks punctuator.OpenBracket opening × Marks punctuator.CloseBracket closing
+      × SpellsExpression 1 inner e × (ts ≡ identifier n ∷ opening ∷ inner ++ closing ∷ [])
+  SpellsExpression level ts (Call n es) =
+      (opening closing : Lexeme) × (inner : List Lexeme) × Marks punctuator.OpenParenthesis opening × Marks punctuator.CloseParenthesis closing
+      × SpellsArguments inner es × (ts ≡ identifier n ∷ opening ∷ inner ++ closing ∷ [])
+  SpellsExpression level ts (Parenthesised e) =
+      (opening closing : Lexeme) × (inner : List Lexeme) × Marks punctuator.OpenParenthesis opening × Marks punctuator.CloseParenthesis closing
+      × SpellsExpression 1 inner e × (ts ≡ opening ∷ inner ++ closing ∷ [])
+  SpellsExpression level ts (Unary op e) =
+      (sign : Lexeme) × (operand : List Lexeme) × Marks (unary_punctuator op) sign × SpellsExpression 12 operand e
+      × (ts ≡ sign ∷ operand)
+  SpellsExpression level ts (Cast t e) =
+      (opening closing : Lexeme) × (type operand : List Lexeme) × Marks punctuator.OpenParenthesis opening × SpellsType type t
+      × Marks punctuator.CloseParenthesis closing × SpellsExpression 12 operand e × (ts ≡ opening ∷ type ++ closing ∷ operand)
+  SpellsExpression level ts (Binary op a b) =
+      (sign : Lexeme) × (left right : List Lexeme) × (level ≤ precedence op) × Marks (binary_punctuator op) sign
+      × SpellsExpression (precedence op) left a × SpellsExpression (suc (precedence op)) right b × (ts ≡ left ++ sign ∷ right)
+  SpellsExpression level ts (Conditional c a b) =
+      (question colon : Lexeme) × (test left right : List Lexeme) × (level ≤ 1) × Marks punctuator.Question question
+      × Marks punctuator.Colon colon × SpellsExpression 2 test c × SpellsExpression 1 left a × SpellsExpression 1 right b
+      × (ts ≡ test ++ (question ∷ left ++ colon ∷ right))
+
+  -- no argument, or one or more, separated by commas
+  pub SpellsArguments : List Lexeme → Exprs → Type 0
+  SpellsArguments ts none = ts ≡ []
+  SpellsArguments ts (more e none) = SpellsExpression 1 ts e
+  SpellsArguments ts (more e (more f es)) =
+      (comma : Lexeme) × (first others : List Lexeme) × Marks punctuator.Comma comma × SpellsExpression 1 first e
+      × SpellsArguments others (more f es) × (ts ≡ first ++ comma ∷ others)
+
+-- what an assignment writes: a name, or a name and an index, in no parentheses (C99 6.5.16)
+abbrev pub SpellsTarget : List Lexeme → Target → Type 0
+SpellsTarget ts (AtVariable n) = SpellsExpression 1 ts (Variable n)
+SpellsTarget ts (AtElement n e) = SpellsExpression 1 ts (Element n e)
+
+-- an assignment, an increment or decrement, before its target or behind it, or an expression (C99 6.8.3)
+abbrev pub SpellsAction : List Lexeme → Action → Type 0
+SpellsAction ts (Assign op t e) =
+    (sign : Lexeme) × (left right : List Lexeme) × SpellsTarget left t × Marks (assignment_punctuator op) sign
+    × SpellsExpression 1 right e × (ts ≡ left ++ sign ∷ right)
+SpellsAction ts (Step op t) =
+    (sign : Lexeme) × (target : List Lexeme) × Marks (step_punctuator op) sign × SpellsTarget target t
+    × ((ts ≡ sign ∷ target) ⊎ (ts ≡ target ++ sign ∷ []))
+SpellsAction ts (Evaluate e) = SpellsExpression 1 ts e
 
 -- a token of a unit, and how it stands to the limits: it is the how-manieth token of a full expression (0: of none), and
 -- the first of a statement or declaration at a level (0: of none)
@@ -94,86 +191,212 @@ abbrev pub begins : ℕ → List Placed → List Placed
 begins level [] = []
 begins level (p ∷ ps) = record { token = p.token; count = p.count; level = level } ∷ ps
 
--- one name of a declaration, and the initialiser where there is one (C99 6.7)
-abbrev pub SpellsDeclared : List Placed → Name → Option Expr → Type 0
-SpellsDeclared ts n None = ts ≡ outside (identifier n) ∷ []
-SpellsDeclared ts n (Some e) =
-    (sign : Lexeme) × (right : List Lexeme) × Marks punctuator.Assign sign × SpellsExpression 1 right e
-    × (ts ≡ outside (identifier n) ∷ outside sign ∷ full right)
+-- one or more parts, separated by commas
+abbrev pub SpellsRow : {A : Type 0} → (List Placed → A → Type 0) → List Placed → List A → Type 0
+SpellsRow Spells ts [] = ⊥
+SpellsRow Spells ts (a ∷ []) = Spells ts a
+SpellsRow Spells ts (a ∷ b ∷ rest) =
+    (comma : Lexeme) × (first others : List Placed) × Marks punctuator.Comma comma × Spells first a
+    × SpellsRow Spells others (b ∷ rest) × (ts ≡ first ++ outside comma ∷ others)
 
--- one or more names, separated by commas
-abbrev pub SpellsDeclaration : List Placed → List Declared → Type 0
-SpellsDeclaration ts [] = ⊥
-SpellsDeclaration ts (d ∷ []) = SpellsDeclared ts d.name d.initial
-SpellsDeclaration ts (d ∷ e ∷ ds) =
-    (comma : Lexeme) × (first others : List Placed) × Marks punctuator.Comma comma × SpellsDeclared first d.name d.initial
-    × SpellsDeclaration others (e ∷ ds) × (ts ≡ first ++ outside comma ∷ others)
+-- one name of a declaration of locals, and the initialiser where there is one (C99 6.7)
+abbrev pub SpellsInitial : List Placed → Option Expr → Type 0
+SpellsInitial ts None = ts ≡ []
+SpellsInitial ts (Some e) =
+    (sign : Lexeme) × (right : List Lexeme) × Marks punctuator.Assign sign × SpellsExpression 1 right e × (ts ≡ outside sign ∷ full right)
 
--- what stands between `return` and its semicolon
-abbrev pub SpellsOperand : List Placed → Option Expr → Type 0
-SpellsOperand ts None = ts ≡ []
-SpellsOperand ts (Some e) = (inner : List Lexeme) × SpellsExpression 1 inner e × (ts ≡ full inner)
+abbrev pub SpellsDeclared : List Placed → Declared → Type 0
+SpellsDeclared ts d = (initial : List Placed) × SpellsInitial initial d.initial × (ts ≡ outside (identifier d.name) ∷ initial)
+
+-- a declaration of locals: a type, one or more names, and a semicolon (C99 6.7)
+abbrev pub SpellsLocal : List Placed → Scalar → List Declared → Type 0
+SpellsLocal ts t ds =
+    (type : List Lexeme) × (names : List Placed) × (semicolon : Lexeme) × SpellsType type t × SpellsRow SpellsDeclared names ds
+    × Marks punctuator.Semicolon semicolon × (ts ≡ map outside type ++ (names ++ outside semicolon ∷ []))
+
+-- a full expression, or nothing
+abbrev pub SpellsOptional : List Placed → Option Expr → Type 0
+SpellsOptional ts None = ts ≡ []
+SpellsOptional ts (Some e) = (inner : List Lexeme) × SpellsExpression 1 inner e × (ts ≡ full inner)
+
+-- an action, which is one full expression, or nothing
+abbrev pub SpellsOptionalAction : List Placed → Option Action → Type 0
+SpellsOptionalAction ts None = ts ≡ []
+SpellsOptionalAction ts (Some a) = (inner : List Lexeme) × SpellsAction inner a × (ts ≡ full inner)
+
+-- the first part of a `for` header, with its semicolon; a declaration there stands at the level (C99 6.8.5.3)
+abbrev pub SpellsStart : ℕ → List Placed → Start → Type 0
+SpellsStart level ts (Declares t ds) = (inner : List Placed) × SpellsLocal inner t ds × (ts ≡ begins level inner)
+SpellsStart level ts (Performs a) =
+    (inner : List Placed) × (semicolon : Lexeme) × SpellsOptionalAction inner a × Marks punctuator.Semicolon semicolon
+    × (ts ≡ inner ++ outside semicolon ∷ [])
 
 -- not a declaration (C99 6.8)
 abbrev pub IsStatement : Stmt → Type 0
 IsStatement (Local t ds) = ⊥
 IsStatement s = Unit {0}
 
--- A statement, or a declaration of locals, at a level (C99 6.8, 6.7): what stands directly in a block or is the body of a
--- loop is one level deeper. Full expressions (6.8): an assignment or a call as a whole, a condition, the operand of a
--- return, an initialiser.
+-- no `if` at the end of the statement could take an `else` that stands behind it (C99 6.8.4.1, paragraph 3)
+abbrev pub IsClosed : Stmt → Type 0
+IsClosed (If e s) = ⊥
+IsClosed (IfElse e s t) = IsClosed t
+IsClosed (While e s) = IsClosed s
+IsClosed (For a e b s) = IsClosed s
+IsClosed s = Unit {0}
+
+-- A statement, or a declaration of locals, at a level (C99 6.8, 6.7): what stands directly in a block or is a part of an
+-- `if` or a loop is one level deeper. Full expressions (6.8): an action, a condition, the operand of a return, an
+-- initialiser. What stands between an `if` and its `else` is closed, so an `else` belongs to the nearest `if`.
 abbrev mutual
   pub SpellsStatement : ℕ → List Placed → Stmt → Type 0
   SpellsStatement level ts (Block ss) =
       (opening closing : Lexeme) × (inner : List Placed) × Marks punctuator.OpenBrace opening × Marks punctuator.CloseBrace closing
       × SpellsStatements (suc level) inner ss × (ts ≡ begins level (outside opening ∷ inner ++ outside closing ∷ []))
-  SpellsStatement level ts (Local t ds) =
-      (word semicolon : Lexeme) × (names : List Placed) × (t ≡ Int) × (word.kind ≡ kind.Keyword keyword.Int)
-      × Marks punctuator.Semicolon semicolon × SpellsDeclaration names ds
-      × (ts ≡ begins level (outside word ∷ names ++ outside semicolon ∷ []))
-  SpellsStatement level ts (Assign n e) =
-      (sign semicolon : Lexeme) × (right : List Lexeme) × Marks punctuator.Assign sign × Marks punctuator.Semicolon semicolon
-      × SpellsExpression 1 right e × (ts ≡ begins level (full (identifier n ∷ sign ∷ right) ++ outside semicolon ∷ []))
-  SpellsStatement level ts (Call n e) =
-      (opening closing semicolon : Lexeme) × (inner : List Lexeme) × Marks punctuator.OpenParenthesis opening
-      × Marks punctuator.CloseParenthesis closing × Marks punctuator.Semicolon semicolon × SpellsExpression 1 inner e
-      × (ts ≡ begins level (full (identifier n ∷ opening ∷ inner ++ closing ∷ []) ++ outside semicolon ∷ []))
+  SpellsStatement level ts (Local t ds) = (inner : List Placed) × SpellsLocal inner t ds × (ts ≡ begins level inner)
+  SpellsStatement level ts (Perform a) =
+      (inner : List Placed) × (semicolon : Lexeme) × SpellsOptionalAction inner a × Marks punctuator.Semicolon semicolon
+      × (ts ≡ begins level (inner ++ outside semicolon ∷ []))
   SpellsStatement level ts (Return at e) =
-      (word semicolon : Lexeme) × (operand : List Placed) × (word.kind ≡ kind.Keyword keyword.Return) × (word.at ≡ at)
-      × Marks punctuator.Semicolon semicolon × SpellsOperand operand e
+      (word semicolon : Lexeme) × (operand : List Placed) × IsKeyword keyword.Return word × (word.at ≡ at)
+      × Marks punctuator.Semicolon semicolon × SpellsOptional operand e
       × (ts ≡ begins level (outside word ∷ operand ++ outside semicolon ∷ []))
+  SpellsStatement level ts (Break at) =
+      (word semicolon : Lexeme) × IsKeyword keyword.Break word × (word.at ≡ at) × Marks punctuator.Semicolon semicolon
+      × (ts ≡ begins level (outside word ∷ outside semicolon ∷ []))
+  SpellsStatement level ts (Continue at) =
+      (word semicolon : Lexeme) × IsKeyword keyword.Continue word × (word.at ≡ at) × Marks punctuator.Semicolon semicolon
+      × (ts ≡ begins level (outside word ∷ outside semicolon ∷ []))
+  SpellsStatement level ts (If e s) =
+      (word opening closing : Lexeme) × (test : List Lexeme) × (part : List Placed) × IsKeyword keyword.If word
+      × Marks punctuator.OpenParenthesis opening × Marks punctuator.CloseParenthesis closing × SpellsExpression 1 test e
+      × SpellsStatement (suc level) part s × IsStatement s
+      × (ts ≡ begins level (outside word ∷ outside opening ∷ full test ++ outside closing ∷ part))
+  SpellsStatement level ts (IfElse e s t) =
+      (word opening closing other : Lexeme) × (test : List Lexeme) × (part last : List Placed) × IsKeyword keyword.If word
+      × Marks punctuator.OpenParenthesis opening × Marks punctuator.CloseParenthesis closing × IsKeyword keyword.Else other
+      × SpellsExpression 1 test e × SpellsStatement (suc level) part s × IsStatement s × IsClosed s
+      × SpellsStatement (suc level) last t × IsStatement t
+      × (ts ≡ begins level (outside word ∷ outside opening ∷ full test ++ (outside closing ∷ part ++ outside other ∷ last)))
   SpellsStatement level ts (While e s) =
-      (word opening closing : Lexeme) × (test : List Lexeme) × (body : List Placed) × (word.kind ≡ kind.Keyword keyword.While)
+      (word opening closing : Lexeme) × (test : List Lexeme) × (body : List Placed) × IsKeyword keyword.While word
       × Marks punctuator.OpenParenthesis opening × Marks punctuator.CloseParenthesis closing × SpellsExpression 1 test e
       × SpellsStatement (suc level) body s × IsStatement s
       × (ts ≡ begins level (outside word ∷ outside opening ∷ full test ++ outside closing ∷ body))
+  SpellsStatement level ts (DoWhile s e) =
+      (word while opening closing semicolon : Lexeme) × (body : List Placed) × (test : List Lexeme) × IsKeyword keyword.Do word
+      × IsKeyword keyword.While while × Marks punctuator.OpenParenthesis opening × Marks punctuator.CloseParenthesis closing
+      × Marks punctuator.Semicolon semicolon × SpellsStatement (suc level) body s × IsStatement s × SpellsExpression 1 test e
+      × (ts ≡ begins level (outside word ∷ body ++ (outside while ∷ outside opening ∷ full test ++ outside closing ∷ outside semicolon ∷ [])))
+  SpellsStatement level ts (For a e b s) =
+      (word opening semicolon closing : Lexeme) × (starting test last body : List Placed) × IsKeyword keyword.For word
+      × Marks punctuator.OpenParenthesis opening × Marks punctuator.Semicolon semicolon × Marks punctuator.CloseParenthesis closing
+      × SpellsStart (suc level) starting a × SpellsOptional test e × SpellsOptionalAction last b
+      × SpellsStatement (suc level) body s × IsStatement s
+      × (ts ≡ begins level (outside word ∷ outside opening ∷ starting ++ (test ++ (outside semicolon ∷ last ++ outside closing ∷ body))))
 
   pub SpellsStatements : ℕ → List Placed → Stmts → Type 0
   SpellsStatements level ts end = ts ≡ []
   SpellsStatements level ts (next s ss) =
       (first others : List Placed) × SpellsStatement level first s × SpellsStatements level others ss × (ts ≡ first ++ others)
 
--- `void`, or nothing
-abbrev pub SpellsNoParameters : List Lexeme → Type 0
-SpellsNoParameters ts = (ts ≡ []) ⊎ ((word : Lexeme) × (word.kind ≡ kind.Keyword keyword.Void) × (ts ≡ word ∷ []))
+-- the offset of the first token
+abbrev pub BeginsAt : ℕ → List Lexeme → Type 0
+BeginsAt at [] = ⊥
+BeginsAt at (x ∷ xs) = x.at ≡ at
 
--- a whole unit: one definition of a function of type `int` without parameters, whose body is a block at level 1
--- (C99 6.9.1)
-abbrev pub SpellsUnit : List Placed → Definition → Type 0
-SpellsUnit ts f =
-    (word opening closing : Lexeme) × (parameters : List Lexeme) × (body : List Placed) × (word.kind ≡ kind.Keyword keyword.Int)
-    × Marks punctuator.OpenParenthesis opening × SpellsNoParameters parameters × Marks punctuator.CloseParenthesis closing
-    × SpellsStatement 1 body (Block f.body)
-    × (ts ≡ outside word ∷ outside (identifier f.name) ∷ outside opening ∷ map outside parameters ++ outside closing ∷ body)
+-- a constant expression, which is a full expression (C99 6.6)
+abbrev pub SpellsConstantExpr : List Placed → ConstantExpr → Type 0
+SpellsConstantExpr ts c = (inner : List Lexeme) × SpellsExpression 1 inner c.expr × BeginsAt c.at inner × (ts ≡ full inner)
+
+abbrev pub SpellsOptionalConstant : List Placed → Option ConstantExpr → Type 0
+SpellsOptionalConstant ts None = ts ≡ []
+SpellsOptionalConstant ts (Some c) = SpellsConstantExpr ts c
+
+-- a comma, or nothing
+abbrev pub IsOptionalComma : List Lexeme → Type 0
+IsOptionalComma ts = (ts ≡ []) ⊎ ((comma : Lexeme) × Marks punctuator.Comma comma × (ts ≡ comma ∷ []))
+
+-- the list of an array's values: nothing where there is none; a comma may stand behind the last (C99 6.7.8)
+abbrev pub SpellsList : List Placed → List ConstantExpr → Type 0
+SpellsList ts [] = ts ≡ []
+SpellsList ts (v ∷ vs) =
+    (sign opening closing : Lexeme) × (row : List Placed) × (comma : List Lexeme) × Marks punctuator.Assign sign
+    × Marks punctuator.OpenBrace opening × Marks punctuator.CloseBrace closing × SpellsRow SpellsConstantExpr row (v ∷ vs)
+    × IsOptionalComma comma × (ts ≡ outside sign ∷ outside opening ∷ row ++ (map outside comma ++ outside closing ∷ []))
+
+-- one name of a declaration of objects (C99 6.7, 6.7.5.2)
+abbrev pub SpellsObject : List Placed → Object → Type 0
+SpellsObject ts (Single n None) = ts ≡ outside (identifier n) ∷ []
+SpellsObject ts (Single n (Some c)) =
+    (sign : Lexeme) × (right : List Placed) × Marks punctuator.Assign sign × SpellsConstantExpr right c
+    × (ts ≡ outside (identifier n) ∷ outside sign ∷ right)
+SpellsObject ts (Array n size values) =
+    (opening closing : Lexeme) × (inner list : List Placed) × Marks punctuator.OpenBracket opening × Marks punctuator.CloseBracket closing
+    × SpellsOptionalConstant inner size × SpellsList list values
+    × (ts ≡ outside (identifier n) ∷ outside opening ∷ inner ++ outside closing ∷ list)
+
+-- the token of a name that may be left out
+abbrev pub optional_identifier : Option Name → List Lexeme
+optional_identifier None = []
+optional_identifier (Some n) = identifier n ∷ []
+
+-- a parameter: its type, and its name where it has one (C99 6.7.5.3)
+abbrev pub SpellsParameter : List Placed → Parameter → Type 0
+SpellsParameter ts p =
+    (type : List Lexeme) × SpellsType type p.scalar × (ts ≡ map outside type ++ map outside (optional_identifier p.name))
+
+-- `void` or nothing, or one or more parameters
+abbrev pub SpellsParameters : List Placed → List Parameter → Type 0
+SpellsParameters ts [] = (ts ≡ []) ⊎ ((word : Lexeme) × IsKeyword keyword.Void word × (ts ≡ outside word ∷ []))
+SpellsParameters ts (p ∷ ps) = SpellsRow SpellsParameter ts (p ∷ ps)
+
+-- the type of a function's result
+abbrev pub SpellsResult : List Lexeme → Option Scalar → Type 0
+SpellsResult ts None = (word : Lexeme) × IsKeyword keyword.Void word × (ts ≡ word ∷ [])
+SpellsResult ts (Some t) = SpellsType ts t
+
+-- a function's result, name and parameters (C99 6.7.5.3)
+abbrev pub SpellsSignature : List Placed → Signature → Type 0
+SpellsSignature ts f =
+    (type : List Lexeme) × (opening closing : Lexeme) × (parameters : List Placed) × SpellsResult type f.result
+    × Marks punctuator.OpenParenthesis opening × Marks punctuator.CloseParenthesis closing × SpellsParameters parameters f.parameters
+    × (ts ≡ map outside type ++ (outside (identifier f.name) ∷ outside opening ∷ parameters ++ outside closing ∷ []))
+
+-- each parameter has its name
+abbrev pub AreNamed : List Parameter → Type 0
+AreNamed [] = Unit {0}
+AreNamed (p ∷ ps) = ((n : Name) × (p.name ≡ Some n)) × AreNamed ps
+
+-- an external declaration (C99 6.9): the body of a definition is a block at level 1, and its parameters have names
+abbrev pub SpellsExternal : List Placed → External → Type 0
+SpellsExternal ts (Declaration f) =
+    (head : List Placed) × (semicolon : Lexeme) × SpellsSignature head f × Marks punctuator.Semicolon semicolon
+    × (ts ≡ head ++ outside semicolon ∷ [])
+SpellsExternal ts (Definition f body) =
+    (head block : List Placed) × SpellsSignature head f × AreNamed f.parameters × SpellsStatement 1 block (Block body)
+    × (ts ≡ head ++ block)
+SpellsExternal ts (Objects t os) =
+    (type : List Lexeme) × (row : List Placed) × (semicolon : Lexeme) × SpellsType type t × SpellsRow SpellsObject row os
+    × Marks punctuator.Semicolon semicolon × (ts ≡ map outside type ++ (row ++ outside semicolon ∷ []))
+
+-- external declarations, one behind the other
+abbrev pub SpellsExternals : List Placed → List External → Type 0
+SpellsExternals ts [] = ts ≡ []
+SpellsExternals ts (e ∷ es) = (first others : List Placed) × SpellsExternal first e × SpellsExternals others es × (ts ≡ first ++ others)
+
+-- a whole unit: one or more external declarations (C99 6.9)
+abbrev pub SpellsUnit : List Placed → List External → Type 0
+SpellsUnit ts [] = ⊥
+SpellsUnit ts (e ∷ es) = SpellsExternals ts (e ∷ es)
 
 -- the tokens alone
 abbrev pub tokens_of : List Placed → List Lexeme
 tokens_of ts = map (λ p. p.token) ts
 
 -- the tokens spell the tree, whose limits are not asked
-abbrev pub Spells : List Lexeme → Definition → Type 0
+abbrev pub Spells : List Lexeme → List External → Type 0
 Spells tokens tree = (ts : List Placed) × SpellsUnit ts tree × (tokens_of ts ≡ tokens)
 
 -- some unit, whose limits are not asked, begins with the tokens
 abbrev pub Begins : List Lexeme → Type 0
-Begins tokens = (rest : List Lexeme) × (tree : Definition) × Spells (tokens ++ rest) tree
+Begins tokens = (rest : List Lexeme) × (tree : List External) × Spells (tokens ++ rest) tree

@@ -2,7 +2,7 @@
 use Rattle.std.specs.Prelude.{◌≡◌, ℕ, suc, ◌<◌, ◌≤◌, List, [], ◌∷◌, ◌++◌, length, take, ◌⊎◌}
 use Rattle.std.specs.List.{AllByRecursion}
 use Rattle.cc_syntax.specs.Token.{Lexeme}
-use Rattle.cc_syntax.specs.Tree.{Definition}
+use Rattle.cc_syntax.specs.Tree.{External}
 use Rattle.cc_syntax.specs.Grammar.{Placed, SpellsUnit, tokens_of, Spells, Begins}
 
 -- a full expression has at most 512 tokens, and levels go to 64
@@ -10,7 +10,7 @@ abbrev pub IsWithin : Placed → Type 0
 IsWithin p = (p.count ≤ 512) × (p.level ≤ 64)
 
 -- the tokens spell the tree, and the limits hold
-abbrev pub SpellsWithin : List Lexeme → Definition → Type 0
+abbrev pub SpellsWithin : List Lexeme → List External → Type 0
 SpellsWithin tokens tree = (ts : List Placed) × SpellsUnit ts tree × AllByRecursion IsWithin ts × (tokens_of ts ≡ tokens)
 
 -- a token past a limit: behind the 512th of a full expression, or the first of a statement or declaration below level 64
@@ -21,12 +21,12 @@ PassesLimit p = (512 < p.count) ⊎ (64 < p.level)
 abbrev pub UnexpectedAt : List Lexeme → ℕ → Type 0
 UnexpectedAt tokens k =
     ((k < length tokens) × (Begins (take (suc k) tokens) → ⊥))
-    ⊎ ((k ≡ length tokens) × ((tree : Definition) → Spells tokens tree → ⊥))
+    ⊎ ((k ≡ length tokens) × ((tree : List External) → Spells tokens tree → ⊥))
 
 -- in some unit that begins with the tokens up to and with number k, that token passes a limit
 abbrev pub TooDeepAt : List Lexeme → ℕ → Type 0
 TooDeepAt tokens k =
-    (front rest : List Placed) × (p : Placed) × (tree : Definition) × (k < length tokens) × PassesLimit p
+    (front rest : List Placed) × (p : Placed) × (tree : List External) × (k < length tokens) × PassesLimit p
     × SpellsUnit (front ++ p ∷ rest) tree × (tokens_of (front ++ p ∷ []) ≡ take (suc k) tokens)
 
 -- some unit goes on from the tokens before number k, none of which passes a limit
@@ -35,9 +35,9 @@ IsFineBefore tokens k = Begins (take k tokens) × ((j : ℕ) → j < k → TooDe
 
 -- tokens spell one tree at most
 abbrev pub TreesAreOne : Type 0
-TreesAreOne = (tokens : List Lexeme) (a b : Definition) → Spells tokens a → Spells tokens b → a ≡ b
+TreesAreOne = (tokens : List Lexeme) (a b : List External) → Spells tokens a → Spells tokens b → a ≡ b
 
 -- where tokens spell a tree within the limits, no token breaks the grammar or a limit
 abbrev pub SpelledHaveNoFault : Type 0
 SpelledHaveNoFault =
-    (tokens : List Lexeme) (tree : Definition) (k : ℕ) → SpellsWithin tokens tree → (UnexpectedAt tokens k → ⊥) × (TooDeepAt tokens k → ⊥)
+    (tokens : List Lexeme) (tree : List External) (k : ℕ) → SpellsWithin tokens tree → (UnexpectedAt tokens k → ⊥) × (TooDeepAt tokens k → ⊥)

@@ -4,13 +4,13 @@ use Rattle.cc_syntax.specs.declared.place.Place.{Place}
 use Rattle.cc_syntax.specs.declared.fault.SyntaxFault.{SyntaxFault}
 use Rattle.cc_syntax.specs.declared.fault.SyntaxFault.TheVariants as fault
 use Rattle.cc_syntax.specs.Token.{Lexeme}
-use Rattle.cc_syntax.specs.Tree.{Definition}
+use Rattle.cc_syntax.specs.Tree.{External}
 use Rattle.cc_syntax.specs.Place.{place_of}
 use Rattle.cc_syntax.specs.Tokens.{IsTokens, IsRefusal}
 use Rattle.cc_syntax.specs.Limits.{SpellsWithin, UnexpectedAt, TooDeepAt, IsFineBefore}
 
 -- the text's tokens spell the tree, and the limits hold
-pub record SpellsText (text : List ℕ) (tree : Definition) : Type 0 where
+pub record SpellsText (text : List ℕ) (tree : List External) : Type 0 where
   pub tokens : List Lexeme
   pub are : IsTokens text tokens
   pub spelled : SpellsWithin tokens tree

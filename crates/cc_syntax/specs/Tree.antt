@@ -3,6 +3,8 @@ use Rattle.std.specs.Prelude.{ℕ, List, Option}
 use Rattle.cc_syntax.specs.declared.ast.Scalar.{Scalar}
 use Rattle.cc_syntax.specs.declared.ast.UnaryOperator.{UnaryOperator}
 use Rattle.cc_syntax.specs.declared.ast.BinaryOperator.{BinaryOperator}
+use Rattle.cc_syntax.specs.declared.ast.AssignmentOperator.{AssignmentOperator}
+use Rattle.cc_syntax.specs.declared.ast.StepOperator.{StepOperator}
 
 -- an identifier: its bytes, and the offset of its first byte in the text (C99 6.4.2)
 pub record Name : Type 0 where
@@ -10,38 +12,92 @@ pub record Name : Type 0 where
   pub at : ℕ
 
 -- an expression (C99 6.5); a pair of parentheses is a node
-pub data Expr : Type 0 where
-  Number : Scalar → ℕ → Expr
-  Variable : Name → Expr
-  Parenthesised : Expr → Expr
-  Unary : UnaryOperator → Expr → Expr
-  Binary : BinaryOperator → Expr → Expr → Expr
+mutual
+  pub data Expr : Type 0 where
+    Number : Scalar → ℕ → Expr
+    Variable : Name → Expr
+    Element : Name → Expr → Expr
+    Call : Name → Exprs → Expr
+    Parenthesised : Expr → Expr
+    Unary : UnaryOperator → Expr → Expr
+    Cast : Scalar → Expr → Expr
+    Binary : BinaryOperator → Expr → Expr → Expr
+    Conditional : Expr → Expr → Expr → Expr
+
+  pub data Exprs : Type 0 where
+    none : Exprs
+    more : Expr → Exprs → Exprs
+
+-- what an assignment writes: a variable, or an element of an array and its index
+pub data Target : Type 0 where
+  AtVariable : Name → Target
+  AtElement : Name → Expr → Target
+
+-- what an expression statement does: an assignment, an increment or decrement, or an expression whose value is not used
+-- (C99 6.8.3)
+pub data Action : Type 0 where
+  Assign : AssignmentOperator → Target → Expr → Action
+  Step : StepOperator → Target → Action
+  Evaluate : Expr → Action
 
 -- one name of a declaration of locals, with its initialiser where it has one (C99 6.7)
 pub record Declared : Type 0 where
   pub name : Name
   pub initial : Option Expr
 
--- a statement, or a declaration of locals (C99 6.8)
+-- the first part of a `for` header (C99 6.8.5.3)
+pub data Start : Type 0 where
+  Declares : Scalar → List Declared → Start
+  Performs : Option Action → Start
+
+-- a statement, or a declaration of locals (C99 6.8); a null statement performs no action
 mutual
   pub data Stmt : Type 0 where
     Block : Stmts → Stmt
     Local : Scalar → List Declared → Stmt
-    Assign : Name → Expr → Stmt
-    Call : Name → Expr → Stmt
+    Perform : Option Action → Stmt
     Return : ℕ → Option Expr → Stmt
+    Break : ℕ → Stmt
+    Continue : ℕ → Stmt
+    If : Expr → Stmt → Stmt
+    IfElse : Expr → Stmt → Stmt → Stmt
     While : Expr → Stmt → Stmt
+    DoWhile : Stmt → Expr → Stmt
+    For : Start → Option Expr → Option Action → Stmt → Stmt
 
   pub data Stmts : Type 0 where
     end : Stmts
     next : Stmt → Stmts → Stmts
 
--- the definition of a function of type int without parameters (C99 6.9.1)
-pub record Definition : Type 0 where
+-- a constant expression (C99 6.6), and the offset of its first token in the text
+pub record ConstantExpr : Type 0 where
+  pub at : ℕ
+  pub expr : Expr
+
+-- a parameter of a function, and its name where it has one (C99 6.7.5.3)
+pub record Parameter : Type 0 where
+  pub scalar : Scalar
+  pub name : Option Name
+
+-- what a declaration or a definition says of a function: the type of its result, none for `void`, its name, its parameters
+pub record Signature : Type 0 where
+  pub result : Option Scalar
   pub name : Name
-  pub body : Stmts
+  pub parameters : List Parameter
+
+-- one name of a declaration of objects at file scope: a single object and its initialiser, or an array, its length where
+-- it is given, and the values of its list, none where it has no list (C99 6.7, 6.9.2)
+pub data Object : Type 0 where
+  Single : Name → Option ConstantExpr → Object
+  Array : Name → Option ConstantExpr → List ConstantExpr → Object
+
+-- an external declaration: of a function, its definition, or a declaration of objects of one type (C99 6.9)
+pub data External : Type 0 where
+  Declaration : Signature → External
+  Definition : Signature → Stmts → External
+  Objects : Scalar → List Object → External
 
 -- a text with its tree
 pub record Source : Type 0 where
   pub text : List ℕ
-  pub function : Definition
+  pub externals : List External

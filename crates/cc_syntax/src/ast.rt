@@ -1,5 +1,5 @@
 // The syntax tree. It keeps the offset in the text of each token that a fault may name, and a node for each pair of
-// parentheses, so that a tree has one spelling in tokens.
+// parentheses, so that a list of tokens spells one tree at most.
 
 /// The type of a number, a variable or a value: `int` or `unsigned int` (C99 6.2.5).
 #[derive(Clone, Copy, PartialEq, Eq, Debug)]
@@ -8,14 +8,17 @@ pub enum Scalar {
     Unsigned,
 }
 
-/// A unary operator (C99 6.5.3.3).
+/// A unary operator: `+`, `-`, `~`, `!` (C99 6.5.3.3).
 #[derive(Clone, Copy, PartialEq, Eq, Debug)]
 pub enum UnaryOperator {
     Plus,
     Minus,
+    Complement,
+    Not,
 }
 
-/// A binary operator (C99 6.5.5 to 6.5.9).
+/// A binary operator (C99 6.5.5 to 6.5.14). `And`, `Xor` and `Or` go bit by bit; `LogicalAnd` and `LogicalOr` are `&&` and
+/// `||`, which evaluate their right operand only where they need it.
 #[derive(Clone, Copy, PartialEq, Eq, Debug)]
 pub enum BinaryOperator {
     Multiply,
@@ -23,12 +26,42 @@ pub enum BinaryOperator {
     Remainder,
     Add,
     Subtract,
+    ShiftLeft,
+    ShiftRight,
     Less,
     Greater,
     LessOrEqual,
     GreaterOrEqual,
     Equal,
     NotEqual,
+    And,
+    Xor,
+    Or,
+    LogicalAnd,
+    LogicalOr,
+}
+
+/// An assignment operator (C99 6.5.16): `=`, or one that applies a binary operator to the old value first.
+#[derive(Clone, Copy, PartialEq, Eq, Debug)]
+pub enum AssignmentOperator {
+    Plain,
+    Multiply,
+    Divide,
+    Remainder,
+    Add,
+    Subtract,
+    ShiftLeft,
+    ShiftRight,
+    And,
+    Xor,
+    Or,
+}
+
+/// `++` or `--`, before or behind what it changes (C99 6.5.2.4, 6.5.3.1).
+#[derive(Clone, Copy, PartialEq, Eq, Debug)]
+pub enum StepOperator {
+    Increment,
+    Decrement,
 }
 
 /// An identifier: its bytes, and the offset of its first byte in the text.
@@ -44,9 +77,32 @@ pub enum Expression {
     /// A constant: its type and its word.
     Number(Scalar, u32),
     Name(Identifier),
+    /// An element of an array, and its index.
+    Element(Identifier, Box<Expression>),
+    /// A call of a function with its arguments.
+    Call(Identifier, Vec<Expression>),
     Parenthesised(Box<Expression>),
     Unary(UnaryOperator, Box<Expression>),
+    Cast(Scalar, Box<Expression>),
     Binary(BinaryOperator, Box<Expression>, Box<Expression>),
+    /// `test ? then : otherwise`.
+    Conditional(Box<Expression>, Box<Expression>, Box<Expression>),
+}
+
+/// What an assignment writes: a variable, or an element of an array and its index.
+#[derive(Drop)]
+pub enum Target {
+    Variable(Identifier),
+    Element(Identifier, Expression),
+}
+
+/// What an expression statement or a part of a `for` header does: an assignment, an increment or decrement, or an
+/// expression whose value is not used (C99 6.8.3).
+#[derive(Drop)]
+pub enum Action {
+    Assign(AssignmentOperator, Target, Expression),
+    Step(StepOperator, Target),
+    Evaluate(Expression),
 }
 
 /// One name of a declaration of locals, with its initialiser where it has one (C99 6.7).
@@ -56,22 +112,73 @@ pub struct Declarator {
     pub initial: Option<Expression>,
 }
 
+/// The first part of a `for` header: a declaration of locals, or an action where there is one (C99 6.8.5.3).
+#[derive(Drop)]
+pub enum Beginning {
+    Declaration(Scalar, Vec<Declarator>),
+    Action(Option<Action>),
+}
+
 /// A statement, or a declaration of locals (C99 6.8).
 #[derive(Drop)]
 pub enum Statement {
     Block(Vec<Statement>),
     Local(Scalar, Vec<Declarator>),
-    Assign(Identifier, Expression),
-    /// A call of a function with one argument, its value unused.
-    Call(Identifier, Expression),
+    /// An expression statement; nothing for a semicolon alone.
+    Perform(Option<Action>),
     /// `return`: the offset of the word, and the value where there is one.
     Return(usize, Option<Expression>),
+    /// `break`: the offset of the word.
+    Break(usize),
+    /// `continue`: the offset of the word.
+    Continue(usize),
+    If(Expression, Box<Statement>),
+    IfElse(Expression, Box<Statement>, Box<Statement>),
     While(Expression, Box<Statement>),
+    DoWhile(Box<Statement>, Expression),
+    /// `for`: what it begins with, the condition where there is one, what follows each turn, and the body.
+    For(Beginning, Option<Expression>, Option<Action>, Box<Statement>),
 }
 
-/// The definition of a function of type `int` without parameters (C99 6.9.1).
+/// A constant expression (C99 6.6), and the offset of its first token in the text.
 #[derive(Drop)]
-pub struct Function {
+pub struct ConstantExpression {
+    pub at: usize,
+    pub expression: Expression,
+}
+
+/// A parameter of a function; only a declaration may leave its name out (C99 6.7.5.3).
+#[derive(Drop)]
+pub struct Parameter {
+    pub scalar: Scalar,
+    pub name: Option<Identifier>,
+}
+
+/// What a declaration or a definition says of a function: the type of its result, none for `void`, its name, and its
+/// parameters.
+#[derive(Drop)]
+pub struct Signature {
+    pub result: Option<Scalar>,
     pub name: Identifier,
-    pub body: Vec<Statement>,
+    pub parameters: Vec<Parameter>,
+}
+
+/// One name of a declaration of objects at file scope (C99 6.7, 6.9.2).
+#[derive(Drop)]
+pub enum Object {
+    /// A single object, and its initialiser where it has one.
+    Single(Identifier, Option<ConstantExpression>),
+    /// An array: its length where it is given, and the values of its list, none where it has no list.
+    Array(Identifier, Option<ConstantExpression>, Vec<ConstantExpression>),
+}
+
+/// An external declaration (C99 6.9).
+#[derive(Drop)]
+pub enum External {
+    /// The declaration of a function.
+    Declaration(Signature),
+    /// The definition of a function, and the statements of its body.
+    Definition(Signature, Vec<Statement>),
+    /// The declaration of objects of one type.
+    Objects(Scalar, Vec<Object>),
 }

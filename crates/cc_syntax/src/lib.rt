@@ -16,7 +16,9 @@ mod token;
 mod unit;
 
 pub use ast::{
-    BinaryOperator, Declarator, Expression, Function, Identifier, Scalar, Statement, UnaryOperator,
+    Action, AssignmentOperator, Beginning, BinaryOperator, ConstantExpression, Declarator,
+    Expression, External, Identifier, Object, Parameter, Scalar, Signature, Statement,
+    StepOperator, Target, UnaryOperator,
 };
 pub use fault::SyntaxFault;
 pub use lexer::{tokens, tokens_are_determined};

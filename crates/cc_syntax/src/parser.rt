@@ -1,28 +1,31 @@
 // The tree that the tokens of a text spell.
 //
 // The parser is a machine that goes over the tokens once: `state` is where it stands between two of them, `step` what a
-// token does in each state (`body` in a function's body, `expression` for the operators that wait), `role` what a token is
-// to the grammar, `read` all the tokens with the limits. No call is nested deeper for a deeper text.
+// token does in each state (`outer` at file scope, `body` in a function's body, `full` in a full expression, with the
+// operators that wait in `expression`), `settle` how statements end, `role` what a token is to the grammar, `read` all the
+// tokens with the limits. No call is nested deeper for a deeper text.
 
 mod body;
 mod expression;
+mod full;
+mod outer;
 mod read;
 mod role;
+mod settle;
 mod state;
 mod step;
 mod stop;
 
-ghost use Rattle.std.specs.Prelude.{◌≡◌, ◌≤◌, length, IfOk, IfErr, Err};
-ghost use Rattle.cc_syntax.specs.Tree.{Definition};
+ghost use Rattle.std.specs.Prelude.{◌≡◌, ◌≤◌, length, IfOk, IfErr};
 ghost use Rattle.cc_syntax.specs.Token.{lexemes};
 ghost use Rattle.cc_syntax.specs.Tokens.{AreInOrder, IsTokens};
-ghost use Rattle.cc_syntax.specs.Erase.{function_tree};
-ghost use Rattle.cc_syntax.specs.MachineView.{Answers};
+ghost use Rattle.cc_syntax.specs.Erase.{external_trees};
+ghost use Rattle.cc_syntax.specs.MachineView.{Refuses};
 ghost use Rattle.cc_syntax.specs.Parse.{SpellsText, IsParseRefusal, place_at_token};
 ghost use Rattle.cc_syntax.specs.Limits.{TreesAreOne, SpelledHaveNoFault};
-ghost use Rattle.cc_syntax.specs.Source.{source, AnswersTree, IsParse};
+ghost use Rattle.cc_syntax.specs.Source.{source, UnitTree, AnswersTree, IsParse};
 
-use crate::ast::Function;
+use crate::ast::External;
 use crate::fault::SyntaxFault;
 use crate::lexer::tokens;
 use crate::parser::read::read_tokens;
@@ -49,7 +52,7 @@ fn fault_of(text: &[u8], tokens: &[Token], refusal: Refusal) -> SyntaxFault
     requires fits { length text.now ≤ 65536 }
     requires ordered { AreInOrder 0 tokens.now (length text.now) }
     requires tokens { IsTokens text.now (lexemes text.now tokens.now) }
-    requires refused { Answers (lexemes text.now tokens.now) (Err refusal) }
+    requires refused { Refuses (lexemes text.now tokens.now) refusal }
     ensures { IsParseRefusal text.now result }
 {
     match refusal {
@@ -61,14 +64,14 @@ fn fault_of(text: &[u8], tokens: &[Token], refusal: Refusal) -> SyntaxFault
     }
 }
 
-/// A text and the function that its tokens spell.
-fn unit_of(alloc: Global, text: &[u8], function: Function) -> Result<Unit, SyntaxFault>
+/// A text and the external declarations that its tokens spell.
+fn unit_of(alloc: Global, text: &[u8], externals: Vec<External>) -> Result<Unit, SyntaxFault>
     requires fits { length text.now ≤ 65536 }
-    requires spelled { SpellsText text.now (function_tree function) }
+    requires spelled { SpellsText text.now (external_trees externals.items) }
     ensures { IsParse text.now result }
 {
     match Vec::from_slice(alloc, text) {
-        Ok(text) => Ok(Unit::new(text, function)),
+        Ok(text) => Ok(Unit::new(text, externals)),
         Err(_) => Err(SyntaxFault::OutOfMemory),
     }
 }
@@ -79,7 +82,7 @@ fn parse_text(alloc: Global, text: &[u8]) -> Result<Unit, SyntaxFault>
 {
     let found = tokens(alloc, text)?;
     match read_tokens(alloc, text, found.as_slice()) {
-        Ok(function) => unit_of(alloc, text, function),
+        Ok(externals) => unit_of(alloc, text, externals),
         Err(refusal) => Err(fault_of(text, found.as_slice(), refusal)),
     }
 }
@@ -92,9 +95,9 @@ fn parse_text(alloc: Global, text: &[u8]) -> Result<Unit, SyntaxFault>
 pub fn parse(alloc: Global, text: &[u8]) -> Result<Unit, SyntaxFault>
     ensures fits { IfOk result (λ _. length text.now ≤ 65536) }
     ensures text { IfOk result (λ u. (source u).text ≡ text.now) }
-    ensures spelled { IfOk result (λ u. SpellsText text.now (source u).function) }
+    ensures spelled { IfOk result (λ u. SpellsText text.now (source u).externals) }
     // Where the text spells a tree, that is the answer.
-    ensures only { (tree : Definition) → length text.now ≤ 65536 → SpellsText text.now tree → AnswersTree tree result }
+    ensures only { (tree : UnitTree) → length text.now ≤ 65536 → SpellsText text.now tree → AnswersTree tree result }
     ensures refused { IfErr result (λ fault. IsParseRefusal text.now fault) }
 {
     parse_text(alloc, text)

@@ -1,29 +1,29 @@
 // A text with the tree that its tokens spell.
 
 ghost use Rattle.std.specs.Prelude.{◌≡◌};
-ghost use Rattle.cc_syntax.specs.Erase.{function_tree};
+ghost use Rattle.cc_syntax.specs.Erase.{external_trees};
 ghost use Rattle.cc_syntax.specs.Parse.{SpellsText};
 
-use super::ast::Function;
+use super::ast::External;
 
 /// A parsed text: the text, and its tree, which the text's tokens spell within the limits.
 #[derive(Drop)]
 pub struct Unit {
     text: Vec<u8>,
-    function: Function,
-    ghost spelled: { ∥ SpellsText text.items (function_tree function) ∥₁ },
+    externals: Vec<External>,
+    ghost spelled: { ∥ SpellsText text.items (external_trees externals.items) ∥₁ },
 }
 
 impl Unit {
     ghost use Rattle.cc_syntax.specs.Source.{source};
 
     /// A text and a tree that it spells.
-    pub(crate) fn new(text: Vec<u8>, function: Function) -> Self
-        requires { SpellsText text.items (function_tree function) }
+    pub(crate) fn new(text: Vec<u8>, externals: Vec<External>) -> Self
+        requires { SpellsText text.items (external_trees externals.items) }
         ensures text { (source result).text ≡ text.items }
-        ensures function { (source result).function ≡ function_tree function }
+        ensures externals { (source result).externals ≡ external_trees externals.items }
     {
-        Unit { text, function }
+        Unit { text, externals }
     }
 
     /// The text, byte for byte.
@@ -33,12 +33,12 @@ impl Unit {
         self.text.as_slice()
     }
 
-    /// The tree that the text spells.
-    pub fn function(&self) -> &Function
-        ensures tree { function_tree result.now ≡ (source self.now).function }
+    /// The external declarations that the text spells.
+    pub fn externals(&self) -> &[External]
+        ensures tree { external_trees result.now ≡ (source self.now).externals }
         // The text's tokens spell it, and the limits hold.
-        ensures spelled { ∥ SpellsText (source self.now).text (source self.now).function ∥₁ }
+        ensures spelled { ∥ SpellsText (source self.now).text (source self.now).externals ∥₁ }
     {
-        &self.function
+        self.externals.as_slice()
     }
 }

@@ -1,15 +1,12 @@
--- The offence that is kept is the first of all, and what is counted is how many locals there are.
-use Rattle.std.proofs.Common.{◌≡◌, ℕ, zero, suc, ◌+◌, ◌-◌, ◌<◌, ◌≤◌, ◌⊎◌, inl, inr, Bool, true, false, ◌&&◌, ◌||◌, ◌==◌, if◌then◌else◌, nat_lt, List, [], ◌∷◌, length, map, take, drop, Some, None, Contains, refl, sym, ap, subst, ◌∙◌, arith, length-drop}
+-- The offence that is kept is the first of all.
+use Rattle.std.proofs.Common.{◌≡◌, ℕ, ◌<◌, ◌≤◌, ◌⊎◌, inl, inr, Bool, true, false, ◌&&◌, ◌||◌, ◌==◌, if◌then◌else◌, nat_lt, List, [], ◌∷◌, Some, None, Contains, refl, sym, subst, ◌∙◌, arith}
 use Rattle.std.specs.List.{AllByRecursion}
 use Rattle.std.proofs.lemmas.Bool.Decides.{nat_tests}
 use Rattle.std.proofs.lemmas.List.Elements.{Contains-append_right}
-use Rattle.cc_syntax.specs.Tree.{Name}
 use Rattle.cc_typing.specs.Fault.{rule_number}
-use Rattle.cc_typing.specs.Rules.{most_locals, too_many}
 use Rattle.cc_typing.specs.Typed.{NotAfter, IsFirst}
-use Rattle.cc_typing.specs.Findings.{is_before, earlier, noted, counted, passed, excess_of}
+use Rattle.cc_typing.specs.Findings.{is_before, earlier, noted}
 use Rattle.cc_typing.specs.declared.rule.Offence.{Offence}
-use Rattle.cc_typing.specs.declared.rule.Rule.TheVariants.{TooMany}
 
 -- the order of offences, on numbers
 order-true : (a b m n : ℕ) → (nat_lt a b || (a == b && nat_lt m n)) ≡ true → (a < b) ⊎ ((a ≡ b) × (m ≤ n))
@@ -75,41 +72,3 @@ noted-some p (x ∷ xs) e = noted-some (earlier (Some p) x) xs e
 pub noted-none : (xs : List Offence) → noted None xs ≡ None → xs ≡ []
 noted-none [] e = refl
 noted-none (x ∷ xs) e = absurd (noted-some x xs e)
-
--- where the limit was passed, it stays
-passed-once : (at : ℕ) (xs : List Name) → passed most_locals (Some at) xs ≡ Some at
-passed-once at [] = refl
-passed-once at (x ∷ xs) = passed-once at xs
-
--- the limit on what is left, once some are counted
-passed-left : (left n : ℕ) (xs : List Name) → left + n ≡ most_locals → excess_of (passed n None xs) ≡ map too_many (take 1 (drop left xs))
-passed-left zero n [] e = refl
-passed-left zero n (x ∷ xs) e =
-    let full : n ≡ most_locals = omega arith in
-    subst (λ k. excess_of (passed k None (x ∷ xs)) ≡ record { rule = TooMany; at = x.at } ∷ []) (sym full) (ap excess_of (passed-once x.at xs))
-passed-left (suc left) n [] e = refl
-passed-left (suc left) n (x ∷ xs) e =
-    let more : nat_lt n most_locals ≡ true = grind (arith, nat_tests) in
-    let next : left + (n + 1) ≡ most_locals = omega arith in
-    ap (λ b. excess_of (if b then passed (n + 1) None xs else passed n (Some x.at) xs)) more ∙ passed-left left (n + 1) xs next
-
-pub excess-is : (xs : List Name) → excess_of (passed 0 None xs) ≡ map too_many (take 1 (drop most_locals xs))
-excess-is xs = passed-left most_locals 0 xs (omega arith)
-
--- up to the limit all are counted
-counted-all : (n : ℕ) (xs : List Name) → n + length xs ≤ most_locals → counted n xs ≡ n + length xs
-counted-all n [] h = omega arith
-counted-all n (x ∷ xs) h =
-    let more : nat_lt n most_locals ≡ true = grind (arith, nat_tests) in
-    let rest : counted (n + 1) xs ≡ (n + 1) + length xs = counted-all (n + 1) xs (omega arith) in
-    ap (λ b. counted (if b then n + 1 else n) xs) more ∙ rest ∙ (let k : (n + 1) + length xs ≡ n + suc (length xs) = omega arith in k)
-
-within-limit : (xs : List Name) → map too_many (take 1 (drop most_locals xs)) ≡ [] → length xs ≤ most_locals
-within-limit xs e = by (drop most_locals xs) refl e
-  where
-    by : (ys : List Name) → drop most_locals xs ≡ ys → map too_many (take 1 ys) ≡ [] → length xs ≤ most_locals
-    by [] d e' = let k : length xs - most_locals ≡ 0 = sym (length-drop most_locals xs) ∙ ap length d in omega arith
-    by (y ∷ ys) d e' = absurd (let c : ⊥ = cc in c)
-
-pub counted-is : (xs : List Name) → map too_many (take 1 (drop most_locals xs)) ≡ [] → counted 0 xs ≡ length xs
-counted-is xs e = let h = within-limit xs e in let k : counted 0 xs ≡ 0 + length xs = counted-all 0 xs (omega arith) in omega arith

@@ -1,192 +1,163 @@
--- The walk over a tree, part by part: what is found in one part and then in the next is found in both.
-use Rattle.std.proofs.Common.{◌≡◌, ℕ, suc, ◌+◌, ◌<◌, Bool, true, false, if◌then◌else◌, nat_lt, List, [], ◌∷◌, ◌++◌, length, get_or, take, drop, drop-cons, Option, Some, None, is_some, refl, sym, ap, ◌∙◌, arith}
+-- The walk over statements, part by part.
+use Rattle.std.proofs.Common.{◌≡◌, ℕ, ◌+◌, ◌≤◌, Result, Ok, Err, OnOk, List, [], ◌∷◌, ◌++◌, length, length-append, take, drop, Option, Some, None, refl, sym, ap, ◌∙◌, append_assoc, arith}
 use Rattle.std.proofs.Math.Seq.{take-append_seam, drop-append_seam}
+use Rattle.cc_syntax.specs.declared.ast.Scalar.{Scalar}
 use Rattle.cc_syntax.specs.Tree as tree
-use Rattle.cc_syntax.specs.Tree.{Name, Expr, Declared, Stmt, Stmts}
-use Rattle.cc_typing.specs.Form as form
-use Rattle.cc_typing.specs.Form.{FormStmts, next}
-use Rattle.cc_typing.specs.FormErase.{form_expression, form_statement, form_statements_of}
-use Rattle.cc_typing.specs.Forms.{prefixed}
-use Rattle.cc_typing.specs.Resolve.{with_declared, names_behind, resolved_expression, resolved_initial, resolved_declarator, resolved_declared, declared_names, locals, locals_of, resolved_statement, resolved_statements}
-use Rattle.cc_typing.specs.Scope.{Visible, names_in, closed, has_name, declared, all_declared}
-use Rattle.cc_typing.specs.Rules.{broken, declarator_offences, declared_offences, statement_offences, statements_offences, scope_behind, most_locals, initial_offences}
-use Rattle.cc_typing.specs.Findings.{earlier, noted, counted, passed, found}
+use Rattle.cc_syntax.specs.Tree.{Expr, Declared, Start, Action, Stmt, Stmts, next, If, IfElse, While, DoWhile, For, Declares, Performs}
+use Rattle.cc_typing.specs.Bindings.{closed}
+use Rattle.cc_typing.specs.Findings.{Found, after, declarator_offences, is_bad_return}
+use Rattle.cc_typing.specs.Scope.{Variable, Binding, Visible, in_scope, opened, declared, is_declared, all_declared, scope_behind, scope_behind_start}
+use Rattle.cc_typing.specs.Rules.{broken_if, Around, within_loop, value_offences, optional_offences, optional_action_offences, declared_offences, start_offences, return_offences, statement_offences, statements_offences, called_in, called_in_optional, called_in_optional_action, called_in_declared, called_in_start, called_in_statement, called_in_statements}
 use Rattle.cc_typing.specs.declared.rule.Offence.{Offence}
-use Rattle.cc_typing.specs.declared.rule.Rule.TheVariants.{Redeclared}
-use Rattle.cc_typing.specs.declared.findings.Findings.{Findings}
-use Rattle.cc_typing.specs.declared.form.ResolvedExpression.{ResolvedExpression}
-use Rattle.cc_typing.specs.declared.form.ResolvedStatement.{ResolvedStatement, Clear, Set}
+use Rattle.cc_typing.specs.declared.rule.Rule.TheVariants.{Redeclared, BadReturn}
+use Rattle.cc_typing.proofs.Parts as parts
+use Rattle.cc_typing.proofs.Parts.{two, three}
 
-pub noted-append : (f : Option Offence) (xs ys : List Offence) → noted (noted f xs) ys ≡ noted f (xs ++ ys)
-noted-append f [] ys = refl
-noted-append f (x ∷ xs) ys = noted-append (Some (earlier f x)) xs ys
+-- ---- scopes
 
-counted-append : (n : ℕ) (xs ys : List Name) → counted (counted n xs) ys ≡ counted n (xs ++ ys)
-counted-append n [] ys = refl
-counted-append n (x ∷ xs) ys = counted-append (if nat_lt n most_locals then n + 1 else n) xs ys
+-- what stands in the innermost scope leaves what is around it
+pub all_declared_outer : (t : Scalar) (ds : List Declared) (v : Visible) → (all_declared t ds v).outer ≡ v.outer
+all_declared_outer t [] v = refl
+all_declared_outer t (d ∷ ds) v = all_declared_outer t ds (declared d.name.text (Variable t) v)
 
-passed-append : (n : ℕ) (at : Option ℕ) (xs ys : List Name) → passed (counted n xs) (passed n at xs) ys ≡ passed n at (xs ++ ys)
-passed-append n at [] ys = refl
-passed-append n at (x ∷ xs) ys = by (nat_lt n most_locals) (passed-append (n + 1) at xs ys) (passed-append n (if is_some at then at else Some x.at) xs ys)
-  where
-    by : (b : Bool)
-        → passed (counted (n + 1) xs) (passed (n + 1) at xs) ys ≡ passed (n + 1) at (xs ++ ys)
-        → passed (counted n xs) (passed n (if is_some at then at else Some x.at) xs) ys ≡ passed n (if is_some at then at else Some x.at) (xs ++ ys)
-        → passed (counted (if b then n + 1 else n) xs) (if b then passed (n + 1) at xs else passed n (if is_some at then at else Some x.at) xs) ys
-        ≡ (if b then passed (n + 1) at (xs ++ ys) else passed n (if is_some at then at else Some x.at) (xs ++ ys))
-    by true e d = e
-    by false e d = d
+pub scope_behind_outer : (s : Stmt) (v : Visible) → (scope_behind s v).outer ≡ v.outer
+scope_behind_outer (tree.Block all) v = refl
+scope_behind_outer (tree.Local t ds) v = all_declared_outer t ds v
+scope_behind_outer (tree.Perform a) v = refl
+scope_behind_outer (tree.Return at e) v = refl
+scope_behind_outer (tree.Break at) v = refl
+scope_behind_outer (tree.Continue at) v = refl
+scope_behind_outer (If c s) v = refl
+scope_behind_outer (IfElse c s r) v = refl
+scope_behind_outer (While c s) v = refl
+scope_behind_outer (DoWhile s c) v = refl
+scope_behind_outer (For start c behind s) v = refl
 
-pub found_found : (f : Findings) (xs ys : List Offence) (ns ms : List Name) → found (found f xs ns) ys ms ≡ found f (xs ++ ys) (ns ++ ms)
-found_found f xs ys ns ms i = record { first = noted-append f.first xs ys i; locals = counted-append f.locals ns ms i; excess = passed-append f.locals f.excess ns ms i }
+pub scope_behind_start_outer : (s : Start) (v : Visible) → (scope_behind_start s v).outer ≡ v.outer
+scope_behind_start_outer (Declares t ds) v = all_declared_outer t ds v
+scope_behind_start_outer (Performs a) v = refl
 
--- two parts without offences
-pub both_empty : {A : Type 0} (xs ys : List A) → xs ++ ys ≡ [] → (xs ≡ []) × (ys ≡ [])
-both_empty [] ys e = (refl, e)
-both_empty (x ∷ xs) ys e = absurd (let c : ⊥ = cc in c)
+-- behind an inner scope the one around it is as it was
+closed_opened : (s v : Visible) → v.outer ≡ in_scope s → closed (length s.inner) v ≡ s
+closed_opened s v e i = record {
+  inner = (ap (take (length s.inner)) e ∙ take-append_seam s.inner s.outer) i;
+  outer = (ap (drop (length s.inner)) e ∙ drop-append_seam s.inner s.outer) i;
+}
 
--- an inner block leaves the scope around it
-pub all_declared_outer : (s : Visible) (ds : List Declared) → ((all_declared s ds).outer ≡ s.outer) × ((all_declared s ds).function ≡ s.function)
-all_declared_outer s [] = (refl, refl)
-all_declared_outer s (d ∷ ds) = all_declared_outer (declared s d.name.text) ds
+pub closes : (s v : Visible) (around : ℕ) → v.outer ≡ in_scope s → around ≡ length s.inner → around ≤ length v.outer
+closes s v around e n = let k : length v.outer ≡ length s.inner + length s.outer = ap length e ∙ length-append s.inner s.outer in omega arith
 
-pub scope_behind_outer : (s : Visible) (t : Stmt) → ((scope_behind s t).outer ≡ s.outer) × ((scope_behind s t).function ≡ s.function)
-scope_behind_outer s (tree.Block all) = (refl, refl)
-scope_behind_outer s (tree.Local t ds) = all_declared_outer s ds
-scope_behind_outer s (tree.Assign x e) = (refl, refl)
-scope_behind_outer s (tree.Call f e) = (refl, refl)
-scope_behind_outer s (tree.Return at e) = (refl, refl)
-scope_behind_outer s (tree.While c b) = (refl, refl)
+pub closed-is : (s v w : Visible) (around : ℕ) → v.outer ≡ in_scope s → around ≡ length s.inner → w ≡ closed around v → w ≡ s
+closed-is s v w around e n ew = ew ∙ ap (λ k. closed k v) n ∙ closed_opened s v e
 
-prefixed-append : (xs ys : List ResolvedStatement) (rest : FormStmts) → prefixed (xs ++ ys) rest ≡ prefixed xs (prefixed ys rest)
-prefixed-append [] ys rest = refl
-prefixed-append (x ∷ xs) ys rest = ap (next (form_statement x)) (prefixed-append xs ys rest)
-
--- a name that is new in its block comes before the names in scope
-pub names_in-declared : (s : Visible) (x : List ℕ) → has_name s.inner x ≡ false → names_in (declared s x) ≡ x ∷ names_in s
-names_in-declared s x e = ap (λ b. (if b then s.inner else x ∷ s.inner) ++ s.outer) e
-
--- such a name gets the next number
-pub number_if_new : (b : Bool) (o : Option ℕ) (n m : ℕ) → o ≡ (if b then None else Some n) → b ≡ false → o ≡ Some m → m ≡ n
-number_if_new true o n m e f g = absurd (let c : ⊥ = cc in c)
-number_if_new false o n m e f g = cc
-
-pub never_none : (b : Bool) (o : Option ℕ) (n : ℕ) → o ≡ (if b then None else Some n) → b ≡ false → o ≡ None → ⊥
-never_none true o n e f g = cc
-never_none false o n e f g = cc
-
--- one name of a declaration, without and with an initialiser
-module _ (names : List (List ℕ)) (d : Declared) (old cleared : List ResolvedStatement) (n : ℕ) (is_cleared : cleared ≡ old ++ Clear n ∷ []) (is_next : n ≡ length names) where
-  behind-cleared : (rest : FormStmts) → prefixed cleared rest ≡ prefixed old (next (form.Clear (length names)) rest)
-  behind-cleared rest = ap (λ l. prefixed l rest) is_cleared ∙ prefixed-append old (Clear n ∷ []) rest ∙ ap (λ k. prefixed old (next (form.Clear k) rest)) is_next
-
-  pub declarator-cleared : d.initial ≡ None → (rest : FormStmts) → prefixed cleared rest ≡ prefixed old (resolved_declarator names d rest)
-  declarator-cleared none rest = behind-cleared rest ∙ ap (λ i. prefixed old (next (form.Clear (length names)) (resolved_initial (d.name.text ∷ names) (length names) i rest))) (sym none)
-
-  pub declarator-set : (new : List ResolvedStatement) (e : ResolvedExpression) (t : Expr) → new ≡ cleared ++ Set n e ∷ [] → form_expression e ≡ resolved_expression (d.name.text ∷ names) t → d.initial ≡ Some t
-      → (rest : FormStmts) → prefixed new rest ≡ prefixed old (resolved_declarator names d rest)
-  declarator-set new e t is_set is_value some rest =
-      ap (λ l. prefixed l rest) is_set ∙ prefixed-append cleared (Set n e ∷ []) rest ∙ behind-cleared (next (form.Set n (form_expression e)) rest)
-      ∙ ap (λ k. prefixed old (next (form.Clear (length names)) (next (form.Set k (form_expression e)) rest))) is_next
-      ∙ ap (λ v. prefixed old (next (form.Clear (length names)) (next (form.Set (length names) v) rest))) is_value
-      ∙ ap (λ i. prefixed old (next (form.Clear (length names)) (resolved_initial (d.name.text ∷ names) (length names) i rest))) (sym some)
-
-pub drop-item : {A : Type 0} (l : List A) (i : ℕ) (x : A) → i < length l → x ≡ get_or l i x → drop i l ≡ x ∷ drop (i + 1) l
-drop-item l i x h e = drop-cons l i x h ∙ ap (λ y. y ∷ drop (suc i) l) (sym e) ∙ ap (λ k. x ∷ drop k l) (let k : suc i ≡ i + 1 = omega arith in k)
-
-not_redeclared : (b : Bool) (at : ℕ) (more : List Offence) → (if b then broken Redeclared at else []) ++ more ≡ [] → b ≡ false
-not_redeclared true at more e = cc
-not_redeclared false at more e = refl
-
--- where one name of a declaration breaks no rule, it is new in its block
-pub fresh_declarator : (s : Visible) (d : Declared) → declarator_offences s d ≡ [] → (has_name s.inner d.name.text ≡ false) × (initial_offences (declared s d.name.text) d.initial ≡ [])
-fresh_declarator s d none =
-    let more = initial_offences (declared s d.name.text) d.initial in
-    (not_redeclared (has_name s.inner d.name.text) d.name.at more none, (both_empty (if has_name s.inner d.name.text then broken Redeclared d.name.at else []) more none).1)
+-- ---- declarations
 
 -- behind some names of a declaration: what is done and what is left make the whole
-pub record Declaring (s0 : Visible) (f0 : Findings) (all : List Declared) (s : Visible) (f : Findings) (form : List ResolvedStatement) (rest : List Declared) : Type 0 where
-  pub scope : all_declared s rest ≡ all_declared s0 all
-  pub findings : found f (declared_offences s rest) (declared_names rest) ≡ found f0 (declared_offences s0 all) (declared_names all)
-  pub statements : declared_offences s0 all ≡ [] → (declared_offences s rest ≡ []) × (prefixed form (resolved_declared (names_in s) rest) ≡ resolved_declared (names_in s0) all)
+pub record Declaring (t : Scalar) (v0 : Visible) (f0 : Found) (all : List Declared) (v : Visible) (f : Found) (rest : List Declared) : Type 0 where
+  pub scope : all_declared t rest v ≡ all_declared t all v0
+  pub found : after f (declared_offences t rest v) (called_in_declared rest) ≡ after f0 (declared_offences t all v0) (called_in_declared all)
 
-pub Declaring-next : (s0 : Visible) (f0 : Findings) (all : List Declared) (s : Visible) (f : Findings) (form : List ResolvedStatement) (d : Declared) (rest : List Declared)
-    (s' : Visible) (f' : Findings) (form' : List ResolvedStatement)
-    → Declaring s0 f0 all s f form (d ∷ rest)
-    → s' ≡ declared s d.name.text → f' ≡ found f (declarator_offences s d) (d.name ∷ [])
-    → (has_name s.inner d.name.text ≡ false → (more : FormStmts) → prefixed form' more ≡ prefixed form (resolved_declarator (names_in s) d more))
-    → Declaring s0 f0 all s' f' form' rest
-Declaring-next s0 f0 all s f form d rest s' f' form' before es ef eform = record {
-  scope = ap (λ v. all_declared v rest) es ∙ before.scope;
-  findings =
-      ap (λ g. found g (declared_offences s' rest) (declared_names rest)) ef
-      ∙ ap (λ v. found (found f (declarator_offences s d) (d.name ∷ [])) (declared_offences v rest) (declared_names rest)) es
-      ∙ found_found f (declarator_offences s d) (declared_offences (declared s d.name.text) rest) (d.name ∷ []) (declared_names rest) ∙ before.findings;
-  statements = λ none.
-      let done = before.statements none in
-      let empty = both_empty (declarator_offences s d) (declared_offences (declared s d.name.text) rest) done.0 in
-      let fresh = (fresh_declarator s d empty.0).0 in
-      let names : names_in s' ≡ d.name.text ∷ names_in s = ap names_in es ∙ names_in-declared s d.name.text fresh in (
-        ap (λ v. declared_offences v rest) es ∙ empty.1,
-        eform fresh (resolved_declared (names_in s') rest) ∙ ap (λ ns. prefixed form (resolved_declarator (names_in s) d (resolved_declared ns rest))) names ∙ done.1,
-      );
+pub Declaring-next : (t : Scalar) (v0 : Visible) (f0 : Found) (all : List Declared) (v : Visible) (f : Found) (d : Declared) (rest : List Declared) (v' : Visible) (f' : Found)
+    → Declaring t v0 f0 all v f (d ∷ rest) → v' ≡ declared d.name.text (Variable t) v → f' ≡ after f (declarator_offences t d v) (called_in_optional d.initial)
+    → Declaring t v0 f0 all v' f' rest
+Declaring-next t v0 f0 all v f d rest v' f' before es ef = record {
+  scope = ap (all_declared t rest) es ∙ before.scope;
+  found =
+      let there = declared d.name.text (Variable t) v in
+      ap (λ u. after f' (declared_offences t rest u) (called_in_declared rest)) es
+      ∙ parts.next f f' _ (declarator_offences t d v) (declared_offences t rest there) (declared_offences t (d ∷ rest) v)
+      (called_in_optional d.initial) (called_in_declared rest) (called_in_declared (d ∷ rest)) before.found
+      (sym (append_assoc (broken_if (is_declared v.inner d.name.text) Redeclared d.name.at) (optional_offences (in_scope there) d.initial) (declared_offences t rest there)))
+      refl ef;
 }
 
-pub prefixed-end : (xs : List ResolvedStatement) → prefixed xs form.end ≡ form_statements_of xs
-prefixed-end [] = refl
-prefixed-end (x ∷ xs) = ap (next (form_statement x)) (prefixed-end xs)
+-- ---- statements
 
--- where no rule is broken, the locals in scope behind a statement are the names that resolving has there
-names-declared : (s : Visible) (ds : List Declared) → declared_offences s ds ≡ [] → names_in (all_declared s ds) ≡ with_declared (names_in s) ds
-names-declared s [] none = refl
-names-declared s (d ∷ ds) none =
-    let empty = both_empty (declarator_offences s d) (declared_offences (declared s d.name.text) ds) none in
-    let fresh = (fresh_declarator s d empty.0).0 in
-    names-declared (declared s d.name.text) ds empty.1 ∙ ap (λ ns. with_declared ns ds) (names_in-declared s d.name.text fresh)
+-- a return
+pub return-is : (r : Option Scalar) (bs : List Binding) (at : ℕ) (e : Option Expr) → return_offences r bs at e ≡ broken_if (is_bad_return r e) BadReturn at ++ optional_offences bs e
+return-is None bs at None = refl
+return-is None bs at (Some e) = refl
+return-is (Some t) bs at None = refl
+return-is (Some t) bs at (Some e) = refl
 
-pub names-behind : (s : Visible) (t : Stmt) → statement_offences s t ≡ [] → names_in (scope_behind s t) ≡ names_behind (names_in s) t
-names-behind s (tree.Block all) none = refl
-names-behind s (tree.Local t ds) none = names-declared s ds none
-names-behind s (tree.Assign x e) none = refl
-names-behind s (tree.Call f e) none = refl
-names-behind s (tree.Return at e) none = refl
-names-behind s (tree.While c b) none = refl
+-- four parts
+four : (f g h k m : Found) (xs ys zs ws os : List Offence) (cs ds es gs all : List tree.Name) → g ≡ after f xs cs → h ≡ after g ys ds → k ≡ after h zs es → m ≡ after k ws gs
+    → os ≡ xs ++ (ys ++ (zs ++ ws)) → all ≡ cs ++ (ds ++ (es ++ gs)) → m ≡ after f os all
+four f g h k m xs ys zs ws os cs ds es gs all eg eh ek em eo ee =
+    two f g m xs (ys ++ (zs ++ ws)) os cs (ds ++ (es ++ gs)) all eg (three g h k m ys zs ws (ys ++ (zs ++ ws)) ds es gs (ds ++ (es ++ gs)) eh ek em refl refl) eo ee
 
--- behind an inner block the scope is as it was before it
-pub closed_opened : (s v : Visible) → v.outer ≡ names_in s → v.function ≡ s.function → closed (length s.inner) v ≡ s
-closed_opened s v eo ef i = record {
-  function = ef i;
-  inner = (ap (take (length s.inner)) eo ∙ take-append_seam s.inner s.outer) i;
-  outer = (ap (drop (length s.inner)) eo ∙ drop-append_seam s.inner s.outer) i;
-}
+module _ (a : Around) (v : Visible) (t : Stmt) (f : Found) where
+  abbrev inside : Stmt → List Offence
+  inside s = statement_offences s a (opened v)
+
+  abbrev looped : Stmt → List Offence
+  looped s = statement_offences s (within_loop a) (opened v)
+
+  abbrev tested : Expr → List Offence
+  tested e = value_offences (in_scope v) e
+
+  pub if-found : (g h : Found) (c : Expr) (b body : Stmt) → t ≡ If c b → body ≡ b → g ≡ after f (tested c) (called_in c) → h ≡ after g (inside body) (called_in_statement body)
+      → h ≡ after f (statement_offences t a v) (called_in_statement t)
+  if-found g h c b body is eb eg eh =
+      two f g h (tested c) (inside body) _ (called_in c) (called_in_statement body) _ eg eh
+      (ap (λ u. statement_offences u a v) is ∙ ap (λ u. tested c ++ inside u) (sym eb)) (ap called_in_statement is ∙ ap (λ u. called_in c ++ called_in_statement u) (sym eb))
+
+  pub if_else-found : (g h k : Found) (c : Expr) (b r body other : Stmt) → t ≡ IfElse c b r → body ≡ b → other ≡ r
+      → g ≡ after f (tested c) (called_in c) → h ≡ after g (inside body) (called_in_statement body) → k ≡ after h (inside other) (called_in_statement other)
+      → k ≡ after f (statement_offences t a v) (called_in_statement t)
+  if_else-found g h k c b r body other is eb er eg eh ek =
+      three f g h k (tested c) (inside body) (inside other) _ (called_in c) (called_in_statement body) (called_in_statement other) _ eg eh ek
+      (ap (λ u. statement_offences u a v) is ∙ ap (λ u. tested c ++ (inside u ++ inside r)) (sym eb) ∙ ap (λ u. tested c ++ (inside body ++ inside u)) (sym er))
+      (ap called_in_statement is ∙ ap (λ u. called_in c ++ (called_in_statement u ++ called_in_statement r)) (sym eb) ∙ ap (λ u. called_in c ++ (called_in_statement body ++ called_in_statement u)) (sym er))
+
+  pub while-found : (w : Around) → w ≡ within_loop a → (g h : Found) (c : Expr) (b body : Stmt) → t ≡ While c b → body ≡ b
+      → g ≡ after f (tested c) (called_in c) → h ≡ after g (statement_offences body w (opened v)) (called_in_statement body)
+      → h ≡ after f (statement_offences t a v) (called_in_statement t)
+  while-found w ew g h c b body is eb eg eh =
+      two f g h (tested c) (looped body) _ (called_in c) (called_in_statement body) _ eg (eh ∙ ap (λ u. after g (statement_offences body u (opened v)) (called_in_statement body)) ew)
+      (ap (λ u. statement_offences u a v) is ∙ ap (λ u. tested c ++ looped u) (sym eb)) (ap called_in_statement is ∙ ap (λ u. called_in c ++ called_in_statement u) (sym eb))
+
+  pub do_while-found : (w : Around) → w ≡ within_loop a → (g h : Found) (c : Expr) (b body : Stmt) → t ≡ DoWhile b c → body ≡ b
+      → g ≡ after f (statement_offences body w (opened v)) (called_in_statement body) → h ≡ after g (tested c) (called_in c)
+      → h ≡ after f (statement_offences t a v) (called_in_statement t)
+  do_while-found w ew g h c b body is eb eg eh =
+      two f g h (looped body) (tested c) _ (called_in_statement body) (called_in c) _ (eg ∙ ap (λ u. after f (statement_offences body u (opened v)) (called_in_statement body)) ew) eh
+      (ap (λ u. statement_offences u a v) is ∙ ap (λ u. looped u ++ tested c) (sym eb)) (ap called_in_statement is ∙ ap (λ u. called_in_statement u ++ called_in c) (sym eb))
+
+  -- a `for`, where u is the scope that its header opens, and n the scope behind the header's first part
+  pub for-found : (w : Around) → w ≡ within_loop a → (u n : Visible) → u ≡ opened v → (g h k m : Found) (start : Start) (c : Option Expr) (behind : Option Action) (b body : Stmt)
+      → t ≡ For start c behind b → body ≡ b → n ≡ scope_behind_start start u
+      → g ≡ after f (start_offences start u) (called_in_start start) → h ≡ after g (optional_offences (in_scope n) c) (called_in_optional c)
+      → k ≡ after h (optional_action_offences (in_scope n) behind) (called_in_optional_action behind) → m ≡ after k (statement_offences body w (opened n)) (called_in_statement body)
+      → m ≡ after f (statement_offences t a v) (called_in_statement t)
+  for-found w ew u n eu g h k m start c behind b body is eb en eg eh ek em =
+      let there : n ≡ scope_behind_start start (opened v) = en ∙ ap (scope_behind_start start) eu in
+      four f g h k m (start_offences start u) (optional_offences (in_scope n) c) (optional_action_offences (in_scope n) behind) (statement_offences body w (opened n)) _
+      (called_in_start start) (called_in_optional c) (called_in_optional_action behind) (called_in_statement body) _ eg eh ek em
+      (ap (λ q. statement_offences q a v) is
+      ∙ ap (λ q. start_offences start (opened v) ++ (optional_offences (in_scope q) c ++ (optional_action_offences (in_scope q) behind ++ statement_offences b (within_loop a) (opened q)))) (sym there)
+      ∙ ap (λ q. start_offences start q ++ (optional_offences (in_scope n) c ++ (optional_action_offences (in_scope n) behind ++ statement_offences b (within_loop a) (opened n)))) (sym eu)
+      ∙ ap (λ q. start_offences start u ++ (optional_offences (in_scope n) c ++ (optional_action_offences (in_scope n) behind ++ statement_offences q (within_loop a) (opened n)))) (sym eb)
+      ∙ ap (λ q. start_offences start u ++ (optional_offences (in_scope n) c ++ (optional_action_offences (in_scope n) behind ++ statement_offences body q (opened n)))) (sym ew))
+      (ap called_in_statement is ∙ ap (λ q. called_in_start start ++ (called_in_optional c ++ (called_in_optional_action behind ++ called_in_statement q))) (sym eb))
 
 -- behind some statements of a list: what is done and what is left make the whole
-pub record Walking (s0 : Visible) (f0 : Findings) (all : Stmts) (s : Visible) (f : Findings) (form : List ResolvedStatement) (rest : Stmts) : Type 0 where
-  pub function : s.function ≡ s0.function
-  pub outer : s.outer ≡ s0.outer
-  pub findings : found f (statements_offences s rest) (locals rest) ≡ found f0 (statements_offences s0 all) (locals all)
-  pub statements : statements_offences s0 all ≡ [] → (statements_offences s rest ≡ []) × (prefixed form (resolved_statements (names_in s) rest) ≡ resolved_statements (names_in s0) all)
+pub record Walking (a : Around) (v0 : Visible) (f0 : Found) (all : Stmts) (v : Visible) (f : Found) (rest : Stmts) : Type 0 where
+  pub outer : v.outer ≡ v0.outer
+  pub found : after f (statements_offences rest a v) (called_in_statements rest) ≡ after f0 (statements_offences all a v0) (called_in_statements all)
 
-pub Walking-next : (s0 : Visible) (f0 : Findings) (all : Stmts) (s : Visible) (f : Findings) (form : List ResolvedStatement) (t : Stmt) (rest : Stmts)
-    (s' : Visible) (f' : Findings) (r : ResolvedStatement) (form' : List ResolvedStatement)
-    → Walking s0 f0 all s f form (tree.next t rest)
-    → s' ≡ scope_behind s t → f' ≡ found f (statement_offences s t) (locals_of t)
-    → (statement_offences s t ≡ [] → form_statement r ≡ resolved_statement (names_in s) t) → form' ≡ form ++ r ∷ []
-    → Walking s0 f0 all s' f' form' rest
-Walking-next s0 f0 all s f form t rest s' f' r form' before es ef er eform = record {
-  function = ap (λ (v : Visible). v.function) es ∙ (scope_behind_outer s t).1 ∙ before.function;
-  outer = ap (λ (v : Visible). v.outer) es ∙ (scope_behind_outer s t).0 ∙ before.outer;
-  findings =
-      ap (λ g. found g (statements_offences s' rest) (locals rest)) ef
-      ∙ ap (λ v. found (found f (statement_offences s t) (locals_of t)) (statements_offences v rest) (locals rest)) es
-      ∙ found_found f (statement_offences s t) (statements_offences (scope_behind s t) rest) (locals_of t) (locals rest) ∙ before.findings;
-  statements = λ none.
-      let done = before.statements none in
-      let empty = both_empty (statement_offences s t) (statements_offences (scope_behind s t) rest) done.0 in
-      let names : names_in s' ≡ names_behind (names_in s) t = ap names_in es ∙ names-behind s t empty.0 in (
-        ap (λ v. statements_offences v rest) es ∙ empty.1,
-        ap (λ l. prefixed l (resolved_statements (names_in s') rest)) eform ∙ prefixed-append form (r ∷ []) (resolved_statements (names_in s') rest)
-            ∙ ap (λ k. prefixed form (next k (resolved_statements (names_in s') rest))) (er empty.0)
-            ∙ ap (λ ns. prefixed form (next (resolved_statement (names_in s) t) (resolved_statements ns rest))) names ∙ done.1,
-      );
+pub Walking-next : (a : Around) (v0 : Visible) (f0 : Found) (all : Stmts) (v : Visible) (f : Found) (s : Stmt) (rest : Stmts) (v' : Visible) (f' : Found)
+    → Walking a v0 f0 all v f (next s rest) → v' ≡ scope_behind s v → f' ≡ after f (statement_offences s a v) (called_in_statement s)
+    → Walking a v0 f0 all v' f' rest
+Walking-next a v0 f0 all v f s rest v' f' before es ef = record {
+  outer = ap (λ (u : Visible). u.outer) es ∙ scope_behind_outer s v ∙ before.outer;
+  found =
+      ap (λ u. after f' (statements_offences rest a u) (called_in_statements rest)) es
+      ∙ parts.next f f' _ (statement_offences s a v) (statements_offences rest a (scope_behind s v)) (statements_offences (next s rest) a v)
+      (called_in_statement s) (called_in_statements rest) (called_in_statements (next s rest)) before.found refl refl ef;
 }
+
+-- what follows from what holds on success holds on success
+pub on_ok : {T E P Q : Type 0} (r : Result T E) → (P → Q) → OnOk r P → OnOk r Q
+on_ok (Ok v) f h = f h
+on_ok (Err e) f h = tt

@@ -1,33 +1,71 @@
--- How the code keeps the locals in scope.
-use Rattle.std.specs.Prelude.{ℕ, ◌≡◌, Bool, List, [], ◌∷◌, take, drop, map, reverse, nat_eq}
+-- How the code keeps the names in scope.
+use Rattle.std.specs.Prelude.{ℕ, ◌≡◌, Bool, List, [], ◌∷◌, length, map, reverse, take, drop, Option, Some, None, if◌then◌else◌, nat_eq}
 use Rattle.std.specs.Borrow.{Bor}
 use Rattle.std.specs.Cmp.Lexicographic.{pointwise}
 use Rattle.indexmap.specs.IndexMap.{IndexMap, get}
-use Rattle.cc_typing.specs.Scope.{Visible, number_in}
+use Rattle.cc_typing.specs.Names.{same_name}
+use Rattle.cc_typing.specs.Scope as scope
+use Rattle.cc_typing.specs.Scope.{Visible}
+use Rattle.cc_typing.specs.Entities.{entity_of}
 use Rattle.cc_typing.specs.declared.bindings.Binding.{Binding}
+use Rattle.cc_typing.specs.declared.bindings.Newest.{Newest}
 
--- the names of some bindings
-abbrev pub names : List Binding → List (List ℕ)
-names bs = map (λ (b : Binding). b.name.now) bs
+-- a binding, as the definitions see it
+abbrev pub binding_of : Binding → scope.Binding
+binding_of b = record { name = b.name.now; entity = entity_of b.entity }
 
--- the names of the bindings, the newest first; they are kept the oldest first
-abbrev pub names_of : List Binding → List (List ℕ)
-names_of bs = names (reverse bs)
+-- the bindings, the newest first; they are kept the oldest first
+abbrev pub bindings_of : List Binding → List scope.Binding
+bindings_of bs = map binding_of (reverse bs)
 
--- each binding, the newest first, has the number that its name had before it
+-- the newest of some bindings of a name, with its number
+abbrev pub newest : List Binding → List ℕ → Option Newest
+newest [] x = None
+newest (b ∷ rest) x = if same_name b.name.now x then Some (record { number = length rest; entity = b.entity }) else newest rest x
+
+-- each binding, the newest first, has what was the newest of its name before it
 abbrev pub AreHidden : List Binding → Type 0
 AreHidden [] = Unit {0}
-AreHidden (b ∷ rest) = (b.hidden ≡ number_in (names rest) b.name.now) × AreHidden rest
+AreHidden (b ∷ rest) = (b.hidden ≡ newest rest b.name.now) × AreHidden rest
 
 -- two keys are the same name
 abbrev pub same_key : Bor (List ℕ) → Bor (List ℕ) → Bool
 same_key a b = pointwise nat_eq a.now b.now
 
--- the map has each name's number
-pub record IsTable {S : Type 0} (bs : List Binding) (numbers : IndexMap (Bor (List ℕ)) ℕ S) : Type 0 where
-  pub found : (x : Bor (List ℕ)) → get same_key numbers x ≡ number_in (names_of bs) x.now
+-- the map has the newest binding of each name
+pub record IsTable {S : Type 0} (bs : List Binding) (names : IndexMap (Bor (List ℕ)) Newest S) : Type 0 where
+  pub found : (x : Bor (List ℕ)) → get same_key names x ≡ newest (reverse bs) x.now
   pub hidden : AreHidden (reverse bs)
 
--- the scope that some names make, where the innermost block has declared so many of them
-abbrev pub scope_of : List ℕ → List (List ℕ) → ℕ → Visible
-scope_of function all inner = record { function = function; inner = take inner all; outer = drop inner all }
+-- the number of the newest binding of a name: how many stand behind it
+abbrev pub number_in : List scope.Binding → List ℕ → Option ℕ
+number_in [] x = None
+number_in (b ∷ behind) x = if same_name b.name x then Some (length behind) else number_in behind x
+
+-- what is answered of a name
+abbrev pub number_of : Option Newest → Option ℕ
+number_of None = None
+number_of (Some n) = Some n.number
+
+abbrev pub entity_found : Option Newest → Option scope.Entity
+entity_found None = None
+entity_found (Some n) = Some (entity_of n.entity)
+
+-- the scope that some bindings make, where the innermost scope has declared so many of them
+abbrev pub scope_of : List scope.Binding → ℕ → Visible
+scope_of all inner = record { inner = take inner all; outer = drop inner all }
+
+-- the scope behind an inner one, in a scope that has declared so many names
+abbrev pub closed : ℕ → Visible → Visible
+closed around v = record { inner = take around v.outer; outer = drop around v.outer }
+
+-- the scope in which nothing but file scope is
+abbrev pub file_level : List scope.Binding → Visible
+file_level bs = record { inner = []; outer = bs }
+
+-- file scope where nothing else is in scope, as far as its names go; and with the names of functions that are defined
+abbrev pub file_with : Visible → List (List ℕ) → scope.FileScope
+file_with v defined = record { bindings = v.outer; defined = defined }
+
+abbrev pub file_of : Visible → scope.FileScope
+file_of v = file_with v []

@@ -42,8 +42,11 @@ fault_of rule.Unknown p = Unknown p
 fault_of rule.Redeclared p = Redeclared p
 fault_of rule.WrongKind p = WrongKind p
 fault_of rule.WrongCount p = WrongCount p
+fault_of rule.VoidValue p = VoidValue p
 fault_of rule.BadReturn p = BadReturn p
 fault_of rule.BadAssign p = BadAssign p
+fault_of rule.BadBreak p = BadBreak p
+fault_of rule.Undefined p = Undefined p
 fault_of rule.TooMany p = TooMany p
 
 -- the number of a rule
@@ -52,6 +55,9 @@ rule_number rule.Unknown = 11
 rule_number rule.Redeclared = 12
 rule_number rule.WrongKind = 13
 rule_number rule.WrongCount = 14
+rule_number rule.VoidValue = 15
 rule_number rule.BadReturn = 16
 rule_number rule.BadAssign = 17
+rule_number rule.BadBreak = 18
+rule_number rule.Undefined = 20
 rule_number rule.TooMany = 21

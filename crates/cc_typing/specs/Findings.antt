@@ -1,11 +1,13 @@
--- What the code has found so far: the first offence, and how many locals were declared.
-use Rattle.std.specs.Prelude.{ℕ, ◌+◌, ◌==◌, ◌&&◌, ◌||◌, Bool, List, [], ◌∷◌, Option, Some, None, if◌then◌else◌, nat_lt, is_some}
-use Rattle.cc_syntax.specs.Tree.{Name}
+-- What the code has found so far.
+use Rattle.std.specs.Prelude.{ℕ, ◌==◌, ◌&&◌, ◌||◌, ◌++◌, Bool, true, false, List, [], ◌∷◌, Option, Some, None, if◌then◌else◌, nat_lt}
+use Rattle.cc_syntax.specs.declared.ast.Scalar.{Scalar}
+use Rattle.cc_syntax.specs.Tree.{Name, Expr, Declared}
 use Rattle.cc_typing.specs.Fault.{rule_number}
-use Rattle.cc_typing.specs.Rules.{most_locals}
-use Rattle.cc_typing.specs.declared.rule.Rule.TheVariants.{TooMany}
+use Rattle.cc_typing.specs.Rules.{undefined_among, Around, broken_if, optional_offences}
+use Rattle.cc_typing.specs.Scope.{Variable, Visible, in_scope, declared, is_declared}
+use Rattle.cc_typing.specs.declared.rule.Rule.TheVariants.{Redeclared}
 use Rattle.cc_typing.specs.declared.rule.Offence.{Offence}
-use Rattle.cc_typing.specs.declared.findings.Findings.{Findings}
+use Rattle.cc_typing.specs.declared.around.Surroundings.{Surroundings}
 
 -- one offence comes before another
 abbrev pub is_before : Offence → Offence → Bool
@@ -21,25 +23,37 @@ abbrev pub noted : Option Offence → List Offence → Option Offence
 noted first [] = first
 noted first (o ∷ rest) = noted (Some (earlier first o)) rest
 
--- how many locals were declared, up to the number allowed, after some more
-abbrev pub counted : ℕ → List Name → ℕ
-counted n [] = n
-counted n (x ∷ rest) = counted (if nat_lt n most_locals then n + 1 else n) rest
+-- what is found: the first offence, the first call of a function that is not defined, and the functions that are
+pub record Found : Type 0 where
+  pub first : Option Offence
+  pub undefined : Option Offence
+  pub defined : List (List ℕ)
 
--- the place of the first local past the number allowed
-abbrev pub passed : ℕ → Option ℕ → List Name → Option ℕ
-passed n at [] = at
-passed n at (x ∷ rest) = if nat_lt n most_locals then passed (n + 1) at rest else passed n (if is_some at then at else Some x.at) rest
-
--- what is found after some more offences and locals
-abbrev pub found : Findings → List Offence → List Name → Findings
-found f more names = record { first = noted f.first more; locals = counted f.locals names; excess = passed f.locals f.excess names }
+-- the same after a part with these offences and these calls
+abbrev pub after : Found → List Offence → List Name → Found
+after f offences calls = record f { first = noted f.first offences; undefined = noted f.undefined (undefined_among f.defined calls) }
 
 -- nothing is found yet
-abbrev pub nothing_found : Findings
-nothing_found = record { first = None; locals = 0; excess = None }
+abbrev pub nothing_found : List (List ℕ) → Found
+nothing_found defined = record { first = None; undefined = None; defined = defined }
 
--- the limit passed at a place, where it is
-abbrev pub excess_of : Option ℕ → List Offence
-excess_of None = []
-excess_of (Some at) = record { rule = TooMany; at = at } ∷ []
+-- where a statement stands
+abbrev pub around_of : Surroundings → Around
+around_of a = record { result = a.result; in_loop = a.in_loop }
+
+-- one name of a declaration of locals
+abbrev pub declarator_offences : Scalar → Declared → Visible → List Offence
+declarator_offences t d v =
+    broken_if (is_declared v.inner d.name.text) Redeclared d.name.at ++ optional_offences (in_scope (declared d.name.text (Variable t) v)) d.initial
+
+-- a return with a value in a void function, or without one in another
+abbrev pub is_bad_return : Option Scalar → Option Expr → Bool
+is_bad_return None None = false
+is_bad_return None (Some e) = true
+is_bad_return (Some t) None = true
+is_bad_return (Some t) (Some e) = false
+
+-- an array without elements, or with fewer than its list has values
+abbrev pub is_bad_length : Option ℕ → ℕ → Bool
+is_bad_length None given = false
+is_bad_length (Some n) given = n == 0 || nat_lt n given

@@ -1,100 +1,340 @@
 -- The rules of scope and type, by the places where a unit breaks them. Each part of the tree says which rules it breaks
--- in the scope where it stands; what follows an offence is judged as if its type were int.
-use Rattle.std.specs.Prelude.{ℕ, ◌==◌, List, [], ◌∷◌, ◌++◌, Option, Some, None, if◌then◌else◌, drop, take, map}
-use Rattle.cc_syntax.specs.Tree.{Name, Expr, Declared, Stmt, Stmts, Definition, end, next, Number, Variable, Parenthesised, Unary, Binary, Block, Local, Assign, Call, Return, While}
-use Rattle.cc_typing.specs.Scope.{Visible, body_scope_of, opened, has_name, declared, all_declared, is_builtin, referent}
-use Rattle.cc_typing.specs.Resolve.{locals}
+-- in the scope where it stands, and no order of checking is in it; what follows an offence is judged as if its type were
+-- int. The numbers in parentheses are clauses of ISO/IEC 9899:1999.
+use Rattle.std.specs.Prelude.{ℕ, ◌+◌, Bool, true, false, ◌==◌, ◌||◌, ◌&&◌, not, List, [], ◌∷◌, ◌++◌, length, Option, Some, None, if◌then◌else◌, is_some, nat_lt, codes}
+use Rattle.cc_syntax.specs.declared.ast.Scalar.{Scalar}
+use Rattle.cc_syntax.specs.declared.ast.Scalar.TheVariants.{Int}
+use Rattle.cc_syntax.specs.Tree as tree
+use Rattle.cc_syntax.specs.Tree.{Name, Expr, Exprs, none, more, Number, Element, Call, Parenthesised, Unary, Cast, Binary, Conditional, Target, AtVariable, AtElement, Action, Assign, Step, Evaluate, Declared, Start, Declares, Performs, Stmt, Stmts, end, next, Block, Local, Perform, Return, Break, Continue, If, IfElse, While, DoWhile, For, ConstantExpr, Parameter, Signature, Object, Single, Array, External, Declaration, Definition, Objects}
+use Rattle.cc_typing.specs.Names.{same_name}
+use Rattle.cc_typing.specs.Scope.{Entity, Variable, Elements, Function, Binding, found, is_declared, Visible, in_scope, opened, declared, scope_behind, scope_behind_start, parameter_declared, FileScope, has_name, first_file_scope, with_function, with_object, file_scope_behind, file_scope_behind_all, function_entity, body_scope, same_entity, same_result}
+use Rattle.cc_typing.specs.Types.{result_type, constant_word, array_length}
 use Rattle.cc_typing.specs.declared.rule.Offence.{Offence}
 use Rattle.cc_typing.specs.declared.rule.Rule.{Rule}
-use Rattle.cc_typing.specs.declared.rule.Rule.TheVariants.{Unknown, Redeclared, WrongKind, WrongCount, BadReturn, BadAssign, TooMany}
-use Rattle.cc_typing.specs.declared.scope.Referent.{Referent}
-use Rattle.cc_typing.specs.declared.scope.Referent.TheVariants as stands
+use Rattle.cc_typing.specs.declared.rule.Rule.TheVariants.{Unknown, Redeclared, WrongKind, WrongCount, VoidValue, BadReturn, BadAssign, BadBreak, Undefined}
 
 -- one rule broken, at the token with an offset
 abbrev pub broken : Rule → ℕ → List Offence
 broken r at = record { rule = r; at = at } ∷ []
 
--- a name where a local must stand: a function there breaks the rule that is given
-abbrev pub name_offences : Rule → Referent → ℕ → List Offence
-name_offences misuse (stands.Local i) at = []
-name_offences misuse (stands.Function n) at = broken misuse at
-name_offences misuse stands.Nothing at = broken Unknown at
+-- a rule that is broken where this is so
+abbrev pub broken_if : Bool → Rule → ℕ → List Offence
+broken_if holds r at = if holds then broken r at else []
 
--- a name called with one argument: a function of one parameter (C99 6.5.2.2)
-abbrev pub call_offences : Referent → ℕ → List Offence
-call_offences (stands.Local i) at = broken WrongKind at
-call_offences (stands.Function n) at = if n == 1 then [] else broken WrongCount at
-call_offences stands.Nothing at = broken Unknown at
+-- ---- names
 
--- an expression: each name in it is used as a value, so it is a local (C99 6.5.1)
-abbrev pub expression_offences : Visible → Expr → List Offence
-expression_offences s (Number t n) = []
-expression_offences s (Variable x) = name_offences WrongKind (referent s x.text) x.at
-expression_offences s (Parenthesised e) = expression_offences s e
-expression_offences s (Unary op e) = expression_offences s e
-expression_offences s (Binary op a b) = expression_offences s a ++ expression_offences s b
+-- a name where a variable must stand: an array or a function there breaks the rule that is given
+abbrev pub variable_offences : Rule → Option Entity → ℕ → List Offence
+variable_offences misuse None at = broken Unknown at
+variable_offences misuse (Some (Variable t)) at = []
+variable_offences misuse (Some (Elements t)) at = broken misuse at
+variable_offences misuse (Some (Function r ts)) at = broken misuse at
 
--- the value of a return, which a function of type int must have (C99 6.8.6.4)
-abbrev pub return_offences : Visible → ℕ → Option Expr → List Offence
-return_offences s at None = broken BadReturn at
-return_offences s at (Some e) = expression_offences s e
+-- a name that is indexed: an array (6.5.2.1)
+abbrev pub array_offences : Option Entity → ℕ → List Offence
+array_offences None at = broken Unknown at
+array_offences (Some (Variable t)) at = broken WrongKind at
+array_offences (Some (Elements t)) at = []
+array_offences (Some (Function r ts)) at = broken WrongKind at
 
--- an initialiser
-abbrev pub initial_offences : Visible → Option Expr → List Offence
-initial_offences s None = []
-initial_offences s (Some e) = expression_offences s e
+-- a name that is called with so many arguments: a function of as many parameters (6.5.2.2)
+abbrev pub function_offences : Option Entity → ℕ → ℕ → List Offence
+function_offences None count at = broken Unknown at
+function_offences (Some (Variable t)) count at = broken WrongKind at
+function_offences (Some (Elements t)) count at = broken WrongKind at
+function_offences (Some (Function r ts)) count at = broken_if (not (count == length ts)) WrongCount at
 
--- one name of a declaration: a block declares no name twice (C99 6.7); the name is in scope in its own initialiser
--- (C99 6.2.1)
-abbrev pub declarator_offences : Visible → Declared → List Offence
-declarator_offences s d =
-    (if has_name s.inner d.name.text then broken Redeclared d.name.at else [])
-    ++ initial_offences (declared s d.name.text) d.initial
+-- ---- expressions
 
--- a declaration: its names one after the other
-abbrev pub declared_offences : Visible → List Declared → List Offence
-declared_offences s [] = []
-declared_offences s (d ∷ rest) = declarator_offences s d ++ declared_offences (declared s d.name.text) rest
+-- how many arguments a call has
+abbrev pub count_of : Exprs → ℕ
+count_of none = 0
+count_of (more e rest) = 1 + count_of rest
 
--- the scope behind a statement: a declaration adds its names, and every other statement leaves it
-abbrev pub scope_behind : Visible → Stmt → Visible
-scope_behind s (Block all) = s
-scope_behind s (Local t ds) = all_declared s ds
-scope_behind s (Assign x e) = s
-scope_behind s (Call f e) = s
-scope_behind s (Return at e) = s
-scope_behind s (While c body) = s
+-- a void call, in parentheses too, where a value is used (6.3.2.2)
+abbrev pub void_offences : List Binding → Expr → List Offence
+void_offences bs (Call f es) = elim (result_type (found bs f.text)) [ None ↦ broken VoidValue f.at | Some t ↦ [] ]
+void_offences bs (Parenthesised e) = void_offences bs e
+void_offences bs e = []
 
--- a statement, and a list of statements: what is assigned to is a local (C99 6.5.16); a block and a loop's body are scopes of their own (C99 6.8.2, 6.8.5)
+-- an expression that is evaluated, whether its value is used or not: each part but a pair of parentheses uses the values
+-- of its parts (6.5)
 abbrev mutual
-  pub statement_offences : Visible → Stmt → List Offence
-  statement_offences s (Block all) = statements_offences (opened s) all
-  statement_offences s (Local t ds) = declared_offences s ds
-  statement_offences s (Assign x e) = name_offences BadAssign (referent s x.text) x.at ++ expression_offences s e
-  statement_offences s (Call f e) = call_offences (referent s f.text) f.at ++ expression_offences s e
-  statement_offences s (Return at e) = return_offences s at e
-  statement_offences s (While c body) = expression_offences s c ++ statement_offences (opened s) body
+  pub expression_offences : List Binding → Expr → List Offence
+  expression_offences bs (Number t n) = []
+  expression_offences bs (tree.Variable x) = variable_offences WrongKind (found bs x.text) x.at
+  expression_offences bs (Element x e) = array_offences (found bs x.text) x.at ++ (expression_offences bs e ++ void_offences bs e)
+  expression_offences bs (Call f es) = function_offences (found bs f.text) (count_of es) f.at ++ argument_offences bs es
+  expression_offences bs (Parenthesised e) = expression_offences bs e
+  expression_offences bs (Unary op e) = expression_offences bs e ++ void_offences bs e
+  expression_offences bs (Cast t e) = expression_offences bs e ++ void_offences bs e
+  expression_offences bs (Binary op a b) = (expression_offences bs a ++ void_offences bs a) ++ (expression_offences bs b ++ void_offences bs b)
+  expression_offences bs (Conditional c a b) =
+      (expression_offences bs c ++ void_offences bs c) ++ ((expression_offences bs a ++ void_offences bs a) ++ (expression_offences bs b ++ void_offences bs b))
 
-  pub statements_offences : Visible → Stmts → List Offence
-  statements_offences s end = []
-  statements_offences s (next first rest) = statement_offences s first ++ statements_offences (scope_behind s first) rest
+  pub argument_offences : List Binding → Exprs → List Offence
+  argument_offences bs none = []
+  argument_offences bs (more e rest) = (expression_offences bs e ++ void_offences bs e) ++ argument_offences bs rest
 
--- the scope of a function's body, behind its declarator
-abbrev pub body_scope : Definition → Visible
-body_scope f = body_scope_of f.name.text
+-- an expression whose value is used
+abbrev pub value_offences : List Binding → Expr → List Offence
+value_offences bs e = expression_offences bs e ++ void_offences bs e
 
--- a unit: it may not define a builtin, and its body keeps the rules
-abbrev pub offences : Definition → List Offence
-offences f = (if is_builtin f.name.text then broken Redeclared f.name.at else []) ++ statements_offences (body_scope f) f.body
+-- one that may be left out
+abbrev pub optional_offences : List Binding → Option Expr → List Offence
+optional_offences bs None = []
+optional_offences bs (Some e) = value_offences bs e
 
--- how many locals one function may declare, in all its blocks together
-abbrev pub most_locals : ℕ
-most_locals = 256
+-- what is written: a variable, or an element of an array (6.5.16)
+abbrev pub target_offences : List Binding → Target → List Offence
+target_offences bs (AtVariable x) = variable_offences BadAssign (found bs x.text) x.at
+target_offences bs (AtElement x e) = array_offences (found bs x.text) x.at ++ value_offences bs e
 
--- the limit passed at a name
-abbrev pub too_many : Name → Offence
-too_many x = record { rule = TooMany; at = x.at }
+-- an expression statement may be a void call; any other expression's value is used (6.8.3)
+abbrev pub action_offences : List Binding → Action → List Offence
+action_offences bs (Assign op t e) = target_offences bs t ++ value_offences bs e
+action_offences bs (Step op t) = target_offences bs t
+action_offences bs (Evaluate e) = expression_offences bs e
 
--- the limits that a unit passes: the first local past the number allowed
-abbrev pub excesses : Definition → List Offence
-excesses f = map too_many (take 1 (drop most_locals (locals f.body)))
+abbrev pub optional_action_offences : List Binding → Option Action → List Offence
+optional_action_offences bs None = []
+optional_action_offences bs (Some a) = action_offences bs a
+
+-- ---- statements
+
+-- locals: a scope declares no name twice (6.7); a name is in scope in its own initialiser (6.2.1)
+abbrev pub declared_offences : Scalar → List Declared → Visible → List Offence
+declared_offences t [] v = []
+declared_offences t (d ∷ rest) v =
+    broken_if (is_declared v.inner d.name.text) Redeclared d.name.at
+    ++ (optional_offences (in_scope (declared d.name.text (Variable t) v)) d.initial
+    ++ declared_offences t rest (declared d.name.text (Variable t) v))
+
+-- the first part of a `for` header
+abbrev pub start_offences : Start → Visible → List Offence
+start_offences (Declares t ds) v = declared_offences t ds v
+start_offences (Performs a) v = optional_action_offences (in_scope v) a
+
+-- a return: with a value in a function of type int or unsigned, without one in a void function (6.8.6.4)
+abbrev pub return_offences : Option Scalar → List Binding → ℕ → Option Expr → List Offence
+return_offences None bs at None = []
+return_offences None bs at (Some e) = broken BadReturn at ++ value_offences bs e
+return_offences (Some t) bs at None = broken BadReturn at
+return_offences (Some t) bs at (Some e) = value_offences bs e
+
+-- where a statement stands: what its function gives, none for void, and whether a loop is around it
+pub record Around : Type 0 where
+  pub result : Option Scalar
+  pub in_loop : Bool
+
+-- the same, in the body of a loop
+abbrev pub within_loop : Around → Around
+within_loop a = record a { in_loop = true }
+
+-- a statement, and a list of statements. A block and each part of a statement are scopes of their own (6.8.2, 6.8.4,
+-- 6.8.5), and a `for` header is one around its body; break and continue stand in a loop (6.8.6.2, 6.8.6.3)
+abbrev mutual
+  pub statement_offences : Stmt → Around → Visible → List Offence
+  statement_offences (Block all) a v = statements_offences all a (opened v)
+  statement_offences (Local t ds) a v = declared_offences t ds v
+  statement_offences (Perform action) a v = optional_action_offences (in_scope v) action
+  statement_offences (Return at e) a v = return_offences a.result (in_scope v) at e
+  statement_offences (Break at) a v = broken_if (not a.in_loop) BadBreak at
+  statement_offences (Continue at) a v = broken_if (not a.in_loop) BadBreak at
+  statement_offences (If c s) a v = value_offences (in_scope v) c ++ statement_offences s a (opened v)
+  statement_offences (IfElse c s r) a v = value_offences (in_scope v) c ++ (statement_offences s a (opened v) ++ statement_offences r a (opened v))
+  statement_offences (While c s) a v = value_offences (in_scope v) c ++ statement_offences s (within_loop a) (opened v)
+  statement_offences (DoWhile s c) a v = statement_offences s (within_loop a) (opened v) ++ value_offences (in_scope v) c
+  statement_offences (For start c behind s) a v =
+      start_offences start (opened v)
+      ++ (optional_offences (in_scope (scope_behind_start start (opened v))) c
+      ++ (optional_action_offences (in_scope (scope_behind_start start (opened v))) behind
+      ++ statement_offences s (within_loop a) (opened (scope_behind_start start (opened v)))))
+
+  pub statements_offences : Stmts → Around → Visible → List Offence
+  statements_offences end a v = []
+  statements_offences (next first rest) a v = statement_offences first a v ++ statements_offences rest a (scope_behind first v)
+
+-- ---- file scope
+
+-- a constant expression has no names and no calls, and does not go wrong; where it breaks this, it does at its first token
+-- (6.6)
+abbrev pub constant_offences : List Binding → ConstantExpr → List Offence
+constant_offences bs c = value_offences bs c.expr ++ broken_if (not (is_some (constant_word c))) WrongKind c.at
+
+abbrev pub optional_constant_offences : List Binding → Option ConstantExpr → List Offence
+optional_constant_offences bs None = []
+optional_constant_offences bs (Some c) = constant_offences bs c
+
+abbrev pub constants_offences : List Binding → List ConstantExpr → List Offence
+constants_offences bs [] = []
+constants_offences bs (c ∷ rest) = constant_offences bs c ++ constants_offences bs rest
+
+-- an array has an element at least, and no fewer than its list has values (6.7.5.2, 6.7.8)
+abbrev pub length_offences : Option ℕ → ℕ → ℕ → List Offence
+length_offences None given at = []
+length_offences (Some n) given at = broken_if (n == 0 || nat_lt n given) WrongCount at
+
+-- one name of a declaration of objects, which file scope has not yet. An array's length stands before its name is in
+-- scope, and the values of its list behind that (6.2.1)
+abbrev pub object_offences : Scalar → Object → FileScope → List Offence
+object_offences t (Single x initial) f =
+    broken_if (is_declared f.bindings x.text) Redeclared x.at
+    ++ optional_constant_offences (with_object t (Single x initial) f).bindings initial
+object_offences t (Array x n values) f =
+    broken_if (is_declared f.bindings x.text) Redeclared x.at
+    ++ (optional_constant_offences f.bindings n
+    ++ (length_offences (array_length n values) (length values) x.at
+    ++ constants_offences (with_object t (Array x n values) f).bindings values))
+
+abbrev pub objects_offences : Scalar → List Object → FileScope → List Offence
+objects_offences t [] f = []
+objects_offences t (o ∷ rest) f = object_offences t o f ++ objects_offences t rest (with_object t o f)
+
+-- a name of a parameter: parameters are a scope, which declares no name twice
+abbrev pub parameter_offences : Option Name → Visible → List Offence
+parameter_offences None v = []
+parameter_offences (Some x) v = broken_if (is_declared v.inner x.text) Redeclared x.at
+
+abbrev pub parameters_offences : List Parameter → Visible → List Offence
+parameters_offences [] v = []
+parameters_offences (p ∷ rest) v = parameter_offences p.name v ++ parameters_offences rest (parameter_declared p.scalar p.name v)
+
+-- a declaration of what stands already differs from it
+abbrev pub differs : Option Entity → Entity → Bool
+differs None e = false
+differs (Some old) e = not (same_entity old e)
+
+-- what is said of a function: another declaration of its name says the same types (6.7)
+abbrev pub signature_offences : Signature → FileScope → List Offence
+signature_offences s f =
+    broken_if (differs (found f.bindings s.name.text) (function_entity s)) Redeclared s.name.at
+    ++ parameters_offences s.parameters (record { inner = []; outer = (with_function s f).bindings })
+
+-- an external declaration; a function is defined once, and a builtin never (6.9)
+abbrev pub external_offences : External → FileScope → List Offence
+external_offences (Declaration s) f = signature_offences s f
+external_offences (Definition s body) f =
+    signature_offences s f
+    ++ (broken_if (has_name f.defined s.name.text) Redeclared s.name.at
+    ++ statements_offences body (record { result = s.result; in_loop = false }) (body_scope s f))
+external_offences (Objects t os) f = objects_offences t os f
+
+abbrev pub externals_offences : List External → FileScope → List Offence
+externals_offences [] f = []
+externals_offences (e ∷ rest) f = external_offences e f ++ externals_offences rest (file_scope_behind e f)
+
+-- every rule that a unit breaks
+abbrev pub offences : List External → List Offence
+offences externals = externals_offences externals first_file_scope
+
+-- ---- what a whole unit must have
+
+-- a definition of `int main`, without parameters (5.1.2.2.1)
+abbrev pub is_main : External → Bool
+is_main (Definition s body) = same_name (codes "main") s.name.text && (same_result s.result (Some Int) && length s.parameters == 0)
+is_main e = false
+
+abbrev pub defines_main : List External → Bool
+defines_main [] = false
+defines_main (e ∷ rest) = is_main e || defines_main rest
+
+-- the names of the functions that are called, each call of its own
+abbrev mutual
+  pub called_in : Expr → List Name
+  called_in (Number t n) = []
+  called_in (tree.Variable x) = []
+  called_in (Element x e) = called_in e
+  called_in (Call f es) = f ∷ called_in_all es
+  called_in (Parenthesised e) = called_in e
+  called_in (Unary op e) = called_in e
+  called_in (Cast t e) = called_in e
+  called_in (Binary op a b) = called_in a ++ called_in b
+  called_in (Conditional c a b) = called_in c ++ (called_in a ++ called_in b)
+
+  pub called_in_all : Exprs → List Name
+  called_in_all none = []
+  called_in_all (more e rest) = called_in e ++ called_in_all rest
+
+abbrev pub called_in_optional : Option Expr → List Name
+called_in_optional None = []
+called_in_optional (Some e) = called_in e
+
+abbrev pub called_in_target : Target → List Name
+called_in_target (AtVariable x) = []
+called_in_target (AtElement x e) = called_in e
+
+abbrev pub called_in_action : Action → List Name
+called_in_action (Assign op t e) = called_in_target t ++ called_in e
+called_in_action (Step op t) = called_in_target t
+called_in_action (Evaluate e) = called_in e
+
+abbrev pub called_in_optional_action : Option Action → List Name
+called_in_optional_action None = []
+called_in_optional_action (Some a) = called_in_action a
+
+abbrev pub called_in_declared : List Declared → List Name
+called_in_declared [] = []
+called_in_declared (d ∷ rest) = called_in_optional d.initial ++ called_in_declared rest
+
+abbrev pub called_in_start : Start → List Name
+called_in_start (Declares t ds) = called_in_declared ds
+called_in_start (Performs a) = called_in_optional_action a
+
+abbrev mutual
+  pub called_in_statement : Stmt → List Name
+  called_in_statement (Block all) = called_in_statements all
+  called_in_statement (Local t ds) = called_in_declared ds
+  called_in_statement (Perform a) = called_in_optional_action a
+  called_in_statement (Return at e) = called_in_optional e
+  called_in_statement (Break at) = []
+  called_in_statement (Continue at) = []
+  called_in_statement (If c s) = called_in c ++ called_in_statement s
+  called_in_statement (IfElse c s r) = called_in c ++ (called_in_statement s ++ called_in_statement r)
+  called_in_statement (While c s) = called_in c ++ called_in_statement s
+  called_in_statement (DoWhile s c) = called_in_statement s ++ called_in c
+  called_in_statement (For start c behind s) =
+      called_in_start start ++ (called_in_optional c ++ (called_in_optional_action behind ++ called_in_statement s))
+
+  pub called_in_statements : Stmts → List Name
+  called_in_statements end = []
+  called_in_statements (next first rest) = called_in_statement first ++ called_in_statements rest
+
+-- those in constant expressions, each of which breaks a rule already
+abbrev pub called_in_constant : ConstantExpr → List Name
+called_in_constant c = called_in c.expr
+
+abbrev pub called_in_optional_constant : Option ConstantExpr → List Name
+called_in_optional_constant None = []
+called_in_optional_constant (Some c) = called_in_constant c
+
+abbrev pub called_in_constants : List ConstantExpr → List Name
+called_in_constants [] = []
+called_in_constants (c ∷ rest) = called_in_constant c ++ called_in_constants rest
+
+abbrev pub called_in_object : Object → List Name
+called_in_object (Single x initial) = called_in_optional_constant initial
+called_in_object (Array x n values) = called_in_optional_constant n ++ called_in_constants values
+
+abbrev pub called_in_objects : List Object → List Name
+called_in_objects [] = []
+called_in_objects (o ∷ rest) = called_in_object o ++ called_in_objects rest
+
+abbrev pub called_in_external : External → List Name
+called_in_external (Declaration s) = []
+called_in_external (Definition s body) = called_in_statements body
+called_in_external (Objects t os) = called_in_objects os
+
+-- every call of a unit
+abbrev pub called : List External → List Name
+called [] = []
+called (e ∷ rest) = called_in_external e ++ called rest
+
+-- the calls among these of functions that are not defined
+abbrev pub undefined_among : List (List ℕ) → List Name → List Offence
+undefined_among defined [] = []
+undefined_among defined (f ∷ rest) = broken_if (not (has_name defined f.text)) Undefined f.at ++ undefined_among defined rest
+
+-- every call of a function that the unit never defines, reached or not; a builtin counts as defined (6.9)
+abbrev pub undefined_calls : List External → List Offence
+undefined_calls externals = undefined_among (file_scope_behind_all externals first_file_scope).defined (called externals)

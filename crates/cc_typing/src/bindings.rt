@@ -1,37 +1,49 @@
-// The locals in scope, with the number of each name's newest declaration.
+// The names in scope, with the newest binding of each.
 //
-// `numbers` has the number of each name; a binding keeps the number that its name had before it. So a look-up takes one
-// step, and so does taking the newest binding back.
+// `names` has the newest binding of each name; a binding keeps what was the newest of its name before it. So a look-up
+// takes one step, and so does taking the newest binding back.
 
 ghost use Rattle.std.specs.Prelude.{◌≡◌, [], ◌∷◌, ◌<◌, ◌^◌, length, drop, OnOk, OnErr};
-ghost use Rattle.cc_typing.specs.Scope.{number_in};
+ghost use Rattle.cc_typing.specs.Scope.{found};
+ghost use Rattle.cc_typing.specs.Entities.{entity_of};
+ghost use Rattle.cc_typing.specs.Bindings.{number_in, number_of, entity_found};
 
+use super::entity::Entity;
 use indexmap::IndexMap;
 use std::alloc::{AllocError, Global};
 use std::marker::Model;
 
+/// The newest binding of a name: its number, and what the name stands for.
+#[derive(Clone, Copy)]
+pub struct Newest<'a> {
+    pub number: usize,
+    pub entity: Entity<'a>,
+}
+
 #[derive(Drop)]
 pub struct Binding<'a> {
     name: &'a [u8],
-    hidden: Option<usize>,
+    entity: Entity<'a>,
+    hidden: Option<Newest<'a>>,
 }
 
-/// The locals in scope. The oldest has the number 0.
+/// The names in scope. The oldest has the number 0.
 #[derive(Drop)]
 pub struct Bindings<'a> {
     list: Vec<Binding<'a>>,
-    numbers: IndexMap<&'a [u8], usize>,
+    names: IndexMap<&'a [u8], Newest<'a>>,
 }
 
 impl<'a> Model for Bindings<'a> {
-    ghost use Rattle.std.specs.Prelude.{List, ℕ};
-    ghost use Rattle.cc_typing.specs.Bindings.{names_of, IsTable};
+    ghost use Rattle.std.specs.Prelude.{List};
+    ghost use Rattle.cc_typing.specs.Scope as scope;
+    ghost use Rattle.cc_typing.specs.Bindings.{bindings_of, IsTable};
 
-    ghost Value = { List (List ℕ) };
+    ghost Value = { List scope.Binding };
 
-    ghost view = { λ b. names_of b.list.items };
+    ghost view = { λ b. bindings_of b.list.items };
 
-    ghost invariant = { λ b. IsTable b.list.items b.numbers };
+    ghost invariant = { λ b. IsTable b.list.items b.names };
 }
 
 impl<'a> Bindings<'a> {
@@ -40,7 +52,7 @@ impl<'a> Bindings<'a> {
     {
         Bindings {
             list: Vec::new(alloc),
-            numbers: IndexMap::new(alloc),
+            names: IndexMap::new(alloc),
         }
     }
 
@@ -50,43 +62,55 @@ impl<'a> Bindings<'a> {
         self.list.len()
     }
 
-    /// The number of a name, where it is in scope.
-    pub fn number_of(&self, name: &[u8]) -> Option<usize>
-        ensures { result ≡ number_in self.now name.now }
+    /// The newest binding of a name, where it is in scope.
+    pub fn find(&self, name: &[u8]) -> Option<Newest<'a>>
+        ensures number { number_of result ≡ number_in self.now name.now }
+        ensures entity { entity_found result ≡ found self.now name.now }
     {
-        self.numbers.get(name).copied()
+        self.names.get(name).copied()
     }
 
-    /// Adds a local, which gets the next number.
-    pub fn push(&mut self, name: &'a [u8]) -> Result<(), AllocError>
-        ensures ok { OnOk result (self.new ≡ name.now ∷ self.old) }
+    /// Adds a name, which gets the next number.
+    pub fn push(&mut self, name: &'a [u8], entity: Entity<'a>) -> Result<(), AllocError>
+        ensures ok { OnOk result (self.new ≡ record { name = name.now; entity = entity_of entity.entry } ∷ self.old) }
         ensures err { OnErr result (self.new ≡ self.old) }
         ensures fits { OnOk result (length self.new < 2 ^ 64) }
     {
         let number = self.list.len();
-        let hidden = self.numbers.get(name).copied();
-        self.list.push(Binding { name, hidden })?;
-        if self.numbers.insert(name, number).is_err() {
+        let hidden = self.names.get(name).copied();
+        self.list.push(Binding {
+            name,
+            entity,
+            hidden,
+        })?;
+        if self.names.insert(name, Newest { number, entity }).is_err() {
             self.list.pop();
             return Err(AllocError);
         }
         Ok(())
     }
 
-    /// Takes the newest local back.
+    /// Takes the newest name back.
     pub fn pop(&mut self)
         ensures { self.new ≡ drop 1 self.old }
     {
-        let Some(Binding { name, hidden }) = self.list.pop() else {
+        let Some(
+            Binding {
+                name,
+                entity: _,
+                hidden,
+            },
+        ) = self.list.pop()
+        else {
             return;
         };
         match hidden {
-            // The name has a number, so this needs no memory.
-            Some(number) => {
-                let _ = self.numbers.insert(name, number);
+            // The name is in the map, so this needs no memory.
+            Some(newest) => {
+                let _ = self.names.insert(name, newest);
             }
             None => {
-                self.numbers.swap_remove(name);
+                self.names.swap_remove(name);
             }
         }
     }

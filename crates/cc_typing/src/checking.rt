@@ -1,50 +1,131 @@
 // From a parsed unit to a typed one.
 
-ghost use Rattle.std.specs.Prelude.{◌≡◌, ◌⊎◌, IfOk, IfErr, OnOk};
+ghost use Rattle.std.specs.Prelude.{◌≡◌, ◌⊎◌, ℕ, List, None, IfOk, IfErr, OnOk};
 ghost use Rattle.cc_syntax.specs.Source.{source};
 ghost use Rattle.cc_syntax.specs.Place.{place_of};
-ghost use Rattle.cc_syntax.specs.Erase.{function_tree};
+ghost use Rattle.cc_syntax.specs.Erase.{external_tree, external_trees};
+ghost use Rattle.cc_typing.specs.Counts.{defined_after};
 ghost use Rattle.cc_typing.specs.Fault.{fault_of};
-ghost use Rattle.cc_typing.specs.Typed.{is_main, IsTyped, IsWithinLimits, IsRefusal};
+ghost use Rattle.cc_typing.specs.Findings.{noted};
+ghost use Rattle.cc_typing.specs.Rules.{offences, is_main, defines_main, undefined_calls};
+ghost use Rattle.cc_typing.specs.Scope.{has_name, first_file_scope, file_scope_behind_all};
+ghost use Rattle.cc_typing.specs.Typed.{IsTyped, IsWithinLimits, IsRefusal, all_offences};
 
+use super::entity::same_result;
+use super::externals::all_externals;
 use super::fault::TypeFault;
 use super::findings::Findings;
-use super::resolve::function;
-use super::rule::Rule;
+use super::limits::with_excesses;
+use super::names::Names;
+use super::resolver::resolve;
+use super::rule::{Offence, Rule};
+use super::scope::{READ_WORD, Scope, WRITE_WORD};
 use super::typed::TypedUnit;
-use cc_syntax::{Function, Place, Unit, place_at};
-use std::alloc::Global;
+use cc_syntax::{External, Place, Scalar, Unit, place_at};
+use std::alloc::{AllocError, Global};
 
 const MAIN: &[u8] = b"main";
 
-/// Checks the rules of scope and type (C99 6.2.1, 6.5, 6.7, 6.8) and the limit on locals, and resolves the names.
+/// Checks the rules of scope and type (C99 6.2.1, 6.5 to 6.9) and the limits.
 ///
 /// Of the faults 11 to 18 and 21 the one at the earliest token is answered, of several there the one with the least
-/// number; where there is none, a unit without `main` has 19, at the end of the text. 40 comes where memory is refused.
-/// The unit is given up on an `Err`.
+/// number. Where there is none, a unit without `main` has 19, at the end of the text; and where `main` is there, the first
+/// call of a function that is not defined has 20. 40 comes where memory is refused. The unit is given up on an `Err`.
 pub fn check(alloc: Global, unit: Unit) -> Result<TypedUnit, TypeFault>
     ensures unit { IfOk result (λ t. t ≡ unit) }
-    ensures typed { OnOk result (IsTyped (source unit).function) }
-    ensures limits { OnOk result (IsWithinLimits (source unit).function) }
+    ensures typed { OnOk result (IsTyped (source unit).externals) }
+    ensures limits { OnOk result (IsWithinLimits (source unit).externals) }
     ensures refused { IfErr result (λ f. (f ≡ TypeFault.OutOfMemory) ⊎ IsRefusal (source unit) f) }
 {
-    let mut findings = Findings::new();
-    let form = function(alloc, &mut findings, unit.function())?;
-    if let Some(offence) = findings.first_offence() {
+    let found = first_offences(alloc, unit.externals())?;
+    if let Some(offence) = found.first {
         let place = place_in(unit.text(), offence.at);
         return Err(fault(offence.rule, place));
     }
-    if !defines_main(unit.function()) {
+    if !defines_main(unit.externals()) {
         let text = unit.text();
         return Err(TypeFault::NoMain(place_at(text, text.len())));
     }
+    if let Some(offence) = found.undefined {
+        let place = place_in(unit.text(), offence.at);
+        return Err(fault(offence.rule, place));
+    }
+    let form = resolve(alloc, unit.externals())?;
     Ok(TypedUnit::new(unit, form))
 }
 
-fn defines_main(function: &Function) -> bool
-    ensures { result ≡ is_main (function_tree function.now) }
+// The first offence, limits among them, and the first call of a function that is not defined.
+#[derive(Clone, Copy)]
+struct FirstOffences {
+    first: Option<Offence>,
+    undefined: Option<Offence>,
+}
+
+fn first_offences(alloc: Global, externals: &[External]) -> Result<FirstOffences, AllocError>
+    ensures first { IfOk result (λ r. r.first ≡ noted None (all_offences (external_trees externals.now))) }
+    ensures undefined { IfOk result (λ r. r.undefined ≡ noted None (undefined_calls (external_trees externals.now))) }
 {
-    MAIN == function.name.bytes.as_slice()
+    let mut findings = Findings::new(definitions(alloc, externals)?);
+    let mut scope = Scope::new(alloc)?;
+    all_externals(&mut scope, &mut findings, builtins(alloc)?, externals)?;
+    Ok(FirstOffences {
+        first: with_excesses(findings.first(), externals),
+        undefined: findings.undefined(),
+    })
+}
+
+// The functions that are defined before a text begins.
+fn builtins<'a>(alloc: Global) -> Result<Names<'a>, AllocError>
+    ensures { IfOk result (λ r. (x : List ℕ) → has_name r x ≡ has_name first_file_scope.defined x) }
+{
+    let mut names = Names::new(alloc);
+    names.insert(READ_WORD)?;
+    names.insert(WRITE_WORD)?;
+    Ok(names)
+}
+
+fn define<'a>(names: &mut Names<'a>, external: &'a External) -> Result<(), AllocError>
+    ensures { OnOk result ((x : List ℕ) → has_name names.new x ≡ has_name (defined_after names.old (external_tree external.now)) x) }
+{
+    match external {
+        External::Definition(signature, _) => names.insert(signature.name.bytes.as_slice()),
+        External::Declaration(_) | External::Objects(_, _) => Ok(()),
+    }
+}
+
+// The functions that a unit defines, and the builtins.
+fn definitions<'a>(alloc: Global, externals: &'a [External]) -> Result<Names<'a>, AllocError>
+    ensures { IfOk result (λ r. (x : List ℕ) → has_name r x ≡ has_name (file_scope_behind_all (external_trees externals.now) first_file_scope).defined x) }
+{
+    let mut names = builtins(alloc)?;
+    for external in externals {
+        define(&mut names, external)?;
+    }
+    Ok(names)
+}
+
+fn is_main(external: &External) -> bool
+    ensures { result ≡ is_main (external_tree external.now) }
+{
+    match external {
+        External::Definition(signature, _) => {
+            MAIN == signature.name.bytes.as_slice()
+                && same_result(signature.result, Some(Scalar::Int))
+                && signature.parameters.as_slice().is_empty()
+        }
+        External::Declaration(_) | External::Objects(_, _) => false,
+    }
+}
+
+fn defines_main(externals: &[External]) -> bool
+    ensures { result ≡ defines_main (external_trees externals.now) }
+{
+    for external in externals {
+        if is_main(external) {
+            return true;
+        }
+    }
+    false
 }
 
 fn fault(rule: Rule, place: Place) -> TypeFault
@@ -55,8 +136,11 @@ fn fault(rule: Rule, place: Place) -> TypeFault
         Rule::Redeclared => TypeFault::Redeclared(place),
         Rule::WrongKind => TypeFault::WrongKind(place),
         Rule::WrongCount => TypeFault::WrongCount(place),
+        Rule::VoidValue => TypeFault::VoidValue(place),
         Rule::BadReturn => TypeFault::BadReturn(place),
         Rule::BadAssign => TypeFault::BadAssign(place),
+        Rule::BadBreak => TypeFault::BadBreak(place),
+        Rule::Undefined => TypeFault::Undefined(place),
         Rule::TooMany => TypeFault::TooMany(place),
     }
 }

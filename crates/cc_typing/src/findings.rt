@@ -1,24 +1,15 @@
 // What is found wrong on the way through a unit.
 
 ghost use Rattle.std.specs.Prelude.{◌≡◌, [], ◌∷◌, ◌≤◌};
-ghost use Rattle.cc_typing.specs.Fault.{rule_number};
-ghost use Rattle.cc_typing.specs.Findings.{is_before, noted, found, nothing_found, excess_of};
-ghost use Rattle.cc_typing.specs.Rules.{broken};
 ghost use Rattle.cc_syntax.specs.Erase.{name_tree};
+ghost use Rattle.cc_typing.specs.Fault.{rule_number};
+ghost use Rattle.cc_typing.specs.Findings.{is_before, earlier, after, noted, nothing_found};
+ghost use Rattle.cc_typing.specs.Rules.{broken, broken_if};
 
+use super::names::Names;
 use super::rule::{Offence, Rule};
 use cc_syntax::Identifier;
-
-/// How many locals a function may declare.
-pub const MOST_LOCALS: usize = 256;
-
-/// The first offence so far, how many locals were declared, up to the number allowed, and where that was passed.
-#[derive(Drop)]
-pub struct Findings {
-    pub first: Option<Offence>,
-    pub locals: usize,
-    pub excess: Option<usize>,
-}
+use std::marker::Model;
 
 fn number(rule: Rule) -> u32
     ensures { result ≡ rule_number rule }
@@ -28,8 +19,11 @@ fn number(rule: Rule) -> u32
         Rule::Redeclared => 12,
         Rule::WrongKind => 13,
         Rule::WrongCount => 14,
+        Rule::VoidValue => 15,
         Rule::BadReturn => 16,
         Rule::BadAssign => 17,
+        Rule::BadBreak => 18,
+        Rule::Undefined => 20,
         Rule::TooMany => 21,
     }
 }
@@ -40,49 +34,84 @@ fn comes_before(offence: Offence, other: Offence) -> bool
     offence.at < other.at || (offence.at == other.at && number(offence.rule) < number(other.rule))
 }
 
-impl Findings {
-    pub fn new() -> Findings
-        ensures { result ≡ nothing_found }
+/// The earlier of an offence, where there is one, and another.
+pub fn earlier(first: Option<Offence>, offence: Offence) -> Offence
+    ensures { result ≡ earlier first offence }
+{
+    match first {
+        Some(first) if !comes_before(offence, first) => first,
+        _ => offence,
+    }
+}
+
+/// The first offence so far, and the first call of a function that the unit does not define.
+#[derive(Drop)]
+pub struct Findings<'a> {
+    first: Option<Offence>,
+    undefined: Option<Offence>,
+    defined: Names<'a>,
+}
+
+impl<'a> Model for Findings<'a> {
+    ghost use Rattle.cc_typing.specs.Findings.{Found};
+
+    ghost Value = { Found };
+
+    ghost view = { λ f. record { first = f.first; undefined = f.undefined; defined = f.defined } };
+}
+
+impl<'a> Findings<'a> {
+    /// Nothing, in a unit that defines these functions.
+    pub fn new(defined: Names<'a>) -> Findings<'a>
+        ensures { result ≡ nothing_found defined.entry }
     {
         Findings {
             first: None,
-            locals: 0,
-            excess: None,
+            undefined: None,
+            defined,
         }
     }
 
     /// A rule is broken at the token with an offset.
     pub fn note(&mut self, rule: Rule, at: usize)
-        ensures { self.new ≡ found self.old (broken rule at) [] }
+        ensures { self.new ≡ after self.old (broken rule at) [] }
     {
-        let offence = Offence { rule, at };
-        let keep = match self.first {
-            Some(first) => !comes_before(offence, first),
-            None => false,
-        };
-        if !keep {
-            self.first = Some(offence);
+        self.first = Some(earlier(self.first, Offence { rule, at }));
+    }
+
+    /// A rule is broken at the token with an offset, where this is so.
+    pub fn note_if(&mut self, holds: bool, rule: Rule, at: usize)
+        ensures { self.new ≡ after self.old (broken_if holds rule at) [] }
+    {
+        if holds {
+            self.note(rule, at);
         }
     }
 
-    /// A local is declared.
-    pub fn count_local(&mut self, name: &Identifier)
-        ensures { self.new ≡ found self.old [] (name_tree name.now ∷ []) }
+    /// A function is called.
+    pub fn note_call(&mut self, name: &Identifier)
+        ensures { self.new ≡ after self.old [] (name_tree name.now ∷ []) }
     {
-        if self.locals < MOST_LOCALS {
-            self.locals += 1;
-        } else if self.excess.is_none() {
-            self.excess = Some(name.at);
+        if !self.defined.contains(name.bytes.as_slice()) {
+            let offence = Offence {
+                rule: Rule::Undefined,
+                at: name.at,
+            };
+            self.undefined = Some(earlier(self.undefined, offence));
         }
     }
 
-    /// The first offence, where the limit on locals counts as one.
-    pub fn first_offence(mut self) -> Option<Offence>
-        ensures { result ≡ noted self.first (excess_of self.excess) }
+    /// The first offence.
+    pub fn first(&self) -> Option<Offence>
+        ensures { result ≡ self.now.first }
     {
-        if let Some(at) = self.excess {
-            self.note(Rule::TooMany, at);
-        }
         self.first
+    }
+
+    /// The first call of a function that is not defined.
+    pub fn undefined(&self) -> Option<Offence>
+        ensures { result ≡ self.now.undefined }
+    {
+        self.undefined
     }
 }

@@ -1,58 +1,118 @@
-// The resolved form of a unit: variables are numbers, operators say their signedness, and neither scopes, parentheses
-// nor unary plus are left. Running it looks nothing up by name.
+// The resolved form of a unit: one list of instructions over a stack of words, with numbers in place of names.
+//
+// The arguments of a call are its callee's first variables, and stand where the caller left them on the stack; the other
+// variables follow, and above them the words of unfinished expressions. A jump skips so many instructions behind itself.
 
-/// A unary operation on words.
+/// An operation on one word.
 #[derive(Clone, Copy, PartialEq, Eq, Debug)]
 pub enum UnaryOperation {
     Negate,
+    Complement,
+    IsZero,
 }
 
-/// A binary operation on words. The operands are evaluated from left to right.
+/// An operation on two words.
 #[derive(Clone, Copy, PartialEq, Eq, Debug)]
 pub enum BinaryOperation {
     Multiply,
     DivideSigned,
+    DivideUnsigned,
     RemainderSigned,
+    RemainderUnsigned,
     Add,
     Subtract,
+    ShiftLeft,
+    ShiftRightSigned,
+    ShiftRightUnsigned,
     LessSigned,
+    LessUnsigned,
     GreaterSigned,
+    GreaterUnsigned,
     LessOrEqualSigned,
+    LessOrEqualUnsigned,
     GreaterOrEqualSigned,
+    GreaterOrEqualUnsigned,
     Equal,
     NotEqual,
+    And,
+    Xor,
+    Or,
 }
 
-/// An expression with its names resolved.
-#[derive(Drop)]
-pub enum ResolvedExpression {
+/// Where an array's words are among those of all objects: the number of the first one, and how many there are.
+#[derive(Clone, Copy, PartialEq, Eq, Debug)]
+pub struct Extent {
+    pub place: usize,
+    pub length: usize,
+}
+
+/// One step of an interpreter over a stack of words.
+#[derive(Clone, Copy, PartialEq, Eq, Debug)]
+pub enum Instruction {
+    /// Pushes a word.
     Constant(u32),
-    /// The variable of a number. The locals in scope are numbered from 0 in the order of their declarations.
-    Variable(usize),
-    Unary(UnaryOperation, Box<ResolvedExpression>),
-    Binary(BinaryOperation, Box<ResolvedExpression>, Box<ResolvedExpression>),
-}
-
-/// A statement with its names resolved.
-#[derive(Drop)]
-pub enum ResolvedStatement {
-    /// One after the other.
-    Block(Vec<ResolvedStatement>),
-    /// Gives the variable the word 0.
+    /// Pushes the word of a variable of the function.
+    Local(usize),
+    /// Pushes a word of the objects at file scope.
+    Global(usize),
+    /// Replaces an index by the array's element; goes wrong where there is none.
+    Element(Extent),
+    /// Makes a variable 0.
     Clear(usize),
-    /// Evaluates, and gives the variable the value.
-    Set(usize, ResolvedExpression),
-    /// Evaluates, and appends the value to the output.
-    Write(ResolvedExpression),
-    /// Evaluates, and ends the function with the value.
-    Return(ResolvedExpression),
-    While(ResolvedExpression, Box<ResolvedStatement>),
+    /// Takes a word into a variable of the function.
+    SetLocal(usize),
+    /// Takes a word into a word of the objects at file scope.
+    SetGlobal(usize),
+    /// Takes a word, and an index below it, and stores the word in the array's element.
+    SetElement(Extent),
+    /// Takes a word, and makes of a variable's old value and of it the new one.
+    UpdateLocal(BinaryOperation, usize),
+    UpdateGlobal(BinaryOperation, usize),
+    /// Takes a word, and an index below it, and makes of the element's old value and of the word the new one.
+    UpdateElement(BinaryOperation, Extent),
+    Unary(UnaryOperation),
+    /// Replaces two words, the left one below the right one, by one.
+    Binary(BinaryOperation),
+    /// Takes a word away.
+    Drop,
+    /// Replaces a word by 1, and 0 stays.
+    Truth,
+    /// Where the word is 0, leaves it and skips so many instructions; else takes it away.
+    AndThen(usize),
+    /// Where the word is not 0, replaces it by 1 and skips so many instructions; else takes it away.
+    OrElse(usize),
+    /// Skips so many instructions.
+    Jump(usize),
+    /// Takes a word, and skips so many instructions where it is 0.
+    JumpIfZero(usize),
+    /// Takes a word, and where it is not 0 goes back over so many instructions and itself.
+    Repeat(usize),
+    /// Spends a step; stops where none is left.
+    Step,
+    /// Calls the function with a number, in the order of definitions.
+    Call(usize),
+    /// Pushes the next word of the input, and 0 where none is left.
+    Read,
+    /// Appends a word to the output, and replaces it by 0.
+    Write,
+    /// Leaves the function with a word.
+    Return,
 }
 
-/// A function's body with its names resolved.
+/// Where a function's instructions begin, how many parameters it has, and how many variables besides.
+#[derive(Clone, Copy, PartialEq, Eq, Debug)]
+pub struct Entry {
+    pub start: usize,
+    pub parameters: usize,
+    pub variables: usize,
+}
+
+/// The resolved form of a unit: the instructions of all functions one behind the other, the functions in the order of
+/// their definitions, the number of `main`, and the words of all objects before the run, one object behind the other.
 #[derive(Drop)]
 pub struct Form {
-    /// How many variables are enough: each variable's number in the body is below it.
-    pub variables: usize,
-    pub body: Vec<ResolvedStatement>,
+    pub code: Vec<Instruction>,
+    pub functions: Vec<Entry>,
+    pub main: usize,
+    pub words: Vec<u32>,
 }

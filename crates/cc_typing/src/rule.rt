@@ -7,8 +7,11 @@ pub enum Rule {
     Redeclared,
     WrongKind,
     WrongCount,
+    VoidValue,
     BadReturn,
     BadAssign,
+    BadBreak,
+    Undefined,
     TooMany,
 }
 

@@ -1,28 +1,20 @@
-// What is in scope, block by block.
+// What is in scope, scope by scope.
 
-ghost use Rattle.std.specs.Prelude.{◌≡◌, ◌≤◌, [], Some, None, length, IfOk, OnOk, if◌then◌else◌};
-ghost use Rattle.cc_typing.specs.Scope.{opened, declared, closed, names_in, has_name, referent, file_referent, is_builtin};
+ghost use Rattle.std.specs.Prelude.{◌≡◌, ◌≤◌, [], length, drop, IfOk, OnOk, option_map};
+ghost use Rattle.cc_typing.specs.Scope.{opened, declared, in_scope, is_declared, found, with_declared, first_file_scope};
+ghost use Rattle.cc_typing.specs.Entities.{entity_of, optional_entity};
+ghost use Rattle.cc_typing.specs.Bindings.{closed, file_level};
 
 use super::bindings::Bindings;
+use super::entity::Entity;
 use std::alloc::{AllocError, Global};
 use std::marker::Model;
 
-/// What a name stands for.
-#[derive(Clone, Copy, PartialEq, Eq, Debug)]
-pub enum Referent {
-    /// A local, with its variable's number.
-    Local(usize),
-    /// A function, with how many parameters it has.
-    Function(usize),
-    Nothing,
-}
-
-/// What is in scope: the builtins and one defined function, and the locals of the open blocks.
+/// The names of file scope, and those of the open blocks.
 #[derive(Drop)]
 pub struct Scope<'a> {
-    function: &'a [u8],
     bindings: Bindings<'a>,
-    // How many of the bindings, the newest ones, belong to the innermost block.
+    // How many of the bindings, the newest ones, belong to the innermost scope; file scope counts as none.
     inner: usize,
 }
 
@@ -33,50 +25,27 @@ impl<'a> Model for Scope<'a> {
 
     ghost Value = { Visible };
 
-    ghost view = { λ s. scope_of s.function.now s.bindings s.inner };
+    ghost view = { λ s. scope_of s.bindings s.inner };
 
     ghost invariant = { λ s. s.inner ≤ length s.bindings };
 }
 
-const WRITE_WORD: &[u8] = b"write_word";
+pub const WRITE_WORD: &[u8] = b"write_word";
 
-const READ_WORD: &[u8] = b"read_word";
-
-/// Whether a name is one of the builtins.
-pub fn is_builtin(name: &[u8]) -> bool
-    ensures { result ≡ is_builtin name.now }
-{
-    WRITE_WORD == name || READ_WORD == name
-}
-
-/// What a name stands for in file scope.
-fn function_named(function: &[u8], name: &[u8]) -> Referent
-    ensures { result ≡ file_referent function.now name.now }
-{
-    if WRITE_WORD == name {
-        Referent::Function(1)
-    } else if READ_WORD == name || function == name {
-        Referent::Function(0)
-    } else {
-        Referent::Nothing
-    }
-}
+pub const READ_WORD: &[u8] = b"read_word";
 
 impl<'a> Scope<'a> {
-    ghost use Rattle.cc_typing.specs.Scope.{body_scope_of};
-
-    /// The scope of a function's body before its first declaration.
-    pub fn new(alloc: Global, function: &'a [u8]) -> Scope<'a>
-        ensures { result ≡ body_scope_of function.now }
+    /// File scope at the start of a text: the builtins.
+    pub fn new(alloc: Global) -> Result<Scope<'a>, AllocError>
+        ensures { IfOk result (λ s. s ≡ file_level first_file_scope.bindings) }
     {
-        Scope {
-            function,
-            bindings: Bindings::new(alloc),
-            inner: 0,
-        }
+        let mut bindings = Bindings::new(alloc);
+        bindings.push(READ_WORD, Entity::ReadWord)?;
+        bindings.push(WRITE_WORD, Entity::WriteWord)?;
+        Ok(Scope { bindings, inner: 0 })
     }
 
-    /// Begins a block, and answers how many locals the block around it had declared, for the `close` that ends it.
+    /// Begins an inner scope, and answers how many names the one around it had declared, for the `close` that ends it.
     pub fn open(&mut self) -> usize
         ensures scope { self.new ≡ opened self.old }
         ensures around { result ≡ length self.old.inner }
@@ -86,7 +55,7 @@ impl<'a> Scope<'a> {
         around
     }
 
-    /// Ends a block, whose names leave the scope, inside a block that had declared so many locals.
+    /// Ends a scope, whose names go, inside one that had declared so many.
     pub fn close(&mut self, around: usize)
         requires { around ≤ length self.old.outer }
         ensures { self.new ≡ closed around self.old }
@@ -98,37 +67,54 @@ impl<'a> Scope<'a> {
         self.inner = around;
     }
 
-    /// Declares a local in the innermost block. It answers the number that the variable gets, or `None` where the block
-    /// has declared the name already.
-    pub fn declare(&mut self, name: &'a [u8]) -> Result<Option<usize>, AllocError>
-        ensures scope { OnOk result (self.new ≡ declared self.old name.now) }
-        ensures number { IfOk result (λ n. n ≡ (if has_name self.old.inner name.now then None else Some (length (names_in self.old)))) }
+    /// Declares a name in the innermost scope, and answers whether that had declared it already.
+    pub fn declare(&mut self, name: &'a [u8], entity: Entity<'a>) -> Result<bool, AllocError>
+        ensures scope { OnOk result (self.new ≡ declared name.now (entity_of entity.entry) self.old) }
+        ensures again { IfOk result (λ b. b ≡ is_declared self.old.inner name.now) }
     {
-        let number = self.bindings.len();
-        if self.is_declared(name) {
-            return Ok(None);
-        }
-        self.bindings.push(name)?;
+        let again = self.is_declared(name);
+        self.bindings.push(name, entity)?;
         self.inner += 1;
-        Ok(Some(number))
+        Ok(again)
+    }
+
+    /// Takes the newest name of the innermost scope back, where it has one.
+    pub fn undeclare(&mut self)
+        ensures { self.new ≡ record self.old { inner = drop 1 self.old.inner } }
+    {
+        if self.inner > 0 {
+            self.bindings.pop();
+            self.inner -= 1;
+        }
+    }
+
+    /// Declares a name in file scope, where it is new; else what stands there stays.
+    pub fn declare_in_file(&mut self, name: &'a [u8], entity: Entity<'a>) -> Result<(), AllocError>
+        requires { self.old.inner ≡ [] }
+        ensures { OnOk result (self.new ≡ file_level (with_declared name.now (entity_of entity.entry) (record { bindings = self.old.outer; defined = [] })).bindings) }
+    {
+        if self.bindings.find(name).is_none() {
+            self.bindings.push(name, entity)?;
+        }
+        Ok(())
     }
 
     fn is_declared(&self, name: &[u8]) -> bool
-        ensures { result ≡ has_name self.now.inner name.now }
+        ensures { result ≡ is_declared self.now.inner name.now }
     {
-        match self.bindings.number_of(name) {
-            Some(number) => number >= self.bindings.len() - self.inner,
+        match self.bindings.find(name) {
+            Some(newest) => newest.number >= self.bindings.len() - self.inner,
             None => false,
         }
     }
 
     /// What a name stands for.
-    pub fn referent(&self, name: &[u8]) -> Referent
-        ensures { result ≡ referent self.now name.now }
+    pub fn find(&self, name: &[u8]) -> Option<Entity<'a>>
+        ensures { optional_entity result ≡ found (in_scope self.now) name.now }
     {
-        match self.bindings.number_of(name) {
-            Some(number) => Referent::Local(number),
-            None => function_named(self.function, name),
+        match self.bindings.find(name) {
+            Some(newest) => Some(newest.entity),
+            None => None,
         }
     }
 }

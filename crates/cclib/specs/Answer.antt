@@ -1,5 +1,5 @@
 -- What the program answers of a text.
-use Rattle.std.specs.Prelude.{ℕ, ◌≡◌, ◌⊎◌, List, []}
+use Rattle.std.specs.Prelude.{ℕ, ◌≡◌, ◌⊎◌, List}
 use Rattle.cc_syntax.specs.Tree.{Source}
 use Rattle.cc_syntax.specs.Parse.{SpellsText, IsParseRefusal}
 use Rattle.cc_typing.specs.Typed.{IsTyped, IsWithinLimits, IsRefusal}
@@ -16,16 +16,16 @@ use Rattle.cclib.specs.declared.fault.Fault.TheVariants.{Syntax, Typing, Meaning
 
 -- the text spells the tree, which breaks no rule, defines main and passes no limit
 pub record IsProgram (s : Source) : Type 0 where
-  pub spelled : SpellsText s.text s.function
-  pub typed : IsTyped s.function
-  pub limits : IsWithinLimits s.function
+  pub spelled : SpellsText s.text s.externals
+  pub typed : IsTyped s.externals
+  pub limits : IsWithinLimits s.externals
 
--- the answer to a task for a program: that it is one, or what it does on the empty input within the steps
+-- the answer to a task for a program: that it is one, or what it does on the input words within the steps
 abbrev pub IsAnswer : Task → Source → Answer → Type 0
 IsAnswer Check s Accepted = Unit {0}
 IsAnswer Check s (Ran o) = ⊥
-IsAnswer (Interpret steps) s Accepted = ⊥
-IsAnswer (Interpret steps) s (Ran o) = outcome_shown o ≡ source_behavior s [] steps
+IsAnswer (Interpret steps words) s Accepted = ⊥
+IsAnswer (Interpret steps words) s (Ran o) = outcome_shown o ≡ source_behavior s words.items steps
 
 -- the answer to a task for a text, which is a program's
 pub record Answers (task : Task) (text : List ℕ) (answer : Answer) : Type 0 where
@@ -38,7 +38,7 @@ pub record Answers (task : Task) (text : List ℕ) (answer : Answer) : Type 0 wh
 pub record IsTypeRefusal (text : List ℕ) (fault : TypeFault) : Type 0 where
   pub program : Source
   pub whose : program.text ≡ text
-  pub spelled : SpellsText program.text program.function
+  pub spelled : SpellsText program.text program.externals
   pub refused : IsRefusal program fault
 
 -- why a text gets no answer: it spells no tree, its tree is refused, or memory was

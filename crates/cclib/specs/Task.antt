@@ -6,4 +6,4 @@ use Rattle.cclib.specs.declared.command_line.Task.TheVariants.{Check, Interpret}
 -- a run takes at most 1,000,000,000 steps
 abbrev pub IsWithinLimits : Task → Type 0
 IsWithinLimits Check = Unit {0}
-IsWithinLimits (Interpret steps) = steps ≤ 1000000000
+IsWithinLimits (Interpret steps words) = steps ≤ 1000000000

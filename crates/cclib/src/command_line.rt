@@ -12,12 +12,12 @@ use std::convert::AsStr;
 pub const MOST_STEPS: u64 = 1_000_000_000;
 
 /// What the program is asked to do with the text on standard input.
-#[derive(Clone, Copy, PartialEq, Eq, Debug)]
+#[derive(Drop, PartialEq, Eq, Debug)]
 pub enum Task {
     /// Say whether the text is a program of the profile.
     Check,
-    /// Run the program for at most so many steps.
-    Interpret(u64),
+    /// Run the program for at most so many steps on these input words.
+    Interpret(u64, Vec<u32>),
 }
 
 fn command<'a>(alloc: Global) -> Result<Command<'a>, AllocError> {
@@ -26,9 +26,14 @@ fn command<'a>(alloc: Global) -> Result<Command<'a>, AllocError> {
         .required(true)
         .help("The most steps that a run may take: 0 to 1000000000")
         .value_parser(value_parser!(u64).range(0..1_000_000_001));
+    let words = Arg::new(alloc, "WORD")
+        .num_args(0..)
+        .help("The input words: 0 to 4294967295 each")
+        .value_parser(value_parser!(u32));
     let interpret = Command::new(alloc, "interpret")
         .about("Print the words that the program writes, and how it ends")
-        .arg(steps)?;
+        .arg(steps)?
+        .arg(words)?;
     Command::new(alloc, "cclib")
         .about("Reads a C program from standard input")
         .subcommand_required(true)
@@ -36,13 +41,10 @@ fn command<'a>(alloc: Global) -> Result<Command<'a>, AllocError> {
         .subcommand(interpret)
 }
 
-// The error of clap for a word that is no number of steps.
-fn refused(alloc: Global) -> Result<Error, AllocError> {
+// The error of clap for a word that breaks this rule.
+fn refused(alloc: Global, rule: &'static str) -> Result<Error, AllocError> {
     let mut whole = command(alloc)?;
-    whole.error(
-        ErrorKind::ValueValidation,
-        "STEPS is a decimal number from 0 to 1000000000",
-    )
+    whole.error(ErrorKind::ValueValidation, rule)
 }
 
 fn steps_of(alloc: Global, given: &ArgMatches<'_>) -> Result<u64, Error>
@@ -54,8 +56,30 @@ fn steps_of(alloc: Global, given: &ArgMatches<'_>) -> Result<u64, Error>
     };
     match given.get_one::<u64>("STEPS") {
         Some(steps) if is_decimal && steps <= MOST_STEPS => Ok(steps),
-        _ => Err(refused(alloc)?),
+        _ => Err(refused(alloc, "STEPS is a decimal number from 0 to 1000000000")?),
     }
+}
+
+// The input word that a text of digits stands for.
+fn word_in(text: &str) -> Option<u32> {
+    if !text.bytes().all(|b| b.is_ascii_digit()) {
+        return None;
+    }
+    text.parse().ok()
+}
+
+fn words_of(alloc: Global, given: &ArgMatches<'_>) -> Result<Vec<u32>, Error> {
+    let mut words = Vec::new(alloc);
+    let Some(texts) = given.get_strs("WORD") else {
+        return Ok(words);
+    };
+    for text in texts {
+        let Some(word) = word_in(text) else {
+            return Err(refused(alloc, "WORD is a decimal number from 0 to 4294967295")?);
+        };
+        words.push(word).map_err(|_| AllocError)?;
+    }
+    Ok(words)
 }
 
 /// Reads the command line, whose first word is the program's name.
@@ -66,7 +90,10 @@ pub fn line<'a, S: AsStr>(alloc: Global, words: &'a [S]) -> Result<Task, Error>
 {
     let matches = command(alloc)?.try_get_matches_from(words)?;
     match matches.subcommand() {
-        Some(("interpret", given)) => Ok(Task::Interpret(steps_of(alloc, given)?)),
+        Some(("interpret", given)) => Ok(Task::Interpret(
+            steps_of(alloc, given)?,
+            words_of(alloc, given)?,
+        )),
         _ => Ok(Task::Check),
     }
 }

@@ -22,17 +22,17 @@ pub enum Answer {
     Ran(Outcome),
 }
 
-/// The answer to a task for a program: that it is one, or what it does on the empty input.
+/// The answer to a task for a program: that it is one, or what it does on the input words.
 ///
 /// 40 where memory was refused as the program ran.
-fn answer_of(alloc: Global, task: Task, program: &TypedUnit) -> Result<Answer, Fault>
+fn answer_of(alloc: Global, task: &Task, program: &TypedUnit) -> Result<Answer, Fault>
     requires { IsProgram (source program.now) }
-    ensures answer { IfOk result (λ answer. Answers task (source program.now).text answer) }
+    ensures answer { IfOk result (λ answer. Answers task.now (source program.now).text answer) }
     ensures refused { IfErr result (λ fault. IsRefused (source program.now).text fault) }
 {
     match task {
         Task::Check => Ok(Answer::Accepted),
-        Task::Interpret(steps) => match interpret(alloc, program, &[], steps) {
+        Task::Interpret(steps, words) => match interpret(alloc, program, words.as_slice(), *steps) {
             Ok(outcome) => Ok(Answer::Ran(outcome)),
             Err(fault) => Err(Fault::Meaning(fault)),
         },
@@ -42,8 +42,8 @@ fn answer_of(alloc: Global, task: Task, program: &TypedUnit) -> Result<Answer, F
 /// The answer to a task for a text: from bytes over tokens, tree and resolved form to the outcome.
 ///
 /// Refusals: those of `parse`, then those of `check`, and 40 where memory was refused.
-fn answer_for(alloc: Global, task: Task, text: &[u8]) -> Result<Answer, Fault>
-    ensures answer { IfOk result (λ answer. Answers task text.now answer) }
+fn answer_for(alloc: Global, task: &Task, text: &[u8]) -> Result<Answer, Fault>
+    ensures answer { IfOk result (λ answer. Answers task.now text.now answer) }
     ensures refused { IfErr result (λ fault. IsRefused text.now fault) }
 {
     match parse(alloc, text) {
@@ -90,7 +90,7 @@ fn try_perform<R: Read, W: Write>(
     writer: &mut W,
 ) -> Result<(), Fault> {
     let text = read_source(alloc, reader)?;
-    let answer = answer_for(alloc, task, text.as_slice())?;
+    let answer = answer_for(alloc, &task, text.as_slice())?;
     write_answer(&answer, writer).map_err(|_| Fault::Write)
 }
 

@@ -7,7 +7,9 @@ use std::test::Fail;
 
 mod faulty;
 mod hostile;
+mod limits;
 mod programs;
+mod refusals;
 mod words;
 
 /// What a task writes for a text, and its status.
@@ -30,6 +32,31 @@ fn expect(
     assert_eq!(rt; written.as_slice(), lines.as_bytes(), "for {text}");
     assert_eq!(rt; found, status, "for {text}");
     Ok(())
+}
+
+/// A run of a text within so many steps on no input writes these lines.
+fn interprets(
+    rt: &(impl AllocGlobal + std::process::Abort),
+    text: &str,
+    steps: u64,
+    lines: &str,
+) -> Result<(), Fail> {
+    expect(
+        rt,
+        Task::Interpret(steps, Vec::new(rt.alloc())),
+        text,
+        lines,
+        0,
+    )
+}
+
+/// `check` answers a text with this line.
+fn checks(
+    rt: &(impl AllocGlobal + std::process::Abort),
+    text: &str,
+    line: &str,
+) -> Result<(), Fail> {
+    expect(rt, Task::Check, text, line, u8::from(line != "ok\n"))
 }
 
 /// A text of `before`, `middle` so many times, and `behind`.

@@ -1,16 +1,16 @@
 // Each public call of the front's libraries, once on its happy path.
 
-use cc_meaning::{MeaningFault, Stop, Words, interpret};
+use cc_meaning::{MeaningFault, Stop, Words, functions_have_meaning, interpret, runs_go_on};
 use cc_syntax::{
-    Expression, Keyword, Place, Punctuator, Scalar, Statement, SyntaxFault, UnaryOperator, parse,
-    place_at, tokens_are_determined, trees_are_determined,
+    Expression, External, Keyword, Place, Punctuator, Scalar, Statement, SyntaxFault,
+    UnaryOperator, parse, place_at, tokens_are_determined, trees_are_determined,
 };
-use cc_typing::{ResolvedExpression, ResolvedStatement, TypeFault, UnaryOperation, check};
+use cc_typing::{Entry, Instruction, TypeFault, UnaryOperation, check};
 use std::test::Fail;
 
 #[test]
 fn a_program_from_text_to_outcome(rt: HostRuntime) -> Result<(), Fail> {
-    let text = b"int main(void){write_word(6);return 7;}".as_slice();
+    let text = b"int main(void){write_word(read_word()+5);return 7;}".as_slice();
     let unit = parse(rt.alloc(), text)?;
     assert_eq!(rt; unit.text(), text);
     let typed = check(rt.alloc(), unit)?;
@@ -77,23 +77,20 @@ fn places_of_faults(rt: HostRuntime) {
 
 #[test]
 fn the_tree_of_a_text(rt: HostRuntime) -> Result<(), Fail> {
-    let unit = parse(rt.alloc(), b"int main(void){int i=5;return -i;}".as_slice())?;
-    let function = unit.function();
-    assert_eq!(rt; function.name.bytes.as_slice(), b"main".as_slice());
-    assert_eq!(rt; function.name.at, 4);
-    let [
-        Statement::Local(Scalar::Int, names),
-        Statement::Return(23, Some(value)),
-    ] = function.body.as_slice()
-    else {
+    let unit = parse(rt.alloc(), b"unsigned f(int i){return -i;}".as_slice())?;
+    let [External::Definition(signature, body)] = unit.externals() else {
+        return Err(Fail::new("the external declarations"));
+    };
+    assert_eq!(rt; signature.result, Some(Scalar::Unsigned));
+    assert_eq!(rt; signature.name.bytes.as_slice(), b"f".as_slice());
+    assert_eq!(rt; signature.name.at, 9);
+    let [parameter] = signature.parameters.as_slice() else {
+        return Err(Fail::new("the parameters"));
+    };
+    assert_eq!(rt; parameter.scalar, Scalar::Int);
+    let [Statement::Return(18, Some(value))] = body.as_slice() else {
         return Err(Fail::new("the statements"));
     };
-    let [name] = names.as_slice() else {
-        return Err(Fail::new("the declarators"));
-    };
-    assert_eq!(rt; name.name.bytes.as_slice(), b"i".as_slice());
-    assert_eq!(rt; name.name.at, 19);
-    assert!(rt; matches!(&name.initial, Some(Expression::Number(Scalar::Int, 5))));
     let Expression::Unary(UnaryOperator::Minus, operand) = value else {
         return Err(Fail::new("the value"));
     };
@@ -101,34 +98,47 @@ fn the_tree_of_a_text(rt: HostRuntime) -> Result<(), Fail> {
         return Err(Fail::new("the operand"));
     };
     assert_eq!(rt; used.bytes.as_slice(), b"i".as_slice());
-    assert_eq!(rt; used.at, 31);
+    assert_eq!(rt; used.at, 26);
     Ok(())
 }
 
 #[test]
 fn the_form_of_a_unit(rt: HostRuntime) -> Result<(), Fail> {
-    let unit = parse(rt.alloc(), b"int main(void){int i=5;return -i;}".as_slice())?;
-    let typed = check(rt.alloc(), unit)?;
+    let text = b"int g=3;void f(int);int main(void){int i=5;f(i);return -g;}void f(int n){}";
+    let typed = check(rt.alloc(), parse(rt.alloc(), text.as_slice())?)?;
+    assert_eq!(rt; typed.functions(), 2);
+    assert_eq!(rt; typed.function_name(0), b"main".as_slice());
+    assert_eq!(rt; typed.function_name(1), b"f".as_slice());
     let form = typed.form();
-    assert_eq!(rt; form.variables, 1);
-    let [
-        ResolvedStatement::Block(declared),
-        ResolvedStatement::Return(value),
-    ] = form.body.as_slice()
-    else {
-        return Err(Fail::new("the statements"));
+    assert_eq!(rt; form.main, 0);
+    assert_eq!(rt; form.words.as_slice(), [3u32].as_slice());
+    let main = Entry {
+        start: 0,
+        parameters: 0,
+        variables: 1,
     };
-    let [
-        ResolvedStatement::Clear(0),
-        ResolvedStatement::Set(0, ResolvedExpression::Constant(5)),
-    ] = declared.as_slice()
-    else {
-        return Err(Fail::new("the declaration"));
+    let f = Entry {
+        start: 11,
+        parameters: 1,
+        variables: 0,
     };
-    let ResolvedExpression::Unary(UnaryOperation::Negate, operand) = value else {
-        return Err(Fail::new("the value"));
-    };
-    assert!(rt; matches!(&**operand, ResolvedExpression::Variable(0)));
+    assert_eq!(rt; form.functions.as_slice(), [main, f].as_slice());
+    let code = [
+        Instruction::Clear(0),
+        Instruction::Constant(5),
+        Instruction::SetLocal(0),
+        Instruction::Local(0),
+        Instruction::Call(1),
+        Instruction::Drop,
+        Instruction::Global(0),
+        Instruction::Unary(UnaryOperation::Negate),
+        Instruction::Return,
+        Instruction::Constant(0),
+        Instruction::Return,
+        Instruction::Constant(0),
+        Instruction::Return,
+    ];
+    assert_eq!(rt; form.code.as_slice(), code.as_slice());
     Ok(())
 }
 
@@ -156,4 +166,6 @@ fn words_of_a_vector(rt: HostRuntime) -> Result<(), Fail> {
 fn laws() {
     tokens_are_determined();
     trees_are_determined();
+    functions_have_meaning();
+    runs_go_on();
 }

@@ -1,9 +1,14 @@
-// Tests of the front's libraries: texts and their tokens, and each public call once on its happy path. Expected values
-// are worked by hand from the standard and the language's rules. The program's own tests stand in `cclib`.
+// Tests of the front's libraries: texts and their tokens, texts that are units and texts that are none, and each public
+// call once on its happy path. Expected values are worked by hand from the standard and the language's rules. The program's
+// own tests stand in `cclib`.
 #![tactic(auto)]
 
 #[cfg(test)]
 mod calls;
+#[cfg(test)]
+mod grammar;
+#[cfg(test)]
+mod texts;
 #[cfg(test)]
 mod tokens;
 #[cfg(test)]

@@ -1,16 +1,17 @@
 // All tokens, one after the other.
 
-ghost use Rattle.std.specs.Prelude.{◌≡◌, ◌<◌, ◌≤◌, length};
+ghost use Rattle.std.specs.Prelude.{◌≡◌, ◌<◌, ◌≤◌, length, MatchResult};
 ghost use Rattle.std.specs.Option.{option_map};
-ghost use Rattle.cc_syntax.specs.Erase.{function_tree};
+ghost use Rattle.cc_syntax.specs.Erase.{external_trees};
 ghost use Rattle.cc_syntax.specs.Machine.{count_of, tree_of};
-ghost use Rattle.cc_syntax.specs.MachineView.{state_view, Advances, Answers};
+ghost use Rattle.cc_syntax.specs.Limits.{SpellsWithin};
+ghost use Rattle.cc_syntax.specs.MachineView.{state_view, Advances, Refuses};
 ghost use Rattle.cc_syntax.specs.Token.{lexeme, lexemes};
 ghost use Rattle.cc_syntax.specs.Tokens.{AreInOrder};
 
-use crate::ast::Function;
+use crate::ast::External;
 use crate::parser::role::of_kind;
-use crate::parser::state::{Head, State};
+use crate::parser::state::{Outer, State};
 use crate::parser::step::{count_so_far, level_begun, step};
 use crate::parser::stop::{Refusal, Stop};
 use crate::token::Token;
@@ -38,22 +39,28 @@ fn advance(alloc: Global, state: State, text: &[u8], token: Token) -> Result<Sta
     Ok(next)
 }
 
-/// The function, where its unit is complete.
-fn finished(state: State) -> Option<Function>
-    ensures { option_map function_tree result ≡ tree_of (state_view state) }
+/// The external declarations, where a unit may end.
+fn finished(state: State) -> Option<Vec<External>>
+    ensures { option_map (λ es. external_trees es.items) result ≡ tree_of (state_view state) }
 {
     match state {
-        State::Done(function) => Some(function),
-        State::Head(_) | State::Body(_) => None,
+        State::File(externals, Outer::Between) => {
+            if externals.is_empty() {
+                return None;
+            }
+            Some(externals)
+        }
+        _ => None,
     }
 }
 
-/// The function that all the tokens spell within the limits, or the first token that breaks the grammar or a limit.
-pub fn read_tokens(alloc: Global, text: &[u8], tokens: &[Token]) -> Result<Function, Refusal>
+/// The external declarations that all the tokens spell within the limits, or the first token that breaks the grammar or a
+/// limit.
+pub fn read_tokens(alloc: Global, text: &[u8], tokens: &[Token]) -> Result<Vec<External>, Refusal>
     requires { AreInOrder 0 tokens.now (length text.now) }
-    ensures { Answers (lexemes text.now tokens.now) result }
+    ensures { MatchResult result (λ es. SpellsWithin (lexemes text.now tokens.now) (external_trees es.items)) (λ e. Refuses (lexemes text.now tokens.now) e) }
 {
-    let mut state = State::Head(Head::ReturnType);
+    let mut state = State::File(Vec::new(alloc), Outer::Between);
     for number in 0..tokens.len() {
         match advance(alloc, state, text, tokens[number]) {
             Ok(next) => state = next,
@@ -63,7 +70,7 @@ pub fn read_tokens(alloc: Global, text: &[u8], tokens: &[Token]) -> Result<Funct
         }
     }
     match finished(state) {
-        Some(function) => Ok(function),
+        Some(externals) => Ok(externals),
         None => Err(Refusal::Unexpected(tokens.len())),
     }
 }

@@ -3,30 +3,47 @@
 ghost use Rattle.std.specs.Prelude.{◌≡◌};
 ghost use Rattle.cc_syntax.specs.Roles.{role_of, keyword_role, punctuator_role};
 
-use crate::ast::{BinaryOperator, Scalar, UnaryOperator};
+use crate::ast::{AssignmentOperator, BinaryOperator, Scalar, StepOperator, UnaryOperator};
 use crate::token::{Keyword, Punctuator, TokenKind};
 
 /// What a token is to the grammar.
 #[derive(Clone, Copy)]
 pub enum Role {
     Identifier,
-    /// A number of type `int`.
-    Number(u32),
+    Number(Scalar, u32),
     Int,
+    /// `signed` or `unsigned`, behind which `int` may stand.
+    SignWord(Scalar),
     Void,
     Return,
+    Break,
+    Continue,
+    If,
+    Else,
     While,
+    Do,
+    For,
     OpenParenthesis,
     CloseParenthesis,
+    OpenBracket,
+    CloseBracket,
     OpenBrace,
     CloseBrace,
-    Assign,
     Semicolon,
     Comma,
-    /// `+` or `-`: a unary or a binary operator.
-    Sign(UnaryOperator),
+    Question,
+    Colon,
+    /// `+`: a unary or a binary operator.
+    Plus,
+    /// `-`: a unary or a binary operator.
+    Minus,
+    /// `~` or `!`.
+    Prefix(UnaryOperator),
     /// Every other binary operator.
-    Operator(BinaryOperator),
+    Infix(BinaryOperator),
+    Assignment(AssignmentOperator),
+    /// `++` or `--`.
+    Step(StepOperator),
     /// Nothing that a unit has.
     Other,
 }
@@ -36,9 +53,17 @@ fn of_keyword(keyword: Keyword) -> Role
 {
     match keyword {
         Keyword::Int => Role::Int,
+        Keyword::Signed => Role::SignWord(Scalar::Int),
+        Keyword::Unsigned => Role::SignWord(Scalar::Unsigned),
         Keyword::Void => Role::Void,
         Keyword::Return => Role::Return,
+        Keyword::Break => Role::Break,
+        Keyword::Continue => Role::Continue,
+        Keyword::If => Role::If,
+        Keyword::Else => Role::Else,
         Keyword::While => Role::While,
+        Keyword::Do => Role::Do,
+        Keyword::For => Role::For,
         _ => Role::Other,
     }
 }
@@ -49,23 +74,47 @@ fn of_punctuator(punctuator: Punctuator) -> Role
     match punctuator {
         Punctuator::OpenParenthesis => Role::OpenParenthesis,
         Punctuator::CloseParenthesis => Role::CloseParenthesis,
+        Punctuator::OpenBracket => Role::OpenBracket,
+        Punctuator::CloseBracket => Role::CloseBracket,
         Punctuator::OpenBrace => Role::OpenBrace,
         Punctuator::CloseBrace => Role::CloseBrace,
-        Punctuator::Assign => Role::Assign,
         Punctuator::Semicolon => Role::Semicolon,
         Punctuator::Comma => Role::Comma,
-        Punctuator::Plus => Role::Sign(UnaryOperator::Plus),
-        Punctuator::Minus => Role::Sign(UnaryOperator::Minus),
-        Punctuator::Star => Role::Operator(BinaryOperator::Multiply),
-        Punctuator::Slash => Role::Operator(BinaryOperator::Divide),
-        Punctuator::Percent => Role::Operator(BinaryOperator::Remainder),
-        Punctuator::Less => Role::Operator(BinaryOperator::Less),
-        Punctuator::Greater => Role::Operator(BinaryOperator::Greater),
-        Punctuator::LessOrEqual => Role::Operator(BinaryOperator::LessOrEqual),
-        Punctuator::GreaterOrEqual => Role::Operator(BinaryOperator::GreaterOrEqual),
-        Punctuator::Equal => Role::Operator(BinaryOperator::Equal),
-        Punctuator::NotEqual => Role::Operator(BinaryOperator::NotEqual),
-        _ => Role::Other,
+        Punctuator::Question => Role::Question,
+        Punctuator::Colon => Role::Colon,
+        Punctuator::Plus => Role::Plus,
+        Punctuator::Minus => Role::Minus,
+        Punctuator::Star => Role::Infix(BinaryOperator::Multiply),
+        Punctuator::Slash => Role::Infix(BinaryOperator::Divide),
+        Punctuator::Percent => Role::Infix(BinaryOperator::Remainder),
+        Punctuator::ShiftLeft => Role::Infix(BinaryOperator::ShiftLeft),
+        Punctuator::ShiftRight => Role::Infix(BinaryOperator::ShiftRight),
+        Punctuator::Less => Role::Infix(BinaryOperator::Less),
+        Punctuator::Greater => Role::Infix(BinaryOperator::Greater),
+        Punctuator::LessOrEqual => Role::Infix(BinaryOperator::LessOrEqual),
+        Punctuator::GreaterOrEqual => Role::Infix(BinaryOperator::GreaterOrEqual),
+        Punctuator::Equal => Role::Infix(BinaryOperator::Equal),
+        Punctuator::NotEqual => Role::Infix(BinaryOperator::NotEqual),
+        Punctuator::Ampersand => Role::Infix(BinaryOperator::And),
+        Punctuator::Bar => Role::Infix(BinaryOperator::Or),
+        Punctuator::Caret => Role::Infix(BinaryOperator::Xor),
+        Punctuator::Tilde => Role::Prefix(UnaryOperator::Complement),
+        Punctuator::Exclamation => Role::Prefix(UnaryOperator::Not),
+        Punctuator::AndAnd => Role::Infix(BinaryOperator::LogicalAnd),
+        Punctuator::OrOr => Role::Infix(BinaryOperator::LogicalOr),
+        Punctuator::Assign => Role::Assignment(AssignmentOperator::Plain),
+        Punctuator::PlusAssign => Role::Assignment(AssignmentOperator::Add),
+        Punctuator::MinusAssign => Role::Assignment(AssignmentOperator::Subtract),
+        Punctuator::StarAssign => Role::Assignment(AssignmentOperator::Multiply),
+        Punctuator::SlashAssign => Role::Assignment(AssignmentOperator::Divide),
+        Punctuator::PercentAssign => Role::Assignment(AssignmentOperator::Remainder),
+        Punctuator::ShiftLeftAssign => Role::Assignment(AssignmentOperator::ShiftLeft),
+        Punctuator::ShiftRightAssign => Role::Assignment(AssignmentOperator::ShiftRight),
+        Punctuator::AmpersandAssign => Role::Assignment(AssignmentOperator::And),
+        Punctuator::BarAssign => Role::Assignment(AssignmentOperator::Or),
+        Punctuator::CaretAssign => Role::Assignment(AssignmentOperator::Xor),
+        Punctuator::PlusPlus => Role::Step(StepOperator::Increment),
+        Punctuator::MinusMinus => Role::Step(StepOperator::Decrement),
     }
 }
 
@@ -75,8 +124,7 @@ pub fn of_kind(kind: TokenKind) -> Role
 {
     match kind {
         TokenKind::Identifier => Role::Identifier,
-        TokenKind::Number(Scalar::Int, word) => Role::Number(word),
-        TokenKind::Number(Scalar::Unsigned, _) => Role::Other,
+        TokenKind::Number(scalar, word) => Role::Number(scalar, word),
         TokenKind::Keyword(keyword) => of_keyword(keyword),
         TokenKind::Punctuator(punctuator) => of_punctuator(punctuator),
     }

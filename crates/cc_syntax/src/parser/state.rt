@@ -1,89 +1,214 @@
 // What the parser has read so far, and what may come next.
 
 use crate::ast::{
-    BinaryOperator, Declarator, Expression, Function, Identifier, Statement, UnaryOperator,
+    Action, AssignmentOperator, Beginning, BinaryOperator, ConstantExpression, Declarator,
+    Expression, External, Identifier, Object, Scalar, Signature, Statement, StepOperator, Target,
+    UnaryOperator,
 };
 
-/// What waits for an operand to its right.
+/// What waits for an operand to its right, or for a closing token.
 #[derive(Drop)]
 pub enum Waiting {
     Parenthesis,
+    Index(Identifier),
+    /// A call, and the arguments so far.
+    Arguments(Identifier, Vec<Expression>),
     Prefix(UnaryOperator),
+    Cast(Scalar),
     Infix(BinaryOperator, Expression),
+    /// A condition and its question mark.
+    Then(Expression),
+    /// A condition, what stands behind its question mark, and the colon.
+    Otherwise(Expression, Expression),
 }
 
-/// What a full expression is a part of.
+/// A statement that has begun and waits for a part: a block for its end, the others for a statement.
+#[derive(Drop)]
+pub enum Open {
+    Block(Vec<Statement>),
+    Then(Expression),
+    Else(Expression, Statement),
+    While(Expression),
+    Do,
+    For(Beginning, Option<Expression>, Option<Action>),
+}
+
+/// A function's body so far: the external declarations before it, its finished statements, and those that are open, the
+/// innermost last.
+#[derive(Drop)]
+pub struct Body {
+    pub externals: Vec<External>,
+    pub signature: Signature,
+    pub finished: Vec<Statement>,
+    pub open: Vec<Open>,
+}
+
+/// Where an action stands: it is a statement, or the first or the last part of a `for` header.
+#[derive(Drop)]
+pub enum Spot {
+    Statement,
+    Start,
+    Last(Beginning, Option<Expression>),
+}
+
+/// What a condition in parentheses belongs to.
+#[derive(Drop)]
+pub enum Test {
+    If,
+    While,
+    /// `do` with its body.
+    Do(Statement),
+}
+
+/// Where a declaration of locals stands: directly in a block, or in a `for` header.
+#[derive(Clone, Copy)]
+pub enum Position {
+    Local,
+    Header,
+}
+
+/// What a full expression in a function's body is a part of.
 #[derive(Drop)]
 pub enum Purpose {
-    Assign(Identifier),
-    Call(Identifier),
+    /// An action that begins with it, or is it.
+    Perform(Spot),
+    Assign(AssignmentOperator, Target, Spot),
+    /// The index of an element that is incremented or decremented.
+    Step(StepOperator, Identifier, Spot),
     Return(usize),
-    Test,
-    Initialise(Vec<Declarator>, Identifier),
+    Test(Test),
+    /// The condition of a `for`.
+    Continue(Beginning),
+    Initialise(Position, Scalar, Vec<Declarator>, Identifier),
 }
 
-/// A full expression so far: what waits for an operand, the latest last, and how many tokens it has.
+/// A declaration of objects so far: their type, those that are complete, and a name.
+#[derive(Drop)]
+pub struct Naming {
+    pub scalar: Scalar,
+    pub objects: Vec<Object>,
+    pub name: Identifier,
+}
+
+/// What a constant expression is of the named object, and the offset of its first token.
+#[derive(Drop)]
+pub enum Part {
+    Size(usize),
+    Single(usize),
+    /// A value of a list, of which the length and the values so far are kept.
+    Value(Option<ConstantExpression>, Vec<ConstantExpression>, usize),
+}
+
+/// What stands around a full expression.
+#[derive(Drop)]
+pub enum Context {
+    Body(Body, Purpose),
+    Object(Vec<External>, Naming, Part),
+}
+
+/// A full expression so far: what waits, the latest last, and how many tokens it has.
 #[derive(Drop)]
 pub struct Full {
-    pub purpose: Purpose,
+    pub context: Context,
     pub waiting: Vec<Waiting>,
     pub count: usize,
 }
 
-/// A statement that has begun and waits for a part: a block for its end, a loop for its body.
+/// What comes next in a full expression.
 #[derive(Drop)]
-pub enum Open {
-    Block(Vec<Statement>),
-    While(Expression),
+pub enum Phase {
+    Operand,
+    /// An operator or the end, behind an operand.
+    Operator(Expression),
+    /// `int` or a closing parenthesis, behind `signed` or `unsigned` of a cast.
+    CastSign(Scalar),
+    /// A closing parenthesis, behind the type of a cast.
+    CastType(Scalar),
 }
 
-/// What comes next in a function's body.
+/// What comes next in a function's body, outside of full expressions.
 #[derive(Drop)]
 pub enum Stage {
     /// A statement, a declaration, or the end of the block.
     Item,
-    /// `=` or `(`, behind a name that begins a statement.
-    Named(Identifier),
+    /// `else` or what an `Item` has, behind the first part of an `if`.
+    AfterThen(Expression, Statement),
+    /// `while`, behind the body of a `do`.
+    AfterDo(Statement),
+    /// `(`, before a condition.
+    Testing(Test),
+    /// A semicolon.
+    Ending(Statement),
     /// A semicolon or an operand, behind `return`.
     Returning(usize),
-    /// `(`, behind `while`.
-    Testing,
+    /// `(`, behind `for`.
+    ForOpening,
+    ForStarting,
+    /// The condition of a `for`, or a semicolon.
+    ForTesting(Beginning),
+    /// The last part of a `for` header, or its closing parenthesis.
+    ForStepping(Beginning, Option<Expression>),
+    /// `int` or a name, behind `signed` or `unsigned`.
+    LocalSign(Position, Scalar),
     /// A name to declare.
-    Declaring(Vec<Declarator>),
+    Declaring(Position, Scalar, Vec<Declarator>),
     /// `=`, a comma or a semicolon, behind a declared name.
-    Declared(Vec<Declarator>, Identifier),
-    /// An operand.
-    Operand(Full),
-    /// An operator or the end, behind an operand.
-    Operator(Full, Expression),
-    /// A semicolon, behind a call of this many tokens.
-    Called(Identifier, Expression, usize),
+    Declared(Position, Scalar, Vec<Declarator>, Identifier),
+    /// A name, behind `++` or `--`.
+    Stepping(StepOperator, Spot),
+    /// `[` or the end, behind that name.
+    StepNamed(StepOperator, Identifier, Spot),
+    /// The end, behind an increment or decrement of so many tokens.
+    Stepped(StepOperator, Target, Spot, usize),
 }
 
-/// What comes next in a function's head.
+/// What comes next at file scope.
 #[derive(Drop)]
-pub enum Head {
-    ReturnType,
-    Name,
-    Opening(Identifier),
-    Parameters(Identifier),
-    Closing(Identifier),
-    Body(Identifier),
+pub enum Outer {
+    /// An external declaration, or the end of the text.
+    Between,
+    /// `int` or a name, behind `signed` or `unsigned`.
+    ResultSign(Scalar),
+    /// A name, behind a type or `void`.
+    Typed(Option<Scalar>),
+    /// What stands behind the first name.
+    Named(Option<Scalar>, Identifier),
+    /// `void`, a parameter or `)`, behind `(`.
+    Parameters(Signature),
+    /// `)`, behind `void`.
+    OnlyVoid(Signature),
+    /// A parameter, behind a comma.
+    ParameterNext(Signature),
+    /// `int`, a name, a comma or `)`, behind `signed` or `unsigned`.
+    ParameterSign(Signature, Scalar),
+    /// A name, a comma or `)`, behind a parameter's type.
+    ParameterTyped(Signature, Scalar),
+    /// A comma or `)`, behind a parameter.
+    ParameterNamed(Signature),
+    /// A semicolon or a body.
+    Headed(Signature),
+    /// A name, behind a comma.
+    ObjectNext(Scalar, Vec<Object>),
+    /// `[`, `=`, a comma or a semicolon, behind an object's name.
+    ObjectNamed(Naming),
+    /// A length or `]`.
+    Sizing(Naming),
+    /// `=`, a comma or a semicolon, behind `]`.
+    Sized(Naming, Option<ConstantExpression>),
+    /// The value of a single object.
+    Initialising(Naming),
+    /// `{`.
+    Listing(Naming, Option<ConstantExpression>),
+    /// A value, or behind a comma `}`.
+    Valuing(Naming, Option<ConstantExpression>, Vec<ConstantExpression>),
+    /// A comma or a semicolon, behind a complete object.
+    Listed(Scalar, Vec<Object>),
 }
 
-/// A function's body so far: its finished statements, those that are open, the innermost last, and what comes next.
-#[derive(Drop)]
-pub struct Body {
-    pub name: Identifier,
-    pub finished: Vec<Statement>,
-    pub open: Vec<Open>,
-    pub stage: Stage,
-}
-
-/// Where the parser stands between two tokens.
+/// Where the parser stands between two tokens; at file scope, the external declarations that are complete.
 #[derive(Drop)]
 pub enum State {
-    Head(Head),
-    Body(Body),
-    Done(Function),
+    File(Vec<External>, Outer),
+    Body(Body, Stage),
+    Full(Full, Phase),
 }

@@ -1,47 +1,18 @@
 // One token.
 
-ghost use Rattle.std.specs.Prelude.{◌≡◌, ◌≤◌, length};
-ghost use Rattle.cc_syntax.specs.Machine.{name_of, head_step, role_step, role_level, count_of, stage_level};
-ghost use Rattle.cc_syntax.specs.MachineView.{head_view, state_view, stage_view, open_views, Gives};
+ghost use Rattle.std.specs.Prelude.{◌≡◌, ◌<◌, ◌≤◌, ◌^◌, length, IfSome};
+ghost use Rattle.cc_syntax.specs.Machine.{name_of, role_step, role_level, count_of, item_level, resting_depth, stage_level};
+ghost use Rattle.cc_syntax.specs.MachineView.{state_view, stage_view, open_views, Gives};
 ghost use Rattle.cc_syntax.specs.Token.{lexeme};
 
-use crate::parser::body::{identifier, step_body};
+use crate::parser::body::step_body;
+use crate::parser::full::step_full;
+use crate::parser::outer::step_outer;
 use crate::parser::role::Role;
-use crate::parser::state::{Body, Head, Stage, State};
+use crate::parser::state::{Body, Open, Outer, Stage, State};
 use crate::parser::stop::Stop;
 use crate::token::Token;
 use std::alloc::Global;
-
-/// A token of a function's head.
-fn step_head(
-    alloc: Global,
-    head: Head,
-    role: Role,
-    text: &[u8],
-    token: Token,
-) -> Result<State, Stop>
-    requires order { token.from ≤ token.to }
-    requires within { token.to ≤ length text.now }
-    ensures { Gives state_view result (head_step (head_view head) role (name_of (lexeme text.now token))) }
-{
-    match (head, role) {
-        (Head::ReturnType, Role::Int) => Ok(State::Head(Head::Name)),
-        (Head::Name, Role::Identifier) => {
-            Ok(State::Head(Head::Opening(identifier(alloc, text, token)?)))
-        }
-        (Head::Opening(name), Role::OpenParenthesis) => Ok(State::Head(Head::Parameters(name))),
-        (Head::Parameters(name), Role::Void) => Ok(State::Head(Head::Closing(name))),
-        (Head::Parameters(name), Role::CloseParenthesis) => Ok(State::Head(Head::Body(name))),
-        (Head::Closing(name), Role::CloseParenthesis) => Ok(State::Head(Head::Body(name))),
-        (Head::Body(name), Role::OpenBrace) => Ok(State::Body(Body {
-            name,
-            finished: Vec::new(alloc),
-            open: Vec::new(alloc),
-            stage: Stage::Item,
-        })),
-        _ => Err(Stop::Unexpected),
-    }
-}
 
 /// The state after a token, or `Unexpected` where no unit goes on with it.
 pub fn step(
@@ -57,9 +28,9 @@ pub fn step(
     ensures { Gives state_view result (role_step (state_view state) role (name_of (lexeme text.now token))) }
 {
     match state {
-        State::Head(head) => step_head(alloc, head, role, text, token),
-        State::Body(body) => step_body(alloc, body, role, text, token),
-        State::Done(_) => Err(Stop::Unexpected),
+        State::File(externals, outer) => step_outer(alloc, externals, outer, role, text, token),
+        State::Body(body, stage) => step_body(alloc, body, stage, role, text, token),
+        State::Full(full, phase) => step_full(alloc, full, phase, role, text, token),
     }
 }
 
@@ -68,24 +39,60 @@ pub fn count_so_far(state: &State) -> usize
     ensures { result ≡ count_of (state_view state.now) }
 {
     match state {
-        State::Body(body) => match &body.stage {
-            Stage::Named(_) => 1,
-            Stage::Operand(full) => full.count,
-            Stage::Operator(full, _) => full.count,
-            Stage::Called(_, _, count) => *count,
+        State::File(_, _) => 0,
+        State::Body(_, stage) => match stage {
+            Stage::Stepping(_, _) => 1,
+            Stage::StepNamed(_, _, _) => 2,
+            Stage::Stepped(_, _, _, count) => *count,
             _ => 0,
         },
-        _ => 0,
+        State::Full(full, _) => full.count,
     }
 }
 
-fn level_in(body: &Body, role: Role) -> usize
-    ensures { result ≡ stage_level (open_views body.now.open.items) (stage_view body.now.stage) role }
+/// The level of what begins behind so many open statements, 0 where a block ends.
+fn level_behind(count: usize, role: Role) -> usize
+    requires { count < 2 ^ 63 }
+    ensures { result ≡ item_level count role }
 {
-    match &body.stage {
-        Stage::Item => match role {
-            Role::CloseBrace => 0,
-            _ => body.open.len() + 2,
+    match role {
+        Role::CloseBrace => 0,
+        _ => count + 2,
+    }
+}
+
+/// How many open statements are left once a statement behind which no `else` stands is complete; none where a `do` waits
+/// for its `while`.
+fn rest(statements: &[Open]) -> Option<usize>
+    ensures depth { result ≡ resting_depth (open_views statements.now) }
+    ensures within { IfSome result (λ left. left ≤ length statements.now) }
+{
+    let mut left = statements;
+    while let Some((last, front)) = left.split_last() {
+        match last {
+            Open::Block(_) => return Some(left.len()),
+            Open::Do => return None,
+            _ => left = front,
+        }
+    }
+    Some(0)
+}
+
+fn level_in(body: &Body, stage: &Stage, role: Role) -> usize
+    ensures { result ≡ stage_level (open_views body.now.open.items) (stage_view stage.now) role }
+{
+    match stage {
+        Stage::Item => level_behind(body.open.len(), role),
+        Stage::AfterThen(_, _) => match role {
+            Role::Else => 0,
+            _ => match rest(body.open.as_slice()) {
+                Some(left) => level_behind(left, role),
+                None => 0,
+            },
+        },
+        Stage::ForStarting => match role {
+            Role::Int | Role::SignWord(_) => body.open.len() + 3,
+            _ => 0,
         },
         _ => 0,
     }
@@ -96,8 +103,11 @@ pub fn level_begun(state: &State, role: Role) -> usize
     ensures { result ≡ role_level (state_view state.now) role }
 {
     match state {
-        State::Head(Head::Body(_)) => 1,
-        State::Body(body) => level_in(body, role),
+        State::File(_, Outer::Headed(_)) => match role {
+            Role::OpenBrace => 1,
+            _ => 0,
+        },
+        State::Body(body, stage) => level_in(body, stage, role),
         _ => 0,
     }
 }

@@ -49,7 +49,12 @@ fn a_read_that_fails(rt: HostRuntime) -> Result<(), Fail> {
 fn a_write_that_fails(rt: HostRuntime) -> Result<(), Fail> {
     let mut reader = b"int main(void){}".as_slice();
     let mut writer = Refuses;
-    let status = perform(&rt, Task::Interpret(1), &mut reader, &mut writer);
+    let status = perform(
+        &rt,
+        Task::Interpret(1, Vec::new(rt.alloc())),
+        &mut reader,
+        &mut writer,
+    );
     assert_eq!(rt; status, 1);
     let Refuses = writer;
     Ok(())

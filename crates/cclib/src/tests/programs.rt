@@ -1,180 +1,257 @@
 // Small programs, what they write and how they end.
 
-use super::expect;
+use super::{checks, expect, interprets};
 use crate::command_line::Task;
+use std::alloc::Global;
 use std::test::Fail;
 
 #[test]
 fn the_empty_main(rt: HostRuntime) -> Result<(), Fail> {
-    expect(&rt, Task::Interpret(1), "int main(void){}", "ended 0\n", 0)?;
-    expect(&rt, Task::Interpret(0), "int main(void){}", "going\n", 0)?;
-    expect(&rt, Task::Check, "int main(void){}", "ok\n", 0)?;
-    expect(&rt, Task::Check, "int main(){}", "ok\n", 0)
+    interprets(&rt, "int main(void){}", 1, "ended 0\n")?;
+    interprets(&rt, "int main(void){}", 0, "going\n")?;
+    checks(&rt, "int main(void){}", "ok\n")?;
+    interprets(&rt, "int main(){}", 1, "ended 0\n")
 }
 
 #[test]
 fn quotients_and_remainders(rt: HostRuntime) -> Result<(), Fail> {
-    let text = "int main(void){write_word(-7/2);write_word(-7%2);return 0;}";
-    expect(&rt, Task::Interpret(1000), text, "-3\n-1\nended 0\n", 0)
+    interprets(
+        &rt,
+        "int main(void){write_word(-7/2);write_word(-7%2);return 0;}",
+        1000,
+        "-3\n-1\nended 0\n",
+    )
 }
 
 #[test]
 fn a_counting_loop(rt: HostRuntime) -> Result<(), Fail> {
-    let text = "int main(void){int i;while(i<3){write_word(i*i);i=i+1;}return i;}";
-    expect(&rt, Task::Interpret(9), text, "0\n1\n4\nended 3\n", 0)?;
-    expect(&rt, Task::Interpret(4), text, "0\n1\n4\nended 3\n", 0)?;
-    expect(&rt, Task::Interpret(3), text, "0\n1\ngoing\n", 0)
+    interprets(
+        &rt,
+        "int main(void){int i;while(i<3){write_word(i*i);i=i+1;}return i;}",
+        9,
+        "0\n1\n4\nended 3\n",
+    )?;
+    interprets(
+        &rt,
+        "int main(void){int i;while(i<3){write_word(i*i);i=i+1;}return i;}",
+        4,
+        "0\n1\n4\nended 3\n",
+    )?;
+    interprets(
+        &rt,
+        "int main(void){int i;while(i<3){write_word(i*i);i=i+1;}return i;}",
+        3,
+        "0\n1\ngoing\n",
+    )
 }
 
 #[test]
-fn a_division_by_zero(rt: HostRuntime) -> Result<(), Fail> {
-    let text = "int main(void){write_word(5);write_word(1/0);}";
-    expect(&rt, Task::Interpret(9), text, "5\nwrong Division\n", 0)?;
-    let least = "int main(void){int x=-2147483647-1;write_word(x);return x/-1;}";
-    expect(
+fn unsigned_words(rt: HostRuntime) -> Result<(), Fail> {
+    interprets(
         &rt,
-        Task::Interpret(9),
-        least,
+        "int main(void){write_word(-1<1u);write_word(-8>>1u);write_word(1<<31);}",
+        9,
+        "0\n-4\n-2147483648\nended 0\n",
+    )?;
+    interprets(&rt, "int main(void){write_word(1u);}", 9, "1\nended 0\n")?;
+    interprets(
+        &rt,
+        "int main(void){write_word(-8/2u);write_word((unsigned)-8>>1);write_word(1?-1:1u);}",
+        9,
+        "2147483644\n2147483644\n-1\nended 0\n",
+    )
+}
+
+#[test]
+fn sums_wrap(rt: HostRuntime) -> Result<(), Fail> {
+    interprets(
+        &rt,
+        "int main(void){write_word(2147483647+1);write_word(0x80000000);}",
+        9,
+        "-2147483648\n-2147483648\nended 0\n",
+    )?;
+    interprets(
+        &rt,
+        "int main(void){write_word(2147483647+1);return 2147483647*2;}",
+        9,
+        "-2147483648\nended -2\n",
+    )
+}
+
+#[test]
+fn what_goes_wrong(rt: HostRuntime) -> Result<(), Fail> {
+    interprets(
+        &rt,
+        "int main(void){write_word(5);write_word(1/0);}",
+        9,
+        "5\nwrong Division\n",
+    )?;
+    interprets(&rt, "int main(void){1<<32;}", 9, "wrong Shift\n")?;
+    interprets(
+        &rt,
+        "int main(void){int x=-2147483647-1;write_word(x);return x%-1;}",
+        9,
         "-2147483648\nwrong Division\n",
-        0,
+    )?;
+    interprets(
+        &rt,
+        "int a[3];int main(void){write_word(a[2]);write_word(a[3]);}",
+        9,
+        "0\nwrong Index\n",
+    )?;
+    interprets(
+        &rt,
+        "int a[3];int main(void){write_word(a[2]);write_word(a[-1]);}",
+        9,
+        "0\nwrong Index\n",
+    )
+}
+
+#[test]
+fn calls(rt: HostRuntime) -> Result<(), Fail> {
+    interprets(
+        &rt,
+        "int f(int n){if(n)return f(n-1);return 7;}int main(void){write_word(f(1022));}",
+        2000,
+        "7\nended 0\n",
+    )?;
+    interprets(
+        &rt,
+        "int f(int n){if(n)return f(n-1);return 7;}int main(void){write_word(f(1023));}",
+        2000,
+        "wrong Depth\n",
+    )
+}
+
+#[test]
+fn loops(rt: HostRuntime) -> Result<(), Fail> {
+    interprets(
+        &rt,
+        "int main(void){for(;;);write_word(1);}",
+        1000,
+        "going\n",
+    )?;
+    interprets(
+        &rt,
+        "int main(void){int i;for(i=0;i<2;i++){int x=x+1;write_word(x);}}",
+        9,
+        "1\n1\nended 0\n",
+    )?;
+    interprets(
+        &rt,
+        "int main(void){int i=9;do{write_word(i);if(i==9){i=3;continue;}break;}while(i);return i;}",
+        9,
+        "9\n3\nended 3\n",
+    )
+}
+
+#[test]
+fn an_else_belongs_to_the_nearest_if(rt: HostRuntime) -> Result<(), Fail> {
+    interprets(
+        &rt,
+        "int main(void){if(0)if(1)write_word(1);else write_word(2);}",
+        9,
+        "ended 0\n",
+    )
+}
+
+#[test]
+fn the_order_of_an_assignment(rt: HostRuntime) -> Result<(), Fail> {
+    interprets(
+        &rt,
+        "int a[2];int f(void){a[0]=1;return 1;}int main(void){a[f()]+=a[0]+5;write_word(a[1]);}",
+        9,
+        "6\nended 0\n",
     )
 }
 
 #[test]
 fn an_inner_name_hides(rt: HostRuntime) -> Result<(), Fail> {
-    let text = "int main(void){int x=1;{int x=x+5,y=x;write_word(x);write_word(y);x=9;}return x;}";
-    expect(&rt, Task::Interpret(9), text, "5\n5\nended 1\n", 0)
+    interprets(
+        &rt,
+        "int main(void){int x=1;{int x=x+5,y=x;write_word(x);write_word(y);x=9;}return x;}",
+        9,
+        "5\n5\nended 1\n",
+    )
 }
 
 #[test]
-fn a_local_is_zero_each_turn(rt: HostRuntime) -> Result<(), Fail> {
-    let text = "int main(void){int i;while(i<2){int x;x=x+1;write_word(x);i=i+1;}}";
-    expect(&rt, Task::Interpret(9), text, "1\n1\nended 0\n", 0)
+fn short_cuts(rt: HostRuntime) -> Result<(), Fail> {
+    interprets(
+        &rt,
+        "int n;int f(void){n=n+1;return n;}int main(void){write_word(0&&f());write_word(1||f());write_word(f()&&0);write_word(n);}",
+        9,
+        "0\n1\n0\n1\nended 0\n",
+    )
+}
+
+#[test]
+fn globals(rt: HostRuntime) -> Result<(), Fail> {
+    interprets(
+        &rt,
+        "int g=7,a[]={1,-2,3},b[4]={5};unsigned u=1;int main(void){write_word(g);write_word(a[1]);write_word(b[0]+b[3]);write_word(u-2<0);}",
+        9,
+        "7\n-2\n5\n0\nended 0\n",
+    )
 }
 
 #[test]
 fn precedence(rt: HostRuntime) -> Result<(), Fail> {
-    let text =
-        "int main(void){write_word(2+3*4-10/5-1);write_word((2+3)*4);write_word(1<2==2>1);write_word(- -7);return 1+1!=2;}";
-    expect(&rt, Task::Interpret(9), text, "11\n20\n1\n7\nended 0\n", 0)
-}
-
-#[test]
-fn sums_wrap(rt: HostRuntime) -> Result<(), Fail> {
-    let text = "int main(void){write_word(2147483647+1);return 2147483647*2;}";
-    expect(&rt, Task::Interpret(9), text, "-2147483648\nended -2\n", 0)
-}
-
-#[test]
-fn syntax_faults(rt: HostRuntime) -> Result<(), Fail> {
-    expect(&rt, Task::Check, "", "fault 5 Unexpected at 1:1\n", 1)?;
-    expect(
+    interprets(
         &rt,
-        Task::Check,
-        "int main(void){return 1 2;}",
-        "fault 5 Unexpected at 1:25\n",
-        1,
-    )?;
-    expect(
-        &rt,
-        Task::Check,
-        "int main(void){0xe+1;}",
-        "fault 3 BadConstant at 1:16\n",
-        1,
-    )?;
-    expect(
-        &rt,
-        Task::Check,
-        "/*",
-        "fault 2 UnclosedComment at 1:1\n",
-        1,
-    )?;
-    expect(
-        &rt,
-        Task::Check,
-        "int main(void){write_word(1u);}",
-        "fault 5 Unexpected at 1:27\n",
-        1,
-    )?;
-    expect(
-        &rt,
-        Task::Interpret(9),
-        "int main(void){write_word(2147483648);}",
-        "fault 4 ConstantTooLarge at 1:27\n",
-        1,
+        "int main(void){write_word(2+3*4-10/5-1);write_word((2+3)*4);write_word(1<2==2>1);write_word(- -7);return 1+1!=2;}",
+        9,
+        "11\n20\n1\n7\nended 0\n",
     )
 }
 
 #[test]
-fn type_faults(rt: HostRuntime) -> Result<(), Fail> {
+fn a_word_of_the_input(rt: HostRuntime) -> Result<(), Fail> {
+    let text = "int main(void){write_word(read_word());write_word(read_word());return 3;}";
+    let task = Task::Interpret(10, vec![in rt.alloc(); 4294967295u32; 1]?);
+    expect(&rt, task, text, "-1\n0\nended 3\n", 0)
+}
+
+// A function with 24 locals that are read one behind the other.
+fn many_locals(alloc: Global) -> Result<String, Fail> {
+    let mut text = String::new(alloc);
+    text.push_str("int f(int x){return x;}int main(void){")?;
+    for i in 1..25u32 {
+        text.push_str(&format!(in alloc; "int v{i}=read_word();")?)?;
+    }
+    text.push_str("write_word(f(0));write_word(v1")?;
+    for i in 2..25u32 {
+        text.push_str(&format!(in alloc; "+v{i}")?)?;
+    }
+    text.push_str(");}")?;
+    Ok(text)
+}
+
+#[test]
+fn many_words_of_the_input(rt: HostRuntime) -> Result<(), Fail> {
+    let text = many_locals(rt.alloc())?;
+    let mut words = Vec::new(rt.alloc());
+    for word in 1..25u32 {
+        words.push(word)?;
+    }
     expect(
         &rt,
-        Task::Check,
-        "int main(void){x=1;}",
-        "fault 11 Unknown at 1:16\n",
-        1,
-    )?;
-    expect(
-        &rt,
-        Task::Check,
-        "int f(void){}",
-        "fault 19 NoMain at 1:14\n",
-        1,
-    )?;
-    expect(
-        &rt,
-        Task::Check,
-        "int main(void){int x,x;}",
-        "fault 12 Redeclared at 1:22\n",
-        1,
-    )?;
-    expect(
-        &rt,
-        Task::Check,
-        "int read_word(void){}",
-        "fault 12 Redeclared at 1:5\n",
-        1,
-    )?;
-    expect(
-        &rt,
-        Task::Check,
-        "int main(void){int x;x(1);}",
-        "fault 13 WrongKind at 1:22\n",
-        1,
-    )?;
-    expect(
-        &rt,
-        Task::Check,
-        "int main(void){return main;}",
-        "fault 13 WrongKind at 1:23\n",
-        1,
-    )?;
-    expect(
-        &rt,
-        Task::Check,
-        "int main(void){read_word(1);}",
-        "fault 14 WrongCount at 1:16\n",
-        1,
-    )?;
-    expect(
-        &rt,
-        Task::Check,
-        "int main(void){return;}",
-        "fault 16 BadReturn at 1:16\n",
-        1,
-    )?;
-    expect(
-        &rt,
-        Task::Check,
-        "int main(void){main=1;}",
-        "fault 17 BadAssign at 1:16\n",
-        1,
-    )?;
-    expect(
-        &rt,
-        Task::Check,
-        "int f(void){\n  y=x;\n}",
-        "fault 11 Unknown at 2:3\n",
-        1,
+        Task::Interpret(9, words),
+        &text,
+        "0\n300\nended 0\n",
+        0,
     )
+}
+
+// A text that ends anywhere is a program or has one fault line.
+#[test]
+fn every_prefix(rt: HostRuntime) -> Result<(), Fail> {
+    let text = many_locals(rt.alloc())?;
+    let bytes = text.as_bytes();
+    for end in 0..bytes.len() {
+        let (status, written) = super::run(&rt, Task::Check, &bytes[..end])?;
+        let is_fault = written.as_slice().starts_with(b"fault ".as_slice());
+        assert!(rt; status == 1 && is_fault, "at {end}");
+    }
+    checks(&rt, &text, "ok\n")
 }

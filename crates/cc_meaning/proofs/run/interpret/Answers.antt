@@ -1,31 +1,42 @@
--- The form's run is the source's behavior.
-use Rattle.std.proofs.Common.{◌≡◌, ℕ, List, Err, length, sym, ap, ◌∙◌, arith}
+-- The form's run from the start of `main` comes to the source's behavior.
+use Rattle.std.proofs.Common.{ℕ, List, ◌-◌, ◌<◌, length, ap, ◌∙◌, subst, arith}
 use Rattle.cc_syntax.specs.Source.{source}
-use Rattle.cc_typing.specs.FormErase.{form_statements_of, form_tree}
-use Rattle.cc_meaning.specs.Outcome as outcome
-use Rattle.cc_meaning.specs.FormMeaning.{stopped}
+use Rattle.cc_typing.specs.FormErase.{form_tree}
+use Rattle.cc_meaning.specs.Meaning.{source_behavior}
+use Rattle.cc_meaning.specs.FormMeaning.{first_configuration}
+use Rattle.cc_meaning.specs.Ran.{ComesTo}
+use Rattle.cc_meaning.specs.Shows.{Shows}
 use Rattle.cc_meaning.specs.Shown.{stop_shown}
-use Rattle.cc_meaning.specs.declared.machine.Halt.{Halt}
-use Rattle.cc_meaning.specs.declared.machine.Halt.TheVariants.{Stopped}
-use Rattle.cc_meaning.proofs.Interpreting.{form-behavior}
+use Rattle.cc_meaning.proofs.Running.{main_below, main_comes}
 use Rattle.cc_meaning.proofs.run.interpret.Goals as goal
 
-pub returns-in-Ok : goal.returns-in-Ok
-returns-in-Ok c =
-    let form = c.form-form in
-    let made = c.in_ok-variables in
-    let enough : length made.variables.items ≡ form.result.now.variables = omega (arith, made.ensures.len) in
-    let meant = form-behavior (source c.args.unit.now) c.args.input.now c.args.steps (form_tree form.result.now) made.variables.items c.new-2.result.items (form_statements_of c.as_slice.result.now) form.ensures.typed form.ensures.resolves form.ensures.within enough (ap form_statements_of c.as_slice.ensures.value) c.new-2.ensures.items in
-    let ended = rw c.in-Ok.is at c.start-halted.ensures in
-    ap (λ (o : List ℕ). stopped (outcome.Ended 0) o) c.from_vec-output.ensures ∙ sym ended ∙ meant
+pub index-main-requires : goal.index-main-requires
+index-main-requires c =
+    let form = form_tree c.form-form.result.now in
+    let f = c.form-form.ensures in
+    let below : form.main < length form.functions = main_below (source c.args.unit.now) form f.typed f.limits f.form in
+    omega arith
 
-pub returns-in-Err-Stopped : goal.returns-in-Err-Stopped
-returns-in-Err-Stopped c =
-    let form = c.form-form in
-    let made = c.in_ok-variables in
-    let enough : length made.variables.items ≡ form.result.now.variables = omega (arith, made.ensures.len) in
-    let meant = form-behavior (source c.args.unit.now) c.args.input.now c.args.steps (form_tree form.result.now) made.variables.items c.new-2.result.items (form_statements_of c.as_slice.result.now) form.ensures.typed form.ensures.resolves form.ensures.within enough (ap form_statements_of c.as_slice.ensures.value) c.new-2.ensures.items in
-    let halt : c.in-Err-Stopped.field-0 ≡ Stopped c.in-Err-Stopped.stop = rw c.in-Err-Stopped.is at c.in-Err-Stopped.field-0-is in
-    let both = c.in-Err-Stopped.is ∙ ap (λ (h : Halt). Err h) halt in
-    let halted = rw both at c.start-halted.ensures in
-    ap (λ (o : List ℕ). stopped (stop_shown c.in-Err-Stopped.stop) o) c.from_vec-output.ensures ∙ sym halted ∙ meant
+pub run-halt-requires : goal.run-halt-requires
+run-halt-requires c =
+    let form = form_tree c.form-form.result.now in
+    let f = c.form-form.ensures in
+    let unit = source c.args.unit.now in
+    let first = first_configuration form c.index-main.result.now c.args.input.now (c.args.steps - 1) in
+    let comes = main_comes unit c.args.input.now c.args.steps form c.index-main.result.now f.typed f.limits f.form (omega arith) c.index-main.ensures in (
+      unit.externals,
+      first,
+      source_behavior unit c.args.input.now c.args.steps,
+      subst (λ form'. Shows c.in_ok-machine.machine form' first) f.form c.in_ok-machine.ensures,
+      subst (λ form'. ComesTo form' first (source_behavior unit c.args.input.now c.args.steps)) f.form comes,
+    )
+
+pub returns-in-Stopped : goal.returns-in-Stopped
+returns-in-Stopped c =
+    let form = form_tree c.form-form.result.now in
+    let f = c.form-form.ensures in
+    let unit = source c.args.unit.now in
+    let first = first_configuration form c.index-main.result.now c.args.input.now (c.args.steps - 1) in
+    let comes = main_comes unit c.args.input.now c.args.steps form c.index-main.result.now f.typed f.limits f.form (omega arith) c.index-main.ensures in
+    ap (λ (ws : List ℕ). record { stop = stop_shown c.in-Stopped.stop; output = ws }) c.from_vec-in-Stopped.ensures
+    ∙ c.in-Stopped.ensures form first (source_behavior unit c.args.input.now c.args.steps) c.in_ok-machine.ensures comes

@@ -1,47 +1,48 @@
--- The first offence is answered at its place; then a missing main; then the unit is typed.
-use Rattle.std.proofs.Common.{◌≡◌, ◌∙◌, inl, inr, ap, sym, length}
-use Rattle.cc_syntax.specs.Tree.{Definition}
+-- The first offence is answered at its place; then a missing main; then the first call of an undefined function; then the
+-- unit is typed.
+use Rattle.std.proofs.Common.{◌≡◌, ◌∙◌, inr, ap, sym, length, true, false, Some, None}
 use Rattle.cc_syntax.specs.Source.{source}
 use Rattle.cc_syntax.specs.Place.{place_of}
-use Rattle.cc_syntax.specs.Erase.{function_tree}
 use Rattle.cc_typing.specs.Fault.{fault_of}
-use Rattle.cc_typing.specs.Resolve.{locals, resolved}
-use Rattle.cc_typing.specs.Rules.{offences}
-use Rattle.cc_typing.specs.Typed.{is_main}
-use Rattle.cc_typing.specs.Findings.{found, nothing_found}
+use Rattle.cc_typing.specs.Findings.{noted}
+use Rattle.cc_typing.specs.Resolve.{resolved}
+use Rattle.cc_typing.specs.Rules.{defines_main, undefined_calls}
+use Rattle.cc_typing.specs.Typed.{all_offences}
 use Rattle.cc_typing.specs.declared.fault.TypeFault.TheVariants.{NoMain}
-use Rattle.cc_typing.proofs.Verdict.{answers_first, answers_none, IsChecked-found}
+use Rattle.cc_typing.proofs.Verdict.{refused-first, refused-main, refused-call, checked}
 use Rattle.cc_typing.proofs.checking.check.Goals as goal
 
 pub returns-in-Some-clause-refused : goal.returns-in-Some-clause-refused
 returns-in-Some-clause-refused c =
-    let d = (source c.args.unit).function in
-    let is = c.in_ok-form.ensures.found ∙ ap (λ n. found n (offences (function_tree c.function.result.now)) (locals (function_tree c.function.result.now).body)) c.new-findings.ensures
-    ∙ ap (λ (e : Definition). found nothing_found (offences e) (locals e.body)) c.function.ensures.tree in
+    let s = source c.args.unit in
     let o = c.in-Some.offence in
-    inr (inl (
-      o,
-      answers_first d _ is o (sym c.first_offence.ensures ∙ c.in-Some.is),
-      c.fault.ensures ∙ ap (fault_of o.rule) (c.place_in-place.ensures ∙ ap (λ text. place_of text o.at) c.text.ensures),
-    ))
+    let first : noted None (all_offences s.externals) ≡ Some o = sym (c.in_ok-found.ensures.first ∙ ap (λ es. noted None (all_offences es)) c.externals.ensures.tree) ∙ c.in-Some.is in
+    inr (refused-first s o _ first (c.fault.ensures ∙ ap (fault_of o.rule) (c.place_in-place.ensures ∙ ap (λ text. place_of text o.at) c.text.ensures)))
 
 pub returns-then-not-defines_main-clause-refused :
     goal.returns-then-not-defines_main-clause-refused
 returns-then-not-defines_main-clause-refused c =
-    let d = (source c.args.unit).function in
-    let is = c.in_ok-form.ensures.found ∙ ap (λ n. found n (offences (function_tree c.function.result.now)) (locals (function_tree c.function.result.now).body)) c.new-findings.ensures
-    ∙ ap (λ (e : Definition). found nothing_found (offences e) (locals e.body)) c.function.ensures.tree in
-    let main : c.defines_main.result ≡ is_main d = c.defines_main.ensures ∙ ap is_main c.function-3.ensures.tree in
-    inr (inr (
-      answers_none d _ is (sym c.first_offence.ensures ∙ c.in_default.is),
-      sym main ∙ c.if-not-defines_main.true,
-      ap NoMain (c.place_at.ensures ∙ ap (λ text. place_of text (length text)) c.text-text.ensures),
-    ))
+    let s = source c.args.unit in
+    let none : noted None (all_offences s.externals) ≡ None = sym (c.in_ok-found.ensures.first ∙ ap (λ es. noted None (all_offences es)) c.externals.ensures.tree) ∙ c.in_default.is in
+    let main : defines_main s.externals ≡ false = sym (c.defines_main.ensures ∙ ap defines_main c.externals-2.ensures.tree) ∙ c.if-not-defines_main.true in
+    inr (refused-main s _ none main (ap NoMain (c.place_at.ensures ∙ ap (λ text. place_of text (length text)) c.text-text.ensures)))
+
+pub returns-in-Some-undefined-clause-refused : goal.returns-in-Some-undefined-clause-refused
+returns-in-Some-undefined-clause-refused c =
+    let s = source c.args.unit in
+    let o = c.in-Some-undefined.offence in
+    let none : noted None (all_offences s.externals) ≡ None = sym (c.in_ok-found.ensures.first ∙ ap (λ es. noted None (all_offences es)) c.externals.ensures.tree) ∙ c.in_default.is in
+    let main : defines_main s.externals ≡ true = sym (c.defines_main.ensures ∙ ap defines_main c.externals-2.ensures.tree) ∙ c.if-not-defines_main.false in
+    let called : noted None (undefined_calls s.externals) ≡ Some o = sym (c.in_ok-found.ensures.undefined ∙ ap (λ es. noted None (undefined_calls es)) c.externals.ensures.tree) ∙ c.in-Some-undefined.is in
+    inr (refused-call s o _ none main called (c.fault-in-Some-undefined.ensures ∙ ap (fault_of o.rule) (c.place_in-place-in-Some-undefined.ensures ∙ ap (λ text. place_of text o.at) c.text-in-Some-undefined.ensures)))
 
 pub new-requires : goal.new-requires
 new-requires c =
-    let is = c.in_ok-form.ensures.found ∙ ap (λ n. found n (offences (function_tree c.function.result.now)) (locals (function_tree c.function.result.now).body)) c.new-findings.ensures
-    ∙ ap (λ (e : Definition). found nothing_found (offences e) (locals e.body)) c.function.ensures.tree in
-    let main : c.defines_main.result ≡ is_main (source c.args.unit).function = c.defines_main.ensures ∙ ap is_main c.function-3.ensures.tree in
-    IsChecked-found (source c.args.unit) _ c.in_ok-form.form is (answers_none (source c.args.unit).function _ is (sym c.first_offence.ensures ∙ c.in_default.is)) (sym main ∙ c.if-not-defines_main.false) c.in_ok-form.ensures.variables
-    (λ none. c.in_ok-form.ensures.form (ap offences c.function.ensures.tree ∙ none) ∙ ap (λ d. (resolved d).body) c.function.ensures.tree)
+    let s = source c.args.unit in
+    let none : noted None (all_offences s.externals) ≡ None = sym (c.in_ok-found.ensures.first ∙ ap (λ es. noted None (all_offences es)) c.externals.ensures.tree) ∙ c.in_default.is in
+    let main : defines_main s.externals ≡ true = sym (c.defines_main.ensures ∙ ap defines_main c.externals-2.ensures.tree) ∙ c.if-not-defines_main.false in
+    let called : noted None (undefined_calls s.externals) ≡ None = sym (c.in_ok-found.ensures.undefined ∙ ap (λ es. noted None (undefined_calls es)) c.externals.ensures.tree) ∙ c.in_default-undefined.is in
+    record {
+      checked = checked s none main called;
+      form = c.in_ok-form.ensures ∙ ap resolved c.externals-3.ensures.tree;
+    }

@@ -1,6 +1,8 @@
 -- The program is the text's own.
-use Rattle.std.proofs.Common.{refl, sym, subst}
+use Rattle.std.proofs.Common.{◌≡◌, ℕ, List, refl, sym, subst}
 use Rattle.cc_syntax.specs.Source.{source}
+use Rattle.cc_meaning.specs.Meaning.{source_behavior}
+use Rattle.cc_meaning.specs.Shown.{outcome_shown}
 use Rattle.cclib.specs.Answer.{IsAnswer}
 use Rattle.cclib.specs.declared.command_line.Task.{Task}
 use Rattle.cclib.specs.declared.perform.Answer.TheVariants.{Accepted, Ran}
@@ -19,5 +21,7 @@ returns-in-Ok-clause-answer c = record {
   program = source c.args.program.now;
   whose = refl;
   is = c.requires;
-  answered = subst (λ (t : Task). IsAnswer t (source c.args.program.now) (Ran c.in-Ok.outcome)) (sym c.in-Interpret.is) c.in-Ok.ensures;
+  answered = subst (λ (t : Task). IsAnswer t (source c.args.program.now) (Ran c.in-Ok.outcome)) (sym c.in-Interpret.is)
+      (subst (λ (ws : List ℕ). outcome_shown c.in-Ok.outcome ≡ source_behavior (source c.args.program.now) ws c.in-Interpret.steps)
+      c.as_slice.ensures.value c.in-Ok.ensures);
 }

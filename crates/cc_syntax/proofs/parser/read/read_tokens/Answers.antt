@@ -1,10 +1,9 @@
-use Rattle.std.proofs.Common.{length, Err, Result, Option, ap, ◌∙◌, sym, arith}
+use Rattle.std.proofs.Common.{length, Err, Result, ap, ◌∙◌, sym, arith}
 use Rattle.cc_syntax.specs.declared.token.TokenKind.TheVariants.{Identifier}
 use Rattle.cc_syntax.specs.declared.parser.stop.Stop as stop
 use Rattle.cc_syntax.specs.declared.parser.state.State as state
 use Rattle.std.specs.Option.{option_map}
-use Rattle.cc_syntax.specs.declared.ast.Function.{Function}
-use Rattle.cc_syntax.specs.Erase.{function_tree}
+use Rattle.cc_syntax.specs.Erase.{external_trees}
 use Rattle.cc_syntax.specs.MachineView.{state_view}
 use Rattle.cc_syntax.proofs.TokenOrder.{in_order-at}
 use Rattle.cc_syntax.proofs.ReadsTokens.{stopped, past_limit, goes_on, finished, unfinished}
@@ -31,10 +30,10 @@ loop-number-preserved c =
 
 pub returns-in-Some : goal.returns-in-Some
 returns-in-Some c =
-    finished (state_view c.loop-number.state) c.args.text.now c.args.tokens.now c.loop-number.number c.in-Some.function c.loop-number-test.false c.loop-number.invariant.reached
-    (sym c.finished.ensures ∙ ap (λ (o : Option Function). option_map function_tree o) c.in-Some.is)
+    finished (state_view c.loop-number.state) c.args.text.now c.args.tokens.now c.loop-number.number (external_trees c.in-Some.externals.items) c.loop-number-test.false c.loop-number.invariant.reached
+    (sym c.finished.ensures ∙ ap (λ o. option_map (λ es. external_trees es.items) o) c.in-Some.is)
 
 pub returns-in-None : goal.returns-in-None
 returns-in-None c =
     unfinished (state_view c.loop-number.state) c.args.text.now c.args.tokens.now c.loop-number.number c.loop-number-test.false (omega arith) c.loop-number.invariant.reached
-    (sym c.finished.ensures ∙ ap (λ (o : Option Function). option_map function_tree o) c.in-None.is)
+    (sym c.finished.ensures ∙ ap (λ o. option_map (λ es. external_trees es.items) o) c.in-None.is)

@@ -1,11 +1,10 @@
 use Rattle.std.proofs.Common.{◌≡◌, ◌≤◌, length, drop}
 use Rattle.cc_typing.proofs.scope.Scope.close.Given as goal
 
--- what is left of the innermost block stands before the names of the blocks around it
+-- what is left of the innermost scope stands before the names of the scopes around it
 abbrev pub invariant-loop-self : goal.invariant-loop-self
 invariant-loop-self l = record {
   fits : l.self-inside.inner ≤ length l.self-inside.bindings;
-  function : l.self-inside.function ≡ l.initial.self-inside.function;
   outer : drop l.self-inside.inner l.self-inside.bindings ≡ drop l.initial.self-inside.inner l.initial.self-inside.bindings;
 }
 

@@ -1,0 +1,69 @@
+#!/usr/bin/env bash
+# Refuses each allocation of the program in turn, over `check` and `interpret` of bench/memory.c, of the programs of
+# examples/ and of texts at the limits: each answer is the usual one, or `fault 40 OutOfMemory` with status 1. A `malloc` put
+# before the C library's refuses allocation number N, for every N until a run ends before it.
+# The program has to be built (./cclib --help); gcc makes the `malloc`.
+set -eu
+top=$(cd "$(dirname "$0")/.." && pwd)
+program=$top/crates/cclib/out/cclib
+[ -x "$program" ] || { echo "memory.sh: build the program first: ./cclib --help" >&2; exit 1; }
+work=$(mktemp -d)
+trap 'rm -rf "$work"' EXIT
+
+cat > "$work/refuse.c" <<'C'
+#define _GNU_SOURCE
+#include <dlfcn.h>
+#include <errno.h>
+#include <stdlib.h>
+#include <unistd.h>
+static long count, number = -1;
+static int refuse(void) {
+    if (number < 0) { char *text = getenv("REFUSED"); number = text ? atol(text) : 0; }
+    return ++count == number;
+}
+#define NEXT(type, name, ...) static type (*next)(__VA_ARGS__); if (!next) next = dlsym(RTLD_NEXT, name)
+void *malloc(size_t n) { NEXT(void *, "malloc", size_t); return refuse() ? 0 : next(n); }
+void *realloc(void *p, size_t n) { NEXT(void *, "realloc", void *, size_t); return refuse() ? 0 : next(p, n); }
+void *aligned_alloc(size_t a, size_t n) { NEXT(void *, "aligned_alloc", size_t, size_t); return refuse() ? 0 : next(a, n); }
+int posix_memalign(void **p, size_t a, size_t n) { NEXT(int, "posix_memalign", void **, size_t, size_t); return refuse() ? ENOMEM : next(p, a, n); }
+/* Tells by its own status that the run ended before the allocation. */
+__attribute__((destructor)) static void tell(void) { if (number > 0 && count < number) write(3, "all\n", 4); }
+C
+gcc -shared -fPIC -O1 -o "$work/refuse.so" "$work/refuse.c" -ldl
+
+total=0
+refused=0
+# sweep FILE ARGUMENT..: each allocation of this run in turn
+sweep() {
+    local file=$1 status number=0
+    shift
+    status=0
+    "$program" "$@" < "$file" > "$work/usual" 2> "$work/usual.err" || status=$?
+    while :; do
+        number=$((number + 1))
+        local found=0
+        : > "$work/told"
+        REFUSED=$number LD_PRELOAD=$work/refuse.so "$program" "$@" < "$file" > "$work/found" 2> "$work/found.err" 3> "$work/told" || found=$?
+        if [ -s "$work/told" ]; then break; fi
+        total=$((total + 1))
+        if [ "$found" -eq 1 ] && [ "$(cat "$work/found")" = 'fault 40 OutOfMemory' ]; then
+            refused=$((refused + 1))
+        elif [ "$found" -ne "$status" ] || ! cmp -s "$work/usual" "$work/found"; then
+            echo "memory.sh: $(basename "$file") $*: allocation $number gave status $found: $(head -c 200 "$work/found")" >&2
+            exit 1
+        fi
+    done
+    echo "$(basename "$file") $*: $((number - 1)) allocations"
+}
+
+printf 'int main(void){%s1;}' "$(printf '~%.0s' $(seq 511))" > "$work/operators.c"
+printf 'int main(void){%s%s}' "$(printf '{%.0s' $(seq 63))" "$(printf '}%.0s' $(seq 63))" > "$work/blocks.c"
+: > "$work/nothing.c"
+printf '/*' > "$work/unclosed.c"
+for file in "$top"/bench/memory.c "$top"/examples/*.c "$work"/*.c; do
+    case $file in *refuse.c) continue ;; esac
+    sweep "$file" check
+    sweep "$file" interpret 100000 3 4294967295 4 0
+done
+sweep "$work/nothing.c" interpret ten
+echo "$total allocations refused, $refused times fault 40, else the usual answer"

@@ -1,0 +1,14 @@
+use Rattle.std.proofs.Common.{◌≡◌, ◌≤◌, length}
+use Rattle.cc_syntax.specs.Machine.{resting_depth}
+use Rattle.cc_syntax.specs.MachineView.{open_views}
+use Rattle.cc_syntax.proofs.parser.step.rest.Given as goal
+
+-- what is left rests at the depth of all, and is no more
+abbrev pub invariant-loop-last : goal.invariant-loop-last
+invariant-loop-last l = record {
+  depth : resting_depth (open_views l.initial.left) ≡ resting_depth (open_views l.left);
+  within : length l.left ≤ length l.initial.left;
+}
+
+abbrev pub decreases-loop-last : goal.decreases-loop-last
+decreases-loop-last l = length l.left

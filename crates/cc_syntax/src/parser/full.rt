@@ -1,0 +1,611 @@
+// The tokens of a full expression.
+
+ghost use Rattle.std.specs.Prelude.{◌≡◌, ◌≤◌, suc, [], ◌∷◌, ◌++◌, IfOk, Some, None, length};
+ghost use Rattle.std.specs.Option.{option_map};
+ghost use Rattle.cc_syntax.specs.Grammar.{precedence};
+ghost use Rattle.cc_syntax.specs.Erase.{name_tree, expression_tree, expressions_of, declarator_trees, optional_tree, external_trees, target_tree, object_tree, constant_tree, object_trees, constant_trees, optional_constant};
+ghost use Rattle.cc_syntax.specs.Machine.{name_of, reduced, full_of, goes_on, begins_full, end_in_body, end_in_object, end_full, close, operate, ask, open_name, target_of, assign, step_target, operator_step, cast, call_of_none, operand_step, cast_step, cast_sign_step, full_step, first_step, declared, separated, end_list_value, Operand, Arguments, ToInitialise};
+ghost use Rattle.cc_syntax.specs.MachineView.{waiting_view, waiting_views, context_view, full_view, phase_view, state_view, body_view, position_view, purpose_view, naming_view, part_view, Gives};
+ghost use Rattle.cc_syntax.specs.Token.{lexeme};
+
+use crate::ast::{
+    Action, AssignmentOperator, BinaryOperator, ConstantExpression, Declarator, Expression,
+    External, Identifier, Object, Scalar, Statement, StepOperator, Target, UnaryOperator,
+};
+use crate::parser::expression::{call_of, complete, precedence_of, reduce, with_argument_of};
+use crate::parser::role::Role;
+use crate::parser::settle::{end_action, end_declaration, end_test, settled_state};
+use crate::parser::state::{
+    Body, Context, Full, Naming, Outer, Part, Phase, Position, Purpose, Stage, State, Waiting,
+};
+use crate::parser::stop::Stop;
+use crate::token::Token;
+use std::alloc::{AllocError, Global};
+
+/// The identifier that a token is.
+pub fn identifier(alloc: Global, text: &[u8], token: Token) -> Result<Identifier, AllocError>
+    requires order { token.from ≤ token.to }
+    requires within { token.to ≤ length text.now }
+    ensures { IfOk result (λ n. name_tree n ≡ name_of (lexeme text.now token)) }
+{
+    Ok(Identifier {
+        bytes: Vec::from_slice(alloc, &text[token.from..token.to])?,
+        at: token.from,
+    })
+}
+
+/// A full expression with one more token.
+fn with_token(full: Full, phase: Phase) -> State
+    requires { full.count ≤ 512 }
+    ensures { Some (state_view result) ≡ goes_on (full_view full) (waiting_views full.waiting.items) (phase_view phase) }
+{
+    let count = full.count + 1;
+    State::Full(Full { count, ..full }, phase)
+}
+
+/// A full expression with one more token, behind which one more part waits.
+fn with_waiting(full: Full, one: Waiting) -> Result<State, Stop>
+    requires { full.count ≤ 512 }
+    ensures { Gives state_view result (goes_on (full_view full) (waiting_view one ∷ waiting_views full.waiting.items) Operand) }
+{
+    let Full {
+        context,
+        mut waiting,
+        count,
+    } = full;
+    waiting.push(one)?;
+    let count = count + 1;
+    let full = Full {
+        context,
+        waiting,
+        count,
+    };
+    Ok(State::Full(full, Phase::Operand))
+}
+
+/// A full expression that begins, after so many of its tokens.
+pub fn begin_full(alloc: Global, context: Context, count: usize) -> State
+    ensures { Some (state_view result) ≡ begins_full (context_view context) count }
+{
+    let full = Full {
+        context,
+        waiting: Vec::new(alloc),
+        count,
+    };
+    State::Full(full, Phase::Operand)
+}
+
+/// The declarators with one more at the end.
+pub fn with_declarator(
+    mut declarators: Vec<Declarator>,
+    name: Identifier,
+    initial: Option<Expression>,
+) -> Result<Vec<Declarator>, AllocError>
+    ensures { IfOk result (λ ds. declarator_trees ds.items ≡ declarator_trees declarators.items ++ declared (name_tree name) (optional_tree initial) ∷ []) }
+{
+    declarators.push(Declarator { name, initial })?;
+    Ok(declarators)
+}
+
+/// The objects with one more at the end.
+pub fn with_one(mut objects: Vec<Object>, object: Object) -> Result<Vec<Object>, AllocError>
+    ensures { IfOk result (λ os. object_trees os.items ≡ object_trees objects.items ++ object_tree object ∷ []) }
+{
+    objects.push(object)?;
+    Ok(objects)
+}
+
+/// The token behind a complete object.
+pub fn end_object(
+    externals: Vec<External>,
+    scalar: Scalar,
+    objects: Vec<Object>,
+    role: Role,
+) -> Result<State, Stop>
+    ensures { Gives state_view result (separated (external_trees externals.items) scalar (object_trees objects.items) role) }
+{
+    let mut externals = externals;
+    match role {
+        Role::Comma => Ok(State::File(externals, Outer::ObjectNext(scalar, objects))),
+        Role::Semicolon => {
+            externals.push(External::Objects(scalar, objects))?;
+            Ok(State::File(externals, Outer::Between))
+        }
+        _ => Err(Stop::Unexpected),
+    }
+}
+
+/// The token behind the initialiser of a local; how many tokens it has does not matter.
+fn end_initialiser(
+    alloc: Global,
+    body: Body,
+    position: Position,
+    scalar: Scalar,
+    declarators: Vec<Declarator>,
+    name: Identifier,
+    initial: Expression,
+    role: Role,
+) -> Result<State, Stop>
+    ensures { Gives state_view result (end_in_body (body_view body) (ToInitialise (position_view position) scalar (declarator_trees declarators.items) (name_tree name)) 0 (expression_tree initial) role) }
+{
+    match role {
+        Role::Comma => {
+            let declarators = with_declarator(declarators, name, Some(initial))?;
+            Ok(State::Body(body, Stage::Declaring(position, scalar, declarators)))
+        }
+        Role::Semicolon => {
+            let declarators = with_declarator(declarators, name, Some(initial))?;
+            end_declaration(alloc, body, position, scalar, declarators)
+        }
+        _ => Err(Stop::Unexpected),
+    }
+}
+
+/// The token behind a full expression in a function's body.
+fn end_body_part(
+    alloc: Global,
+    body: Body,
+    purpose: Purpose,
+    count: usize,
+    expression: Expression,
+    role: Role,
+) -> Result<State, Stop>
+    requires { count ≤ 512 }
+    ensures { Gives state_view result (end_in_body (body_view body) (purpose_view purpose) count (expression_tree expression) role) }
+{
+    match purpose {
+        Purpose::Perform(spot) => {
+            end_action(alloc, body, spot, Action::Evaluate(expression), role)
+        }
+        Purpose::Assign(operator, target, spot) => {
+            let action = Action::Assign(operator, target, expression);
+            end_action(alloc, body, spot, action, role)
+        }
+        Purpose::Step(operator, name, spot) => match role {
+            Role::CloseBracket => {
+                let target = Target::Element(name, expression);
+                Ok(State::Body(body, Stage::Stepped(operator, target, spot, count + 1)))
+            }
+            _ => Err(Stop::Unexpected),
+        },
+        Purpose::Return(at) => match role {
+            Role::Semicolon => settled_state(alloc, body, Statement::Return(at, Some(expression))),
+            _ => Err(Stop::Unexpected),
+        },
+        Purpose::Test(test) => match role {
+            Role::CloseParenthesis => end_test(alloc, body, test, expression),
+            _ => Err(Stop::Unexpected),
+        },
+        Purpose::Continue(start) => match role {
+            Role::Semicolon => Ok(State::Body(body, Stage::ForStepping(start, Some(expression)))),
+            _ => Err(Stop::Unexpected),
+        },
+        Purpose::Initialise(position, scalar, declarators, name) => end_initialiser(
+            alloc,
+            body,
+            position,
+            scalar,
+            declarators,
+            name,
+            expression,
+            role,
+        ),
+    }
+}
+
+/// The token behind a value of an array's list.
+fn end_value(
+    externals: Vec<External>,
+    naming: Naming,
+    size: Option<ConstantExpression>,
+    values: Vec<ConstantExpression>,
+    value: ConstantExpression,
+    role: Role,
+) -> Result<State, Stop>
+    ensures { Gives state_view result (end_list_value (external_trees externals.items) (naming_view naming) (optional_constant size) (constant_trees values.items) (constant_tree value) role) }
+{
+    let mut values = values;
+    match role {
+        Role::Comma => {
+            values.push(value)?;
+            Ok(State::File(externals, Outer::Valuing(naming, size, values)))
+        }
+        Role::CloseBrace => {
+            values.push(value)?;
+            let Naming {
+                scalar,
+                objects,
+                name,
+            } = naming;
+            let objects = with_one(objects, Object::Array(name, size, values))?;
+            Ok(State::File(externals, Outer::Listed(scalar, objects)))
+        }
+        _ => Err(Stop::Unexpected),
+    }
+}
+
+/// The token behind a constant expression.
+fn end_object_part(
+    externals: Vec<External>,
+    naming: Naming,
+    part: Part,
+    expression: Expression,
+    role: Role,
+) -> Result<State, Stop>
+    ensures { Gives state_view result (end_in_object (external_trees externals.items) (naming_view naming) (part_view part) (expression_tree expression) role) }
+{
+    match part {
+        Part::Size(at) => match role {
+            Role::CloseBracket => {
+                let size = Some(ConstantExpression { at, expression });
+                Ok(State::File(externals, Outer::Sized(naming, size)))
+            }
+            _ => Err(Stop::Unexpected),
+        },
+        Part::Single(at) => {
+            let Naming {
+                scalar,
+                objects,
+                name,
+            } = naming;
+            let value = ConstantExpression { at, expression };
+            let objects = with_one(objects, Object::Single(name, Some(value)))?;
+            end_object(externals, scalar, objects, role)
+        }
+        Part::Value(size, values, at) => {
+            let value = ConstantExpression { at, expression };
+            end_value(externals, naming, size, values, value, role)
+        }
+    }
+}
+
+/// The token behind a full expression.
+fn end_full_of(
+    alloc: Global,
+    context: Context,
+    count: usize,
+    expression: Expression,
+    role: Role,
+) -> Result<State, Stop>
+    requires { count ≤ 512 }
+    ensures { Gives state_view result (end_full (context_view context) count (expression_tree expression) role) }
+{
+    match context {
+        Context::Body(body, purpose) => {
+            end_body_part(alloc, body, purpose, count, expression, role)
+        }
+        Context::Object(externals, naming, part) => {
+            end_object_part(externals, naming, part, expression, role)
+        }
+    }
+}
+
+/// A closing token behind an argument of a call.
+fn close_argument(
+    full: Full,
+    name: Identifier,
+    arguments: Vec<Expression>,
+    argument: Expression,
+    role: Role,
+) -> Result<State, Stop>
+    requires { full.count ≤ 512 }
+    ensures { Gives state_view result (close (full_view full) role (expression_tree argument, Arguments (name_tree name) (expressions_of arguments.items) ∷ waiting_views full.waiting.items)) }
+{
+    match role {
+        Role::CloseParenthesis => {
+            let arguments = with_argument_of(arguments, argument)?;
+            Ok(with_token(full, Phase::Operator(call_of(name, arguments))))
+        }
+        Role::Comma => {
+            let arguments = with_argument_of(arguments, argument)?;
+            with_waiting(full, Waiting::Arguments(name, arguments))
+        }
+        _ => Err(Stop::Unexpected),
+    }
+}
+
+/// A closing token behind an expression, where this waits for it.
+fn close_waiting(
+    alloc: Global,
+    full: Full,
+    opening: Waiting,
+    expression: Expression,
+    role: Role,
+) -> Result<State, Stop>
+    requires { full.count ≤ 512 }
+    ensures { Gives state_view result (close (full_view full) role (expression_tree expression, waiting_view opening ∷ waiting_views full.waiting.items)) }
+{
+    match opening {
+        Waiting::Parenthesis => match role {
+            Role::CloseParenthesis => {
+                let whole = Expression::Parenthesised(Box::new(alloc, expression)?);
+                Ok(with_token(full, Phase::Operator(whole)))
+            }
+            _ => Err(Stop::Unexpected),
+        },
+        Waiting::Index(name) => match role {
+            Role::CloseBracket => {
+                let whole = Expression::Element(name, Box::new(alloc, expression)?);
+                Ok(with_token(full, Phase::Operator(whole)))
+            }
+            _ => Err(Stop::Unexpected),
+        },
+        Waiting::Arguments(name, arguments) => {
+            close_argument(full, name, arguments, expression, role)
+        }
+        Waiting::Then(test) => match role {
+            Role::Colon => with_waiting(full, Waiting::Otherwise(test, expression)),
+            _ => Err(Stop::Unexpected),
+        },
+        _ => Err(Stop::Unexpected),
+    }
+}
+
+/// A closing token behind an operand.
+fn step_close(alloc: Global, full: Full, operand: Expression, role: Role) -> Result<State, Stop>
+    requires { full.count ≤ 512 }
+    ensures { Gives state_view result (close (full_view full) role (reduced 1 (waiting_views full.waiting.items) (expression_tree operand))) }
+{
+    let mut full = full;
+    let inner = reduce(alloc, 1, &mut full.waiting, operand)?;
+    match full.waiting.pop() {
+        None => end_full_of(alloc, full.context, full.count, inner, role),
+        Some(opening) => close_waiting(alloc, full, opening, inner, role),
+    }
+}
+
+/// A binary operator behind an operand.
+fn step_binary(
+    alloc: Global,
+    full: Full,
+    operand: Expression,
+    operator: BinaryOperator,
+) -> Result<State, Stop>
+    requires { full.count ≤ 512 }
+    ensures { Gives state_view result (operate (full_view full) operator (reduced (precedence operator) (waiting_views full.waiting.items) (expression_tree operand))) }
+{
+    let mut full = full;
+    let left = reduce(alloc, precedence_of(operator), &mut full.waiting, operand)?;
+    with_waiting(full, Waiting::Infix(operator, left))
+}
+
+/// A question mark behind an operand.
+fn step_question(alloc: Global, full: Full, operand: Expression) -> Result<State, Stop>
+    requires { full.count ≤ 512 }
+    ensures { Gives state_view result (ask (full_view full) (reduced 2 (waiting_views full.waiting.items) (expression_tree operand))) }
+{
+    let mut full = full;
+    let test = reduce(alloc, 2, &mut full.waiting, operand)?;
+    with_waiting(full, Waiting::Then(test))
+}
+
+/// What an assignment may write, where the expression is such a target.
+fn target(expression: Expression) -> Option<Target>
+    ensures { option_map target_tree result ≡ target_of (expression_tree expression) }
+{
+    match expression {
+        Expression::Name(name) => Some(Target::Variable(name)),
+        Expression::Element(name, index) => Some(Target::Element(name, Box::into_inner(index))),
+        _ => None,
+    }
+}
+
+/// An assignment operator behind an operand: it goes on with an action that begins with a target.
+fn step_assignment(
+    alloc: Global,
+    full: Full,
+    operand: Expression,
+    operator: AssignmentOperator,
+) -> Result<State, Stop>
+    requires { full.count ≤ 512 }
+    ensures { Gives state_view result (assign (full_view full) (expression_tree operand) operator (waiting_views full.waiting.items)) }
+{
+    let Full {
+        context,
+        waiting,
+        count,
+    } = full;
+    if !waiting.is_empty() {
+        return Err(Stop::Unexpected);
+    }
+    match context {
+        Context::Body(body, purpose) => match purpose {
+            Purpose::Perform(spot) => match target(operand) {
+                Some(target) => {
+                    let purpose = Purpose::Assign(operator, target, spot);
+                    Ok(begin_full(alloc, Context::Body(body, purpose), count + 1))
+                }
+                None => Err(Stop::Unexpected),
+            },
+            _ => Err(Stop::Unexpected),
+        },
+        Context::Object(_, _, _) => Err(Stop::Unexpected),
+    }
+}
+
+/// `++` or `--` behind an operand: it ends an action that begins with a target.
+fn step_step(full: Full, operand: Expression, operator: StepOperator) -> Result<State, Stop>
+    requires { full.count ≤ 512 }
+    ensures { Gives state_view result (step_target (full_view full) (expression_tree operand) operator (waiting_views full.waiting.items)) }
+{
+    let Full {
+        context,
+        waiting,
+        count,
+    } = full;
+    if !waiting.is_empty() {
+        return Err(Stop::Unexpected);
+    }
+    match context {
+        Context::Body(body, purpose) => match purpose {
+            Purpose::Perform(spot) => match target(operand) {
+                Some(target) => {
+                    Ok(State::Body(body, Stage::Stepped(operator, target, spot, count + 1)))
+                }
+                None => Err(Stop::Unexpected),
+            },
+            _ => Err(Stop::Unexpected),
+        },
+        Context::Object(_, _, _) => Err(Stop::Unexpected),
+    }
+}
+
+/// A parenthesis or bracket behind an operand, which is then a name.
+fn step_name(alloc: Global, full: Full, operand: Expression, role: Role) -> Result<State, Stop>
+    requires { full.count ≤ 512 }
+    ensures { Gives state_view result (open_name (full_view full) (expression_tree operand) role) }
+{
+    match operand {
+        Expression::Name(name) => match role {
+            Role::OpenParenthesis => {
+                with_waiting(full, Waiting::Arguments(name, Vec::new(alloc)))
+            }
+            Role::OpenBracket => with_waiting(full, Waiting::Index(name)),
+            _ => Err(Stop::Unexpected),
+        },
+        _ => Err(Stop::Unexpected),
+    }
+}
+
+/// A token behind an operand.
+fn step_operator(alloc: Global, full: Full, operand: Expression, role: Role) -> Result<State, Stop>
+    requires { full.count ≤ 512 }
+    ensures { Gives state_view result (operator_step (full_view full) (expression_tree operand) role) }
+{
+    match role {
+        Role::Plus => step_binary(alloc, full, operand, BinaryOperator::Add),
+        Role::Minus => step_binary(alloc, full, operand, BinaryOperator::Subtract),
+        Role::Infix(operator) => step_binary(alloc, full, operand, operator),
+        Role::Question => step_question(alloc, full, operand),
+        Role::OpenParenthesis | Role::OpenBracket => step_name(alloc, full, operand, role),
+        Role::Assignment(operator) => step_assignment(alloc, full, operand, operator),
+        Role::Step(operator) => step_step(full, operand, operator),
+        _ => step_close(alloc, full, operand, role),
+    }
+}
+
+/// A word of a type, directly behind an opening parenthesis.
+fn begin_cast(full: Full, phase: Phase) -> Result<State, Stop>
+    requires { full.count ≤ 512 }
+    ensures { Gives state_view result (cast (full_view full) (phase_view phase) (waiting_views full.waiting.items)) }
+{
+    let mut full = full;
+    match full.waiting.pop() {
+        Some(Waiting::Parenthesis) => Ok(with_token(full, phase)),
+        _ => Err(Stop::Unexpected),
+    }
+}
+
+/// The closing parenthesis of a call without arguments.
+fn end_call(full: Full) -> Result<State, Stop>
+    requires { full.count ≤ 512 }
+    ensures { Gives state_view result (call_of_none (full_view full) (waiting_views full.waiting.items)) }
+{
+    let mut full = full;
+    match full.waiting.pop() {
+        Some(Waiting::Arguments(name, arguments)) => {
+            if !arguments.is_empty() {
+                return Err(Stop::Unexpected);
+            }
+            Ok(with_token(full, Phase::Operator(call_of(name, arguments))))
+        }
+        _ => Err(Stop::Unexpected),
+    }
+}
+
+/// A token where an operand is due.
+fn step_operand(
+    alloc: Global,
+    full: Full,
+    role: Role,
+    text: &[u8],
+    token: Token,
+) -> Result<State, Stop>
+    requires order { token.from ≤ token.to }
+    requires within { token.to ≤ length text.now }
+    requires count { full.count ≤ 512 }
+    ensures { Gives state_view result (operand_step (full_view full) role (name_of (lexeme text.now token))) }
+{
+    match role {
+        Role::Number(scalar, word) => {
+            let number = Expression::Number(scalar, word);
+            Ok(with_token(full, Phase::Operator(number)))
+        }
+        Role::Identifier => {
+            let name = Expression::Name(identifier(alloc, text, token)?);
+            Ok(with_token(full, Phase::Operator(name)))
+        }
+        Role::OpenParenthesis => with_waiting(full, Waiting::Parenthesis),
+        Role::CloseParenthesis => end_call(full),
+        Role::Plus => with_waiting(full, Waiting::Prefix(UnaryOperator::Plus)),
+        Role::Minus => with_waiting(full, Waiting::Prefix(UnaryOperator::Minus)),
+        Role::Prefix(operator) => with_waiting(full, Waiting::Prefix(operator)),
+        Role::Int => begin_cast(full, Phase::CastType(Scalar::Int)),
+        Role::SignWord(scalar) => begin_cast(full, Phase::CastSign(scalar)),
+        _ => Err(Stop::Unexpected),
+    }
+}
+
+/// A token behind the type of a cast.
+fn step_cast(full: Full, scalar: Scalar, role: Role) -> Result<State, Stop>
+    requires { full.count ≤ 512 }
+    ensures { Gives state_view result (cast_step (full_view full) scalar role) }
+{
+    match role {
+        Role::CloseParenthesis => with_waiting(full, Waiting::Cast(scalar)),
+        _ => Err(Stop::Unexpected),
+    }
+}
+
+/// A token behind `signed` or `unsigned` of a cast.
+fn step_cast_sign(full: Full, scalar: Scalar, role: Role) -> Result<State, Stop>
+    requires { full.count ≤ 512 }
+    ensures { Gives state_view result (cast_sign_step (full_view full) scalar role) }
+{
+    match role {
+        Role::Int => Ok(with_token(full, Phase::CastType(scalar))),
+        _ => step_cast(full, scalar, role),
+    }
+}
+
+/// A token of a full expression.
+pub fn step_full(
+    alloc: Global,
+    full: Full,
+    phase: Phase,
+    role: Role,
+    text: &[u8],
+    token: Token,
+) -> Result<State, Stop>
+    requires order { token.from ≤ token.to }
+    requires within { token.to ≤ length text.now }
+    requires count { full.count ≤ 512 }
+    ensures { Gives state_view result (full_step (full_view full) (phase_view phase) role (name_of (lexeme text.now token))) }
+{
+    match phase {
+        Phase::Operand => step_operand(alloc, full, role, text, token),
+        Phase::Operator(operand) => step_operator(alloc, full, operand, role),
+        Phase::CastSign(scalar) => step_cast_sign(full, scalar, role),
+        Phase::CastType(scalar) => step_cast(full, scalar, role),
+    }
+}
+
+/// The first token of a full expression.
+pub fn step_first(
+    alloc: Global,
+    context: Context,
+    role: Role,
+    text: &[u8],
+    token: Token,
+) -> Result<State, Stop>
+    requires order { token.from ≤ token.to }
+    requires within { token.to ≤ length text.now }
+    ensures { Gives state_view result (first_step (context_view context) role (name_of (lexeme text.now token))) }
+{
+    let full = Full {
+        context,
+        waiting: Vec::new(alloc),
+        count: 0,
+    };
+    step_operand(alloc, full, role, text, token)
+}

@@ -1,0 +1,468 @@
+// The tokens at file scope, outside of full expressions.
+
+ghost use Rattle.std.specs.Prelude.{◌≡◌, ◌≤◌, [], ◌∷◌, ◌++◌, IfOk, Some, None, length};
+ghost use Rattle.std.specs.Option.{option_map};
+ghost use Rattle.cc_syntax.specs.Erase.{name_tree, external_trees, signature_tree, parameter_trees, optional_constant, constant_trees, object_trees};
+ghost use Rattle.cc_syntax.specs.Machine.{name_of, external_step, typed_step, result_sign_step, object_step, named_step, parameter_step, parameters_step, only_void_step, parameter_named_step, parameter_typed_step, parameter_sign_step, headed_step, object_next_step, sizing_step, sized_step, listing_step, end_list, valuing_step, outer_step, with_parameter, signature_of, all_named};
+ghost use Rattle.cc_syntax.specs.MachineView.{naming_view, outer_view, state_view, Gives};
+ghost use Rattle.cc_syntax.specs.Token.{lexeme};
+
+use crate::ast::{
+    AssignmentOperator, ConstantExpression, External, Identifier, Object, Parameter, Scalar,
+    Signature,
+};
+use crate::parser::full::{begin_full, end_object, identifier, step_first, with_one};
+use crate::parser::role::Role;
+use crate::parser::state::{Body, Context, Naming, Outer, Part, Stage, State};
+use crate::parser::stop::Stop;
+use crate::token::Token;
+use std::alloc::{AllocError, Global};
+
+/// The first token of an external declaration.
+fn step_external(externals: Vec<External>, role: Role) -> Result<State, Stop>
+    ensures { Gives state_view result (external_step (external_trees externals.items) role) }
+{
+    let next = match role {
+        Role::Int => Outer::Typed(Some(Scalar::Int)),
+        Role::SignWord(scalar) => Outer::ResultSign(scalar),
+        Role::Void => Outer::Typed(None),
+        _ => return Err(Stop::Unexpected),
+    };
+    Ok(State::File(externals, next))
+}
+
+/// A name behind a type or `void`.
+fn step_typed(
+    alloc: Global,
+    externals: Vec<External>,
+    result_type: Option<Scalar>,
+    role: Role,
+    text: &[u8],
+    token: Token,
+) -> Result<State, Stop>
+    requires order { token.from ≤ token.to }
+    requires within { token.to ≤ length text.now }
+    ensures { Gives state_view result (typed_step (external_trees externals.items) result_type role (name_of (lexeme text.now token))) }
+{
+    match role {
+        Role::Identifier => {
+            let name = identifier(alloc, text, token)?;
+            Ok(State::File(externals, Outer::Named(result_type, name)))
+        }
+        _ => Err(Stop::Unexpected),
+    }
+}
+
+/// A token behind `signed` or `unsigned`.
+fn step_result_sign(
+    alloc: Global,
+    externals: Vec<External>,
+    scalar: Scalar,
+    role: Role,
+    text: &[u8],
+    token: Token,
+) -> Result<State, Stop>
+    requires order { token.from ≤ token.to }
+    requires within { token.to ≤ length text.now }
+    ensures { Gives state_view result (result_sign_step (external_trees externals.items) scalar role (name_of (lexeme text.now token))) }
+{
+    match role {
+        Role::Int => Ok(State::File(externals, Outer::Typed(Some(scalar)))),
+        _ => step_typed(alloc, externals, Some(scalar), role, text, token),
+    }
+}
+
+/// A token behind the name of an object.
+fn step_object(externals: Vec<External>, naming: Naming, role: Role) -> Result<State, Stop>
+    ensures { Gives state_view result (object_step (external_trees externals.items) (naming_view naming) role) }
+{
+    match role {
+        Role::OpenBracket => Ok(State::File(externals, Outer::Sizing(naming))),
+        Role::Assignment(AssignmentOperator::Plain) => {
+            Ok(State::File(externals, Outer::Initialising(naming)))
+        }
+        _ => {
+            let Naming {
+                scalar,
+                objects,
+                name,
+            } = naming;
+            let objects = with_one(objects, Object::Single(name, None))?;
+            end_object(externals, scalar, objects, role)
+        }
+    }
+}
+
+/// A token behind the first name of an external declaration.
+fn step_named(
+    alloc: Global,
+    externals: Vec<External>,
+    result_type: Option<Scalar>,
+    name: Identifier,
+    role: Role,
+) -> Result<State, Stop>
+    ensures { Gives state_view result (named_step (external_trees externals.items) result_type (name_tree name) role) }
+{
+    match role {
+        Role::OpenParenthesis => {
+            let signature = Signature {
+                result: result_type,
+                name,
+                parameters: Vec::new(alloc),
+            };
+            Ok(State::File(externals, Outer::Parameters(signature)))
+        }
+        _ => match result_type {
+            Some(scalar) => {
+                let naming = Naming {
+                    scalar,
+                    objects: Vec::new(alloc),
+                    name,
+                };
+                step_object(externals, naming, role)
+            }
+            None => Err(Stop::Unexpected),
+        },
+    }
+}
+
+/// The first token of a parameter.
+fn step_parameter(externals: Vec<External>, signature: Signature, role: Role) -> Result<State, Stop>
+    ensures { Gives state_view result (parameter_step (external_trees externals.items) (signature_tree signature) role) }
+{
+    match role {
+        Role::Int => Ok(State::File(externals, Outer::ParameterTyped(signature, Scalar::Int))),
+        Role::SignWord(scalar) => {
+            Ok(State::File(externals, Outer::ParameterSign(signature, scalar)))
+        }
+        _ => Err(Stop::Unexpected),
+    }
+}
+
+/// A token behind the opening parenthesis of a function's parameters.
+fn step_parameters(
+    externals: Vec<External>,
+    signature: Signature,
+    role: Role,
+) -> Result<State, Stop>
+    ensures { Gives state_view result (parameters_step (external_trees externals.items) (signature_tree signature) role) }
+{
+    match role {
+        Role::Void => Ok(State::File(externals, Outer::OnlyVoid(signature))),
+        Role::CloseParenthesis => Ok(State::File(externals, Outer::Headed(signature))),
+        _ => step_parameter(externals, signature, role),
+    }
+}
+
+/// The closing parenthesis behind `void`.
+fn step_only_void(externals: Vec<External>, signature: Signature, role: Role) -> Result<State, Stop>
+    ensures { Gives state_view result (only_void_step (external_trees externals.items) (signature_tree signature) role) }
+{
+    match role {
+        Role::CloseParenthesis => Ok(State::File(externals, Outer::Headed(signature))),
+        _ => Err(Stop::Unexpected),
+    }
+}
+
+/// A token behind a parameter.
+fn step_parameter_named(
+    externals: Vec<External>,
+    signature: Signature,
+    role: Role,
+) -> Result<State, Stop>
+    ensures { Gives state_view result (parameter_named_step (external_trees externals.items) (signature_tree signature) role) }
+{
+    match role {
+        Role::Comma => Ok(State::File(externals, Outer::ParameterNext(signature))),
+        Role::CloseParenthesis => Ok(State::File(externals, Outer::Headed(signature))),
+        _ => Err(Stop::Unexpected),
+    }
+}
+
+/// What is said of a function, with one parameter more.
+fn with_parameter_of(
+    signature: Signature,
+    scalar: Scalar,
+    name: Option<Identifier>,
+) -> Result<Signature, AllocError>
+    ensures { IfOk result (λ f. signature_tree f ≡ with_parameter (signature_tree signature) scalar (option_map name_tree name)) }
+{
+    let mut signature = signature;
+    signature.parameters.push(Parameter { scalar, name })?;
+    Ok(signature)
+}
+
+/// A token behind a parameter's type.
+fn step_parameter_typed(
+    alloc: Global,
+    externals: Vec<External>,
+    signature: Signature,
+    scalar: Scalar,
+    role: Role,
+    text: &[u8],
+    token: Token,
+) -> Result<State, Stop>
+    requires order { token.from ≤ token.to }
+    requires within { token.to ≤ length text.now }
+    ensures { Gives state_view result (parameter_typed_step (external_trees externals.items) (signature_tree signature) scalar role (name_of (lexeme text.now token))) }
+{
+    match role {
+        Role::Identifier => {
+            let name = identifier(alloc, text, token)?;
+            let signature = with_parameter_of(signature, scalar, Some(name))?;
+            Ok(State::File(externals, Outer::ParameterNamed(signature)))
+        }
+        _ => {
+            let signature = with_parameter_of(signature, scalar, None)?;
+            step_parameter_named(externals, signature, role)
+        }
+    }
+}
+
+/// A token behind `signed` or `unsigned` of a parameter.
+fn step_parameter_sign(
+    alloc: Global,
+    externals: Vec<External>,
+    signature: Signature,
+    scalar: Scalar,
+    role: Role,
+    text: &[u8],
+    token: Token,
+) -> Result<State, Stop>
+    requires order { token.from ≤ token.to }
+    requires within { token.to ≤ length text.now }
+    ensures { Gives state_view result (parameter_sign_step (external_trees externals.items) (signature_tree signature) scalar role (name_of (lexeme text.now token))) }
+{
+    match role {
+        Role::Int => Ok(State::File(externals, Outer::ParameterTyped(signature, scalar))),
+        _ => step_parameter_typed(alloc, externals, signature, scalar, role, text, token),
+    }
+}
+
+/// Whether each parameter has its name.
+fn are_named(parameters: &[Parameter]) -> bool
+    ensures { result ≡ all_named (parameter_trees parameters.now) }
+{
+    parameters.iter().all(|parameter| parameter.name.is_some())
+}
+
+/// A token behind a function's parameters: the end of its declaration, or a body, for which each parameter has its name.
+fn step_headed(
+    alloc: Global,
+    externals: Vec<External>,
+    signature: Signature,
+    role: Role,
+) -> Result<State, Stop>
+    ensures { Gives state_view result (headed_step (external_trees externals.items) (signature_tree signature) role) }
+{
+    let mut externals = externals;
+    match role {
+        Role::Semicolon => {
+            externals.push(External::Declaration(signature))?;
+            Ok(State::File(externals, Outer::Between))
+        }
+        Role::OpenBrace => {
+            if !are_named(signature.parameters.as_slice()) {
+                return Err(Stop::Unexpected);
+            }
+            let body = Body {
+                externals,
+                signature,
+                finished: Vec::new(alloc),
+                open: Vec::new(alloc),
+            };
+            Ok(State::Body(body, Stage::Item))
+        }
+        _ => Err(Stop::Unexpected),
+    }
+}
+
+/// A further name of a declaration of objects.
+fn step_object_next(
+    alloc: Global,
+    externals: Vec<External>,
+    scalar: Scalar,
+    objects: Vec<Object>,
+    role: Role,
+    text: &[u8],
+    token: Token,
+) -> Result<State, Stop>
+    requires order { token.from ≤ token.to }
+    requires within { token.to ≤ length text.now }
+    ensures { Gives state_view result (object_next_step (external_trees externals.items) scalar (object_trees objects.items) role (name_of (lexeme text.now token))) }
+{
+    match role {
+        Role::Identifier => {
+            let name = identifier(alloc, text, token)?;
+            let naming = Naming {
+                scalar,
+                objects,
+                name,
+            };
+            Ok(State::File(externals, Outer::ObjectNamed(naming)))
+        }
+        _ => Err(Stop::Unexpected),
+    }
+}
+
+/// A token behind the bracket of an array.
+fn step_sizing(
+    alloc: Global,
+    externals: Vec<External>,
+    naming: Naming,
+    role: Role,
+    text: &[u8],
+    token: Token,
+) -> Result<State, Stop>
+    requires order { token.from ≤ token.to }
+    requires within { token.to ≤ length text.now }
+    ensures { Gives state_view result (sizing_step (external_trees externals.items) (naming_view naming) role (name_of (lexeme text.now token))) }
+{
+    match role {
+        Role::CloseBracket => Ok(State::File(externals, Outer::Sized(naming, None))),
+        _ => {
+            let context = Context::Object(externals, naming, Part::Size(token.from));
+            step_first(alloc, context, role, text, token)
+        }
+    }
+}
+
+/// A token behind the length of an array.
+fn step_sized(
+    alloc: Global,
+    externals: Vec<External>,
+    naming: Naming,
+    size: Option<ConstantExpression>,
+    role: Role,
+) -> Result<State, Stop>
+    ensures { Gives state_view result (sized_step (external_trees externals.items) (naming_view naming) (optional_constant size) role) }
+{
+    match role {
+        Role::Assignment(AssignmentOperator::Plain) => {
+            Ok(State::File(externals, Outer::Listing(naming, size)))
+        }
+        _ => {
+            let Naming {
+                scalar,
+                objects,
+                name,
+            } = naming;
+            let array = Object::Array(name, size, Vec::new(alloc));
+            end_object(externals, scalar, with_one(objects, array)?, role)
+        }
+    }
+}
+
+/// The brace of an array's list.
+fn step_listing(
+    alloc: Global,
+    externals: Vec<External>,
+    naming: Naming,
+    size: Option<ConstantExpression>,
+    role: Role,
+) -> Result<State, Stop>
+    ensures { Gives state_view result (listing_step (external_trees externals.items) (naming_view naming) (optional_constant size) role) }
+{
+    match role {
+        Role::OpenBrace => {
+            let values = Vec::new(alloc);
+            Ok(State::File(externals, Outer::Valuing(naming, size, values)))
+        }
+        _ => Err(Stop::Unexpected),
+    }
+}
+
+/// The closing brace of an array's list, behind a comma.
+fn end_list_of(
+    externals: Vec<External>,
+    naming: Naming,
+    size: Option<ConstantExpression>,
+    values: Vec<ConstantExpression>,
+) -> Result<State, Stop>
+    ensures { Gives state_view result (end_list (external_trees externals.items) (naming_view naming) (optional_constant size) (constant_trees values.items)) }
+{
+    if values.is_empty() {
+        return Err(Stop::Unexpected);
+    }
+    let Naming {
+        scalar,
+        objects,
+        name,
+    } = naming;
+    let objects = with_one(objects, Object::Array(name, size, values))?;
+    Ok(State::File(externals, Outer::Listed(scalar, objects)))
+}
+
+/// The first token of a value of an array's list, or the end of the list.
+fn step_valuing(
+    alloc: Global,
+    externals: Vec<External>,
+    naming: Naming,
+    size: Option<ConstantExpression>,
+    values: Vec<ConstantExpression>,
+    role: Role,
+    text: &[u8],
+    token: Token,
+) -> Result<State, Stop>
+    requires order { token.from ≤ token.to }
+    requires within { token.to ≤ length text.now }
+    ensures { Gives state_view result (valuing_step (external_trees externals.items) (naming_view naming) (optional_constant size) (constant_trees values.items) role (name_of (lexeme text.now token))) }
+{
+    match role {
+        Role::CloseBrace => end_list_of(externals, naming, size, values),
+        _ => {
+            let part = Part::Value(size, values, token.from);
+            let context = Context::Object(externals, naming, part);
+            step_first(alloc, context, role, text, token)
+        }
+    }
+}
+
+/// A token at file scope, outside of full expressions.
+pub fn step_outer(
+    alloc: Global,
+    externals: Vec<External>,
+    outer: Outer,
+    role: Role,
+    text: &[u8],
+    token: Token,
+) -> Result<State, Stop>
+    requires order { token.from ≤ token.to }
+    requires within { token.to ≤ length text.now }
+    ensures { Gives state_view result (outer_step (external_trees externals.items) (outer_view outer) role (name_of (lexeme text.now token))) }
+{
+    match outer {
+        Outer::Between => step_external(externals, role),
+        Outer::ResultSign(scalar) => {
+            step_result_sign(alloc, externals, scalar, role, text, token)
+        }
+        Outer::Typed(scalar) => step_typed(alloc, externals, scalar, role, text, token),
+        Outer::Named(scalar, name) => step_named(alloc, externals, scalar, name, role),
+        Outer::Parameters(signature) => step_parameters(externals, signature, role),
+        Outer::OnlyVoid(signature) => step_only_void(externals, signature, role),
+        Outer::ParameterNext(signature) => step_parameter(externals, signature, role),
+        Outer::ParameterSign(signature, scalar) => {
+            step_parameter_sign(alloc, externals, signature, scalar, role, text, token)
+        }
+        Outer::ParameterTyped(signature, scalar) => {
+            step_parameter_typed(alloc, externals, signature, scalar, role, text, token)
+        }
+        Outer::ParameterNamed(signature) => step_parameter_named(externals, signature, role),
+        Outer::Headed(signature) => step_headed(alloc, externals, signature, role),
+        Outer::ObjectNext(scalar, objects) => {
+            step_object_next(alloc, externals, scalar, objects, role, text, token)
+        }
+        Outer::ObjectNamed(naming) => step_object(externals, naming, role),
+        Outer::Sizing(naming) => step_sizing(alloc, externals, naming, role, text, token),
+        Outer::Sized(naming, size) => step_sized(alloc, externals, naming, size, role),
+        Outer::Initialising(naming) => {
+            let context = Context::Object(externals, naming, Part::Single(token.from));
+            step_first(alloc, context, role, text, token)
+        }
+        Outer::Listing(naming, size) => step_listing(alloc, externals, naming, size, role),
+        Outer::Valuing(naming, size, values) => {
+            step_valuing(alloc, externals, naming, size, values, role, text, token)
+        }
+        Outer::Listed(scalar, objects) => end_object(externals, scalar, objects, role),
+    }
+}

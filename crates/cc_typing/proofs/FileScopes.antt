@@ -1,0 +1,235 @@
+-- The walk over file scope.
+use Rattle.std.proofs.Common.{◌≡◌, ℕ, Bool, true, false, ◌||◌, List, [], ◌∷◌, ◌++◌, length, Option, Some, None, refl, sym, ap, ◌∙◌}
+use Rattle.std.specs.Prelude.{not, is_some}
+use Rattle.cc_syntax.specs.declared.ast.Scalar.{Scalar}
+use Rattle.cc_syntax.specs.Tree as tree
+use Rattle.cc_syntax.specs.Tree.{Parameter, Signature, Object, Single, Array, External, Declaration, Definition, Objects, Stmts, ConstantExpr}
+use Rattle.cc_typing.specs.Bindings.{closed, file_level, file_of, file_with}
+use Rattle.cc_typing.specs.Findings.{Found, after, is_bad_length}
+use Rattle.cc_typing.specs.Names.{same_name}
+use Rattle.cc_typing.specs.Scope.{Elements, Binding, Visible, in_scope, is_declared, FileScope, has_name, with_declared, with_function, with_object, with_objects, parameter_declared, parameters_declared, body_scope, file_scope_behind}
+use Rattle.cc_typing.specs.Rules.{Around, broken_if, optional_constant_offences, constants_offences, length_offences, object_offences, objects_offences, parameter_offences, parameters_offences, signature_offences, external_offences, externals_offences, statements_offences, called_in_constants, called_in_optional_constant, called_in_object, called_in_objects, called_in_external, called, called_in_statements}
+use Rattle.cc_typing.specs.declared.rule.Offence.{Offence}
+use Rattle.cc_typing.specs.declared.rule.Rule.TheVariants.{Redeclared, WrongCount}
+use Rattle.cc_typing.specs.Entities.{optional_entity}
+use Rattle.cc_typing.specs.Types.{array_length}
+use Rattle.cc_typing.specs.declared.entity.Entity as code
+use Rattle.cc_typing.proofs.Parts as parts
+use Rattle.cc_typing.proofs.Parts.{two, three}
+
+-- names alone are in scope in file scope
+pub in_scope-file : (v : Visible) → v.inner ≡ [] → in_scope v ≡ v.outer
+in_scope-file v e = ap (λ (bs : List Binding). bs ++ v.outer) e
+
+pub length-is : (n : Option ℕ) (given at : ℕ) → length_offences n given at ≡ broken_if (is_bad_length n given) WrongCount at
+length-is None given at = refl
+length-is (Some n) given at = refl
+
+-- ---- objects
+
+-- behind some names of a declaration of objects: what is done and what is left make the whole
+pub record Objecting (t : Scalar) (v0 : Visible) (f0 : Found) (all : List Object) (v : Visible) (f : Found) (rest : List Object) : Type 0 where
+  pub inner : v.inner ≡ []
+  pub scope : (with_objects t rest (file_of v)).bindings ≡ (with_objects t all (file_of v0)).bindings
+  pub found : after f (objects_offences t rest (file_of v)) (called_in_objects rest) ≡ after f0 (objects_offences t all (file_of v0)) (called_in_objects all)
+
+-- behind an object nothing is said of definitions
+with_object-file : (t : Scalar) (o : Object) (g : FileScope) → with_object t o g ≡ record { bindings = (with_object t o g).bindings; defined = g.defined }
+with_object-file t (Single x initial) g = refl
+with_object-file t (Array x n values) g = refl
+
+pub Objecting-next : (t : Scalar) (v0 : Visible) (f0 : Found) (all : List Object) (v : Visible) (f : Found) (o : Object) (rest : List Object) (v' : Visible) (f' : Found)
+    → Objecting t v0 f0 all v f (o ∷ rest) → v' ≡ file_level (with_object t o (file_of v)).bindings → f' ≡ after f (object_offences t o (file_of v)) (called_in_object o)
+    → Objecting t v0 f0 all v' f' rest
+Objecting-next t v0 f0 all v f o rest v' f' before es ef =
+    let same : file_of v' ≡ with_object t o (file_of v) = ap file_of es ∙ sym (with_object-file t o (file_of v)) in
+    record {
+      inner = ap (λ (u : Visible). u.inner) es;
+      scope = ap (λ g. (with_objects t rest g).bindings) same ∙ before.scope;
+      found =
+          ap (λ g. after f' (objects_offences t rest g) (called_in_objects rest)) same
+          ∙ parts.next f f' _ (object_offences t o (file_of v)) (objects_offences t rest (with_object t o (file_of v))) (objects_offences t (o ∷ rest) (file_of v))
+          (called_in_object o) (called_in_objects rest) (called_in_objects (o ∷ rest)) before.found refl refl ef;
+    }
+
+-- ---- parameters
+
+pub record Parametering (v0 : Visible) (f0 : Found) (all : List Parameter) (v : Visible) (f : Found) (rest : List Parameter) : Type 0 where
+  pub scope : parameters_declared rest v ≡ parameters_declared all v0
+  pub found : after f (parameters_offences rest v) [] ≡ after f0 (parameters_offences all v0) []
+
+pub Parametering-next : (v0 : Visible) (f0 : Found) (all : List Parameter) (v : Visible) (f : Found) (p : Parameter) (rest : List Parameter) (v' : Visible) (f' : Found)
+    → Parametering v0 f0 all v f (p ∷ rest) → v' ≡ parameter_declared p.scalar p.name v → f' ≡ after f (parameter_offences p.name v) []
+    → Parametering v0 f0 all v' f' rest
+Parametering-next v0 f0 all v f p rest v' f' before es ef = record {
+  scope = ap (parameters_declared rest) es ∙ before.scope;
+  found =
+      ap (λ u. after f' (parameters_offences rest u) []) es
+      ∙ parts.next f f' _ (parameter_offences p.name v) (parameters_offences rest (parameter_declared p.scalar p.name v)) (parameters_offences (p ∷ rest) v) [] [] [] before.found refl refl ef;
+}
+
+-- ---- external declarations
+
+-- parameters leave what is around them
+parameter_declared-outer : (t : Scalar) (x : Option tree.Name) (v : Visible) → (parameter_declared t x v).outer ≡ v.outer
+parameter_declared-outer t None v = refl
+parameter_declared-outer t (Some x) v = refl
+
+pub parameters_declared-outer : (ps : List Parameter) (v : Visible) → (parameters_declared ps v).outer ≡ v.outer
+parameters_declared-outer [] v = refl
+parameters_declared-outer (p ∷ ps) v = parameters_declared-outer ps (parameter_declared p.scalar p.name v) ∙ parameter_declared-outer p.scalar p.name v
+
+-- two file scopes with the same bindings, in which the same functions are defined
+pub record SameFile (g h : FileScope) : Type 0 where
+  pub bindings : g.bindings ≡ h.bindings
+  pub defined : (x : List ℕ) → has_name g.defined x ≡ has_name h.defined x
+
+with_object-same : (t : Scalar) (o : Object) (g h : FileScope) → g.bindings ≡ h.bindings → (with_object t o g).bindings ≡ (with_object t o h).bindings
+with_object-same t (Single x initial) g h e = ap (λ bs. (with_object t (Single x initial) (record { bindings = bs; defined = [] })).bindings) e
+with_object-same t (Array x n values) g h e = ap (λ bs. (with_object t (Array x n values) (record { bindings = bs; defined = [] })).bindings) e
+
+pub with_objects-same : (t : Scalar) (os : List Object) (g h : FileScope) → g.bindings ≡ h.bindings → (with_objects t os g).bindings ≡ (with_objects t os h).bindings
+with_objects-same t [] g h e = e
+with_objects-same t (o ∷ os) g h e = with_objects-same t os (with_object t o g) (with_object t o h) (with_object-same t o g h e)
+
+with_object-defined : (t : Scalar) (o : Object) (g : FileScope) → (with_object t o g).defined ≡ g.defined
+with_object-defined t (Single x initial) g = refl
+with_object-defined t (Array x n values) g = refl
+
+pub with_objects-defined : (t : Scalar) (os : List Object) (g : FileScope) → (with_objects t os g).defined ≡ g.defined
+with_objects-defined t [] g = refl
+with_objects-defined t (o ∷ os) g = with_objects-defined t os (with_object t o g) ∙ with_object-defined t o g
+
+object_offences-same : (t : Scalar) (o : Object) (g h : FileScope) → g.bindings ≡ h.bindings → object_offences t o g ≡ object_offences t o h
+object_offences-same t (Single x initial) g h e = ap (λ bs. object_offences t (Single x initial) (record { bindings = bs; defined = [] })) e
+object_offences-same t (Array x n values) g h e = ap (λ bs. object_offences t (Array x n values) (record { bindings = bs; defined = [] })) e
+
+pub objects_offences-same : (t : Scalar) (os : List Object) (g h : FileScope) → g.bindings ≡ h.bindings → objects_offences t os g ≡ objects_offences t os h
+objects_offences-same t [] g h e = refl
+objects_offences-same t (o ∷ os) g h e =
+    ap (λ l. l ++ objects_offences t os (with_object t o g)) (object_offences-same t o g h e)
+    ∙ ap (λ l. object_offences t o h ++ l) (objects_offences-same t os (with_object t o g) (with_object t o h) (with_object-same t o g h e))
+
+external_offences-same : (e : External) (g h : FileScope) → SameFile g h → external_offences e g ≡ external_offences e h
+external_offences-same (Declaration s) g h same = ap (λ bs. signature_offences s (record { bindings = bs; defined = [] })) same.bindings
+external_offences-same (Definition s body) g h same =
+    let around : Around = record { result = s.result; in_loop = false } in
+    ap (λ bs. signature_offences s (record { bindings = bs; defined = [] })
+    ++ (broken_if (has_name g.defined s.name.text) Redeclared s.name.at ++ statements_offences body around (body_scope s (record { bindings = bs; defined = [] })))) same.bindings
+    ∙ ap (λ b. signature_offences s h ++ (broken_if b Redeclared s.name.at ++ statements_offences body around (body_scope s h))) (same.defined s.name.text)
+external_offences-same (Objects t os) g h same = objects_offences-same t os g h same.bindings
+
+behind-same : (e : External) (g h : FileScope) → SameFile g h → SameFile (file_scope_behind e g) (file_scope_behind e h)
+behind-same (Declaration s) g h same = record {
+  bindings = ap (λ bs. (with_function s (record { bindings = bs; defined = [] })).bindings) same.bindings;
+  defined = same.defined;
+}
+behind-same (Definition s body) g h same = record {
+  bindings = ap (λ bs. (with_function s (record { bindings = bs; defined = [] })).bindings) same.bindings;
+  defined = λ x. ap (λ b. same_name s.name.text x || b) (same.defined x);
+}
+behind-same (Objects t os) g h same = record {
+  bindings = with_objects-same t os g h same.bindings;
+  defined = λ x. ap (λ d. has_name d x) (with_objects-defined t os g) ∙ same.defined x ∙ sym (ap (λ d. has_name d x) (with_objects-defined t os h));
+}
+
+pub externals_offences-same : (es : List External) (g h : FileScope) → SameFile g h → externals_offences es g ≡ externals_offences es h
+externals_offences-same [] g h same = refl
+externals_offences-same (e ∷ es) g h same =
+    ap (λ l. l ++ externals_offences es (file_scope_behind e g)) (external_offences-same e g h same)
+    ∙ ap (λ l. external_offences e h ++ l) (externals_offences-same es (file_scope_behind e g) (file_scope_behind e h) (behind-same e g h same))
+
+-- behind some external declarations: what is done and what is left make the whole
+pub record Declaring (g0 : FileScope) (f0 : Found) (all : List External) (v : Visible) (names : List (List ℕ)) (f : Found) (rest : List External) : Type 0 where
+  pub inner : v.inner ≡ []
+  pub found : after f (externals_offences rest (file_with v names)) (called rest) ≡ after f0 (externals_offences all g0) (called all)
+
+pub Declaring-next : (g0 : FileScope) (f0 : Found) (all : List External) (v : Visible) (names : List (List ℕ)) (f : Found) (e : External) (rest : List External) (v' : Visible) (names' : List (List ℕ)) (f' : Found)
+    → Declaring g0 f0 all v names f (e ∷ rest)
+    → v' ≡ file_level (file_scope_behind e (file_with v names)).bindings
+    → f' ≡ after f (external_offences e (file_with v names)) (called_in_external e)
+    → ((x : List ℕ) → has_name names' x ≡ has_name (file_scope_behind e (file_with v names)).defined x)
+    → Declaring g0 f0 all v' names' f' rest
+Declaring-next g0 f0 all v names f e rest v' names' f' before es ef en =
+    let there = file_scope_behind e (file_with v names) in
+    let same : SameFile (file_with v' names') there = record { bindings = ap (λ (u : Visible). u.outer) es; defined = en } in
+    record {
+      inner = ap (λ (u : Visible). u.inner) es;
+      found =
+          ap (λ l. after f' l (called rest)) (externals_offences-same rest (file_with v' names') there same)
+          ∙ parts.next f f' _ (external_offences e (file_with v names)) (externals_offences rest there) (externals_offences (e ∷ rest) (file_with v names))
+          (called_in_external e) (called rest) (called (e ∷ rest)) before.found refl refl ef;
+    }
+
+-- ---- one external declaration
+
+module _ (v : Visible) (names : List (List ℕ)) (e : External) where
+  abbrev behind : List Binding
+  behind = (file_scope_behind e (file_with v names)).bindings
+
+  pub declaration-scope : (w u : Visible) (s : Signature) → e ≡ Declaration s → w ≡ body_scope s (file_of v) → u ≡ closed 0 w → u ≡ file_level behind
+  declaration-scope w u s is ew eu =
+      eu ∙ ap (closed 0) ew ∙ ap file_level (parameters_declared-outer s.parameters (file_level (with_function s (file_of v)).bindings))
+      ∙ sym (ap (λ x. file_level (file_scope_behind x (file_with v names)).bindings) is)
+
+  pub definition-scope : (w z u : Visible) (s : Signature) (body : Stmts) → e ≡ Definition s body → w ≡ body_scope s (file_of v) → z.outer ≡ w.outer → u ≡ closed 0 z → u ≡ file_level behind
+  definition-scope w z u s body is ew ez eu =
+      eu ∙ ap file_level (ez ∙ ap (λ (x : Visible). x.outer) ew ∙ parameters_declared-outer s.parameters (file_level (with_function s (file_of v)).bindings))
+      ∙ sym (ap (λ x. file_level (file_scope_behind x (file_with v names)).bindings) is)
+
+  pub definition-found : (w : Visible) (f g h k : Found) (s : Signature) (body : Stmts) (b : Bool) → e ≡ Definition s body → w ≡ body_scope s (file_of v) → b ≡ has_name names s.name.text
+      → g ≡ after f (signature_offences s (file_of v)) [] → h ≡ after g (broken_if b Redeclared s.name.at) []
+      → k ≡ after h (statements_offences body (record { result = s.result; in_loop = false }) w) (called_in_statements body)
+      → k ≡ after f (external_offences e (file_with v names)) (called_in_external e)
+  definition-found w f g h k s body b is ew eb eg eh ek =
+      let around : Around = record { result = s.result; in_loop = false } in
+      three f g h k (signature_offences s (file_of v)) (broken_if b Redeclared s.name.at) (statements_offences body around w) _ [] [] (called_in_statements body) _ eg eh ek
+      (ap (λ x. external_offences x (file_with v names)) is
+      ∙ ap (λ x. signature_offences s (file_of v) ++ (broken_if x Redeclared s.name.at ++ statements_offences body around (body_scope s (file_of v)))) (sym eb)
+      ∙ ap (λ x. signature_offences s (file_of v) ++ (broken_if b Redeclared s.name.at ++ statements_offences body around x)) (sym ew))
+      (ap called_in_external is)
+
+  pub objects-scope : (w : Visible) (t : Scalar) (os : List Object) → e ≡ Objects t os → w ≡ file_level (with_objects t os (file_of v)).bindings → w ≡ file_level behind
+  objects-scope w t os is ew = ew ∙ ap file_level (with_objects-same t os (file_of v) (file_with v names) refl) ∙ sym (ap (λ x. file_level (file_scope_behind x (file_with v names)).bindings) is)
+
+  pub objects-found : (f g : Found) (t : Scalar) (os : List Object) → e ≡ Objects t os → g ≡ after f (objects_offences t os (file_of v)) (called_in_objects os) → g ≡ after f (external_offences e (file_with v names)) (called_in_external e)
+  objects-found f g t os is eg =
+      eg ∙ ap (λ l. after f l (called_in_objects os)) (objects_offences-same t os (file_of v) (file_with v names) refl)
+      ∙ sym (ap (λ x. after f (external_offences x (file_with v names)) (called_in_external x)) is)
+
+  pub objects-defined : (t : Scalar) (os : List Object) → e ≡ Objects t os → (x : List ℕ) → has_name names x ≡ has_name (file_scope_behind e (file_with v names)).defined x
+  objects-defined t os is x = sym (ap (λ d. has_name d x) (with_objects-defined t os (file_with v names))) ∙ sym (ap (λ y. has_name (file_scope_behind y (file_with v names)).defined x) is)
+
+pub not_not : (b : Bool) → b ≡ not (not b)
+not_not true = refl
+not_not false = refl
+
+-- ---- an array
+
+four : (f g h k m : Found) (xs ys zs ws os : List Offence) (cs ds es gs all : List tree.Name) → g ≡ after f xs cs → h ≡ after g ys ds → k ≡ after h zs es → m ≡ after k ws gs
+    → os ≡ xs ++ (ys ++ (zs ++ ws)) → all ≡ cs ++ (ds ++ (es ++ gs)) → m ≡ after f os all
+four f g h k m xs ys zs ws os cs ds es gs all eg eh ek em eo ee =
+    two f g m xs (ys ++ (zs ++ ws)) os cs (ds ++ (es ++ gs)) all eg (three g h k m ys zs ws (ys ++ (zs ++ ws)) ds es gs (ds ++ (es ++ gs)) eh ek em refl refl) eo ee
+
+pub array-found : (v w : Visible) (t : Scalar) (f g h k m : Found) (x : tree.Name) (n : Option ConstantExpr) (values : List ConstantExpr) (o : Object) (again bad : Bool)
+    → v.inner ≡ [] → o ≡ Array x n values → again ≡ is_declared (in_scope v) x.text → bad ≡ is_bad_length (array_length n values) (length values)
+    → w ≡ file_level (with_declared x.text (Elements t) (file_of v)).bindings
+    → g ≡ after f (broken_if again Redeclared x.at) [] → h ≡ after g (optional_constant_offences (in_scope v) n) (called_in_optional_constant n)
+    → k ≡ after h (broken_if bad WrongCount x.at) [] → m ≡ after k (constants_offences (in_scope w) values) (called_in_constants values)
+    → m ≡ after f (object_offences t o (file_of v)) (called_in_object o)
+array-found v w t f g h k m x n values o again bad none is ea eb ew eg eh ek em =
+    let there : List Binding = (with_declared x.text (Elements t) (file_of v)).bindings in
+    let outside : in_scope v ≡ v.outer = in_scope-file v none in
+    four f g h k m (broken_if again Redeclared x.at) (optional_constant_offences (in_scope v) n) (broken_if bad WrongCount x.at) (constants_offences (in_scope w) values) _
+    [] (called_in_optional_constant n) [] (called_in_constants values) _ eg eh ek em
+    (ap (λ y. object_offences t y (file_of v)) is
+    ∙ ap (λ l. broken_if (is_declared v.outer x.text) Redeclared x.at ++ (optional_constant_offences v.outer n ++ (l ++ constants_offences there values))) (length-is (array_length n values) (length values) x.at)
+    ∙ ap (λ b. broken_if (is_declared v.outer x.text) Redeclared x.at ++ (optional_constant_offences v.outer n ++ (broken_if b WrongCount x.at ++ constants_offences there values))) (sym eb)
+    ∙ ap (λ (u : Visible). broken_if (is_declared v.outer x.text) Redeclared x.at ++ (optional_constant_offences v.outer n ++ (broken_if bad WrongCount x.at ++ constants_offences (in_scope u) values))) (sym ew)
+    ∙ ap (λ bs. broken_if (is_declared bs x.text) Redeclared x.at ++ (optional_constant_offences bs n ++ (broken_if bad WrongCount x.at ++ constants_offences (in_scope w) values))) (sym outside)
+    ∙ ap (λ b. broken_if b Redeclared x.at ++ (optional_constant_offences (in_scope v) n ++ (broken_if bad WrongCount x.at ++ constants_offences (in_scope w) values))) (sym ea))
+    (ap called_in_object is)
+
+pub is_some-entity : (e : Option code.Entity) → is_some e ≡ is_some (optional_entity e)
+is_some-entity None = refl
+is_some-entity (Some e) = refl

@@ -1,0 +1,16 @@
+-- The array, and then its index.
+use Rattle.std.proofs.Common.{[], ap}
+use Rattle.cc_syntax.specs.Erase.{target_tree, expression_tree}
+use Rattle.cc_typing.specs.Rules.{array_offences, value_offences, target_offences, called_in, called_in_target}
+use Rattle.cc_typing.specs.Scope.{found, in_scope}
+use Rattle.cc_typing.proofs.Parts.{two}
+use Rattle.cc_typing.proofs.expressions.target.Goals as goal
+
+pub returns-in-Element : goal.returns-in-Element
+returns-in-Element c =
+    let bs = in_scope c.args.scope.now in
+    let x = c.in-Element.name in
+    let index = expression_tree c.in-Element.index in
+    two c.args.findings.now c.array.new.findings c.value.new.findings (array_offences (found bs x.bytes.items) x.at) (value_offences bs index) (target_offences bs (target_tree c.args.target.now))
+    [] (called_in index) (called_in_target (target_tree c.args.target.now)) c.array.ensures c.value.ensures
+    (ap (λ a. target_offences bs (target_tree a)) c.in-Element.is) (ap (λ a. called_in_target (target_tree a)) c.in-Element.is)

@@ -1,0 +1,11 @@
+use Rattle.std.proofs.Common.{◌≡◌, length, drop, reverse}
+use Rattle.cc_syntax.specs.Erase.{declarator_trees}
+use Rattle.cc_syntax.specs.declared.ast.Scalar.{Scalar}
+use Rattle.cc_typing.specs.Resolve.{Environment, with_locals}
+use Rattle.cc_typing.proofs.ResolvingStatements.{Undeclaring}
+use Rattle.cc_typing.proofs.resolver.declarations.declaration.Given as goal
+
+abbrev pub invariant-loop-tree : goal.invariant-loop-tree
+invariant-loop-tree l =
+    (t : Scalar) (w : Environment) → l.fn.names ≡ with_locals t (declarator_trees l.trees) w
+    → Undeclaring t w (reverse l.trees) l.fn.code l.names l.code (drop (length l.yielded) (reverse l.trees))

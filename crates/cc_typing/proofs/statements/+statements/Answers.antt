@@ -1,0 +1,118 @@
+-- Each kind of statement in turn, and a list statement by statement.
+use Rattle.std.proofs.Common.{◌≡◌, ◌∙◌, refl, ap, sym, subst}
+use Rattle.cc_syntax.specs.Erase.{expression_tree, optional_tree, optional_action, beginning_tree, statement_tree, statements_of}
+use Rattle.cc_syntax.specs.Tree.{For}
+use Rattle.cc_typing.specs.Findings.{after, around_of}
+use Rattle.cc_typing.specs.Scope.{Visible, in_scope, opened}
+use Rattle.cc_typing.specs.Rules.{value_offences, statement_offences, statements_offences, called_in, called_in_statement, called_in_statements}
+use Rattle.cc_typing.proofs.SameTypes.{drop-item}
+use Rattle.cc_typing.proofs.Trees.{statement_tree-block, statement_tree-if, statement_tree-if_else, statement_tree-while, statement_tree-do_while, statement_tree-for}
+use Rattle.cc_typing.proofs.Walks.{on_ok, scope_behind_outer, scope_behind_start_outer, closes, closed-is, Walking, Walking-next, if-found, if_else-found, while-found, do_while-found, for-found}
+use Rattle.cc_typing.proofs.statements.+statements.Goals as goal
+
+pub all_statements-loop-tree-preserved : goal.all_statements-loop-tree-preserved
+all_statements-loop-tree-preserved t c =
+    let left = drop-item c.args.trees.now c.loop-tree.tree-index c.tree-item.result c.loop-tree-test.true c.tree-item.is in
+    let before = subst (λ ts. Walking (around_of c.args.around) c.args.scope.now c.args.findings.now (statements_of c.args.trees.now) c.loop-tree.scope c.loop-tree.findings (statements_of ts)) left c.loop-tree.invariant in
+    Walking-next _ _ _ _ _ _ (statement_tree c.tree-item.result) _ _ _ before c.in_ok-statement.ensures.scope c.in_ok-statement.ensures.found
+
+pub inner_statement-close-requires : goal.inner_statement-close-requires
+inner_statement-close-requires t c =
+    let outer : c.statement.new.scope.outer ≡ in_scope c.args.scope.now =
+    ap (λ (v : Visible). v.outer) c.in_ok-statement.ensures.scope ∙ scope_behind_outer (statement_tree c.args.tree.now) c.open-names.new.self ∙ ap (λ (v : Visible). v.outer) c.open-names.ensures.scope in
+    closes c.args.scope.now c.statement.new.scope c.open-names.result outer c.open-names.ensures.around
+
+pub inner_statement-returns-clause-scope : goal.inner_statement-returns-clause-scope
+inner_statement-returns-clause-scope t c =
+    let outer : c.statement.new.scope.outer ≡ in_scope c.args.scope.now =
+    ap (λ (v : Visible). v.outer) c.in_ok-statement.ensures.scope ∙ scope_behind_outer (statement_tree c.args.tree.now) c.open-names.new.self ∙ ap (λ (v : Visible). v.outer) c.open-names.ensures.scope in
+    closed-is c.args.scope.now c.statement.new.scope c.close.new.self c.open-names.result outer c.open-names.ensures.around c.close.ensures
+
+pub for_statement-close-requires : goal.for_statement-close-requires
+for_statement-close-requires t c =
+    let first = beginning_tree c.args.first.now in
+    let outer : c.inner_statement.new.scope.outer ≡ in_scope c.args.scope.now =
+    ap (λ (v : Visible). v.outer) c.in_ok-inner_statement.ensures.scope ∙ ap (λ (v : Visible). v.outer) c.in_ok-beginning.ensures.scope
+    ∙ scope_behind_start_outer first c.open-names.new.self ∙ ap (λ (v : Visible). v.outer) c.open-names.ensures.scope in
+    closes c.args.scope.now c.inner_statement.new.scope c.open-names.result outer c.open-names.ensures.around
+
+pub for_statement-returns-clause-scope : goal.for_statement-returns-clause-scope
+for_statement-returns-clause-scope t c =
+    let first = beginning_tree c.args.first.now in
+    let outer : c.inner_statement.new.scope.outer ≡ in_scope c.args.scope.now =
+    ap (λ (v : Visible). v.outer) c.in_ok-inner_statement.ensures.scope ∙ ap (λ (v : Visible). v.outer) c.in_ok-beginning.ensures.scope
+    ∙ scope_behind_start_outer first c.open-names.new.self ∙ ap (λ (v : Visible). v.outer) c.open-names.ensures.scope in
+    closed-is c.args.scope.now c.inner_statement.new.scope c.close.new.self c.open-names.result outer c.open-names.ensures.around c.close.ensures
+
+pub for_statement-returns-clause-found : goal.for_statement-returns-clause-found
+for_statement-returns-clause-found t c =
+    let whole = For (beginning_tree c.args.first.now) (optional_tree c.args.condition.now) (optional_action c.args.following.now) (statement_tree c.args.body.now) in
+    for-found (around_of c.args.around) c.args.scope.now whole c.args.findings.now (around_of c.within_loop.result) c.within_loop.ensures
+    c.open-names.new.self c.beginning.new.scope c.open-names.ensures.scope
+    c.beginning.new.findings c.optional_value.new.findings c.optional_action.new.findings c.inner_statement.new.findings
+    (beginning_tree c.args.first.now) (optional_tree c.args.condition.now) (optional_action c.args.following.now) (statement_tree c.args.body.now) (statement_tree c.args.body.now)
+    refl refl c.in_ok-beginning.ensures.scope c.in_ok-beginning.ensures.found c.optional_value.ensures c.optional_action.ensures c.in_ok-inner_statement.ensures.found
+
+pub statement-returns-in-Block-clause-found : goal.statement-returns-in-Block-clause-found
+statement-returns-in-Block-clause-found t c =
+    let f = c.args.findings.now in
+    let v = c.args.scope.now in
+    let a = around_of c.args.around in
+    let is = ap statement_tree c.in-Block.is ∙ statement_tree-block c.in-Block.all in
+    on_ok c.block.result
+    (λ e. e ∙ ap (λ l. after f (statements_offences (statements_of l) a (opened v)) (called_in_statements (statements_of l))) c.deref.ensures.value
+    ∙ sym (ap (λ u. after f (statement_offences u a v) (called_in_statement u)) is))
+    c.block.ensures.found
+
+pub statement-returns-in-If-clause-found : goal.statement-returns-in-If-clause-found
+statement-returns-in-If-clause-found t c =
+    let is = ap statement_tree c.in-If.is ∙ statement_tree-if c.in-If.condition c.in-If.held in
+    on_ok c.inner_statement.result
+    (λ e. if-found (around_of c.args.around) c.args.scope.now (statement_tree c.args.tree.now) c.args.findings.now c.value.new.findings c.inner_statement.new.findings (expression_tree c.in-If.condition)
+    (statement_tree c.in-If.held.value) (statement_tree c.deref-in-If.result.now) is (ap statement_tree c.deref-in-If.ensures) c.value.ensures e)
+    c.inner_statement.ensures.found
+
+pub statement-returns-in_ok-inner_statement-in-IfElse-clause-found :
+    goal.statement-returns-in_ok-inner_statement-in-IfElse-clause-found
+statement-returns-in_ok-inner_statement-in-IfElse-clause-found t c =
+    let a = around_of c.args.around in
+    let is = ap statement_tree c.in-IfElse.is ∙ statement_tree-if_else c.in-IfElse.condition c.in-IfElse.held c.in-IfElse.other in
+    let other = statement_tree c.deref-in-IfElse-2.result.now in
+    on_ok c.inner_statement-in-IfElse-2.result
+    (λ e. if_else-found a c.args.scope.now (statement_tree c.args.tree.now) c.args.findings.now c.value-in-IfElse.new.findings c.inner_statement-in-IfElse.new.findings c.inner_statement-in-IfElse-2.new.findings
+    (expression_tree c.in-IfElse.condition) (statement_tree c.in-IfElse.held.value) (statement_tree c.in-IfElse.other.value) (statement_tree c.deref-in-IfElse.result.now) other is
+    (ap statement_tree c.deref-in-IfElse.ensures) (ap statement_tree c.deref-in-IfElse-2.ensures) c.value-in-IfElse.ensures c.in_ok-inner_statement-in-IfElse.ensures.found
+    (e ∙ ap (λ v. after c.inner_statement-in-IfElse.new.findings (statement_offences other a (opened v)) (called_in_statement other)) c.in_ok-inner_statement-in-IfElse.ensures.scope))
+    c.inner_statement-in-IfElse-2.ensures.found
+
+pub statement-returns-in-While-clause-found : goal.statement-returns-in-While-clause-found
+statement-returns-in-While-clause-found t c =
+    let is = ap statement_tree c.in-While.is ∙ statement_tree-while c.in-While.condition c.in-While.body in
+    on_ok c.inner_statement-in-While.result
+    (λ e. while-found (around_of c.args.around) c.args.scope.now (statement_tree c.args.tree.now) c.args.findings.now (around_of c.within_loop.result) c.within_loop.ensures c.value-in-While.new.findings c.inner_statement-in-While.new.findings
+    (expression_tree c.in-While.condition) (statement_tree c.in-While.body.value) (statement_tree c.deref-in-While.result.now) is (ap statement_tree c.deref-in-While.ensures) c.value-in-While.ensures e)
+    c.inner_statement-in-While.ensures.found
+
+pub statement-returns-in_ok-inner_statement-in-DoWhile-clause-found :
+    goal.statement-returns-in_ok-inner_statement-in-DoWhile-clause-found
+statement-returns-in_ok-inner_statement-in-DoWhile-clause-found t c =
+    let is = ap statement_tree c.in-DoWhile.is ∙ statement_tree-do_while c.in-DoWhile.body c.in-DoWhile.condition in
+    let test = expression_tree c.in-DoWhile.condition in
+    do_while-found (around_of c.args.around) c.args.scope.now (statement_tree c.args.tree.now) c.args.findings.now (around_of c.within_loop-in-DoWhile.result) c.within_loop-in-DoWhile.ensures
+    c.inner_statement-in-DoWhile.new.findings c.value-in-DoWhile.new.findings
+    test (statement_tree c.in-DoWhile.body.value) (statement_tree c.deref-in-DoWhile.result.now) is (ap statement_tree c.deref-in-DoWhile.ensures) c.in_ok-inner_statement-in-DoWhile.ensures.found
+    (c.value-in-DoWhile.ensures ∙ ap (λ v. after c.inner_statement-in-DoWhile.new.findings (value_offences (in_scope v) test) (called_in test)) c.in_ok-inner_statement-in-DoWhile.ensures.scope)
+
+pub statement-returns-in-For-clause-found : goal.statement-returns-in-For-clause-found
+statement-returns-in-For-clause-found t c =
+    let f = c.args.findings.now in
+    let v = c.args.scope.now in
+    let a = around_of c.args.around in
+    let first = beginning_tree c.in-For.first in
+    let test = optional_tree c.in-For.condition in
+    let next = optional_action c.in-For.following in
+    let is = ap statement_tree c.in-For.is ∙ statement_tree-for c.in-For.first c.in-For.condition c.in-For.following c.in-For.body in
+    on_ok c.for_statement.result
+    (λ e. e ∙ ap (λ s. after f (statement_offences (For first test next (statement_tree s)) a v) (called_in_statement (For first test next (statement_tree s)))) c.deref-in-For.ensures
+    ∙ sym (ap (λ u. after f (statement_offences u a v) (called_in_statement u)) is))
+    c.for_statement.ensures.found

@@ -1,0 +1,10 @@
+// Where a statement stands.
+
+use cc_syntax::Scalar;
+
+/// What a statement's function gives, none for `void`, and whether a loop is around the statement.
+#[derive(Clone, Copy)]
+pub struct Surroundings {
+    pub result: Option<Scalar>,
+    pub in_loop: bool,
+}

@@ -1,0 +1,195 @@
+// The rules of expressions and actions (C99 6.5, 6.8.3).
+//
+// The walk goes on behind an offence, since the first in the text need not be the first that is met. The recursion is as
+// deep as the tree: at most 512 tokens of a full expression.
+
+ghost use Rattle.std.specs.Prelude.{◌≡◌, ◌==◌, [], not, length};
+ghost use Rattle.cc_syntax.specs.Erase.{expression_tree, expressions_of, optional_tree, target_tree, action_tree, optional_action};
+ghost use Rattle.cc_typing.specs.Entities.{optional_entity};
+ghost use Rattle.cc_typing.specs.Findings.{after};
+ghost use Rattle.cc_typing.specs.declared.rule.Rule.TheVariants.{WrongCount};
+ghost use Rattle.cc_typing.specs.Types.{result_type};
+ghost use Rattle.cc_typing.specs.Rules.{broken_if, variable_offences, array_offences, function_offences, void_offences, expression_offences, argument_offences, value_offences, optional_offences, target_offences, action_offences, optional_action_offences, called_in, called_in_all, called_in_optional, called_in_target, called_in_action, called_in_optional_action};
+ghost use Rattle.cc_typing.specs.Scope.{found, in_scope};
+
+use super::entity::Entity;
+use super::findings::Findings;
+use super::rule::Rule;
+use super::scope::Scope;
+use cc_syntax::{Action, Expression, Identifier, Scalar, Target};
+
+// A name that must be a variable. An array or a function there breaks the rule that is given.
+fn variable(scope: &Scope, findings: &mut Findings, name: &Identifier, misuse: Rule)
+    ensures { findings.new ≡ after findings.old (variable_offences misuse (found (in_scope scope.now) name.now.bytes.items) name.now.at) [] }
+{
+    match scope.find(name.bytes.as_slice()) {
+        Some(Entity::Variable(_)) => {}
+        Some(_) => findings.note(misuse, name.at),
+        None => findings.note(Rule::Unknown, name.at),
+    }
+}
+
+// A name that must be an array.
+fn array(scope: &Scope, findings: &mut Findings, name: &Identifier)
+    ensures { findings.new ≡ after findings.old (array_offences (found (in_scope scope.now) name.now.bytes.items) name.now.at) [] }
+{
+    match scope.find(name.bytes.as_slice()) {
+        Some(Entity::Elements(_)) => {}
+        Some(_) => findings.note(Rule::WrongKind, name.at),
+        None => findings.note(Rule::Unknown, name.at),
+    }
+}
+
+// A call of a function of so many parameters.
+fn argument_count(findings: &mut Findings, name: &Identifier, count: usize, parameters: usize)
+    ensures { findings.new ≡ after findings.old (broken_if (not (count == parameters)) WrongCount name.now.at) [] }
+{
+    findings.note_if(count != parameters, Rule::WrongCount, name.at);
+}
+
+// A name that must be a function of so many parameters.
+fn function(scope: &Scope, findings: &mut Findings, name: &Identifier, count: usize)
+    ensures { findings.new ≡ after findings.old (function_offences (found (in_scope scope.now) name.now.bytes.items) count name.now.at) [] }
+{
+    match scope.find(name.bytes.as_slice()) {
+        Some(Entity::Function(signature)) => {
+            argument_count(findings, name, count, signature.parameters.as_slice().len());
+        }
+        Some(Entity::WriteWord) => argument_count(findings, name, count, 1),
+        Some(Entity::ReadWord) => argument_count(findings, name, count, 0),
+        Some(Entity::Variable(_) | Entity::Elements(_)) => {
+            findings.note(Rule::WrongKind, name.at);
+        }
+        None => findings.note(Rule::Unknown, name.at),
+    }
+}
+
+// The type of a function's result, none for `void`; a name that is no function is judged as one that gives `int`.
+fn result_type(scope: &Scope, name: &[u8]) -> Option<Scalar>
+    ensures { result ≡ result_type (found (in_scope scope.now) name.now) }
+{
+    match scope.find(name) {
+        Some(Entity::Function(signature)) => signature.result,
+        Some(Entity::WriteWord) => None,
+        Some(Entity::ReadWord | Entity::Variable(_) | Entity::Elements(_)) | None => {
+            Some(Scalar::Int)
+        }
+    }
+}
+
+// A void call, in parentheses too, where a value is used.
+fn void_call(scope: &Scope, findings: &mut Findings, tree: &Expression)
+    ensures { findings.new ≡ after findings.old (void_offences (in_scope scope.now) (expression_tree tree.now)) [] }
+{
+    match tree {
+        Expression::Parenthesised(inner) => void_call(scope, findings, inner),
+        Expression::Call(name, _) => {
+            if result_type(scope, name.bytes.as_slice()).is_none() {
+                findings.note(Rule::VoidValue, name.at);
+            }
+        }
+        Expression::Number(_, _)
+        | Expression::Name(_)
+        | Expression::Element(_, _)
+        | Expression::Unary(_, _)
+        | Expression::Cast(_, _)
+        | Expression::Binary(_, _, _)
+        | Expression::Conditional(_, _, _) => {}
+    }
+}
+
+/// An expression whose value is used.
+#[cycle(expressions)]
+pub fn value(scope: &Scope, findings: &mut Findings, tree: &Expression)
+    ensures { findings.new ≡ after findings.old (value_offences (in_scope scope.now) (expression_tree tree.now)) (called_in (expression_tree tree.now)) }
+{
+    expression(scope, findings, tree);
+    void_call(scope, findings, tree);
+}
+
+// An expression that is evaluated, whether its value is used or not.
+#[cycle(expressions)]
+fn expression(scope: &Scope, findings: &mut Findings, tree: &Expression)
+    ensures { findings.new ≡ after findings.old (expression_offences (in_scope scope.now) (expression_tree tree.now)) (called_in (expression_tree tree.now)) }
+{
+    match tree {
+        Expression::Number(_, _) => {}
+        Expression::Name(name) => variable(scope, findings, name, Rule::WrongKind),
+        Expression::Element(name, index) => {
+            array(scope, findings, name);
+            value(scope, findings, index);
+        }
+        Expression::Call(name, all) => {
+            let all = all.as_slice();
+            findings.note_call(name);
+            function(scope, findings, name, all.len());
+            arguments(scope, findings, all);
+        }
+        Expression::Parenthesised(inner) => expression(scope, findings, inner),
+        Expression::Unary(_, operand) | Expression::Cast(_, operand) => {
+            value(scope, findings, operand);
+        }
+        Expression::Binary(_, left, right) => {
+            value(scope, findings, left);
+            value(scope, findings, right);
+        }
+        Expression::Conditional(condition, held, other) => {
+            value(scope, findings, condition);
+            value(scope, findings, held);
+            value(scope, findings, other);
+        }
+    }
+}
+
+#[cycle(expressions)]
+fn arguments(scope: &Scope, findings: &mut Findings, trees: &[Expression])
+    ensures { findings.new ≡ after findings.old (argument_offences (in_scope scope.now) (expressions_of trees.now)) (called_in_all (expressions_of trees.now)) }
+{
+    for tree in trees {
+        value(scope, findings, tree);
+    }
+}
+
+/// A value that may be left out.
+pub fn optional_value(scope: &Scope, findings: &mut Findings, tree: &Option<Expression>)
+    ensures { findings.new ≡ after findings.old (optional_offences (in_scope scope.now) (optional_tree tree.now)) (called_in_optional (optional_tree tree.now)) }
+{
+    if let Some(tree) = tree {
+        value(scope, findings, tree);
+    }
+}
+
+fn target(scope: &Scope, findings: &mut Findings, target: &Target)
+    ensures { findings.new ≡ after findings.old (target_offences (in_scope scope.now) (target_tree target.now)) (called_in_target (target_tree target.now)) }
+{
+    match target {
+        Target::Variable(name) => variable(scope, findings, name, Rule::BadAssign),
+        Target::Element(name, index) => {
+            array(scope, findings, name);
+            value(scope, findings, index);
+        }
+    }
+}
+
+/// An assignment, an increment or decrement, or an expression whose value is not used.
+pub fn action(scope: &Scope, findings: &mut Findings, action: &Action)
+    ensures { findings.new ≡ after findings.old (action_offences (in_scope scope.now) (action_tree action.now)) (called_in_action (action_tree action.now)) }
+{
+    match action {
+        Action::Assign(_, written, right) => {
+            target(scope, findings, written);
+            value(scope, findings, right);
+        }
+        Action::Step(_, written) => target(scope, findings, written),
+        Action::Evaluate(tree) => expression(scope, findings, tree),
+    }
+}
+
+/// An action that may be left out.
+pub fn optional_action(scope: &Scope, findings: &mut Findings, tree: &Option<Action>)
+    ensures { findings.new ≡ after findings.old (optional_action_offences (in_scope scope.now) (optional_action tree.now)) (called_in_optional_action (optional_action tree.now)) }
+{
+    if let Some(tree) = tree {
+        action(scope, findings, tree);
+    }
+}

@@ -1,0 +1,205 @@
+// The rules of file scope (C99 6.2.1, 6.6, 6.7, 6.9).
+
+ghost use Rattle.std.specs.Prelude.{◌≡◌, ℕ, List, [], length, option_map, OnOk};
+ghost use Rattle.cc_syntax.specs.Erase.{constant_tree, optional_constant, constant_trees, object_tree, object_trees, parameter_tree, parameter_trees, signature_tree, external_tree, external_trees};
+ghost use Rattle.cc_typing.specs.Bindings.{file_level, file_of, file_with};
+ghost use Rattle.cc_typing.specs.Findings.{after, is_bad_length};
+ghost use Rattle.cc_typing.specs.Rules.{constant_offences, optional_constant_offences, constants_offences, object_offences, objects_offences, parameter_offences, parameters_offences, signature_offences, external_offences, externals_offences, called_in_constant, called_in_optional_constant, called_in_constants, called_in_object, called_in_objects, called_in_external, called};
+ghost use Rattle.cc_typing.specs.Scope.{in_scope, has_name, with_object, with_objects, parameter_declared, parameters_declared, body_scope, file_scope_behind};
+
+use super::around::Surroundings;
+use super::constants::{array_length, constant_word};
+use super::entity::{Entity, differs};
+use super::expressions::value;
+use super::findings::Findings;
+use super::names::Names;
+use super::rule::Rule;
+use super::scope::Scope;
+use super::statements::all_statements;
+use cc_syntax::{ConstantExpression, External, Object, Parameter, Scalar, Signature};
+use std::alloc::AllocError;
+
+// A constant expression.
+fn constant(scope: &Scope, findings: &mut Findings, tree: &ConstantExpression)
+    ensures { findings.new ≡ after findings.old (constant_offences (in_scope scope.now) (constant_tree tree.now)) (called_in_constant (constant_tree tree.now)) }
+{
+    value(scope, findings, &tree.expression);
+    findings.note_if(constant_word(tree).is_none(), Rule::WrongKind, tree.at);
+}
+
+fn optional_constant(scope: &Scope, findings: &mut Findings, tree: &Option<ConstantExpression>)
+    ensures { findings.new ≡ after findings.old (optional_constant_offences (in_scope scope.now) (optional_constant tree.now)) (called_in_optional_constant (optional_constant tree.now)) }
+{
+    if let Some(tree) = tree {
+        constant(scope, findings, tree);
+    }
+}
+
+// The values of a list.
+fn constants(scope: &Scope, findings: &mut Findings, trees: &[ConstantExpression])
+    ensures { findings.new ≡ after findings.old (constants_offences (in_scope scope.now) (constant_trees trees.now)) (called_in_constants (constant_trees trees.now)) }
+{
+    for tree in trees {
+        constant(scope, findings, tree);
+    }
+}
+
+// Whether an array has no element, or fewer than its list has values.
+fn is_bad_length(length: Option<usize>, given: usize) -> bool
+    ensures { result ≡ is_bad_length length given }
+{
+    match length {
+        None => false,
+        Some(count) => count == 0 || count < given,
+    }
+}
+
+// One name of a declaration of objects.
+fn object<'a>(
+    scope: &mut Scope<'a>,
+    findings: &mut Findings,
+    scalar: Scalar,
+    tree: &'a Object,
+) -> Result<(), AllocError>
+    requires { scope.old.inner ≡ [] }
+    ensures scope { OnOk result (scope.new ≡ file_level (with_object scalar (object_tree tree.now) (file_of scope.old)).bindings) }
+    ensures found { OnOk result (findings.new ≡ after findings.old (object_offences scalar (object_tree tree.now) (file_of scope.old)) (called_in_object (object_tree tree.now))) }
+{
+    match tree {
+        Object::Single(name, initial) => {
+            let bytes = name.bytes.as_slice();
+            findings.note_if(scope.find(bytes).is_some(), Rule::Redeclared, name.at);
+            scope.declare_in_file(bytes, Entity::Variable(scalar))?;
+            optional_constant(scope, findings, initial);
+        }
+        Object::Array(name, length, values) => {
+            let bytes = name.bytes.as_slice();
+            let values = values.as_slice();
+            findings.note_if(scope.find(bytes).is_some(), Rule::Redeclared, name.at);
+            optional_constant(scope, findings, length);
+            let wrong = is_bad_length(array_length(length, values), values.len());
+            findings.note_if(wrong, Rule::WrongCount, name.at);
+            scope.declare_in_file(bytes, Entity::Elements(scalar))?;
+            constants(scope, findings, values);
+        }
+    }
+    Ok(())
+}
+
+// A declaration of objects.
+fn objects<'a>(
+    scope: &mut Scope<'a>,
+    findings: &mut Findings,
+    scalar: Scalar,
+    trees: &'a [Object],
+) -> Result<(), AllocError>
+    requires { scope.old.inner ≡ [] }
+    ensures scope { OnOk result (scope.new ≡ file_level (with_objects scalar (object_trees trees.now) (file_of scope.old)).bindings) }
+    ensures found { OnOk result (findings.new ≡ after findings.old (objects_offences scalar (object_trees trees.now) (file_of scope.old)) (called_in_objects (object_trees trees.now))) }
+{
+    for tree in trees {
+        object(scope, findings, scalar, tree)?;
+    }
+    Ok(())
+}
+
+fn parameter<'a>(
+    scope: &mut Scope<'a>,
+    findings: &mut Findings,
+    tree: &'a Parameter,
+) -> Result<(), AllocError>
+    ensures scope { OnOk result (scope.new ≡ parameter_declared tree.now.scalar (parameter_tree tree.now).name scope.old) }
+    ensures found { OnOk result (findings.new ≡ after findings.old (parameter_offences (parameter_tree tree.now).name scope.old) []) }
+{
+    if let Some(name) = &tree.name {
+        let again = scope.declare(name.bytes.as_slice(), Entity::Variable(tree.scalar))?;
+        findings.note_if(again, Rule::Redeclared, name.at);
+    }
+    Ok(())
+}
+
+fn parameters<'a>(
+    scope: &mut Scope<'a>,
+    findings: &mut Findings,
+    trees: &'a [Parameter],
+) -> Result<(), AllocError>
+    ensures scope { OnOk result (scope.new ≡ parameters_declared (parameter_trees trees.now) scope.old) }
+    ensures found { OnOk result (findings.new ≡ after findings.old (parameters_offences (parameter_trees trees.now) scope.old) []) }
+{
+    for tree in trees {
+        parameter(scope, findings, tree)?;
+    }
+    Ok(())
+}
+
+// What is said of a function. Behind it, the names of its parameters are in scope.
+fn signature<'a>(
+    scope: &mut Scope<'a>,
+    findings: &mut Findings,
+    tree: &'a Signature,
+) -> Result<(), AllocError>
+    requires { scope.old.inner ≡ [] }
+    ensures scope { OnOk result (scope.new ≡ body_scope (signature_tree tree.now) (file_of scope.old)) }
+    ensures found { OnOk result (findings.new ≡ after findings.old (signature_offences (signature_tree tree.now) (file_of scope.old)) []) }
+{
+    let name = tree.name.bytes.as_slice();
+    findings.note_if(
+        differs(scope.find(name), tree),
+        Rule::Redeclared,
+        tree.name.at,
+    );
+    scope.declare_in_file(name, Entity::Function(tree))?;
+    parameters(scope, findings, tree.parameters.as_slice())
+}
+
+// An external declaration, behind definitions of some functions.
+fn external<'a>(
+    scope: &mut Scope<'a>,
+    findings: &mut Findings,
+    defined: &mut Names<'a>,
+    tree: &'a External,
+) -> Result<(), AllocError>
+    requires { scope.old.inner ≡ [] }
+    ensures scope { OnOk result (scope.new ≡ file_level (file_scope_behind (external_tree tree.now) (file_with scope.old defined.old)).bindings) }
+    ensures found { OnOk result (findings.new ≡ after findings.old (external_offences (external_tree tree.now) (file_with scope.old defined.old)) (called_in_external (external_tree tree.now))) }
+    ensures defined { OnOk result ((x : List ℕ) → has_name defined.new x ≡ has_name (file_scope_behind (external_tree tree.now) (file_with scope.old defined.old)).defined x) }
+{
+    match tree {
+        External::Declaration(declared) => {
+            signature(scope, findings, declared)?;
+            scope.close(0);
+        }
+        External::Definition(declared, body) => {
+            let name = declared.name.bytes.as_slice();
+            signature(scope, findings, declared)?;
+            findings.note_if(defined.contains(name), Rule::Redeclared, declared.name.at);
+            let around = Surroundings {
+                result: declared.result,
+                in_loop: false,
+            };
+            all_statements(scope, findings, around, body.as_slice())?;
+            scope.close(0);
+            defined.insert(name)?;
+        }
+        External::Objects(scalar, declared) => {
+            objects(scope, findings, *scalar, declared.as_slice())?;
+        }
+    }
+    Ok(())
+}
+
+/// The external declarations of a unit, behind definitions of some functions.
+pub fn all_externals<'a>(
+    scope: &mut Scope<'a>,
+    findings: &mut Findings,
+    mut defined: Names<'a>,
+    trees: &'a [External],
+) -> Result<(), AllocError>
+    requires { scope.old.inner ≡ [] }
+    ensures { OnOk result (findings.new ≡ after findings.old (externals_offences (external_trees trees.now) (file_with scope.old defined.entry)) (called (external_trees trees.now))) }
+{
+    for tree in trees {
+        external(scope, findings, &mut defined, tree)?;
+    }
+    Ok(())
+}

@@ -1,0 +1,132 @@
+// The types in which operators work, and the operations on words that they are there.
+
+ghost use Rattle.std.specs.Prelude.{◌≡◌};
+ghost use Rattle.cc_typing.specs.Operators.{common_type, working_type, binary_type, unary_type, applied_operator, step_operator};
+ghost use Rattle.cc_typing.specs.Resolve.{by_type, operation, unary_code, unary_code_of};
+
+use super::form::{BinaryOperation, UnaryOperation};
+use cc_syntax::{AssignmentOperator, BinaryOperator, Scalar, StepOperator, UnaryOperator};
+
+/// The type in which two operands meet (C99 6.3.1.8).
+pub fn common_type(left: Scalar, right: Scalar) -> Scalar
+    ensures { result ≡ common_type left right }
+{
+    match left {
+        Scalar::Int => right,
+        Scalar::Unsigned => Scalar::Unsigned,
+    }
+}
+
+/// The type in which an operator works: that of the left operand for a shift, else the common one.
+pub fn working_type(operator: BinaryOperator, left: Scalar, right: Scalar) -> Scalar
+    ensures { result ≡ working_type operator left right }
+{
+    match operator {
+        BinaryOperator::ShiftLeft | BinaryOperator::ShiftRight => left,
+        _ => common_type(left, right),
+    }
+}
+
+/// The type of what a binary operator gives.
+pub fn binary_type(operator: BinaryOperator, left: Scalar, right: Scalar) -> Scalar
+    ensures { result ≡ binary_type operator left right }
+{
+    match operator {
+        BinaryOperator::Less
+        | BinaryOperator::Greater
+        | BinaryOperator::LessOrEqual
+        | BinaryOperator::GreaterOrEqual
+        | BinaryOperator::Equal
+        | BinaryOperator::NotEqual
+        | BinaryOperator::LogicalAnd
+        | BinaryOperator::LogicalOr => Scalar::Int,
+        _ => working_type(operator, left, right),
+    }
+}
+
+/// The type of what a unary operator gives.
+pub fn unary_type(operator: UnaryOperator, operand: Scalar) -> Scalar
+    ensures { result ≡ unary_type operator operand }
+{
+    match operator {
+        UnaryOperator::Not => Scalar::Int,
+        _ => operand,
+    }
+}
+
+/// A unary operator as an operation on a word; plus leaves its operand.
+pub fn unary_operation(operator: UnaryOperator) -> Option<UnaryOperation>
+    ensures { unary_code operator ≡ unary_code_of result }
+{
+    match operator {
+        UnaryOperator::Plus => None,
+        UnaryOperator::Minus => Some(UnaryOperation::Negate),
+        UnaryOperator::Complement => Some(UnaryOperation::Complement),
+        UnaryOperator::Not => Some(UnaryOperation::IsZero),
+    }
+}
+
+fn by_type(working: Scalar, signed: BinaryOperation, unsigned: BinaryOperation) -> BinaryOperation
+    ensures { result ≡ by_type working signed unsigned }
+{
+    match working {
+        Scalar::Int => signed,
+        Scalar::Unsigned => unsigned,
+    }
+}
+
+/// An operator in the type in which it works, as an operation on words.
+pub fn operation(operator: BinaryOperator, working: Scalar) -> BinaryOperation
+    ensures { result ≡ operation operator working }
+{
+    use BinaryOperation::*;
+    match operator {
+        BinaryOperator::Multiply => Multiply,
+        BinaryOperator::Divide => by_type(working, DivideSigned, DivideUnsigned),
+        BinaryOperator::Remainder => by_type(working, RemainderSigned, RemainderUnsigned),
+        BinaryOperator::Add => Add,
+        BinaryOperator::Subtract => Subtract,
+        BinaryOperator::ShiftLeft => ShiftLeft,
+        BinaryOperator::ShiftRight => by_type(working, ShiftRightSigned, ShiftRightUnsigned),
+        BinaryOperator::Less => by_type(working, LessSigned, LessUnsigned),
+        BinaryOperator::Greater => by_type(working, GreaterSigned, GreaterUnsigned),
+        BinaryOperator::LessOrEqual => by_type(working, LessOrEqualSigned, LessOrEqualUnsigned),
+        BinaryOperator::GreaterOrEqual => {
+            by_type(working, GreaterOrEqualSigned, GreaterOrEqualUnsigned)
+        }
+        BinaryOperator::Equal => Equal,
+        BinaryOperator::NotEqual => NotEqual,
+        BinaryOperator::And | BinaryOperator::LogicalAnd => And,
+        BinaryOperator::Xor => Xor,
+        BinaryOperator::Or | BinaryOperator::LogicalOr => Or,
+    }
+}
+
+/// The operator that an assignment applies to the old value, none for `=`.
+pub fn applied_operator(operator: AssignmentOperator) -> Option<BinaryOperator>
+    ensures { result ≡ applied_operator operator }
+{
+    match operator {
+        AssignmentOperator::Plain => None,
+        AssignmentOperator::Multiply => Some(BinaryOperator::Multiply),
+        AssignmentOperator::Divide => Some(BinaryOperator::Divide),
+        AssignmentOperator::Remainder => Some(BinaryOperator::Remainder),
+        AssignmentOperator::Add => Some(BinaryOperator::Add),
+        AssignmentOperator::Subtract => Some(BinaryOperator::Subtract),
+        AssignmentOperator::ShiftLeft => Some(BinaryOperator::ShiftLeft),
+        AssignmentOperator::ShiftRight => Some(BinaryOperator::ShiftRight),
+        AssignmentOperator::And => Some(BinaryOperator::And),
+        AssignmentOperator::Xor => Some(BinaryOperator::Xor),
+        AssignmentOperator::Or => Some(BinaryOperator::Or),
+    }
+}
+
+/// The assignment that an increment or a decrement is, of the word 1.
+pub fn step_operator(operator: StepOperator) -> AssignmentOperator
+    ensures { result ≡ step_operator operator }
+{
+    match operator {
+        StepOperator::Increment => AssignmentOperator::Add,
+        StepOperator::Decrement => AssignmentOperator::Subtract,
+    }
+}
