@@ -15,10 +15,10 @@ shorter p w h =
 hexadecimal_more : (p w : ℕ) → p < 8 →
     hexadecimal p (w / 2 ^ (32 - 4 * p)) ++ hexadecimal_digit (w / 2 ^ (28 - 4 * p) % 16) ∷ [] ≡ hexadecimal (p + 1) (w / 2 ^ (32 - 4 * (p + 1)))
 hexadecimal_more p w h =
-    let place : 32 - 4 * (p + 1) ≡ 28 - 4 * p = omega arith in
+    let index : 32 - 4 * (p + 1) ≡ 28 - 4 * p = omega arith in
     ap (λ v. hexadecimal p v ++ hexadecimal_digit (w / 2 ^ (28 - 4 * p) % 16) ∷ []) (sym (shorter p w h))
     ∙ ap (λ q. hexadecimal q (w / 2 ^ (28 - 4 * p))) (sym (add-one p))
-    ∙ ap (λ k. hexadecimal (p + 1) (w / 2 ^ k)) (sym place)
+    ∙ ap (λ k. hexadecimal (p + 1) (w / 2 ^ k)) (sym index)
 
 -- the next digit, written behind the ones before it
 pub digit_written : (p w d : ℕ) (before text written new : List ℕ) → p < 8 →

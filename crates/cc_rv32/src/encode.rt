@@ -139,7 +139,7 @@ fn shift_word(operation: ShiftOperation, rd: Register, rs1: Register, count: Shi
         u32::from(rd.number()),
         operation.funct3(),
         u32::from(rs1.number()),
-        u32::from(count.places()),
+        u32::from(count.amount()),
         operation.funct7(),
     )
 }

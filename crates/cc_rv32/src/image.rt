@@ -11,7 +11,7 @@ pub const MOST_CODE: usize = 131_072;
 pub const MOST_GLOBALS: usize = 65_536;
 
 /// The code of an image: 1 to 131,072 words. A clause sees their list.
-#[derive(Debug, Drop)]
+#[derive(Drop)]
 pub struct Code {
     words: Vec<u32>,
 }
@@ -56,7 +56,7 @@ impl Code {
 }
 
 /// The globals of an image: at most 65,536 words. A clause sees their list.
-#[derive(Debug, Drop)]
+#[derive(Drop)]
 pub struct Globals {
     words: Vec<u32>,
 }
@@ -101,7 +101,7 @@ impl Globals {
 
 /// A program for the machine: its code, from 0x00010000 on, and the words that its globals start with, from
 /// 0x00200000 on; globals past these start at 0.
-#[derive(Debug, Drop)]
+#[derive(Drop)]
 pub struct Image {
     pub code: Code,
     pub globals: Globals,

@@ -7,7 +7,7 @@ ghost use Rattle.cc_rv32.specs.Table.{operation_funct3, operation_funct7, immedi
 use crate::operand::{BranchOffset, Immediate, JumpOffset, Register, ShiftCount, UpperImmediate};
 
 /// What an instruction on two registers computes (opcode OP).
-#[derive(Clone, Copy, PartialEq, Eq, Debug)]
+#[derive(Clone, Copy)]
 pub enum Operation {
     /// Sum modulo 2^32.
     Add,
@@ -104,7 +104,7 @@ impl Operation {
 }
 
 /// What an instruction on a register and an immediate computes (opcode OP-IMM).
-#[derive(Clone, Copy, PartialEq, Eq, Debug)]
+#[derive(Clone, Copy)]
 pub enum ImmediateOperation {
     /// Sum modulo 2^32.
     Addi,
@@ -138,7 +138,7 @@ impl ImmediateOperation {
 }
 
 /// A shift by a constant count (opcode OP-IMM).
-#[derive(Clone, Copy, PartialEq, Eq, Debug)]
+#[derive(Clone, Copy)]
 pub enum ShiftOperation {
     /// Left.
     Slli,
@@ -175,7 +175,7 @@ impl ShiftOperation {
 }
 
 /// What a load reads (opcode LOAD).
-#[derive(Clone, Copy, PartialEq, Eq, Debug)]
+#[derive(Clone, Copy)]
 pub enum LoadOperation {
     /// A byte, extended with its sign.
     Lb,
@@ -206,7 +206,7 @@ impl LoadOperation {
 }
 
 /// What a store writes (opcode STORE).
-#[derive(Clone, Copy, PartialEq, Eq, Debug)]
+#[derive(Clone, Copy)]
 pub enum StoreOperation {
     /// The low byte.
     Sb,
@@ -231,7 +231,7 @@ impl StoreOperation {
 }
 
 /// When a branch is taken (opcode BRANCH).
-#[derive(Clone, Copy, PartialEq, Eq, Debug)]
+#[derive(Clone, Copy)]
 pub enum BranchOperation {
     /// Equal.
     Beq,
@@ -265,7 +265,7 @@ impl BranchOperation {
 }
 
 /// An instruction: its form, what it does, and its operands.
-#[derive(Clone, Copy, PartialEq, Eq, Debug)]
+#[derive(Clone, Copy)]
 pub enum Instr {
     /// `add x3, x1, x2`: `rd` takes what the operation makes of `rs1` and `rs2`.
     Op {

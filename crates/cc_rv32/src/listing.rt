@@ -169,8 +169,8 @@ impl fmt::Display for Instr {
                 rs1,
                 count,
             } => {
-                let places = count.places();
-                write!(f, "{operation} {rd}, {rs1}, {places}")
+                let amount = count.amount();
+                write!(f, "{operation} {rd}, {rs1}, {amount}")
             }
             Instr::Load {
                 operation,
@@ -254,8 +254,8 @@ fn push_instruction(text: &mut String, word: u32) -> Result<(), AllocError>
 fn push_hexadecimal(text: &mut String, word: u32) -> Result<(), AllocError>
     ensures { OnOk result (string_bytes text.new ≡ string_bytes text.old ++ hexadecimal 8 word) }
 {
-    for place in 0..8u32 {
-        text.push(digit((word >> (28 - 4 * place)) & 15))?;
+    for index in 0..8u32 {
+        text.push(digit((word >> (28 - 4 * index)) & 15))?;
     }
     Ok(())
 }

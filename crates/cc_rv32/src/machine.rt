@@ -2,8 +2,7 @@
 
 ghost use Rattle.std.specs.Prelude.{◌≡◌, ◌≢◌, ◌+◌, ◌<◌, ℕ, List, IfOk, OnErr};
 ghost use Rattle.cc_rv32.specs.Machine.{Run, machine_run, machine_behavior, start};
-ghost use Rattle.cc_rv32.specs.Simulation.{shown_run, IsAfter};
-ghost use Rattle.cc_rv32.specs.Simulated.{IsWrite};
+ghost use Rattle.cc_rv32.specs.Simulation.{shown_run, IsAfter, IsWrite};
 
 use crate::fault::MachineFault;
 use crate::image::Image;
@@ -23,8 +22,8 @@ impl Model for Machine {
 
     ghost Value = { Simulation };
 
-    ghost use Rattle.cc_rv32.specs.Simulation.{simulation_of};
-    ghost use Rattle.cc_rv32.specs.Simulated.{IsSound};
+    ghost use Rattle.cc_rv32.specs.internal.Simulated.{simulation_of};
+    ghost use Rattle.cc_rv32.specs.internal.Simulated.{IsSound};
 
     ghost view = { λ m. simulation_of m.simulator };
 

@@ -2,7 +2,7 @@
 
 ghost use Rattle.std.specs.Prelude.{◌≡◌, ◌+◌, ◌*◌, ◌<◌, ◌⊎◌, length};
 ghost use Rattle.cc_rv32.specs.Machine.{with_part};
-ghost use Rattle.cc_rv32.specs.Lowered.{word_in, part_in, whole_in, with_word_in, with_part_in, with_whole_in, stored_flat};
+ghost use Rattle.cc_rv32.specs.internal.Lowered.{word_in, part_in, whole_in, with_word_in, with_part_in, with_whole_in, stored_flat};
 
 use crate::execute::Next;
 
@@ -23,13 +23,13 @@ fn word(globals: &[u32], stack: &[u32], address: u32) -> Option<u32>
     requires stack { length stack.now ≡ 524288 }
     ensures { result ≡ word_in globals.now stack.now address }
 {
-    let place = (address.wrapping_sub(GLOBALS_FROM) >> 2) as usize;
-    if place < GLOBALS_WORDS {
-        return Some(globals[place]);
+    let index = (address.wrapping_sub(GLOBALS_FROM) >> 2) as usize;
+    if index < GLOBALS_WORDS {
+        return Some(globals[index]);
     }
-    let place = (address.wrapping_sub(STACK_FROM) >> 2) as usize;
-    if place < STACK_WORDS {
-        return Some(stack[place]);
+    let index = (address.wrapping_sub(STACK_FROM) >> 2) as usize;
+    if index < STACK_WORDS {
+        return Some(stack[index]);
     }
     None
 }
@@ -80,14 +80,14 @@ fn set_word(globals: &mut [u32], stack: &mut [u32], address: u32, word: u32, at:
     requires at { at < 131072 }
     ensures { (result, globals.new, stack.new) ≡ stored_flat at (with_word_in globals.old stack.old address word) globals.old stack.old }
 {
-    let place = (address.wrapping_sub(GLOBALS_FROM) >> 2) as usize;
-    if place < GLOBALS_WORDS {
-        globals[place] = word;
+    let index = (address.wrapping_sub(GLOBALS_FROM) >> 2) as usize;
+    if index < GLOBALS_WORDS {
+        globals[index] = word;
         return Next::At(at + 1);
     }
-    let place = (address.wrapping_sub(STACK_FROM) >> 2) as usize;
-    if place < STACK_WORDS {
-        stack[place] = word;
+    let index = (address.wrapping_sub(STACK_FROM) >> 2) as usize;
+    if index < STACK_WORDS {
+        stack[index] = word;
         return Next::At(at + 1);
     }
     Next::Trap
@@ -159,21 +159,21 @@ pub(crate) fn store_byte(
 }
 
 #[inline(always)]
-fn with_byte(word: u32, place: u32, byte: u32) -> u32
-    requires { place < 4 }
-    ensures { result ≡ with_part word (8 * place) 8 byte }
+fn with_byte(word: u32, index: u32, byte: u32) -> u32
+    requires { index < 4 }
+    ensures { result ≡ with_part word (8 * index) 8 byte }
 {
-    let shift = 8 * place;
+    let shift = 8 * index;
     let old = ((word >> shift) & 0xff) << shift;
     (word - old) + ((byte & 0xff) << shift)
 }
 
 #[inline(always)]
-fn with_half(word: u32, place: u32, half: u32) -> u32
-    requires { (place ≡ 0) ⊎ (place ≡ 2) }
-    ensures { result ≡ with_part word (8 * place) 16 half }
+fn with_half(word: u32, index: u32, half: u32) -> u32
+    requires { (index ≡ 0) ⊎ (index ≡ 2) }
+    ensures { result ≡ with_part word (8 * index) 16 half }
 {
-    let shift = 8 * place;
+    let shift = 8 * index;
     let old = ((word >> shift) & 0xffff) << shift;
     (word - old) + ((half & 0xffff) << shift)
 }

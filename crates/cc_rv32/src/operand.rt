@@ -6,7 +6,7 @@ ghost use Rattle.cc_rv32.specs.Fields.{IsImmediate, IsBranchOffset, IsJumpOffset
 use std::marker::Model;
 
 /// One of the thirty-two integer registers, `x0` to `x31`.
-#[derive(Clone, Copy, PartialEq, Eq, Debug)]
+#[derive(Clone, Copy)]
 pub struct Register {
     number: u8,
 }
@@ -42,10 +42,10 @@ impl Register {
     }
 }
 
-/// How far a shift by a constant goes, 0 to 31 places.
-#[derive(Clone, Copy, PartialEq, Eq, Debug)]
+/// How far a shift by a constant goes, 0 to 31 bits.
+#[derive(Clone, Copy)]
 pub struct ShiftCount {
-    places: u8,
+    amount: u8,
 }
 
 impl Model for ShiftCount {
@@ -53,34 +53,34 @@ impl Model for ShiftCount {
 
     ghost Value = { ℕ };
 
-    ghost view = { λ c. c.places };
+    ghost view = { λ c. c.amount };
 
-    ghost invariant = { λ c. c.places < 32 };
+    ghost invariant = { λ c. c.amount < 32 };
 
-    ghost inverse = { λ n. record { places = n } };
+    ghost inverse = { λ n. record { amount = n } };
 }
 
 impl ShiftCount {
-    /// A count of that many places.
-    pub fn new(places: u8) -> Self
-        requires { places < 32 }
-        ensures { result ≡ places }
+    /// A shift by that many bits.
+    pub fn new(amount: u8) -> Self
+        requires { amount < 32 }
+        ensures { result ≡ amount }
     {
-        ShiftCount { places }
+        ShiftCount { amount }
     }
 
-    /// The places, 0 to 31.
+    /// How many bits, 0 to 31.
     #[inline]
-    pub fn places(self) -> u8
-        ensures places { result ≡ self }
+    pub fn amount(self) -> u8
+        ensures amount { result ≡ self }
         ensures in_range { result < 32 }
     {
-        self.places
+        self.amount
     }
 }
 
 /// An immediate of twelve bits, -2048 to 2047, as its 32-bit word in two's complement: -1 is 4294967295.
-#[derive(Clone, Copy, PartialEq, Eq, Debug)]
+#[derive(Clone, Copy)]
 pub struct Immediate {
     word: u32,
 }
@@ -125,7 +125,7 @@ impl Immediate {
 }
 
 /// The upper immediate of `lui` and `auipc`: the twenty bits 31 to 12 of a word, 0 to 1048575.
-#[derive(Clone, Copy, PartialEq, Eq, Debug)]
+#[derive(Clone, Copy)]
 pub struct UpperImmediate {
     field: u32,
 }
@@ -162,7 +162,7 @@ impl UpperImmediate {
 }
 
 /// How far a branch goes, in bytes: an even number from -4096 to 4094, as its 32-bit word in two's complement.
-#[derive(Clone, Copy, PartialEq, Eq, Debug)]
+#[derive(Clone, Copy)]
 pub struct BranchOffset {
     word: u32,
 }
@@ -207,7 +207,7 @@ impl BranchOffset {
 }
 
 /// How far a jump goes, in bytes: an even number from -1048576 to 1048574, as its 32-bit word in two's complement.
-#[derive(Clone, Copy, PartialEq, Eq, Debug)]
+#[derive(Clone, Copy)]
 pub struct JumpOffset {
     word: u32,
 }

@@ -1,2 +1,4 @@
+-- What a word is, and each operation on words as a formula over whole numbers.
 pub mod Words
-pub mod Rows
+-- Worked values of these, each by computation; no contract rests on them.
+pub mod rows

@@ -421,7 +421,7 @@ fn computes_on_two_registers(rt: HostRuntime) -> Result<(), Fail> {
         assert_eq!(rt;
             word,
             Some(expected),
-            "{operation:?} of {left:08x} and {right:08x}"
+            "{operation} of {left:08x} and {right:08x}"
         );
     }
     Ok(())
@@ -442,7 +442,7 @@ fn computes_on_immediates(rt: HostRuntime) -> Result<(), Fail> {
         assert_eq!(rt;
             word,
             Some(expected),
-            "{operation:?} of {left:08x} and {immediate:08x}"
+            "{operation} of {left:08x} and {immediate:08x}"
         );
     }
     Ok(())
@@ -463,7 +463,7 @@ fn shifts_by_a_count(rt: HostRuntime) -> Result<(), Fail> {
         assert_eq!(rt;
             word,
             Some(expected),
-            "{operation:?} of {left:08x} by {count}"
+            "{operation} of {left:08x} by {count}"
         );
     }
     Ok(())
@@ -482,7 +482,7 @@ fn loads(rt: HostRuntime) -> Result<(), Fail> {
         };
         let code = [0x00200437, encode(instr), WRITE, ECALL, EXIT, ECALL];
         let (word, outcome) = first_word(rt.alloc(), &code, &GLOBALS, &[])?;
-        assert_eq!(rt; word, expected, "{operation:?} at {offset:08x}");
+        assert_eq!(rt; word, expected, "{operation} at {offset:08x}");
         assert_eq!(rt; outcome == MachineOutcome::Trapped, expected.is_none());
     }
     Ok(())
@@ -511,7 +511,7 @@ fn stores(rt: HostRuntime) -> Result<(), Fail> {
             ECALL,
         ];
         let (word, outcome) = first_word(rt.alloc(), &code, &GLOBALS, &[0x12345678])?;
-        assert_eq!(rt; word, expected, "{operation:?} at {offset:08x}");
+        assert_eq!(rt; word, expected, "{operation} at {offset:08x}");
         assert_eq!(rt; outcome == MachineOutcome::Trapped, expected.is_none());
     }
     Ok(())
@@ -549,7 +549,7 @@ fn branches(rt: HostRuntime) -> Result<(), Fail> {
         assert_eq!(rt;
             word,
             Some(expected),
-            "{operation:?} of {left:08x} and {right:08x}"
+            "{operation} of {left:08x} and {right:08x}"
         );
     }
     Ok(())

@@ -17,7 +17,7 @@ fn refuses_words_outside_the_table(rt: HostRuntime) {
         0x40001013, 0x00003003, 0x00006003, 0x00003023, 0x00002063, 0x00003063, 0x00001067,
         0x000000f3, 0x04000033,
     ] {
-        assert_eq!(rt; decode(word), None, "at {word:08x}");
+        assert!(rt; decode(word).is_none(), "at {word:08x}");
     }
 }
 
@@ -127,7 +127,7 @@ fn encodes_and_decodes(rt: HostRuntime) {
         (Instr::Ecall, 0x00000073),
     ] {
         assert_eq!(rt; encode(instr), word, "at {word:08x}");
-        assert_eq!(rt; decode(word), Some(instr), "at {word:08x}");
+        assert_eq!(rt; decode(word).map(encode), Some(word), "at {word:08x}");
     }
     assert!(rt; Immediate::fits(0xfffff800) && !Immediate::fits(0x800));
     assert!(rt;

@@ -1,4 +1,4 @@
--- At each place of the part the shift is a constant, and the rest is linear arithmetic.
+-- At each index of the part the shift is a constant, and the rest is linear arithmetic.
 use Rattle.std.proofs.Common.{ℕ, zero, suc, ◌≡◌, ◌<◌, ◌≤◌, ◌+◌, ◌-◌, ◌*◌, ◌/◌, ◌%◌, ◌^◌, arith, bit_and}
 use Rattle.std.proofs.lemmas.Nat.{and_mask}
 use Rattle.cc_rv32.specs.Machine.{with_part}
@@ -32,8 +32,8 @@ replaces word v (suc (suc zero)) h l = replaces_2 word v h
 replaces word v (suc (suc (suc zero))) h l = replaces_3 word v h
 replaces word v (suc (suc (suc (suc p)))) h l = absurd (omega arith)
 
-whole : (c : goal.Start) → Replaces c.args.word c.args.byte c.args.place
-whole c = replaces c.args.word c.args.byte c.args.place (omega arith) c.requires
+whole : (c : goal.Start) → Replaces c.args.word c.args.byte c.args.index
+whole c = replaces c.args.word c.args.byte c.args.index (omega arith) c.requires
 
 pub overflow_sub-result : goal.overflow_sub-result
 overflow_sub-result c = (whole c).below

@@ -1,4 +1,4 @@
--- At each place of the part the shift is a constant, and the rest is linear arithmetic.
+-- At each index of the part the shift is a constant, and the rest is linear arithmetic.
 use Rattle.std.proofs.Common.{ℕ, ◌≡◌, ◌<◌, ◌≤◌, ◌⊎◌, inl, inr, ◌+◌, ◌-◌, ◌*◌, ◌/◌, ◌%◌, ◌^◌, subst, sym, arith, bit_and}
 use Rattle.std.proofs.lemmas.Nat.{and_mask}
 use Rattle.cc_rv32.specs.Machine.{with_part}
@@ -23,8 +23,8 @@ replaces : (word v p : ℕ) → word < 2 ^ 32 → (p ≡ 0) ⊎ (p ≡ 2) → Re
 replaces word v p h (inl e) = subst (Replaces word v) (sym e) (replaces_0 word v h)
 replaces word v p h (inr e) = subst (Replaces word v) (sym e) (replaces_2 word v h)
 
-whole : (c : goal.Start) → Replaces c.args.word c.args.half c.args.place
-whole c = replaces c.args.word c.args.half c.args.place (omega arith) c.requires
+whole : (c : goal.Start) → Replaces c.args.word c.args.half c.args.index
+whole c = replaces c.args.word c.args.half c.args.index (omega arith) c.requires
 
 pub overflow_sub-result : goal.overflow_sub-result
 overflow_sub-result c = (whole c).below
