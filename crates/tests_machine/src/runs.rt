@@ -8,6 +8,7 @@ use cc_rv32::machine::Machine;
 use cc_rv32::operand::{BranchOffset, Immediate, Register, ShiftCount};
 use cc_rv32::outcome::MachineOutcome;
 use std::alloc::Global;
+use std::process::Abort;
 use std::test::Fail;
 
 const ECALL: u32 = 0x0000_0073;
@@ -333,6 +334,50 @@ const PROGRAMS: [(&str, &[u32], &[u32], Option<u32>, MachineOutcome); 18] = [
     ),
 ];
 
+// So many instructions, what the machine has come to then, and the first word that it wrote.
+type Part = (u64, MachineOutcome, Option<u32>);
+
+// addi x10, x0, 5 and an exit; its runs in one part; a word that is no instruction; a product's high word, written, in two parts
+// and in one; lw x1, 0(x0).
+const PARTS: [(&[u32], &[Part]); 6] = [
+    (
+        &[0x00500513, EXIT, ECALL],
+        &[
+            (2, MachineOutcome::Going, None),
+            (1, MachineOutcome::Exited(5), None),
+            (1, MachineOutcome::Exited(5), None),
+        ],
+    ),
+    (
+        &[0x00500513, EXIT, ECALL],
+        &[(9, MachineOutcome::Exited(5), None)],
+    ),
+    (
+        &[0],
+        &[
+            (0, MachineOutcome::Going, None),
+            (1, MachineOutcome::Trapped, None),
+            (1, MachineOutcome::Trapped, None),
+        ],
+    ),
+    (
+        &[
+            0xfff00093, 0x0210b133, 0x00010513, 0x00100893, ECALL, EXIT, ECALL,
+        ],
+        &[
+            (6, MachineOutcome::Going, Some(4294967294)),
+            (1, MachineOutcome::Exited(4294967294), Some(4294967294)),
+        ],
+    ),
+    (
+        &[
+            0xfff00093, 0x0210b133, 0x00010513, 0x00100893, ECALL, EXIT, ECALL,
+        ],
+        &[(7, MachineOutcome::Exited(4294967294), Some(4294967294))],
+    ),
+    (&[0x00002083], &[(1, MachineOutcome::Trapped, None)]),
+];
+
 const GLOBALS: [u32; 2] = [0x0ff000ff, 0xf00f0ff0];
 
 fn image_of(alloc: Global, code: &[u32], globals: &[u32]) -> Result<Image, Fail> {
@@ -359,39 +404,34 @@ fn first_word(
 }
 
 #[test]
-fn runs_and_stays_ended(rt: HostRuntime) -> Result<(), Fail> {
-    let image = image_of(rt.alloc(), &[0x00500513, EXIT, ECALL], &[])?;
-    let mut machine = Machine::new(rt.alloc(), &image, &[])?;
-    assert_eq!(rt; machine.run(2)?, MachineOutcome::Going);
-    assert_eq!(rt; machine.run(1)?, MachineOutcome::Exited(5));
-    assert_eq!(rt; machine.run(1)?, MachineOutcome::Exited(5));
-    let mut whole = Machine::new(rt.alloc(), &image, &[])?;
-    assert_eq!(rt; whole.run(9)?, MachineOutcome::Exited(5));
-    let image = image_of(rt.alloc(), &[0], &[])?;
-    let mut none = Machine::new(rt.alloc(), &image, &[])?;
-    assert_eq!(rt; none.run(0)?, MachineOutcome::Going);
-    assert_eq!(rt; none.run(1)?, MachineOutcome::Trapped);
-    assert_eq!(rt; none.step()?, MachineOutcome::Trapped);
+fn runs_a_part_at_a_time(rt: HostRuntime) -> Result<(), Fail> {
+    for (code, parts) in PARTS {
+        let image = image_of(rt.alloc(), code, &[])?;
+        let mut machine = Machine::new(rt.alloc(), &image, &[])?;
+        for (steps, outcome, word) in parts {
+            let came = machine.run(*steps)?;
+            assert!(rt; came == *outcome && machine.output().first().copied() == *word);
+        }
+    }
     Ok(())
 }
 
-#[test]
-fn runs_a_part_at_a_time(rt: HostRuntime) -> Result<(), Fail> {
-    let code = [
-        0xfff00093, 0x0210b133, 0x00010513, 0x00100893, ECALL, EXIT, ECALL,
-    ];
-    let image = image_of(rt.alloc(), &code, &[])?;
-    let mut machine = Machine::new(rt.alloc(), &image, &[])?;
-    assert_eq!(rt; machine.run(6)?, MachineOutcome::Going);
-    assert_eq!(rt; machine.output(), [4294967294].as_slice());
-    assert_eq!(rt; machine.step()?, MachineOutcome::Exited(4294967294));
-    assert_eq!(rt; machine.output(), [4294967294].as_slice());
-    let mut whole = Machine::new(rt.alloc(), &image, &[])?;
-    assert_eq!(rt; whole.run(7)?, MachineOutcome::Exited(4294967294));
-    assert_eq!(rt; whole.output(), [4294967294].as_slice());
-    let image = image_of(rt.alloc(), &[0x00002083], &[])?;
-    let mut outside = Machine::new(rt.alloc(), &image, &[])?;
-    assert_eq!(rt; outside.run(1)?, MachineOutcome::Trapped);
+// The first word that a program writes within a thousand instructions; it traps exactly where it writes none. `word` is the
+// instruction that is tried.
+fn check_word(
+    rt: &impl Abort,
+    alloc: Global,
+    word: u32,
+    code: &[u32],
+    input: &[u32],
+    expected: Option<u32>,
+) -> Result<(), Fail> {
+    let (written, outcome) = first_word(alloc, code, &GLOBALS, input)?;
+    let has_trapped = outcome == MachineOutcome::Trapped;
+    assert!(rt;
+        written == expected && has_trapped == expected.is_none(),
+        "at {word:08x}"
+    );
     Ok(())
 }
 
@@ -399,30 +439,16 @@ fn runs_a_part_at_a_time(rt: HostRuntime) -> Result<(), Fail> {
 #[test]
 fn computes_on_two_registers(rt: HostRuntime) -> Result<(), Fail> {
     for (operation, left, right, expected) in OPERATIONS {
-        let instr = Instr::Op {
+        let word = encode(Instr::Op {
             operation,
             rd: Register::new(10),
             rs1: Register::new(5),
             rs2: Register::new(6),
-        };
+        });
         let code = [
-            READ,
-            ECALL,
-            TO_X5,
-            ECALL,
-            TO_X6,
-            encode(instr),
-            WRITE,
-            ECALL,
-            EXIT,
-            ECALL,
+            READ, ECALL, TO_X5, ECALL, TO_X6, word, WRITE, ECALL, EXIT, ECALL,
         ];
-        let (word, _) = first_word(rt.alloc(), &code, &[], &[left, right])?;
-        assert_eq!(rt;
-            word,
-            Some(expected),
-            "{operation} of {left:08x} and {right:08x}"
-        );
+        check_word(&rt, rt.alloc(), word, &code, &[left, right], Some(expected))?;
     }
     Ok(())
 }
@@ -431,19 +457,14 @@ fn computes_on_two_registers(rt: HostRuntime) -> Result<(), Fail> {
 fn computes_on_immediates(rt: HostRuntime) -> Result<(), Fail> {
     for (operation, left, immediate, expected) in IMMEDIATES {
         assert!(rt; Immediate::fits(immediate));
-        let instr = Instr::OpImm {
+        let word = encode(Instr::OpImm {
             operation,
             rd: Register::new(10),
             rs1: Register::new(10),
             immediate: Immediate::new(immediate),
-        };
-        let code = [READ, ECALL, encode(instr), WRITE, ECALL, EXIT, ECALL];
-        let (word, _) = first_word(rt.alloc(), &code, &[], &[left])?;
-        assert_eq!(rt;
-            word,
-            Some(expected),
-            "{operation} of {left:08x} and {immediate:08x}"
-        );
+        });
+        let code = [READ, ECALL, word, WRITE, ECALL, EXIT, ECALL];
+        check_word(&rt, rt.alloc(), word, &code, &[left], Some(expected))?;
     }
     Ok(())
 }
@@ -452,19 +473,14 @@ fn computes_on_immediates(rt: HostRuntime) -> Result<(), Fail> {
 fn shifts_by_a_count(rt: HostRuntime) -> Result<(), Fail> {
     for (operation, left, count, expected) in SHIFTS {
         assert!(rt; count < 32);
-        let instr = Instr::Shift {
+        let word = encode(Instr::Shift {
             operation,
             rd: Register::new(10),
             rs1: Register::new(10),
             count: ShiftCount::new(count),
-        };
-        let code = [READ, ECALL, encode(instr), WRITE, ECALL, EXIT, ECALL];
-        let (word, _) = first_word(rt.alloc(), &code, &[], &[left])?;
-        assert_eq!(rt;
-            word,
-            Some(expected),
-            "{operation} of {left:08x} by {count}"
-        );
+        });
+        let code = [READ, ECALL, word, WRITE, ECALL, EXIT, ECALL];
+        check_word(&rt, rt.alloc(), word, &code, &[left], Some(expected))?;
     }
     Ok(())
 }
@@ -474,83 +490,59 @@ fn shifts_by_a_count(rt: HostRuntime) -> Result<(), Fail> {
 fn loads(rt: HostRuntime) -> Result<(), Fail> {
     for (operation, offset, expected) in LOADS {
         assert!(rt; Immediate::fits(offset));
-        let instr = Instr::Load {
+        let word = encode(Instr::Load {
             operation,
             rd: Register::new(10),
             rs1: Register::new(8),
             offset: Immediate::new(offset),
-        };
-        let code = [0x00200437, encode(instr), WRITE, ECALL, EXIT, ECALL];
-        let (word, outcome) = first_word(rt.alloc(), &code, &GLOBALS, &[])?;
-        assert_eq!(rt; word, expected, "{operation} at {offset:08x}");
-        assert_eq!(rt; outcome == MachineOutcome::Trapped, expected.is_none());
+        });
+        let code = [0x00200437, word, WRITE, ECALL, EXIT, ECALL];
+        check_word(&rt, rt.alloc(), word, &code, &[], expected)?;
     }
     Ok(())
 }
 
+// lw x10, 0(x8) comes after the store.
 #[test]
 fn stores(rt: HostRuntime) -> Result<(), Fail> {
     for (operation, offset, expected) in STORES {
         assert!(rt; Immediate::fits(offset));
-        let store = Instr::Store {
+        let word = encode(Instr::Store {
             operation,
             rs1: Register::new(8),
             rs2: Register::new(10),
             offset: Immediate::new(offset),
-        };
-        // lw x10, 0(x8) behind it
+        });
         let code = [
-            0x00200437,
-            READ,
-            ECALL,
-            encode(store),
-            0x00042503,
-            WRITE,
-            ECALL,
-            EXIT,
-            ECALL,
+            0x00200437, READ, ECALL, word, 0x00042503, WRITE, ECALL, EXIT, ECALL,
         ];
-        let (word, outcome) = first_word(rt.alloc(), &code, &GLOBALS, &[0x12345678])?;
-        assert_eq!(rt; word, expected, "{operation} at {offset:08x}");
-        assert_eq!(rt; outcome == MachineOutcome::Trapped, expected.is_none());
+        check_word(&rt, rt.alloc(), word, &code, &[0x12345678], expected)?;
     }
     Ok(())
 }
 
-// A taken branch skips a write of 0.
+// A taken branch skips a write of 0: addi x17, x0, 1; ecall; then addi x10, x0, 1.
 #[test]
 fn branches(rt: HostRuntime) -> Result<(), Fail> {
     for (operation, left, right, taken) in BRANCHES {
-        let branch = Instr::Branch {
+        let word = encode(Instr::Branch {
             operation,
             rs1: Register::new(5),
             rs2: Register::new(6),
             offset: BranchOffset::new(12),
-        };
-        // addi x17, x0, 1; ecall; then addi x10, x0, 1
+        });
         let code = [
-            READ,
-            ECALL,
-            TO_X5,
-            ECALL,
-            TO_X6,
-            0x00000513,
-            encode(branch),
-            WRITE,
-            ECALL,
-            0x00100513,
-            WRITE,
-            ECALL,
-            EXIT,
-            ECALL,
+            READ, ECALL, TO_X5, ECALL, TO_X6, 0x00000513, word, WRITE, ECALL, 0x00100513, WRITE,
+            ECALL, EXIT, ECALL,
         ];
-        let (word, _) = first_word(rt.alloc(), &code, &[], &[left, right])?;
-        let expected = if taken { 1 } else { 0 };
-        assert_eq!(rt;
+        check_word(
+            &rt,
+            rt.alloc(),
             word,
-            Some(expected),
-            "{operation} of {left:08x} and {right:08x}"
-        );
+            &code,
+            &[left, right],
+            Some(u32::from(taken)),
+        )?;
     }
     Ok(())
 }
@@ -561,8 +553,12 @@ fn traps_outside_the_code(rt: HostRuntime) -> Result<(), Fail> {
     for word in [0x0000_0013, 0x0080_006f, 0x0000_0067] {
         let image = image_of(rt.alloc(), &[word], &[])?;
         let mut machine = Machine::new(rt.alloc(), &image, &[])?;
-        assert_eq!(rt; machine.step()?, MachineOutcome::Going, "at {word:08x}");
-        assert_eq!(rt; machine.step()?, MachineOutcome::Trapped, "at {word:08x}");
+        let first = machine.step()?;
+        let second = machine.step()?;
+        assert!(rt;
+            first == MachineOutcome::Going && second == MachineOutcome::Trapped,
+            "at {word:08x}"
+        );
     }
     Ok(())
 }
@@ -570,8 +566,8 @@ fn traps_outside_the_code(rt: HostRuntime) -> Result<(), Fail> {
 #[test]
 fn runs_programs(rt: HostRuntime) -> Result<(), Fail> {
     for (shows, code, input, word, outcome) in PROGRAMS {
-        let came = first_word(rt.alloc(), code, &[], input)?;
-        assert_eq!(rt; came, (word, outcome), "{shows}");
+        let (written, came) = first_word(rt.alloc(), code, &[], input)?;
+        assert!(rt; written == word && came == outcome, "{shows}");
     }
     Ok(())
 }

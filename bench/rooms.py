@@ -1,0 +1,181 @@
+#!/usr/bin/env python3
+"""Which definitions a public contract rests on, and whether each stands in the room where a reader looks for it.
+
+    bench/rooms.py                     of every crate: definitions right in specs/ on which no public contract rests and no
+                                       type's model, and definitions of specs/internal/ on which a contract does
+    bench/rooms.py CRATE FUNCTION      what that function's contract rests on: the pages in reading order, with how many of
+                                       their lines, and how many lines in all
+
+It reads the text alone: names in clauses, followed through the `use` lines of the pages. What a Rust type is (`declared`)
+counts as code, and std's words are taken as known."""
+import os
+import re
+import sys
+
+TOP = os.path.dirname(os.path.dirname(os.path.abspath(__file__)))
+WORD = re.compile(r"[^\s(){}\[\],;⟨⟩⟦⟧\"]+")
+DECLARATION = re.compile(r"(?:abbrev |opaque |unfoldable |pub |data |record )+([^\s(){}:]+)|([^\s(){}:=]+) : ")
+USE = re.compile(r"use (Rattle\.(\w+)\.specs\.[\w.]+?)(?:\.\{([^}]*)\}| as (\w+))(?: as (\w+))?[;\s]")
+PUBLIC = re.compile(r"^\s*pub (?:const )?(?:unsafe )?fn (\w+)")
+CLAUSE = re.compile(r"^\s*(?:ensures|requires)\*?\s")
+
+
+class Page:
+    """A page of specs/: its definitions, each with its text and its number of lines, and the names that it brings in."""
+
+    def __init__(self, crate, name, path):
+        self.crate, self.name = crate, name
+        with open(path, encoding="utf-8") as file:
+            self.text = file.read()
+        self.names = names_in(self.text)
+        self.items = {}
+        item, inside, comment = None, False, []
+        for line in self.text.split("\n"):
+            bare = line.strip()
+            if bare.startswith("--") or not bare:
+                comment = [*comment, line] if bare else []
+                continue
+            indent = len(line) - len(line.lstrip())
+            if indent == 0 and bare.startswith(("module ", "abbrev mutual", "mutual")):
+                inside, item, comment = True, None, []
+                continue
+            if indent == 0 and bare.startswith("use "):
+                comment = []
+                continue
+            if indent == 0:
+                inside = inside and not DECLARATION.match(bare)
+            found = DECLARATION.match(bare) if indent == 0 or inside and indent == 2 else None
+            if found:
+                item = self.items.setdefault(found[1] or found[2], [])
+                item.extend(comment)
+            if item is not None:
+                item.append(line)
+            comment = []
+
+    def where(self):
+        return f"{self.crate}/specs/{self.name.replace('.', '/')}"
+
+
+def names_in(text):
+    """Returns what the use lines of a text bring in: names with the module that has them, and short names of modules."""
+    found = {}
+    for module, crate, names, short, _ in USE.findall(re.sub(r"\n\s+", " ", text)):
+        if short:
+            found[short] = (module, None)
+        for it in filter(None, (names or "").split(",")):
+            name, _, other = it.strip().partition(" as ")
+            found[other or name] = (module, name)
+    return found
+
+
+def pages_of(crate):
+    pages, top = {}, f"{TOP}/crates/{crate}/specs"
+    for at, _, files in os.walk(top):
+        for file in sorted(files):
+            name = os.path.relpath(f"{at}/{file}", top)[: -len(".antt")].replace("/", ".")
+            if file.endswith(".antt") and name not in ("Lib", "internal", "rows"):
+                pages[name] = Page(crate, name, f"{at}/{file}")
+    return pages
+
+
+def reading_order(crate):
+    with open(f"{TOP}/crates/{crate}/specs/Lib.antt", encoding="utf-8") as file:
+        return re.findall(r"^pub mod (\w+)", file.read(), re.M)
+
+
+class Repository:
+    def __init__(self):
+        with open(f"{TOP}/crates.txt", encoding="utf-8") as file:
+            lines = [it.partition("#")[0] for it in file]
+        self.crates = [it.partition(":")[0].split()[0] for it in lines if ":" in it]
+        self.crates = [it for it in self.crates if os.path.isdir(f"{TOP}/crates/{it}/specs")]
+        self.pages = {crate: pages_of(crate) for crate in self.crates}
+
+    def page(self, module):
+        """Returns the page of a module's whole name, if it is one of this repository."""
+        found = re.match(r"Rattle\.(\w+)\.specs\.(.+)", module)
+        return self.pages.get(found[1], {}).get(found[2]) if found else None
+
+    def named(self, text, names, page=None):
+        """Returns the definitions that a text names."""
+        found = set()
+        for word in WORD.findall(text):
+            first, _, rest = word.partition(".")
+            if page is not None and first in page.items:
+                found.add((page.crate, page.name, first))
+            elif first in names:
+                module, name = names[first]
+                there = self.page(module)
+                wanted = name or rest.partition(".")[0]
+                if there is not None and wanted in there.items:
+                    found.add((there.crate, there.name, wanted))
+        return found
+
+    def rests_on(self, begin):
+        left, found = list(begin), set()
+        while left:
+            it = left.pop()
+            if it not in found:
+                found.add(it)
+                page = self.pages[it[0]][it[1]]
+                left += self.named("\n".join(page.items[it[2]]), page.names, page)
+        return found
+
+    def contracts(self, crate, function=None, types=False):
+        """Returns the definitions that the public contracts of a crate name: of its functions, or of one; and what its types
+        are seen as and keep, if that is asked for."""
+        found = set()
+        for at, _, files in os.walk(f"{TOP}/crates/{crate}/src"):
+            for file in files:
+                with open(f"{at}/{file}", encoding="utf-8") as it:
+                    text = it.read()
+                names, name, taking = names_in(text), None, False
+                for line in text.split("\n"):
+                    begins = PUBLIC.match(line)
+                    if begins or re.match(r"^\s*(pub\(\w+\) )?fn ", line):
+                        name, taking = begins[1] if begins else None, False
+                    is_model = types and re.match(r"^\s*ghost (Value|view|invariant|\w+:)", line)
+                    taking = bool(CLAUSE.match(line)) or taking and not re.match(r"^\s*[{}]?\s*$", line) and not line.rstrip().endswith("{")
+                    if taking and name is not None and function in (None, name) or is_model:
+                        found |= self.named(line, names)
+        return found
+
+
+def show(repository, crate, function):
+    found = repository.rests_on(repository.contracts(crate, function))
+    whole = 0
+    for it in repository.crates:
+        for name in reading_order(it):
+            page = repository.pages[it].get(name)
+            items = [word for word in page.items if (it, name, word) in found] if page else []
+            if items:
+                lines = sum(len(page.items[word]) for word in items)
+                whole += lines
+                print(f"{page.where():36}{len(items):4} of {len(page.items):3} definitions, {lines:4} lines")
+    print(f"{whole} lines in all")
+    apart = [it for it in found if it[1].startswith(("internal", "rows"))]
+    for it in sorted(apart):
+        print("and apart:", *it)
+    return 1 if apart else 0
+
+
+def check(repository):
+    wrong, used, kept = 0, set(), set()
+    for crate in repository.crates:
+        used |= repository.rests_on(repository.contracts(crate))
+        kept |= repository.rests_on(repository.contracts(crate, types=True))
+    for crate in repository.crates:
+        for name, page in repository.pages[crate].items():
+            is_apart = name.startswith(("internal.", "rows."))
+            for item in page.items:
+                is_wrong = (crate, name, item) in used if is_apart else (crate, name, item) not in kept
+                if is_wrong:
+                    wrong += 1
+                    print(f"{page.where()}: {item}: {'a public contract rests on it' if is_apart else 'no public contract rests on it'}")
+    print(f"{wrong} definitions in another room than their readers look for")
+    return 1 if wrong else 0
+
+
+if __name__ == "__main__":
+    every = Repository()
+    sys.exit(show(every, *sys.argv[1:3]) if len(sys.argv) > 2 else check(every))
