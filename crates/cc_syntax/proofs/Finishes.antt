@@ -1,15 +1,15 @@
 -- From every state some tokens lead to the end of a unit: an operand where one is missing, what closes each part that is
 -- open, an empty statement for the part of an `if` or a loop, a closing brace for each block.
 use Rattle.std.proofs.Common.{◌≡◌, ℕ, Bool, true, false, suc, List, [], ◌∷◌, ◌++◌, Option, Some, None, refl, ap, ◌∙◌, arith}
-use Rattle.cc_syntax.specs.declared.ast.Scalar.{Scalar}
-use Rattle.cc_syntax.specs.declared.ast.Scalar.TheVariants as scalar
-use Rattle.cc_syntax.specs.declared.token.Keyword.TheVariants as keyword
+use Rattle.cc_tokens.specs.declared.scalar.Scalar.{Scalar}
+use Rattle.cc_tokens.specs.declared.scalar.Scalar.TheVariants as scalar
+use Rattle.cc_tokens.specs.declared.token.Keyword.TheVariants as keyword
 use Rattle.cc_syntax.specs.declared.ast.StepOperator.{StepOperator}
-use Rattle.cc_syntax.specs.declared.token.Punctuator.{Punctuator}
-use Rattle.cc_syntax.specs.declared.token.Punctuator.TheVariants as punctuator
-use Rattle.cc_syntax.specs.declared.token.TokenKind.{TokenKind}
-use Rattle.cc_syntax.specs.declared.token.TokenKind.TheVariants as kind
-use Rattle.cc_syntax.specs.Token.{Lexeme}
+use Rattle.cc_tokens.specs.declared.token.Punctuator.{Punctuator}
+use Rattle.cc_tokens.specs.declared.token.Punctuator.TheVariants as punctuator
+use Rattle.cc_tokens.specs.declared.token.TokenKind.{TokenKind}
+use Rattle.cc_tokens.specs.declared.token.TokenKind.TheVariants as kind
+use Rattle.cc_tokens.specs.Token.{Lexeme}
 use Rattle.cc_syntax.specs.Tree.{Name, Expr, Number, Element, Call, Parenthesised, Unary, Cast, Binary, Conditional, Target, AtVariable, AtElement, Action, Assign, Step, Evaluate, Declared, Start, Declares, Performs, Stmt, Block, Local, Perform, Return, If, IfElse, While, DoWhile, For, ConstantExpr, Signature, Object, Single, Array, External, Declaration, Definition, Objects}
 use Rattle.cc_syntax.specs.Roles.{role_of}
 use Rattle.cc_syntax.specs.Grammar.{Placed, precedence}

@@ -1,7 +1,7 @@
 -- The states of the machine in a full expression, and how tokens are counted there.
 use Rattle.std.proofs.Common.{◌≡◌, ◌<◌, ◌≤◌, ℕ, suc, List, [], ◌∷◌, ◌++◌, refl, sym, ap, subst, cond, leb, arith}
 use Rattle.std.proofs.lemmas.Bool.{lt-leb, le-leb}
-use Rattle.cc_syntax.specs.Token.{Lexeme}
+use Rattle.cc_tokens.specs.Token.{Lexeme}
 use Rattle.cc_syntax.specs.Tree.{Expr}
 use Rattle.cc_syntax.specs.Grammar.{Placed, full_after, precedence}
 use Rattle.cc_syntax.specs.Machine.{State, InFull, Operand, Operator, Context, Waiting, Parenthesis, Index, Arguments, Prefix, Casting, Infix, Then, Otherwise, full_of, reduced}

@@ -1,7 +1,7 @@
 -- Reading a token keeps what the tokens before the state spell, whatever the state. So what a run has read is spelled.
 use Rattle.std.proofs.Common.{ℕ, List, [], ◌∷◌, ◌++◌, Option, refl, sym, ap, subst, ◌∙◌, append_assoc}
 use Rattle.std.proofs.lemmas.List.{append-nil}
-use Rattle.cc_syntax.specs.Token.{Lexeme}
+use Rattle.cc_tokens.specs.Token.{Lexeme}
 use Rattle.cc_syntax.specs.Tree.{External}
 use Rattle.cc_syntax.specs.Roles.{role_of}
 use Rattle.cc_syntax.specs.Grammar.{Placed, SpellsExternals, SpellsUnit}

@@ -2,10 +2,10 @@
 use Rattle.std.proofs.Common.{◌≡◌, ℕ, Bool, true, false, suc, List, [], ◌∷◌, ◌++◌, Option, Some, refl, sym, ap, subst, ◌∙◌, append_assoc}
 use Rattle.std.proofs.lemmas.Bool.{false≢true}
 use Rattle.std.proofs.lemmas.List.{append-nil}
-use Rattle.cc_syntax.specs.declared.ast.Scalar.{Scalar}
-use Rattle.cc_syntax.specs.declared.token.Keyword.TheVariants as keyword
-use Rattle.cc_syntax.specs.declared.token.Punctuator.TheVariants as punctuator
-use Rattle.cc_syntax.specs.Token.{Lexeme}
+use Rattle.cc_tokens.specs.declared.scalar.Scalar.{Scalar}
+use Rattle.cc_tokens.specs.declared.token.Keyword.TheVariants as keyword
+use Rattle.cc_tokens.specs.declared.token.Punctuator.TheVariants as punctuator
+use Rattle.cc_tokens.specs.Token.{Lexeme}
 use Rattle.cc_syntax.specs.Tree.{Expr, Start, Performs, Declares, Declared, Stmt, Local, If, IfElse, While, For, Stmts, end, next}
 use Rattle.cc_syntax.specs.Grammar.{Placed, outside, full, begins, Marks, IsKeyword, SpellsStatement, SpellsStatements, IsStatement, IsClosed}
 use Rattle.cc_syntax.specs.Machine.{Inside, Stage, AsLocal, AsHeader, AsStatement, AsStart, AsLast, ForIf, ForWhile, Open, InBlock, InThen, InElse, InWhile, InDo, InFor, settled, with_last}

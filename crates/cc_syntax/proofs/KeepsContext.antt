@@ -4,7 +4,7 @@ use Rattle.std.proofs.Common.{◌≡◌, ℕ, suc, true, List, [], ◌∷◌, �
 use Rattle.std.proofs.lemmas.List.{append-nil}
 use Rattle.cc_syntax.specs.declared.parser.role.Role.{Role}
 use Rattle.cc_syntax.specs.declared.parser.role.Role.TheVariants as role
-use Rattle.cc_syntax.specs.Token.{Lexeme}
+use Rattle.cc_tokens.specs.Token.{Lexeme}
 use Rattle.cc_syntax.specs.Tree.{Expr, Action, Perform, Stmt}
 use Rattle.cc_syntax.specs.Grammar.{Placed, outside, full, SpellsAction, SpellsStatement, IsClosed}
 use Rattle.cc_syntax.specs.Machine.{State, AtFile, InBody, InFull, Inside, Full, Phase, Context, OfBody, OfObject, Test, ForIf, ForWhile, ForDo, Spot, AsStatement, AsStart, AsLast, Open, InThen, InWhile, InFor, Waiting, settle, opens, acted, tested, settled}

@@ -1,11 +1,11 @@
 -- The token that ends a full expression in a function's body keeps what the tokens before the state spell.
 use Rattle.std.proofs.Common.{◌≡◌, ℕ, suc, List, [], ◌∷◌, ◌++◌, map, Option, Some, refl, sym, ap, subst, ◌∙◌, append_assoc, inl, inr}
 use Rattle.std.proofs.lemmas.List.{append-nil}
-use Rattle.cc_syntax.specs.declared.ast.Scalar.{Scalar}
-use Rattle.cc_syntax.specs.declared.token.Punctuator.TheVariants as punctuator
+use Rattle.cc_tokens.specs.declared.scalar.Scalar.{Scalar}
+use Rattle.cc_tokens.specs.declared.token.Punctuator.TheVariants as punctuator
 use Rattle.cc_syntax.specs.declared.parser.role.Role.{Role}
 use Rattle.cc_syntax.specs.declared.parser.role.Role.TheVariants as role
-use Rattle.cc_syntax.specs.Token.{Lexeme}
+use Rattle.cc_tokens.specs.Token.{Lexeme}
 use Rattle.cc_syntax.specs.Tree.{Name, Expr, Assign, Evaluate, Declared, Local, Return}
 use Rattle.cc_syntax.specs.Grammar.{Placed, outside, full, begins, identifier, Marks, SpellsExpression, SpellsRow, SpellsDeclared, SpellsInitial}
 use Rattle.cc_syntax.specs.Machine.{Inside, Phase, Context, OfBody, Purpose, ToPerform, ToAssign, ToStep, ToReturn, ToTest, ToGoOn, ToInitialise, Position, AsLocal, AsHeader, Open, Waiting, declares, declared, end_in_body}

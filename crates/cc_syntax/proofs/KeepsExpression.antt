@@ -1,7 +1,7 @@
 -- What waits takes its operand: the tokens stay spelled.
 use Rattle.std.proofs.Common.{◌≡◌, ◌≤◌, ℕ, suc, List, [], ◌∷◌, ◌++◌, refl, sym, ap, subst, ◌∙◌, arith, append_assoc, inl, inr}
 use Rattle.std.proofs.lemmas.Bool.Decides.{leb_tells}
-use Rattle.cc_syntax.specs.Token.{Lexeme}
+use Rattle.cc_tokens.specs.Token.{Lexeme}
 use Rattle.cc_syntax.specs.Tree.{Expr, Number, Variable, Element, Call, Parenthesised, Unary, Cast, Binary, Conditional}
 use Rattle.cc_syntax.specs.Grammar.{SpellsExpression, precedence}
 use Rattle.cc_syntax.specs.Machine.{Waiting, Parenthesis, Index, Arguments, Prefix, Casting, Infix, Then, Otherwise, reduced}

@@ -2,11 +2,11 @@
 -- the tokens before the state spell.
 use Rattle.std.proofs.Common.{◌≡◌, ℕ, List, [], ◌∷◌, ◌++◌, map, Option, Some, refl, sym, ap, subst, ◌∙◌, append_assoc, inl}
 use Rattle.std.proofs.lemmas.List.{append-nil}
-use Rattle.cc_syntax.specs.declared.ast.Scalar.{Scalar}
-use Rattle.cc_syntax.specs.declared.token.Punctuator.TheVariants as punctuator
+use Rattle.cc_tokens.specs.declared.scalar.Scalar.{Scalar}
+use Rattle.cc_tokens.specs.declared.token.Punctuator.TheVariants as punctuator
 use Rattle.cc_syntax.specs.declared.parser.role.Role.{Role}
 use Rattle.cc_syntax.specs.declared.parser.role.Role.TheVariants as role
-use Rattle.cc_syntax.specs.Token.{Lexeme}
+use Rattle.cc_tokens.specs.Token.{Lexeme}
 use Rattle.cc_syntax.specs.Tree.{Expr, ConstantExpr, Object, Single, Array, External, Objects}
 use Rattle.cc_syntax.specs.Grammar.{Placed, outside, full, identifier, Marks, SpellsExpression, SpellsRow, SpellsConstantExpr, IsOptionalComma, SpellsList, SpellsObject, SpellsExternal, SpellsExternals}
 use Rattle.cc_syntax.specs.Machine.{AtFile, Outer, Between, Valuing, Phase, OfObject, Part, ToSize, ToSingle, ToValue, Naming, Waiting, with_object, constant, separated, end_list_value, end_in_object}

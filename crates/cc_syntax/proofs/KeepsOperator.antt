@@ -7,7 +7,7 @@ use Rattle.cc_syntax.specs.declared.ast.AssignmentOperator.{AssignmentOperator}
 use Rattle.cc_syntax.specs.declared.ast.StepOperator.{StepOperator}
 use Rattle.cc_syntax.specs.declared.parser.role.Role.{Role}
 use Rattle.cc_syntax.specs.declared.parser.role.Role.TheVariants as role
-use Rattle.cc_syntax.specs.Token.{Lexeme}
+use Rattle.cc_tokens.specs.Token.{Lexeme}
 use Rattle.cc_syntax.specs.Tree.{Expr, Variable, Element, Target, Step}
 use Rattle.cc_syntax.specs.Grammar.{Placed, full, Marks, SpellsExpression, SpellsTarget, SpellsAction, precedence, binary_punctuator, assignment_punctuator, step_punctuator}
 use Rattle.cc_syntax.specs.Machine.{State, AtFile, InBody, InFull, Inside, Full, Phase, Operand, Operator, CastSign, CastType, Context, OfBody, OfObject, Purpose, ToPerform, ToAssign, Spot, AsStatement, AsStart, AsLast, Open, Waiting, reduced, full_of, close, operate, ask, open_name, assign, assigns, step_target, steps, target_of, end_full, operand_step, operator_step, cast_step, cast_sign_step, full_step, first_step, name_of}

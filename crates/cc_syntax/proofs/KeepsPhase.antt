@@ -1,16 +1,16 @@
 -- Reading a token in a full expression keeps what its tokens spell, where the token stays in it.
 use Rattle.std.proofs.Common.{◌≡◌, suc, List, [], ◌∷◌, ◌++◌, Option, Some, None, refl, ap, ◌∙◌, append_assoc, inl, inr}
-use Rattle.cc_syntax.specs.declared.ast.Scalar.{Scalar}
-use Rattle.cc_syntax.specs.declared.ast.Scalar.TheVariants as scalar
-use Rattle.cc_syntax.specs.declared.token.Keyword.{Keyword}
-use Rattle.cc_syntax.specs.declared.token.Keyword.TheVariants as keyword
-use Rattle.cc_syntax.specs.declared.token.Punctuator.{Punctuator}
-use Rattle.cc_syntax.specs.declared.token.Punctuator.TheVariants as punctuator
-use Rattle.cc_syntax.specs.declared.token.TokenKind.{TokenKind}
-use Rattle.cc_syntax.specs.declared.token.TokenKind.TheVariants as kind
+use Rattle.cc_tokens.specs.declared.scalar.Scalar.{Scalar}
+use Rattle.cc_tokens.specs.declared.scalar.Scalar.TheVariants as scalar
+use Rattle.cc_tokens.specs.declared.token.Keyword.{Keyword}
+use Rattle.cc_tokens.specs.declared.token.Keyword.TheVariants as keyword
+use Rattle.cc_tokens.specs.declared.token.Punctuator.{Punctuator}
+use Rattle.cc_tokens.specs.declared.token.Punctuator.TheVariants as punctuator
+use Rattle.cc_tokens.specs.declared.token.TokenKind.{TokenKind}
+use Rattle.cc_tokens.specs.declared.token.TokenKind.TheVariants as kind
 use Rattle.cc_syntax.specs.declared.parser.role.Role.{Role}
 use Rattle.cc_syntax.specs.declared.parser.role.Role.TheVariants as role
-use Rattle.cc_syntax.specs.Token.{Lexeme}
+use Rattle.cc_tokens.specs.Token.{Lexeme}
 use Rattle.cc_syntax.specs.Tree.{Expr, Number, Variable, none}
 use Rattle.cc_syntax.specs.Roles.{role_of, keyword_role, punctuator_role}
 use Rattle.cc_syntax.specs.Grammar.{Marks, IsKeyword, sign_word, unary_punctuator, binary_punctuator, assignment_punctuator, step_punctuator, SpellsType}

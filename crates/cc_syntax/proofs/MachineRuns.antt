@@ -1,8 +1,8 @@
 -- Runs of the parser's machine over tokens, with the standing of each token as the machine has it. A run can be cut and
 -- joined, and the tokens alone determine it.
 use Rattle.std.proofs.Common.{◌≡◌, ℕ, List, [], ◌∷◌, ◌++◌, Option, Some, refl, sym, ap, subst, ◌∙◌}
-use Rattle.cc_syntax.specs.declared.token.TokenKind.{TokenKind}
-use Rattle.cc_syntax.specs.Token.{Lexeme}
+use Rattle.cc_tokens.specs.declared.token.TokenKind.{TokenKind}
+use Rattle.cc_tokens.specs.Token.{Lexeme}
 use Rattle.cc_syntax.specs.Roles.{role_of}
 use Rattle.cc_syntax.specs.Grammar.{Placed, tokens_of}
 use Rattle.cc_syntax.specs.Machine.{State, step, role_step, name_of, count_of, level_at, role_level}

@@ -1,16 +1,16 @@
 -- From the tokens of a text to the text: the exits of `parse`.
 use Rattle.std.proofs.Common.{◌≡◌, ◌≤◌, ℕ, List, length, Result, Ok, Err, refl, subst, arith}
-use Rattle.cc_syntax.specs.declared.place.Place.{Place}
-use Rattle.cc_syntax.specs.declared.fault.SyntaxFault.{SyntaxFault}
-use Rattle.cc_syntax.specs.declared.fault.SyntaxFault.TheVariants as fault
+use Rattle.cc_tokens.specs.declared.place.Place.{Place}
+use Rattle.cc_tokens.specs.declared.fault.SyntaxFault.{SyntaxFault}
+use Rattle.cc_tokens.specs.declared.fault.SyntaxFault.TheVariants as fault
 use Rattle.cc_syntax.specs.declared.unit.Unit as unit
-use Rattle.cc_syntax.specs.Token.{Lexeme}
+use Rattle.cc_tokens.specs.Token.{Lexeme}
 use Rattle.cc_syntax.specs.Tree.{External}
-use Rattle.cc_syntax.specs.Tokens.{IsFlawFault}
+use Rattle.cc_tokens.specs.Tokens.{IsFlawFault}
 use Rattle.cc_syntax.specs.Limits.{SpellsWithin, UnexpectedAt, TooDeepAt}
 use Rattle.cc_syntax.specs.Parse.{SpellsText, BreaksAt, IsParseRefusal}
 use Rattle.cc_syntax.specs.Source.{source, AnswersTree, IsParse}
-use Rattle.cc_syntax.proofs.Cuts.{tokens_are_one, tokens_have_no_flaw}
+use Rattle.cc_tokens.proofs.Cuts.{tokens_are_one, tokens_have_no_flaw}
 use Rattle.cc_syntax.proofs.Verdict.{trees_are_one, spelled_have_no_fault}
 
 no_flaw : (text : List ℕ) (e : SyntaxFault) (tree : List External) → IsFlawFault text e → SpellsText text tree → ⊥

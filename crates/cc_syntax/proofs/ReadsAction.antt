@@ -4,12 +4,12 @@ use Rattle.cc_syntax.specs.declared.ast.AssignmentOperator.{AssignmentOperator}
 use Rattle.cc_syntax.specs.declared.ast.AssignmentOperator.TheVariants as assignment
 use Rattle.cc_syntax.specs.declared.ast.StepOperator.{StepOperator}
 use Rattle.cc_syntax.specs.declared.ast.StepOperator.TheVariants as stepping
-use Rattle.cc_syntax.specs.declared.token.Punctuator.TheVariants as punctuator
-use Rattle.cc_syntax.specs.declared.token.TokenKind.{TokenKind}
-use Rattle.cc_syntax.specs.declared.token.TokenKind.TheVariants as kind
+use Rattle.cc_tokens.specs.declared.token.Punctuator.TheVariants as punctuator
+use Rattle.cc_tokens.specs.declared.token.TokenKind.{TokenKind}
+use Rattle.cc_tokens.specs.declared.token.TokenKind.TheVariants as kind
 use Rattle.cc_syntax.specs.declared.parser.role.Role.{Role}
 use Rattle.cc_syntax.specs.declared.parser.role.Role.TheVariants as role
-use Rattle.cc_syntax.specs.Token.{Lexeme}
+use Rattle.cc_tokens.specs.Token.{Lexeme}
 use Rattle.cc_syntax.specs.Tree.{Name, Expr, Variable, Element, Target, AtVariable, AtElement, Action, Assign, Step, Evaluate, Performs, Perform}
 use Rattle.cc_syntax.specs.Roles.{role_of, punctuator_role}
 use Rattle.cc_syntax.specs.Grammar.{Placed, outside, full, full_after, begins, identifier, assignment_punctuator, step_punctuator, SpellsExpression, SpellsTarget, SpellsAction}

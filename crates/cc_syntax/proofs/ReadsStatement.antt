@@ -1,14 +1,14 @@
 -- Each statement that tokens spell is read from them: an induction on its tree. Behind a statement that ends in an open
 -- `if` the machine waits for the token that tells; with any token but `else` it goes on as behind the statement.
 use Rattle.std.proofs.Common.{◌≡◌, ℕ, true, false, suc, List, [], ◌∷◌, ◌++◌, length, Option, Some, None, refl, sym, ap, subst, ◌∙◌, arith, append_assoc}
-use Rattle.cc_syntax.specs.declared.ast.Scalar.{Scalar}
-use Rattle.cc_syntax.specs.declared.token.Keyword.TheVariants as keyword
-use Rattle.cc_syntax.specs.declared.token.Punctuator.TheVariants as punctuator
-use Rattle.cc_syntax.specs.declared.token.TokenKind.{TokenKind}
-use Rattle.cc_syntax.specs.declared.token.TokenKind.TheVariants as kind
+use Rattle.cc_tokens.specs.declared.scalar.Scalar.{Scalar}
+use Rattle.cc_tokens.specs.declared.token.Keyword.TheVariants as keyword
+use Rattle.cc_tokens.specs.declared.token.Punctuator.TheVariants as punctuator
+use Rattle.cc_tokens.specs.declared.token.TokenKind.{TokenKind}
+use Rattle.cc_tokens.specs.declared.token.TokenKind.TheVariants as kind
 use Rattle.cc_syntax.specs.declared.parser.role.Role.{Role}
 use Rattle.cc_syntax.specs.declared.parser.role.Role.TheVariants as role
-use Rattle.cc_syntax.specs.Token.{Lexeme}
+use Rattle.cc_tokens.specs.Token.{Lexeme}
 use Rattle.cc_syntax.specs.Tree.{Name, Expr, Declared, Action, Start, Declares, Performs, Stmt, Block, Local, Perform, Return, Break, Continue, If, IfElse, While, DoWhile, For, Stmts, end, next}
 use Rattle.cc_syntax.specs.Roles.{role_of}
 use Rattle.cc_syntax.specs.Grammar.{Placed, outside, full, begins, Marks, SpellsExpression, SpellsOptional, SpellsOptionalAction, SpellsStart, SpellsStatement, SpellsStatements, IsStatement, IsClosed}

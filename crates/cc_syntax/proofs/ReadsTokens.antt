@@ -1,12 +1,12 @@
 -- The loop over all tokens: what each of its exits answers.
 use Rattle.std.proofs.Common.{◌≡◌, ◌<◌, ◌≤◌, ◌+◌, ℕ, suc, List, [], ◌∷◌, length, take, get_or, Some, None, Result, Ok, Err, refl, sym, ap, subst, arith}
 use Rattle.std.proofs.lemmas.List.{take_all}
-use Rattle.cc_syntax.specs.declared.token.Token.{Token}
+use Rattle.cc_tokens.specs.declared.token.Token.{Token}
 use Rattle.cc_syntax.specs.declared.parser.state.State as state
 use Rattle.cc_syntax.specs.declared.parser.stop.Stop as stop
 use Rattle.cc_syntax.specs.declared.parser.stop.Stop.TheVariants as stops
 use Rattle.cc_syntax.specs.declared.parser.stop.Refusal.TheVariants as refusals
-use Rattle.cc_syntax.specs.Token.{Lexeme, lexeme, lexemes}
+use Rattle.cc_tokens.specs.Token.{Lexeme, lexeme, lexemes}
 use Rattle.cc_syntax.specs.Tree.{External}
 use Rattle.cc_syntax.specs.Limits.{SpellsWithin}
 use Rattle.cc_syntax.specs.Machine.{State, AtFile, Between, count_of, tree_of}

@@ -1,9 +1,9 @@
 -- What the tokens of a full expression that have come spell: for what waits, a relation with the tokens behind which it
 -- waits. Reading a token keeps it (KeepsExpression).
 use Rattle.std.proofs.Common.{◌≡◌, ◌≤◌, ℕ, suc, List, [], ◌∷◌, ◌++◌}
-use Rattle.cc_syntax.specs.declared.ast.Scalar.{Scalar}
-use Rattle.cc_syntax.specs.declared.token.Punctuator.TheVariants as punctuator
-use Rattle.cc_syntax.specs.Token.{Lexeme}
+use Rattle.cc_tokens.specs.declared.scalar.Scalar.{Scalar}
+use Rattle.cc_tokens.specs.declared.token.Punctuator.TheVariants as punctuator
+use Rattle.cc_tokens.specs.Token.{Lexeme}
 use Rattle.cc_syntax.specs.Tree.{Expr, Exprs, none, more}
 use Rattle.cc_syntax.specs.Grammar.{identifier, Marks, IsKeyword, sign_word, SpellsType, SpellsExpression, SpellsArguments, precedence, unary_punctuator, binary_punctuator}
 use Rattle.cc_syntax.specs.Machine.{Waiting, Parenthesis, Index, Arguments, Prefix, Casting, Infix, Then, Otherwise}

@@ -2,10 +2,10 @@
 -- parts are still missing, with them the tokens spell the statement. So it is proved once, where the statement begins, and
 -- each further token takes a part away.
 use Rattle.std.proofs.Common.{◌≡◌, ℕ, suc, List, [], ◌∷◌, ◌++◌, ◌⊎◌, length, map, Option, Some}
-use Rattle.cc_syntax.specs.declared.ast.Scalar.{Scalar}
-use Rattle.cc_syntax.specs.declared.token.Keyword.TheVariants as keyword
-use Rattle.cc_syntax.specs.declared.token.Punctuator.TheVariants as punctuator
-use Rattle.cc_syntax.specs.Token.{Lexeme}
+use Rattle.cc_tokens.specs.declared.scalar.Scalar.{Scalar}
+use Rattle.cc_tokens.specs.declared.token.Keyword.TheVariants as keyword
+use Rattle.cc_tokens.specs.declared.token.Punctuator.TheVariants as punctuator
+use Rattle.cc_tokens.specs.Token.{Lexeme}
 use Rattle.cc_syntax.specs.Tree.{Expr, Action, Step, Declared, Start, Declares, Performs, Stmt, Local, Perform, Return, If, IfElse, While, DoWhile, For, Stmts, Signature, External}
 use Rattle.cc_syntax.specs.Grammar.{Placed, outside, full, begins, identifier, Marks, IsKeyword, sign_word, assignment_punctuator, step_punctuator, SpellsType, SpellsExpression, SpellsTarget, SpellsAction, SpellsRow, SpellsDeclared, SpellsLocal, SpellsOptional, SpellsOptionalAction, SpellsStart, SpellsStatement, SpellsStatements, IsStatement, IsClosed, SpellsSignature, AreNamed, SpellsExternals}
 use Rattle.cc_syntax.specs.Machine.{Stage, Item, AfterThen, AfterDo, Testing, Ending, Returning, ForOpening, ForStarting, ForTesting, ForStepping, LocalSign, Declaring, HasDeclared, Stepping, StepNamed, Stepped, Purpose, ToPerform, ToAssign, ToStep, ToReturn, ToTest, ToGoOn, ToInitialise, Test, ForIf, ForWhile, ForDo, Position, AsLocal, AsHeader, Spot, AsStatement, AsStart, AsLast, Open, InBlock, InThen, InElse, InWhile, InDo, InFor}

@@ -1,9 +1,9 @@
 -- What the tokens before a state spell: at file scope, in a body, in a full expression.
 use Rattle.std.proofs.Common.{◌≡◌, ℕ, List, [], ◌∷◌, ◌++◌, map, Option, IfSome}
-use Rattle.cc_syntax.specs.declared.ast.Scalar.{Scalar}
-use Rattle.cc_syntax.specs.declared.token.Keyword.TheVariants as keyword
-use Rattle.cc_syntax.specs.declared.token.Punctuator.TheVariants as punctuator
-use Rattle.cc_syntax.specs.Token.{Lexeme}
+use Rattle.cc_tokens.specs.declared.scalar.Scalar.{Scalar}
+use Rattle.cc_tokens.specs.declared.token.Keyword.TheVariants as keyword
+use Rattle.cc_tokens.specs.declared.token.Punctuator.TheVariants as punctuator
+use Rattle.cc_tokens.specs.Token.{Lexeme}
 use Rattle.cc_syntax.specs.Tree.{Signature, External}
 use Rattle.cc_syntax.specs.Grammar.{Placed, outside, full, identifier, Marks, IsKeyword, sign_word, SpellsType, SpellsRow, BeginsAt, SpellsConstantExpr, SpellsOptionalConstant, SpellsObject, SpellsParameter, SpellsResult, SpellsSignature, SpellsExternals}
 use Rattle.cc_syntax.specs.Machine.{State, AtFile, InBody, InFull, Outer, Between, ResultSign, Typed, Named, Parameters, OnlyVoid, ParameterNext, ParameterSign, ParameterTyped, ParameterNamed, Headed, ObjectNext, ObjectNamed, Sizing, Sized, Initialising, Listing, Valuing, Listed, Phase, Context, OfBody, OfObject, Part, ToSize, ToSingle, ToValue, Naming, Waiting, count_of}

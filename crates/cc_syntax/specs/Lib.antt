@@ -1,13 +1,6 @@
 pub mod Tree
 pub mod Erase
-pub mod Token
-pub mod Place
-pub mod Fault
 pub mod Source
-pub mod Spelling
-pub mod Constant
-pub mod Tokens
-pub mod Scan
 pub mod Grammar
 pub mod Limits
 pub mod Roles

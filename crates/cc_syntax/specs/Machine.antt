@@ -1,8 +1,8 @@
 -- What the parser's own functions compute, token by token. No public contract cites this file: `parse` is stated by
 -- Grammar and Limits, and that the two agree is proved in proofs/.
 use Rattle.std.specs.Prelude.{ℕ, suc, Bool, true, false, ◌&&◌, List, [], ◌∷◌, ◌++◌, length, Option, Some, None, is_some, nat_le, if◌then◌else◌}
-use Rattle.cc_syntax.specs.declared.ast.Scalar.{Scalar}
-use Rattle.cc_syntax.specs.declared.ast.Scalar.TheVariants as scalar
+use Rattle.cc_tokens.specs.declared.scalar.Scalar.{Scalar}
+use Rattle.cc_tokens.specs.declared.scalar.Scalar.TheVariants as scalar
 use Rattle.cc_syntax.specs.declared.ast.UnaryOperator.{UnaryOperator}
 use Rattle.cc_syntax.specs.declared.ast.UnaryOperator.TheVariants as unary
 use Rattle.cc_syntax.specs.declared.ast.BinaryOperator.{BinaryOperator}
@@ -13,7 +13,7 @@ use Rattle.cc_syntax.specs.declared.ast.StepOperator.{StepOperator}
 use Rattle.cc_syntax.specs.declared.parser.role.Role.{Role}
 use Rattle.cc_syntax.specs.declared.parser.role.Role.TheVariants as role
 use Rattle.cc_syntax.specs.Roles.{role_of}
-use Rattle.cc_syntax.specs.Token.{Lexeme}
+use Rattle.cc_tokens.specs.Token.{Lexeme}
 use Rattle.cc_syntax.specs.Tree.{Name, Expr, Number, Variable, Element, Call, Parenthesised, Unary, Cast, Binary, Conditional, Exprs, none, more, Target, AtVariable, AtElement, Action, Assign, Step, Evaluate, Declared, Start, Declares, Performs, Stmt, Block, Local, Perform, Return, Break, Continue, If, IfElse, While, DoWhile, For, Stmts, end, next, ConstantExpr, Parameter, Signature, Object, Single, Array, External, Declaration, Definition, Objects}
 use Rattle.cc_syntax.specs.Grammar.{Placed, precedence}
 

@@ -1,15 +1,15 @@
 -- What a token is to the grammar.
-use Rattle.cc_syntax.specs.declared.ast.Scalar.TheVariants as scalar
+use Rattle.cc_tokens.specs.declared.scalar.Scalar.TheVariants as scalar
 use Rattle.cc_syntax.specs.declared.ast.UnaryOperator.TheVariants as unary
 use Rattle.cc_syntax.specs.declared.ast.BinaryOperator.TheVariants as binary
 use Rattle.cc_syntax.specs.declared.ast.AssignmentOperator.TheVariants as assignment
 use Rattle.cc_syntax.specs.declared.ast.StepOperator.TheVariants as stepping
-use Rattle.cc_syntax.specs.declared.token.Keyword.{Keyword}
-use Rattle.cc_syntax.specs.declared.token.Keyword.TheVariants as keyword
-use Rattle.cc_syntax.specs.declared.token.Punctuator.{Punctuator}
-use Rattle.cc_syntax.specs.declared.token.Punctuator.TheVariants as punctuator
-use Rattle.cc_syntax.specs.declared.token.TokenKind.{TokenKind}
-use Rattle.cc_syntax.specs.declared.token.TokenKind.TheVariants as kind
+use Rattle.cc_tokens.specs.declared.token.Keyword.{Keyword}
+use Rattle.cc_tokens.specs.declared.token.Keyword.TheVariants as keyword
+use Rattle.cc_tokens.specs.declared.token.Punctuator.{Punctuator}
+use Rattle.cc_tokens.specs.declared.token.Punctuator.TheVariants as punctuator
+use Rattle.cc_tokens.specs.declared.token.TokenKind.{TokenKind}
+use Rattle.cc_tokens.specs.declared.token.TokenKind.TheVariants as kind
 use Rattle.cc_syntax.specs.declared.parser.role.Role.{Role}
 use Rattle.cc_syntax.specs.declared.parser.role.Role.TheVariants as role
 

@@ -2,8 +2,8 @@
 use Rattle.std.specs.Prelude.{◌≡◌, ◌≤◌, ℕ, List, length, Result, Ok, Err}
 use Rattle.cc_syntax.specs.Tree.{Source, External}
 use Rattle.cc_syntax.specs.Erase.{external_trees}
-use Rattle.cc_syntax.specs.declared.fault.SyntaxFault.{SyntaxFault}
-use Rattle.cc_syntax.specs.declared.fault.SyntaxFault.TheVariants.{OutOfMemory}
+use Rattle.cc_tokens.specs.declared.fault.SyntaxFault.{SyntaxFault}
+use Rattle.cc_tokens.specs.declared.fault.SyntaxFault.TheVariants.{OutOfMemory}
 use Rattle.cc_syntax.specs.declared.unit.Unit.{Unit}
 use Rattle.cc_syntax.specs.Parse.{SpellsText, IsParseRefusal}
 

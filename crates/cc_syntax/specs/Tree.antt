@@ -1,6 +1,6 @@
 -- The syntax tree, without where it lies in memory.
 use Rattle.std.specs.Prelude.{ℕ, List, Option}
-use Rattle.cc_syntax.specs.declared.ast.Scalar.{Scalar}
+use Rattle.cc_tokens.specs.declared.scalar.Scalar.{Scalar}
 use Rattle.cc_syntax.specs.declared.ast.UnaryOperator.{UnaryOperator}
 use Rattle.cc_syntax.specs.declared.ast.BinaryOperator.{BinaryOperator}
 use Rattle.cc_syntax.specs.declared.ast.AssignmentOperator.{AssignmentOperator}

@@ -1,15 +1,10 @@
 // The syntax tree. It keeps the offset in the text of each token that a fault may name, and a node for each pair of
 // parentheses, so that a list of tokens spells one tree at most.
 
-/// The type of a number, a variable or a value: `int` or `unsigned int` (C99 6.2.5).
-#[derive(Clone, Copy, PartialEq, Eq, Debug)]
-pub enum Scalar {
-    Int,
-    Unsigned,
-}
+use cc_tokens::Scalar;
 
 /// A unary operator: `+`, `-`, `~`, `!` (C99 6.5.3.3).
-#[derive(Clone, Copy, PartialEq, Eq, Debug)]
+#[derive(Clone, Copy)]
 pub enum UnaryOperator {
     Plus,
     Minus,
@@ -19,7 +14,7 @@ pub enum UnaryOperator {
 
 /// A binary operator (C99 6.5.5 to 6.5.14). `And`, `Xor` and `Or` go bit by bit; `LogicalAnd` and `LogicalOr` are `&&` and
 /// `||`, which evaluate their right operand only where they need it.
-#[derive(Clone, Copy, PartialEq, Eq, Debug)]
+#[derive(Clone, Copy)]
 pub enum BinaryOperator {
     Multiply,
     Divide,
@@ -42,7 +37,7 @@ pub enum BinaryOperator {
 }
 
 /// An assignment operator (C99 6.5.16): `=`, or one that applies a binary operator to the old value first.
-#[derive(Clone, Copy, PartialEq, Eq, Debug)]
+#[derive(Clone, Copy)]
 pub enum AssignmentOperator {
     Plain,
     Multiply,
@@ -58,7 +53,7 @@ pub enum AssignmentOperator {
 }
 
 /// `++` or `--`, before or behind what it changes (C99 6.5.2.4, 6.5.3.1).
-#[derive(Clone, Copy, PartialEq, Eq, Debug)]
+#[derive(Clone, Copy)]
 pub enum StepOperator {
     Increment,
     Decrement,

@@ -17,8 +17,8 @@ mod step;
 mod stop;
 
 ghost use Rattle.std.specs.Prelude.{◌≡◌, ◌≤◌, length, IfOk, IfErr};
-ghost use Rattle.cc_syntax.specs.Token.{lexemes};
-ghost use Rattle.cc_syntax.specs.Tokens.{AreInOrder, IsTokens};
+ghost use Rattle.cc_tokens.specs.Token.{lexemes};
+ghost use Rattle.cc_tokens.specs.Tokens.{AreInOrder, IsTokens};
 ghost use Rattle.cc_syntax.specs.Erase.{external_trees};
 ghost use Rattle.cc_syntax.specs.MachineView.{Refuses};
 ghost use Rattle.cc_syntax.specs.Parse.{SpellsText, IsParseRefusal, place_at_token};

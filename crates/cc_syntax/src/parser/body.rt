@@ -5,7 +5,7 @@ ghost use Rattle.cc_syntax.specs.Erase.{name_tree, expression_tree, statement_tr
 ghost use Rattle.cc_syntax.specs.Tree.{Step};
 ghost use Rattle.cc_syntax.specs.Machine.{name_of, action_step, item_step, do_step, resting_step, else_step, testing_step, ending_step, returning_step, for_opening_step, for_starting_step, for_testing_step, for_stepping_step, declaring_step, local_sign_step, declared_step, stepping_step, step_named_step, body_step, stage_count, acted};
 ghost use Rattle.cc_syntax.specs.MachineView.{body_view, stage_view, state_view, spot_view, test_view, position_view, Gives};
-ghost use Rattle.cc_syntax.specs.Token.{lexeme};
+ghost use Rattle.cc_tokens.specs.Token.{lexeme};
 
 use crate::ast::{
     Action, AssignmentOperator, Beginning, Declarator, Expression, Identifier, Scalar, Statement,

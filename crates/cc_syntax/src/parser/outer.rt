@@ -5,7 +5,7 @@ ghost use Rattle.std.specs.Option.{option_map};
 ghost use Rattle.cc_syntax.specs.Erase.{name_tree, external_trees, signature_tree, parameter_trees, optional_constant, constant_trees, object_trees};
 ghost use Rattle.cc_syntax.specs.Machine.{name_of, external_step, typed_step, result_sign_step, object_step, named_step, parameter_step, parameters_step, only_void_step, parameter_named_step, parameter_typed_step, parameter_sign_step, headed_step, object_next_step, sizing_step, sized_step, listing_step, end_list, valuing_step, outer_step, with_parameter, signature_of, all_named};
 ghost use Rattle.cc_syntax.specs.MachineView.{naming_view, outer_view, state_view, Gives};
-ghost use Rattle.cc_syntax.specs.Token.{lexeme};
+ghost use Rattle.cc_tokens.specs.Token.{lexeme};
 
 use crate::ast::{
     AssignmentOperator, ConstantExpression, External, Identifier, Object, Parameter, Scalar,

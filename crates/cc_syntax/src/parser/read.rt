@@ -6,8 +6,8 @@ ghost use Rattle.cc_syntax.specs.Erase.{external_trees};
 ghost use Rattle.cc_syntax.specs.Machine.{count_of, tree_of};
 ghost use Rattle.cc_syntax.specs.Limits.{SpellsWithin};
 ghost use Rattle.cc_syntax.specs.MachineView.{state_view, Advances, Refuses};
-ghost use Rattle.cc_syntax.specs.Token.{lexeme, lexemes};
-ghost use Rattle.cc_syntax.specs.Tokens.{AreInOrder};
+ghost use Rattle.cc_tokens.specs.Token.{lexeme, lexemes};
+ghost use Rattle.cc_tokens.specs.Tokens.{AreInOrder};
 
 use crate::ast::External;
 use crate::parser::role::of_kind;

@@ -3,7 +3,7 @@
 ghost use Rattle.std.specs.Prelude.{◌≡◌, ◌<◌, ◌≤◌, ◌^◌, length, IfSome};
 ghost use Rattle.cc_syntax.specs.Machine.{name_of, role_step, role_level, count_of, item_level, resting_depth, stage_level};
 ghost use Rattle.cc_syntax.specs.MachineView.{state_view, stage_view, open_views, Gives};
-ghost use Rattle.cc_syntax.specs.Token.{lexeme};
+ghost use Rattle.cc_tokens.specs.Token.{lexeme};
 
 use crate::parser::body::step_body;
 use crate::parser::full::step_full;

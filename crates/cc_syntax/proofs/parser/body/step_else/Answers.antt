@@ -4,7 +4,7 @@ use Rattle.cc_syntax.specs.declared.ast.Statement.{Statement}
 use Rattle.cc_syntax.specs.Erase.{expression_tree, statement_tree}
 use Rattle.cc_syntax.specs.Machine.{Inside, Stage, State, name_of, settled, resting_step}
 use Rattle.cc_syntax.specs.MachineView.{body_view, state_view, Gives}
-use Rattle.cc_syntax.specs.Token.{lexeme}
+use Rattle.cc_tokens.specs.Token.{lexeme}
 use Rattle.cc_syntax.specs.Tree.{If}
 use Rattle.cc_syntax.proofs.OtherRoles.{else-other}
 use Rattle.cc_syntax.proofs.parser.body.step_else.Goals as goal

@@ -2,7 +2,7 @@
 use Rattle.cc_syntax.specs.Erase.{beginning_tree, optional_tree}
 use Rattle.cc_syntax.specs.Machine.{name_of}
 use Rattle.cc_syntax.specs.MachineView.{body_view}
-use Rattle.cc_syntax.specs.Token.{lexeme}
+use Rattle.cc_tokens.specs.Token.{lexeme}
 use Rattle.cc_syntax.proofs.OtherRoles.{for_stepping-other}
 use Rattle.cc_syntax.proofs.parser.body.step_for_stepping.Goals as goal
 

@@ -1,5 +1,5 @@
 use Rattle.std.proofs.Common.{length, Err, Result, ap, ◌∙◌, sym, arith}
-use Rattle.cc_syntax.specs.declared.token.TokenKind.TheVariants.{Identifier}
+use Rattle.cc_tokens.specs.declared.token.TokenKind.TheVariants.{Identifier}
 use Rattle.cc_syntax.specs.declared.parser.stop.Stop as stop
 use Rattle.cc_syntax.specs.declared.parser.state.State as state
 use Rattle.std.specs.Option.{option_map}
