@@ -52,7 +52,7 @@ pub enum AssignmentOperator {
     Or,
 }
 
-/// `++` or `--`, before or behind what it changes (C99 6.5.2.4, 6.5.3.1).
+/// `++` or `--`, before or after what it changes (C99 6.5.2.4, 6.5.3.1).
 #[derive(Clone, Copy)]
 pub enum StepOperator {
     Increment,
@@ -88,23 +88,23 @@ pub enum Expression {
 #[derive(Drop)]
 pub enum Target {
     Variable(Identifier),
-    Element(Identifier, Expression),
+    Element(Identifier, Box<Expression>),
 }
 
 /// What an expression statement or a part of a `for` header does: an assignment, an increment or decrement, or an
 /// expression whose value is not used (C99 6.8.3).
 #[derive(Drop)]
 pub enum Action {
-    Assign(AssignmentOperator, Target, Expression),
+    Assign(AssignmentOperator, Target, Box<Expression>),
     Step(StepOperator, Target),
-    Evaluate(Expression),
+    Evaluate(Box<Expression>),
 }
 
 /// One name of a declaration of locals, with its initialiser where it has one (C99 6.7).
 #[derive(Drop)]
 pub struct Declarator {
     pub name: Identifier,
-    pub initial: Option<Expression>,
+    pub initial: Option<Box<Expression>>,
 }
 
 /// The first part of a `for` header: a declaration of locals, or an action where there is one (C99 6.8.5.3).
@@ -122,24 +122,24 @@ pub enum Statement {
     /// An expression statement; nothing for a semicolon alone.
     Perform(Option<Action>),
     /// `return`: the offset of the word, and the value where there is one.
-    Return(usize, Option<Expression>),
+    Return(usize, Option<Box<Expression>>),
     /// `break`: the offset of the word.
     Break(usize),
     /// `continue`: the offset of the word.
     Continue(usize),
-    If(Expression, Box<Statement>),
-    IfElse(Expression, Box<Statement>, Box<Statement>),
-    While(Expression, Box<Statement>),
-    DoWhile(Box<Statement>, Expression),
+    If(Box<Expression>, Box<Statement>),
+    IfElse(Box<Expression>, Box<Statement>, Box<Statement>),
+    While(Box<Expression>, Box<Statement>),
+    DoWhile(Box<Statement>, Box<Expression>),
     /// `for`: what it begins with, the condition where there is one, what follows each turn, and the body.
-    For(Beginning, Option<Expression>, Option<Action>, Box<Statement>),
+    For(Box<Beginning>, Option<Box<Expression>>, Option<Action>, Box<Statement>),
 }
 
 /// A constant expression (C99 6.6), and the offset of its first token in the text.
 #[derive(Drop)]
 pub struct ConstantExpression {
     pub at: usize,
-    pub expression: Expression,
+    pub expression: Box<Expression>,
 }
 
 /// A parameter of a function; only a declaration may leave its name out (C99 6.7.5.3).

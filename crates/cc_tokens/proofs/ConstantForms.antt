@@ -47,7 +47,7 @@ suffix_found [] false e = none
 suffix_found (a ∷ []) s e = cond_both (a == 117 || a == 85) (Some true) None (λ o. o ≡ Some s → IsSuffix (a ∷ []) s) (λ is_suffix e'. subst (IsSuffix (a ∷ [])) (some_same _ _ e') (unsigned (⊎_elim (λ x. inl (eqb-true a 117 x)) (λ x. inr (eqb-true a 85 x)) (or_cases (a == 117) (a == 85) is_suffix)))) (λ no e'. absurd (none_some _ e')) e
 suffix_found (a ∷ b ∷ bs) s e = absurd (none_some _ (sym (long_suffix a b bs) ∙ e))
 
--- what stands behind the prefix: digits, as many as fit, and a suffix
+-- what stands after the prefix: digits, as many as fit, and a suffix
 record IsBehind (base n : ℕ) (behind : List ℕ) (c : Constant) : Type 0 where
   base_is : c.base ≡ base
   digits_are : c.digits ≡ take n behind
@@ -86,7 +86,7 @@ hexadecimal_digits x bs zero fits letter some = absurd (let e = some refl in ome
 hexadecimal_digits x [] (suc n) fits letter some = absurd (omega arith)
 hexadecimal_digits x (b ∷ bs) (suc n) fits letter some = hexadecimal letter
 
--- the constant behind a prefix is spelled by the prefix and what stands behind it
+-- the constant after a prefix is spelled by the prefix and what stands after it
 spelled_behind : (c : Constant) (text prefix behind : List ℕ) (base : ℕ) → text ≡ prefix ++ behind
     → IsBehind base (prefix_len (is_digit_of base) behind) behind c
     → IsPrefix prefix base (take (prefix_len (is_digit_of base) behind) behind)
@@ -161,7 +161,7 @@ suffix_is _ _ (unsigned {x} letter) =
     let is_letter : (x == 117 || x == 85) ≡ true = ⊎_elim (λ e. or_left (x == 117) (x == 85) (eq-eqb x 117 e)) (λ e. or_right (x == 117) (x == 85) (eq-eqb x 85 e)) letter in
     cond-true (x == 117 || x == 85) (Some true) None is_letter
 
--- digits and a suffix behind a prefix are found
+-- digits and a suffix after a prefix are found
 behind_is_found : (base : ℕ) (digits suffix : List ℕ) (s : Bool) → base ≤ 16 → (length digits ≡ 0 → base ≡ 8)
     → AllByRecursion (λ b. IsTrue (is_digit_of base b)) digits → IsSuffix suffix s
     → constant_behind base (prefix_len (is_digit_of base) (digits ++ suffix)) (digits ++ suffix) ≡ Some (record { base = base; digits = digits; suffixed = s })
@@ -174,7 +174,7 @@ behind_is_found base digits suffix s small some all ended =
     ∙ ap (λ ds. with_suffix base ds (suffix_of (drop (length digits) (digits ++ suffix)))) (take_at digits suffix (length digits) refl)
     ∙ ap (with_suffix base digits) (ap suffix_of (drop_at digits suffix (length digits) refl) ∙ suffix_is suffix s ended)
 
--- behind `0`, octal digits and a suffix begin with no x
+-- after `0`, octal digits and a suffix begin with no x
 no_hexadecimal : (digits suffix : List ℕ) (s : Bool) → AllByRecursion (λ b. IsTrue (is_digit_of 8 b)) digits → IsSuffix suffix s → (get_or (digits ++ suffix) 0 0 == 120 || get_or (digits ++ suffix) 0 0 == 88) ≡ false
 no_hexadecimal [] _ _ all none = refl
 no_hexadecimal [] _ _ all (unsigned {x} letter) = ⊎_elim (λ e. subst (λ y. (y == 120 || y == 88) ≡ false) (sym e) refl) (λ e. subst (λ y. (y == 120 || y == 88) ≡ false) (sym e) refl) letter

@@ -27,7 +27,7 @@ pub record FoundBefore (text : List ℕ) (ts : List Token) (at : ℕ) : Type 0 w
 pub found_none : (text : List ℕ) → FoundBefore text [] 0
 found_none text = record { within = omega arith; pieces = []; cut = refl; consumed = refl; tokens = refl; ordered = omega arith }
 
--- tokens in order, with more room behind them, and with one more
+-- tokens in order, with more room after them, and with one more
 order_grows : (low : ℕ) (ts : List Token) (at high : ℕ) → AreInOrder low ts at → at ≤ high → AreInOrder low ts high
 order_grows low [] at high ordered le = omega arith
 order_grows low (t ∷ ts) at high ordered le = (ordered.0, ordered.1, order_grows t.to ts at high ordered.2 le)

@@ -1,5 +1,5 @@
 -- Texts with their tokens, or with their first flaw, worked by hand: a comment ends a token, blanks that two signs need,
--- and a number that goes on behind its exponent letter.
+-- and a number that goes on after its exponent letter.
 use Rattle.std.proofs.Common.{◌≡◌, ℕ, ◌+◌, ◌<◌, List, [], ◌∷◌, ◌++◌, length, drop, refl, subst, arith}
 use lib.Chars.{codes}
 use Rattle.cc_tokens.specs.declared.scalar.Scalar.TheVariants.{Int}

@@ -5,7 +5,7 @@ use Rattle.std.specs.Char.{digit_value}
 use Rattle.cc_tokens.specs.declared.scalar.Scalar.{Scalar}
 use Rattle.cc_tokens.specs.declared.scalar.Scalar.TheVariants.{Int, Unsigned}
 
--- a constant: its base, its digits behind the prefix, and whether a suffix `u` or `U` stands behind them
+-- a constant: its base, its digits after the prefix, and whether a suffix `u` or `U` stands after them
 pub record Constant : Type 0 where
   pub base : ℕ
   pub digits : List ℕ

@@ -29,11 +29,11 @@ is_nondigit b = is_ascii_alphabetic b || b == 95
 abbrev pub continues_word : ℕ → ℕ → Bool
 continues_word before b = is_nondigit b || is_ascii_digit b
 
--- a letter behind which a sign goes on with a number: e, E, p, P
+-- a letter after which a sign goes on with a number: e, E, p, P
 abbrev pub is_exponent_letter : ℕ → Bool
 is_exponent_letter b = (b == 101 || b == 69) || (b == 112 || b == 80)
 
--- a byte that goes on with a number: a digit, a letter, `_`, `.`, or a sign directly behind e, E, p or P (6.4.8)
+-- a byte that goes on with a number: a digit, a letter, `_`, `.`, or a sign directly after e, E, p or P (6.4.8)
 abbrev pub continues_number : ℕ → ℕ → Bool
 continues_number before b = (continues_word before b || b == 46) || (is_exponent_letter before && (b == 43 || b == 45))
 
@@ -91,7 +91,7 @@ abbrev pub Nowhere : (List ℕ → Bool) → List ℕ → List ℕ → Type 0
 Nowhere test [] after = Unit {0}
 Nowhere test (b ∷ front) after = (test (b ∷ front ++ after) ≡ false) × Nowhere test front after
 
--- a comment, before what follows it: `/*` up to the first `*/` behind it, or `//` up to the end of the line or of the
+-- a comment, before what follows it: `/*` up to the first `*/` after it, or `//` up to the end of the line or of the
 -- text (6.4.9)
 pub data IsComment : List ℕ → List ℕ → Type 0 where
   block : {after : List ℕ} (body : List ℕ) → Nowhere begins_close body (42 ∷ 47 ∷ after) → IsComment (47 ∷ 42 ∷ body ++ (42 ∷ 47 ∷ [])) after
@@ -155,7 +155,7 @@ pub record IsSpliced (bytes : List ℕ) (offset : ℕ) : Type 0 where
   pub here : begins_splice (back ++ after) ≡ true
   pub at : offset ≡ length front
 
--- the bytes begin with `/*`, and no `*/` stands behind it
+-- the bytes begin with `/*`, and no `*/` stands after it
 pub record IsUnclosed (bytes : List ℕ) : Type 0 where
   pub body : List ℕ
   pub whole : bytes ≡ 47 ∷ 42 ∷ body
@@ -203,7 +203,7 @@ flaw_fault UnclosedComment p = fault.UnclosedComment p
 flaw_fault BadConstant p = fault.BadConstant p
 flaw_fault ConstantTooLarge p = fault.ConstantTooLarge p
 
--- the tokens stand one behind the other from low up to high, each of one byte at least
+-- the tokens stand one after the other from low up to high, each of one byte at least
 abbrev pub AreInOrder : (low : ℕ) → List Token → (high : ℕ) → Type 0
 AreInOrder low [] high = low ≤ high
 AreInOrder low (t ∷ ts) high = (low ≤ t.from) × (t.from < t.to) × AreInOrder t.to ts high

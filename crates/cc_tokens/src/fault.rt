@@ -31,7 +31,7 @@ pub enum SyntaxFault {
     /// 7: a text of more than 65,536 bytes.
     #[error("SourceTooLarge")]
     SourceTooLarge,
-    /// 40: memory was refused.
+    /// 40: memory ran out.
     #[error("OutOfMemory")]
     OutOfMemory,
 }

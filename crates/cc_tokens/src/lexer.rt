@@ -33,7 +33,7 @@ fn fault_at(text: &[u8], flaw: Flaw, at: usize) -> SyntaxFault
 ///
 /// Refusals: 7 where the text has more than 65,536 bytes, before all others; then the first of 1 to 4 in the text, at
 /// its first byte: 1 a byte that begins no token, or a line splice in a comment, 2 a comment that is never closed, 3 a
-/// number that is no constant, 4 a constant past its type's range; 40 where memory for the tokens was refused.
+/// number that is no constant, 4 a constant past its type's range; 40 where memory for the tokens ran out.
 pub fn tokens(alloc: Global, text: &[u8]) -> Result<Vec<Token>, SyntaxFault>
     ensures fits { IfOk result (λ ts. length text.now ≤ 65536) }
     ensures ordered { IfOk result (λ ts. AreInOrder 0 ts.items (length text.now)) }

@@ -71,7 +71,7 @@ suffix_of bytes =
     else (if length bytes == 1 && (slice_index bytes 0 == 117 || slice_index bytes 0 == 85) then Some true
     else None)
 
--- the constant behind a prefix, of which n bytes are digits
+-- the constant after a prefix, of which n bytes are digits
 abbrev pub with_suffix : ℕ → List ℕ → Option Bool → Option Constant
 with_suffix base digits None = None
 with_suffix base digits (Some suffixed) = Some (record { base = base; digits = digits; suffixed = suffixed })

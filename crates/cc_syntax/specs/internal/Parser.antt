@@ -12,10 +12,10 @@ use Rattle.cc_syntax.specs.declared.ast.AssignmentOperator.TheVariants as assign
 use Rattle.cc_syntax.specs.declared.ast.StepOperator.{StepOperator}
 use Rattle.cc_syntax.specs.declared.parser.role.Role.{Role}
 use Rattle.cc_syntax.specs.declared.parser.role.Role.TheVariants as role
-use Rattle.cc_syntax.specs.Roles.{role_of}
+use Rattle.cc_syntax.specs.internal.Roles.{role_of}
 use Rattle.cc_tokens.specs.Token.{Lexeme}
-use Rattle.cc_syntax.specs.Tree.{Name, Expr, Number, Variable, Element, Call, Parenthesised, Unary, Cast, Binary, Conditional, Exprs, none, more, Target, AtVariable, AtElement, Action, Assign, Step, Evaluate, Declared, Start, Declares, Performs, Stmt, Block, Local, Perform, Return, Break, Continue, If, IfElse, While, DoWhile, For, Stmts, end, next, ConstantExpr, Parameter, Signature, Object, Single, Array, External, Declaration, Definition, Objects}
-use Rattle.cc_syntax.specs.Grammar.{Placed, precedence}
+use Rattle.cc_syntax.specs.Tree.{Name, Expr, Number, Variable, Element, Call, Parenthesised, Unary, Cast, Binary, Conditional, Exprs, none, more, Target, AtVariable, AtElement, Action, Assign, Step, Evaluate, Declarator, Beginning, Declares, Performs, Stmt, Block, Local, Perform, Return, Break, Continue, If, IfElse, While, DoWhile, For, Stmts, end, next, ConstantExpr, Parameter, Signature, Object, Single, Array, External, Declaration, Definition, Objects}
+use Rattle.cc_syntax.specs.Grammar.{Measured, precedence}
 
 -- what waits for an operand to its right, or for a closing token
 pub data Waiting : Type 0 where
@@ -35,7 +35,7 @@ pub data Open : Type 0 where
   InElse : Expr → Stmt → Open
   InWhile : Expr → Open
   InDo : Open
-  InFor : Start → Option Expr → Option Action → Open
+  InFor : Beginning → Option Expr → Option Action → Open
 
 -- a function's body so far: the external declarations before it, its finished statements, and those that are open, the
 -- innermost first
@@ -49,7 +49,7 @@ pub record Inside : Type 0 where
 pub data Spot : Type 0 where
   AsStatement : Spot
   AsStart : Spot
-  AsLast : Start → Option Expr → Spot
+  AsLast : Beginning → Option Expr → Spot
 
 -- what a condition in parentheses belongs to
 pub data Test : Type 0 where
@@ -69,8 +69,8 @@ pub data Purpose : Type 0 where
   ToStep : StepOperator → Name → Spot → Purpose
   ToReturn : ℕ → Purpose
   ToTest : Test → Purpose
-  ToGoOn : Start → Purpose
-  ToInitialise : Position → Scalar → List Declared → Name → Purpose
+  ToGoOn : Beginning → Purpose
+  ToInitialise : Position → Scalar → List Declarator → Name → Purpose
 
 -- a declaration of objects so far: their type, those that are complete, and a name
 pub record Naming : Type 0 where
@@ -95,7 +95,7 @@ pub record Full : Type 0 where
   pub waiting : List Waiting
   pub count : ℕ
 
--- what comes next in a full expression: an operand; what stands behind one; `int` or the end of a cast's type
+-- what comes next in a full expression: an operand; what stands after one; `int` or the end of a cast's type
 pub data Phase : Type 0 where
   Operand : Phase
   Operator : Expr → Phase
@@ -112,11 +112,11 @@ pub data Stage : Type 0 where
   Returning : ℕ → Stage
   ForOpening : Stage
   ForStarting : Stage
-  ForTesting : Start → Stage
-  ForStepping : Start → Option Expr → Stage
+  ForTesting : Beginning → Stage
+  ForStepping : Beginning → Option Expr → Stage
   LocalSign : Position → Scalar → Stage
-  Declaring : Position → Scalar → List Declared → Stage
-  HasDeclared : Position → Scalar → List Declared → Name → Stage
+  Declaring : Position → Scalar → List Declarator → Stage
+  HasDeclared : Position → Scalar → List Declarator → Name → Stage
   Stepping : StepOperator → Spot → Stage
   StepNamed : StepOperator → Name → Spot → Stage
   Stepped : StepOperator → Target → Spot → ℕ → Stage
@@ -193,7 +193,7 @@ full_of c ws n = record { context = c; waiting = ws; count = n }
 abbrev pub goes_on : Full → List Waiting → Phase → Option State
 goes_on f ws p = Some (InFull (full_of f.context ws (suc f.count)) p)
 
--- a full expression behind its first tokens
+-- a full expression after its first tokens
 abbrev pub begins_full : Context → ℕ → Option State
 begins_full c n = Some (InFull (full_of c [] n) Operand)
 
@@ -224,11 +224,11 @@ abbrev pub opens : Inside → Open → Option State
 opens b o = Some (InBody (inside_of b b.finished (o ∷ b.opened)) Item)
 
 -- the end of a declaration of locals
-abbrev pub declares : Inside → Position → Scalar → List Declared → Option State
+abbrev pub declares : Inside → Position → Scalar → List Declarator → Option State
 declares b AsLocal t ds = settle b (Local t ds)
 declares b AsHeader t ds = Some (InBody b (ForTesting (Declares t ds)))
 
--- the token behind an action
+-- the token after an action
 abbrev pub acted : Inside → Spot → Action → Role → Option State
 acted b AsStatement a role.Semicolon = settle b (Perform (Some a))
 acted b AsStart a role.Semicolon = Some (InBody b (ForTesting (Performs (Some a))))
@@ -241,10 +241,10 @@ tested b ForIf e = opens b (InThen e)
 tested b ForWhile e = opens b (InWhile e)
 tested b (ForDo s) e = Some (InBody b (Ending (DoWhile s e)))
 
-abbrev pub declared : Name → Option Expr → Declared
+abbrev pub declared : Name → Option Expr → Declarator
 declared n e = record { name = n; initial = e }
 
--- the token behind a full expression in a function's body
+-- the token after a full expression in a function's body
 abbrev pub end_in_body : Inside → Purpose → ℕ → Expr → Role → Option State
 end_in_body b (ToPerform p) k e r = acted b p (Evaluate e) r
 end_in_body b (ToAssign op t p) k e r = acted b p (Assign op t e) r
@@ -256,7 +256,7 @@ end_in_body b (ToInitialise w t ds n) k e role.Comma = Some (InBody b (Declaring
 end_in_body b (ToInitialise w t ds n) k e role.Semicolon = declares b w t (ds ++ declared n (Some e) ∷ [])
 end_in_body b _ k e _ = None
 
--- the token behind a complete object
+-- the token after a complete object
 abbrev pub separated : List External → Scalar → List Object → Role → Option State
 separated es t os role.Comma = Some (AtFile es (ObjectNext t os))
 separated es t os role.Semicolon = Some (AtFile (es ++ Objects t os ∷ []) Between)
@@ -269,25 +269,25 @@ constant at e = record { at = at; expr = e }
 abbrev pub with_object : Naming → Object → List Object
 with_object n o = n.objects ++ o ∷ []
 
--- the token behind a value of an array's list
+-- the token after a value of an array's list
 abbrev pub end_list_value : List External → Naming → Option ConstantExpr → List ConstantExpr → ConstantExpr → Role → Option State
 end_list_value es n size vs v role.Comma = Some (AtFile es (Valuing n size (vs ++ v ∷ [])))
 end_list_value es n size vs v role.CloseBrace = Some (AtFile es (Listed n.scalar (with_object n (Array n.name size (vs ++ v ∷ [])))))
 end_list_value es n size vs v _ = None
 
--- the token behind a constant expression
+-- the token after a constant expression
 abbrev pub end_in_object : List External → Naming → Part → Expr → Role → Option State
 end_in_object es n (ToSize at) e role.CloseBracket = Some (AtFile es (Sized n (Some (constant at e))))
 end_in_object es n (ToSize at) e _ = None
 end_in_object es n (ToSingle at) e r = separated es n.scalar (with_object n (Single n.name (Some (constant at e)))) r
 end_in_object es n (ToValue size vs at) e r = end_list_value es n size vs (constant at e) r
 
--- the token behind a full expression, of which so many tokens came
+-- the token after a full expression, of which so many tokens came
 abbrev pub end_full : Context → ℕ → Expr → Role → Option State
 end_full (OfBody b p) k e r = end_in_body b p k e r
 end_full (OfObject es n p) k e r = end_in_object es n p e r
 
--- a closing token behind an expression, with what waits for it
+-- a closing token after an expression, with what waits for it
 abbrev pub close : Full → Role → Expr × List Waiting → Option State
 close f r (e, []) = end_full f.context f.count e r
 close f role.CloseParenthesis (e, Parenthesis ∷ ws) = goes_on f ws (Operator (Parenthesised e))
@@ -297,15 +297,15 @@ close f role.Comma (e, Arguments n args ∷ ws) = goes_on f (Arguments n (with_a
 close f role.Colon (e, Then c ∷ ws) = goes_on f (Otherwise c e ∷ ws) Operand
 close f _ _ = None
 
--- a binary operator behind its left operand
+-- a binary operator after its left operand
 abbrev pub operate : Full → BinaryOperator → Expr × List Waiting → Option State
 operate f op r = goes_on f (Infix op r.0 ∷ r.1) Operand
 
--- a question mark behind its condition
+-- a question mark after its condition
 abbrev pub ask : Full → Expr × List Waiting → Option State
 ask f r = goes_on f (Then r.0 ∷ r.1) Operand
 
--- a parenthesis or bracket behind an operand, which is then a name
+-- a parenthesis or bracket after an operand, which is then a name
 abbrev pub open_name : Full → Expr → Role → Option State
 open_name f (Variable n) role.OpenParenthesis = goes_on f (Arguments n none ∷ f.waiting) Operand
 open_name f (Variable n) role.OpenBracket = goes_on f (Index n ∷ f.waiting) Operand
@@ -317,7 +317,7 @@ target_of (Variable n) = Some (AtVariable n)
 target_of (Element n e) = Some (AtElement n e)
 target_of _ = None
 
--- an assignment operator behind a target with which an action begins
+-- an assignment operator after a target with which an action begins
 abbrev pub assigns : Context → ℕ → AssignmentOperator → Option Target → Option State
 assigns (OfBody b (ToPerform p)) k op (Some t) = begins_full (OfBody b (ToAssign op t p)) (suc k)
 assigns _ k op _ = None
@@ -326,7 +326,7 @@ abbrev pub assign : Full → Expr → AssignmentOperator → List Waiting → Op
 assign f e op [] = assigns f.context f.count op (target_of e)
 assign f e op (w ∷ ws) = None
 
--- `++` or `--` behind a target with which an action begins
+-- `++` or `--` after a target with which an action begins
 abbrev pub steps : Context → ℕ → StepOperator → Option Target → Option State
 steps (OfBody b (ToPerform p)) k op (Some t) = Some (InBody b (Stepped op t p (suc k)))
 steps _ k op _ = None
@@ -335,7 +335,7 @@ abbrev pub step_target : Full → Expr → StepOperator → List Waiting → Opt
 step_target f e op [] = steps f.context f.count op (target_of e)
 step_target f e op (w ∷ ws) = None
 
--- a token behind an operand
+-- a token after an operand
 abbrev pub operator_step : Full → Expr → Role → Option State
 operator_step f e role.Plus = operate f binary.Add (reduced (precedence binary.Add) f.waiting e)
 operator_step f e role.Minus = operate f binary.Subtract (reduced (precedence binary.Subtract) f.waiting e)
@@ -347,7 +347,7 @@ operator_step f e (role.Assignment op) = assign f e op f.waiting
 operator_step f e (role.Step op) = step_target f e op f.waiting
 operator_step f e r = close f r (reduced 1 f.waiting e)
 
--- a word of a type, directly behind an opening parenthesis
+-- a word of a type, directly after an opening parenthesis
 abbrev pub cast : Full → Phase → List Waiting → Option State
 cast f p (Parenthesis ∷ ws) = goes_on f ws p
 cast f p _ = None
@@ -421,18 +421,18 @@ item_step b role.Int x = declare b (Declaring AsLocal scalar.Int []) b.opened
 item_step b (role.SignWord t) x = declare b (LocalSign AsLocal t) b.opened
 item_step b r x = action_step b AsStatement r x
 
--- the word behind the body of a `do`
+-- the word after the body of a `do`
 abbrev pub do_step : Inside → Stmt → Role → Option State
 do_step b s role.While = Some (InBody b (Testing (ForDo s)))
 do_step b s _ = None
 
--- a token behind a statement that no `else` follows
+-- a token after a statement that no `else` follows
 abbrev pub resting_step : Inside × Stage → Role → Name → Option State
 resting_step (b, Item) r x = item_step b r x
 resting_step (b, AfterDo s) r x = do_step b s r
 resting_step (b, _) r x = None
 
--- a token behind the part of an `if` that an `else` may follow
+-- a token after the part of an `if` that an `else` may follow
 abbrev pub else_step : Inside → Expr → Stmt → Role → Name → Option State
 else_step b e s role.Else x = opens b (InElse e s)
 else_step b e s r x = resting_step (settled false b b.opened (If e s)) r x
@@ -459,15 +459,15 @@ for_starting_step b role.Int x = Some (InBody b (Declaring AsHeader scalar.Int [
 for_starting_step b (role.SignWord t) x = Some (InBody b (LocalSign AsHeader t))
 for_starting_step b r x = action_step b AsStart r x
 
-abbrev pub for_testing_step : Inside → Start → Role → Name → Option State
+abbrev pub for_testing_step : Inside → Beginning → Role → Name → Option State
 for_testing_step b a role.Semicolon x = Some (InBody b (ForStepping a None))
 for_testing_step b a r x = first_step (OfBody b (ToGoOn a)) r x
 
-abbrev pub for_stepping_step : Inside → Start → Option Expr → Role → Name → Option State
+abbrev pub for_stepping_step : Inside → Beginning → Option Expr → Role → Name → Option State
 for_stepping_step b a e role.CloseParenthesis x = opens b (InFor a e None)
 for_stepping_step b a e r x = action_step b (AsLast a e) r x
 
-abbrev pub declaring_step : Inside → Position → Scalar → List Declared → Role → Name → Option State
+abbrev pub declaring_step : Inside → Position → Scalar → List Declarator → Role → Name → Option State
 declaring_step b w t ds role.Identifier x = Some (InBody b (HasDeclared w t ds x))
 declaring_step b w t ds _ x = None
 
@@ -475,7 +475,7 @@ abbrev pub local_sign_step : Inside → Position → Scalar → Role → Name �
 local_sign_step b w t role.Int x = Some (InBody b (Declaring w t []))
 local_sign_step b w t r x = declaring_step b w t [] r x
 
-abbrev pub declared_step : Inside → Position → Scalar → List Declared → Name → Role → Option State
+abbrev pub declared_step : Inside → Position → Scalar → List Declarator → Name → Role → Option State
 declared_step b w t ds n (role.Assignment assignment.Plain) = begins_full (OfBody b (ToInitialise w t ds n)) 0
 declared_step b w t ds n role.Comma = Some (InBody b (Declaring w t (ds ++ declared n None ∷ [])))
 declared_step b w t ds n role.Semicolon = declares b w t (ds ++ declared n None ∷ [])
@@ -535,13 +535,13 @@ abbrev pub result_sign_step : List External → Scalar → Role → Name → Opt
 result_sign_step es t role.Int x = file es (Typed (Some t))
 result_sign_step es t r x = typed_step es (Some t) r x
 
--- a token behind the name of an object
+-- a token after the name of an object
 abbrev pub object_step : List External → Naming → Role → Option State
 object_step es n role.OpenBracket = file es (Sizing n)
 object_step es n (role.Assignment assignment.Plain) = file es (Initialising n)
 object_step es n r = separated es n.scalar (with_object n (Single n.name None)) r
 
--- a token behind the first name of an external declaration
+-- a token after the first name of an external declaration
 abbrev pub named_step : List External → Option Scalar → Name → Role → Option State
 named_step es t n role.OpenParenthesis = file es (Parameters (signature_of t n))
 named_step es (Some t) n r = object_step es (record { scalar = t; objects = []; name = n }) r
@@ -562,7 +562,7 @@ abbrev pub only_void_step : List External → Signature → Role → Option Stat
 only_void_step es f role.CloseParenthesis = file es (Headed f)
 only_void_step es f _ = None
 
--- a token behind a parameter
+-- a token after a parameter
 abbrev pub parameter_named_step : List External → Signature → Role → Option State
 parameter_named_step es f role.Comma = file es (ParameterNext f)
 parameter_named_step es f role.CloseParenthesis = file es (Headed f)
@@ -601,7 +601,7 @@ abbrev pub listing_step : List External → Naming → Option ConstantExpr → R
 listing_step es n size role.OpenBrace = file es (Valuing n size [])
 listing_step es n size _ = None
 
--- the closing brace of a list, behind a comma
+-- the closing brace of a list, after a comma
 abbrev pub end_list : List External → Naming → Option ConstantExpr → List ConstantExpr → Option State
 end_list es n size [] = None
 end_list es n size (v ∷ vs) = file es (Listed n.scalar (with_object n (Array n.name size (v ∷ vs))))
@@ -652,12 +652,12 @@ count_of (AtFile es o) = 0
 count_of (InBody b s) = stage_count s
 count_of (InFull f p) = f.count
 
--- the level of what begins, behind so many open statements, at a token of a role; 0 where nothing begins
+-- the level of what begins, after so many open statements, at a token of a role; 0 where nothing begins
 abbrev pub item_level : ℕ → Role → ℕ
 item_level depth role.CloseBrace = 0
 item_level depth _ = suc (suc depth)
 
--- how many statements stay open once one is complete behind which no `else` stands; none where a `do` waits for its word
+-- how many statements stay open once one is complete after which no `else` stands; none where a `do` waits for its word
 abbrev pub resting_depth : List Open → Option ℕ
 resting_depth [] = Some 0
 resting_depth (InBlock ss ∷ os) = Some (suc (length os))
@@ -697,7 +697,7 @@ abbrev pub level_at : State → Lexeme → ℕ
 level_at s x = role_level s (role_of x.kind)
 
 -- a token with its standing, between two states
-abbrev pub standing : State → Lexeme → State → Placed
+abbrev pub standing : State → Lexeme → State → Measured
 standing s x m = record { token = x; count = count_of m; level = level_at s x }
 
 abbrev pub start : State

@@ -35,7 +35,7 @@ use Rattle.cc_syntax.specs.declared.parser.stop.Refusal.TheVariants as refusals
 use Rattle.cc_syntax.specs.Erase.{name_tree, expression_tree, expressions_of, optional_tree, target_tree, optional_action, declarator_trees, beginning_tree, statement_tree, statements_of, optional_constant, constant_trees, signature_tree, object_trees, external_trees}
 use Rattle.cc_tokens.specs.Token.{Lexeme}
 use Rattle.cc_syntax.specs.Limits.{IsWithin, PassesLimit, UnexpectedAt, TooDeepAt, IsFineBefore}
-use Rattle.cc_syntax.specs.Machine.{step, standing, Waiting, Parenthesis, Index, Arguments, Prefix, Casting, Infix, Then, Otherwise, Open, InBlock, InThen, InElse, InWhile, InDo, InFor, Inside, Spot, AsStatement, AsStart, AsLast, Test, ForIf, ForWhile, ForDo, Position, AsLocal, AsHeader, Purpose, ToPerform, ToAssign, ToStep, ToReturn, ToTest, ToGoOn, ToInitialise, Naming, Part, ToSize, ToSingle, ToValue, Context, OfBody, OfObject, Full, Phase, Operand, Operator, CastSign, CastType, Stage, Item, AfterThen, AfterDo, Testing, Ending, Returning, ForOpening, ForStarting, ForTesting, ForStepping, LocalSign, Declaring, HasDeclared, Stepping, StepNamed, Stepped, Outer, Between, ResultSign, Typed, Named, Parameters, OnlyVoid, ParameterNext, ParameterSign, ParameterTyped, ParameterNamed, Headed, ObjectNext, ObjectNamed, Sizing, Sized, Initialising, Listing, Valuing, Listed, State, AtFile, InBody, InFull}
+use Rattle.cc_syntax.specs.internal.Parser.{step, standing, Waiting, Parenthesis, Index, Arguments, Prefix, Casting, Infix, Then, Otherwise, Open, InBlock, InThen, InElse, InWhile, InDo, InFor, Inside, Spot, AsStatement, AsStart, AsLast, Test, ForIf, ForWhile, ForDo, Position, AsLocal, AsHeader, Purpose, ToPerform, ToAssign, ToStep, ToReturn, ToTest, ToGoOn, ToInitialise, Naming, Part, ToSize, ToSingle, ToValue, Context, OfBody, OfObject, Full, Phase, Operand, Operator, CastSign, CastType, Stage, Item, AfterThen, AfterDo, Testing, Ending, Returning, ForOpening, ForStarting, ForTesting, ForStepping, LocalSign, Declaring, HasDeclared, Stepping, StepNamed, Stepped, Outer, Between, ResultSign, Typed, Named, Parameters, OnlyVoid, ParameterNext, ParameterSign, ParameterTyped, ParameterNamed, Headed, ObjectNext, ObjectNamed, Sizing, Sized, Initialising, Listing, Valuing, Listed, State, AtFile, InBody, InFull}
 
 abbrev pub waiting_view : waiting.Waiting → Waiting
 waiting_view waitings.Parenthesis = Parenthesis
@@ -43,9 +43,9 @@ waiting_view (waitings.Index n) = Index (name_tree n)
 waiting_view (waitings.Arguments n es) = Arguments (name_tree n) (expressions_of es.items)
 waiting_view (waitings.Prefix op) = Prefix op
 waiting_view (waitings.Cast t) = Casting t
-waiting_view (waitings.Infix op e) = Infix op (expression_tree e)
-waiting_view (waitings.Then e) = Then (expression_tree e)
-waiting_view (waitings.Otherwise c e) = Otherwise (expression_tree c) (expression_tree e)
+waiting_view (waitings.Infix op e) = Infix op (expression_tree e.value)
+waiting_view (waitings.Then e) = Then (expression_tree e.value)
+waiting_view (waitings.Otherwise c e) = Otherwise (expression_tree c.value) (expression_tree e.value)
 
 -- the latest first
 abbrev pub waiting_views : List waiting.Waiting → List Waiting
@@ -53,11 +53,11 @@ waiting_views ws = reverse (map waiting_view ws)
 
 abbrev pub open_view : open_statement.Open → Open
 open_view (open_statements.Block ss) = InBlock (statements_of ss.items)
-open_view (open_statements.Then e) = InThen (expression_tree e)
-open_view (open_statements.Else e s) = InElse (expression_tree e) (statement_tree s)
-open_view (open_statements.While e) = InWhile (expression_tree e)
+open_view (open_statements.Then e) = InThen (expression_tree e.value)
+open_view (open_statements.Else e s) = InElse (expression_tree e.value) (statement_tree s.value)
+open_view (open_statements.While e) = InWhile (expression_tree e.value)
 open_view open_statements.Do = InDo
-open_view (open_statements.For a e l) = InFor (beginning_tree a) (optional_tree e) (optional_action l)
+open_view (open_statements.For a e l) = InFor (beginning_tree a.value) (optional_tree e) (optional_action l)
 
 -- the innermost first
 abbrev pub open_views : List open_statement.Open → List Open
@@ -69,12 +69,12 @@ body_view b = record { externals = external_trees b.externals.items; signature =
 abbrev pub spot_view : spot.Spot → Spot
 spot_view spots.Statement = AsStatement
 spot_view spots.Start = AsStart
-spot_view (spots.Last a e) = AsLast (beginning_tree a) (optional_tree e)
+spot_view (spots.Last a e) = AsLast (beginning_tree a.value) (optional_tree e)
 
 abbrev pub test_view : test.Test → Test
 test_view tests.If = ForIf
 test_view tests.While = ForWhile
-test_view (tests.Do s) = ForDo (statement_tree s)
+test_view (tests.Do s) = ForDo (statement_tree s.value)
 
 abbrev pub position_view : position.Position → Position
 position_view positions.Local = AsLocal
@@ -86,7 +86,7 @@ purpose_view (purposes.Assign op t p) = ToAssign op (target_tree t) (spot_view p
 purpose_view (purposes.Step op n p) = ToStep op (name_tree n) (spot_view p)
 purpose_view (purposes.Return at) = ToReturn at
 purpose_view (purposes.Test t) = ToTest (test_view t)
-purpose_view (purposes.Continue a) = ToGoOn (beginning_tree a)
+purpose_view (purposes.Continue a) = ToGoOn (beginning_tree a.value)
 purpose_view (purposes.Initialise w t ds n) = ToInitialise (position_view w) t (declarator_trees ds.items) (name_tree n)
 
 abbrev pub naming_view : naming.Naming → Naming
@@ -98,29 +98,29 @@ part_view (parts.Single at) = ToSingle at
 part_view (parts.Value size vs at) = ToValue (optional_constant size) (constant_trees vs.items) at
 
 abbrev pub context_view : context.Context → Context
-context_view (contexts.Body b p) = OfBody (body_view b) (purpose_view p)
+context_view (contexts.Body b p) = OfBody (body_view b.value) (purpose_view p)
 context_view (contexts.Object es n p) = OfObject (external_trees es.items) (naming_view n) (part_view p)
 
 abbrev pub full_view : full.Full → Full
-full_view f = record { context = context_view f.context; waiting = waiting_views f.waiting.items; count = f.count }
+full_view f = record { context = context_view f.context.value; waiting = waiting_views f.waiting.items; count = f.count }
 
 abbrev pub phase_view : phase.Phase → Phase
 phase_view phases.Operand = Operand
-phase_view (phases.Operator e) = Operator (expression_tree e)
+phase_view (phases.Operator e) = Operator (expression_tree e.value)
 phase_view (phases.CastSign t) = CastSign t
 phase_view (phases.CastType t) = CastType t
 
 abbrev pub stage_view : stage.Stage → Stage
 stage_view stages.Item = Item
-stage_view (stages.AfterThen e s) = AfterThen (expression_tree e) (statement_tree s)
-stage_view (stages.AfterDo s) = AfterDo (statement_tree s)
+stage_view (stages.AfterThen e s) = AfterThen (expression_tree e.value) (statement_tree s.value)
+stage_view (stages.AfterDo s) = AfterDo (statement_tree s.value)
 stage_view (stages.Testing t) = Testing (test_view t)
-stage_view (stages.Ending s) = Ending (statement_tree s)
+stage_view (stages.Ending s) = Ending (statement_tree s.value)
 stage_view (stages.Returning at) = Returning at
 stage_view stages.ForOpening = ForOpening
 stage_view stages.ForStarting = ForStarting
-stage_view (stages.ForTesting a) = ForTesting (beginning_tree a)
-stage_view (stages.ForStepping a e) = ForStepping (beginning_tree a) (optional_tree e)
+stage_view (stages.ForTesting a) = ForTesting (beginning_tree a.value)
+stage_view (stages.ForStepping a e) = ForStepping (beginning_tree a.value) (optional_tree e)
 stage_view (stages.LocalSign w t) = LocalSign (position_view w) t
 stage_view (stages.Declaring w t ds) = Declaring (position_view w) t (declarator_trees ds.items)
 stage_view (stages.Declared w t ds n) = HasDeclared (position_view w) t (declarator_trees ds.items) (name_tree n)
@@ -151,7 +151,7 @@ outer_view (outers.Listed t os) = Listed t (object_trees os.items)
 
 abbrev pub state_view : state.State → State
 state_view (states.File es o) = AtFile (external_trees es.items) (outer_view o)
-state_view (states.Body b s) = InBody (body_view b) (stage_view s)
+state_view (states.Body b s) = InBody (body_view b.value) (stage_view s)
 state_view (states.Full f p) = InFull (full_view f) (phase_view p)
 
 -- what a function returned, seen by view, is what the machine gives, unless memory ran out

@@ -3,25 +3,25 @@
 use Rattle.std.proofs.Common.{◌≡◌, ℕ, List, [], ◌∷◌, ◌++◌, Option, Some, refl, sym, ap, subst, ◌∙◌}
 use Rattle.cc_tokens.specs.declared.token.TokenKind.{TokenKind}
 use Rattle.cc_tokens.specs.Token.{Lexeme}
-use Rattle.cc_syntax.specs.Roles.{role_of}
-use Rattle.cc_syntax.specs.Grammar.{Placed, tokens_of}
-use Rattle.cc_syntax.specs.Machine.{State, step, role_step, name_of, count_of, level_at, role_level}
+use Rattle.cc_syntax.specs.internal.Roles.{role_of}
+use Rattle.cc_syntax.specs.Grammar.{Measured, plain_tokens}
+use Rattle.cc_syntax.specs.internal.Parser.{State, step, role_step, name_of, count_of, level_at, role_level}
 
 -- the machine goes over the tokens from one state to another
-abbrev pub Runs : State → List Placed → State → Type 0
+abbrev pub Runs : State → List Measured → State → Type 0
 Runs s [] e = s ≡ e
 Runs s (p ∷ ps) e = (m : State) × (step s p.token ≡ Some m) × (p.count ≡ count_of m) × (p.level ≡ level_at s p.token) × Runs m ps e
 
-pub runs-append : (s m e : State) (a b : List Placed) → Runs s a m → Runs m b e → Runs s (a ++ b) e
+pub runs-append : (s m e : State) (a b : List Measured) → Runs s a m → Runs m b e → Runs s (a ++ b) e
 runs-append s m e [] b h k = subst (λ (z : State). Runs z b e) (sym h) k
 runs-append s m e (p ∷ a) b h k = (h.0, h.1, h.2, h.3, runs-append h.0 m e a b h.4 k)
 
-pub runs-split : (s e : State) (a b : List Placed) → Runs s (a ++ b) e → (m : State) × Runs s a m × Runs m b e
+pub runs-split : (s e : State) (a b : List Measured) → Runs s (a ++ b) e → (m : State) × Runs s a m × Runs m b e
 runs-split s e [] b h = (s, refl, h)
 runs-split s e (p ∷ a) b h = let r = runs-split h.0 e a b h.4 in (r.0, (h.0, h.1, h.2, h.3, r.1), r.2)
 
 -- one token of a known kind
-pub token : (s m e : State) (x : Lexeme) (k : TokenKind) (c l : ℕ) (ps : List Placed) → x.kind ≡ k → role_step s (role_of k) (name_of x) ≡ Some m → c ≡ count_of m → l ≡ role_level s (role_of k) → Runs m ps e → Runs s (record { token = x; count = c; level = l } ∷ ps) e
+pub token : (s m e : State) (x : Lexeme) (k : TokenKind) (c l : ℕ) (ps : List Measured) → x.kind ≡ k → role_step s (role_of k) (name_of x) ≡ Some m → c ≡ count_of m → l ≡ role_level s (role_of k) → Runs m ps e → Runs s (record { token = x; count = c; level = l } ∷ ps) e
 token s m e x k c l ps h goes count level rest =
     (m, ap (λ (z : TokenKind). role_step s (role_of z) (name_of x)) h ∙ goes, count, level ∙ ap (λ (z : TokenKind). role_level s (role_of z)) (sym h), rest)
 
@@ -34,11 +34,11 @@ some_is_one a b x y h k l = cc
 cons_none : (x : Lexeme) (xs : List Lexeme) → x ∷ xs ≡ [] → ⊥
 cons_none x xs e = cc
 
-placed_more : (a b : Lexeme) (m n j k : ℕ) (ps qs : List Placed) → a ≡ b → m ≡ n → j ≡ k → ps ≡ qs → record { token = a; count = m; level = j } ∷ ps ≡ record { token = b; count = n; level = k } ∷ qs
+placed_more : (a b : Lexeme) (m n j k : ℕ) (ps qs : List Measured) → a ≡ b → m ≡ n → j ≡ k → ps ≡ qs → record { token = a; count = m; level = j } ∷ ps ≡ record { token = b; count = n; level = k } ∷ qs
 placed_more a b m n j k ps qs e f g h = cc
 
--- the tokens alone determine a run: the standing of each, and the state behind them
-pub runs-one : (s m n : State) (ps qs : List Placed) → Runs s ps m → Runs s qs n → tokens_of ps ≡ tokens_of qs → (ps ≡ qs) × (m ≡ n)
+-- the tokens alone determine a run: the standing of each, and the state after them
+pub runs-one : (s m n : State) (ps qs : List Measured) → Runs s ps m → Runs s qs n → plain_tokens ps ≡ plain_tokens qs → (ps ≡ qs) × (m ≡ n)
 runs-one s m n [] [] h k e = (refl, sym h ∙ k)
 runs-one s m n [] (q ∷ qs) h k e = absurd (cons_none _ _ (sym e))
 runs-one s m n (p ∷ ps) [] h k e = absurd (cons_none _ _ e)
