@@ -6,7 +6,7 @@ use Rattle.cc_library.specs.declared.command.Command.{Command}
 use Rattle.cc_library.specs.declared.fault.LibraryFault.{LibraryFault}
 use Rattle.cc_library.specs.declared.fault.LibraryFault.TheVariants.{Exists, Absent, Full, DiskFault, Closed, Damaged, NotALibrary, OutOfMemory}
 use Rattle.cc_library.specs.Apply.{Units, apply, after, exists, absent}
-use Rattle.cc_library.specs.Body.{body_of, Spells}
+use Rattle.cc_library.specs.Body.{body_of}
 use Rattle.cc_library.specs.Recovered.{Recovers, StandFor, View}
 
 -- `open`: 35 exactly where the device failed; else, of an honest disk with these bytes, 38 exactly where there is no right

@@ -1,8 +1,8 @@
 -- What an image of a disk recovers to: the map that its records stand for.
-use Rattle.std.specs.Prelude.{◌≡◌, ◌⊎◌, ℕ, Bool, List, [], ◌∷◌, ◌++◌, refl}
+use Rattle.std.specs.Prelude.{◌≡◌, ◌⊎◌, ℕ, Bool, List, [], ◌∷◌, refl}
 use Rattle.std.specs.FinMap.{empty}
 use Rattle.std.specs.Coded.{Coded, code_by, coded×, coded_ℕ, coded_list, coded_bool}
-use Rattle.cc_journal.specs.Format.{HoldsRecords, HoldsAlone}
+use Rattle.cc_journal.specs.Format.{HoldsRecords}
 use Rattle.cc_library.specs.declared.command.Command.{Command}
 use Rattle.cc_library.specs.Apply.{Units, after_all, AreAccepted}
 use Rattle.cc_library.specs.Body.{Spells}
