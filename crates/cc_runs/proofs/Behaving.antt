@@ -1,7 +1,7 @@
 -- What begins what, and that following is reflexive and transitive.
-use Rattle.std.proofs.Common.{ℕ, List, [], ◌++◌, refl, sym, ap, ◌∙◌, append_assoc}
+use Rattle.std.proofs.Common.{◌≡◌, ℕ, List, [], ◌++◌, refl, sym, ap, ◌∙◌, subst, append_assoc}
 use Rattle.std.proofs.lemmas.List.{append-nil}
-use Rattle.cc_runs.specs.Behavior.{Stop, Going, Ended, Wrong, Outcome, Begins, Follows, FollowsForAll}
+use Rattle.cc_runs.specs.Behavior.{Stop, Going, Ended, Wrong, Outcome, IsRight, Begins, EndsAlike, Shows, Follows, FollowsForAll}
 use Rattle.cc_runs.specs.Cuts.{StaysBy}
 
 pub begins_refl : (xs : List ℕ) → Begins xs xs
@@ -15,16 +15,33 @@ stays_refl Going x = tt
 stays_refl (Ended r) x = refl
 stays_refl Wrong x = refl
 
+pub shows_refl : {R : Type 0} (a : Outcome R) → IsRight a.stop → Shows a a
+shows_refl a ok = (ok, refl, λ r e. e)
+
+pub shows_same : {R : Type 0} (a z : Outcome R) → a ≡ z → IsRight a.stop → Shows a z
+shows_same a z e ok = subst (Shows a) e (shows_refl a ok)
+
+pub shows_on : {R : Type 0} (a b z : Outcome R) → Shows a b → Shows b z → Shows a z
+shows_on a b z f g = (g.0, g.1 ∙ f.1, λ r e. g.2 r (f.2 r e))
+
 pub follows_refl : {B R : Type 0} (a : B → Outcome R) → Follows a a
 follows_refl a = record {
-  reaches = λ n ok. (n, ok, refl, λ r e. e);
+  reaches = λ n ok. (n, shows_refl (a n) ok);
   never_wrong = λ ok m. ok m;
   no_more = λ ok m. (m, begins_refl (a m).output, λ r e. e);
 }
 
+-- what is the same at each bound follows
+pub follows_same : {B R : Type 0} (a z : B → Outcome R) → ((b : B) → a b ≡ z b) → Follows a z
+follows_same {B} {R} a z same = record {
+  reaches = λ n ok. (n, shows_same (a n) (z n) (same n) ok);
+  never_wrong = λ ok m. subst (λ (y : Outcome R). IsRight y.stop) (same m) (ok m);
+  no_more = λ ok m. (m, subst (λ (y : Outcome R). Begins y.output (a m).output) (same m) (begins_refl (a m).output), subst (λ (y : Outcome R). EndsAlike y.stop (a m).stop) (same m) (λ r e. e));
+}
+
 pub follows_trans : {A B C R : Type 0} (a : A → Outcome R) (b : B → Outcome R) (z : C → Outcome R) → Follows a b → Follows b z → Follows a z
 follows_trans a b z f g = record {
-  reaches = λ n ok. let m = f.reaches n ok in let p = g.reaches m.0 m.1 in (p.0, p.1, p.2 ∙ m.2, λ r e. p.3 r (m.3 r e));
+  reaches = λ n ok. let m = f.reaches n ok in let p = g.reaches m.0 m.1.0 in (p.0, shows_on (a n) (b m.0) (z p.0) m.1 p.1);
   never_wrong = λ ok m. g.never_wrong (f.never_wrong ok) m;
   no_more = λ ok m.
       let k = g.no_more (f.never_wrong ok) m in
@@ -37,6 +54,6 @@ follows_on_for_all a b z f g = record {
   each = λ words are. follows_trans a b (z words) f (g.each words are);
   within = λ n ok.
       let m = f.reaches n ok in
-      let t = g.within m.0 m.1 in
-      (t.0, λ words are. let p = t.1 words are in (p.0, p.1, p.2, p.3, p.4 ∙ m.2, λ r e. p.5 r (m.3 r e)));
+      let t = g.within m.0 m.1.0 in
+      (t.0, λ words are. let p = t.1 words are in (p.0, p.1, p.2, shows_on (a n) (b m.0) (z words p.0) m.1 p.3));
 }

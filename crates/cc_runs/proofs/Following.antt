@@ -2,14 +2,14 @@
 use Rattle.std.proofs.Common.{◌≡◌, ℕ, zero, suc, ◌+◌, ◌-◌, ◌*◌, ◌<◌, ◌≤◌, List, refl, sym, ap, ◌∙◌, subst, ◌⊎◌, inl, inr, arith}
 use Rattle.std.proofs.Math.Nat.{mul-le-mul_left}
 use Rattle.std.proofs.lemmas.Bool.{cases_lt}
-use Rattle.cc_runs.specs.Behavior.{Stop, Going, Ended, Wrong, Outcome, IsRight, Begins, EndsAlike, Follows, FollowsForAll}
+use Rattle.cc_runs.specs.Behavior.{Stop, Going, Ended, Wrong, Outcome, IsRight, Begins, EndsAlike, Shows, Follows, FollowsForAll}
 use Rattle.cc_runs.specs.World.{World, Question, Answer, Effect, Gives, Unfinished, Failed}
 use Rattle.cc_runs.specs.Run.{Move, Goes, Calls, Returns, Fails, run, work, work_act, work_resumed}
-use Rattle.cc_runs.specs.Meaning.{Meaning, IsCall, effect_of, written_by, Later, IsExact, answered}
+use Rattle.cc_runs.specs.Meaning.{Meaning, most_open, IsCall, call_effect, written_by, Later, IsExact, answered}
 use Rattle.cc_runs.specs.Tracks.{Keeps, Keeping, Tracks, TracksForAll}
 use Rattle.cc_runs.specs.Cuts.{StaysBy, Below, Comparable, IsLayer}
 use Rattle.cc_runs.specs.internal.Effects.{After, UnfinishedThen, LaterAt, Within, HasEffects}
-use Rattle.cc_runs.proofs.Behaving.{begins_refl}
+use Rattle.cc_runs.proofs.Behaving.{begins_refl, shows_same}
 use Rattle.cc_runs.proofs.Cuts.{comparable}
 
 abbrev pub Matched : ℕ → ℕ → Stop Answer → Outcome Answer → ℕ → Outcome Answer → Type 0
@@ -101,9 +101,9 @@ module _ {C : Type 0} (move : C → Move C) (output : C → List ℕ) (effect : 
       let g : rate * suc (done b) ≤ rate * suc (b.0 + b.1) = mul-le-mul_left rate le in
       covers (bound b) b d (source (bound b)) (source (bound b)).stop refl (ok (bound b)) (matched_of rate (bound b) (done d) (meaning (bound b)) (at d) t.keeps) (omega arith)
 
-  reached : (n : ℕ) (d : ℕ × ℕ) (s : Stop Answer) → (source n).stop ≡ s → IsRight s → Matched rate n s (source n) (done d) (at d) → (m : ℕ × ℕ) × IsRight (at m).stop × ((at m).output ≡ (source n).output) × EndsAlike (source n).stop (at m).stop
-  reached n d Going e ok m = (d, subst (λ (y : Outcome Answer). IsRight y.stop) (sym m.0) (subst IsRight (sym e) tt), ap (λ (y : Outcome Answer). y.output) m.0, λ r f. ap (λ (y : Outcome Answer). y.stop) m.0 ∙ f)
-  reached n d (Ended r) e ok m = (d, subst (λ (y : Outcome Answer). IsRight y.stop) (sym m) (subst IsRight (sym e) tt), ap (λ (y : Outcome Answer). y.output) m, λ r f. ap (λ (y : Outcome Answer). y.stop) m ∙ f)
+  reached : (n : ℕ) (d : ℕ × ℕ) (s : Stop Answer) → (source n).stop ≡ s → IsRight s → Matched rate n s (source n) (done d) (at d) → (m : ℕ × ℕ) × Shows (source n) (at m)
+  reached n d Going e ok m = (d, shows_same (source n) (at d) (sym m.0) (subst IsRight (sym e) tt))
+  reached n d (Ended r) e ok m = (d, shows_same (source n) (at d) (sym m) (subst IsRight (sym e) tt))
   reached n d Wrong e ok m = absurd ok
 
   pub follows : ((n : ℕ) → Kept n) → Follows source at
@@ -120,7 +120,7 @@ is_going (Gives a left) = ⊥
 is_going (Unfinished o) = Unit {0}
 is_going (Failed o) = ⊥
 
-module _ (meaning : Meaning) {C : Type 0} (move : C → Move C) (output : C → List ℕ) (layer : IsLayer meaning move output) where
+module _ (meaning : Meaning) {C : Type 0} (move : C → Move C) (output : C → List ℕ) (layer : IsLayer move output) where
   after_of : (resume : Answer → C) (o : List ℕ) (e : Effect) → ((a : Answer) → output (resume a) ≡ a.world.output) → Begins o (written_by e) → After output resume o e
   after_of resume o (Gives a left) same b = subst (Begins o) (sym (same a)) b
   after_of resume o (Unfinished p) same b = b
@@ -150,29 +150,29 @@ module _ (meaning : Meaning) {C : Type 0} (move : C → Move C) (output : C → 
   within_of effect exact j (Unfinished o) u = tt
   within_of effect exact j (Failed o) u = tt
 
-  pub effects_of : (d : ℕ) → HasEffects move output (effect_of meaning d)
+  pub effects_of : (d : ℕ) → HasEffects move output (call_effect meaning d)
   effects_of d = record {
     grows = layer.grows;
-    answers = λ c q resume e j. after_of resume (output c) (effect_of meaning d j q) (layer.resumes c q resume e) (subst (λ o. Begins o (written_by (effect_of meaning d j q))) (layer.asks c q resume e) (meaning.grows j d q.function q.arguments q.world (layer.function c q resume e)));
-    later = λ c q resume e j k. later_of (λ n. effect_of meaning d n q) (meaning.exact d q.function q.arguments q.world (layer.function c q resume e)) j k resume (effect_of meaning d j q) (layer.resumes c q resume e) refl (meaning.later j k d q.function q.arguments q.world (layer.function c q resume e));
-    within = λ c q resume e j. within_of (λ n. effect_of meaning d n q) (meaning.exact d q.function q.arguments q.world (layer.function c q resume e)) j (effect_of meaning d j q) refl;
+    answers = λ c q resume e j. after_of resume (output c) (call_effect meaning d j q) (layer.resumes c q resume e) (subst (λ o. Begins o (written_by (call_effect meaning d j q))) (layer.hands_over c q resume e) (meaning.grows j d q.function q.arguments q.world));
+    later = λ c q resume e j k. later_of (λ n. call_effect meaning d n q) (meaning.exact d q.function q.arguments q.world) j k resume (call_effect meaning d j q) (layer.resumes c q resume e) refl (meaning.later j k d q.function q.arguments q.world);
+    within = λ c q resume e j. within_of (λ n. call_effect meaning d n q) (meaning.exact d q.function q.arguments q.world) j (call_effect meaning d j q) refl;
   }
 
   -- Cminor's and RTL's runs follow the source
   pub tracks_follow : (f rate : ℕ) (start : List ℕ → World → C) → Tracks meaning f rate move output start
-      → (d : ℕ) → d < 1024 → (ws : List ℕ) (h : World) → IsCall meaning f ws h → Follows (λ n. answered (meaning.body n d f ws h)) (λ (b : ℕ × ℕ). run move output (effect_of meaning (suc d)) b.0 b.1 (start ws h))
+      → (d : ℕ) → d < most_open → (ws : List ℕ) (h : World) → IsCall meaning f ws h → Follows (λ n. answered (meaning.body n d f ws h)) (λ (b : ℕ × ℕ). run move output (call_effect meaning (suc d)) b.0 b.1 (start ws h))
   tracks_follow f rate start tracks d below ws h is_call =
-      follows move output (effect_of meaning (suc d)) (effects_of (suc d)) rate (λ n. meaning.body n d f ws h) (start ws h) (λ n. tracks d below ws h is_call n)
+      follows move output (call_effect meaning (suc d)) (effects_of (suc d)) rate (λ n. meaning.body n d f ws h) (start ws h) (λ n. tracks d below ws h is_call n)
 
-  matched_right : (rate n v : ℕ) (e : Effect) (z : Outcome Answer) → Keeps rate n e v z → IsRight (answered e).stop → IsRight z.stop × (z.output ≡ (answered e).output) × EndsAlike (answered e).stop z.stop
-  matched_right rate n v (Gives a left) z k ok = (subst (λ (y : Outcome Answer). IsRight y.stop) (sym k.0) tt, ap (λ (y : Outcome Answer). y.output) k.0, λ r g. ap (λ (y : Outcome Answer). y.stop) k.0 ∙ g)
-  matched_right rate n v (Unfinished o) z k ok = (subst (λ (y : Outcome Answer). IsRight y.stop) (sym k.0) tt, ap (λ (y : Outcome Answer). y.output) k.0, λ r g. ap (λ (y : Outcome Answer). y.stop) k.0 ∙ g)
+  matched_right : (rate n v : ℕ) (e : Effect) (z : Outcome Answer) → Keeps rate n e v z → IsRight (answered e).stop → Shows (answered e) z
+  matched_right rate n v (Gives a left) z k ok = shows_same (answered (Gives a left)) z (sym k.0) tt
+  matched_right rate n v (Unfinished o) z k ok = shows_same (answered (Unfinished o)) z (sym k.0) tt
   matched_right rate n v (Failed o) z k ok = absurd ok
 
   -- LTL's and Linear's, for every list
   pub all_follow : (f rate : ℕ) (start : List ℕ → List ℕ → World → C) → TracksForAll meaning f rate move output start
-      → (d : ℕ) → d < 1024 → (ws : List ℕ) (h : World) → IsCall meaning f ws h → FollowsForAll (λ n. answered (meaning.body n d f ws h)) (λ words (b : ℕ × ℕ). run move output (effect_of meaning (suc d)) b.0 b.1 (start words ws h))
+      → (d : ℕ) → d < most_open → (ws : List ℕ) (h : World) → IsCall meaning f ws h → FollowsForAll (λ n. answered (meaning.body n d f ws h)) (λ words (b : ℕ × ℕ). run move output (call_effect meaning (suc d)) b.0 b.1 (start words ws h))
   all_follow f rate start keeps d below ws h is_call = record {
-    each = λ words are. follows move output (effect_of meaning (suc d)) (effects_of (suc d)) rate (λ n. meaning.body n d f ws h) (start words ws h) (λ n. let t = keeps d below ws h is_call n in (t.0, t.1, t.2 words are));
-    within = λ n ok. let t = keeps d below ws h is_call n in ((t.0, t.1), λ words are. let k = t.2 words are in let r = matched_right rate n _ (meaning.body n d f ws h) _ k.keeps ok in ((k.moves, k.steps), k.few, k.few_steps, r.0, r.1, r.2));
+    each = λ words are. follows move output (call_effect meaning (suc d)) (effects_of (suc d)) rate (λ n. meaning.body n d f ws h) (start words ws h) (λ n. let t = keeps d below ws h is_call n in (t.0, t.1, t.2 words are));
+    within = λ n ok. let t = keeps d below ws h is_call n in ((t.0, t.1), λ words are. let k = t.2 words are in let r = matched_right rate n _ (meaning.body n d f ws h) _ k.keeps ok in ((k.moves, k.steps), k.few, k.few_steps, r));
   }

@@ -1,11 +1,12 @@
 -- Two languages whose moves go hand in hand have the same run and the same work, cut for cut; so what the first keeps, the second keeps for all lists.
-use Rattle.std.proofs.Common.{◌≡◌, ℕ, zero, suc, ◌-◌, ◌+◌, List, refl, ap, ◌∙◌, subst}
-use Rattle.cc_runs.specs.Behavior.{Going, Outcome}
+use Rattle.std.proofs.Common.{◌≡◌, ℕ, zero, suc, ◌-◌, ◌+◌, List, refl, sym, ap, ◌∙◌, subst, arith}
+use Rattle.cc_runs.specs.Behavior.{Going, Outcome, FollowsForAll, AreWords}
 use Rattle.cc_runs.specs.World.{World, Question, Answer, Effect, Gives, Unfinished, Failed}
 use Rattle.cc_runs.specs.Run.{Move, Goes, Calls, Returns, Fails, run, act, resumed, work, work_act, work_resumed}
-use Rattle.cc_runs.specs.Meaning.{Meaning, IsCall, effect_of}
+use Rattle.cc_runs.specs.Meaning.{Meaning, IsCall, call_effect}
 use Rattle.cc_runs.specs.Tracks.{Keeps, Tracks, TracksForAll}
-use Rattle.cc_runs.specs.Simulation.{Alike, Lockstep}
+use Rattle.cc_runs.specs.internal.Simulation.{Alike, Lockstep}
+use Rattle.cc_runs.proofs.Behaving.{shows_same, follows_same}
 
 module _ {C D : Type 0} (Same : C → D → Type 0) (move : C → Move C) (output : C → List ℕ) (move' : D → Move D) (output' : D → List ℕ) (effect : ℕ → Question → Effect) (lock : Lockstep move output move' output' Same) where
   resumed_alike : (e : Effect) (k : ℕ) (f : Answer → C) (g : Answer → D) → ((a : Answer) → Same (f a) (g a)) → ((j : ℕ) (c : C) (d : D) → Same c d → run move output effect k j c ≡ run move' output' effect k j d)
@@ -24,8 +25,8 @@ module _ {C D : Type 0} (Same : C → D → Type 0) (move : C → Move C) (outpu
   act_alike m n k j o p h e ih = absurd h
 
   pub same_run : (k j : ℕ) (c : C) (d : D) → Same c d → run move output effect k j c ≡ run move' output' effect k j d
-  same_run zero j c d h = ap {B = Outcome Answer} (λ o. record { stop = Going; output = o }) (lock.outputs c d h)
-  same_run (suc k) j c d h = act_alike (move c) (move' d) k j (output c) (output' d) (lock.alike c d h) (lock.outputs c d h) (same_run k)
+  same_run zero j c d h = ap {B = Outcome Answer} (λ o. record { stop = Going; output = o }) (sym (lock.outputs c d h))
+  same_run (suc k) j c d h = act_alike (move c) (move' d) k j (output c) (output' d) (lock.alike c d h) (sym (lock.outputs c d h)) (same_run k)
 
   worked_resumed : (e : Effect) (k j : ℕ) (f : Answer → C) (g : Answer → D) → ((a : Answer) → Same (f a) (g a)) → ((j : ℕ) (c : C) (d : D) → Same c d → work move effect k j c ≡ work move' effect k j d)
       → work_resumed e f j (work move effect k) ≡ work_resumed e g j (work move' effect k)
@@ -49,7 +50,7 @@ module _ {C D : Type 0} (Same : C → D → Type 0) (move : C → Move C) (outpu
 -- the rate stays, and each list's cut is the first language's
 pub lockstep_on : (meaning : Meaning) (f rate : ℕ) {C D : Type 0} (old : C → Move C) (old_output : C → List ℕ) (new : D → Move D) (new_output : D → List ℕ) (Same : C → D → Type 0)
     → Lockstep old old_output new new_output Same
-    → (old_start : List ℕ → World → C) (new_start : List ℕ → List ℕ → World → D) → ((words ws : List ℕ) (h : World) → IsCall meaning f ws h → Same (old_start ws h) (new_start words ws h))
+    → (old_start : List ℕ → World → C) (new_start : List ℕ → List ℕ → World → D) → ((words : List ℕ) → AreWords words → (ws : List ℕ) (h : World) → IsCall meaning f ws h → Same (old_start ws h) (new_start words ws h))
     → Tracks meaning f rate old old_output old_start → TracksForAll meaning f rate new new_output new_start
 lockstep_on meaning f rate old old_output new new_output Same lock old_start new_start starts tracks d below ws h is_call n =
     let t = tracks d below ws h is_call n in
@@ -57,8 +58,8 @@ lockstep_on meaning f rate old old_output new new_output Same lock old_start new
       t.0,
       t.1,
       λ words are.
-          let e = effect_of meaning (suc d) in
-          let s = starts words ws h is_call in
+          let e = call_effect meaning (suc d) in
+          let s = starts words are ws h is_call in
           let r = same_run Same old old_output new new_output e lock k.moves k.steps (old_start ws h) (new_start words ws h) s in
           let w = same_work Same old old_output new new_output e lock k.moves k.steps (old_start ws h) (new_start words ws h) s in
           record {
@@ -69,3 +70,12 @@ lockstep_on meaning f rate old old_output new new_output Same lock old_start new
             keeps = subst (λ v. Keeps rate n (meaning.body n d f ws h) v (run new new_output e k.moves k.steps (new_start words ws h))) w (subst (Keeps rate n (meaning.body n d f ws h) (work old e k.moves k.steps (old_start ws h))) r k.keeps);
           },
     )
+
+-- and the new follows the old, for every list
+pub lockstep_follows : {C D : Type 0} (Same : C → D → Type 0) (old : C → Move C) (old_output : C → List ℕ) (new : D → Move D) (new_output : D → List ℕ) (effect : ℕ → Question → Effect)
+    → Lockstep old old_output new new_output Same → (c : C) (start : List ℕ → D) → ((words : List ℕ) → AreWords words → Same c (start words))
+    → FollowsForAll (λ (b : ℕ × ℕ). run old old_output effect b.0 b.1 c) (λ words (b : ℕ × ℕ). run new new_output effect b.0 b.1 (start words))
+lockstep_follows Same old old_output new new_output effect lock c start same = record {
+  each = λ words are. follows_same (λ (b : ℕ × ℕ). run old old_output effect b.0 b.1 c) (λ (b : ℕ × ℕ). run new new_output effect b.0 b.1 (start words)) (λ b. same_run Same old old_output new new_output effect lock b.0 b.1 c (start words) (same words are));
+  within = λ b ok. (b, λ words are. (b, omega arith, omega arith, shows_same (run old old_output effect b.0 b.1 c) (run new new_output effect b.0 b.1 (start words)) (same_run Same old old_output new new_output effect lock b.0 b.1 c (start words) (same words are)) ok));
+}

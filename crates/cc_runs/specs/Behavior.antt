@@ -1,5 +1,5 @@
--- What a bounded run shows, and when one meaning follows another. A meaning is a function from a bound to an outcome; a bound is
--- a number of steps of the source, or of moves and steps of a lower language.
+-- What a bounded run shows, and when one behavior follows another. A behavior is a function from a bound to an outcome; a bound is a
+-- number of steps of the source, of instructions, or of moves and of steps in calls.
 use Rattle.std.specs.Prelude.{◌≡◌, ℕ, ◌^◌, ◌<◌, ◌≤◌, List, [], ◌∷◌, ◌++◌}
 
 -- each is a word
@@ -32,16 +32,19 @@ Begins xs ys = (rest : List ℕ) × (xs ++ rest ≡ ys)
 abbrev pub EndsAlike : {R : Type 0} → Stop R → Stop R → Type 0
 EndsAlike {R} a z = (r : R) → a ≡ Ended r → z ≡ Ended r
 
--- z follows a: each right outcome of a is reached by z; and where a is wrong at no bound, z is wrong at no bound, writes nothing
--- else, and ends only where a ends
+-- z shows what a right outcome a shows: it is right, with the same output, and the same end where a has ended
+abbrev pub Shows : {R : Type 0} → Outcome R → Outcome R → Type 0
+Shows a z = IsRight z.stop × (z.output ≡ a.output) × EndsAlike a.stop z.stop
+
+-- z follows a. Each right outcome of a is reached by z. Where a is wrong at no bound, z is wrong at none, and each output of z begins one
+-- of a, where a has ended with the same result if z has ended.
 pub record Follows {B C R : Type 0} (a : B → Outcome R) (z : C → Outcome R) : Type 0 where
-  pub reaches : (n : B) → IsRight (a n).stop → (m : C) × IsRight (z m).stop × ((z m).output ≡ (a n).output) × EndsAlike (a n).stop (z m).stop
+  pub reaches : (n : B) → IsRight (a n).stop → (m : C) × Shows (a n) (z m)
   pub never_wrong : ((n : B) → IsRight (a n).stop) → (m : C) → IsRight (z m).stop
   pub no_more : ((n : B) → IsRight (a n).stop) → (m : C) → (n : B) × Begins (z m).output (a n).output × EndsAlike (z m).stop (a n).stop
 
 -- the same of a run that depends on words that nobody knows: it follows for every list of them, and for each bound of a there are
--- ends that hold for all lists at once
+-- two ends that are the same for all lists
 pub record FollowsForAll {B R : Type 0} (a : B → Outcome R) (z : List ℕ → ℕ × ℕ → Outcome R) : Type 0 where
   pub each : (words : List ℕ) → AreWords words → Follows a (z words)
-  pub within : (n : B) → IsRight (a n).stop → (most : ℕ × ℕ) × ((words : List ℕ) → AreWords words → (m : ℕ × ℕ) × (m.0 ≤ most.0) × (m.1 ≤ most.1)
-      × IsRight (z words m).stop × ((z words m).output ≡ (a n).output) × EndsAlike (a n).stop (z words m).stop)
+  pub within : (n : B) → IsRight (a n).stop → (most : ℕ × ℕ) × ((words : List ℕ) → AreWords words → (m : ℕ × ℕ) × (m.0 ≤ most.0) × (m.1 ≤ most.1) × Shows (a n) (z words m))

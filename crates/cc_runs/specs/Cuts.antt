@@ -1,19 +1,17 @@
 -- What a language's moves have, so that two cuts of one run can be compared, and what comparable is.
-use Rattle.std.specs.Prelude.{◌≡◌, ℕ, ◌≤◌, ◌<◌, ◌⊎◌, List}
+use Rattle.std.specs.Prelude.{◌≡◌, ℕ, ◌≤◌, ◌⊎◌, List}
 use Rattle.cc_runs.specs.Behavior.{Stop, Going, Ended, Wrong, Outcome, Begins}
 use Rattle.cc_runs.specs.World.{Question, Answer}
 use Rattle.cc_runs.specs.Run.{Move, Goes, Calls}
-use Rattle.cc_runs.specs.Meaning.{Meaning}
 
--- all that a language owes for its runs to be comparable: outputs grow; a call is one of a function of the unit, hands over the
--- output so far, and goes on from the answer's
-pub record IsLayer (meaning : Meaning) {C : Type 0} (move : C → Move C) (output : C → List ℕ) : Type 0 where
+-- all that a language owes for its runs to be comparable: outputs grow; a call hands over the output so far, and goes on from the
+-- answer's
+pub record IsLayer {C : Type 0} (move : C → Move C) (output : C → List ℕ) : Type 0 where
   pub grows : (c d : C) → move c ≡ Goes d → Begins (output c) (output d)
-  pub function : (c : C) (q : Question) (resume : Answer → C) → move c ≡ Calls q resume → q.function < meaning.functions
-  pub asks : (c : C) (q : Question) (resume : Answer → C) → move c ≡ Calls q resume → q.world.output ≡ output c
+  pub hands_over : (c : C) (q : Question) (resume : Answer → C) → move c ≡ Calls q resume → q.world.output ≡ output c
   pub resumes : (c : C) (q : Question) (resume : Answer → C) → move c ≡ Calls q resume → (a : Answer) → output (resume a) ≡ a.world.output
 
--- what is over stays as it is
+-- y is x, where x is over
 abbrev pub StaysBy : {R : Type 0} → Stop R → Outcome R → Outcome R → Type 0
 StaysBy Going x y = Unit {0}
 StaysBy (Ended r) x y = y ≡ x

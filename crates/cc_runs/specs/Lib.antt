@@ -12,9 +12,7 @@ pub mod Meaning
 pub mod Tracks
 -- What a language's moves have, and when two cuts of one run are comparable.
 pub mod Cuts
--- From one language to the next, as their moves alone show it.
-pub mod Simulation
 -- The laws, each the contract of a function of this crate.
 pub mod Laws
--- What the proofs alone speak of.
+-- What the proofs of passes speak of: simulations of one language by the next.
 pub mod internal

@@ -1,6 +1,6 @@
 -- The run of one function of an intermediate language (Cminor, RTL, LTL or Linear). A language gives what one statement, node,
 -- block or item does to a configuration; calls do what the source says of the called function.
-use Rattle.std.specs.Prelude.{ℕ, zero, suc, ◌+◌, ◌-◌, List}
+use Rattle.std.specs.Prelude.{ℕ, zero, suc, ◌+◌, ◌-◌, List, Option, Some, None}
 use Rattle.cc_runs.specs.Behavior.{Going, Ended, Wrong, Outcome}
 use Rattle.cc_runs.specs.World.{Question, Answer, Effect, Gives, Unfinished, Failed}
 
@@ -10,6 +10,11 @@ pub data Move (C : Type 0) : Type 0 where
   Calls : Question → (Answer → C) → Move C
   Returns : Answer → Move C
   Fails : Move C
+
+-- the move made of what there is; where there is nothing (no such element, no quotient) the run goes wrong
+abbrev pub tried : {C X : Type 0} → Option X → (X → Move C) → Move C
+tried None go = Fails
+tried (Some x) go = go x
 
 -- after a call: the run goes on with the steps that the call left, or ends as the call did
 abbrev pub resumed : {C : Type 0} → Effect → (Answer → C) → (ℕ → C → Outcome Answer) → Outcome Answer

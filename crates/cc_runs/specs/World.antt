@@ -1,6 +1,6 @@
 -- What the functions of a unit share, by number, what a call of one asks and answers, and the changes that every language makes:
 -- an element read and stored, a word read and written.
-use Rattle.std.specs.Prelude.{◌≡◌, ℕ, List, [], ◌∷◌, ◌++◌, length, map, get_or, set, slice_get, Option, option_and_then, option_map}
+use Rattle.std.specs.Prelude.{◌≡◌, ℕ, List, [], ◌∷◌, ◌++◌, length, map, get_or, set, slice_get, Option, option_map}
 use Rattle.cc_runs.specs.Behavior.{AreWords}
 
 -- the words of each object, the input that is left, the output so far
@@ -27,13 +27,13 @@ pub data Effect : Type 0 where
   Failed : List ℕ → Effect
 
 -- the words of an object, none where there is no such object
-abbrev pub words_of : World → (object : ℕ) → List ℕ
-words_of h g = get_or h.globals g []
+abbrev pub object_words : World → (object : ℕ) → List ℕ
+object_words h object = get_or h.globals object []
 
--- each object has its number of words, and all are words
+-- each object has its number of words, and all are words, those of the input too
 pub record IsWorld (objects : List ℕ) (h : World) : Type 0 where
   pub sizes : map (λ (ws : List ℕ). length ws) h.globals ≡ objects
-  pub globals : (g : ℕ) → AreWords (words_of h g)
+  pub globals : (g : ℕ) → AreWords (object_words h g)
   pub input : AreWords h.input
 
 -- ---- what every language does to a world
@@ -49,12 +49,11 @@ rest_of (w ∷ ws) = ws
 
 -- an element's word; none where there is no such element
 abbrev pub element : World → (object index : ℕ) → Option ℕ
-element h object index = option_and_then (λ ws. slice_get ws index) (slice_get h.globals object)
+element h object index = slice_get (object_words h object) index
 
 -- the world with a word in an element; none where there is no such element
 abbrev pub stored : World → (object index word : ℕ) → Option World
-stored h object index word =
-    option_and_then (λ ws. option_map (λ old. record h { globals = set h.globals object (set ws index word) }) (slice_get ws index)) (slice_get h.globals object)
+stored h object index word = option_map (λ old. record h { globals = set h.globals object (set (object_words h object) index word) }) (element h object index)
 
 -- the next word of the input, or 0, and the world without it
 abbrev pub next_word : World → ℕ
