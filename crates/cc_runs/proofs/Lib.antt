@@ -1,0 +1,5 @@
+pub mod Behaving
+pub mod Cuts
+pub mod Following
+pub mod Simulating
+pub mod Lockstep
