@@ -2,11 +2,11 @@
 use Rattle.std.specs.Prelude.{ℕ, ◌≡◌, ◌⊎◌, List}
 use Rattle.cc_syntax.specs.Tree.{Source}
 use Rattle.cc_syntax.specs.Parse.{SpellsText, IsParseRefusal}
-use Rattle.cc_typing.specs.Typed.{IsTyped, IsWithinLimits, IsRefusal}
+use Rattle.cc_typing.specs.Typed.{IsTyped, IsWithinLimits, IsTypeRefusal}
 use Rattle.cc_typing.specs.declared.fault.TypeFault.{TypeFault}
 use Rattle.cc_typing.specs.declared.fault.TypeFault.TheVariants as type_fault
 use Rattle.cc_meaning.specs.Meaning.{source_behavior}
-use Rattle.cc_meaning.specs.Shown.{outcome_shown}
+use Rattle.cc_meaning.specs.Erase.{outcome_tree}
 use Rattle.cclib.specs.declared.command_line.Task.{Task}
 use Rattle.cclib.specs.declared.command_line.Task.TheVariants.{Check, Interpret}
 use Rattle.cclib.specs.declared.perform.Answer.{Answer}
@@ -25,7 +25,7 @@ abbrev pub IsAnswer : Task → Source → Answer → Type 0
 IsAnswer Check s Accepted = Unit {0}
 IsAnswer Check s (Ran o) = ⊥
 IsAnswer (Interpret steps words) s Accepted = ⊥
-IsAnswer (Interpret steps words) s (Ran o) = outcome_shown o ≡ source_behavior s words.items steps
+IsAnswer (Interpret steps words) s (Ran o) = outcome_tree o ≡ source_behavior s words.items steps
 
 -- the answer to a task for a text, which is a program's
 pub record Answers (task : Task) (text : List ℕ) (answer : Answer) : Type 0 where
@@ -35,16 +35,16 @@ pub record Answers (task : Task) (text : List ℕ) (answer : Answer) : Type 0 wh
   pub answered : IsAnswer task program answer
 
 -- the text spells a tree that is refused for a rule, a limit or the want of main
-pub record IsTypeRefusal (text : List ℕ) (fault : TypeFault) : Type 0 where
+pub record IsTextRefusal (text : List ℕ) (fault : TypeFault) : Type 0 where
   pub program : Source
   pub whose : program.text ≡ text
   pub spelled : SpellsText program.text program.externals
-  pub refused : IsRefusal program fault
+  pub refused : IsTypeRefusal program fault
 
 -- why a text gets no answer: it spells no tree, its tree is refused, or memory was
 abbrev pub IsRefused : List ℕ → Fault → Type 0
 IsRefused text (Syntax f) = IsParseRefusal text f
-IsRefused text (Typing f) = (f ≡ type_fault.OutOfMemory) ⊎ IsTypeRefusal text f
+IsRefused text (Typing f) = (f ≡ type_fault.OutOfMemory) ⊎ IsTextRefusal text f
 IsRefused text (Meaning f) = Unit {0}
 IsRefused text OutOfMemory = Unit {0}
 IsRefused text Read = ⊥

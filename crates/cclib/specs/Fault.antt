@@ -1,14 +1,14 @@
 -- The numbers and the places of the program's faults.
 use Rattle.std.specs.Prelude.{ℕ, Option, None}
-use Rattle.cc_syntax.specs.declared.place.Place.{Place}
-use Rattle.cc_syntax.specs.Fault as syntax
+use Rattle.cc_tokens.specs.declared.place.Place.{Place}
+use Rattle.cc_tokens.specs.Fault as tokens
 use Rattle.cc_typing.specs.Fault as typing
 use Rattle.cclib.specs.declared.fault.Fault.{Fault}
 use Rattle.cclib.specs.declared.fault.Fault.TheVariants.{Syntax, Typing, Meaning, OutOfMemory, Read, Write}
 
 -- the number that a fault is known by
 abbrev pub fault_number : Fault → ℕ
-fault_number (Syntax f) = syntax.number_of f
+fault_number (Syntax f) = tokens.fault_number f
 fault_number (Typing f) = typing.fault_number f
 fault_number (Meaning f) = 40
 fault_number OutOfMemory = 40
@@ -17,7 +17,7 @@ fault_number Write = 54
 
 -- where in the text a fault is
 abbrev pub fault_place : Fault → Option Place
-fault_place (Syntax f) = syntax.place_of_fault f
+fault_place (Syntax f) = tokens.fault_place f
 fault_place (Typing f) = typing.fault_place f
 fault_place (Meaning f) = None
 fault_place OutOfMemory = None

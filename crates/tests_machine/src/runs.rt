@@ -334,48 +334,40 @@ const PROGRAMS: [(&str, &[u32], &[u32], Option<u32>, MachineOutcome); 18] = [
     ),
 ];
 
-// So many instructions, what the machine has come to then, and the first word that it wrote.
-type Part = (u64, MachineOutcome, Option<u32>);
+// addi x10, x0, 5; an exit.
+const EXITS: [u32; 3] = [0x00500513, EXIT, ECALL];
 
-// addi x10, x0, 5 and an exit; its runs in one part; a word that is no instruction; a product's high word, written, in two parts
-// and in one; lw x1, 0(x0).
-const PARTS: [(&[u32], &[Part]); 6] = [
+// The high word of -1 times -1, unsigned, written; an exit with it.
+const PRODUCT: [u32; 7] = [
+    0xfff00093, 0x0210b133, 0x00010513, 0x00100893, ECALL, EXIT, ECALL,
+];
+
+// A program, so many instructions and then so many more, what the machine has come to then, and the first word that it wrote. The
+// last two are a word that is no instruction, and lw x1, 0(x0).
+const PARTS: [(&[u32], u64, u64, MachineOutcome, Option<u32>); 11] = [
+    (&EXITS, 0, 2, MachineOutcome::Going, None),
+    (&EXITS, 2, 1, MachineOutcome::Exited(5), None),
+    (&EXITS, 3, 1, MachineOutcome::Exited(5), None),
+    (&EXITS, 0, 9, MachineOutcome::Exited(5), None),
+    (&PRODUCT, 0, 6, MachineOutcome::Going, Some(4294967294)),
     (
-        &[0x00500513, EXIT, ECALL],
-        &[
-            (2, MachineOutcome::Going, None),
-            (1, MachineOutcome::Exited(5), None),
-            (1, MachineOutcome::Exited(5), None),
-        ],
+        &PRODUCT,
+        6,
+        1,
+        MachineOutcome::Exited(4294967294),
+        Some(4294967294),
     ),
     (
-        &[0x00500513, EXIT, ECALL],
-        &[(9, MachineOutcome::Exited(5), None)],
+        &PRODUCT,
+        0,
+        7,
+        MachineOutcome::Exited(4294967294),
+        Some(4294967294),
     ),
-    (
-        &[0],
-        &[
-            (0, MachineOutcome::Going, None),
-            (1, MachineOutcome::Trapped, None),
-            (1, MachineOutcome::Trapped, None),
-        ],
-    ),
-    (
-        &[
-            0xfff00093, 0x0210b133, 0x00010513, 0x00100893, ECALL, EXIT, ECALL,
-        ],
-        &[
-            (6, MachineOutcome::Going, Some(4294967294)),
-            (1, MachineOutcome::Exited(4294967294), Some(4294967294)),
-        ],
-    ),
-    (
-        &[
-            0xfff00093, 0x0210b133, 0x00010513, 0x00100893, ECALL, EXIT, ECALL,
-        ],
-        &[(7, MachineOutcome::Exited(4294967294), Some(4294967294))],
-    ),
-    (&[0x00002083], &[(1, MachineOutcome::Trapped, None)]),
+    (&[0], 0, 0, MachineOutcome::Going, None),
+    (&[0], 0, 1, MachineOutcome::Trapped, None),
+    (&[0], 1, 1, MachineOutcome::Trapped, None),
+    (&[0x00002083], 0, 1, MachineOutcome::Trapped, None),
 ];
 
 const GLOBALS: [u32; 2] = [0x0ff000ff, 0xf00f0ff0];
@@ -405,13 +397,13 @@ fn first_word(
 
 #[test]
 fn runs_a_part_at_a_time(rt: HostRuntime) -> Result<(), Fail> {
-    for (code, parts) in PARTS {
+    for (code, before, steps, outcome, word) in PARTS {
         let image = image_of(rt.alloc(), code, &[])?;
         let mut machine = Machine::new(rt.alloc(), &image, &[])?;
-        for (steps, outcome, word) in parts {
-            let came = machine.run(*steps)?;
-            assert!(rt; came == *outcome && machine.output().first().copied() == *word);
-        }
+        machine.run(before)?;
+        let came = machine.run(steps)?;
+        let written = machine.output().first().copied();
+        assert!(rt; came == outcome && written == word, "{before} and {steps}");
     }
     Ok(())
 }

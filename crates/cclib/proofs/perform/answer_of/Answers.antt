@@ -2,7 +2,7 @@
 use Rattle.std.proofs.Common.{◌≡◌, ℕ, List, refl, sym, subst}
 use Rattle.cc_syntax.specs.Source.{source}
 use Rattle.cc_meaning.specs.Meaning.{source_behavior}
-use Rattle.cc_meaning.specs.Shown.{outcome_shown}
+use Rattle.cc_meaning.specs.Erase.{outcome_tree}
 use Rattle.cclib.specs.Answer.{IsAnswer}
 use Rattle.cclib.specs.declared.command_line.Task.{Task}
 use Rattle.cclib.specs.declared.perform.Answer.TheVariants.{Accepted, Ran}
@@ -22,6 +22,6 @@ returns-in-Ok-clause-answer c = record {
   whose = refl;
   is = c.requires;
   answered = subst (λ (t : Task). IsAnswer t (source c.args.program.now) (Ran c.in-Ok.outcome)) (sym c.in-Interpret.is)
-      (subst (λ (ws : List ℕ). outcome_shown c.in-Ok.outcome ≡ source_behavior (source c.args.program.now) ws c.in-Interpret.steps)
+      (subst (λ (ws : List ℕ). outcome_tree c.in-Ok.outcome ≡ source_behavior (source c.args.program.now) ws c.in-Interpret.steps)
       c.as_slice.ensures.value c.in-Ok.ensures);
 }
