@@ -1,12 +1,17 @@
 //! The operations of a 32-bit machine word, as C99 and RV32IM have them: sums, comparisons, divisions, shifts.
-//! One module, free functions on `u32`. A signed operation reads its words in two's complement.
+//! Free functions on `u32`; a signed operation reads its words in two's complement. `operators` has the operators of the
+//! intermediate languages as values.
 //! Each call answers its formula over whole numbers, `specs/Words.antt`; an operation that C leaves
 //! undefined answers `None`. No call takes memory, and none can fail otherwise.
-//! Hands out the calls, the definitions (`specs/Words.antt`) and their laws (`proofs/`).
+//! Hands out the calls, the operators, the definitions (`specs/`) and their laws (`proofs/`).
 #![tactic(auto)]
+
+mod operators;
 
 ghost use Rattle.std.specs.Prelude.{◌≡◌};
 ghost use Rattle.cc_words.specs.Words as words;
+
+pub use operators::{Binary, Unary};
 
 /// `left + right` modulo 2^32, signed or not (C99 6.5.6).
 pub fn add(left: u32, right: u32) -> u32

@@ -29,8 +29,8 @@ fn expect(
     status: u8,
 ) -> Result<(), Fail> {
     let (found, written) = run(rt, task, text.as_bytes())?;
-    assert_eq!(rt; written.as_slice(), lines.as_bytes(), "for {text}");
-    assert_eq!(rt; found, status, "for {text}");
+    let is_right = found == status && written.as_slice() == lines.as_bytes();
+    assert!(rt; is_right, "for {text}");
     Ok(())
 }
 

@@ -6,8 +6,8 @@
 #[cfg(test)]
 mod tests {
     use cc_words::{
-        add, div_s, div_u, eq, le_s, le_u, lt_s, lt_u, mul, ne, rem_s, rem_u, shl, shr_s, shr_u,
-        sub,
+        Binary, Unary, add, div_s, div_u, eq, le_s, le_u, lt_s, lt_u, mul, ne, rem_s, rem_u, shl,
+        shr_s, shr_u, sub,
     };
 
     const LEAST: u32 = 0x8000_0000;
@@ -163,6 +163,48 @@ mod tests {
         for count in [32, 33, 64, LEAST, MINUS_ONE] {
             let found = [shl(1, count), shr_s(1, count), shr_u(1, count)];
             assert_eq!(rt; found, [None, None, None], "1 by {count}");
+        }
+    }
+
+    // -7 and 2
+    #[test]
+    fn operators_on_two_words(rt: HostRuntime) {
+        for (operator, expected) in [
+            (Binary::Add, 0xffff_fffb),
+            (Binary::Sub, 0xffff_fff7),
+            (Binary::Mul, 0xffff_fff2),
+            (Binary::DivS, 0xffff_fffd),
+            (Binary::DivU, 0x7fff_fffc),
+            (Binary::RemS, 0xffff_ffff),
+            (Binary::RemU, 1),
+            (Binary::Shl, 0xffff_ffe4),
+            (Binary::ShrS, 0xffff_fffe),
+            (Binary::ShrU, 0x3fff_fffe),
+            (Binary::And, 0),
+            (Binary::Or, 0xffff_fffb),
+            (Binary::Xor, 0xffff_fffb),
+            (Binary::Eq, 0),
+            (Binary::Ne, 1),
+            (Binary::LtS, 1),
+            (Binary::LtU, 0),
+            (Binary::LeS, 1),
+            (Binary::LeU, 0),
+        ] {
+            let found = operator.apply(0xffff_fff9, 2);
+            assert_eq!(rt; found, Some(expected), "wants {expected}");
+        }
+        assert_eq!(rt; Binary::DivU.apply(7, 0), None);
+    }
+
+    #[test]
+    fn operators_on_one_word(rt: HostRuntime) {
+        for (operator, word, expected) in [
+            (Unary::Neg, 0xffff_fff9, 7),
+            (Unary::Complement, 0xffff_fff9, 6),
+            (Unary::IsZero, 0xffff_fff9, 0),
+            (Unary::IsZero, 0, 1),
+        ] {
+            assert_eq!(rt; operator.apply(word), expected, "of {word}");
         }
     }
 }

@@ -3,56 +3,52 @@
 use super::{checks, interprets, repeated, run};
 use crate::command_line::Task;
 use std::alloc::Global;
-use std::process::Abort;
 use std::test::Fail;
 
-/// `check` answers the text of `before`, `middle` so many times, and `behind` with this line.
-fn repeats(
-    rt: &(impl AllocGlobal + Abort),
-    parts: (&str, &str, &str),
-    times: usize,
-    line: &str,
-) -> Result<(), Fail> {
-    let (before, middle, behind) = parts;
-    let text = repeated(rt.alloc(), before, middle, times, behind)?;
-    let (_, written) = run(rt, Task::Check, text.as_slice())?;
-    assert_eq!(rt; written.as_slice(), line.as_bytes());
-    Ok(())
-}
-
-#[test]
-fn bytes(rt: HostRuntime) -> Result<(), Fail> {
-    repeats(
-        &rt,
-        ("", " ", ""),
-        65_536,
-        "fault 5 Unexpected at 1:65537\n",
-    )?;
-    repeats(&rt, ("", " ", ""), 65_537, "fault 7 SourceTooLarge\n")?;
-    repeats(&rt, ("", "a", ""), 65_536, "fault 5 Unexpected at 1:1\n")?;
-    repeats(
-        &rt,
-        ("", "1", ""),
-        65_536,
-        "fault 4 ConstantTooLarge at 1:1\n",
-    )?;
-    repeats(
-        &rt,
-        ("", "/**/", ""),
-        16_384,
-        "fault 5 Unexpected at 1:65537\n",
-    )
-}
-
-#[test]
-fn tokens_of_an_expression(rt: HostRuntime) -> Result<(), Fail> {
-    repeats(&rt, ("int main(void){", "~", "1;}"), 511, "ok\n")?;
-    repeats(
-        &rt,
-        ("int main(void){", "~", "1;}"),
+/// A text's begin, what is repeated, its end, how often, and the line that `check` writes.
+const REPEATED: [(&str, &str, &str, usize, &str); 11] = [
+    // bytes
+    ("", " ", "", 65_536, "fault 5 Unexpected at 1:65537\n"),
+    ("", " ", "", 65_537, "fault 7 SourceTooLarge\n"),
+    ("", "a", "", 65_536, "fault 5 Unexpected at 1:1\n"),
+    ("", "1", "", 65_536, "fault 4 ConstantTooLarge at 1:1\n"),
+    ("", "/**/", "", 16_384, "fault 5 Unexpected at 1:65537\n"),
+    // tokens of an expression
+    ("int main(void){", "~", "1;}", 511, "ok\n"),
+    (
+        "int main(void){",
+        "~",
+        "1;}",
         512,
         "fault 6 TooDeep at 1:528\n",
-    )
+    ),
+    // parameters and locals
+    ("int f(", "int,", "int);int main(void){}", 7, "ok\n"),
+    (
+        "int f(",
+        "int,",
+        "int);int main(void){}",
+        8,
+        "fault 21 TooMany at 1:5\n",
+    ),
+    ("int main(void){", "{int a;}", "}", 256, "ok\n"),
+    (
+        "int main(void){",
+        "{int a;}",
+        "}",
+        257,
+        "fault 21 TooMany at 1:2069\n",
+    ),
+];
+
+#[test]
+fn repeated_parts(rt: HostRuntime) -> Result<(), Fail> {
+    for (before, middle, after, times, line) in REPEATED {
+        let text = repeated(rt.alloc(), before, middle, times, after)?;
+        let (_, written) = run(&rt, Task::Check, text.as_slice())?;
+        assert!(rt; written.as_slice() == line.as_bytes(), "{middle} {times}");
+    }
+    Ok(())
 }
 
 // So many blocks within one another.
@@ -99,24 +95,6 @@ fn deepest(alloc: Global, times: u32) -> Result<String, Fail> {
 fn calls_expressions_and_statements_at_once(rt: HostRuntime) -> Result<(), Fail> {
     interprets(&rt, &deepest(rt.alloc(), 1022)?, 2000, "7\nended 0\n")?;
     interprets(&rt, &deepest(rt.alloc(), 1023)?, 2000, "wrong Depth\n")
-}
-
-#[test]
-fn parameters_and_locals(rt: HostRuntime) -> Result<(), Fail> {
-    repeats(&rt, ("int f(", "int,", "int);int main(void){}"), 7, "ok\n")?;
-    repeats(
-        &rt,
-        ("int f(", "int,", "int);int main(void){}"),
-        8,
-        "fault 21 TooMany at 1:5\n",
-    )?;
-    repeats(&rt, ("int main(void){", "{int a;}", "}"), 256, "ok\n")?;
-    repeats(
-        &rt,
-        ("int main(void){", "{int a;}", "}"),
-        257,
-        "fault 21 TooMany at 1:2069\n",
-    )
 }
 
 // Functions f10, f11 and so on up to the last, and `main`.

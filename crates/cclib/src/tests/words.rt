@@ -34,36 +34,22 @@ fn is_refused(rt: &(impl AllocGlobal + std::process::Abort), words: &'static [&'
     }
 }
 
-static PAST: [&str; 3] = ["cclib", "interpret", "1000000001"];
-
-static SIGNED: [&str; 3] = ["cclib", "interpret", "+5"];
-
-static NEGATIVE: [&str; 3] = ["cclib", "interpret", "-1"];
-
-static WORDS: [&str; 3] = ["cclib", "interpret", "ten"];
-
-static LARGE_WORD: [&str; 4] = ["cclib", "interpret", "5", "4294967296"];
-
-static SIGNED_WORD: [&str; 4] = ["cclib", "interpret", "5", "+1"];
-
-static NEGATIVE_WORD: [&str; 4] = ["cclib", "interpret", "5", "-1"];
-
-static NONE: [&str; 2] = ["cclib", "interpret"];
-
-static LATER: [&str; 3] = ["cclib", "run", "5"];
-
-static ALONE: [&str; 1] = ["cclib"];
+const REFUSED: [&[&str]; 10] = [
+    &["cclib", "interpret", "1000000001"],
+    &["cclib", "interpret", "+5"],
+    &["cclib", "interpret", "-1"],
+    &["cclib", "interpret", "ten"],
+    &["cclib", "interpret", "5", "4294967296"],
+    &["cclib", "interpret", "5", "+1"],
+    &["cclib", "interpret", "5", "-1"],
+    &["cclib", "interpret"],
+    &["cclib", "run", "5"],
+    &["cclib"],
+];
 
 #[test]
 fn refused_words(rt: HostRuntime) {
-    is_refused(&rt, PAST.as_slice());
-    is_refused(&rt, SIGNED.as_slice());
-    is_refused(&rt, NEGATIVE.as_slice());
-    is_refused(&rt, WORDS.as_slice());
-    is_refused(&rt, LARGE_WORD.as_slice());
-    is_refused(&rt, SIGNED_WORD.as_slice());
-    is_refused(&rt, NEGATIVE_WORD.as_slice());
-    is_refused(&rt, NONE.as_slice());
-    is_refused(&rt, LATER.as_slice());
-    is_refused(&rt, ALONE.as_slice());
+    for words in REFUSED {
+        is_refused(&rt, words);
+    }
 }

@@ -1,0 +1,107 @@
+//! The operators of the intermediate languages: three on one word, nineteen on two. Every language that comes after C has these
+//! and no others, so they and what they give stand here once.
+
+ghost use Rattle.std.specs.Prelude.{◌≡◌};
+ghost use Rattle.cc_words.specs.Operators.{apply_unary, apply_binary};
+
+use super::{
+    add, div_s, div_u, eq, le_s, le_u, lt_s, lt_u, mul, ne, rem_s, rem_u, shl, shr_s, shr_u, sub,
+};
+
+/// An operator on one word.
+#[derive(Clone, Copy)]
+pub enum Unary {
+    /// 0 minus the word (C99 6.5.3.3).
+    Neg,
+    /// 1 where the word has a 0, digit by digit (C99 6.5.3.3).
+    Complement,
+    /// 1 for 0, else 0: `!` (C99 6.5.3.3).
+    IsZero,
+}
+
+impl Unary {
+    /// What it gives.
+    pub fn apply(self, word: u32) -> u32
+        ensures { result ≡ apply_unary self word }
+    {
+        match self {
+            Unary::Neg => sub(0, word),
+            Unary::Complement => !word,
+            Unary::IsZero => eq(word, 0),
+        }
+    }
+}
+
+/// An operator on two words. `S` reads them as signed numbers, `U` as unsigned ones.
+#[derive(Clone, Copy)]
+pub enum Binary {
+    /// `+` (C99 6.5.6).
+    Add,
+    /// `-` (C99 6.5.6).
+    Sub,
+    /// `*` (C99 6.5.5).
+    Mul,
+    /// `/` (C99 6.5.5).
+    DivS,
+    /// `/` (C99 6.5.5).
+    DivU,
+    /// `%` (C99 6.5.5).
+    RemS,
+    /// `%` (C99 6.5.5).
+    RemU,
+    /// `<<` (C99 6.5.7).
+    Shl,
+    /// `>>` (C99 6.5.7).
+    ShrS,
+    /// `>>` (C99 6.5.7).
+    ShrU,
+    /// `&` (C99 6.5.10).
+    And,
+    /// `|` (C99 6.5.12).
+    Or,
+    /// `^` (C99 6.5.11).
+    Xor,
+    /// `==` (C99 6.5.9).
+    Eq,
+    /// `!=` (C99 6.5.9).
+    Ne,
+    /// `<` (C99 6.5.8).
+    LtS,
+    /// `<` (C99 6.5.8).
+    LtU,
+    /// `<=` (C99 6.5.8).
+    LeS,
+    /// `<=` (C99 6.5.8).
+    LeU,
+}
+
+impl Binary {
+    /// What it gives.
+    ///
+    /// `None` exactly where C has no answer: a divisor of 0, -2147483648 by -1 in a signed division, a count of 32 or more.
+    pub fn apply(self, left: u32, right: u32) -> Option<u32>
+        ensures { result ≡ apply_binary self left right }
+    {
+        match self {
+            Binary::Add => Some(add(left, right)),
+            Binary::Sub => Some(sub(left, right)),
+            Binary::Mul => Some(mul(left, right)),
+            Binary::DivS => div_s(left, right),
+            Binary::DivU => div_u(left, right),
+            Binary::RemS => rem_s(left, right),
+            Binary::RemU => rem_u(left, right),
+            Binary::Shl => shl(left, right),
+            Binary::ShrS => shr_s(left, right),
+            Binary::ShrU => shr_u(left, right),
+            Binary::And => Some(left & right),
+            Binary::Or => Some(left | right),
+            Binary::Xor => Some(left ^ right),
+            Binary::Eq => Some(eq(left, right)),
+            Binary::Ne => Some(ne(left, right)),
+            Binary::LtS => Some(lt_s(left, right)),
+            Binary::LtU => Some(lt_u(left, right)),
+            Binary::LeS => Some(le_s(left, right)),
+            Binary::LeU => Some(le_u(left, right)),
+        }
+    }
+}
