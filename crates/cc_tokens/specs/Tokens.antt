@@ -217,7 +217,7 @@ pub record IsFlawFault (text : List ℕ) (fault : SyntaxFault) : Type 0 where
   pub is : fault ≡ flaw_fault flaw (place_of text at)
 
 -- when a text has no tokens: 7 where it is longer than 65,536 bytes; where it isn't, the fault of its first flaw, or
--- want of memory
+-- 40 where memory runs out
 abbrev pub IsTokenRefusal : List ℕ → SyntaxFault → Type 0
 IsTokenRefusal text fault.SourceTooLarge = 65536 < length text
 IsTokenRefusal text fault.OutOfMemory = length text ≤ 65536
