@@ -121,23 +121,43 @@ class Repository:
                 left += self.named("\n".join(page.items[it[2]]), page.names, page)
         return found
 
+    def handed_out(self, crate):
+        """Returns the modules that a crate hands out whole, and the names that it hands out one by one; None of a program, all of whose
+        functions count."""
+        if not os.path.isfile(f"{TOP}/crates/{crate}/src/lib.rt"):
+            return None, None
+        with open(f"{TOP}/crates/{crate}/src/lib.rt", encoding="utf-8") as file:
+            text = file.read()
+        names = " ".join(a or b for a, b in re.findall(r"pub use [\w:]+?::(?:\{([^}]*)\}|(\w+));", text))
+        return set(re.findall(r"^pub mod (\w+);", text, re.M)), set(re.findall(r"\w+", names))
+
     def contracts(self, crate, function=None, types=False):
         """Returns the definitions that the public contracts of a crate name: of its functions, or of one; and what its types
         are seen as and keep, if that is asked for."""
-        found = set()
+        found, (modules, handed) = set(), self.handed_out(crate)
         for at, _, files in os.walk(f"{TOP}/crates/{crate}/src"):
             for file in files:
                 with open(f"{at}/{file}", encoding="utf-8") as it:
                     text = it.read()
-                names, name, taking = names_in(text), None, False
+                whole = modules is None or file == "lib.rt" or os.path.relpath(f"{at}/{file}", f"{TOP}/crates/{crate}/src")[:-3] in modules
+                names, name, taking, owner, of_trait, ghost = names_in(text), None, False, True, False, False
                 for line in text.split("\n"):
-                    begins = PUBLIC.match(line)
+                    block = re.match(r"(?:impl|pub trait|trait)\b(?:<.*?>)?\s*(.*?)\s*\{?$", line)
+                    if block:
+                        of_trait = "trait" in line or " for " in line
+                        owner = whole or bool(set(re.findall(r"\w+", block[1])) & handed)
+                    elif line.startswith("}"):
+                        owner = True
+                    begins = PUBLIC.match(line) or of_trait and re.match(r"^    fn (\w+)", line)
                     if begins or re.match(r"^\s*(pub\(\w+\) )?fn ", line):
-                        name, taking = begins[1] if begins else None, False
-                    is_model = types and re.match(r"^\s*ghost (Value|view|invariant|\w+:)", line)
+                        is_free = not line.startswith(" ")
+                        is_public = begins and (whole or begins[1] in handed if is_free else owner)
+                        name, taking = begins[1] if is_public else None, False
+                    ghost = types and (bool(re.match(r"^\s*ghost (?!use)\w+", line)) or ghost)
                     taking = bool(CLAUSE.match(line)) or taking and not re.match(r"^\s*[{}]?\s*$", line) and not line.rstrip().endswith("{")
-                    if taking and name is not None and function in (None, name) or is_model:
+                    if taking and name is not None and function in (None, name) or ghost:
                         found |= self.named(line, names)
+                    ghost = ghost and not line.rstrip().endswith((";", ","))
         return found
 
 
