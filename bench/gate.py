@@ -1,63 +1,85 @@
 #!/usr/bin/env python3
-"""Where the gate's time goes: for each crate the seconds of processor that its proof takes, and a check, and an edit.
+"""Runs the gate and tells where its time goes.
 
-    bench/gate.py [CRATE ..]      every crate of crates.txt where none is named
+    bench/gate.py [FOLDER]      in that clone of the repository, or a fresh one of what is committed here
 
-It works in a fresh clone of what is committed, one check at a time and one job a check, so its figures can be compared
-on any machine that is otherwise idle; nothing in this tree changes. For each crate it prints
+The gate is `rt ci`, as `.ci/run` has it; it should be the only thing that the machine does. While it runs, this script looks
+four times a second at the toolchain's processes and adds up the processor seconds of each. Then it prints a row for each
+crate, in seconds of processor:
 
-    lines   of src/, proofs and tests left out
+    lines   of src/, proofs left out
     P       a whole proof from nothing
-    n       a check that changes nothing
-    edits   how many must-fail edits there are
-    e       what each of these costs behind the first, on average; the first costs as much as P
-    sum     what the gate spends on the crate: P, tests besides where it has some, and for its edits P, the others, n
+    tests   the proof of its tests, where it has some, and their build
+    first   its first must-fail edit, which is a whole check again
+    e       each further edit, on average
+    n       a check that changes nothing, which the gate makes after the edits
+    sum     all of these
+    proof   the wall clock's seconds that the proof took, beside others
 
-and last the sum of all. Seconds are those of processor, user's and system's, of the toolchain's processes."""
+and after them the sum of all, the wall clock's time, and the longest chain: the proofs of crates that wait for one another
+and the edits of the last of them, in the wall clock's time."""
 import os
-import resource
+import re
 import shutil
 import subprocess
 import sys
 import tempfile
+import time
 
 TOP = os.path.dirname(os.path.dirname(os.path.abspath(__file__)))
+TICK = os.sysconf("SC_CLK_TCK")
 
 
-def seconds(folder, *words, wanted=0):
-    """Runs a command in a folder, and returns the seconds of processor that it took."""
-    before = resource.getrusage(resource.RUSAGE_CHILDREN)
-    ran = subprocess.run(words, cwd=folder, stdin=subprocess.DEVNULL, stdout=subprocess.PIPE, stderr=subprocess.STDOUT, errors="replace")
-    after = resource.getrusage(resource.RUSAGE_CHILDREN)
-    if ran.returncode != wanted:
-        sys.exit(f"{' '.join(words)} in {folder} ended with {ran.returncode}:\n{ran.stdout[-2000:]}")
-    return after.ru_utime + after.ru_stime - before.ru_utime - before.ru_stime
+class Process:
+    """What one process of the toolchain does, and what it has taken so far."""
+
+    def __init__(self, words, place, now):
+        self.crate = words[words.index("--crate-name") + 1] if "--crate-name" in words else os.path.basename(place)
+        self.is_edit = "/rt-edit-" in place
+        self.is_test = "--test" in words
+        self.place, self.begin, self.end, self.seconds = place, now, now, 0.0
 
 
-def table():
+def read(pid):
+    """Returns the words, the folder and the seconds of a process, or None where it is not the toolchain's or has ended."""
+    try:
+        with open(f"/proc/{pid}/stat", "rb") as file:
+            name, fields = re.match(rb"\d+ \((.*)\) (.*)", file.read(), re.S).groups()
+        if name not in (b"rattle", b"clang", b"rattle-link") and not name.startswith(b"antt"):
+            return None
+        with open(f"/proc/{pid}/cmdline", "rb") as file:
+            words = file.read().decode(errors="replace").split("\0")
+        fields = fields.split()
+        return words, os.readlink(f"/proc/{pid}/cwd"), (int(fields[11]) + int(fields[12])) / TICK
+    except (OSError, AttributeError, ValueError):
+        return None
+
+
+def watch(folder):
+    """Runs the gate, and returns whether it passed, what it took, and its processes."""
+    found, begin = {}, time.monotonic()
+    gate = subprocess.Popen([f"{folder}/.ci/run"], cwd=folder, stdin=subprocess.DEVNULL)
+    while gate.poll() is None:
+        now = time.monotonic() - begin
+        for pid in filter(str.isdigit, os.listdir("/proc")):
+            seen = read(pid)
+            if seen is not None:
+                words, place, seconds = seen
+                process = found.setdefault((pid, place), Process(words, place, now))
+                process.end, process.seconds = now, max(process.seconds, seconds)
+        time.sleep(0.25)
+    return gate.returncode == 0, time.monotonic() - begin, list(found.values())
+
+
+def below(folder):
     """Returns each crate of crates.txt with the crates of the repository that it names."""
     rows = {}
-    with open(f"{TOP}/crates.txt", encoding="utf-8") as file:
+    with open(f"{folder}/crates.txt", encoding="utf-8") as file:
         for line in file:
-            name, colon, below = line.partition("#")[0].partition(":")
+            name, colon, names = line.partition("#")[0].partition(":")
             if colon:
-                rows[name.split()[0]] = below.split()
-    return {name: [it for it in below if it in rows] for name, below in rows.items()}
-
-
-def lowest_first(rows, names):
-    """Returns the crates and all below them, each after those that it names."""
-    found = []
-
-    def add(name):
-        if name not in found:
-            for it in rows[name]:
-                add(it)
-            found.append(name)
-
-    for name in names:
-        add(name)
-    return found
+                rows[name.split()[0]] = names.split()
+    return {name: [it for it in names if it in rows] for name, names in rows.items()}
 
 
 def count_lines(folder):
@@ -69,48 +91,64 @@ def count_lines(folder):
     return count
 
 
-def has_tests(folder):
-    for at, _, files in os.walk(f"{folder}/src"):
-        for name in files:
-            with open(f"{at}/{name}", encoding="utf-8") as file:
-                if "#[test]" in file.read():
-                    return True
-    return False
+def span(processes):
+    return max((it.end for it in processes), default=0) - min((it.begin for it in processes), default=0)
 
 
-def measure(root, name):
-    """Prints a crate's row, and returns its sum. The libraries below it are built."""
-    folder = f"{root}/crates/{name}"
-    tests = ["--test"] if has_tests(folder) else []
-    proof = seconds(folder, "rt", "check", "--jobs", "1", *tests)
-    again = seconds(folder, "rt", "check", "--jobs", "1", *tests)
-    edits = len([it for it in os.listdir(f"{folder}/must-fail") if it.endswith(".edit")]) if os.path.isdir(f"{folder}/must-fail") else 0
-    every = seconds(root, "rt", "must-fail", name) if edits else 0
-    each = max(every - proof - again, 0) / (edits - 1) if edits > 1 else 0
-    whole = proof + every
-    print(f"{name:16}{count_lines(folder):7}{proof:8.0f}{again:7.1f}{edits:7}{each:8.1f}{whole:8.0f}", flush=True)
-    if not tests:
-        seconds(folder, "rt", "lib", "--jobs", "1", wanted=0) if os.path.isfile(f"{folder}/src/lib.rt") else None
-    return whole
+class Row:
+    """What the gate spent on one crate."""
+
+    def __init__(self, folder, name, processes):
+        own = [it for it in processes if it.crate == name]
+        self.name, self.lines = name, count_lines(f"{folder}/crates/{name}")
+        proof = [it for it in own if not it.is_edit and not it.is_test]
+        self.proof = sum(it.seconds for it in proof)
+        self.tests = sum(it.seconds for it in own if it.is_test and not it.is_edit)
+        rooms = {}
+        for it in sorted((it for it in own if it.is_edit), key=lambda it: it.begin):
+            rooms.setdefault(it.place, []).append(it)
+        edits = [sum(it.seconds for it in room) for room in rooms.values()]
+        self.count = len([it for it in os.listdir(f"{folder}/crates/{name}/must-fail")]) if edits else 0
+        self.first = edits[0] if edits else 0
+        further = edits[1 : self.count]
+        self.each = sum(further) / len(further) if further else 0
+        self.again = edits[self.count] if len(edits) > self.count else 0
+        self.whole = self.proof + self.tests + sum(edits)
+        self.wall, self.edits_wall = span(proof), span([it for it in own if it.is_edit])
+
+    def text(self):
+        numbers = f"{self.lines:6} | {self.proof:4.0f} | {self.tests:5.0f} | {self.count:5} | {self.first:5.0f} | {self.each:4.1f} | {self.again:4.1f} | {self.whole:5.0f} | {self.wall:5.0f}"
+        return f"| {self.name:15} | {numbers} |"
 
 
-def main(names):
-    rows = table()
-    names = names or list(rows)
-    room = tempfile.mkdtemp(prefix="cclib-gate-")
-    try:
+def main(folder):
+    room = None
+    if folder is None:
+        room = tempfile.mkdtemp(prefix="cclib-gate-")
         subprocess.run(["git", "clone", "-q", TOP, f"{room}/tree"], check=True)
-        print(f"{'crate':16}{'lines':>7}{'P':>8}{'n':>7}{'edits':>7}{'e':>8}{'sum':>8}", flush=True)
-        total = 0
-        for name in lowest_first(rows, names):
-            if name in names:
-                total += measure(f"{room}/tree", name)
-            else:
-                seconds(f"{room}/tree/crates/{name}", "rt", "lib")
-        print(f"sum of all: {total:.0f} seconds, {total / 60:.0f} minutes")
-    finally:
+        folder = f"{room}/tree"
+    passed, wall, processes = watch(folder)
+    names = below(folder)
+    rows = {name: Row(folder, name, processes) for name in names}
+    print("| crate           |  lines |    P | tests | edits | first |    e |    n |   sum | proof |")
+    print("|---|---|---|---|---|---|---|---|---|---|")
+    for row in rows.values():
+        print(row.text())
+    chains = {}
+
+    def chain(name):
+        if name not in chains:
+            chains[name] = rows[name].wall + max((chain(it) for it in names[name]), default=0)
+        return chains[name]
+
+    longest = max(names, key=lambda it: chain(it) + rows[it].edits_wall)
+    print(f"all crates: {sum(it.whole for it in rows.values()) / 60:.0f} processor minutes; all that the toolchain did: {sum(it.seconds for it in processes) / 60:.0f}")
+    print(f"wall clock: {wall / 60:.0f} minutes on {os.cpu_count()} processors; longest chain: to the edits of {longest}, {(chain(longest) + rows[longest].edits_wall) / 60:.0f} minutes")
+    print("passed" if passed else "NOT PASSED")
+    if room:
         shutil.rmtree(room, ignore_errors=True)
+    return 0 if passed else 1
 
 
 if __name__ == "__main__":
-    main(sys.argv[1:])
+    sys.exit(main(sys.argv[1] if len(sys.argv) > 1 else None))
