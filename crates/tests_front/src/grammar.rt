@@ -20,18 +20,16 @@ fn answer(alloc: Global, text: &[u8]) -> (u32, usize, usize) {
 #[test]
 fn texts_that_are_units(rt: HostRuntime) {
     for (index, text) in SPELLED.iter().enumerate() {
-        assert_eq!(rt; answer(rt.alloc(), text), (0, 0, 0), "text {index}");
+        assert!(rt; answer(rt.alloc(), text) == (0, 0, 0), "text {index}");
     }
 }
 
 #[test]
 fn texts_that_are_none(rt: HostRuntime) {
     for (index, (text, number, line, column)) in REFUSED.iter().enumerate() {
-        assert_eq!(rt;
-            answer(rt.alloc(), text),
-            (*number, *line, *column),
-            "text {index}"
-        );
+        let (found, at, in_line) = answer(rt.alloc(), text);
+        let is_right = found == *number && at == *line && in_line == *column;
+        assert!(rt; is_right, "text {index}");
     }
 }
 
@@ -49,11 +47,8 @@ fn repeats(
         text.push_str(middle)?;
     }
     text.push_str(behind)?;
-    assert_eq!(rt;
-        answer(rt.alloc(), text.as_bytes()),
-        wanted,
-        "{before}{middle}..{behind}"
-    );
+    let found = answer(rt.alloc(), text.as_bytes());
+    assert!(rt; found == wanted, "{before}{middle}..{behind}");
     Ok(())
 }
 

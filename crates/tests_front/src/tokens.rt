@@ -27,7 +27,7 @@ fn shown(alloc: Global, text: &[u8]) -> Result<String, Fail> {
 fn all_hold(rt: &(impl AllocGlobal + Abort), vectors: &[Vector]) -> Result<(), Fail> {
     for (text, line) in vectors {
         let found = shown(rt.alloc(), text)?;
-        assert_eq!(rt; found.as_str(), *line);
+        assert!(rt; found.as_str() == *line, "wants {line}");
     }
     Ok(())
 }
