@@ -1,4 +1,4 @@
--- The states of the machine in a full expression, and how tokens are counted there.
+-- The states of the parser in a full expression, and how tokens are counted there.
 use Rattle.std.proofs.Common.{◌≡◌, ◌<◌, ◌≤◌, ℕ, suc, List, [], ◌∷◌, ◌++◌, refl, sym, ap, subst, cond, leb, arith}
 use Rattle.std.proofs.lemmas.Bool.{lt-leb, le-leb}
 use Rattle.cc_tokens.specs.Token.{Lexeme}

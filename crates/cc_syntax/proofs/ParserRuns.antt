@@ -1,4 +1,4 @@
--- Runs of the parser's machine over tokens, with the standing of each token as the machine has it. A run can be cut and
+-- Runs of the parser over tokens, with the standing of each token as the parser has it. A run can be cut and
 -- joined, and the tokens alone determine it.
 use Rattle.std.proofs.Common.{◌≡◌, ℕ, List, [], ◌∷◌, ◌++◌, Option, Some, refl, sym, ap, subst, ◌∙◌}
 use Rattle.cc_tokens.specs.declared.token.TokenKind.{TokenKind}
@@ -7,7 +7,7 @@ use Rattle.cc_syntax.specs.internal.Roles.{role_of}
 use Rattle.cc_syntax.specs.Grammar.{Measured, plain_tokens}
 use Rattle.cc_syntax.specs.internal.Parser.{State, step, role_step, name_of, count_of, level_at, role_level}
 
--- the machine goes over the tokens from one state to another
+-- the parser goes over the tokens from one state to another
 abbrev pub Runs : State → List Measured → State → Type 0
 Runs s [] e = s ≡ e
 Runs s (p ∷ ps) e = (m : State) × (step s p.token ≡ Some m) × (p.count ≡ count_of m) × (p.level ≡ level_at s p.token) × Runs m ps e

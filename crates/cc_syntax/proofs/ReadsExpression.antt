@@ -1,4 +1,4 @@
--- Each expression that tokens spell is read from them: an induction on its tree. After its tokens the machine may still
+-- Each expression that tokens spell is read from them: an induction on its tree. After its tokens the parser may still
 -- hold parts of it that wait, which any operator of the level reduces to the whole expression.
 use Rattle.std.proofs.Common.{◌≡◌, ◌≤◌, ℕ, suc, List, [], ◌∷◌, ◌++◌, Some, refl, sym, ap, subst, ◌∙◌, arith, append_assoc, inl, inr}
 use Rattle.cc_syntax.specs.declared.ast.BinaryOperator.{BinaryOperator}

@@ -1,5 +1,5 @@
 -- Each statement that tokens spell is read from them: an induction on its tree. After a statement that ends in an open
--- `if` the machine waits for the token that tells; with any token but `else` it goes on as after the statement.
+-- `if` the parser waits for the token that tells; with any token but `else` it goes on as after the statement.
 use Rattle.std.proofs.Common.{◌≡◌, ℕ, true, false, suc, List, [], ◌∷◌, ◌++◌, length, Option, Some, None, refl, sym, ap, subst, ◌∙◌, arith, append_assoc}
 use Rattle.cc_tokens.specs.declared.scalar.Scalar.{Scalar}
 use Rattle.cc_tokens.specs.declared.token.Keyword.TheVariants as keyword
@@ -32,7 +32,7 @@ pub record Leads (b : Inside) (ts : List Measured) (s : Stmt) : Type 0 where
   pub closed : IsClosed s → after ≡ in_body (settled true b b.opened s)
   pub rests : RestsAs after (in_body (settled false b b.opened s))
 
--- a statement after whose last token the machine settles it
+-- a statement after whose last token the parser settles it
 leads : (b : Inside) (ts : List Measured) (s : Stmt) → Runs (InBody b Item) ts (in_body (settled true b b.opened s)) → Leads b ts s
 leads b ts s h = record { after = in_body (settled true b b.opened s); runs = h; closed = λ c. refl; rests = settled-rests b b.opened s }
 

@@ -1,4 +1,4 @@
--- A statement that is complete: what the machine makes of it at once, where an `else` may follow, and what it makes of it
+-- A statement that is complete: what the parser makes of it at once, where an `else` may follow, and what it makes of it
 -- once another token has come.
 use Rattle.std.proofs.Common.{◌≡◌, true, false, List, [], ◌∷◌, ◌++◌, Option, Some, None, refl, sym, ap, ◌∙◌}
 use Rattle.std.specs.Prelude.{Bool}

@@ -1,4 +1,4 @@
--- The first token that breaks the grammar or a limit is the one at which the machine stops: from what it has read some
+-- The first token that breaks the grammar or a limit is the one at which the parser stops: from what it has read some
 -- unit goes on (Finishes, Keeps), and every unit that begins so is read through the same states (ReadsExternal).
 use Rattle.std.proofs.Common.{◌≡◌, ◌<◌, ◌≤◌, ℕ, zero, suc, List, [], ◌∷◌, ◌++◌, length, take, drop, Option, Some, None, refl, sym, ap, subst, ◌∙◌, arith, append_assoc, inl, inr}
 use Rattle.std.specs.List.{AllByRecursion}
@@ -13,7 +13,7 @@ use Rattle.cc_syntax.proofs.ReadsExternal.{read_unit}
 use Rattle.cc_syntax.proofs.Finishes.{IsUnit, finishes}
 use Rattle.cc_syntax.proofs.Keeps.{unit_spelled}
 
--- the machine has come to the state over these tokens, and none of them passes a limit
+-- the parser has come to the state over these tokens, and none of them passes a limit
 pub record Reached (s : State) (xs : List Lexeme) : Type 0 where
   pub placed : List Measured
   pub runs : Runs start placed s
@@ -77,7 +77,7 @@ pub record IsCutAt (tokens : List Lexeme) (k : ℕ) (x : Lexeme) : Type 0 where
   pub inside : k < length tokens
   pub next : take (suc k) tokens ≡ take k tokens ++ x ∷ []
 
--- where the machine has no step, no unit goes on
+-- where the parser has no step, no unit goes on
 pub unexpected : (s : State) (tokens : List Lexeme) (k : ℕ) (x : Lexeme) → Reached s (take k tokens) → IsCutAt tokens k x → step s x ≡ None → UnexpectedAt tokens k
 unexpected s tokens k x r c h = inl (c.inside, no_unit)
   where

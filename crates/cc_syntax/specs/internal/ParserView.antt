@@ -154,7 +154,7 @@ state_view (states.File es o) = AtFile (external_trees es.items) (outer_view o)
 state_view (states.Body b s) = InBody (body_view b.value) (stage_view s)
 state_view (states.Full f p) = InFull (full_view f) (phase_view p)
 
--- what a function returned, seen by view, is what the machine gives, unless memory ran out
+-- what a function returned, seen by view, is what the parser gives, unless memory ran out
 abbrev pub Stops : {Y : Type 0} → stop.Stop → Option Y → Type 0
 Stops stops.Memory given = Unit {0}
 Stops stops.Unexpected given = given ≡ None
