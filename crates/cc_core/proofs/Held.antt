@@ -17,7 +17,7 @@ use Rattle.cc_core.specs.declared.contents.Due.{Due}
 use Rattle.cc_core.specs.declared.contents.Due.TheVariants.{WriteBody, SyncBody, WriteGate, SyncGate, Acknowledge}
 use Rattle.cc_core.specs.StoreState.{StoreState}
 use Rattle.cc_core.specs.Store.{stepped, due_after, FailsTo}
-use Rattle.cc_core.specs.Ready.{HasRoom}
+use Rattle.cc_core.specs.internal.Ready.{HasRoom}
 
 -- these records stand in area A of the image, whose area byte is 0
 pub record HoldsA (area : ℕ) (bodies : List (List ℕ)) (image : List ℕ) : Type 0 where

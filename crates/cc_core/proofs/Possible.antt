@@ -9,7 +9,7 @@ use Rattle.cc_library.specs.declared.command.Command.{Command}
 use Rattle.cc_library.specs.Apply.{after}
 use Rattle.cc_library.specs.Body.{body_of}
 use Rattle.cc_core.specs.declared.command.Request.{Request}
-use Rattle.cc_core.specs.declared.command.Placed.{Placed}
+use Rattle.cc_core.specs.declared.command.Numbered.{Numbered}
 use Rattle.cc_core.specs.declared.command.Reply.{Reply}
 use Rattle.cc_core.specs.declared.command.Reply.TheVariants as replies
 use Rattle.cc_core.specs.declared.job.Job.{Job}
@@ -27,14 +27,14 @@ use Rattle.cc_core.specs.Rules.{Rules}
 use Rattle.cc_core.specs.Job.{job_of, with_piece, all_there, verdict}
 use Rattle.cc_core.specs.StoreState.{StoreState}
 use Rattle.cc_core.specs.Store.{stepped, due_after, FailsTo, crashed_store, behind_gate, gate_of, with_cells}
-use Rattle.cc_core.specs.Step.{Step, IsImpossible, IsUp, IsFree, Submits, Takes, Begins, Begun, Advances, Fails, Acknowledges, Crashes, Reopens, counted, placed_now}
+use Rattle.cc_core.specs.Step.{Step, IsImpossible, IsUp, IsFree, Submits, Takes, Begins, Begun, Advances, Fails, Acknowledges, Crashes, Reopens, counted, numbered_now}
 use Rattle.cc_core.specs.Run.{PutsCommand}
-use Rattle.cc_core.specs.Ready.{IsRecoverable}
+use Rattle.cc_core.specs.internal.Ready.{IsRecoverable}
 use Rattle.cc_core.proofs.Orders.{front_longest, some_front}
 
 -- a phase that was matched by its parts
-pub committing_is : (phase : Phase) (a b : ℕ) (placed : Placed) (d e : Due) → phase ≡ Committing a placed d → d ≡ e → a ≡ b → phase ≡ Committing b placed e
-committing_is phase a b placed d e is due_is client_is = is ∙ (λ i. Committing (client_is i) placed (due_is i))
+pub committing_is : (phase : Phase) (a b : ℕ) (numbered : Numbered) (d e : Due) → phase ≡ Committing a numbered d → d ≡ e → a ≡ b → phase ≡ Committing b numbered e
+committing_is phase a b numbered d e is due_is client_is = is ∙ (λ i. Committing (client_is i) numbered (due_is i))
 
 module _ {P : Type 0} where
   pub submits : (rules : Rules P) (old : Contents P) (client call : ℕ) (request : Request) → IsUp old.phase → get old.jobs client ≡ None
@@ -52,7 +52,7 @@ module _ {P : Type 0} where
   begun : (old : Contents P) (client : ℕ) (v : Result Command ℕ) → (reply : Option Reply) × (new : Contents P) × Begun old client v reply new
   begun old client (Ok command) = (
     None,
-    record (counted old) { order = old.order ++ placed_now old command ∷ []; phase = Committing client (placed_now old command) due.WriteBody },
+    record (counted old) { order = old.order ++ numbered_now old command ∷ []; phase = Committing client (numbered_now old command) due.WriteBody },
     (refl, refl),
   )
   begun old client (Err number) = (Some (replies.Refused number), record (counted old) { jobs = remove old.jobs client }, (refl, refl))
@@ -63,41 +63,41 @@ module _ {P : Type 0} where
       let b = begun old client (verdict rules old.phase old.library old.store job) in
       (b.0, b.1, record { job = job; free = free; held = held; ready = ready; begun = b.2 })
 
-  pub acknowledges : (old : Contents P) (client : ℕ) (placed : Placed) → old.phase ≡ Committing client placed due.Acknowledge
+  pub acknowledges : (old : Contents P) (client : ℕ) (numbered : Numbered) → old.phase ≡ Committing client numbered due.Acknowledge
       → (reply : Option Reply) × (new : Contents P) × Acknowledges old client reply new
-  acknowledges old client placed committing = (
+  acknowledges old client numbered committing = (
     Some replies.Done,
     record (counted old) {
-      library = after old.library placed.command;
-      acknowledged = old.acknowledged ++ placed ∷ [];
+      library = after old.library numbered.command;
+      acknowledged = old.acknowledged ++ numbered ∷ [];
       jobs = remove old.jobs client;
       phase = Idle;
     },
-    record { placed = placed; committing = committing; done = refl; new_is = refl },
+    record { numbered = numbered; committing = committing; done = refl; new_is = refl },
   )
 
-  pub advances : (due : Due) (old : Contents P) (client : ℕ) (placed : Placed) → old.phase ≡ Committing client placed due
+  pub advances : (due : Due) (old : Contents P) (client : ℕ) (numbered : Numbered) → old.phase ≡ Committing client numbered due
       → (reply : Option Reply) × (new : Contents P) × Advances due old reply new
-  advances due old client placed committing = (
+  advances due old client numbered committing = (
     None,
-    record (counted old) { store = stepped due placed.command old.store; phase = Committing client placed (due_after due) },
-    record { client = client; placed = placed; committing = committing; silent = refl; new_is = refl },
+    record (counted old) { store = stepped due numbered.command old.store; phase = Committing client numbered (due_after due) },
+    record { client = client; numbered = numbered; committing = committing; silent = refl; new_is = refl },
   )
 
-  pub fails : (old : Contents P) (client : ℕ) (placed : Placed) (due : Due) (store : StoreState) → old.phase ≡ Committing client placed due → FailsTo due placed.command old.store store
+  pub fails : (old : Contents P) (client : ℕ) (numbered : Numbered) (due : Due) (store : StoreState) → old.phase ≡ Committing client numbered due → FailsTo due numbered.command old.store store
       → (reply : Option Reply) × (new : Contents P) × Fails old reply new
-  fails old client placed due store committing failed = (
+  fails old client numbered due store committing failed = (
     Some (replies.Refused 35),
     record (counted old) { store = store; jobs = remove old.jobs client; phase = Failed },
-    record { client = client; placed = placed; due = due; store = store; committing = committing; failed = failed; told = refl; new_is = refl },
+    record { client = client; numbered = numbered; due = due; store = store; committing = committing; failed = failed; told = refl; new_is = refl },
   )
 
   -- a body's write that failed may have left the body
-  pub fails_body : (old : Contents P) (client : ℕ) (placed : Placed) → old.phase ≡ Committing client placed due.WriteBody
+  pub fails_body : (old : Contents P) (client : ℕ) (numbered : Numbered) → old.phase ≡ Committing client numbered due.WriteBody
       → (reply : Option Reply) × (new : Contents P) × Fails old reply new
-  fails_body old client placed committing =
-      let bytes = behind_gate (body_of placed.command) in
-      fails old client placed due.WriteBody (with_cells old.store (written old.store.cells (gate_of old.store + 1) bytes)) committing (bytes, refl, refl)
+  fails_body old client numbered committing =
+      let bytes = behind_gate (body_of numbered.command) in
+      fails old client numbered due.WriteBody (with_cells old.store (written old.store.cells (gate_of old.store + 1) bytes)) committing (bytes, refl, refl)
 
   pub crashes : (choice : List ℕ) (old : Contents P) → (reply : Option Reply) × (new : Contents P) × Crashes choice old reply new
   crashes choice old = (
@@ -152,7 +152,7 @@ module _ {P : Type 0} where
   IsNoBegin event.Recover = Unit {0}
 
   not_longer : (old new : Contents P) → length new.order ≤ length old.order → PutsCommand old new
-  not_longer old new le placed is = absurd (omega (arith, le, ap length is, length-append old.order (placed ∷ [])))
+  not_longer old new le numbered is = absurd (omega (arith, le, ap length is, length-append old.order (numbered ∷ [])))
 
   same_order : (old new : Contents P) → new.order ≡ old.order → PutsCommand old new
   same_order old new is = not_longer old new (omega (arith, ap length is))

@@ -6,13 +6,13 @@ use Rattle.cc_journal.specs.Format.{records, HoldsRecords}
 use Rattle.cc_library.specs.Apply.{Units}
 use Rattle.cc_library.specs.Recovered.{StandFor}
 use Rattle.cc_library.proofs.Standing.{one_map}
-use Rattle.cc_core.specs.declared.command.Placed.{Placed}
+use Rattle.cc_core.specs.declared.command.Numbered.{Numbered}
 use Rattle.cc_core.specs.declared.contents.Contents.{Contents}
 use Rattle.cc_core.specs.declared.contents.Phase.{Phase}
 use Rattle.cc_core.specs.declared.contents.Phase.TheVariants.{Idle, Crashed}
 use Rattle.cc_core.specs.StoreState.{StoreState}
 use Rattle.cc_core.specs.Step.{Reopens, counted}
-use Rattle.cc_core.specs.Ready.{IsRecoverable, IsReady, IsReadyIn, IsFrontKept, IsOldOrNew}
+use Rattle.cc_core.specs.internal.Ready.{IsRecoverable, IsReady, IsReadyIn, IsFrontKept, IsOldOrNew}
 use Rattle.cc_core.proofs.Orders.{front_longest}
 
 -- the records that were found: of an area of some size, and so many bytes
@@ -22,7 +22,7 @@ pub record IsFound (store : StoreState) (library : Units) (used area : ℕ) (bod
   pub used_is : used ≡ length (records bodies)
 
 -- they fit the area that the state knows
-pub found_room : (store : StoreState) (order : List Placed) (library : Units) (used area : ℕ) (bodies : List (List ℕ)) → IsRecoverable store order → IsFound store library used area bodies → used + 1 ≤ store.area
+pub found_room : (store : StoreState) (order : List Numbered) (library : Units) (used area : ℕ) (bodies : List (List ℕ)) → IsRecoverable store order → IsFound store library used area bodies → used + 1 ≤ store.area
 found_room store order library used area bodies r f =
     let same = r.holds.alone area bodies f.holds in
     omega (arith, f.holds.fits, f.used_is, same.0)
@@ -32,7 +32,7 @@ module _ {P : Type 0} where
   recoverable_of old ready crashed = subst (λ (phase : Phase). IsReadyIn phase old.store old.order) crashed ready
 
   -- so the state behind them is the recovery's
-  pub found_reopens : (old new : Contents P) (library : Units) (used area : ℕ) (bodies : List (List ℕ)) (kept : List Placed) → IsReady old → old.phase ≡ Crashed → IsFound old.store library used area bodies
+  pub found_reopens : (old new : Contents P) (library : Units) (used area : ℕ) (bodies : List (List ℕ)) (kept : List Numbered) → IsReady old → old.phase ≡ Crashed → IsFound old.store library used area bodies
       → IsFrontKept library old.order kept → new ≡ record (counted old) { library = library; order = kept; phase = Idle; store = record old.store { used = used } } → Reopens old None new
   found_reopens old new library used area bodies kept ready crashed f keeps is =
       let r = recoverable_of old ready crashed in

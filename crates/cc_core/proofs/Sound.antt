@@ -22,7 +22,7 @@ use Rattle.cc_library.specs.Body.{IsCommand, body_of}
 use Rattle.cc_library.specs.Recovered.{StandFor}
 use Rattle.cc_core.specs.declared.command.Request.{Request}
 use Rattle.cc_core.specs.declared.command.Request.TheVariants as request
-use Rattle.cc_core.specs.declared.command.Placed.{Placed}
+use Rattle.cc_core.specs.declared.command.Numbered.{Numbered}
 use Rattle.cc_core.specs.declared.command.Reply.{Reply}
 use Rattle.cc_core.specs.declared.job.Job.{Job}
 use Rattle.cc_core.specs.declared.job.Progress.{Progress}
@@ -38,27 +38,27 @@ use Rattle.cc_core.specs.Rules.{Rules}
 use Rattle.cc_core.specs.Job.{planned, job_of, source_in, with_piece, closed, verdict}
 use Rattle.cc_core.specs.StoreState.{StoreState}
 use Rattle.cc_core.specs.Store.{IsFormatted, stepped, due_after, crashed_store}
-use Rattle.cc_core.specs.Step.{Step, Begun, Advances, Fails, Acknowledges, Crashes, Reopens, IsFree, IsStart, counted, placed_now, commands}
+use Rattle.cc_core.specs.Step.{Step, Begun, Advances, Fails, Acknowledges, Crashes, Reopens, IsFree, IsStart, counted, numbered_now, commands}
 use Rattle.cc_core.specs.Run.{EachUnit, AreRising, but_last, live, EachImageSurvives, EachImageIsRight, PutsCommand, Turn, Run, Reached}
-use Rattle.cc_core.specs.Ready.{IsFitting, IsRecoverable, IsReady, IsReadyIn}
+use Rattle.cc_core.specs.internal.Ready.{IsFitting, IsRecoverable, IsReady, IsReadyIn}
 use Rattle.cc_core.proofs.Lists.{slice_get-set, slice_get-push, All-slice_get, take-push}
 use Rattle.cc_core.proofs.Whole.{IsRightCommand, IsNamed, IsLawful, verdict_right, verdict_taken}
 use Rattle.cc_core.proofs.Orders.{found-insert, found-remove, AreRight, AreRight-push, AreRight-front, EachUnit-empty, EachUnit-library, library-push, AreAccepted-push, AreAccepted-before, but_last-push}
 use Rattle.cc_core.proofs.Held.{HoldsA, commit_goes_on, room_goes_on, failed_images, crashed_image, crashed_alone}
 use Rattle.cc_core.proofs.Ending.{LacksLast, HoldsOrder, HoldsFlight, HoldsCrash, IsKept, stand_more, ends_of, each_ends, ends_survives, kept_acked}
 
--- each place is below this number
-abbrev pub AreBelow : ℕ → List Placed → Type 0
-AreBelow n order = (k : ℕ) (a : Placed) → slice_get order k ≡ Some a → a.place.number < n
+-- each sequence number is below this one
+abbrev pub AreBelow : ℕ → List Numbered → Type 0
+AreBelow n order = (k : ℕ) (a : Numbered) → slice_get order k ≡ Some a → a.number.value < n
 
-AreBelow-push : (n : ℕ) (order : List Placed) (a : Placed) → AreBelow n order → a.place.number ≡ n → AreBelow (n + 1) (order ++ a ∷ [])
+AreBelow-push : (n : ℕ) (order : List Numbered) (a : Numbered) → AreBelow n order → a.number.value ≡ n → AreBelow (n + 1) (order ++ a ∷ [])
 AreBelow-push n order a below at k b is =
     elim (slice_get-push order a k b is) [
       | inl h ↦ let lt = below k b h in omega arith
-      | inr h ↦ let same = ap (λ (p : Placed). p.place.number) h.1 in omega arith
+      | inr h ↦ let same = ap (λ (p : Numbered). p.number.value) h.1 in omega arith
     ]
 
-AreRising-push : (n : ℕ) (order : List Placed) (a : Placed) → AreRising order → AreBelow n order → a.place.number ≡ n → AreRising (order ++ a ∷ [])
+AreRising-push : (n : ℕ) (order : List Numbered) (a : Numbered) → AreRising order → AreBelow n order → a.number.value ≡ n → AreRising (order ++ a ∷ [])
 AreRising-push n order a rising below at i j b c lt first second =
     elim (slice_get-push order a j c second) [
       | inl h ↦ elim (slice_get-push order a i b first) [
@@ -66,13 +66,13 @@ AreRising-push n order a rising below at i j b c lt first second =
         | inr f ↦ let within = slice_get_within order j c h in absurd (omega arith)
       ]
       | inr h ↦ elim (slice_get-push order a i b first) [
-        | inl f ↦ let lower = below i b f in let same = ap (λ (p : Placed). p.place.number) h.1 in omega arith
+        | inl f ↦ let lower = below i b f in let same = ap (λ (p : Numbered). p.number.value) h.1 in omega arith
         | inr f ↦ absurd (omega arith)
       ]
     ]
 
 -- a formatted disk holds no records
-formatted_holds : (area : ℕ) (store : StoreState) (order : List Placed) → IsFormatted area store → order ≡ [] → HoldsOrder store order
+formatted_holds : (area : ℕ) (store : StoreState) (order : List Numbered) → IsFormatted area store → order ≡ [] → HoldsOrder store order
 formatted_holds area store order f none =
     let held : HoldsA store.area [] (bytes_of store.cells) = record {
       holds = subst (λ (n : ℕ). HoldsRecords (bytes_of store.cells) n []) (sym f.same_area)
@@ -82,29 +82,29 @@ formatted_holds area store order f none =
     record {
       bodies = [];
       rest = record { taken = f.unused; images = λ image now. subst (HoldsA store.area []) (sym (f.alone image now)) held };
-      stand = subst (λ (l : List Placed). StandFor [] (library_of (commands l))) (sym none) (record { commands = []; spelled = tt; accepted = tt; map_is = refl });
+      stand = subst (λ (l : List Numbered). StandFor [] (library_of (commands l))) (sym none) (record { commands = []; spelled = tt; accepted = tt; map_is = refl });
     }
 
 -- the area of a disk that is kept is within its limits
-area_most : (phase : Phase) (store : StoreState) (order acknowledged : List Placed) → IsKept phase store order acknowledged → store.area ≤ 2 ^ 30
+area_most : (phase : Phase) (store : StoreState) (order acknowledged : List Numbered) → IsKept phase store order acknowledged → store.area ≤ 2 ^ 30
 area_most phase store order acknowledged k =
     (each_ends phase store order acknowledged k (bytes_of store.cells) (bytes_are_image store.cells)).held.holds.is_area.most
 
--- what stands at a place of the front stands there in the whole
+-- what stands at an index of the front stands there in the whole
 slice_get-front : {X : Type 0} (xs ys : List X) (k : ℕ) (x : X) → slice_get xs k ≡ Some x → slice_get (xs ++ ys) k ≡ Some x
 slice_get-front [] ys k x is = absurd (cc)
 slice_get-front (z ∷ xs) ys zero x is = is
 slice_get-front (z ∷ xs) ys (suc k) x is = slice_get-front xs ys k x is
 
-in_whole : (front rest whole : List Placed) → whole ≡ front ++ rest → (k : ℕ) (a : Placed) → slice_get front k ≡ Some a → slice_get whole k ≡ Some a
-in_whole front rest whole is k a there = ap (λ (l : List Placed). slice_get l k) is ∙ slice_get-front front rest k a there
+in_whole : (front rest whole : List Numbered) → whole ≡ front ++ rest → (k : ℕ) (a : Numbered) → slice_get front k ≡ Some a → slice_get whole k ≡ Some a
+in_whole front rest whole is k a there = ap (λ (l : List Numbered). slice_get l k) is ∙ slice_get-front front rest k a there
 
-but_last_right : (is_right : StoredUnit → Type 0) (order : List Placed) → AreRight is_right order → AreRight is_right (but_last order)
+but_last_right : (is_right : StoredUnit → Type 0) (order : List Numbered) → AreRight is_right order → AreRight is_right (but_last order)
 but_last_right is_right order right =
     AreRight-front is_right (but_last order) (drop (length order - 1) order) (subst (AreRight is_right) (sym (take-append-drop (length order - 1) order)) right)
 
 -- after a crash the library can be opened
-recoverable : (store : StoreState) (order acknowledged : List Placed) → AreAccepted empty (commands order) → HoldsCrash store order acknowledged → IsRecoverable store order
+recoverable : (store : StoreState) (order acknowledged : List Numbered) → AreAccepted empty (commands order) → HoldsCrash store order acknowledged → IsRecoverable store order
 recoverable store order acknowledged all h = at h.ends.known
   where
     at : StandFor h.ends.bodies (library_of (commands order)) ⊎ LacksLast h.ends.bodies order acknowledged → IsRecoverable store order
@@ -144,7 +144,7 @@ module _ {P : Type 0} (rules : Rules P) where
   job_named call (request.Replace name source) = planned_named call (request.Replace name source) (rules.plan source) (λ s from. let same : source ≡ s = cc in ap rules.plan (sym same))
   job_named call (request.Withdraw name) = planned_named call (request.Withdraw name) (Ok 0) (λ s from. absurd (cc))
 
-  -- another progress of a piece, which names its source and place where it is made
+  -- another progress of a piece, which names its source and index where it is made
   with_piece_named : (job : Job P) (part : ℕ) (progress : Progress P) → IsNamed rules job
       → ((source : List ℕ) (p : P) → source_in job.request ≡ Some source → progress ≡ Made p → (rules.source_of p ≡ source) × (rules.part_of p ≡ part))
       → IsNamed rules (with_piece job part progress)
@@ -174,7 +174,7 @@ module _ {P : Type 0} (rules : Rules P) where
     pub right : AreRight is_right s.order
     pub acked : All (Contains s.order) s.acknowledged
     pub rising : AreRising s.order
-    pub below : AreBelow s.clock.number s.order
+    pub below : AreBelow s.upcoming.value s.order
     pub named : AllNamed s.jobs
     pub disk : IsKept s.phase s.store s.order s.acknowledged
 
@@ -182,11 +182,11 @@ module _ {P : Type 0} (rules : Rules P) where
     pub start-IsSound : (area : ℕ) (s : Contents P) → IsStart area s → IsSound is_right s
     start-IsSound area s st = record {
       replay = st.library ∙ sym (λ i. live (st.phase i) (st.order i));
-      accepted = subst (λ (l : List Placed). AreAccepted empty (commands l)) (sym st.order) tt;
+      accepted = subst (λ (l : List Numbered). AreAccepted empty (commands l)) (sym st.order) tt;
       right = subst (AreRight is_right) (sym st.order) tt;
       acked = subst (All (Contains s.order)) (sym st.acknowledged) (All-nil (Contains s.order));
       rising = subst AreRising (sym st.order) (λ i j a b lt first second. absurd (cc));
-      below = subst (AreBelow s.clock.number) (sym st.order) (λ k a is. absurd (cc));
+      below = subst (AreBelow s.upcoming.value) (sym st.order) (λ k a is. absurd (cc));
       named = λ client job is. let none = sym (get-empty nat_cmp client) ∙ ap (λ jobs. get jobs client) (sym st.jobs) ∙ is in absurd (cc);
       disk = subst (λ phase. IsKept phase s.store s.order s.acknowledged) (sym st.phase) (formatted_holds area s.store s.order st.formatted st.order);
     }
@@ -206,7 +206,7 @@ module _ {P : Type 0} (rules : Rules P) where
 
     idle_of : (phase : Phase) → IsFree phase → closed phase ≡ None → phase ≡ Idle
     idle_of Idle free open' = refl
-    idle_of (Committing client placed due) free open' = absurd free
+    idle_of (Committing client numbered due) free open' = absurd free
     idle_of Failed free open' = absurd (cc)
     idle_of Crashed free open' = absurd free
 
@@ -216,19 +216,19 @@ module _ {P : Type 0} (rules : Rules P) where
     begun_IsSound s client (Err number) reply new sound right begun puts =
         subst (IsSound is_right) (sym begun.1) (kept_IsSound s (remove s.jobs client) s.workers sound (AllNamed-remove s.jobs client sound.named))
     begun_IsSound s client (Ok c) reply new sound right begun puts =
-        let placed = placed_now s c in
+        let numbered = numbered_now s c in
         let r = right c refl in
         let library : s.library ≡ library_of (commands s.order) = sound.replay ∙ ap (λ phase. live phase s.order) r.0 in
         let ok : IsOk (apply (library_of (commands s.order)) c) = subst (λ l. IsOk (apply l c)) library r.2 in
         let h : HoldsOrder s.store s.order = subst (λ phase. IsKept phase s.store s.order s.acknowledged) r.0 sound.disk in
-        let spelled : IsCommand c = puts placed (ap (λ (n : Contents P). n.order) begun.1) in
-        let there : IsSound is_right (record (counted s) { order = s.order ++ placed ∷ []; phase = Committing client placed due.WriteBody }) = record {
-          replay = library ∙ ap (λ front. library_of (commands front)) (sym (take-push s.order placed));
-          accepted = AreAccepted-push s.order placed sound.accepted ok;
-          right = AreRight-push is_right s.order placed sound.right r.1;
-          acked = All-weaker (Contains s.order) (Contains (s.order ++ placed ∷ [])) (λ x in'. Contains-append_left s.order (placed ∷ []) x in') s.acknowledged sound.acked;
-          rising = AreRising-push s.clock.number s.order placed sound.rising sound.below refl;
-          below = AreBelow-push s.clock.number s.order placed sound.below refl;
+        let spelled : IsCommand c = puts numbered (ap (λ (n : Contents P). n.order) begun.1) in
+        let there : IsSound is_right (record (counted s) { order = s.order ++ numbered ∷ []; phase = Committing client numbered due.WriteBody }) = record {
+          replay = library ∙ ap (λ front. library_of (commands front)) (sym (take-push s.order numbered));
+          accepted = AreAccepted-push s.order numbered sound.accepted ok;
+          right = AreRight-push is_right s.order numbered sound.right r.1;
+          acked = All-weaker (Contains s.order) (Contains (s.order ++ numbered ∷ [])) (λ x in'. Contains-append_left s.order (numbered ∷ []) x in') s.acknowledged sound.acked;
+          rising = AreRising-push s.upcoming.value s.order numbered sound.rising sound.below refl;
+          below = AreBelow-push s.upcoming.value s.order numbered sound.below refl;
           named = sound.named;
           disk = record {
             bodies = h.bodies;
@@ -245,13 +245,13 @@ module _ {P : Type 0} (rules : Rules P) where
         subst (IsSound is_right) (sym begun.1) there
 
     -- what is in commit
-    flight : (s : Contents P) (client : ℕ) (placed : Placed) (due : Due) → IsSound is_right s → s.phase ≡ Committing client placed due → HoldsFlight placed due s.store s.order s.acknowledged
-    flight s client placed due sound committing = subst (λ phase. IsKept phase s.store s.order s.acknowledged) committing sound.disk
+    flight : (s : Contents P) (client : ℕ) (numbered : Numbered) (due : Due) → IsSound is_right s → s.phase ≡ Committing client numbered due → HoldsFlight numbered due s.store s.order s.acknowledged
+    flight s client numbered due sound committing = subst (λ phase. IsKept phase s.store s.order s.acknowledged) committing sound.disk
 
     advanced_IsSound : (due : Due) (s : Contents P) (reply : Option Reply) (new : Contents P) → IsSound is_right s → Advances due s reply new → IsSound is_right new
     advanced_IsSound due s reply new sound step =
-        let f = flight s step.client step.placed due sound step.committing in
-        let there : IsSound is_right (record (counted s) { store = stepped due step.placed.command s.store; phase = Committing step.client step.placed (due_after due) }) = record {
+        let f = flight s step.client step.numbered due sound step.committing in
+        let there : IsSound is_right (record (counted s) { store = stepped due step.numbered.command s.store; phase = Committing step.client step.numbered (due_after due) }) = record {
           replay = sound.replay ∙ ap (λ phase. live phase s.order) step.committing;
           accepted = sound.accepted;
           right = sound.right;
@@ -267,15 +267,15 @@ module _ {P : Type 0} (rules : Rules P) where
             taken = f.taken;
             stand = f.stand;
             spelled = f.spelled;
-            room = room_goes_on due s.store step.placed.command f.room;
-            on_disk = commit_goes_on due s.store f.bodies step.placed.command f.room f.on_disk;
+            room = room_goes_on due s.store step.numbered.command f.room;
+            on_disk = commit_goes_on due s.store f.bodies step.numbered.command f.room f.on_disk;
           };
         } in
         subst (IsSound is_right) (sym step.new_is) there
 
     failed_IsSound : (s : Contents P) (reply : Option Reply) (new : Contents P) → IsSound is_right s → Fails s reply new → IsSound is_right new
     failed_IsSound s reply new sound step =
-        let f = flight s step.client step.placed step.due sound step.committing in
+        let f = flight s step.client step.numbered step.due sound step.committing in
         let there : IsSound is_right (record (counted s) { store = step.store; jobs = remove s.jobs step.client; phase = Failed }) = record {
           replay = sound.replay ∙ ap (λ phase. live phase s.order) step.committing;
           accepted = sound.accepted;
@@ -285,29 +285,29 @@ module _ {P : Type 0} (rules : Rules P) where
           below = λ k a is. let lt = sound.below k a is in omega arith;
           named = AllNamed-remove s.jobs step.client sound.named;
           disk = λ image now.
-              ends_of step.placed step.store s.order s.acknowledged f.bodies f.front f.is f.acked f.taken f.stand f.spelled image
-              (failed_images step.due s.store step.store f.bodies step.placed.command f.room f.on_disk step.failed image now);
+              ends_of step.numbered step.store s.order s.acknowledged f.bodies f.front f.is f.acked f.taken f.stand f.spelled image
+              (failed_images step.due s.store step.store f.bodies step.numbered.command f.room f.on_disk step.failed image now);
         } in
         subst (IsSound is_right) (sym step.new_is) there
 
     acked_IsSound : (s : Contents P) (client : ℕ) (reply : Option Reply) (new : Contents P) → IsSound is_right s → Acknowledges s client reply new → IsSound is_right new
     acked_IsSound s client reply new sound step =
-        let placed = step.placed in
-        let f = flight s client placed due.Acknowledge sound step.committing in
+        let numbered = step.numbered in
+        let f = flight s client numbered due.Acknowledge sound step.committing in
         let before : s.library ≡ library_of (commands f.front) =
-        sound.replay ∙ ap (λ phase. live phase s.order) step.committing ∙ ap (λ (l : List Placed). library_of (commands l)) (but_last-push f.front placed s.order f.is) in
-        let there : IsSound is_right (record (counted s) { library = after s.library placed.command; acknowledged = s.acknowledged ++ placed ∷ []; jobs = remove s.jobs client; phase = Idle }) = record {
-          replay = ap (λ library. after library placed.command) before ∙ sym (library-push f.front placed) ∙ ap (λ (l : List Placed). library_of (commands l)) (sym f.is);
+        sound.replay ∙ ap (λ phase. live phase s.order) step.committing ∙ ap (λ (l : List Numbered). library_of (commands l)) (but_last-push f.front numbered s.order f.is) in
+        let there : IsSound is_right (record (counted s) { library = after s.library numbered.command; acknowledged = s.acknowledged ++ numbered ∷ []; jobs = remove s.jobs client; phase = Idle }) = record {
+          replay = ap (λ library. after library numbered.command) before ∙ sym (library-push f.front numbered) ∙ ap (λ (l : List Numbered). library_of (commands l)) (sym f.is);
           accepted = sound.accepted;
           right = sound.right;
-          acked = All-push (Contains s.order) s.acknowledged placed sound.acked (subst (λ order. Contains order placed) (sym f.is) (Contains-push f.front placed));
+          acked = All-push (Contains s.order) s.acknowledged numbered sound.acked (subst (λ order. Contains order numbered) (sym f.is) (Contains-push f.front numbered));
           rising = sound.rising;
           below = λ k a is. let lt = sound.below k a is in omega arith;
           named = AllNamed-remove s.jobs client sound.named;
           disk = record {
-            bodies = f.bodies ++ body_of placed.command ∷ [];
+            bodies = f.bodies ++ body_of numbered.command ∷ [];
             rest = f.on_disk;
-            stand = stand_more f.bodies f.front placed s.order f.is f.stand f.spelled f.taken;
+            stand = stand_more f.bodies f.front numbered s.order f.is f.stand f.spelled f.taken;
           };
         } in
         subst (IsSound is_right) (sym step.new_is) there
@@ -335,12 +335,12 @@ module _ {P : Type 0} (rules : Rules P) where
         let e = h.ends in
         let kept = step.kept in
         let rest = drop step.longest.count s.order in
-        let whole : s.order ≡ kept ++ rest = sym (take-append-drop step.longest.count s.order) ∙ ap (λ (l : List Placed). l ++ rest) (sym step.longest.front) in
+        let whole : s.order ≡ kept ++ rest = sym (take-append-drop step.longest.count s.order) ∙ ap (λ (l : List Numbered). l ++ rest) (sym step.longest.front) in
         let same : step.bodies ≡ e.bodies = (holds_same (bytes_of s.store.cells) s.store.area s.store.area e.bodies step.bodies e.held.holds step.holds).1 in
         let held : HoldsA s.store.area step.bodies (bytes_of s.store.cells) = record { holds = step.holds; header_is = e.held.header_is } in
         let there : IsSound is_right (record (counted s) { library = step.library; order = kept; phase = Idle; store = record s.store { used = length (records step.bodies) } }) = record {
           replay = sym step.longest.leads;
-          accepted = AreAccepted-before kept rest (subst (λ (l : List Placed). AreAccepted empty (commands l)) whole sound.accepted);
+          accepted = AreAccepted-before kept rest (subst (λ (l : List Numbered). AreAccepted empty (commands l)) whole sound.accepted);
           right = AreRight-front is_right kept rest (subst (AreRight is_right) whole sound.right);
           acked = kept_acked e.bodies s.order s.acknowledged kept step.library sound.acked (subst (λ (bs : List (List ℕ)). StandFor bs step.library) same step.stand) e.known step.longest;
           rising = λ i j a b lt first second. sound.rising i j a b lt (in_whole kept rest s.order whole i a first) (in_whole kept rest s.order whole j b second);
@@ -413,18 +413,18 @@ module _ {P : Type 0} (rules : Rules P) where
         subst (EachUnit is_right) (sym (v.recovers.alone library recovered))
         (EachUnit-library is_right v.kept (AreRight-front is_right v.kept v.lost (subst (AreRight is_right) v.in_order sound.right)))
 
-    live_right : (phase : Phase) (order : List Placed) → AreRight is_right order → EachUnit is_right (live phase order)
+    live_right : (phase : Phase) (order : List Numbered) → AreRight is_right order → EachUnit is_right (live phase order)
     live_right Idle order right = EachUnit-library is_right order right
-    live_right (Committing client placed due) order right = EachUnit-library is_right (but_last order) (but_last_right is_right order right)
+    live_right (Committing client numbered due) order right = EachUnit-library is_right (but_last order) (but_last_right is_right order right)
     live_right Failed order right = EachUnit-library is_right (but_last order) (but_last_right is_right order right)
     live_right Crashed order right = EachUnit-empty is_right
 
     pub sound_units : (s : Contents P) → IsSound is_right s → EachUnit is_right s.library
     sound_units s sound = subst (EachUnit is_right) (sym sound.replay) (live_right s.phase s.order sound.right)
 
-    ready_in : (phase : Phase) (store : StoreState) (order acknowledged : List Placed) → AreAccepted empty (commands order) → IsKept phase store order acknowledged → IsReadyIn phase store order
+    ready_in : (phase : Phase) (store : StoreState) (order acknowledged : List Numbered) → AreAccepted empty (commands order) → IsKept phase store order acknowledged → IsReadyIn phase store order
     ready_in Idle store order acknowledged all k = tt
-    ready_in (Committing client placed due) store order acknowledged all k = k.room
+    ready_in (Committing client numbered due) store order acknowledged all k = k.room
     ready_in Failed store order acknowledged all k = tt
     ready_in Crashed store order acknowledged all k = recoverable store order acknowledged all k
 

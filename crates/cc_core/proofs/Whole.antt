@@ -1,5 +1,5 @@
 -- A command that a job begins has a unit that is right: its pieces are all there, none was refused, and each
--- names the job's source and its own place, so they are all of the source's pieces and the build's law holds.
+-- names the job's source and its own index, so they are all of the source's pieces and the build's law holds.
 use Rattle.std.proofs.Common.{◌≡◌, ℕ, zero, suc, ◌≤◌, Bool, true, false, if◌then◌else◌, List, [], ◌∷◌, length, Option, Some, None, Result, Ok, Err, refl, sym, ap, subst, ◌∙◌}
 use Rattle.std.specs.Prelude.{slice_get, IsTrue, IsOk, nat_le}
 use Rattle.std.proofs.lemmas.Bool.{leb-true}
@@ -62,7 +62,7 @@ accepted-taken phase library store (Ok d) c is =
 accepted-taken phase library store (Err number) c is = absurd (cc)
 
 module _ {P : Type 0} (rules : Rules P) where
-  -- a job's pieces are planned for its source, and each that was made names that source and its own place
+  -- a job's pieces are planned for its source, and each that was made names that source and its own index
   pub record IsNamed (job : Job P) : Type 0 where
     pub counted : (source : List ℕ) → source_in job.request ≡ Some source → job.refusal ≡ None → rules.plan source ≡ Ok (length job.pieces)
     pub named : (source : List ℕ) → source_in job.request ≡ Some source → (k : ℕ) (p : P) → slice_get job.pieces k ≡ Some (Made p) → (rules.source_of p ≡ source) × (rules.part_of p ≡ k)
@@ -71,7 +71,7 @@ module _ {P : Type 0} (rules : Rules P) where
   abbrev pub IsLawful : (StoredUnit → Type 0) → Type 0
   IsLawful is_right = (source : List ℕ) (pieces : List P) (unit : StoredUnit) → AreWhole rules source pieces → rules.unit source pieces ≡ Ok unit → (unit.source ≡ source) × is_right unit
 
-  -- where all are there and none was refused, the pieces that were made are all of them, each in its place
+  -- where all are there and none was refused, the pieces that were made are all of them, each at its index
   all_made : (ps : List (Progress P)) → IsTrue (all_there ps) → first_refused ps ≡ None
       → (length (made_pieces ps) ≡ length ps) × ((k : ℕ) (p : P) → slice_get (made_pieces ps) k ≡ Some p → slice_get ps k ≡ Some (Made p))
   all_made [] there none = (refl, λ k p is. absurd (cc))

@@ -36,7 +36,7 @@ with_unit make (Err number) = Err number
 -- the number that refuses any command after a device step failed, until the disk is opened again
 abbrev pub closed : Phase → Option ℕ
 closed Idle = None
-closed (Committing client placed due) = None
+closed (Committing client numbered due) = None
 closed Failed = Some 36
 closed Crashed = None
 

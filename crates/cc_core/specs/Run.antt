@@ -6,7 +6,7 @@ use Rattle.cc_link.specs.declared.unit.StoredUnit.{StoredUnit}
 use Rattle.cc_library.specs.Apply.{Units, library_of}
 use Rattle.cc_library.specs.Body.{IsCommand}
 use Rattle.cc_library.specs.Recovered.{Recovers, RecoversAlone}
-use Rattle.cc_core.specs.declared.command.Placed.{Placed}
+use Rattle.cc_core.specs.declared.command.Numbered.{Numbered}
 use Rattle.cc_core.specs.declared.command.Reply.{Reply}
 use Rattle.cc_core.specs.declared.contents.Contents.{Contents}
 use Rattle.cc_core.specs.declared.contents.Phase.{Phase}
@@ -19,17 +19,17 @@ use Rattle.cc_core.specs.Step.{Step, IsImpossible, IsStart, commands}
 abbrev pub EachUnit : (StoredUnit → Type 0) → Units → Type 0
 EachUnit is_right library = (name : List ℕ) (unit : StoredUnit) → get library name ≡ Some unit → is_right unit
 
--- the places of these commands rise
-abbrev pub AreRising : List Placed → Type 0
-AreRising placed = (i j : ℕ) (a b : Placed) → i < j → slice_get placed i ≡ Some a → slice_get placed j ≡ Some b → a.place.number < b.place.number
+-- the sequence numbers of these commands rise
+abbrev pub AreRising : List Numbered → Type 0
+AreRising numbered = (i j : ℕ) (a b : Numbered) → i < j → slice_get numbered i ≡ Some a → slice_get numbered j ≡ Some b → a.number.value < b.number.value
 
 -- all commands but the last
-abbrev pub but_last : List Placed → List Placed
+abbrev pub but_last : List Numbered → List Numbered
 but_last order = take (length order - 1) order
 
 -- the library that clients see: that of the order, without the command in commit or failed, which is its last; from a crash
 -- until the recovery it is empty
-abbrev pub live : Phase → List Placed → Units
+abbrev pub live : Phase → List Numbered → Units
 live Idle order = library_of (commands order)
 live (Committing client last due) order = library_of (commands (but_last order))
 live Failed order = library_of (commands (but_last order))
@@ -37,9 +37,9 @@ live Crashed order = empty
 
 -- The image recovers, to the library of a front of the order and to no other. The front holds every acknowledged command, and
 -- lacks at most the last of the order.
-pub record Survives (image : List ℕ) (order acknowledged : List Placed) : Type 0 where
-  pub kept : List Placed
-  pub lost : List Placed
+pub record Survives (image : List ℕ) (order acknowledged : List Numbered) : Type 0 where
+  pub kept : List Numbered
+  pub lost : List Numbered
   pub in_order : order ≡ kept ++ lost
   pub few : length lost ≤ 1
   pub acked : All (Contains kept) acknowledged
@@ -56,7 +56,7 @@ module _ {P : Type 0} where
 
   -- a command that goes into the order has a spelling: its name is a name, its unit a unit, as their types keep
   abbrev pub PutsCommand : Contents P → Contents P → Type 0
-  PutsCommand old new = (placed : Placed) → new.order ≡ old.order ++ placed ∷ [] → IsCommand placed.command
+  PutsCommand old new = (numbered : Numbered) → new.order ≡ old.order ++ numbered ∷ [] → IsCommand numbered.command
 
   -- one turn of a run: an event that has a step takes it, and at each other the state stays
   abbrev pub Turn : Rules P → Contents P → Event P → Contents P → Type 0

@@ -7,7 +7,7 @@ use Rattle.cc_library.specs.declared.command.Command.{Command}
 use Rattle.cc_library.specs.Apply.{Units, after, library_of}
 use Rattle.cc_library.specs.Recovered.{StandFor}
 use Rattle.cc_core.specs.declared.command.Request.{Request}
-use Rattle.cc_core.specs.declared.command.Placed.{Placed}
+use Rattle.cc_core.specs.declared.command.Numbered.{Numbered}
 use Rattle.cc_core.specs.declared.command.Reply.{Reply}
 use Rattle.cc_core.specs.declared.command.Reply.TheVariants as replies
 use Rattle.cc_core.specs.declared.job.Job.{Job}
@@ -28,23 +28,23 @@ use Rattle.cc_core.specs.Store.{IsFormatted, stepped, due_after, FailsTo, crashe
 -- from a crash until the recovery nothing else happens
 abbrev pub IsUp : Phase → Type 0
 IsUp Idle = Unit {0}
-IsUp (Committing client placed due) = Unit {0}
+IsUp (Committing client numbered due) = Unit {0}
 IsUp Failed = Unit {0}
 IsUp Crashed = ⊥
 
 -- a commit may begin where no other is under way; after a failed step it is refused
 abbrev pub IsFree : Phase → Type 0
 IsFree Idle = Unit {0}
-IsFree (Committing client placed due) = ⊥
+IsFree (Committing client numbered due) = ⊥
 IsFree Failed = Unit {0}
 IsFree Crashed = ⊥
 
--- the commands of an order, without their places
-abbrev pub commands : List Placed → List Command
-commands order = map (λ placed. placed.command) order
+-- the commands of an order, without their sequence numbers
+abbrev pub commands : List Numbered → List Command
+commands order = map (λ numbered. numbered.command) order
 
 -- the longest front of the order whose library is this one
-pub record IsLongest (library : Units) (order kept : List Placed) : Type 0 where
+pub record IsLongest (library : Units) (order kept : List Numbered) : Type 0 where
   pub count : ℕ
   pub within : count ≤ length order
   pub front : kept ≡ take count order
@@ -61,15 +61,15 @@ module _ {P : Type 0} where
     pub workers : new.workers ≡ empty
     pub phase : new.phase ≡ Idle
     pub formatted : IsFormatted area new.store
-    pub clock : new.clock.number ≡ 0
+    pub upcoming : new.upcoming.value ≡ 0
 
   -- one event more took a step
   abbrev pub counted : Contents P → Contents P
-  counted old = record old { clock = record { number = old.clock.number + 1 } }
+  counted old = record old { upcoming = record { value = old.upcoming.value + 1 } }
 
-  -- a command is named by the place of the event that begins it
-  abbrev pub placed_now : Contents P → Command → Placed
-  placed_now old command = record { place = old.clock; command = command }
+  -- a command is named by the sequence number of the event that begins it
+  abbrev pub numbered_now : Contents P → Command → Numbered
+  numbered_now old command = record { number = old.upcoming; command = command }
 
   -- a client without a job hands one in
   pub record Submits (rules : Rules P) (old : Contents P) (client call : ℕ) (request : Request) (reply : Option Reply) (new : Contents P) : Type 0 where
@@ -122,7 +122,7 @@ module _ {P : Type 0} where
   Begun old client (Err number) reply new =
       (reply ≡ Some (replies.Refused number)) × (new ≡ record (counted old) { jobs = remove old.jobs client })
   Begun old client (Ok command) reply new =
-      (reply ≡ None) × (new ≡ record (counted old) { order = old.order ++ placed_now old command ∷ []; phase = Committing client (placed_now old command) due.WriteBody })
+      (reply ≡ None) × (new ≡ record (counted old) { order = old.order ++ numbered_now old command ∷ []; phase = Committing client (numbered_now old command) due.WriteBody })
 
   -- a job whose pieces are all there begins, where no other commits
   pub record Begins (rules : Rules P) (old : Contents P) (client : ℕ) (reply : Option Reply) (new : Contents P) : Type 0 where
@@ -135,30 +135,30 @@ module _ {P : Type 0} where
   -- the device step that is due is done
   pub record Advances (due : Due) (old : Contents P) (reply : Option Reply) (new : Contents P) : Type 0 where
     pub client : ℕ
-    pub placed : Placed
-    pub committing : old.phase ≡ Committing client placed due
+    pub numbered : Numbered
+    pub committing : old.phase ≡ Committing client numbered due
     pub silent : reply ≡ None
-    pub new_is : new ≡ record (counted old) { store = stepped due placed.command old.store; phase = Committing client placed (due_after due) }
+    pub new_is : new ≡ record (counted old) { store = stepped due numbered.command old.store; phase = Committing client numbered (due_after due) }
 
   -- the device step that is due fails: the reply is 35, the job ends, and no device step is made any more
   pub record Fails (old : Contents P) (reply : Option Reply) (new : Contents P) : Type 0 where
     pub client : ℕ
-    pub placed : Placed
+    pub numbered : Numbered
     pub due : Due
     pub store : StoreState
-    pub committing : old.phase ≡ Committing client placed due
-    pub failed : FailsTo due placed.command old.store store
+    pub committing : old.phase ≡ Committing client numbered due
+    pub failed : FailsTo due numbered.command old.store store
     pub told : reply ≡ Some (replies.Refused 35)
     pub new_is : new ≡ record (counted old) { store = store; jobs = remove old.jobs client; phase = Failed }
 
   -- the reply to the command that is on the disk: the library takes it, and the job ends
   pub record Acknowledges (old : Contents P) (client : ℕ) (reply : Option Reply) (new : Contents P) : Type 0 where
-    pub placed : Placed
-    pub committing : old.phase ≡ Committing client placed due.Acknowledge
+    pub numbered : Numbered
+    pub committing : old.phase ≡ Committing client numbered due.Acknowledge
     pub done : reply ≡ Some replies.Done
     pub new_is : new ≡ record (counted old) {
-      library = after old.library placed.command;
-      acknowledged = old.acknowledged ++ placed ∷ [];
+      library = after old.library numbered.command;
+      acknowledged = old.acknowledged ++ numbered ∷ [];
       jobs = remove old.jobs client;
       phase = Idle;
     }
@@ -179,7 +179,7 @@ module _ {P : Type 0} where
     pub crashed : old.phase ≡ Crashed
     pub bodies : List (List ℕ)
     pub library : Units
-    pub kept : List Placed
+    pub kept : List Numbered
     pub holds : HoldsRecords (bytes_of old.store.cells) old.store.area bodies
     pub stand : StandFor bodies library
     pub longest : IsLongest library old.order kept

@@ -64,6 +64,6 @@ FailsTo WriteGate command old new = (byte : ℕ) × (new ≡ with_cells old (wri
 FailsTo SyncGate command old new = new ≡ old
 FailsTo Acknowledge command old new = ⊥
 
--- the disk after a crash that leaves this choice at the unsettled places
+-- the disk after a crash that leaves this choice at the unsettled offsets
 abbrev pub crashed_store : List ℕ → StoreState → StoreState
 crashed_store choice store = with_cells store (crashed store.cells choice)

@@ -2,7 +2,7 @@ ghost use Rattle.std.specs.Prelude.{◌≡◌, ◌↔◌, ℕ, List, Result, Ok,
 ghost use Rattle.std.specs.Arc.{arc_value};
 ghost use Rattle.cc_link.specs.declared.unit.StoredUnit.{StoredUnit};
 ghost use Rattle.cc_core.specs.Rules.{Rules, AreWhole};
-ghost use Rattle.cc_core.specs.Faults.{RefusesAs};
+ghost use Rattle.cc_core.specs.Fault.{RefusesAs};
 
 use crate::fault::BuildFault;
 use cc_link::StoredUnit;
@@ -22,8 +22,8 @@ pub trait Build: Drop {
 
     /// How many pieces a source has, any bytes; or the number that refuses it.
     fn plan(&self, alloc: Global, source: &[u8]) -> Result<u32, BuildFault>
-        ensures ok { IfOk result (λ pieces. rules.plan source.now ≡ Ok pieces) }
-        ensures err { IfErr result (λ fault. RefusesAs fault (rules.plan source.now)) };
+        ensures answer { IfOk result (λ pieces. rules.plan source.now ≡ Ok pieces) }
+        ensures refused { IfErr result (λ fault. RefusesAs fault (rules.plan source.now)) };
 
     /// Whether a piece names this source and this part of it. It takes no memory.
     fn names(&self, piece: &Self::Piece, source: &[u8], part: u32) -> bool
@@ -36,9 +36,9 @@ pub trait Build: Drop {
         source: &[u8],
         pieces: &[&Self::Piece],
     ) -> Result<Arc<StoredUnit>, BuildFault>
-        ensures ok { IfOk result
+        ensures answer { IfOk result
             (λ unit. rules.unit source.now (map (λ piece. piece.now) pieces.now) ≡ Ok (arc_value unit)) }
-        ensures err { IfErr result
+        ensures refused { IfErr result
             (λ fault. RefusesAs fault (rules.unit source.now (map (λ piece. piece.now) pieces.now))) };
 
     // The unit that all pieces of a source give is of that source, and right for it.

@@ -6,9 +6,9 @@ ghost use Rattle.cc_core.specs.declared.contents.Contents.{Contents};
 ghost use Rattle.cc_core.specs.declared.contents.Due.TheVariants as due;
 ghost use Rattle.cc_core.specs.Store.{behind_gate};
 ghost use Rattle.cc_core.specs.Step.{Advances, Fails};
-ghost use Rattle.cc_core.specs.Ready.{IsReady};
+ghost use Rattle.cc_core.specs.internal.Ready.{IsReady};
 
-use crate::command::{Placed, Reply};
+use crate::command::{Numbered, Reply};
 use crate::contents::{Contents, Due, Phase};
 use crate::events::Answer;
 use crate::fault::CoreFault;
@@ -37,17 +37,17 @@ pub(crate) fn write_body<P>(alloc: Global, contents: &mut Contents<P>) -> Answer
         → (reply : Option Reply) × (new : Contents P) × (Advances due.WriteBody contents.old reply new) }
     ensures err { OnErr result (contents.new ≡ contents.old) }
 {
-    let Phase::Committing(_, placed, due) = &contents.phase else {
+    let Phase::Committing(_, numbered, due) = &contents.phase else {
         return Err(CoreFault::NotNow);
     };
     let Due::WriteBody = due else {
         return Err(CoreFault::NotNow);
     };
-    let body = body_of_command(alloc, &placed.command)?;
+    let body = body_of_command(alloc, &numbered.command)?;
     let behind = frame(alloc, &body)?;
     contents.store.write_body(&behind);
     contents.phase.go_on(Due::SyncBody);
-    contents.clock = contents.clock.next();
+    contents.upcoming = contents.upcoming.next();
     Ok(None)
 }
 
@@ -66,7 +66,7 @@ pub(crate) fn sync_body<P>(contents: &mut Contents<P>) -> Answer
     };
     contents.store.sync();
     contents.phase.go_on(Due::WriteGate);
-    contents.clock = contents.clock.next();
+    contents.upcoming = contents.upcoming.next();
     Ok(None)
 }
 
@@ -85,7 +85,7 @@ pub(crate) fn write_gate<P>(contents: &mut Contents<P>) -> Answer
     };
     contents.store.open_gate();
     contents.phase.go_on(Due::SyncGate);
-    contents.clock = contents.clock.next();
+    contents.upcoming = contents.upcoming.next();
     Ok(None)
 }
 
@@ -99,18 +99,18 @@ pub(crate) fn sync_gate<P>(alloc: Global, contents: &mut Contents<P>) -> Answer
         → (reply : Option Reply) × (new : Contents P) × (Advances due.SyncGate contents.old reply new) }
     ensures err { OnErr result (contents.new ≡ contents.old) }
 {
-    let Phase::Committing(_, placed, due) = &contents.phase else {
+    let Phase::Committing(_, numbered, due) = &contents.phase else {
         return Err(CoreFault::NotNow);
     };
     let Due::SyncGate = due else {
         return Err(CoreFault::NotNow);
     };
-    let length = body_of_command(alloc, &placed.command)?.len();
+    let length = body_of_command(alloc, &numbered.command)?.len();
     contents.store.sync();
     let used = contents.store.used();
     contents.store.set_used(used + (length + 5));
     contents.phase.go_on(Due::Acknowledge);
-    contents.clock = contents.clock.next();
+    contents.upcoming = contents.upcoming.next();
     Ok(None)
 }
 
@@ -124,13 +124,13 @@ pub(crate) fn fail<P: Drop>(alloc: Global, contents: &mut Contents<P>) -> Answer
         → (reply : Option Reply) × (new : Contents P) × (Fails contents.old reply new) }
     ensures err { OnErr result (contents.new ≡ contents.old) }
 {
-    let Phase::Committing(client, placed, due) = &contents.phase else {
+    let Phase::Committing(client, numbered, due) = &contents.phase else {
         return Err(CoreFault::NotNow);
     };
     let client = *client;
     match due {
         Due::WriteBody => {
-            let body = body_of_command(alloc, &placed.command)?;
+            let body = body_of_command(alloc, &numbered.command)?;
             let behind = frame(alloc, &body)?;
             contents.store.write_body(&behind);
         }
@@ -140,6 +140,6 @@ pub(crate) fn fail<P: Drop>(alloc: Global, contents: &mut Contents<P>) -> Answer
     }
     contents.phase = Phase::Failed;
     contents.jobs.remove(client);
-    contents.clock = contents.clock.next();
+    contents.upcoming = contents.upcoming.next();
     Ok(Some(Reply::Refused(35)))
 }

@@ -26,7 +26,7 @@ pub enum Event<P> {
     Fail,
     /// The reply is given to the client whose command is in commit, when all four steps are done.
     Ack(u64),
-    /// The disk crashes, and leaves byte `i` of this choice at each unsettled place `i`, 0 past its end. Behind the event
+    /// The disk crashes, and leaves byte `i` of this choice at each unsettled offset `i`, 0 past its end. After the event
     /// of a write this is a crash within that write; before that of a sync, one within that sync.
     Crash(Sequence<u8>),
     /// The library is opened after a crash.

@@ -5,15 +5,15 @@ ghost use Rattle.cc_core.specs.declared.contents.Contents.{Contents};
 ghost use Rattle.cc_core.specs.declared.contents.Due.TheVariants as due;
 ghost use Rattle.cc_core.specs.declared.contents.Phase.TheVariants.{Committing};
 ghost use Rattle.cc_core.specs.declared.job.Job.{Job};
-ghost use Rattle.cc_core.specs.Faults.{RefusesAs};
+ghost use Rattle.cc_core.specs.Fault.{RefusesAs};
 ghost use Rattle.cc_core.specs.Job.{job_of, planned, source_in, verdict, built, command_of, with_piece};
 ghost use Rattle.cc_library.specs.Body.{IsCommand};
-ghost use Rattle.cc_core.specs.Ready.{IsReady};
+ghost use Rattle.cc_core.specs.internal.Ready.{IsReady};
 ghost use Rattle.cc_core.specs.Run.{PutsCommand};
-ghost use Rattle.cc_core.specs.Step.{Step, IsImpossible, Submits, Takes, Finishes, Refuses, Begins, Acknowledges, IsFree, IsUp, counted, placed_now};
+ghost use Rattle.cc_core.specs.Step.{Step, IsImpossible, Submits, Takes, Finishes, Refuses, Begins, Acknowledges, IsFree, IsUp, counted, numbered_now};
 
 use crate::build::Build;
-use crate::command::{Placed, Reply, Request};
+use crate::command::{Numbered, Reply, Request};
 use crate::contents::{Contents, Due, Phase};
 use crate::device::{fail, sync_body, sync_gate, write_body, write_gate};
 use crate::event::Event;
@@ -93,7 +93,7 @@ pub(crate) fn submit<B: Build>(
     }
     let job = plan_job(build, alloc, call, request)?;
     contents.jobs.put(client, job)?;
-    contents.clock = contents.clock.next();
+    contents.upcoming = contents.upcoming.next();
     Ok(None)
 }
 
@@ -122,7 +122,7 @@ pub(crate) fn take<P: Drop>(
     };
     contents.workers.put(worker, Work { client, part })?;
     set_progress(&mut contents.jobs, client, part, Progress::Taken);
-    contents.clock = contents.clock.next();
+    contents.upcoming = contents.upcoming.next();
     Ok(None)
 }
 
@@ -148,7 +148,7 @@ fn settle<P: Drop>(contents: &mut Contents<P>, worker: u64, work: Work, progress
 {
     set_progress(&mut contents.jobs, work.client, work.part, progress);
     contents.workers.remove(worker);
-    contents.clock = contents.clock.next();
+    contents.upcoming = contents.upcoming.next();
 }
 
 // A busy worker hands in the piece that it took.
@@ -274,18 +274,18 @@ fn put_in_order<P>(
     command: Command,
 ) -> Result<(), AllocError>
     ensures ok { OnOk result (contents.new ≡ record (counted contents.old) {
-      order = contents.old.order ++ placed_now contents.old command ∷ [];
-      phase = Committing client (placed_now contents.old command) due.WriteBody;
+      order = contents.old.order ++ numbered_now contents.old command ∷ [];
+      phase = Committing client (numbered_now contents.old command) due.WriteBody;
     }) }
     ensures err { OnErr result (contents.new ≡ contents.old) }
 {
-    let placed = Placed {
-        place: contents.clock.same(),
+    let numbered = Numbered {
+        number: contents.upcoming.same(),
         command,
     };
-    contents.order.push(placed.again()?)?;
-    contents.phase = Phase::Committing(client, placed, Due::WriteBody);
-    contents.clock = contents.clock.next();
+    contents.order.push(numbered.again()?)?;
+    contents.phase = Phase::Committing(client, numbered, Due::WriteBody);
+    contents.upcoming = contents.upcoming.next();
     Ok(())
 }
 
@@ -337,7 +337,7 @@ pub(crate) fn begin<B: Build>(
         }
         Err(BuildFault::Refused(number)) => {
             contents.jobs.remove(client);
-            contents.clock = contents.clock.next();
+            contents.upcoming = contents.upcoming.next();
             Ok(Some(Reply::Refused(number)))
         }
         Err(BuildFault::OutOfMemory) => Err(CoreFault::OutOfMemory),
@@ -353,7 +353,7 @@ pub(crate) fn acknowledge<P: Drop>(contents: &mut Contents<P>, client: u64) -> A
         → (reply : Option Reply) × (new : Contents P) × (Acknowledges contents.old client reply new) }
     ensures err { OnErr result (contents.new ≡ contents.old) }
 {
-    let Phase::Committing(committing, placed, due) = &contents.phase else {
+    let Phase::Committing(committing, numbered, due) = &contents.phase else {
         return Err(CoreFault::NotNow);
     };
     if *committing != client {
@@ -362,14 +362,14 @@ pub(crate) fn acknowledge<P: Drop>(contents: &mut Contents<P>, client: u64) -> A
     let Due::Acknowledge = due else {
         return Err(CoreFault::NotNow);
     };
-    contents.acknowledged.push(placed.again()?)?;
-    if contents.library.apply(&placed.command).is_err() {
+    contents.acknowledged.push(numbered.again()?)?;
+    if contents.library.apply(&numbered.command).is_err() {
         contents.acknowledged.drop_last();
         return Err(CoreFault::OutOfMemory);
     }
     contents.jobs.remove(client);
     contents.phase = Phase::Idle;
-    contents.clock = contents.clock.next();
+    contents.upcoming = contents.upcoming.next();
     Ok(Some(Reply::Done))
 }
 

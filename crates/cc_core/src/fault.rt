@@ -6,20 +6,20 @@ use thiserror::Error;
 /// Why an event took no step.
 #[derive(Debug, Drop, Error)]
 pub enum CoreFault {
-    /// The event is not possible in this state.
-    #[error("not possible now")]
+    /// 29: the event is not possible in this state.
+    #[error("NotNow")]
     NotNow,
-    /// A growth was refused.
-    #[error("out of memory")]
+    /// 40: memory ran out.
+    #[error("OutOfMemory")]
     OutOfMemory,
 }
 
 impl CoreFault {
-    ghost use Rattle.cc_core.specs.Faults.{core_fault_number};
+    ghost use Rattle.cc_core.specs.Fault.{fault_number};
 
-    /// The fault's number: 29 where the event is not possible, 40 where memory was refused.
+    /// The fault's number: 29 where the event is not possible, 40 where memory ran out.
     pub fn number(&self) -> u32
-        ensures { result ≡ core_fault_number self.now }
+        ensures { result ≡ fault_number self.now }
     {
         match self {
             CoreFault::NotNow => 29,
@@ -41,18 +41,18 @@ impl From<AllocError> for CoreFault {
 /// Why a build gives no answer, or no unit.
 #[derive(Debug, Drop, Error)]
 pub enum BuildFault {
-    /// The source or its pieces are refused, with this number.
-    #[error("refused with number {0}")]
+    /// That number: the source or its pieces are refused with it.
+    #[error("Refused")]
     Refused(u32),
-    /// A growth was refused.
-    #[error("out of memory")]
+    /// 40: memory ran out.
+    #[error("OutOfMemory")]
     OutOfMemory,
 }
 
 impl BuildFault {
-    ghost use Rattle.cc_core.specs.Faults.{build_fault_number};
+    ghost use Rattle.cc_core.specs.Fault.{build_fault_number};
 
-    /// The number that refuses, or 40 where memory was refused.
+    /// The number that refuses, or 40 where memory ran out.
     pub fn number(&self) -> u32
         ensures { result ≡ build_fault_number self.now }
     {

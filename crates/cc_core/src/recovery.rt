@@ -1,14 +1,14 @@
 // The crash, and the opening behind it.
 ghost use Rattle.std.specs.Prelude.{◌≡◌, ◌↔◌, ◌-◌, ℕ, List, Option, Some, IfOk, OnErr, IsErrOf, IsTrue, length, take};
 ghost use Rattle.std.specs.Arc.{arc_value};
-ghost use Rattle.cc_core.specs.declared.command.Placed.{Placed};
+ghost use Rattle.cc_core.specs.declared.command.Numbered.{Numbered};
 ghost use Rattle.cc_core.specs.declared.command.Reply.{Reply};
 ghost use Rattle.cc_core.specs.declared.contents.Contents.{Contents};
 ghost use Rattle.cc_core.specs.Step.{Crashes, Reopens};
 ghost use Rattle.cc_core.specs.Run.{but_last};
-ghost use Rattle.cc_core.specs.Ready.{IsReady, IsInEffect, IsFrontKept};
+ghost use Rattle.cc_core.specs.internal.Ready.{IsReady, IsInEffect, IsFrontKept};
 
-use crate::command::{Placed, Reply};
+use crate::command::{Numbered, Reply};
 use crate::contents::{Contents, Phase};
 use crate::events::Answer;
 use crate::fault::CoreFault;
@@ -36,7 +36,7 @@ pub(crate) fn crash<P: Drop>(
     contents.jobs = Table::new(alloc);
     contents.workers = Table::new(alloc);
     contents.phase = Phase::Crashed;
-    contents.clock = contents.clock.next();
+    contents.upcoming = contents.upcoming.next();
     Ok(None)
 }
 
@@ -63,7 +63,7 @@ fn is_in_effect(library: &UnitMap, command: &Command) -> bool
 }
 
 // Drops the last command where the map is not as it leaves it.
-fn drop_undone(order: &mut Sequence<Placed>, library: &UnitMap)
+fn drop_undone(order: &mut Sequence<Numbered>, library: &UnitMap)
     ensures { IsFrontKept library.now order.old order.new }
 {
     if let Some(last) = order.as_slice().last() {
@@ -91,6 +91,6 @@ pub(crate) fn recover<P: Drop>(alloc: Global, contents: &mut Contents<P>) -> Ans
     contents.library = library;
     contents.store.set_used(used);
     contents.phase = Phase::Idle;
-    contents.clock = contents.clock.next();
+    contents.upcoming = contents.upcoming.next();
     Ok(None)
 }

@@ -7,17 +7,17 @@ ghost use Rattle.cc_core.specs.Step.{Step, IsImpossible, IsStart, commands};
 ghost use Rattle.cc_core.specs.Run.{Turn, Run, EachUnit, EachImageSurvives, EachImageIsRight, PutsCommand, AreRising, live};
 
 use crate::build::Build;
-use crate::command::{Placed, Reply};
+use crate::command::{Numbered, Reply};
 use crate::contents::{Contents, Phase};
 use crate::event::Event;
 use crate::events::take_step;
 use crate::fault::CoreFault;
-use crate::place::Place;
 use crate::sequence::Sequence;
+use crate::sequence_number::SequenceNumber;
 use crate::store::Store;
 use crate::table::Table;
 use cc_library::UnitMap;
-use std::alloc::Global;
+use std::alloc::{AllocError, Global};
 use std::marker::Model;
 
 /// The protocol core over a build and a disk in memory. Contracts see its contents, and its type keeps that some list of
@@ -46,13 +46,13 @@ impl<B: Build> Model for State<B> {
 }
 
 impl<B: Build> State<B> {
-    /// The state in which nothing has happened, on a formatted disk of `16 + 2 * area` bytes. Its only fault is want of
-    /// memory (40).
+    /// The state in which nothing has happened, on a formatted disk of `16 + 2 * area` bytes.
+    /// 40 `OutOfMemory` alone.
     pub fn new(alloc: Global, build: B, area: u32) -> Result<State<B>, CoreFault>
         requires least { 64 ≤ area }
         requires most { area ≤ 2 ^ 30 }
-        ensures start { IfOk result (λ state. IsStart area state) }
-        ensures err { IfErr result (λ fault. fault ≡ CoreFault.OutOfMemory) }
+        ensures answer { IfOk result (λ state. IsStart area state) }
+        ensures refused { IfErr result (λ fault. fault ≡ CoreFault.OutOfMemory) }
     {
         let store = Store::new(alloc, area)?;
         Ok(State {
@@ -65,22 +65,22 @@ impl<B: Build> State<B> {
                 workers: Table::new(alloc),
                 phase: Phase::Idle,
                 store,
-                clock: Place::first(),
+                upcoming: SequenceNumber::first(),
             },
         })
     }
 
     /// Takes the step of an event, and answers the reply where the event gives one: done, or a number.
-    /// 29 `NotNow` where the event is not possible; 40 `OutOfMemory` where a growth was refused.
+    /// 29 `NotNow` where the event is not possible; 40 `OutOfMemory` where memory ran out.
     /// After both the state is as before.
     pub fn step(
         &mut self,
         alloc: Global,
         event: Event<B::Piece>,
     ) -> Result<Option<Reply>, CoreFault>
-        ensures ok { IfOk result (λ reply. Step B.rules self.old event reply self.new) }
-        ensures not_now { IsErrOf result CoreFault.NotNow ↔ IsImpossible B.rules self.old event }
-        ensures err { OnErr result (self.new ≡ self.old) }
+        ensures answer { IfOk result (λ reply. Step B.rules self.old event reply self.new) }
+        ensures refused { IsErrOf result CoreFault.NotNow ↔ IsImpossible B.rules self.old event }
+        ensures leaves { OnErr result (self.new ≡ self.old) }
         // A command that goes into the order has a spelling, as the types of names and units keep.
         ensures puts { OnOk result (PutsCommand self.old self.new) }
     {
@@ -88,13 +88,12 @@ impl<B: Build> State<B> {
     }
 
     // Takes the step of an event, where it has one.
-    fn turn(&mut self, alloc: Global, event: Event<B::Piece>) -> Result<(), CoreFault>
-        ensures ok { OnOk result (Turn B.rules self.old event self.new) }
-        ensures err { IfErr result (λ fault. fault ≡ CoreFault.OutOfMemory) }
+    fn turn(&mut self, alloc: Global, event: Event<B::Piece>) -> Result<(), AllocError>
+        ensures { OnOk result (Turn B.rules self.old event self.new) }
     {
         match self.step(alloc, event) {
             Ok(_) | Err(CoreFault::NotNow) => Ok(()),
-            Err(CoreFault::OutOfMemory) => Err(CoreFault::OutOfMemory),
+            Err(CoreFault::OutOfMemory) => Err(AllocError),
         }
     }
 
@@ -108,9 +107,9 @@ impl<B: Build> State<B> {
         &self.contents.library
     }
 
-    /// The commands whose reply was given, each with its place, in the order of the replies. Whatever a crash leaves of the
+    /// The commands whose reply was given, each with its sequence number, in the order of the replies. Whatever a crash leaves of the
     /// disk recovers to a library that holds them.
-    pub fn acked(&self) -> &[Placed]
+    pub fn acked(&self) -> &[Numbered]
         ensures acked { result.now ≡ self.now.acknowledged }
         ensures in_order { All (Contains self.now.order) self.now.acknowledged }
         ensures rising { AreRising self.now.order }
@@ -139,12 +138,12 @@ pub fn run_events<B: Build>(
     ensures replay { IfOk result (λ new. new.library ≡ live new.phase new.order) }
     // Each command of the order was one that the library took in its turn.
     ensures accepted { IfOk result (λ new. AreAccepted empty (commands new.order)) }
-    // Every acknowledged command is in the order, by its place.
+    // Every acknowledged command is in the order, by its sequence number.
     ensures acked { IfOk result (λ new. All (Contains new.order) new.acknowledged) }
     ensures rising { IfOk result (λ new. AreRising new.order) }
     // Each unit in the live map is right for its source.
     ensures units { IfOk result (λ new. EachUnit B.is_right new.library) }
-    ensures err { IfErr result (λ fault. fault ≡ CoreFault.OutOfMemory) }
+    ensures refused { IfErr result (λ fault. fault ≡ CoreFault.OutOfMemory) }
 {
     for event in events {
         state.turn(alloc, event)?;

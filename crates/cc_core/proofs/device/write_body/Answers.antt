@@ -7,11 +7,11 @@ use Rattle.cc_core.proofs.device.write_body.Goals as goal
 pub returns-in_err-body-clause-memory : goal.returns-in_err-body-clause-memory
 returns-in_err-body-clause-memory g c =
     let at = c.in-Committing in
-    let committing = committing_is c.args.contents.now.phase at.field-0 at.field-0 at.placed at.due due.WriteBody at.is c.in-WriteBody.is refl in
-    λ _. advances due.WriteBody c.args.contents.now at.field-0 at.placed committing
+    let committing = committing_is c.args.contents.now.phase at.field-0 at.field-0 at.numbered at.due due.WriteBody at.is c.in-WriteBody.is refl in
+    λ _. advances due.WriteBody c.args.contents.now at.field-0 at.numbered committing
 
 pub returns-in_err-behind-clause-memory : goal.returns-in_err-behind-clause-memory
 returns-in_err-behind-clause-memory g c =
     let at = c.in-Committing in
-    let committing = committing_is c.args.contents.now.phase at.field-0 at.field-0 at.placed at.due due.WriteBody at.is c.in-WriteBody.is refl in
-    λ _. advances due.WriteBody c.args.contents.now at.field-0 at.placed committing
+    let committing = committing_is c.args.contents.now.phase at.field-0 at.field-0 at.numbered at.due due.WriteBody at.is c.in-WriteBody.is refl in
+    λ _. advances due.WriteBody c.args.contents.now at.field-0 at.numbered committing

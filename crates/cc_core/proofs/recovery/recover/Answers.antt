@@ -22,5 +22,5 @@ returns-clause-ok g c =
       workers = old.workers;
       phase = Idle;
       store = c.set_used.ensures i;
-      clock = c.next-contents.ensures i;
+      upcoming = c.next-contents.ensures i;
     })

@@ -1,6 +1,6 @@
 -- No event has led there from the start.
 use Rattle.std.proofs.Common.{refl, ap, ◌∙◌, []}
-use Rattle.cc_core.specs.declared.place.Place.{Place}
+use Rattle.cc_core.specs.declared.sequence_number.SequenceNumber.{SequenceNumber}
 use Rattle.cc_core.specs.declared.contents.Phase.TheVariants.{Idle}
 use Rattle.cc_core.proofs.state.State.new.Goals as goal
 
@@ -15,7 +15,7 @@ invariant_of-result g c = record {
     workers = c.new-8.result;
     phase = Idle;
     store = c.in_ok-store.store;
-    clock = c.first.result;
+    upcoming = c.first.result;
   };
   started = record {
     library = c.new-2.ensures;
@@ -25,7 +25,7 @@ invariant_of-result g c = record {
     workers = c.new-8.ensures;
     phase = refl;
     formatted = c.in_ok-store.ensures;
-    clock = ap (λ (p : Place). p.number) c.first.ensures;
+    upcoming = ap (λ (p : SequenceNumber). p.value) c.first.ensures;
   };
   events = [];
   run = refl;

@@ -26,11 +26,11 @@ use denote.Triple.Spec.{Meets, triple_of}
 use denote.Triple.Table.{entered}
 use denote.Triple.Walked.{says, Stays, stay_dropped, walk_of, ends_at, walk_Meets, Goes-dropped}
 use Rattle.cc_core.proofs.Walks.{no_bytes, bare_made}
-use Rattle.cc_core.specs.contracts.place.Place as Place
-use Rattle.cc_core.specs.contracts.place.Place.next as F
-use Rattle.cc_core.specs.contracts.place.Place.next.Key.{name as #self}
-use Rattle.cc_core.proofs.place.Place.next.Statement as stated
-use Rattle.cc_core.proofs.place.Place.next.Code as code
+use Rattle.cc_core.specs.contracts.sequence_number.SequenceNumber as SequenceNumber
+use Rattle.cc_core.specs.contracts.sequence_number.SequenceNumber.next as F
+use Rattle.cc_core.specs.contracts.sequence_number.SequenceNumber.next.Key.{name as #self}
+use Rattle.cc_core.proofs.sequence_number.SequenceNumber.next.Statement as stated
+use Rattle.cc_core.proofs.sequence_number.SequenceNumber.next.Code as code
 
 abbrev function : Fn
 function = code.function
@@ -39,7 +39,7 @@ abbrev ended : Ended
 ended = F.ended
 
 abbrev stayed : Stays ended.signature.params ended.kept
-stayed = (stay_dropped (RefOf (0 ∷ []) tt (plain (λ _. Place.the_row)) (λ _. tt)) yes, tt)
+stayed = (stay_dropped (RefOf (0 ∷ []) tt (plain (λ _. SequenceNumber.the_row)) (λ _. tt)) yes, tt)
 
 module _ {M : Type 1} {𝓤 : Ura M} (𝓛 : Logic 𝓤) (at_mem : Memory → SProp 𝓤) (run : Routine → Fun 𝓤) where
   open 𝓛 use {H}
@@ -58,7 +58,7 @@ module _ {M : Type 1} {𝓤 : Ura M} (𝓛 : Logic 𝓤) (at_mem : Memory → SP
     walks =
         let a = z.0.3 in
         let vss = z.0.4 in
-        let made : Place.the_row.Denot = record { number = a.0.now.number + 1 } in
+        let made : SequenceNumber.the_row.Denot = record { value = a.0.now.value + 1 } in
         qed 𝓛 ((raw toks ⊛ ‵ (owns (types_at ended.signature.params z.0.0) a vss)) ∷ raw ((held z.0.0 a).requires z.1) ∷ []) ∵
         keep ! (0 ∷ []) $ split ! $ move ! (1 ∷ []) $
         fsplit ! $ fsplit ! $ feq_l ! (λ is₀. drop ! $ drop ! $
@@ -73,7 +73,7 @@ module _ {M : Type 1} {𝓤 : Ura M} (𝓛 : Logic 𝓤) (at_mem : Memory → SP
 
   meets : (𝓣 : Tables 𝓤 H) → Meets 𝓛 ended.signature (WpFn 𝓤 H 𝓣.C 𝓣.Λ function) (closing 𝓛 ended held)
   meets 𝓣 =
-      walk_Meets 𝓛 ended stayed (Goes-dropped 𝓛 1 (RefOf (0 ∷ []) tt (plain (λ _. Place.the_row)) (λ _. tt)) yes (λ κs x f. refl), tt) held
+      walk_Meets 𝓛 ended stayed (Goes-dropped 𝓛 1 (RefOf (0 ∷ []) tt (plain (λ _. SequenceNumber.the_row)) (λ _. tt)) yes (λ κs x f. refl), tt) held
       (WpFn 𝓤 H 𝓣.C 𝓣.Λ function) (WpFn-mono 𝓤 H 𝓛.laws 𝓣 function) (walks 𝓣.C 𝓣.Λ)
 
 pub next_spec : {M : Type 1} → stated.statement M

@@ -9,7 +9,7 @@ use Rattle.cc_library.specs.declared.command.Command.TheVariants.{Add, Replace, 
 use Rattle.cc_library.specs.Apply.{Units, AreAccepted, library_of}
 use Rattle.cc_library.specs.Body.{body_of}
 use Rattle.cc_library.specs.Recovered.{StandFor}
-use Rattle.cc_core.specs.declared.command.Placed.{Placed}
+use Rattle.cc_core.specs.declared.command.Numbered.{Numbered}
 use Rattle.cc_core.specs.declared.contents.Contents.{Contents}
 use Rattle.cc_core.specs.declared.contents.Due.{Due}
 use Rattle.cc_core.specs.declared.contents.Due.TheVariants.{WriteBody, SyncBody, WriteGate, SyncGate, Acknowledge}
@@ -32,13 +32,13 @@ HasRoom SyncGate store command = IsFitting store command
 HasRoom Acknowledge store command = Unit {0}
 
 -- this library is that of the order, or of the order without its last command
-abbrev pub IsOldOrNew : Units → List Placed → Type 0
+abbrev pub IsOldOrNew : Units → List Numbered → Type 0
 IsOldOrNew library order =
     (library ≡ library_of (commands order))
-    ⊎ ((front : List Placed) × (last : Placed) × (order ≡ front ++ last ∷ []) × (library ≡ library_of (commands front)))
+    ⊎ ((front : List Numbered) × (last : Numbered) × (order ≡ front ++ last ∷ []) × (library ≡ library_of (commands front)))
 
 -- the disk holds records that stand for a library of the order, and every byte is settled
-pub record IsRecoverable (store : StoreState) (order : List Placed) : Type 0 where
+pub record IsRecoverable (store : StoreState) (order : List Numbered) : Type 0 where
   pub alone : LeavesAlone (bytes_of store.cells) (IsImage store.cells)
   pub bodies : List (List ℕ)
   pub library : Units
@@ -48,9 +48,9 @@ pub record IsRecoverable (store : StoreState) (order : List Placed) : Type 0 whe
   pub known : IsOldOrNew library order
 
 -- what the phase needs of the rest
-abbrev pub IsReadyIn : Phase → StoreState → List Placed → Type 0
+abbrev pub IsReadyIn : Phase → StoreState → List Numbered → Type 0
 IsReadyIn Idle store order = Unit {0}
-IsReadyIn (Committing client placed due) store order = HasRoom due store placed.command
+IsReadyIn (Committing client numbered due) store order = HasRoom due store numbered.command
 IsReadyIn Failed store order = Unit {0}
 IsReadyIn Crashed store order = IsRecoverable store order
 
@@ -65,7 +65,7 @@ IsInEffect library (Replace name unit) = get library name ≡ Some unit
 IsInEffect library (Withdraw name) = get library name ≡ None
 
 -- the order is kept where its last command is in effect, or there is none; else all but that one are kept
-abbrev pub IsFrontKept : Units → List Placed → List Placed → Type 0
+abbrev pub IsFrontKept : Units → List Numbered → List Numbered → Type 0
 IsFrontKept library old new =
-    ((new ≡ old) × ((front : List Placed) (last : Placed) → old ≡ front ++ last ∷ [] → IsInEffect library last.command))
-    ⊎ ((last : Placed) × (old ≡ new ++ last ∷ []) × (IsInEffect library last.command → ⊥))
+    ((new ≡ old) × ((front : List Numbered) (last : Numbered) → old ≡ front ++ last ∷ [] → IsInEffect library last.command))
+    ⊎ ((last : Numbered) × (old ≡ new ++ last ∷ []) × (IsInEffect library last.command → ⊥))
