@@ -69,7 +69,7 @@ pub record HoldsCrash (store : StoreState) (order acknowledged : List Numbered) 
 abbrev pub IsKept : Phase → StoreState → List Numbered → List Numbered → Type 0
 IsKept Idle store order acknowledged = HoldsOrder store order
 IsKept (Committing client numbered due) store order acknowledged = HoldsFlight numbered due store order acknowledged
-IsKept Failed store order acknowledged = HoldsEnds store order acknowledged
+IsKept (Failed failed) store order acknowledged = HoldsEnds store order acknowledged
 IsKept Crashed store order acknowledged = HoldsCrash store order acknowledged
 
 -- one record more stands for one command more
@@ -93,7 +93,7 @@ pub each_ends : (phase : Phase) (store : StoreState) (order acknowledged : List 
 each_ends Idle store order acknowledged k image now = record { bodies = k.bodies; held = k.rest.images image now; known = inl k.stand }
 each_ends (Committing client numbered due) store order acknowledged k image now =
     ends_of numbered store order acknowledged k.bodies k.front k.is k.acked k.taken k.stand k.spelled image (commit_images due store k.bodies (body_of numbered.command) k.on_disk image now)
-each_ends Failed store order acknowledged k image now = k image now
+each_ends (Failed failed) store order acknowledged k image now = k image now
 each_ends Crashed store order acknowledged k image now = subst (Ends store.area order acknowledged) (sym (k.alone image now)) k.ends
 
 -- so it survives

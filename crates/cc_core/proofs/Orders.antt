@@ -19,7 +19,7 @@ use Rattle.cc_library.specs.Apply.{Units, apply, kept, after, after_all, library
 use Rattle.cc_core.specs.declared.command.Numbered.{Numbered}
 use Rattle.cc_core.specs.Step.{commands, IsLongest}
 use Rattle.cc_core.specs.Run.{EachUnit, but_last}
-use Rattle.cc_core.specs.internal.Ready.{IsOldOrNew, IsInEffect, IsFrontKept}
+use Rattle.cc_core.specs.internal.Ready.{IsOfOrder, IsInEffect, IsFrontKept}
 use Rattle.cc_core.proofs.Lists.{take-push}
 use Rattle.cc_core.proofs.Whole.{IsRightCommand}
 
@@ -283,7 +283,7 @@ longest_whole library order leads = record {
 }
 
 -- what the test of the last command keeps is the longest front whose library was recovered
-pub front_longest : (library : Units) (old new : List Numbered) → AreAccepted empty (commands old) → IsOldOrNew library old → IsFrontKept library old new → IsLongest library old new
+pub front_longest : (library : Units) (old new : List Numbered) → AreAccepted empty (commands old) → IsOfOrder library old → IsFrontKept library old new → IsLongest library old new
 front_longest library old new all (inl whole) (inl keeps) =
     subst (IsLongest library old) (sym keeps.0) (longest_whole library old (sym whole))
 front_longest library old new all (inr lacks) (inl keeps) =
@@ -322,6 +322,6 @@ front_longest library old new all known (inr drops) =
         subst (λ (m : Units). IsInEffect m last.command) (sym (library-push new last) ∙ ap (λ (l : List Numbered). library_of (commands l)) (sym is) ∙ same)
         (after_in_effect (library_of (commands new)) last.command ok)
 
-    leads : IsOldOrNew library old → library_of (commands new) ≡ library
+    leads : IsOfOrder library old → library_of (commands new) ≡ library
     leads (inl whole) = absurd (not_in_effect (whole_in_effect (sym whole)))
     leads (inr lacks) = ap (λ (l : List Numbered). library_of (commands l)) (sym (but_last-push new last old is) ∙ but_last-push lacks.0 lacks.1 old lacks.2) ∙ sym lacks.3

@@ -7,12 +7,12 @@ use Rattle.cc_library.specs.Apply.{Units}
 use Rattle.cc_library.specs.Recovered.{StandFor}
 use Rattle.cc_library.proofs.Standing.{one_map}
 use Rattle.cc_core.specs.declared.command.Numbered.{Numbered}
-use Rattle.cc_core.specs.declared.contents.Contents.{Contents}
+use Rattle.cc_core.specs.declared.contents.Core.{Core}
 use Rattle.cc_core.specs.declared.contents.Phase.{Phase}
 use Rattle.cc_core.specs.declared.contents.Phase.TheVariants.{Idle, Crashed}
 use Rattle.cc_core.specs.StoreState.{StoreState}
-use Rattle.cc_core.specs.Step.{Reopens, counted}
-use Rattle.cc_core.specs.internal.Ready.{IsRecoverable, IsReady, IsReadyIn, IsFrontKept, IsOldOrNew}
+use Rattle.cc_core.specs.Step.{Reopens}
+use Rattle.cc_core.specs.internal.Ready.{IsRecoverable, IsReady, IsReadyIn, IsFrontKept, IsOfOrder}
 use Rattle.cc_core.proofs.Orders.{front_longest}
 
 -- the records that were found: of an area of some size, and so many bytes
@@ -27,14 +27,13 @@ found_room store order library used area bodies r f =
     let same = r.holds.alone area bodies f.holds in
     omega (arith, f.holds.fits, f.used_is, same.0)
 
-module _ {P : Type 0} where
-  pub recoverable_of : (old : Contents P) → IsReady old → old.phase ≡ Crashed → IsRecoverable old.store old.order
-  recoverable_of old ready crashed = subst (λ (phase : Phase). IsReadyIn phase old.store old.order) crashed ready
+pub recoverable_of : (old : Core) → IsReady old → old.phase ≡ Crashed → IsRecoverable old.store old.order
+recoverable_of old ready crashed = subst (λ (phase : Phase). IsReadyIn phase old.store old.order) crashed ready
 
   -- so the state behind them is the recovery's
-  pub found_reopens : (old new : Contents P) (library : Units) (used area : ℕ) (bodies : List (List ℕ)) (kept : List Numbered) → IsReady old → old.phase ≡ Crashed → IsFound old.store library used area bodies
-      → IsFrontKept library old.order kept → new ≡ record (counted old) { library = library; order = kept; phase = Idle; store = record old.store { used = used } } → Reopens old None new
-  found_reopens old new library used area bodies kept ready crashed f keeps is =
+pub found_reopens : (old new : Core) (library : Units) (used area : ℕ) (bodies : List (List ℕ)) (kept : List Numbered) → IsReady old → old.phase ≡ Crashed → IsFound old.store library used area bodies
+      → IsFrontKept library old.order kept → new ≡ record old { library = library; order = kept; phase = Idle; store = record old.store { used = used } } → Reopens old None new
+found_reopens old new library used area bodies kept ready crashed f keeps is =
       let r = recoverable_of old ready crashed in
       let same = r.holds.alone area bodies f.holds in
       let library_is : r.library ≡ library =
@@ -46,7 +45,7 @@ module _ {P : Type 0} where
         kept = kept;
         holds = subst (λ (n : ℕ). HoldsRecords (bytes_of old.store.cells) n bodies) same.0 f.holds;
         stand = f.stand;
-        longest = front_longest library old.order kept r.accepted (subst (λ (m : Units). IsOldOrNew m old.order) library_is r.known) keeps;
+        longest = front_longest library old.order kept r.accepted (subst (λ (m : Units). IsOfOrder m old.order) library_is r.known) keeps;
         silent = refl;
-        new_is = is ∙ ap (λ (n : ℕ). record (counted old) { library = library; order = kept; phase = Idle; store = record old.store { used = n } }) f.used_is;
+        new_is = is ∙ ap (λ (n : ℕ). record old { library = library; order = kept; phase = Idle; store = record old.store { used = n } }) f.used_is;
       }

@@ -28,6 +28,11 @@ use Rattle.cc_core.specs.declared.job.Job.{Job}
 use Rattle.cc_core.specs.declared.job.Progress.{Progress}
 use Rattle.cc_core.specs.declared.job.Progress.TheVariants.{Waiting, Taken, Made, Refused}
 use Rattle.cc_core.specs.declared.contents.Contents.{Contents}
+use Rattle.cc_core.specs.declared.contents.Core.{Core}
+use Rattle.cc_core.specs.declared.fault.Refusal.{Refusal}
+use Rattle.cc_core.specs.declared.ids.CallId.{CallId}
+use Rattle.cc_core.specs.declared.ids.ClientId.{ClientId}
+use Rattle.cc_core.specs.declared.ids.PartIndex.{PartIndex}
 use Rattle.cc_core.specs.declared.contents.Due.{Due}
 use Rattle.cc_core.specs.declared.contents.Due.TheVariants as due
 use Rattle.cc_core.specs.declared.contents.Phase.{Phase}
@@ -38,10 +43,10 @@ use Rattle.cc_core.specs.Rules.{Rules}
 use Rattle.cc_core.specs.Job.{planned, job_of, source_in, with_piece, closed, verdict}
 use Rattle.cc_core.specs.StoreState.{StoreState}
 use Rattle.cc_core.specs.Store.{IsFormatted, stepped, due_after, crashed_store}
-use Rattle.cc_core.specs.Step.{Step, Begun, Advances, Fails, Acknowledges, Crashes, Reopens, IsFree, IsStart, counted, numbered_now, commands}
-use Rattle.cc_core.specs.Run.{EachUnit, AreRising, but_last, live, EachImageSurvives, EachImageIsRight, PutsCommand, Turn, Run, Reached}
+use Rattle.cc_core.specs.Step.{Step, Begins, Begun, Advances, Fails, Acknowledges, Crashes, Reopens, IsUp, IsFree, IsStart, jobs_begun, ticked, numbered_now, commands}
+use Rattle.cc_core.specs.Run.{EachUnit, AreRising, but_last, live, EachImageSurvives, EachImageIsRight, PutsCommand, HandsIn, Turn, Run, Reached}
 use Rattle.cc_core.specs.internal.Ready.{IsFitting, IsRecoverable, IsReady, IsReadyIn}
-use Rattle.cc_core.proofs.Lists.{slice_get-set, slice_get-push, All-slice_get, take-push}
+use Rattle.cc_core.proofs.Lists.{slice_get-set, slice_get-push, slice_get-last, Contains-slice_get, All-slice_get, take-push}
 use Rattle.cc_core.proofs.Whole.{IsRightCommand, IsNamed, IsLawful, verdict_right, verdict_taken}
 use Rattle.cc_core.proofs.Orders.{found-insert, found-remove, AreRight, AreRight-push, AreRight-front, EachUnit-empty, EachUnit-library, library-push, AreAccepted-push, AreAccepted-before, but_last-push}
 use Rattle.cc_core.proofs.Held.{HoldsA, commit_goes_on, room_goes_on, failed_images, crashed_image, crashed_alone}
@@ -127,109 +132,140 @@ recoverable store order acknowledged all h = at h.ends.known
       known = inr (lacks.front, lacks.last, lacks.is, refl);
     }
 
-module _ {P : Type 0} (rules : Rules P) where
+-- what each acknowledged command's number is below
+acked_below : (order acknowledged front : List Numbered) (last : Numbered) → order ≡ front ++ last ∷ [] → AreRising order → All (Contains front) acknowledged → AreBelow last.number.value acknowledged
+acked_below order acknowledged front last is rising all k a there =
+    let found = All-slice_get (Contains front) acknowledged k a all there in
+    let at = Contains-slice_get front a found in
+    let first : slice_get order at.0 ≡ Some a = in_whole front (last ∷ []) order is at.0 a at.1 in
+    let second : slice_get order (length front) ≡ Some last = ap (λ (l : List Numbered). slice_get l (length front)) is ∙ slice_get-last front last in
+    rising at.0 (length front) a last (slice_get_within front at.0 a at.1) first second
+
+-- what holds of the core after any events
+pub record IsSoundCore (is_right : StoredUnit → Type 0) (s : Core) : Type 0 where
+  pub replay : s.library ≡ live s.phase s.order
+  pub accepted : AreAccepted empty (commands s.order)
+  pub right : AreRight is_right s.order
+  pub acked : All (Contains s.order) s.acknowledged
+  pub rising : AreRising s.order
+  pub rising_acked : AreRising s.acknowledged
+  pub below : AreBelow s.upcoming.value s.order
+  pub disk : IsKept s.phase s.store s.order s.acknowledged
+
+module _ {P : Type 0} (rules : Rules P) (keeps : P → Type 0) where
   -- a fresh job's pieces all wait
-  planned_named : (call : ℕ) (asked : Request) (plan : Result ℕ ℕ) → ((source : List ℕ) → source_in asked ≡ Some source → rules.plan source ≡ plan) → IsNamed rules (planned {P = P} call asked plan)
+  planned_named : (call : CallId) (asked : Request) (plan : Result ℕ ℕ) → ((source : List ℕ) → source_in asked ≡ Some source → rules.plan source ≡ plan) → IsNamed rules keeps (planned {P = P} call asked plan)
   planned_named call asked (Ok n) plans = record {
     counted = λ source from none. plans source from ∙ ap Ok (sym (length-replicate n Waiting));
     named = λ source from k p is. let h : Waiting ≡ Made p = All-slice_get (λ w. Waiting ≡ w) (replicate n Waiting) k (Made p) (All-replicate (λ w. Waiting ≡ w) n Waiting refl) is in absurd (cc);
+    kept = λ k p is. let h : Waiting ≡ Made p = All-slice_get (λ w. Waiting ≡ w) (replicate n Waiting) k (Made p) (All-replicate (λ w. Waiting ≡ w) n Waiting refl) is in absurd (cc);
   }
   planned_named call asked (Err number) plans = record {
     counted = λ source from none. absurd (cc);
     named = λ source from k p is. absurd (cc);
+    kept = λ k p is. absurd (cc);
   }
 
-  job_named : (call : ℕ) (asked : Request) → IsNamed rules (job_of rules call asked)
+  job_named : (call : CallId) (asked : Request) → IsNamed rules keeps (job_of rules call asked)
   job_named call (request.Add name source) = planned_named call (request.Add name source) (rules.plan source) (λ s from. let same : source ≡ s = cc in ap rules.plan (sym same))
   job_named call (request.Replace name source) = planned_named call (request.Replace name source) (rules.plan source) (λ s from. let same : source ≡ s = cc in ap rules.plan (sym same))
   job_named call (request.Withdraw name) = planned_named call (request.Withdraw name) (Ok 0) (λ s from. absurd (cc))
 
-  -- another progress of a piece, which names its source and index where it is made
-  with_piece_named : (job : Job P) (part : ℕ) (progress : Progress P) → IsNamed rules job
-      → ((source : List ℕ) (p : P) → source_in job.request ≡ Some source → progress ≡ Made p → (rules.source_of p ≡ source) × (rules.part_of p ≡ part))
-      → IsNamed rules (with_piece job part progress)
-  with_piece_named job part progress named right = record {
-    counted = λ source from none. named.counted source from none ∙ ap Ok (sym (length-set job.pieces part progress));
-    named = λ source from k p is. elim (slice_get-set job.pieces part progress k (Made p) is) [
+  -- another progress of a piece, which names its source and index, and keeps what its type keeps, where it is made
+  with_piece_named : (job : Job P) (part : PartIndex) (progress : Progress P) → IsNamed rules keeps job
+      → ((source : List ℕ) (p : P) → source_in job.request ≡ Some source → progress ≡ Made p → (rules.source_of p ≡ source) × (rules.part_of p ≡ part.index))
+      → ((p : P) → progress ≡ Made p → keeps p)
+      → IsNamed rules keeps (with_piece job part progress)
+  with_piece_named job part progress named right kept = record {
+    counted = λ source from none. named.counted source from none ∙ ap Ok (sym (length-set job.pieces part.index progress));
+    named = λ source from k p is. elim (slice_get-set job.pieces part.index progress k (Made p) is) [
       | inl h ↦ let both = right source p from h.1 in (both.0, both.1 ∙ sym h.0)
       | inr h ↦ named.named source from k p h
+    ];
+    kept = λ k p is. elim (slice_get-set job.pieces part.index progress k (Made p) is) [
+      | inl h ↦ kept p h.1
+      | inr h ↦ named.kept k p h
     ];
   }
 
   -- each client's job is named
   abbrev pub AllNamed : FinMap nat_cmp (Job P) → Type 0
-  AllNamed jobs = (client : ℕ) (job : Job P) → get jobs client ≡ Some job → IsNamed rules job
+  AllNamed jobs = (client : ℕ) (job : Job P) → get jobs client ≡ Some job → IsNamed rules keeps job
 
-  AllNamed-insert : (jobs : FinMap nat_cmp (Job P)) (client : ℕ) (job : Job P) → AllNamed jobs → IsNamed rules job → AllNamed (insert jobs client job)
+  AllNamed-insert : (jobs : FinMap nat_cmp (Job P)) (client : ℕ) (job : Job P) → AllNamed jobs → IsNamed rules keeps job → AllNamed (insert jobs client job)
   AllNamed-insert jobs client job all named q j is =
-      elim (found-insert nat_cmp_total jobs client job q j is) [ inl h ↦ let same : job ≡ j = cc in subst (IsNamed rules) same named | inr h ↦ all q j h ]
+      elim (found-insert nat_cmp_total jobs client job q j is) [ inl h ↦ let same : job ≡ j = cc in subst (IsNamed rules keeps) same named | inr h ↦ all q j h ]
 
   AllNamed-remove : (jobs : FinMap nat_cmp (Job P)) (client : ℕ) → AllNamed jobs → AllNamed (remove jobs client)
   AllNamed-remove jobs client all q j is = all q j (found-remove nat_cmp_total jobs client q j is)
 
+  AllNamed-empty : (jobs : FinMap nat_cmp (Job P)) → jobs ≡ empty → AllNamed jobs
+  AllNamed-empty jobs is client job found = absurd (found_nothing jobs client job is found)
+    where
+      found_nothing : (jobs : FinMap nat_cmp (Job P)) (client : ℕ) (job : Job P) → jobs ≡ empty → get jobs client ≡ Some job → ⊥
+      found_nothing jobs client job is found = let none = sym (get-empty nat_cmp client) ∙ ap (λ m. get m client) (sym is) ∙ found in absurd (cc)
+
   -- what holds of the contents after any events
   pub record IsSound (is_right : StoredUnit → Type 0) (s : Contents P) : Type 0 where
-    pub replay : s.library ≡ live s.phase s.order
-    pub accepted : AreAccepted empty (commands s.order)
-    pub right : AreRight is_right s.order
-    pub acked : All (Contains s.order) s.acknowledged
-    pub rising : AreRising s.order
-    pub below : AreBelow s.upcoming.value s.order
+    pub core : IsSoundCore is_right s.core
     pub named : AllNamed s.jobs
-    pub disk : IsKept s.phase s.store s.order s.acknowledged
 
-  module _ (is_right : StoredUnit → Type 0) (law : IsLawful rules is_right) where
+  module _ (is_right : StoredUnit → Type 0) (law : IsLawful rules keeps is_right) where
     pub start-IsSound : (area : ℕ) (s : Contents P) → IsStart area s → IsSound is_right s
     start-IsSound area s st = record {
-      replay = st.library ∙ sym (λ i. live (st.phase i) (st.order i));
-      accepted = subst (λ (l : List Numbered). AreAccepted empty (commands l)) (sym st.order) tt;
-      right = subst (AreRight is_right) (sym st.order) tt;
-      acked = subst (All (Contains s.order)) (sym st.acknowledged) (All-nil (Contains s.order));
-      rising = subst AreRising (sym st.order) (λ i j a b lt first second. absurd (cc));
-      below = subst (AreBelow s.upcoming.value) (sym st.order) (λ k a is. absurd (cc));
-      named = λ client job is. let none = sym (get-empty nat_cmp client) ∙ ap (λ jobs. get jobs client) (sym st.jobs) ∙ is in absurd (cc);
-      disk = subst (λ phase. IsKept phase s.store s.order s.acknowledged) (sym st.phase) (formatted_holds area s.store s.order st.formatted st.order);
+      core = record {
+        replay = st.library ∙ sym (λ i. live (st.phase i) (st.order i));
+        accepted = subst (λ (l : List Numbered). AreAccepted empty (commands l)) (sym st.order) tt;
+        right = subst (AreRight is_right) (sym st.order) tt;
+        acked = subst (All (Contains s.core.order)) (sym st.acknowledged) (All-nil (Contains s.core.order));
+        rising = subst AreRising (sym st.order) (λ i j a b lt first second. absurd (cc));
+        rising_acked = subst AreRising (sym st.acknowledged) (λ i j a b lt first second. absurd (cc));
+        below = subst (AreBelow s.core.upcoming.value) (sym st.order) (λ k a is. absurd (cc));
+        disk = subst (λ phase. IsKept phase s.core.store s.core.order s.core.acknowledged) (sym st.phase) (formatted_holds area s.core.store s.core.order st.formatted st.order);
+      };
+      named = AllNamed-empty s.jobs st.jobs;
     }
 
     -- a step that changes jobs and workers alone
-    kept_IsSound : (s : Contents P) (jobs : _) (workers : _) → IsSound is_right s → AllNamed jobs → IsSound is_right (record (counted s) { jobs = jobs; workers = workers })
-    kept_IsSound s jobs workers sound named = record {
-      replay = sound.replay;
-      accepted = sound.accepted;
-      right = sound.right;
-      acked = sound.acked;
-      rising = sound.rising;
-      below = λ k a is. let lt = sound.below k a is in omega arith;
-      named = named;
-      disk = sound.disk;
-    }
+    kept_IsSound : (s : Contents P) (jobs : _) (workers : _) → IsSound is_right s → AllNamed jobs → IsSound is_right (record s { jobs = jobs; workers = workers })
+    kept_IsSound s jobs workers sound named = record { core = sound.core; named = named }
 
     idle_of : (phase : Phase) → IsFree phase → closed phase ≡ None → phase ≡ Idle
     idle_of Idle free open' = refl
     idle_of (Committing client numbered due) free open' = absurd free
-    idle_of Failed free open' = absurd (cc)
+    idle_of (Failed failed) free open' = absurd (cc)
     idle_of Crashed free open' = absurd free
 
-    begun_IsSound : (s : Contents P) (client : ℕ) (v : Result Command ℕ) (reply : Option Reply) (new : Contents P)
-        → IsSound is_right s → ((c : Command) → v ≡ Ok c → (s.phase ≡ Idle) × IsRightCommand is_right c × IsOk (apply s.library c) × IsFitting s.store c)
-        → Begun s client v reply new → PutsCommand s new → IsSound is_right new
-    begun_IsSound s client (Err number) reply new sound right begun puts =
-        subst (IsSound is_right) (sym begun.1) (kept_IsSound s (remove s.jobs client) s.workers sound (AllNamed-remove s.jobs client sound.named))
-    begun_IsSound s client (Ok c) reply new sound right begun puts =
+    begun_sound : (s : Core) (client : ClientId) (v : Result Command Refusal) (reply : Option Reply) (new : Core)
+        → IsSoundCore is_right s → ((c : Command) → v ≡ Ok c → (s.phase ≡ Idle) × IsRightCommand is_right c × IsOk (apply s.library c) × IsFitting s.store c)
+        → Begun s client v reply new → PutsCommand s new → IsSoundCore is_right new
+    begun_sound s client (Err refused) reply new sound right begun puts =
+        let there : IsSoundCore is_right (ticked s) = record {
+          replay = sound.replay;
+          accepted = sound.accepted;
+          right = sound.right;
+          acked = sound.acked;
+          rising = sound.rising;
+          rising_acked = sound.rising_acked;
+          below = λ k a is. let lt = sound.below k a is in omega arith;
+          disk = sound.disk;
+        } in
+        subst (IsSoundCore is_right) (sym begun.1) there
+    begun_sound s client (Ok c) reply new sound right begun puts =
         let numbered = numbered_now s c in
         let r = right c refl in
         let library : s.library ≡ library_of (commands s.order) = sound.replay ∙ ap (λ phase. live phase s.order) r.0 in
         let ok : IsOk (apply (library_of (commands s.order)) c) = subst (λ l. IsOk (apply l c)) library r.2 in
         let h : HoldsOrder s.store s.order = subst (λ phase. IsKept phase s.store s.order s.acknowledged) r.0 sound.disk in
-        let spelled : IsCommand c = puts numbered (ap (λ (n : Contents P). n.order) begun.1) in
-        let there : IsSound is_right (record (counted s) { order = s.order ++ numbered ∷ []; phase = Committing client numbered due.WriteBody }) = record {
+        let spelled : IsCommand c = puts numbered (ap (λ (n : Core). n.order) begun.1) in
+        let there : IsSoundCore is_right (record (ticked s) { order = s.order ++ numbered ∷ []; phase = Committing client numbered due.WriteBody }) = record {
           replay = library ∙ ap (λ front. library_of (commands front)) (sym (take-push s.order numbered));
           accepted = AreAccepted-push s.order numbered sound.accepted ok;
           right = AreRight-push is_right s.order numbered sound.right r.1;
           acked = All-weaker (Contains s.order) (Contains (s.order ++ numbered ∷ [])) (λ x in'. Contains-append_left s.order (numbered ∷ []) x in') s.acknowledged sound.acked;
           rising = AreRising-push s.upcoming.value s.order numbered sound.rising sound.below refl;
+          rising_acked = sound.rising_acked;
           below = AreBelow-push s.upcoming.value s.order numbered sound.below refl;
-          named = sound.named;
           disk = record {
             bodies = h.bodies;
             front = s.order;
@@ -242,23 +278,23 @@ module _ {P : Type 0} (rules : Rules P) where
             on_disk = h.rest;
           };
         } in
-        subst (IsSound is_right) (sym begun.1) there
+        subst (IsSoundCore is_right) (sym begun.1) there
 
     -- what is in commit
-    flight : (s : Contents P) (client : ℕ) (numbered : Numbered) (due : Due) → IsSound is_right s → s.phase ≡ Committing client numbered due → HoldsFlight numbered due s.store s.order s.acknowledged
+    flight : (s : Core) (client : ClientId) (numbered : Numbered) (due : Due) → IsSoundCore is_right s → s.phase ≡ Committing client numbered due → HoldsFlight numbered due s.store s.order s.acknowledged
     flight s client numbered due sound committing = subst (λ phase. IsKept phase s.store s.order s.acknowledged) committing sound.disk
 
-    advanced_IsSound : (due : Due) (s : Contents P) (reply : Option Reply) (new : Contents P) → IsSound is_right s → Advances due s reply new → IsSound is_right new
-    advanced_IsSound due s reply new sound step =
+    advanced_sound : (due : Due) (s : Core) (reply : Option Reply) (new : Core) → IsSoundCore is_right s → Advances due s reply new → IsSoundCore is_right new
+    advanced_sound due s reply new sound step =
         let f = flight s step.client step.numbered due sound step.committing in
-        let there : IsSound is_right (record (counted s) { store = stepped due step.numbered.command s.store; phase = Committing step.client step.numbered (due_after due) }) = record {
+        let there : IsSoundCore is_right (record s { store = stepped due step.numbered.command s.store; phase = Committing step.client step.numbered (due_after due) }) = record {
           replay = sound.replay ∙ ap (λ phase. live phase s.order) step.committing;
           accepted = sound.accepted;
           right = sound.right;
           acked = sound.acked;
           rising = sound.rising;
-          below = λ k a is. let lt = sound.below k a is in omega arith;
-          named = sound.named;
+          rising_acked = sound.rising_acked;
+          below = sound.below;
           disk = record {
             bodies = f.bodies;
             front = f.front;
@@ -271,66 +307,66 @@ module _ {P : Type 0} (rules : Rules P) where
             on_disk = commit_goes_on due s.store f.bodies step.numbered.command f.room f.on_disk;
           };
         } in
-        subst (IsSound is_right) (sym step.new_is) there
+        subst (IsSoundCore is_right) (sym step.new_is) there
 
-    failed_IsSound : (s : Contents P) (reply : Option Reply) (new : Contents P) → IsSound is_right s → Fails s reply new → IsSound is_right new
-    failed_IsSound s reply new sound step =
-        let f = flight s step.client step.numbered step.due sound step.committing in
-        let there : IsSound is_right (record (counted s) { store = step.store; jobs = remove s.jobs step.client; phase = Failed }) = record {
+    failed_sound : (client : ClientId) (s : Core) (reply : Option Reply) (new : Core) → IsSoundCore is_right s → Fails client s reply new → IsSoundCore is_right new
+    failed_sound client s reply new sound step =
+        let f = flight s client step.numbered step.due sound step.committing in
+        let there : IsSoundCore is_right (record s { store = step.store; phase = Failed (Some step.numbered) }) = record {
           replay = sound.replay ∙ ap (λ phase. live phase s.order) step.committing;
           accepted = sound.accepted;
           right = sound.right;
           acked = sound.acked;
           rising = sound.rising;
-          below = λ k a is. let lt = sound.below k a is in omega arith;
-          named = AllNamed-remove s.jobs step.client sound.named;
+          rising_acked = sound.rising_acked;
+          below = sound.below;
           disk = λ image now.
               ends_of step.numbered step.store s.order s.acknowledged f.bodies f.front f.is f.acked f.taken f.stand f.spelled image
               (failed_images step.due s.store step.store f.bodies step.numbered.command f.room f.on_disk step.failed image now);
         } in
-        subst (IsSound is_right) (sym step.new_is) there
+        subst (IsSoundCore is_right) (sym step.new_is) there
 
-    acked_IsSound : (s : Contents P) (client : ℕ) (reply : Option Reply) (new : Contents P) → IsSound is_right s → Acknowledges s client reply new → IsSound is_right new
-    acked_IsSound s client reply new sound step =
+    acked_sound : (client : ClientId) (s : Core) (reply : Option Reply) (new : Core) → IsSoundCore is_right s → Acknowledges client s reply new → IsSoundCore is_right new
+    acked_sound client s reply new sound step =
         let numbered = step.numbered in
         let f = flight s client numbered due.Acknowledge sound step.committing in
         let before : s.library ≡ library_of (commands f.front) =
         sound.replay ∙ ap (λ phase. live phase s.order) step.committing ∙ ap (λ (l : List Numbered). library_of (commands l)) (but_last-push f.front numbered s.order f.is) in
-        let there : IsSound is_right (record (counted s) { library = after s.library numbered.command; acknowledged = s.acknowledged ++ numbered ∷ []; jobs = remove s.jobs client; phase = Idle }) = record {
+        let there : IsSoundCore is_right (record s { library = after s.library numbered.command; acknowledged = s.acknowledged ++ numbered ∷ []; phase = Idle }) = record {
           replay = ap (λ library. after library numbered.command) before ∙ sym (library-push f.front numbered) ∙ ap (λ (l : List Numbered). library_of (commands l)) (sym f.is);
           accepted = sound.accepted;
           right = sound.right;
           acked = All-push (Contains s.order) s.acknowledged numbered sound.acked (subst (λ order. Contains order numbered) (sym f.is) (Contains-push f.front numbered));
           rising = sound.rising;
-          below = λ k a is. let lt = sound.below k a is in omega arith;
-          named = AllNamed-remove s.jobs client sound.named;
+          rising_acked = AreRising-push numbered.number.value s.acknowledged numbered sound.rising_acked (acked_below s.order s.acknowledged f.front numbered f.is sound.rising f.acked) refl;
+          below = sound.below;
           disk = record {
             bodies = f.bodies ++ body_of numbered.command ∷ [];
             rest = f.on_disk;
             stand = stand_more f.bodies f.front numbered s.order f.is f.stand f.spelled f.taken;
           };
         } in
-        subst (IsSound is_right) (sym step.new_is) there
+        subst (IsSoundCore is_right) (sym step.new_is) there
 
-    crashed_IsSound : (choice : List ℕ) (s : Contents P) (reply : Option Reply) (new : Contents P) → IsSound is_right s → Crashes choice s reply new → IsSound is_right new
-    crashed_IsSound choice s reply new sound step =
-        let there : IsSound is_right (record (counted s) { library = empty; jobs = empty; workers = empty; phase = Crashed; store = crashed_store choice s.store }) = record {
+    crashed_sound : (choice : List ℕ) (s : Core) (reply : Option Reply) (new : Core) → IsSoundCore is_right s → Crashes choice s reply new → IsSoundCore is_right new
+    crashed_sound choice s reply new sound step =
+        let there : IsSoundCore is_right (record s { library = empty; phase = Crashed; store = crashed_store choice s.store }) = record {
           replay = refl;
           accepted = sound.accepted;
           right = sound.right;
           acked = sound.acked;
           rising = sound.rising;
-          below = λ k a is. let lt = sound.below k a is in omega arith;
-          named = λ client job is. let none = sym (get-empty nat_cmp client) ∙ is in absurd (cc);
+          rising_acked = sound.rising_acked;
+          below = sound.below;
           disk = record {
             alone = crashed_alone s.store.cells choice;
             ends = each_ends s.phase s.store s.order s.acknowledged sound.disk (bytes_of (crashed s.store.cells choice)) (crashed_image s.store.cells choice);
           };
         } in
-        subst (IsSound is_right) (sym step.new_is) there
+        subst (IsSoundCore is_right) (sym step.new_is) there
 
-    reopened_IsSound : (s : Contents P) (reply : Option Reply) (new : Contents P) → IsSound is_right s → Reopens s reply new → IsSound is_right new
-    reopened_IsSound s reply new sound step =
+    reopened_sound : (s : Core) (reply : Option Reply) (new : Core) → IsSoundCore is_right s → Reopens s reply new → IsSoundCore is_right new
+    reopened_sound s reply new sound step =
         let h : HoldsCrash s.store s.order s.acknowledged = subst (λ phase. IsKept phase s.store s.order s.acknowledged) step.crashed sound.disk in
         let e = h.ends in
         let kept = step.kept in
@@ -338,76 +374,98 @@ module _ {P : Type 0} (rules : Rules P) where
         let whole : s.order ≡ kept ++ rest = sym (take-append-drop step.longest.count s.order) ∙ ap (λ (l : List Numbered). l ++ rest) (sym step.longest.front) in
         let same : step.bodies ≡ e.bodies = (holds_same (bytes_of s.store.cells) s.store.area s.store.area e.bodies step.bodies e.held.holds step.holds).1 in
         let held : HoldsA s.store.area step.bodies (bytes_of s.store.cells) = record { holds = step.holds; header_is = e.held.header_is } in
-        let there : IsSound is_right (record (counted s) { library = step.library; order = kept; phase = Idle; store = record s.store { used = length (records step.bodies) } }) = record {
+        let there : IsSoundCore is_right (record s { library = step.library; order = kept; phase = Idle; store = record s.store { used = length (records step.bodies) } }) = record {
           replay = sym step.longest.leads;
           accepted = AreAccepted-before kept rest (subst (λ (l : List Numbered). AreAccepted empty (commands l)) whole sound.accepted);
           right = AreRight-front is_right kept rest (subst (AreRight is_right) whole sound.right);
           acked = kept_acked e.bodies s.order s.acknowledged kept step.library sound.acked (subst (λ (bs : List (List ℕ)). StandFor bs step.library) same step.stand) e.known step.longest;
           rising = λ i j a b lt first second. sound.rising i j a b lt (in_whole kept rest s.order whole i a first) (in_whole kept rest s.order whole j b second);
-          below = λ k a is. let lt = sound.below k a (in_whole kept rest s.order whole k a is) in omega arith;
-          named = sound.named;
+          rising_acked = sound.rising_acked;
+          below = λ k a is. sound.below k a (in_whole kept rest s.order whole k a is);
           disk = record {
             bodies = step.bodies;
             rest = record { taken = refl; images = λ image now. subst (HoldsA s.store.area step.bodies) (sym (h.alone image now)) held };
             stand = subst (StandFor step.bodies) (sym step.longest.leads) step.stand;
           };
         } in
-        subst (IsSound is_right) (sym step.new_is) there
+        subst (IsSoundCore is_right) (sym step.new_is) there
+
+    AllNamed-begun : (jobs : FinMap nat_cmp (Job P)) (client : ClientId) (v : Result Command Refusal) → AllNamed jobs → AllNamed (jobs_begun jobs client v)
+    AllNamed-begun jobs client (Ok command) all = all
+    AllNamed-begun jobs client (Err refused) all = AllNamed-remove jobs client.number all
+
+    -- what a beginning needs
+    begins_sound : (client : ClientId) (old : Contents P) (reply : Option Reply) (new : Contents P) → IsSound is_right old → Begins rules client old reply new → PutsCommand old.core new.core → IsSound is_right new
+    begins_sound client old reply new sound step puts =
+        let core = old.core in
+        let v = verdict rules core.phase core.library core.store step.job in
+        record {
+          core = begun_sound core client v reply new.core sound.core
+              (λ c is. let t = verdict_taken rules keeps core.phase core.library core.store step.job c is in (
+                idle_of core.phase step.free t.open',
+                verdict_right rules keeps is_right law core.phase core.library core.store step.job c (sound.named client.number step.job step.held) step.ready is,
+                t.ok,
+                (t.fits, area_most core.phase core.store core.order core.acknowledged sound.core.disk),
+              )) step.begun puts;
+          named = subst AllNamed (sym step.jobs) (AllNamed-begun old.jobs client v sound.named);
+        }
 
     -- each step keeps it
-    pub step_IsSound : (old : Contents P) (e : Event P) (reply : Option Reply) (new : Contents P) → IsSound is_right old → Step rules old e reply new → PutsCommand old new → IsSound is_right new
-    step_IsSound old (event.Submit client call asked) reply new sound step puts =
-        subst (IsSound is_right) (sym step.new_is) (kept_IsSound old _ _ sound (AllNamed-insert old.jobs client _ sound.named (job_named call asked)))
-    step_IsSound old (event.Take worker client part) reply new sound step puts =
+    pub step_IsSound : (old : Contents P) (e : Event P) (reply : Option Reply) (new : Contents P) → IsSound is_right old → Step rules old e reply new → PutsCommand old.core new.core → HandsIn keeps e → IsSound is_right new
+    step_IsSound old (event.Submit client call asked) reply new sound step puts hands =
+        subst (IsSound is_right) (sym step.new_is) (kept_IsSound old _ _ sound (AllNamed-insert old.jobs client.number _ sound.named (job_named call asked)))
+    step_IsSound old (event.Take worker client part) reply new sound step puts hands =
         subst (IsSound is_right) (sym step.new_is)
-        (kept_IsSound old _ _ sound (AllNamed-insert old.jobs client _ sound.named
-        (with_piece_named step.job part Taken (sound.named client step.job step.held) (λ source p from made. absurd (cc)))))
-    step_IsSound old (event.Done worker piece) reply new sound step puts =
+        (kept_IsSound old _ _ sound (AllNamed-insert old.jobs client.number _ sound.named
+        (with_piece_named step.job part Taken (sound.named client.number step.job step.held) (λ source p from made. absurd (cc)) (λ p made. absurd (cc)))))
+    step_IsSound old (event.Done worker piece) reply new sound step puts hands =
         subst (IsSound is_right) (sym step.new_is)
-        (kept_IsSound old _ _ sound (AllNamed-insert old.jobs step.work.client _ sound.named
-        (with_piece_named step.job step.work.part (Made piece) (sound.named step.work.client step.job step.held)
+        (kept_IsSound old _ _ sound (AllNamed-insert old.jobs step.work.client.number _ sound.named
+        (with_piece_named step.job step.work.part (Made piece) (sound.named step.work.client.number step.job step.held)
         (λ source p from made. let same : piece ≡ p = cc in let sources : rules.source_of piece ≡ source = cc (step.source) in
-        (ap rules.source_of (sym same) ∙ sources, ap rules.part_of (sym same) ∙ step.part)))))
-    step_IsSound old (event.Refuse worker number) reply new sound step puts =
+        (ap rules.source_of (sym same) ∙ sources, ap rules.part_of (sym same) ∙ step.part))
+        (λ p made. let same : piece ≡ p = cc in subst keeps same (hands worker piece refl)))))
+    step_IsSound old (event.Refuse worker number) reply new sound step puts hands =
         subst (IsSound is_right) (sym step.new_is)
-        (kept_IsSound old _ _ sound (AllNamed-insert old.jobs step.work.client _ sound.named
-        (with_piece_named step.job step.work.part (Refused number) (sound.named step.work.client step.job step.held) (λ source p from made. absurd (cc)))))
-    step_IsSound old (event.Begin client) reply new sound step puts =
-        begun_IsSound old client (verdict rules old.phase old.library old.store step.job) reply new sound
-        (λ c is. let t = verdict_taken rules old.phase old.library old.store step.job c is in (
-          idle_of old.phase step.free t.open',
-          verdict_right rules is_right law old.phase old.library old.store step.job c (sound.named client step.job step.held) step.ready is,
-          t.ok,
-          (t.fits, area_most old.phase old.store old.order old.acknowledged sound.disk),
-        )) step.begun puts
-    step_IsSound old event.WriteBody reply new sound step puts = advanced_IsSound due.WriteBody old reply new sound step
-    step_IsSound old event.SyncBody reply new sound step puts = advanced_IsSound due.SyncBody old reply new sound step
-    step_IsSound old event.WriteGate reply new sound step puts = advanced_IsSound due.WriteGate old reply new sound step
-    step_IsSound old event.SyncGate reply new sound step puts = advanced_IsSound due.SyncGate old reply new sound step
-    step_IsSound old event.Fail reply new sound step puts = failed_IsSound old reply new sound step
-    step_IsSound old (event.Ack client) reply new sound step puts = acked_IsSound old client reply new sound step
-    step_IsSound old (event.Crash choice) reply new sound step puts = crashed_IsSound choice old reply new sound step
-    step_IsSound old event.Recover reply new sound step puts = reopened_IsSound old reply new sound step
+        (kept_IsSound old _ _ sound (AllNamed-insert old.jobs step.work.client.number _ sound.named
+        (with_piece_named step.job step.work.part (Refused number) (sound.named step.work.client.number step.job step.held) (λ source p from made. absurd (cc)) (λ p made. absurd (cc)))))
+    step_IsSound old (event.Begin client) reply new sound step puts hands = begins_sound client old reply new sound step puts
+    step_IsSound old event.WriteBody reply new sound step puts hands =
+        record { core = advanced_sound due.WriteBody old.core reply new.core sound.core step.core_step; named = subst AllNamed (sym step.jobs) sound.named }
+    step_IsSound old event.SyncBody reply new sound step puts hands =
+        record { core = advanced_sound due.SyncBody old.core reply new.core sound.core step.core_step; named = subst AllNamed (sym step.jobs) sound.named }
+    step_IsSound old event.WriteGate reply new sound step puts hands =
+        record { core = advanced_sound due.WriteGate old.core reply new.core sound.core step.core_step; named = subst AllNamed (sym step.jobs) sound.named }
+    step_IsSound old event.SyncGate reply new sound step puts hands =
+        record { core = advanced_sound due.SyncGate old.core reply new.core sound.core step.core_step; named = subst AllNamed (sym step.jobs) sound.named }
+    step_IsSound old event.Fail reply new sound step puts hands =
+        record { core = failed_sound step.0 old.core reply new.core sound.core step.1.core_step; named = subst AllNamed (sym step.1.jobs) (AllNamed-remove old.jobs step.0.number sound.named) }
+    step_IsSound old (event.Ack client) reply new sound step puts hands =
+        record { core = acked_sound client old.core reply new.core sound.core step.core_step; named = subst AllNamed (sym step.jobs) (AllNamed-remove old.jobs client.number sound.named) }
+    step_IsSound old (event.Crash choice) reply new sound step puts hands =
+        record { core = crashed_sound choice old.core reply new.core sound.core step.core_step; named = AllNamed-empty new.jobs step.jobs }
+    step_IsSound old event.Recover reply new sound step puts hands =
+        record { core = reopened_sound old.core reply new.core sound.core step.core_step; named = subst AllNamed (sym step.jobs) sound.named }
 
-    turn_IsSound : (old : Contents P) (e : Event P) (new : Contents P) → IsSound is_right old → Turn rules old e new → IsSound is_right new
-    turn_IsSound old e new sound (inl step) = step_IsSound old e step.0 new sound step.1 step.2
+    turn_IsSound : (old : Contents P) (e : Event P) (new : Contents P) → IsSound is_right old → Turn rules keeps old e new → IsSound is_right new
+    turn_IsSound old e new sound (inl step) = step_IsSound old e step.0 new sound step.1 step.2 step.3
     turn_IsSound old e new sound (inr stays) = subst (IsSound is_right) (sym stays.1) sound
 
     -- and so does a run
-    pub run_IsSound : (old : Contents P) (events : List (Event P)) (new : Contents P) → IsSound is_right old → Run rules old events new → IsSound is_right new
+    pub run_IsSound : (old : Contents P) (events : List (Event P)) (new : Contents P) → IsSound is_right old → Run rules keeps old events new → IsSound is_right new
     run_IsSound old [] new sound run = subst (IsSound is_right) (sym run) sound
     run_IsSound old (e ∷ events) new sound run = run_IsSound run.0 events new (turn_IsSound old e run.0 sound run.1.0) run.1.1
 
     -- it holds of whatever is reached
-    pub reached_IsSound : (s : Contents P) → Reached rules s → IsSound is_right s
+    pub reached_IsSound : (s : Contents P) → Reached rules keeps s → IsSound is_right s
     reached_IsSound s reached = run_IsSound reached.first reached.events s (start-IsSound reached.area reached.first reached.started) reached.run
 
     -- ---- what follows
 
-    pub sound_survives : (s : Contents P) → IsSound is_right s → EachImageSurvives s
+    pub sound_survives : (s : Core) → IsSoundCore is_right s → EachImageSurvives s
     sound_survives s sound image now = ends_survives s.store.area s.order s.acknowledged image sound.acked (each_ends s.phase s.store s.order s.acknowledged sound.disk image now)
 
-    pub sound_right : (s : Contents P) → IsSound is_right s → EachImageIsRight is_right s
+    pub sound_right : (s : Core) → IsSoundCore is_right s → EachImageIsRight is_right s
     sound_right s sound image library now recovered =
         let v = sound_survives s sound image now in
         subst (EachUnit is_right) (sym (v.recovers.alone library recovered))
@@ -416,17 +474,18 @@ module _ {P : Type 0} (rules : Rules P) where
     live_right : (phase : Phase) (order : List Numbered) → AreRight is_right order → EachUnit is_right (live phase order)
     live_right Idle order right = EachUnit-library is_right order right
     live_right (Committing client numbered due) order right = EachUnit-library is_right (but_last order) (but_last_right is_right order right)
-    live_right Failed order right = EachUnit-library is_right (but_last order) (but_last_right is_right order right)
+    live_right (Failed (Some last)) order right = EachUnit-library is_right (but_last order) (but_last_right is_right order right)
+    live_right (Failed None) order right = EachUnit-library is_right order right
     live_right Crashed order right = EachUnit-empty is_right
 
-    pub sound_units : (s : Contents P) → IsSound is_right s → EachUnit is_right s.library
+    pub sound_units : (s : Core) → IsSoundCore is_right s → EachUnit is_right s.library
     sound_units s sound = subst (EachUnit is_right) (sym sound.replay) (live_right s.phase s.order sound.right)
 
     ready_in : (phase : Phase) (store : StoreState) (order acknowledged : List Numbered) → AreAccepted empty (commands order) → IsKept phase store order acknowledged → IsReadyIn phase store order
     ready_in Idle store order acknowledged all k = tt
     ready_in (Committing client numbered due) store order acknowledged all k = k.room
-    ready_in Failed store order acknowledged all k = tt
+    ready_in (Failed failed) store order acknowledged all k = tt
     ready_in Crashed store order acknowledged all k = recoverable store order acknowledged all k
 
-    pub sound_ready : (s : Contents P) → IsSound is_right s → IsReady s
+    pub sound_ready : (s : Core) → IsSoundCore is_right s → IsReady s
     sound_ready s sound = ready_in s.phase s.store s.order s.acknowledged sound.accepted sound.disk

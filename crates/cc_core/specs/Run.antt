@@ -1,5 +1,5 @@
 -- Whole runs of the protocol core, and what holds after any of them.
-use Rattle.std.specs.Prelude.{ℕ, ◌≡◌, ◌-◌, ◌<◌, ◌≤◌, ◌⊎◌, List, [], ◌∷◌, ◌++◌, length, take, slice_get, Option, Some, All, Contains}
+use Rattle.std.specs.Prelude.{ℕ, ◌≡◌, ◌-◌, ◌<◌, ◌≤◌, ◌⊎◌, List, [], ◌∷◌, ◌++◌, length, take, slice_get, Option, Some, None, All, Contains}
 use Rattle.std.specs.FinMap.{get, empty}
 use Rattle.cc_disk.specs.Model.{IsImage}
 use Rattle.cc_link.specs.declared.unit.StoredUnit.{StoredUnit}
@@ -9,9 +9,12 @@ use Rattle.cc_library.specs.Recovered.{Recovers, RecoversAlone}
 use Rattle.cc_core.specs.declared.command.Numbered.{Numbered}
 use Rattle.cc_core.specs.declared.command.Reply.{Reply}
 use Rattle.cc_core.specs.declared.contents.Contents.{Contents}
+use Rattle.cc_core.specs.declared.contents.Core.{Core}
 use Rattle.cc_core.specs.declared.contents.Phase.{Phase}
 use Rattle.cc_core.specs.declared.contents.Phase.TheVariants.{Idle, Committing, Failed, Crashed}
 use Rattle.cc_core.specs.declared.event.Event.{Event}
+use Rattle.cc_core.specs.declared.event.Event.TheVariants as events
+use Rattle.cc_core.specs.declared.ids.WorkerId.{WorkerId}
 use Rattle.cc_core.specs.Rules.{Rules}
 use Rattle.cc_core.specs.Step.{Step, IsImpossible, IsStart, commands}
 
@@ -32,7 +35,8 @@ but_last order = take (length order - 1) order
 abbrev pub live : Phase → List Numbered → Units
 live Idle order = library_of (commands order)
 live (Committing client last due) order = library_of (commands (but_last order))
-live Failed order = library_of (commands (but_last order))
+live (Failed (Some last)) order = library_of (commands (but_last order))
+live (Failed None) order = library_of (commands order)
 live Crashed order = empty
 
 -- The image recovers, to the library of a front of the order and to no other. The front holds every acknowledged command, and
@@ -45,32 +49,37 @@ pub record Survives (image : List ℕ) (order acknowledged : List Numbered) : Ty
   pub acked : All (Contains kept) acknowledged
   pub recovers : RecoversAlone image (library_of (commands kept))
 
+-- every image of the disk survives so
+abbrev pub EachImageSurvives : Core → Type 0
+EachImageSurvives s = (image : List ℕ) → IsImage s.store.cells image → Survives image s.order s.acknowledged
+
+-- each unit of whatever an image recovers to has this property, that of a command in commit or failed too
+abbrev pub EachImageIsRight : (StoredUnit → Type 0) → Core → Type 0
+EachImageIsRight is_right s = (image : List ℕ) (library : Units) → IsImage s.store.cells image → Recovers image library → EachUnit is_right library
+
+-- a command that goes into the order has a spelling: its name is a name, its unit a unit, as their types keep
+abbrev pub PutsCommand : Core → Core → Type 0
+PutsCommand old new = (numbered : Numbered) → new.order ≡ old.order ++ numbered ∷ [] → IsCommand numbered.command
+
 module _ {P : Type 0} where
-  -- every image of the disk survives so
-  abbrev pub EachImageSurvives : Contents P → Type 0
-  EachImageSurvives s = (image : List ℕ) → IsImage s.store.cells image → Survives image s.order s.acknowledged
-
-  -- each unit of whatever an image recovers to has this property, that of a command in commit or failed too
-  abbrev pub EachImageIsRight : (StoredUnit → Type 0) → Contents P → Type 0
-  EachImageIsRight is_right s = (image : List ℕ) (library : Units) → IsImage s.store.cells image → Recovers image library → EachUnit is_right library
-
-  -- a command that goes into the order has a spelling: its name is a name, its unit a unit, as their types keep
-  abbrev pub PutsCommand : Contents P → Contents P → Type 0
-  PutsCommand old new = (numbered : Numbered) → new.order ≡ old.order ++ numbered ∷ [] → IsCommand numbered.command
+  -- a piece that a worker hands in keeps what its type keeps
+  abbrev pub HandsIn : (P → Type 0) → Event P → Type 0
+  HandsIn keeps event = (worker : WorkerId) (piece : P) → event ≡ events.Done worker piece → keeps piece
 
   -- one turn of a run: an event that has a step takes it, and at each other the state stays
-  abbrev pub Turn : Rules P → Contents P → Event P → Contents P → Type 0
-  Turn rules old event new = ((reply : Option Reply) × Step rules old event reply new × PutsCommand old new) ⊎ (IsImpossible rules old event × (new ≡ old))
+  abbrev pub Turn : Rules P → (P → Type 0) → Contents P → Event P → Contents P → Type 0
+  Turn rules keeps old event new =
+      ((reply : Option Reply) × Step rules old event reply new × PutsCommand old.core new.core × HandsIn keeps event) ⊎ (IsImpossible rules old event × (new ≡ old))
 
   -- the run of these events, one turn after the other
-  abbrev pub Run : Rules P → Contents P → List (Event P) → Contents P → Type 0
-  Run rules old [] new = new ≡ old
-  Run rules old (event ∷ events) new = (mid : Contents P) × (Turn rules old event mid × Run rules mid events new)
+  abbrev pub Run : Rules P → (P → Type 0) → Contents P → List (Event P) → Contents P → Type 0
+  Run rules keeps old [] new = new ≡ old
+  Run rules keeps old (event ∷ later) new = (mid : Contents P) × (Turn rules keeps old event mid × Run rules keeps mid later new)
 
   -- some events lead to these contents from a start
-  pub record Reached (rules : Rules P) (new : Contents P) : Type 0 where
+  pub record Reached (rules : Rules P) (keeps : P → Type 0) (new : Contents P) : Type 0 where
     pub area : ℕ
     pub first : Contents P
     pub started : IsStart area first
     pub events : List (Event P)
-    pub run : Run rules first events new
+    pub run : Run rules keeps first events new

@@ -31,8 +31,8 @@ abbrev pub behind_gate : List ℕ → List ℕ
 behind_gate body = to_le_bytes w32 (length body) ++ (body ++ 0 ∷ [])
 
 -- how many bytes of the area the records and their closed gate take with one more record of this body
-abbrev pub room_with : StoreState → List ℕ → ℕ
-room_with store body = store.used + (length body + 6)
+abbrev pub room_taken : StoreState → List ℕ → ℕ
+room_taken store body = store.used + (length body + 6)
 
 -- the disk with other cells
 abbrev pub with_cells : StoreState → List Cell → StoreState

@@ -1,4 +1,4 @@
-ghost use Rattle.std.specs.Prelude.{◌≡◌, ◌↔◌, ℕ, List, Result, Ok, IfOk, IfErr, IsTrue, map};
+ghost use Rattle.std.specs.Prelude.{◌≡◌, ◌↔◌, ℕ, List, Result, Ok, IfOk, IfErr, IsTrue, All, map};
 ghost use Rattle.std.specs.Arc.{arc_value};
 ghost use Rattle.cc_link.specs.declared.unit.StoredUnit.{StoredUnit};
 ghost use Rattle.cc_core.specs.Rules.{Rules, AreWhole};
@@ -17,6 +17,9 @@ pub trait Build: Drop {
     // How many pieces a source has, what a piece names, and what pieces give.
     ghost rules: { Rules Self.Piece };
 
+    // What each piece of this type keeps, beside what it names.
+    ghost keeps: { Self.Piece → Type 0 };
+
     // The unit's image is right for its source.
     ghost is_right: { StoredUnit → Type 0 };
 
@@ -27,7 +30,8 @@ pub trait Build: Drop {
 
     /// Whether a piece names this source and this part of it. It takes no memory.
     fn names(&self, piece: &Self::Piece, source: &[u8], part: u32) -> bool
-        ensures { IsTrue result ↔ ((rules.source_of piece.now ≡ source.now) × (rules.part_of piece.now ≡ part)) };
+        ensures named { IsTrue result ↔ ((rules.source_of piece.now ≡ source.now) × (rules.part_of piece.now ≡ part)) }
+        ensures kept { keeps piece.now };
 
     /// The unit that the pieces of a source give, or the number that refuses them.
     fn unit(
@@ -41,7 +45,7 @@ pub trait Build: Drop {
         ensures refused { IfErr result
             (λ fault. RefusesAs fault (rules.unit source.now (map (λ piece. piece.now) pieces.now))) };
 
-    // The unit that all pieces of a source give is of that source, and right for it.
+    // The unit that all pieces of a source give, each with what it keeps, is of that source, and right for it.
     ghost law: { (source : List ℕ) (pieces : List Self.Piece) (unit : StoredUnit)
-        → AreWhole rules source pieces → rules.unit source pieces ≡ Ok unit → (unit.source ≡ source) × is_right unit };
+        → AreWhole rules source pieces → All keeps pieces → rules.unit source pieces ≡ Ok unit → (unit.source ≡ source) × is_right unit };
 }

@@ -1,5 +1,6 @@
 ghost use Rattle.std.specs.Prelude.{◌≡◌, IfOk};
 
+use crate::fault::Refusal;
 use crate::sequence::Sequence;
 use crate::sequence_number::SequenceNumber;
 use cc_library::{Command, Name};
@@ -13,7 +14,7 @@ pub enum Request {
     Withdraw(Name),
 }
 
-/// A command with its name: the sequence number of the event that began it, among all events that took a step.
+/// A command with its name: the sequence number of its Begin, among all Begins that took a step.
 /// Two commands that ask the same have two numbers.
 #[derive(Drop)]
 pub struct Numbered {
@@ -33,9 +34,9 @@ impl Numbered {
     }
 }
 
-/// What a client is answered: done, or refused with this number.
+/// What a client is answered: done, or why it is refused.
 #[derive(Drop)]
 pub enum Reply {
     Done,
-    Refused(u32),
+    Refused(Refusal),
 }

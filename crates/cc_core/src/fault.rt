@@ -38,6 +38,47 @@ impl From<AllocError> for CoreFault {
     }
 }
 
+/// Why a command is refused, as its reply says.
+#[derive(Debug, Drop, Error)]
+pub enum Refusal {
+    /// That number: the build refuses the source or its pieces with it.
+    #[error("Build")]
+    Build(u32),
+    /// 31: the name that is to be added is there.
+    #[error("Exists")]
+    Exists,
+    /// 32: the name that is to be replaced or withdrawn is not there.
+    #[error("Absent")]
+    Absent,
+    /// 34: the record does not fit its area.
+    #[error("Full")]
+    Full,
+    /// 35: the device step that was due failed.
+    #[error("DiskFault")]
+    DiskFault,
+    /// 36: a device step has failed, and the disk was not opened again.
+    #[error("Closed")]
+    Closed,
+}
+
+impl Refusal {
+    ghost use Rattle.cc_core.specs.Fault.{refusal_number};
+
+    /// The refusal's number: the build's own, or 31, 32, 34, 35 or 36.
+    pub fn number(&self) -> u32
+        ensures { result ≡ refusal_number self.now }
+    {
+        match self {
+            Refusal::Build(number) => *number,
+            Refusal::Exists => 31,
+            Refusal::Absent => 32,
+            Refusal::Full => 34,
+            Refusal::DiskFault => 35,
+            Refusal::Closed => 36,
+        }
+    }
+}
+
 /// Why a build gives no answer, or no unit.
 #[derive(Debug, Drop, Error)]
 pub enum BuildFault {

@@ -3,7 +3,7 @@ ghost use Rattle.std.specs.Borrow.{ftrue};
 
 use std::marker::Model;
 
-/// The sequence number of an event among those that took a step, counted from 0 at the start.
+/// The sequence number of a Begin among those that took a step, counted from 0 at the start.
 /// Contracts alone see it, as `value`, which has no upper end. It takes no bytes at run time.
 #[derive(Drop)]
 pub struct SequenceNumber {

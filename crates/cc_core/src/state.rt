@@ -4,11 +4,11 @@ ghost use Rattle.cc_library.specs.Apply.{AreAccepted};
 ghost use Rattle.cc_core.specs.declared.contents.Contents.{Contents};
 ghost use Rattle.cc_core.specs.declared.event.Event.{Event};
 ghost use Rattle.cc_core.specs.Step.{Step, IsImpossible, IsStart, commands};
-ghost use Rattle.cc_core.specs.Run.{Turn, Run, EachUnit, EachImageSurvives, EachImageIsRight, PutsCommand, AreRising, live};
+ghost use Rattle.cc_core.specs.Run.{Turn, Run, EachUnit, EachImageSurvives, EachImageIsRight, PutsCommand, HandsIn, AreRising, live};
 
 use crate::build::Build;
 use crate::command::{Numbered, Reply};
-use crate::contents::{Contents, Phase};
+use crate::contents::{Contents, Core, Phase};
 use crate::event::Event;
 use crate::events::take_step;
 use crate::fault::CoreFault;
@@ -42,7 +42,7 @@ impl<B: Build> Model for State<B> {
 
     ghost view = { λ s. s.contents };
 
-    ghost invariant = { λ s. Reached B.rules s.contents };
+    ghost invariant = { λ s. Reached B.rules B.keeps s.contents };
 }
 
 impl<B: Build> State<B> {
@@ -58,14 +58,16 @@ impl<B: Build> State<B> {
         Ok(State {
             build,
             contents: Contents {
-                library: UnitMap::new(alloc),
-                order: Sequence::new(Vec::new(alloc)),
-                acknowledged: Sequence::new(Vec::new(alloc)),
+                core: Core {
+                    library: UnitMap::new(alloc),
+                    order: Sequence::new(Vec::new(alloc)),
+                    acknowledged: Sequence::new(Vec::new(alloc)),
+                    phase: Phase::Idle,
+                    store,
+                    upcoming: SequenceNumber::first(),
+                },
                 jobs: Table::new(alloc),
                 workers: Table::new(alloc),
-                phase: Phase::Idle,
-                store,
-                upcoming: SequenceNumber::first(),
             },
         })
     }
@@ -82,14 +84,16 @@ impl<B: Build> State<B> {
         ensures refused { IsErrOf result CoreFault.NotNow ↔ IsImpossible B.rules self.old event }
         ensures leaves { OnErr result (self.new ≡ self.old) }
         // A command that goes into the order has a spelling, as the types of names and units keep.
-        ensures puts { OnOk result (PutsCommand self.old self.new) }
+        ensures puts { OnOk result (PutsCommand self.old.core self.new.core) }
+        // A piece that a worker hands in keeps what its type keeps.
+        ensures hands { OnOk result (HandsIn B.keeps event) }
     {
         take_step(&self.build, alloc, &mut self.contents, event)
     }
 
     // Takes the step of an event, where it has one.
     fn turn(&mut self, alloc: Global, event: Event<B::Piece>) -> Result<(), AllocError>
-        ensures { OnOk result (Turn B.rules self.old event self.new) }
+        ensures { OnOk result (Turn B.rules B.keeps self.old event self.new) }
     {
         match self.step(alloc, event) {
             Ok(_) | Err(CoreFault::NotNow) => Ok(()),
@@ -99,24 +103,24 @@ impl<B: Build> State<B> {
 
     /// The live map: what the order gives, without the command in commit or failed; empty from a crash to the recovery.
     pub fn library(&self) -> &UnitMap
-        ensures library { result.now ≡ self.now.library }
-        ensures replay { self.now.library ≡ live self.now.phase self.now.order }
-        ensures accepted { AreAccepted empty (commands self.now.order) }
-        ensures units { EachUnit B.is_right self.now.library }
+        ensures library { result.now ≡ self.now.core.library }
+        ensures replay { self.now.core.library ≡ live self.now.core.phase self.now.core.order }
+        ensures accepted { AreAccepted empty (commands self.now.core.order) }
+        ensures units { EachUnit B.is_right self.now.core.library }
     {
-        &self.contents.library
+        &self.contents.core.library
     }
 
     /// The commands whose reply was given, each with its sequence number, in the order of the replies. Whatever a crash leaves of the
     /// disk recovers to a library that holds them.
     pub fn acked(&self) -> &[Numbered]
-        ensures acked { result.now ≡ self.now.acknowledged }
-        ensures in_order { All (Contains self.now.order) self.now.acknowledged }
-        ensures rising { AreRising self.now.order }
-        ensures survives { EachImageSurvives self.now }
-        ensures right { EachImageIsRight B.is_right self.now }
+        ensures acked { result.now ≡ self.now.core.acknowledged }
+        ensures in_order { All (Contains self.now.core.order) self.now.core.acknowledged }
+        ensures rising { AreRising self.now.core.order }
+        ensures survives { EachImageSurvives self.now.core }
+        ensures right { EachImageIsRight B.is_right self.now.core }
     {
-        self.contents.acknowledged.as_slice()
+        self.contents.core.acknowledged.as_slice()
     }
 }
 
@@ -128,21 +132,21 @@ pub fn run_events<B: Build>(
     events: Vec<Event<B::Piece>>,
 ) -> Result<State<B>, CoreFault>
     // It is the run: a step for each event that has one, the state kept at each other.
-    ensures run { IfOk result (λ new. Run B.rules state events.items new) }
+    ensures run { IfOk result (λ new. Run B.rules B.keeps state events.items new) }
     // Whatever a crash leaves of the disk recovers to the library of a front of the order, which holds every acknowledged
     // command and lacks at most the last one.
-    ensures survives { IfOk result (λ new. EachImageSurvives new) }
+    ensures survives { IfOk result (λ new. EachImageSurvives new.core) }
     // Each unit of what is recovered is right for its source.
-    ensures right { IfOk result (λ new. EachImageIsRight B.is_right new) }
+    ensures right { IfOk result (λ new. EachImageIsRight B.is_right new.core) }
     // The live map is what the order gives, without the command in commit or failed; empty from a crash to the recovery.
-    ensures replay { IfOk result (λ new. new.library ≡ live new.phase new.order) }
+    ensures replay { IfOk result (λ new. new.core.library ≡ live new.core.phase new.core.order) }
     // Each command of the order was one that the library took in its turn.
-    ensures accepted { IfOk result (λ new. AreAccepted empty (commands new.order)) }
+    ensures accepted { IfOk result (λ new. AreAccepted empty (commands new.core.order)) }
     // Every acknowledged command is in the order, by its sequence number.
-    ensures acked { IfOk result (λ new. All (Contains new.order) new.acknowledged) }
-    ensures rising { IfOk result (λ new. AreRising new.order) }
+    ensures acked { IfOk result (λ new. All (Contains new.core.order) new.core.acknowledged) }
+    ensures rising { IfOk result (λ new. AreRising new.core.order) }
     // Each unit in the live map is right for its source.
-    ensures units { IfOk result (λ new. EachUnit B.is_right new.library) }
+    ensures units { IfOk result (λ new. EachUnit B.is_right new.core.library) }
     ensures refused { IfErr result (λ fault. fault ≡ CoreFault.OutOfMemory) }
 {
     for event in events {
@@ -157,9 +161,9 @@ pub fn run_events<B: Build>(
 /// is what the order gives.
 pub fn crash_law<B: Build>()
     ensures survives { (area : ℕ) (first new : Contents B.Piece) (events : List (Event B.Piece))
-        → IsStart area first → Run B.rules first events new → EachImageSurvives new }
+        → IsStart area first → Run B.rules B.keeps first events new → EachImageSurvives new.core }
     ensures right { (area : ℕ) (first new : Contents B.Piece) (events : List (Event B.Piece))
-        → IsStart area first → Run B.rules first events new → EachImageIsRight B.is_right new }
+        → IsStart area first → Run B.rules B.keeps first events new → EachImageIsRight B.is_right new.core }
     ensures replay { (area : ℕ) (first new : Contents B.Piece) (events : List (Event B.Piece))
-        → IsStart area first → Run B.rules first events new → new.library ≡ live new.phase new.order }
+        → IsStart area first → Run B.rules B.keeps first events new → new.core.library ≡ live new.core.phase new.core.order }
 {}

@@ -4,7 +4,7 @@ ghost use Rattle.cc_disk.specs.Model.{bytes_of, IsImage, written, synced};
 ghost use Rattle.cc_disk.specs.Images.{LeavesAlone};
 ghost use Rattle.cc_journal.specs.Format.{HoldsRecords, IsArea, open_gate, records, room_of};
 ghost use Rattle.cc_library.specs.Recovered.{StandFor};
-ghost use Rattle.cc_core.specs.Store.{IsFormatted, gate_of, room_with, with_cells, crashed_store};
+ghost use Rattle.cc_core.specs.Store.{IsFormatted, gate_of, room_taken, with_cells, crashed_store};
 
 use cc_disk::{Disk, MemoryDisk};
 use cc_journal::{Body, Journal, format};
@@ -59,7 +59,7 @@ impl Store {
 
     /// Whether a record with this body fits the area.
     pub(crate) fn fits(&self, body: &[u8]) -> bool
-        ensures { IsTrue result ↔ (room_with self.now body.now ≤ self.now.area) }
+        ensures { IsTrue result ↔ (room_taken self.now body.now ≤ self.now.area) }
     {
         body.len() + 6 <= self.area as usize - self.used
     }

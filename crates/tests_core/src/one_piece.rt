@@ -1,4 +1,4 @@
-ghost use Rattle.tests_core.specs.OnePiece.{one_piece, is_right, law};
+ghost use Rattle.tests_core.specs.OnePiece.{one_piece, keeps, is_right, law};
 
 use crate::piece::OnePiece;
 use cc_core::build::Build;
@@ -16,6 +16,8 @@ impl Build for OnePieceBuild {
     type Piece = OnePiece;
 
     ghost rules = { one_piece };
+
+    ghost keeps = { keeps };
 
     ghost is_right = { is_right };
 

@@ -5,6 +5,7 @@ use crate::piece::{OnePiece, compiled};
 use cc_core::command::{Reply, Request};
 use cc_core::event::Event;
 use cc_core::fault::{BuildFault, CoreFault};
+use cc_core::ids::{CallId, ClientId, PartIndex, WorkerId};
 use cc_core::sequence::Sequence;
 use cc_core::state::{State, crash_law, run_events};
 use cc_library::Name;
@@ -20,7 +21,7 @@ fn number(answer: Result<Option<Reply>, CoreFault>) -> u32 {
     match answer {
         Ok(None) => 0,
         Ok(Some(Reply::Done)) => 1,
-        Ok(Some(Reply::Refused(number))) => number,
+        Ok(Some(Reply::Refused(refusal))) => refusal.number(),
         Err(fault) => fault.number(),
     }
 }
@@ -48,6 +49,39 @@ fn add(rt: &(impl Abort + AllocGlobal), bytes: &[u8], source: &[u8]) -> Result<R
     Ok(Request::Add(name(rt, bytes)?, text(rt.alloc(), source)?))
 }
 
+// Events, by plain numbers.
+fn submit(client: u64, call: u64, request: Request) -> Event<OnePiece> {
+    Event::Submit(
+        ClientId { number: client },
+        CallId { number: call },
+        request,
+    )
+}
+
+fn take(worker: u64, client: u64, index: u32) -> Event<OnePiece> {
+    Event::Take(
+        WorkerId { number: worker },
+        ClientId { number: client },
+        PartIndex { index },
+    )
+}
+
+fn done(worker: u64, piece: OnePiece) -> Event<OnePiece> {
+    Event::Done(WorkerId { number: worker }, piece)
+}
+
+fn refuse(worker: u64, number: u32) -> Event<OnePiece> {
+    Event::Refuse(WorkerId { number: worker }, number)
+}
+
+fn begin(client: u64) -> Event<OnePiece> {
+    Event::Begin(ClientId { number: client })
+}
+
+fn ack(client: u64) -> Event<OnePiece> {
+    Event::Ack(ClientId { number: client })
+}
+
 // Takes an event's step, and looks at what it answers.
 fn expect(
     rt: &(impl Abort + AllocGlobal),
@@ -60,12 +94,12 @@ fn expect(
 
 // The four device events of a commit, and the reply.
 fn commit(rt: &(impl Abort + AllocGlobal), state: &mut State<OnePieceBuild>, client: u64) {
-    expect(rt, state, Event::Ack(client), 29);
+    expect(rt, state, ack(client), 29);
     expect(rt, state, Event::WriteBody, 0);
     expect(rt, state, Event::SyncBody, 0);
     expect(rt, state, Event::WriteGate, 0);
     expect(rt, state, Event::SyncGate, 0);
-    expect(rt, state, Event::Ack(client), 1);
+    expect(rt, state, ack(client), 1);
 }
 
 // A client submits a request, and its first piece is taken by worker 3 and handed in.
@@ -75,22 +109,22 @@ fn prepare(
     request: Request,
     source: &[u8],
 ) -> Result<(), Fail> {
-    expect(rt, state, Event::Submit(7, 1, request), 0);
-    expect(rt, state, Event::Take(3, 7, 0), 0);
-    expect(rt, state, Event::Done(3, piece(rt, source)?), 0);
+    expect(rt, state, submit(7, 1, request), 0);
+    expect(rt, state, take(3, 7, 0), 0);
+    expect(rt, state, done(3, piece(rt, source)?), 0);
     Ok(())
 }
 
 // The worked table's first line: two clients add `a`, with sources of their own.
 fn table(rt: &(impl Abort + AllocGlobal)) -> Result<Vec<Event<OnePiece>>, Fail> {
     let mut events = Vec::new(rt.alloc());
-    events.push(Event::Submit(1, 1, add(rt, b"a", b"one")?))?;
-    events.push(Event::Submit(2, 1, add(rt, b"a", b"two")?))?;
-    events.push(Event::Take(1, 1, 0))?;
-    events.push(Event::Take(2, 2, 0))?;
-    events.push(Event::Done(2, piece(rt, b"two")?))?;
-    events.push(Event::Begin(2))?;
-    events.push(Event::Done(1, piece(rt, b"one")?))?;
+    events.push(submit(1, 1, add(rt, b"a", b"one")?))?;
+    events.push(submit(2, 1, add(rt, b"a", b"two")?))?;
+    events.push(take(1, 1, 0))?;
+    events.push(take(2, 2, 0))?;
+    events.push(done(2, piece(rt, b"two")?))?;
+    events.push(begin(2))?;
+    events.push(done(1, piece(rt, b"one")?))?;
     Ok(events)
 }
 
@@ -117,12 +151,12 @@ fn one_of_two(
     state: &mut State<OnePieceBuild>,
 ) -> Result<(), Fail> {
     look(rt, state, None, 0)?;
-    expect(rt, state, Event::Begin(1), 29);
+    expect(rt, state, begin(1), 29);
     commit(rt, state, 2);
-    expect(rt, state, Event::Begin(1), 31);
+    expect(rt, state, begin(1), 31);
     look(rt, state, Some(b"two".as_slice()), 1)?;
     let request = add(rt, b"a", b"one")?;
-    expect(rt, state, Event::Submit(1, 2, request), 0);
+    expect(rt, state, submit(1, 2, request), 0);
     Ok(())
 }
 
@@ -138,14 +172,14 @@ fn refused_by_the_build(
     rt: &(impl Abort + AllocGlobal),
     state: &mut State<OnePieceBuild>,
 ) -> Result<(), Fail> {
-    expect(rt, state, Event::Submit(7, 1, add(rt, b"a", b"#x")?), 0);
-    expect(rt, state, Event::Begin(7), 11);
-    expect(rt, state, Event::Submit(7, 2, add(rt, b"a", b"x")?), 0);
-    expect(rt, state, Event::Take(3, 7, 0), 0);
-    expect(rt, state, Event::Refuse(3, 24), 0);
-    expect(rt, state, Event::Begin(7), 24);
+    expect(rt, state, submit(7, 1, add(rt, b"a", b"#x")?), 0);
+    expect(rt, state, begin(7), 11);
+    expect(rt, state, submit(7, 2, add(rt, b"a", b"x")?), 0);
+    expect(rt, state, take(3, 7, 0), 0);
+    expect(rt, state, refuse(3, 24), 0);
+    expect(rt, state, begin(7), 24);
     prepare(rt, state, add(rt, b"a", b"!x")?, b"!x")?;
-    expect(rt, state, Event::Begin(7), 25);
+    expect(rt, state, begin(7), 25);
     Ok(())
 }
 
@@ -157,18 +191,18 @@ fn refused_by_the_library(
     expect(
         rt,
         state,
-        Event::Submit(7, 3, Request::Withdraw(name(rt, b"a")?)),
+        submit(7, 3, Request::Withdraw(name(rt, b"a")?)),
         0,
     );
-    expect(rt, state, Event::Begin(7), 32);
+    expect(rt, state, begin(7), 32);
     let replace = Request::Replace(name(rt, b"a")?, text(rt.alloc(), b"x")?);
     prepare(rt, state, replace, b"x")?;
-    expect(rt, state, Event::Begin(7), 32);
+    expect(rt, state, begin(7), 32);
     prepare(rt, state, add(rt, b"a", b"x")?, b"x")?;
-    expect(rt, state, Event::Begin(7), 0);
+    expect(rt, state, begin(7), 0);
     commit(rt, state, 7);
     prepare(rt, state, add(rt, b"a", b"y")?, b"y")?;
-    expect(rt, state, Event::Begin(7), 31);
+    expect(rt, state, begin(7), 31);
     Ok(())
 }
 
@@ -179,12 +213,12 @@ fn replaced_and_withdrawn(
 ) -> Result<(), Fail> {
     let replace = Request::Replace(name(rt, b"a")?, text(rt.alloc(), b"new")?);
     prepare(rt, state, replace, b"new")?;
-    expect(rt, state, Event::Begin(7), 0);
+    expect(rt, state, begin(7), 0);
     commit(rt, state, 7);
     look(rt, state, Some(b"new".as_slice()), 2)?;
     let withdraw = Request::Withdraw(name(rt, b"a")?);
-    expect(rt, state, Event::Submit(7, 9, withdraw), 0);
-    expect(rt, state, Event::Begin(7), 0);
+    expect(rt, state, submit(7, 9, withdraw), 0);
+    expect(rt, state, begin(7), 0);
     commit(rt, state, 7);
     look(rt, state, None, 3)
 }
@@ -202,14 +236,14 @@ fn too_early(
     rt: &(impl Abort + AllocGlobal),
     state: &mut State<OnePieceBuild>,
 ) -> Result<(), Fail> {
-    expect(rt, state, Event::Ack(1), 29);
-    expect(rt, state, Event::Begin(1), 29);
-    expect(rt, state, Event::Take(1, 1, 0), 29);
-    expect(rt, state, Event::Submit(1, 1, add(rt, b"a", b"one")?), 0);
-    expect(rt, state, Event::Submit(2, 1, add(rt, b"b", b"two")?), 0);
-    expect(rt, state, Event::Submit(1, 2, add(rt, b"c", b"one")?), 29);
-    expect(rt, state, Event::Begin(1), 29);
-    expect(rt, state, Event::Take(1, 1, 1), 29);
+    expect(rt, state, ack(1), 29);
+    expect(rt, state, begin(1), 29);
+    expect(rt, state, take(1, 1, 0), 29);
+    expect(rt, state, submit(1, 1, add(rt, b"a", b"one")?), 0);
+    expect(rt, state, submit(2, 1, add(rt, b"b", b"two")?), 0);
+    expect(rt, state, submit(1, 2, add(rt, b"c", b"one")?), 29);
+    expect(rt, state, begin(1), 29);
+    expect(rt, state, take(1, 1, 1), 29);
     Ok(())
 }
 
@@ -218,13 +252,13 @@ fn while_taken(
     rt: &(impl Abort + AllocGlobal),
     state: &mut State<OnePieceBuild>,
 ) -> Result<(), Fail> {
-    expect(rt, state, Event::Take(1, 1, 0), 0);
-    expect(rt, state, Event::Take(1, 2, 0), 29);
-    expect(rt, state, Event::Take(2, 1, 0), 29);
-    expect(rt, state, Event::Done(1, piece(rt, b"two")?), 29);
-    expect(rt, state, Event::Done(2, piece(rt, b"one")?), 29);
-    expect(rt, state, Event::Refuse(2, 24), 29);
-    expect(rt, state, Event::Done(1, piece(rt, b"one")?), 0);
+    expect(rt, state, take(1, 1, 0), 0);
+    expect(rt, state, take(1, 2, 0), 29);
+    expect(rt, state, take(2, 1, 0), 29);
+    expect(rt, state, done(1, piece(rt, b"two")?), 29);
+    expect(rt, state, done(2, piece(rt, b"one")?), 29);
+    expect(rt, state, refuse(2, 24), 29);
+    expect(rt, state, done(1, piece(rt, b"one")?), 0);
     Ok(())
 }
 
@@ -233,9 +267,9 @@ fn while_committing(
     rt: &(impl Abort + AllocGlobal),
     state: &mut State<OnePieceBuild>,
 ) -> Result<(), Fail> {
-    expect(rt, state, Event::Begin(1), 0);
-    expect(rt, state, Event::Ack(2), 29);
-    expect(rt, state, Event::Begin(1), 29);
+    expect(rt, state, begin(1), 0);
+    expect(rt, state, ack(2), 29);
+    expect(rt, state, begin(1), 29);
     commit(rt, state, 1);
     look(rt, state, Some(b"one".as_slice()), 1)
 }
@@ -251,10 +285,10 @@ fn not_now(rt: HostRuntime) -> Result<(), Fail> {
 // Client 1 adds `a` with the source `one`, up to its Begin.
 fn until_begin(rt: &(impl Abort + AllocGlobal)) -> Result<Vec<Event<OnePiece>>, Fail> {
     let mut events = Vec::new(rt.alloc());
-    events.push(Event::Submit(1, 1, add(rt, b"a", b"one")?))?;
-    events.push(Event::Take(1, 1, 0))?;
-    events.push(Event::Done(1, piece(rt, b"one")?))?;
-    events.push(Event::Begin(1))?;
+    events.push(submit(1, 1, add(rt, b"a", b"one")?))?;
+    events.push(take(1, 1, 0))?;
+    events.push(done(1, piece(rt, b"one")?))?;
+    events.push(begin(1))?;
     Ok(events)
 }
 
@@ -344,9 +378,9 @@ fn crash_behind_the_body(rt: HostRuntime) -> Result<(), Fail> {
 #[test]
 fn crash_behind_the_reply(rt: HostRuntime) -> Result<(), Fail> {
     let one = Some(b"one".as_slice());
-    recovers(&rt, 4, Event::Ack(1), 0x00, one, 1)?;
-    recovers(&rt, 4, Event::Ack(1), 0xa5, one, 1)?;
-    recovers(&rt, 4, Event::Ack(1), 0xff, one, 1)
+    recovers(&rt, 4, ack(1), 0x00, one, 1)?;
+    recovers(&rt, 4, ack(1), 0xa5, one, 1)?;
+    recovers(&rt, 4, ack(1), 0xff, one, 1)
 }
 
 // A crash within the gate's write leaves the unit where it leaves the gate open, and nothing else; without a reply.
@@ -375,8 +409,8 @@ fn until_recovery(
     expect(rt, state, crash(rt, 0xa5)?, 0);
     look(rt, state, None, 0)?;
     let request = add(rt, b"b", b"two")?;
-    expect(rt, state, Event::Submit(4, 1, request), 29);
-    expect(rt, state, Event::Begin(1), 29);
+    expect(rt, state, submit(4, 1, request), 29);
+    expect(rt, state, begin(1), 29);
     expect(rt, state, Event::SyncGate, 29);
     expect(rt, state, Event::Recover, 0);
     expect(rt, state, Event::Recover, 29);
@@ -398,11 +432,11 @@ fn failed_and_recovered(
     expect(rt, state, Event::Fail, 35);
     expect(rt, state, Event::SyncBody, 29);
     prepare(rt, state, add(rt, b"b", b"two")?, b"two")?;
-    expect(rt, state, Event::Begin(7), 36);
+    expect(rt, state, begin(7), 36);
     expect(rt, state, crash(rt, 0xa5)?, 0);
     expect(rt, state, Event::Recover, 0);
     prepare(rt, state, add(rt, b"a", b"two")?, b"two")?;
-    expect(rt, state, Event::Begin(7), 0);
+    expect(rt, state, begin(7), 0);
     commit(rt, state, 7);
     look(rt, state, Some(b"two".as_slice()), 1)
 }
@@ -418,13 +452,13 @@ fn failed_step(rt: HostRuntime) -> Result<(), Fail> {
 // 8 of the one code word, 4 of no globals. An area of 64 bytes has room for two and their closed gate, and not for three.
 fn filled(rt: &(impl Abort + AllocGlobal), state: &mut State<OnePieceBuild>) -> Result<(), Fail> {
     prepare(rt, state, add(rt, b"a", b"one")?, b"one")?;
-    expect(rt, state, Event::Begin(7), 0);
+    expect(rt, state, begin(7), 0);
     commit(rt, state, 7);
     prepare(rt, state, add(rt, b"b", b"two")?, b"two")?;
-    expect(rt, state, Event::Begin(7), 0);
+    expect(rt, state, begin(7), 0);
     commit(rt, state, 7);
     prepare(rt, state, add(rt, b"c", b"six")?, b"six")?;
-    expect(rt, state, Event::Begin(7), 34);
+    expect(rt, state, begin(7), 34);
     look(rt, state, Some(b"one".as_slice()), 2)
 }
 

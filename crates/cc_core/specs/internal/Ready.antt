@@ -10,18 +10,18 @@ use Rattle.cc_library.specs.Apply.{Units, AreAccepted, library_of}
 use Rattle.cc_library.specs.Body.{body_of}
 use Rattle.cc_library.specs.Recovered.{StandFor}
 use Rattle.cc_core.specs.declared.command.Numbered.{Numbered}
-use Rattle.cc_core.specs.declared.contents.Contents.{Contents}
+use Rattle.cc_core.specs.declared.contents.Core.{Core}
 use Rattle.cc_core.specs.declared.contents.Due.{Due}
 use Rattle.cc_core.specs.declared.contents.Due.TheVariants.{WriteBody, SyncBody, WriteGate, SyncGate, Acknowledge}
 use Rattle.cc_core.specs.declared.contents.Phase.{Phase}
 use Rattle.cc_core.specs.declared.contents.Phase.TheVariants.{Idle, Committing, Failed, Crashed}
 use Rattle.cc_core.specs.Step.{commands}
 use Rattle.cc_core.specs.StoreState.{StoreState}
-use Rattle.cc_core.specs.Store.{room_with}
+use Rattle.cc_core.specs.Store.{room_taken}
 
 -- the record of this command fits the area
 abbrev pub IsFitting : StoreState → Command → Type 0
-IsFitting store command = (room_with store (body_of command) ≤ store.area) × (store.area ≤ 2 ^ 30)
+IsFitting store command = (room_taken store (body_of command) ≤ store.area) × (store.area ≤ 2 ^ 30)
 
 -- until its record is one of the journal's, a command in commit has room in the area
 abbrev pub HasRoom : Due → StoreState → Command → Type 0
@@ -32,8 +32,8 @@ HasRoom SyncGate store command = IsFitting store command
 HasRoom Acknowledge store command = Unit {0}
 
 -- this library is that of the order, or of the order without its last command
-abbrev pub IsOldOrNew : Units → List Numbered → Type 0
-IsOldOrNew library order =
+abbrev pub IsOfOrder : Units → List Numbered → Type 0
+IsOfOrder library order =
     (library ≡ library_of (commands order))
     ⊎ ((front : List Numbered) × (last : Numbered) × (order ≡ front ++ last ∷ []) × (library ≡ library_of (commands front)))
 
@@ -45,17 +45,17 @@ pub record IsRecoverable (store : StoreState) (order : List Numbered) : Type 0 w
   pub holds : HoldsAlone (bytes_of store.cells) store.area bodies
   pub stand : StandFor bodies library
   pub accepted : AreAccepted empty (commands order)
-  pub known : IsOldOrNew library order
+  pub known : IsOfOrder library order
 
 -- what the phase needs of the rest
 abbrev pub IsReadyIn : Phase → StoreState → List Numbered → Type 0
 IsReadyIn Idle store order = Unit {0}
 IsReadyIn (Committing client numbered due) store order = HasRoom due store numbered.command
-IsReadyIn Failed store order = Unit {0}
+IsReadyIn (Failed failed) store order = Unit {0}
 IsReadyIn Crashed store order = IsRecoverable store order
 
 -- what a step needs
-abbrev pub IsReady : {P : Type 0} → Contents P → Type 0
+abbrev pub IsReady : Core → Type 0
 IsReady s = IsReadyIn s.phase s.store s.order
 
 -- the library is as the command leaves it

@@ -5,20 +5,23 @@ use Rattle.cc_core.proofs.state.crash_law.Goals as goal
 pub returns-clause-survives : goal.returns-clause-survives
 returns-clause-survives g c = λ area first new events started run.
     let rules = g.B.Build.rules in
+    let keeps = g.B.Build.keeps in
     let is_right = g.B.Build.is_right in
     let law = g.met.B.Build.law in
-    sound_survives rules is_right law new (run_IsSound rules is_right law first events new (start-IsSound rules is_right law area first started) run)
+    sound_survives rules keeps is_right law new.core (run_IsSound rules keeps is_right law first events new (start-IsSound rules keeps is_right law area first started) run).core
 
 pub returns-clause-right : goal.returns-clause-right
 returns-clause-right g c = λ area first new events started run.
     let rules = g.B.Build.rules in
+    let keeps = g.B.Build.keeps in
     let is_right = g.B.Build.is_right in
     let law = g.met.B.Build.law in
-    sound_right rules is_right law new (run_IsSound rules is_right law first events new (start-IsSound rules is_right law area first started) run)
+    sound_right rules keeps is_right law new.core (run_IsSound rules keeps is_right law first events new (start-IsSound rules keeps is_right law area first started) run).core
 
 pub returns-clause-replay : goal.returns-clause-replay
 returns-clause-replay g c = λ area first new events started run.
     let rules = g.B.Build.rules in
+    let keeps = g.B.Build.keeps in
     let is_right = g.B.Build.is_right in
     let law = g.met.B.Build.law in
-    (run_IsSound rules is_right law first events new (start-IsSound rules is_right law area first started) run).replay
+    (run_IsSound rules keeps is_right law first events new (start-IsSound rules keeps is_right law area first started) run).core.replay

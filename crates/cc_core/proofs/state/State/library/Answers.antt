@@ -9,19 +9,20 @@ use Rattle.cc_core.proofs.state.State.library.Goals as goal
 
 pub returns-clause-replay : goal.returns-clause-replay
 returns-clause-replay g c =
-    subst (λ s. s.library ≡ live s.phase s.order) c.self.view_is
-    (reached_IsSound g.B.Build.rules g.B.Build.is_right g.met.B.Build.law c.self.inside.contents c.self.invariant).replay
+    subst (λ s. s.core.library ≡ live s.core.phase s.core.order) c.self.view_is
+    (reached_IsSound g.B.Build.rules g.B.Build.keeps g.B.Build.is_right g.met.B.Build.law c.self.inside.contents c.self.invariant).core.replay
 
 pub returns-clause-units : goal.returns-clause-units
 returns-clause-units g c =
     let rules = g.B.Build.rules in
+    let keeps = g.B.Build.keeps in
     let is_right = g.B.Build.is_right in
     let law = g.met.B.Build.law in
     let s = c.self.inside.contents in
-    subst (λ s. EachUnit is_right s.library) c.self.view_is
-    (sound_units rules is_right law s (reached_IsSound rules is_right law s c.self.invariant))
+    subst (λ s. EachUnit is_right s.core.library) c.self.view_is
+    (sound_units rules keeps is_right law s.core (reached_IsSound rules keeps is_right law s c.self.invariant).core)
 
 pub returns-clause-accepted : goal.returns-clause-accepted
 returns-clause-accepted g c =
-    subst (λ s. AreAccepted empty (commands s.order)) c.self.view_is
-    (reached_IsSound g.B.Build.rules g.B.Build.is_right g.met.B.Build.law c.self.inside.contents c.self.invariant).accepted
+    subst (λ s. AreAccepted empty (commands s.core.order)) c.self.view_is
+    (reached_IsSound g.B.Build.rules g.B.Build.keeps g.B.Build.is_right g.met.B.Build.law c.self.inside.contents c.self.invariant).core.accepted

@@ -8,14 +8,16 @@ pub invariant_of-result : goal.invariant_of-result
 invariant_of-result g c = record {
   area = c.args.area;
   first = record {
-    library = c.new-2.result;
-    order = c.new-4.result;
-    acknowledged = c.new-6.result;
+    core = record {
+      library = c.new-2.result;
+      order = c.new-4.result;
+      acknowledged = c.new-6.result;
+      phase = Idle;
+      store = c.in_ok-store.store;
+      upcoming = c.first.result;
+    };
     jobs = c.new-7.result;
     workers = c.new-8.result;
-    phase = Idle;
-    store = c.in_ok-store.store;
-    upcoming = c.first.result;
   };
   started = record {
     library = c.new-2.ensures;
