@@ -7,7 +7,7 @@ use Rattle.std.proofs.lemmas.List.Edits.{paste_more, paste_all, map_over_more}
 use Rattle.cc_disk.specs.declared.cell.Cell.{Cell}
 use Rattle.cc_disk.specs.Model.{settled, unsettled, bytes_of, IsImage, written, synced}
 use Rattle.cc_disk.specs.Images.{IsWritten, UnsettlesWithin, AddsNone}
-use Rattle.cc_disk.specs.Past.{bytes_are_image}
+use Rattle.cc_disk.specs.internal.Laws.{bytes_are_image}
 
 -- ---- reading, writing
 
@@ -15,14 +15,14 @@ pub bytes_of-unsettled : (bytes : List ℕ) → bytes_of (map unsettled bytes) �
 bytes_of-unsettled [] = refl
 bytes_of-unsettled (b ∷ bytes) = ap (λ (l : List ℕ). b ∷ l) (bytes_of-unsettled bytes)
 
-pub bytes_of-written : (cells : List Cell) (place : ℕ) (bytes : List ℕ) → IsWritten (bytes_of cells) place bytes (bytes_of (written cells place bytes))
-bytes_of-written cells place bytes =
+pub bytes_of-written : (cells : List Cell) (offset : ℕ) (bytes : List ℕ) → IsWritten (bytes_of cells) offset bytes (bytes_of (written cells offset bytes))
+bytes_of-written cells offset bytes =
     let f = λ (c : Cell). c.byte in
-    map-append f (take place cells) (map unsettled bytes ++ drop (place + length bytes) cells)
-    ∙ ap (λ (l : List ℕ). map f (take place cells) ++ l) (map-append f (map unsettled bytes) (drop (place + length bytes) cells))
-    ∙ ap (λ (l : List ℕ). map f (take place cells) ++ (l ++ map f (drop (place + length bytes) cells))) (bytes_of-unsettled bytes)
-    ∙ ap (λ (l : List ℕ). l ++ (bytes ++ map f (drop (place + length bytes) cells))) (sym (take-map f place cells))
-    ∙ ap (λ (l : List ℕ). take place (map f cells) ++ (bytes ++ l)) (sym (drop-map f (place + length bytes) cells))
+    map-append f (take offset cells) (map unsettled bytes ++ drop (offset + length bytes) cells)
+    ∙ ap (λ (l : List ℕ). map f (take offset cells) ++ l) (map-append f (map unsettled bytes) (drop (offset + length bytes) cells))
+    ∙ ap (λ (l : List ℕ). map f (take offset cells) ++ (l ++ map f (drop (offset + length bytes) cells))) (bytes_of-unsettled bytes)
+    ∙ ap (λ (l : List ℕ). l ++ (bytes ++ map f (drop (offset + length bytes) cells))) (sym (take-map f offset cells))
+    ∙ ap (λ (l : List ℕ). take offset (map f cells) ++ (bytes ++ l)) (sym (drop-map f (offset + length bytes) cells))
 
 pub bytes_of-synced : (cells : List Cell) → bytes_of (synced cells) ≡ bytes_of cells
 bytes_of-synced [] = refl
@@ -53,39 +53,39 @@ join_images (c ∷ front) back [] y here there = absurd here
 join_images (c ∷ front) back (b ∷ x) y here there = (here.0, join_images front back x y here.1 there)
 
 -- three parts that make the whole
-in_parts : (cells : List Cell) (place n : ℕ) → take place cells ++ (take n (drop place cells) ++ drop (place + n) cells) ≡ cells
-in_parts cells place n =
-    ap (λ (l : List Cell). take place cells ++ (take n (drop place cells) ++ l)) (sym (drop-drop n place cells))
-    ∙ ap (λ (l : List Cell). take place cells ++ l) (take-append-drop n (drop place cells))
-    ∙ take-append-drop place cells
+in_parts : (cells : List Cell) (offset n : ℕ) → take offset cells ++ (take n (drop offset cells) ++ drop (offset + n) cells) ≡ cells
+in_parts cells offset n =
+    ap (λ (l : List Cell). take offset cells ++ (take n (drop offset cells) ++ l)) (sym (drop-drop n offset cells))
+    ∙ ap (λ (l : List Cell). take offset cells ++ l) (take-append-drop n (drop offset cells))
+    ∙ take-append-drop offset cells
 
--- an image behind a write, with what a read gave before in the range, is an image from before
-pub written_images : (cells : List Cell) (place : ℕ) (bytes : List ℕ) → place + length bytes ≤ length cells → UnsettlesWithin place (length bytes) (IsImage cells) (IsImage (written cells place bytes))
-written_images cells place bytes fits image now =
+-- an image after a write, with what a read gave before in the range, is an image from before
+pub written_images : (cells : List Cell) (offset : ℕ) (bytes : List ℕ) → offset + length bytes ≤ length cells → UnsettlesWithin offset (length bytes) (IsImage cells) (IsImage (written cells offset bytes))
+written_images cells offset bytes fits image now =
     let n = length bytes in
-    let A = take place cells in
-    let M = take n (drop place cells) in
-    let B = drop (place + n) cells in
-    let a-long : length A ≡ place = length-take-le place cells (omega arith) in
+    let A = take offset cells in
+    let M = take n (drop offset cells) in
+    let B = drop (offset + n) cells in
+    let a-long : length A ≡ offset = length-take-le offset cells (omega arith) in
     let front = front_image A (map unsettled bytes ++ B) image now in
     let rest = back_image A (map unsettled bytes ++ B) image now in
     let behind = back_image (map unsettled bytes) B (drop (length A) image) rest in
     let x = take (length A) image in
     let y = bytes_of M in
     let z = drop (length (map unsettled bytes)) (drop (length A) image) in
-    let z-is : z ≡ drop (place + n) image = drop-drop (length (map unsettled bytes)) (length A) image ∙ ap (λ (k : ℕ). drop k image) (omega (arith, a-long, length-map bytes unsettled)) in
+    let z-is : z ≡ drop (offset + n) image = drop-drop (length (map unsettled bytes)) (length A) image ∙ ap (λ (k : ℕ). drop k image) (omega (arith, a-long, length-map bytes unsettled)) in
     let old = x ++ (y ++ z) in
-    let x-is : x ≡ take place image = ap (λ (k : ℕ). take k image) a-long in
-    let y-long : length y ≡ n = omega (arith, length-map M (λ (c : Cell). c.byte), length-take-le n (drop place cells) (omega (arith, length-drop place cells))) in
-    let image-long = length-image (written cells place bytes) image now in
-    let total : length (written cells place bytes) ≡ length cells = omega (arith, length-append A (map unsettled bytes ++ B), length-append (map unsettled bytes) B, length-map bytes unsettled, a-long, length-drop (place + n) cells) in
-    let x-long : length x ≡ place = ap length x-is ∙ length-take-le place image (omega (arith, image-long, total)) in
-    let is_old : IsImage cells old = subst (λ (l : List Cell). IsImage l old) (in_parts cells place n) (join_images A (M ++ B) x (y ++ z) front (join_images M B y z (bytes_are_image M) behind)) in (
+    let x-is : x ≡ take offset image = ap (λ (k : ℕ). take k image) a-long in
+    let y-long : length y ≡ n = omega (arith, length-map M (λ (c : Cell). c.byte), length-take-le n (drop offset cells) (omega (arith, length-drop offset cells))) in
+    let image-long = length-image (written cells offset bytes) image now in
+    let total : length (written cells offset bytes) ≡ length cells = omega (arith, length-append A (map unsettled bytes ++ B), length-append (map unsettled bytes) B, length-map bytes unsettled, a-long, length-drop (offset + n) cells) in
+    let x-long : length x ≡ offset = ap length x-is ∙ length-take-le offset image (omega (arith, image-long, total)) in
+    let is_old : IsImage cells old = subst (λ (l : List Cell). IsImage l old) (in_parts cells offset n) (join_images A (M ++ B) x (y ++ z) front (join_images M B y z (bytes_are_image M) behind)) in (
       old,
       is_old,
       record {
-        before = sym x-is ∙ sym (take_at x (y ++ z) place x-long);
-        behind = sym z-is ∙ sym (drop_two x y z (place + n) (omega (arith, x-long, y-long)));
+        before = sym x-is ∙ sym (take_at x (y ++ z) offset x-long);
+        behind = sym z-is ∙ sym (drop_two x y z (offset + n) (omega (arith, x-long, y-long)));
         size = image-long ∙ total ∙ sym (length-image cells old is_old);
       },
     )
@@ -93,7 +93,7 @@ written_images cells place bytes fits image now =
     drop_two : (x y z : List ℕ) (k : ℕ) → length x + length y ≡ k → drop k (x ++ (y ++ z)) ≡ z
     drop_two x y z k long = ap (λ (l : List ℕ). drop k l) (sym (append_assoc x y z)) ∙ drop_at (x ++ y) z k (length-append x y ∙ long)
 
--- behind a sync a crash leaves what a read gives
+-- after a sync a crash leaves what a read gives
 pub synced_alone : (cells : List Cell) (image : List ℕ) → IsImage (synced cells) image → image ≡ bytes_of cells
 synced_alone [] [] now = refl
 synced_alone [] (b ∷ image) now = absurd now
@@ -105,16 +105,16 @@ synced_adds_none cells image now = subst (λ (l : List ℕ). IsImage cells l) (s
 
 -- ---- the steps of the loops
 
-pub write_more : (cells : List Cell) (place : ℕ) (bytes : List ℕ) (i : ℕ) → place + length bytes ≤ length cells → i < length bytes
-    → set (paste cells place (map unsettled bytes) i) (place + i) (unsettled (get_or bytes i 0)) ≡ paste cells place (map unsettled bytes) (i + 1)
-write_more cells place bytes i fits here =
-    ap (λ (c : Cell). set (paste cells place (map unsettled bytes) i) (place + i) c) (sym (get_or-map unsettled bytes i 0 (unsettled 0) here))
-    ∙ paste_more cells place (map unsettled bytes) i (unsettled 0) (omega arith) (omega (arith, length-map bytes unsettled))
+pub write_more : (cells : List Cell) (offset : ℕ) (bytes : List ℕ) (i : ℕ) → offset + length bytes ≤ length cells → i < length bytes
+    → set (paste cells offset (map unsettled bytes) i) (offset + i) (unsettled (get_or bytes i 0)) ≡ paste cells offset (map unsettled bytes) (i + 1)
+write_more cells offset bytes i fits here =
+    ap (λ (c : Cell). set (paste cells offset (map unsettled bytes) i) (offset + i) c) (sym (get_or-map unsettled bytes i 0 (unsettled 0) here))
+    ∙ paste_more cells offset (map unsettled bytes) i (unsettled 0) (omega arith) (omega (arith, length-map bytes unsettled))
 
-pub write_all : (cells : List Cell) (place : ℕ) (bytes : List ℕ) (i : ℕ) → i ≡ length bytes → paste cells place (map unsettled bytes) i ≡ written cells place bytes
-write_all cells place bytes i all =
-    paste_all cells place (map unsettled bytes) i (all ∙ sym (length-map bytes unsettled))
-    ∙ ap (λ (k : ℕ). take place cells ++ (map unsettled bytes ++ drop (place + k) cells)) all
+pub write_all : (cells : List Cell) (offset : ℕ) (bytes : List ℕ) (i : ℕ) → i ≡ length bytes → paste cells offset (map unsettled bytes) i ≡ written cells offset bytes
+write_all cells offset bytes i all =
+    paste_all cells offset (map unsettled bytes) i (all ∙ sym (length-map bytes unsettled))
+    ∙ ap (λ (k : ℕ). take offset cells ++ (map unsettled bytes ++ drop (offset + k) cells)) all
 
 pub read_more : (old bytes : List ℕ) (i : ℕ) → i < length old → i < length bytes → set (paste old 0 bytes i) i (get_or bytes i 0) ≡ paste old 0 bytes (i + 1)
 read_more old bytes i in_old in_bytes =

@@ -12,7 +12,7 @@ course_at_fuse Once write = Fails
 course_at_fuse Before write = Fails
 course_at_fuse Within write = if write then WritesAndFails else Fails
 
--- a call behind it: only in the mode Once does it pass
+-- a call after it: only in the mode Once does it pass
 abbrev pub course_behind : FuseMode → Course
 course_behind Once = Passes
 course_behind Before = Fails

@@ -1,19 +1,19 @@
 -- What any honest disk promises of its calls, by what a read gives and by what a crash may leave, its images.
 use Rattle.std.specs.Prelude.{◌≡◌, ◌⊎◌, ℕ, ◌+◌, ◌≤◌, List, ◌++◌, length, take, drop}
 
--- new is old with these bytes from that place on
+-- new is old with these bytes from that offset on
 abbrev pub IsWritten : List ℕ → ℕ → List ℕ → List ℕ → Type 0
-IsWritten old place bytes new = new ≡ take place old ++ (bytes ++ drop (place + length bytes) old)
+IsWritten old offset bytes new = new ≡ take offset old ++ (bytes ++ drop (offset + length bytes) old)
 
--- new is as long as old, and differs from it at most in the n bytes from that place on
-pub record DiffersWithin (place n : ℕ) (old new : List ℕ) : Type 0 where
-  pub before : take place new ≡ take place old
-  pub behind : drop (place + n) new ≡ drop (place + n) old
+-- new is as long as old, and differs from it at most in the n bytes from that offset on
+pub record DiffersWithin (offset n : ℕ) (old new : List ℕ) : Type 0 where
+  pub before : take offset new ≡ take offset old
+  pub behind : drop (offset + n) new ≡ drop (offset + n) old
   pub size : length new ≡ length old
 
--- each image afterwards is an image from before, but for the n bytes from that place on
+-- each image afterwards is an image from before, but for the n bytes from that offset on
 abbrev pub UnsettlesWithin : ℕ → ℕ → (List ℕ → Type 0) → (List ℕ → Type 0) → Type 0
-UnsettlesWithin place n before after = (image : List ℕ) → after image → (old : List ℕ) × before old × DiffersWithin place n old image
+UnsettlesWithin offset n before after = (image : List ℕ) → after image → (old : List ℕ) × before old × DiffersWithin offset n old image
 
 -- no image comes that was not there before
 abbrev pub AddsNone : (List ℕ → Type 0) → (List ℕ → Type 0) → Type 0

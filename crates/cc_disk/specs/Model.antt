@@ -1,6 +1,6 @@
 -- The model of a disk: a fixed number of bytes, each settled or unsettled. A write unsettles its range, a sync settles
--- all, and a crash leaves any byte at an unsettled place.
-use Rattle.std.specs.Prelude.{◌≡◌, ℕ, ◌+◌, List, [], ◌∷◌, ◌++◌, map, length, take, drop, replicate, IsTrue, true, false, if◌then◌else◌, refl}
+-- all, and a crash leaves any byte at an unsettled offset.
+use Rattle.std.specs.Prelude.{◌≡◌, ℕ, ◌+◌, List, [], ◌∷◌, ◌++◌, map, length, take, drop, replicate, IsTrue, true, false, if◌then◌else◌}
 use Rattle.cc_disk.specs.declared.cell.Cell.{Cell}
 
 -- a byte that a crash keeps
@@ -15,7 +15,7 @@ unsettled byte = record { byte = byte; settled = false }
 abbrev pub bytes_of : List Cell → List ℕ
 bytes_of cells = map (λ (c : Cell). c.byte) cells
 
--- What a crash may leave: at each settled place the byte that a read gives there, at the others any.
+-- What a crash may leave: at each settled offset the byte that a read gives there, at the others any.
 abbrev pub IsImage : List Cell → List ℕ → Type 0
 IsImage [] [] = Unit {0}
 IsImage [] (byte ∷ image) = ⊥
@@ -28,7 +28,7 @@ new_cells size = replicate size (settled 0)
 
 -- a write sets its range and unsettles it
 abbrev pub written : List Cell → ℕ → List ℕ → List Cell
-written cells place bytes = take place cells ++ (map unsettled bytes ++ drop (place + length bytes) cells)
+written cells offset bytes = take offset cells ++ (map unsettled bytes ++ drop (offset + length bytes) cells)
 
 -- a sync settles every byte
 abbrev pub synced : List Cell → List Cell
@@ -38,22 +38,8 @@ synced cells = map (λ (c : Cell). settled c.byte) cells
 abbrev pub left : Cell → ℕ → Cell
 left cell byte = if cell.settled then settled cell.byte else settled byte
 
--- a crash that leaves, at each unsettled place, the choice's byte of that place, and 0 past its end
+-- a crash that leaves, at each unsettled offset, the choice's byte of that offset, and 0 past its end
 abbrev pub crashed : List Cell → List ℕ → List Cell
 crashed [] choice = []
 crashed (cell ∷ cells) [] = left cell 0 ∷ crashed cells []
 crashed (cell ∷ cells) (byte ∷ choice) = left cell byte ∷ crashed cells choice
-
--- ---- worked rows, computed
-
--- a new disk of four bytes, two bytes written at place 1, and a crash: the write's range has the choice's bytes
-pub a_write_and_a_crash : crashed (written (new_cells 4) 1 (7 ∷ 8 ∷ [])) (1 ∷ 2 ∷ 3 ∷ 4 ∷ []) ≡ settled 0 ∷ settled 2 ∷ settled 3 ∷ settled 0 ∷ []
-a_write_and_a_crash = refl
-
--- with a sync before the crash they stay
-pub a_sync_and_a_crash : crashed (synced (written (new_cells 4) 1 (7 ∷ 8 ∷ []))) (1 ∷ 2 ∷ 3 ∷ 4 ∷ []) ≡ settled 0 ∷ settled 7 ∷ settled 8 ∷ settled 0 ∷ []
-a_sync_and_a_crash = refl
-
--- past the end of the choice a crash leaves 0
-pub a_short_choice : crashed (written (new_cells 4) 1 (7 ∷ 8 ∷ [])) (1 ∷ 2 ∷ []) ≡ settled 0 ∷ settled 2 ∷ settled 0 ∷ settled 0 ∷ []
-a_short_choice = refl

@@ -5,17 +5,19 @@ ghost use Rattle.cc_disk.specs.Images.{IsWritten, DiffersWithin, UnsettlesWithin
 use thiserror::Error;
 
 /// Why a call of a disk failed.
-#[derive(Clone, Copy, Debug, PartialEq, Eq, Error)]
+#[derive(Clone, Copy, Debug, Error)]
 pub enum DiskFault {
-    /// The device failed (number 35).
-    #[error("the device failed")]
+    /// 35: the device failed in the call.
+    #[error("DeviceFailed")]
     DeviceFailed,
 }
 
 impl DiskFault {
+    ghost use Rattle.cc_disk.specs.Fault.{fault_number};
+
     /// The fault's number, 35.
-    pub fn number(&self) -> u8
-        ensures { result ≡ 35 }
+    pub fn number(&self) -> u32
+        ensures { result ≡ fault_number self.now }
     {
         match self {
             DiskFault::DeviceFailed => 35,
@@ -23,10 +25,10 @@ impl DiskFault {
     }
 }
 
-/// A fixed number of bytes that may lose power. Places and sizes are in bytes, places count from 0.
+/// A fixed number of bytes that may lose power. Offsets and sizes are in bytes, offsets count from 0.
 ///
 /// Each byte is settled or unsettled. A write sets its range and unsettles it; a sync that succeeds settles every
-/// byte. A crash leaves any byte at an unsettled place, and what a read gives at a settled one. In the middle of a write
+/// byte. A crash leaves any byte at an unsettled offset, and what a read gives at a settled one. In the middle of a write
 /// its range is unsettled; in the middle of a sync nothing has settled. A write that fails leaves any bytes,
 /// unsettled, in its range; a read or a sync that fails changes no byte and settles nothing.
 ///
@@ -57,41 +59,41 @@ pub trait Disk {
     /// What a crash at some moment from that one on may have left, during a call or between two.
     ghost left_since: { Self → ℕ → List ℕ → Type 0 };
 
-    /// The kind's own model of a read, where it has one: the disk before, the place, the buffer before, whether it
-    /// answers Ok, the buffer and the disk behind.
+    /// The kind's own model of a read, where it has one: the disk before, the offset, the buffer before, whether it
+    /// answers Ok, the buffer and the disk afterwards.
     ghost reads: { Self → ℕ → List ℕ → Bool → List ℕ → Self → Type 0 } = { λ _ _ _ _ _ _. ⊤ };
 
-    /// The same of a write: the disk before, the place, the bytes, whether it answers Ok, the disk behind.
+    /// The same of a write: the disk before, the offset, the bytes, whether it answers Ok, the disk afterwards.
     ghost writes: { Self → ℕ → List ℕ → Bool → Self → Type 0 } = { λ _ _ _ _ _. ⊤ };
 
-    /// The same of a sync: the disk before, whether it answers Ok, the disk behind.
+    /// The same of a sync: the disk before, whether it answers Ok, the disk afterwards.
     ghost syncs: { Self → Bool → Self → Type 0 } = { λ _ _ _. ⊤ };
 
     /// How many bytes the disk has.
     fn size(&self) -> usize
         ensures { result ≡ size self.now };
 
-    /// Fills the buffer with the bytes from `place` on. A failure (35) leaves any bytes in the buffer.
-    fn read_at(&mut self, place: usize, buffer: &mut [u8]) -> Result<(), DiskFault>
-        requires { place + length buffer.old ≤ size self.old }
-        ensures model { reads self.old place buffer.old (is_ok result) buffer.new self.new }
+    /// Fills the buffer with the bytes from `offset` on. A failure (35) leaves any bytes in the buffer.
+    fn read_at(&mut self, offset: usize, buffer: &mut [u8]) -> Result<(), DiskFault>
+        requires { offset + length buffer.old ≤ size self.old }
+        ensures model { reads self.old offset buffer.old (is_ok result) buffer.new self.new }
         ensures size { size self.new ≡ size self.old }
         ensures failures { failures self.new ≡ (if is_ok result then failures self.old else failures self.old + 1) }
-        ensures read { OnOk result (IsTrue honest → buffer.new ≡ take (length buffer.old) (drop place (seen self.old))) }
+        ensures read { OnOk result (IsTrue honest → buffer.new ≡ take (length buffer.old) (drop offset (seen self.old))) }
         ensures seen { IsTrue honest → seen self.new ≡ seen self.old }
         ensures images { IsTrue honest → AddsNone (may_leave self.old) (may_leave self.new) }
         ensures time { IsTrue honest
             → Elapses (moment self.old) (moment self.new) (left_since self.old) (left_since self.new) (may_leave self.new) };
 
-    /// Writes the bytes from `place` on, unsettled. A failure (35) leaves any bytes, unsettled, in the range.
-    fn write_at(&mut self, place: usize, bytes: &[u8]) -> Result<(), DiskFault>
-        requires { place + length bytes.now ≤ size self.old }
-        ensures model { writes self.old place bytes.now (is_ok result) self.new }
+    /// Writes the bytes from `offset` on, unsettled. A failure (35) leaves any bytes, unsettled, in the range.
+    fn write_at(&mut self, offset: usize, bytes: &[u8]) -> Result<(), DiskFault>
+        requires { offset + length bytes.now ≤ size self.old }
+        ensures model { writes self.old offset bytes.now (is_ok result) self.new }
         ensures size { size self.new ≡ size self.old }
         ensures failures { failures self.new ≡ (if is_ok result then failures self.old else failures self.old + 1) }
-        ensures written { OnOk result (IsTrue honest → IsWritten (seen self.old) place bytes.now (seen self.new)) }
-        ensures failed { OnErr result (IsTrue honest → DiffersWithin place (length bytes.now) (seen self.old) (seen self.new)) }
-        ensures images { IsTrue honest → UnsettlesWithin place (length bytes.now) (may_leave self.old) (may_leave self.new) }
+        ensures written { OnOk result (IsTrue honest → IsWritten (seen self.old) offset bytes.now (seen self.new)) }
+        ensures leaves { OnErr result (IsTrue honest → DiffersWithin offset (length bytes.now) (seen self.old) (seen self.new)) }
+        ensures images { IsTrue honest → UnsettlesWithin offset (length bytes.now) (may_leave self.old) (may_leave self.new) }
         ensures time { IsTrue honest
             → Elapses (moment self.old) (moment self.new) (left_since self.old) (left_since self.new) (may_leave self.new) };
 

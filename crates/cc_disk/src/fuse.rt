@@ -6,7 +6,7 @@ use crate::count::FailureCount;
 use crate::disk::{Disk, DiskFault};
 
 /// What a fuse does when it is met.
-#[derive(Clone, Copy, Debug, PartialEq, Eq)]
+#[derive(Clone, Copy, Debug)]
 pub enum FuseMode {
     /// The next call alone fails, and does not reach the disk.
     Once,
@@ -114,18 +114,18 @@ impl<D: Disk> Disk for FuseDisk<D> {
     ghost left_since = { λ fuse t image. D.left_since fuse.disk t image };
 
     // The mode decides, by how many calls came before: the call is its disk's own, or fails and leaves the disk.
-    ghost reads = { λ old place buffer ok after new. (new.ahead ≡ after_call old.ahead) × (new.mode ≡ old.mode)
+    ghost reads = { λ old offset buffer ok after new. (new.ahead ≡ after_call old.ahead) × (new.mode ≡ old.mode)
         × (course_of old.mode old.ahead false ≡ Course.Passes
-        → (new.failed ≡ old.failed) × D.reads old.disk place buffer ok after new.disk)
+        → (new.failed ≡ old.failed) × D.reads old.disk offset buffer ok after new.disk)
         × (course_of old.mode old.ahead false ≡ Course.Fails → (ok ≡ false) × (new.disk ≡ old.disk) × (after ≡ buffer)) };
 
     // In the mode `Within` a write may also reach the disk and then fail.
-    ghost writes = { λ old place bytes ok new. (new.ahead ≡ after_call old.ahead) × (new.mode ≡ old.mode)
+    ghost writes = { λ old offset bytes ok new. (new.ahead ≡ after_call old.ahead) × (new.mode ≡ old.mode)
         × (course_of old.mode old.ahead true ≡ Course.Passes
-        → (new.failed ≡ old.failed) × D.writes old.disk place bytes ok new.disk)
+        → (new.failed ≡ old.failed) × D.writes old.disk offset bytes ok new.disk)
         × (course_of old.mode old.ahead true ≡ Course.Fails → (ok ≡ false) × (new.disk ≡ old.disk))
         × (course_of old.mode old.ahead true ≡ Course.WritesAndFails → (ok ≡ false)
-        × ReachesAndFails (D.writes old.disk place bytes) (D.failures old.disk) (D.failures new.disk) new.disk) };
+        × ReachesAndFails (D.writes old.disk offset bytes) (D.failures old.disk) (D.failures new.disk) new.disk) };
 
     ghost syncs = { λ old ok new. (new.ahead ≡ after_call old.ahead) × (new.mode ≡ old.mode)
         × (course_of old.mode old.ahead false ≡ Course.Passes
@@ -136,11 +136,11 @@ impl<D: Disk> Disk for FuseDisk<D> {
         self.disk.size()
     }
 
-    fn read_at(&mut self, place: usize, buffer: &mut [u8]) -> Result<(), DiskFault> {
+    fn read_at(&mut self, offset: usize, buffer: &mut [u8]) -> Result<(), DiskFault> {
         let course = next_course(self.mode, self.ahead, false);
         self.ahead = one_less(self.ahead);
         match course {
-            Course::Passes => self.disk.read_at(place, buffer),
+            Course::Passes => self.disk.read_at(offset, buffer),
             Course::Fails | Course::WritesAndFails => {
                 self.failed.add_one();
                 Err(DiskFault::DeviceFailed)
@@ -148,18 +148,18 @@ impl<D: Disk> Disk for FuseDisk<D> {
         }
     }
 
-    fn write_at(&mut self, place: usize, bytes: &[u8]) -> Result<(), DiskFault> {
+    fn write_at(&mut self, offset: usize, bytes: &[u8]) -> Result<(), DiskFault> {
         let course = next_course(self.mode, self.ahead, true);
         self.ahead = one_less(self.ahead);
         match course {
-            Course::Passes => self.disk.write_at(place, bytes),
+            Course::Passes => self.disk.write_at(offset, bytes),
             Course::Fails => {
                 self.failed.add_one();
                 Err(DiskFault::DeviceFailed)
             }
             Course::WritesAndFails => {
                 // Where the disk fails by itself, it has counted this call.
-                self.disk.write_at(place, bytes)?;
+                self.disk.write_at(offset, bytes)?;
                 self.failed.add_one();
                 Err(DiskFault::DeviceFailed)
             }

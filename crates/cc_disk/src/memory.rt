@@ -2,7 +2,8 @@
 ghost use Rattle.std.specs.Prelude.{◌≡◌, ◌+◌, ◌-◌, ◌^◌, ◌<◌, ◌≤◌, min, true, IsTrue, List, ℕ, [], ◌∷◌, ◌++◌, length, take, drop, map, IfOk, IsOk, OnOk, OnErr, is_ok, if◌then◌else◌};
 ghost use Rattle.cc_disk.specs.Images.{IsWritten, DiffersWithin, UnsettlesWithin, AddsNone, LeavesAlone, Elapses};
 ghost use Rattle.cc_disk.specs.Model.{bytes_of, IsImage, new_cells, written, synced, crashed};
-ghost use Rattle.cc_disk.specs.Past.{LeftSince, only_now_left, bytes_are_image};
+ghost use Rattle.cc_disk.specs.Past.{LeftSince};
+ghost use Rattle.cc_disk.specs.internal.Laws.{only_now_left, bytes_are_image};
 ghost use Rattle.std.proofs.Common.{inl};
 ghost use Rattle.std.proofs.lemmas.List.{length-map};
 
@@ -32,7 +33,7 @@ impl Model for MemoryDisk {
 }
 
 impl MemoryDisk {
-    /// A disk of `size` zeros, all settled. Its only fault is want of memory (40).
+    /// A disk of `size` zeros, all settled. It fails only where memory runs out (40).
     pub fn new(alloc: Global, size: usize) -> Result<MemoryDisk, AllocError>
         ensures cells { IfOk result (λ disk. disk.cells ≡ new_cells size) }
         ensures past { IfOk result (λ disk. disk.past ≡ []) }
@@ -47,8 +48,8 @@ impl MemoryDisk {
         })
     }
 
-    /// The disk after a crash that leaves, at each unsettled place `i`, byte `i` of the choice, and 0 past the choice's
-    /// end. All of it is settled. Its only fault is want of memory (40).
+    /// The disk after a crash that leaves, at each unsettled offset `i`, byte `i` of the choice, and 0 past the choice's
+    /// end. All of it is settled. It fails only where memory runs out (40).
     pub fn crash(&self, alloc: Global, choice: &[u8]) -> Result<MemoryDisk, AllocError>
         ensures cells { IfOk result (λ disk. disk.cells ≡ crashed self.now.cells choice.now) }
         ensures past { IfOk result (λ disk. disk.past ≡ []) }
@@ -83,23 +84,23 @@ fn crash_cells(alloc: Global, cells: &[Cell], choice: &[u8]) -> Result<Vec<Cell>
     Ok(after)
 }
 
-// Copies the bytes from `place` on into the buffer.
-fn read_cells(cells: &[Cell], place: usize, buffer: &mut [u8])
-    requires { place + length buffer.old ≤ length cells.now }
-    ensures { buffer.new ≡ take (length buffer.old) (drop place (bytes_of cells.now)) }
+// Copies the bytes from `offset` on into the buffer.
+fn read_cells(cells: &[Cell], offset: usize, buffer: &mut [u8])
+    requires { offset + length buffer.old ≤ length cells.now }
+    ensures { buffer.new ≡ take (length buffer.old) (drop offset (bytes_of cells.now)) }
 {
     for i in 0..buffer.len() {
-        buffer[i] = cells[place + i].byte;
+        buffer[i] = cells[offset + i].byte;
     }
 }
 
-// Sets the cells from `place` on to the bytes, unsettled.
-fn write_cells(cells: &mut [Cell], place: usize, bytes: &[u8])
-    requires { place + length bytes.now ≤ length cells.old }
-    ensures { cells.new ≡ written cells.old place bytes.now }
+// Sets the cells from `offset` on to the bytes, unsettled.
+fn write_cells(cells: &mut [Cell], offset: usize, bytes: &[u8])
+    requires { offset + length bytes.now ≤ length cells.old }
+    ensures { cells.new ≡ written cells.old offset bytes.now }
 {
     for i in 0..bytes.len() {
-        cells[place + i] = Cell {
+        cells[offset + i] = Cell {
             byte: bytes[i],
             settled: false,
         };
@@ -130,11 +131,11 @@ impl Disk for MemoryDisk {
 
     ghost left_since = { λ disk t image. LeftSince disk.cells disk.past t image };
 
-    ghost reads = { λ old place buffer ok after new. IsTrue ok
-        × (after ≡ take (length buffer) (drop place (bytes_of old.cells))) × (new ≡ old) };
+    ghost reads = { λ old offset buffer ok after new. IsTrue ok
+        × (after ≡ take (length buffer) (drop offset (bytes_of old.cells))) × (new ≡ old) };
 
-    ghost writes = { λ old place bytes ok new. IsTrue ok
-        × (new.cells ≡ written old.cells place bytes) × (new.past ≡ old.past ++ old.cells ∷ []) };
+    ghost writes = { λ old offset bytes ok new. IsTrue ok
+        × (new.cells ≡ written old.cells offset bytes) × (new.past ≡ old.past ++ old.cells ∷ []) };
 
     ghost syncs = { λ old ok new. IsTrue ok
         × (new.cells ≡ synced old.cells) × (new.past ≡ old.past ++ old.cells ∷ []) };
@@ -143,30 +144,30 @@ impl Disk for MemoryDisk {
         self.cells.len()
     }
 
-    fn read_at(&mut self, place: usize, buffer: &mut [u8]) -> Result<(), DiskFault>
-        requires { place + length buffer.old ≤ length self.old.cells }
+    fn read_at(&mut self, offset: usize, buffer: &mut [u8]) -> Result<(), DiskFault>
+        requires { offset + length buffer.old ≤ length self.old.cells }
         ensures answer { IsOk result }
-        ensures read { buffer.new ≡ take (length buffer.old) (drop place (bytes_of self.old.cells)) }
+        ensures read { buffer.new ≡ take (length buffer.old) (drop offset (bytes_of self.old.cells)) }
         ensures same { self.new ≡ self.old }
     {
-        read_cells(&self.cells, place, buffer);
+        read_cells(&self.cells, offset, buffer);
         Ok(())
     }
 
-    fn write_at(&mut self, place: usize, bytes: &[u8]) -> Result<(), DiskFault>
-        requires { place + length bytes.now ≤ length self.old.cells }
+    fn write_at(&mut self, offset: usize, bytes: &[u8]) -> Result<(), DiskFault>
+        requires { offset + length bytes.now ≤ length self.old.cells }
         ensures answer { IsOk result }
-        ensures cells { self.new.cells ≡ written self.old.cells place bytes.now }
+        ensures cells { self.new.cells ≡ written self.old.cells offset bytes.now }
         ensures past { self.new.past ≡ self.old.past ++ self.old.cells ∷ [] }
         ensures size { length self.new.cells ≡ length self.old.cells }
-        ensures written { IsWritten (bytes_of self.old.cells) place bytes.now (bytes_of self.new.cells) }
-        ensures images { UnsettlesWithin place (length bytes.now) (IsImage self.old.cells) (IsImage self.new.cells) }
+        ensures written { IsWritten (bytes_of self.old.cells) offset bytes.now (bytes_of self.new.cells) }
+        ensures images { UnsettlesWithin offset (length bytes.now) (IsImage self.old.cells) (IsImage self.new.cells) }
         ensures time { Elapses (length self.old.past) (length self.new.past)
             (LeftSince self.old.cells self.old.past)
             (LeftSince self.new.cells self.new.past) (IsImage self.new.cells) }
     {
         self.past = self.past.and(&self.cells);
-        write_cells(&mut self.cells, place, bytes);
+        write_cells(&mut self.cells, offset, bytes);
         Ok(())
     }
 

@@ -9,7 +9,7 @@ use Rattle.std.proofs.lemmas.Slice.Eq.{slice_eq-Decides}
 use lib.Pointwise.{pointwise}
 use Rattle.std.specs.Int.{w32, to_le_bytes, from_le_bytes}
 use Rattle.cc_journal.specs.Format.{open_gate, header, record_bytes, IsArea, HoldsRecords}
-use Rattle.cc_journal.specs.Reading.{BeginsWith}
+use Rattle.cc_journal.specs.internal.Reading.{BeginsWith}
 
 -- ---- `!=` on bytes
 
@@ -103,7 +103,7 @@ empty_holds image rest size area is long is_area = record {
   gate = 0;
   behind = rest;
   bytes = is;
-  place = omega arith;
+  offset = omega arith;
   closed = λ e. absurd (omega (arith, e));
   fits = omega (arith, is_area.least);
   is_area = subst (λ (n : ℕ). IsArea n area) (sym long) is_area;

@@ -1,5 +1,5 @@
--- What the images of a commit hold. How: a disk that holds records is a front, the closed gate, and the bytes behind it; a
--- commit changes the bytes behind the gate, and then the gate alone.
+-- What the images of a commit hold. How: a disk that holds records is a front, the closed gate, and the bytes after it; a
+-- commit changes the bytes after the gate, and then the gate alone.
 use Rattle.std.proofs.Common.{◌≡◌, ◌≢◌, inl, inr, ⊎_elim, ℕ, ◌+◌, ◌*◌, ◌%◌, ◌<◌, ◌≤◌, List, [], ◌∷◌, ◌++◌, length, get_or, take, drop, sym, ◌∙◌, ap, subst, arith, length-append, append_assoc, take-append-drop}
 use Rattle.std.proofs.lemmas.Bool.{cases_eq}
 use Rattle.std.proofs.lemmas.List.{take_at, drop_at, drop_more, length-take-le, length-drop}
@@ -7,10 +7,11 @@ use Rattle.std.specs.Int.{w32, to_le_bytes}
 use Rattle.std.proofs.Math.Nat.{mul-le-mul_right}
 use Rattle.cc_disk.specs.Images.{IsWritten, DiffersWithin}
 use Rattle.cc_journal.specs.Format.{open_gate, header, record_bytes, records, IsArea, HoldsRecords, HoldsOldOrNew}
-use Rattle.cc_journal.specs.Reading.{HoldsFrom, IsMidCommit}
+use Rattle.cc_journal.specs.Journal.{HoldsFrom}
+use Rattle.cc_journal.specs.internal.Commit.{IsMidCommit}
 use Rattle.cc_journal.proofs.Records.{length-header, length-four_bytes, records_push, length-records_push, holds_alone}
 
--- the bytes that a commit puts behind a gate
+-- the bytes that a commit puts after a gate
 abbrev pub frame : List ℕ → List ℕ
 frame body = to_le_bytes w32 (length body) ++ (body ++ 0 ∷ [])
 
@@ -42,13 +43,13 @@ module _ (image : List ℕ) (start area used : ℕ) (bodies : List (List ℕ)) (
     gate = gate;
     behind = behind;
     bytes = is ∙ regroup (gate ∷ behind);
-    place = h.place;
+    offset = h.offset;
     closed = closed;
     fits = h.fits;
     is_area = subst (λ (n : ℕ). IsArea n area) (sym long) h.is_area;
   }
 
-  -- with the new one behind it and its gate open it holds the new one too
+  -- with the new one after it and its gate open it holds the new one too
   pub holds_new : (other body behind : List ℕ) → length other ≡ length image → used + length body + 6 ≤ area → other ≡ front ++ open_gate ∷ (frame body ++ behind) → HoldsFrom other start area (bodies ++ body ∷ [])
   holds_new other body behind long room is = record {
     holds = record {
@@ -57,7 +58,7 @@ module _ (image : List ℕ) (start area used : ℕ) (bodies : List (List ℕ)) (
       gate = 0;
       behind = behind;
       bytes = is ∙ regroup (open_gate ∷ (frame body ++ behind)) ∙ ap (λ (l : List ℕ). header h.area_byte area ++ (h.other ++ l)) pushed;
-      place = h.place;
+      offset = h.offset;
       closed = λ e. absurd (omega (arith, e));
       fits = omega (arith, length-records_push bodies body, taken);
       is_area = subst (λ (n : ℕ). IsArea n area) (sym long) h.is_area;
@@ -102,16 +103,16 @@ module _ (image : List ℕ) (start area used : ℕ) (bodies : List (List ℕ)) (
       (cases_eq x open_gate)
 
   -- a write within the image keeps its length
-  pub length-written : (place : ℕ) (bytes written : List ℕ) → place + length bytes ≤ length image → IsWritten image place bytes written → length written ≡ length image
-  length-written place bytes written fits is =
-      ap length is ∙ length-append (take place image) (bytes ++ drop (place + length bytes) image)
-      ∙ omega (arith, fits, length-append bytes (drop (place + length bytes) image), length-take-le place image (omega (arith, fits)), length-drop (place + length bytes) image)
+  pub length-written : (offset : ℕ) (bytes written : List ℕ) → offset + length bytes ≤ length image → IsWritten image offset bytes written → length written ≡ length image
+  length-written offset bytes written fits is =
+      ap length is ∙ length-append (take offset image) (bytes ++ drop (offset + length bytes) image)
+      ∙ omega (arith, fits, length-append bytes (drop (offset + length bytes) image), length-take-le offset image (omega (arith, fits)), length-drop (offset + length bytes) image)
 
   in_area : (n : ℕ) → used + n ≤ area → start + used + n ≤ length image
   in_area n room = omega (arith, room, from.begins, h.is_area.room, start_most)
     where
       start_most : length h.other ≤ area
-      start_most = at_most h.area_byte (length h.other) h.place
+      start_most = at_most h.area_byte (length h.other) h.offset
         where
           at_most : (b n : ℕ) → n ≡ b % 2 * area → n ≤ area
           at_most b n is = omega (arith, is, mul-le-mul_right {m = b % 2} {n = 1} area (omega arith))

@@ -2,7 +2,8 @@
 use Rattle.std.proofs.Common.{◌≡◌, ℕ, ◌+◌, ◌≤◌, Bool, false, inl, IsTrue, List, [], ◌∷◌, ◌++◌, length, sym, ap, subst, arith}
 use Rattle.cc_disk.specs.Images.{IsWritten, LeavesAlone, LeavesOnly}
 use Rattle.cc_journal.specs.Format.{records, room_of, IsArea, HoldsAlone, HoldsOldOrNew}
-use Rattle.cc_journal.specs.Reading.{IsKept, HoldsFrom, IsMidCommit}
+use Rattle.cc_journal.specs.Journal.{IsKept, HoldsFrom}
+use Rattle.cc_journal.specs.internal.Commit.{IsMidCommit}
 use Rattle.cc_journal.proofs.Records.{holds_alone, length-records_push}
 use Rattle.cc_journal.proofs.Images.{frame, mid_commit, committed}
 use Rattle.cc_journal.proofs.Moments.{started, weakened}

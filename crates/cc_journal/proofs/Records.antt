@@ -82,13 +82,13 @@ records_front (body ∷ bodies) (other ∷ others) bytes gate behind small-b sma
 pub holds_same : (image : List ℕ) (area size : ℕ) (bodies others : List (List ℕ)) → HoldsRecords image area bodies → HoldsRecords image size others → (size ≡ area) × (others ≡ bodies)
 holds_same image area size bodies others a b =
     let heads = header_same b.area_byte size a.area_byte area _ _ (omega (arith, b.is_area.most)) (omega (arith, a.is_area.most)) (sym b.bytes ∙ a.bytes) in
-    let places : length b.other ≡ length a.other = b.place ∙ same_place b.area_byte a.area_byte size area heads.0 heads.1 ∙ sym a.place in
-    let areas = split_same b.other (records others ++ b.gate ∷ b.behind) a.other (records bodies ++ a.gate ∷ a.behind) places heads.2 in
+    let offsets : length b.other ≡ length a.other = b.offset ∙ same_offset b.area_byte a.area_byte size area heads.0 heads.1 ∙ sym a.offset in
+    let areas = split_same b.other (records others ++ b.gate ∷ b.behind) a.other (records bodies ++ a.gate ∷ a.behind) offsets heads.2 in
     let on = records_front bodies others (a.gate ∷ a.behind) b.gate b.behind (omega (arith, a.fits, a.is_area.most)) (omega (arith, b.fits, b.is_area.most)) b.closed (sym areas.1) in
     (heads.1, on.1 ∙ no_more on.0 a.gate a.behind b.gate b.behind a.closed bodies on.2)
   where
-    same_place : (b c s t : ℕ) → b ≡ c → s ≡ t → b % 2 * s ≡ c % 2 * t
-    same_place b c s t e f = (λ i. e i % 2 * f i)
+    same_offset : (b c s t : ℕ) → b ≡ c → s ≡ t → b % 2 * s ≡ c % 2 * t
+    same_offset b c s t e f = (λ i. e i % 2 * f i)
 
     no_more : (more : List (List ℕ)) (gate : ℕ) (behind : List ℕ) (end : ℕ) (rest : List ℕ) → gate ≢ open_gate → (bodies : List (List ℕ)) → gate ∷ behind ≡ records more ++ end ∷ rest → bodies ++ more ≡ bodies
     no_more [] gate behind end rest closed bodies same = append_nil bodies

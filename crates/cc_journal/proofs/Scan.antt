@@ -5,8 +5,10 @@ use Rattle.std.proofs.lemmas.List.{drop_at, drop-drop, length-take-le}
 use Rattle.std.proofs.Math.Nat.{mul-le-mul_right}
 use Rattle.cc_disk.specs.Images.{OnlyReads}
 use Rattle.cc_journal.specs.Format.{open_gate, header, record_bytes, records, room_of, IsArea, HoldsRecords, HasHeader}
-use Rattle.cc_journal.specs.Reading.{BeginsWith, EndsClosed, HoldsFrom}
-use Rattle.cc_journal.specs.Answers.{OpenFaults, IsReadingFault, is_fault_of_disk}
+use Rattle.cc_journal.specs.Journal.{HoldsFrom}
+use Rattle.cc_journal.specs.internal.Reading.{BeginsWith, EndsClosed}
+use Rattle.cc_journal.specs.Answers.{OpenFaults}
+use Rattle.cc_journal.specs.internal.Reading.{IsReadingFault, is_fault_of_disk}
 use Rattle.cc_journal.specs.declared.fault.JournalFault.{JournalFault}
 use Rattle.cc_journal.specs.declared.fault.JournalFault.TheVariants.{Full, DiskFault, Closed, Damaged, NotALibrary, OutOfMemory}
 use Rattle.cc_journal.proofs.Records.{length-header, header_same, length-record_bytes, records-append, records_push, records_front}
@@ -76,7 +78,7 @@ holds_from bytes start area bodies b is_area ends room =
         gate = ends.gate;
         behind = ends.behind;
         bytes = b.is ∙ ap (λ (l : List ℕ). head ++ l) (sym (take-append-drop k b.rest) ∙ ap (λ (l : List ℕ). take k b.rest ++ l) (tail ∙ ends.is));
-        place = other-long;
+        offset = other-long;
         closed = ends.closed;
         fits = room;
         is_area = is_area;
@@ -88,7 +90,7 @@ pub ends_of : (bytes : List ℕ) (start area size : ℕ) (bodies : List (List �
 ends_of bytes start area size bodies b small h =
     let heads = header_same h.area_byte size b.area_byte area _ _ (omega (arith, h.is_area.most)) (omega (arith, small)) (sym h.bytes ∙ b.is) in
     let same_area = heads.1 in
-    let other-long : length h.other ≡ b.area_byte % 2 * area = h.place ∙ both h.area_byte b.area_byte size area heads.0 same_area in
+    let other-long : length h.other ≡ b.area_byte % 2 * area = h.offset ∙ both h.area_byte b.area_byte size area heads.0 same_area in
     let head = header h.area_byte size in
     let front-long : length (head ++ h.other) ≡ start = length-append head h.other ∙ omega (arith, other-long, b.begins, length-header h.area_byte size) in (
       record {

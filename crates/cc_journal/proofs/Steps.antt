@@ -1,12 +1,12 @@
 -- What a crash in a commit leaves, call by call: each call adds the images that it may leave, and a sync adds none.
 use Rattle.std.proofs.Common.{◌≡◌, inl, inr, ℕ, ◌+◌, List, length, take, drop, ap, subst}
 use Rattle.cc_disk.specs.Images.{IsWritten, DiffersWithin, UnsettlesWithin, AddsNone, LeavesAlone, Elapses, LeavesOnly}
-use Rattle.cc_journal.specs.Reading.{IsMidCommit}
+use Rattle.cc_journal.specs.internal.Commit.{IsMidCommit}
 use Rattle.cc_journal.proofs.Moments.{started, goes_on}
 
-unchanged : (place n : ℕ) (old image : List ℕ) → image ≡ old → DiffersWithin place n old image
-unchanged place n old image same =
-    record { before = ap (λ (l : List ℕ). take place l) same; behind = ap (λ (l : List ℕ). drop (place + n) l) same; size = ap length same }
+unchanged : (offset n : ℕ) (old image : List ℕ) → image ≡ old → DiffersWithin offset n old image
+unchanged offset n old image same =
+    record { before = ap (λ (l : List ℕ). take offset l) same; behind = ap (λ (l : List ℕ). drop (offset + n) l) same; size = ap length same }
 
 module _ {D : Type 0} (seen : D → List ℕ) (may_leave : D → List ℕ → Type 0) (moment : D → ℕ) (left_since : D → ℕ → List ℕ → Type 0) (gate : ℕ) (behind : List ℕ) (d0 d1 d2 d3 : D)
     (only_now : (image : List ℕ) → left_since d0 (moment d0) image → may_leave d0 image)
@@ -42,6 +42,6 @@ module _ {D : Type 0} (seen : D → List ℕ) (may_leave : D → List ℕ → Ty
       let kept = goes_on moment left_since d0 d1 d2 P (may_leave d2) body second_time (λ image now. of_body image (second_images image now)) in
       goes_on moment left_since d0 d2 d3 P (may_leave d3) kept third_time of_gate
 
-  -- and through the sync behind it
+  -- and through the sync after it
   pub through_sync : (d4 : D) → AddsNone (may_leave d3) (may_leave d4) → Elapses (moment d3) (moment d4) (left_since d3) (left_since d4) (may_leave d4) → LeavesOnly moment left_since d0 d4 P
   through_sync d4 images time = goes_on moment left_since d0 d3 d4 P (may_leave d4) through_gate time (λ image now. of_gate image (images image now))

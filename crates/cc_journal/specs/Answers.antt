@@ -1,18 +1,9 @@
 -- Which answer a call of the journal gives, and when. The failures are those that the disk has counted before the call
--- and behind it.
+-- and after it.
 use Rattle.std.specs.Prelude.{◌≡◌, ℕ, ◌+◌, ◌<◌, ◌≤◌, Bool, true, false, IsTrue, List, ◌∷◌, ◌++◌, [], Result, Ok, Err}
 use Rattle.cc_journal.specs.declared.fault.JournalFault.{JournalFault}
 use Rattle.cc_journal.specs.declared.fault.JournalFault.TheVariants.{Full, DiskFault, Closed, Damaged, NotALibrary, OutOfMemory}
 use Rattle.cc_journal.specs.Format.{IsArea, HasHeader, HoldsRecords, room_of}
-
--- the numbers of the faults
-abbrev pub number_of : JournalFault → ℕ
-number_of Full = 34
-number_of DiskFault = 35
-number_of Closed = 36
-number_of Damaged = 37
-number_of NotALibrary = 38
-number_of OutOfMemory = 40
 
 -- `format`: 34 exactly where there is no such area on a disk of that size, 35 exactly where the device failed
 abbrev pub FormatAnswers : {T : Type 0} → (size area before after : ℕ) → Result T JournalFault → Type 0
@@ -45,22 +36,3 @@ OpenFaults honest seen before after Damaged =
 OpenFaults honest seen before after OutOfMemory = after ≡ before
 OpenFaults honest seen before after Full = ⊥
 OpenFaults honest seen before after Closed = ⊥
-
--- the faults that reading records has
-abbrev pub IsReadingFault : JournalFault → Type 0
-IsReadingFault DiskFault = Unit {0}
-IsReadingFault Damaged = Unit {0}
-IsReadingFault OutOfMemory = Unit {0}
-IsReadingFault Full = ⊥
-IsReadingFault Closed = ⊥
-IsReadingFault NotALibrary = ⊥
-
--- whether the answer is that the device failed
-abbrev pub is_fault_of_disk : {T : Type 0} → Result T JournalFault → Bool
-is_fault_of_disk (Ok x) = false
-is_fault_of_disk (Err DiskFault) = true
-is_fault_of_disk (Err Full) = false
-is_fault_of_disk (Err Closed) = false
-is_fault_of_disk (Err Damaged) = false
-is_fault_of_disk (Err NotALibrary) = false
-is_fault_of_disk (Err OutOfMemory) = false

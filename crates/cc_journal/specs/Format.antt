@@ -1,6 +1,6 @@
--- The bytes of a journal: a header of 16 bytes, area A, and area B right behind it. In an area stand records, and behind
+-- The bytes of a journal: a header of 16 bytes, area A, and area B right after it. In an area stand records, and after
 -- the last a closed gate.
-use Rattle.std.specs.Prelude.{◌≡◌, ◌≢◌, ◌⊎◌, ℕ, ◌+◌, ◌*◌, ◌%◌, ◌^◌, ◌≤◌, List, [], ◌∷◌, ◌++◌, length, replicate, refl}
+use Rattle.std.specs.Prelude.{◌≡◌, ◌≢◌, ◌⊎◌, ℕ, ◌+◌, ◌*◌, ◌%◌, ◌^◌, ◌≤◌, List, [], ◌∷◌, ◌++◌, length}
 use Rattle.std.specs.Int.{w32, to_le_bytes}
 
 -- a gate that is open; every other value is closed
@@ -15,7 +15,7 @@ header area_byte area = area_byte ∷ 0x43 ∷ 0x43 ∷ 0x4c ∷ 0x49 ∷ 0x42 �
 abbrev pub record_bytes : List ℕ → List ℕ
 record_bytes body = open_gate ∷ (to_le_bytes w32 (length body) ++ body)
 
--- records, one behind the other
+-- records, one after the other
 abbrev pub records : List (List ℕ) → List ℕ
 records [] = []
 records (body ∷ bodies) = record_bytes body ++ records bodies
@@ -45,7 +45,7 @@ pub record HoldsRecords (image : List ℕ) (area : ℕ) (bodies : List (List ℕ
   pub gate : ℕ
   pub behind : List ℕ
   pub bytes : image ≡ header area_byte area ++ (other ++ (records bodies ++ gate ∷ behind))
-  pub place : length other ≡ area_byte % 2 * area
+  pub offset : length other ≡ area_byte % 2 * area
   pub closed : gate ≢ open_gate
   pub fits : room_of bodies ≤ area
   pub is_area : IsArea (length image) area
@@ -58,23 +58,3 @@ pub record HoldsAlone (image : List ℕ) (area : ℕ) (bodies : List (List ℕ))
 -- it holds these records alone, or these with one more alone
 abbrev pub HoldsOldOrNew : ℕ → List (List ℕ) → List ℕ → List ℕ → Type 0
 HoldsOldOrNew area bodies body image = HoldsAlone image area bodies ⊎ HoldsAlone image area (bodies ++ body ∷ [])
-
--- ---- worked rows, computed
-
--- an area of 64 bytes with one record, whose body is 01 03 01 61, in area A: bytes 0 to 25 of the disk
-pub one_record : header 0 64 ++ (records ((1 ∷ 3 ∷ 1 ∷ 0x61 ∷ []) ∷ []) ++ 0 ∷ [])
-    ≡ 0x00 ∷ 0x43 ∷ 0x43 ∷ 0x4c ∷ 0x49 ∷ 0x42 ∷ 0x30 ∷ 0x31 ∷ 0x40 ∷ 0x00 ∷ 0x00 ∷ 0x00 ∷ 0x00 ∷ 0x00 ∷ 0x00 ∷ 0x00
-    ∷ 0xa5 ∷ 0x04 ∷ 0x00 ∷ 0x00 ∷ 0x00 ∷ 0x01 ∷ 0x03 ∷ 0x01 ∷ 0x61 ∷ 0x00 ∷ []
-one_record = refl
-
--- a body of 58 bytes fills an area of 64 bytes
-pub body_of_58 : room_of (replicate 58 7 ∷ []) ≡ 64
-body_of_58 = refl
-
--- one of 59 bytes does not fit it
-pub body_of_59 : room_of (replicate 59 7 ∷ []) ≡ 65
-body_of_59 = refl
-
--- and behind one of 58 bytes not even an empty one does
-pub bodies_of_58_and_0 : room_of (replicate 58 7 ∷ [] ∷ []) ≡ 69
-bodies_of_58_and_0 = refl

@@ -1,3 +1,12 @@
+-- the numbers of the faults
+pub mod Fault
+-- the bytes of a journal, and which records an image holds
 pub mod Format
-pub mod Reading
+-- what contracts see of a journal, and what its type keeps
+pub mod Journal
+-- which answer a call gives, and when
 pub mod Answers
+-- worked rows of `Format`, computed
+pub mod rows
+-- what only proofs and private contracts use
+pub mod internal

@@ -2,7 +2,7 @@
 ghost use Rattle.std.specs.Prelude.{◌≡◌, ◌+◌, ◌^◌, ◌<◌, ◌≤◌, ◌++◌, [], ◌∷◌, List, ℕ, IsTrue, length, IfOk, OnOk, is_ok, if◌then◌else◌};
 ghost use Rattle.std.specs.Int.{w32, to_le_bytes};
 ghost use Rattle.cc_disk.specs.Images.{IsWritten, LeavesAlone, LeavesOnly};
-ghost use Rattle.cc_journal.specs.Reading.{IsMidCommit};
+ghost use Rattle.cc_journal.specs.internal.Commit.{IsMidCommit};
 
 use cc_disk::{Disk, DiskFault};
 use std::alloc::{AllocError, Global};
@@ -13,7 +13,7 @@ pub const OPEN: u8 = 0xa5;
 /// The closed gate, as it is written.
 pub const CLOSED: u8 = 0;
 
-/// What stands behind the gate of a record with this body: the body's length, the body, and the next gate, closed.
+/// What stands after the gate of a record with this body: the body's length, the body, and the next gate, closed.
 pub fn frame(alloc: Global, body: &[u8]) -> Result<Vec<u8>, AllocError>
     requires { length body.now < 2 ^ 32 }
     ensures { IfOk result (λ bytes. bytes.items ≡ to_le_bytes w32 (length body.now) ++ (body.now ++ 0 ∷ [])) }
@@ -25,7 +25,7 @@ pub fn frame(alloc: Global, body: &[u8]) -> Result<Vec<u8>, AllocError>
     Ok(bytes)
 }
 
-/// Writes these bytes behind the gate at that place, and then opens it.
+/// Writes these bytes after the gate at that offset, and then opens it.
 pub fn commit<D: Disk>(disk: &mut D, gate: usize, behind: &[u8]) -> Result<(), DiskFault>
     requires on_disk { gate + 1 + length behind.now ≤ D.size disk.old }
     requires fits { gate + 1 + length behind.now < 2 ^ 64 }
@@ -36,7 +36,7 @@ pub fn commit<D: Disk>(disk: &mut D, gate: usize, behind: &[u8]) -> Result<(), D
     ensures moments { IsTrue D.honest → LeavesAlone (D.seen disk.old) (D.may_leave disk.old)
         → LeavesOnly D.moment D.left_since disk.old disk.new (IsMidCommit (D.seen disk.old) gate behind.now) }
 {
-    // The record stands first behind a closed gate, where a torn write counts for nothing.
+    // The record stands first after a closed gate, where a torn write counts for nothing.
     disk.write_at(gate + 1, behind)?;
     // It is settled before its gate opens, so that an open gate never stands before a torn record.
     disk.sync()?;

@@ -9,32 +9,32 @@ use thiserror::Error;
 /// Why a call of a journal was refused.
 #[derive(Clone, Copy, Debug, PartialEq, Eq, Error)]
 pub enum JournalFault {
-    /// The area is outside its limits or does not fit the disk, or the record does not fit its area (34).
-    #[error("the area or the record does not fit")]
+    /// 34: the area is outside its limits or does not fit the disk, or the record does not fit its area.
+    #[error("Full")]
     Full,
-    /// The device failed in the call (35).
-    #[error("the device failed")]
+    /// 35: the device failed in the call.
+    #[error("DiskFault")]
     DiskFault,
-    /// A call before failed on the device, so the disk has to be opened again (36).
-    #[error("the journal is closed")]
+    /// 36: an earlier call failed on the device, so the disk has to be opened again.
+    #[error("Closed")]
     Closed,
-    /// An open record does not fit its area (37).
-    #[error("a record does not fit its area")]
+    /// 37: an open record does not fit its area.
+    #[error("Damaged")]
     Damaged,
-    /// There is no right header (38).
-    #[error("not a library")]
+    /// 38: there is no right header.
+    #[error("NotALibrary")]
     NotALibrary,
-    /// Memory ran out (40).
-    #[error("out of memory")]
+    /// 40: memory ran out.
+    #[error("OutOfMemory")]
     OutOfMemory,
 }
 
 impl JournalFault {
-    ghost use Rattle.cc_journal.specs.Answers.{number_of};
+    ghost use Rattle.cc_journal.specs.Fault.{fault_number};
 
     /// The fault's number.
-    pub fn number(&self) -> u8
-        ensures { result ≡ number_of self.now }
+    pub fn number(&self) -> u32
+        ensures { result ≡ fault_number self.now }
     {
         match self {
             JournalFault::Full => 34,

@@ -9,7 +9,7 @@ use crate::reading::{header_bytes, is_area};
 use cc_disk::Disk;
 
 /// Makes an empty journal of two areas of `area` bytes, 64 to 1,073,741,824, on the disk: the header with area byte 0,
-/// and a closed gate behind it. It takes no memory.
+/// and a closed gate after it. It takes no memory.
 ///
 /// Refusals: 34 where `area` is outside its limits or `16 + 2 * area` bytes do not fit the disk, which is as before then;
 /// 35 where the device failed, after which the disk is to be formatted again.
@@ -18,7 +18,7 @@ pub fn format<D: Disk>(disk: &mut D, area: u32) -> Result<(), JournalFault>
     ensures size { D.size disk.new ≡ D.size disk.old }
     ensures untouched { IsErrOf result JournalFault.Full → disk.new ≡ disk.old }
     ensures bytes { OnOk result (IsTrue D.honest → D.seen disk.new ≡ header 0 area ++ (0 ∷ drop 17 (D.seen disk.old))) }
-    ensures empty { OnOk result (IsTrue D.honest → (image : List ℕ) → D.may_leave disk.new image → HoldsAlone image area []) }
+    ensures kept { OnOk result (IsTrue D.honest → (image : List ℕ) → D.may_leave disk.new image → HoldsAlone image area []) }
 {
     if !is_area(disk.size(), area as usize) {
         return Err(JournalFault::Full);

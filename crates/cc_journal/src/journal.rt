@@ -29,7 +29,7 @@ pub struct Journal<D: Disk> {
 }
 
 impl<D: Disk> Model for Journal<D> {
-    ghost use Rattle.cc_journal.specs.Reading.{View, IsKept};
+    ghost use Rattle.cc_journal.specs.Journal.{View, IsKept};
 
     ghost Value = { View D };
 
@@ -55,7 +55,7 @@ impl<D: Disk> Journal<D> {
 
         // When each refusal comes.
         ensures sound { IfOk result (λ j. D.failures j.disk ≡ D.failures disk) }
-        ensures faults { IfErr result (λ e. OpenFaults D.honest (D.seen disk) (D.failures disk) (D.failures e.1) e.0) }
+        ensures refused { IfErr result (λ e. OpenFaults D.honest (D.seen disk) (D.failures disk) (D.failures e.1) e.0) }
 
         // The disk has the same size and the same bytes, and no crash leaves anything new.
         ensures size { MatchResult result (λ j. D.size j.disk ≡ D.size disk) (λ e. D.size e.1 ≡ D.size disk) }
@@ -104,18 +104,18 @@ impl<D: Disk> Journal<D> {
         ensures size { D.size self.new.disk ≡ D.size self.old.disk }
         ensures area { self.new.area ≡ self.old.area }
 
-        // At Ok the record stands behind the old ones, and every image has them alone.
+        // At Ok the record stands after the old ones, and every image has them alone.
         ensures added { OnOk result (self.new.bodies ≡ self.old.bodies ++ body.now ∷ []) }
         ensures open { OnOk result (self.new.closed ≡ false) }
         ensures kept { OnOk result (IsTrue D.honest
             → (image : List ℕ) → D.may_leave self.new.disk image → HoldsAlone image self.new.area self.new.bodies) }
 
-        // The bytes of the disk change in one range alone: it has the record, its gate open, and a closed gate behind it.
-        ensures bytes { OnOk result (IsTrue D.honest → (place : ℕ)
-            × IsWritten (D.seen self.old.disk) place (record_bytes body.now ++ 0 ∷ []) (D.seen self.new.disk)) }
+        // The bytes of the disk change in one range alone: it has the record, its gate open, and a closed gate after it.
+        ensures bytes { OnOk result (IsTrue D.honest → (offset : ℕ)
+            × IsWritten (D.seen self.old.disk) offset (record_bytes body.now ++ 0 ∷ []) (D.seen self.new.disk)) }
 
         // A refusal leaves the records; without a device call it leaves all, after 35 the journal is closed.
-        ensures refused { OnErr result (self.new.bodies ≡ self.old.bodies) }
+        ensures leaves { OnErr result (self.new.bodies ≡ self.old.bodies) }
         ensures untouched { IfErr result (λ e. e ≢ JournalFault.DiskFault → self.new ≡ self.old) }
         ensures closes { IsErrOf result JournalFault.DiskFault → self.new.closed ≡ true }
 
@@ -160,7 +160,7 @@ impl<D: Disk> Journal<D> {
     }
 }
 
-// What an `append` takes of memory: the record to keep, the bytes behind its gate, and room for it.
+// What an `append` takes of memory: the record to keep, the bytes after its gate, and room for it.
 fn prepare(
     alloc: Global,
     bodies: &mut Vec<Body>,

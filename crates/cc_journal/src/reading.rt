@@ -3,8 +3,9 @@ ghost use Rattle.std.specs.Prelude.{IfSome, IsNone, IsErrOf, ◌↔◌, ◌≡�
 ghost use Rattle.std.specs.Int.{w32, to_le_bytes, from_le_bytes};
 ghost use Rattle.cc_disk.specs.Images.{LeavesAlone, OnlyReads};
 ghost use Rattle.cc_journal.specs.Format.{header, records, room_of, HasHeader, IsArea};
-ghost use Rattle.cc_journal.specs.Reading.{IsKept, BeginsWith, EndsClosed, FindsRecord};
-ghost use Rattle.cc_journal.specs.Answers.{OpenFaults, IsReadingFault, is_fault_of_disk};
+ghost use Rattle.cc_journal.specs.Journal.{IsKept};
+ghost use Rattle.cc_journal.specs.Answers.{OpenFaults};
+ghost use Rattle.cc_journal.specs.internal.Reading.{BeginsWith, EndsClosed, FindsRecord, IsReadingFault, is_fault_of_disk};
 
 use crate::body::Body;
 use crate::commit::OPEN;
@@ -147,26 +148,26 @@ fn length_of(bytes: &[u8; 4]) -> u32
     u32::from_le_bytes([bytes[0], bytes[1], bytes[2], bytes[3]])
 }
 
-// The record at that place, if its gate is open, where so many bytes of the area are left from there on.
+// The record at that offset, if its gate is open, where so many bytes of the area are left from there on.
 fn read_record<D: Disk>(
     alloc: Global,
     disk: &mut D,
-    place: usize,
+    offset: usize,
     left: usize,
 ) -> Result<Option<Body>, JournalFault>
     requires some { 0 < left }
-    requires on_disk { place + left ≤ D.size disk.old }
-    requires addressed { place + left < 2 ^ 64 }
+    requires on_disk { offset + left ≤ D.size disk.old }
+    requires addressed { offset + left < 2 ^ 64 }
     ensures size { D.size disk.new ≡ D.size disk.old }
     ensures reads { IsTrue D.honest → OnlyReads D.seen D.may_leave D.moment D.left_since disk.old disk.new }
     ensures failures { D.failures disk.new ≡ (if is_fault_of_disk result then D.failures disk.old + 1 else D.failures disk.old) }
     ensures fits { IfOk result (λ found. IfSome found (λ body. length body + 6 ≤ left)) }
-    ensures finds { IsTrue D.honest → FindsRecord (drop place (D.seen disk.old)) left result }
+    ensures finds { IsTrue D.honest → FindsRecord (drop offset (D.seen disk.old)) left result }
     ensures others { IfErr result IsReadingFault }
 {
     let mut gate = [0u8; 1];
-    // A closed gate ends the records, whatever stands behind it.
-    disk.read_at(place, &mut gate)?;
+    // A closed gate ends the records, whatever stands after it.
+    disk.read_at(offset, &mut gate)?;
     if gate[0] != OPEN {
         return Ok(None);
     }
@@ -175,13 +176,13 @@ fn read_record<D: Disk>(
     }
     let mut length = [0u8; 4];
     // The length says how far the record goes.
-    disk.read_at(place + 1, &mut length)?;
+    disk.read_at(offset + 1, &mut length)?;
     let length = length_of(&length) as usize;
     if left - 6 < length {
         return Err(JournalFault::Damaged);
     }
     let mut bytes = vec![in alloc; 0u8; length]?;
     // The body, as long as it says, within the area.
-    disk.read_at(place + 5, &mut bytes)?;
+    disk.read_at(offset + 5, &mut bytes)?;
     Ok(Some(Body::new(bytes)))
 }

@@ -6,7 +6,7 @@ use Rattle.std.specs.FinMap as map
 use Rattle.cc_library.specs.declared.command.Command.{Command}
 use Rattle.cc_library.specs.declared.command.Command.TheVariants.{Add, Replace, Withdraw}
 use Rattle.cc_library.specs.Apply.{Units, apply, after, kept, refusal, exists, absent}
-use Rattle.cc_library.specs.Halves.{begun, finished, undone}
+use Rattle.cc_library.specs.internal.Halves.{begun, finished, undone}
 use Rattle.cc_library.proofs.Tables.{put_and_taken}
 
 -- no number refuses what is accepted, and the other way round

@@ -7,7 +7,7 @@ use Rattle.cc_journal.specs.Format.{HasHeader, HoldsRecords, HoldsAlone, records
 use Rattle.cc_journal.specs.Answers as journals
 use Rattle.cc_library.specs.declared.fault.LibraryFault.{LibraryFault}
 use Rattle.cc_library.specs.declared.fault.LibraryFault.TheVariants.{Exists, Absent, Full, DiskFault, Closed, Damaged, NotALibrary, OutOfMemory}
-use Rattle.cc_library.specs.Faults.{fault_of}
+use Rattle.cc_library.specs.Fault.{fault_of}
 use Rattle.cc_library.specs.Apply.{Units}
 use Rattle.cc_library.specs.Recovered.{StandFor}
 use Rattle.cc_library.specs.Answers.{OpenFaults, ReplayFaults}

@@ -8,12 +8,13 @@ use denote.Enum.Bare.{sameb}
 use Rattle.cc_journal.specs.contracts.fault.JournalFault.{the_type}
 use Rattle.cc_journal.specs.declared.fault.JournalFault.{JournalFault}
 use Rattle.cc_journal.specs.declared.fault.JournalFault.TheVariants as journal
-use Rattle.cc_journal.specs.Reading as journals
+use Rattle.cc_journal.specs.Journal as journals
 use Rattle.cc_library.specs.declared.command.Command.{Command}
-use Rattle.cc_library.specs.Faults.{fault_of}
+use Rattle.cc_library.specs.Fault.{fault_of}
 use Rattle.cc_library.specs.Apply.{Units, after}
 use Rattle.cc_library.specs.Body.{body_of}
-use Rattle.cc_library.specs.Recovered.{StandFor, IsOldOrNew, View}
+use Rattle.cc_library.specs.Recovered.{StandFor, View}
+use Rattle.cc_library.specs.internal.Steps.{IsOldOrNew}
 use Rattle.cc_library.specs.Answers.{ChangeLeaves}
 use Rattle.cc_library.proofs.Standing.{quiet}
 

@@ -7,7 +7,8 @@ use Rattle.cc_library.specs.declared.command.Command.{Command}
 use Rattle.cc_library.specs.declared.fault.LibraryFault.{LibraryFault}
 use Rattle.cc_library.specs.declared.fault.LibraryFault.TheVariants.{Exists, Absent, Full, DiskFault, Closed, Damaged, NotALibrary, OutOfMemory}
 use Rattle.cc_library.specs.Apply.{Units, after, after_all}
-use Rattle.cc_library.specs.Recovered.{Recovers, IsOldOrNew, View}
+use Rattle.cc_library.specs.Recovered.{Recovers, View}
+use Rattle.cc_library.specs.internal.Steps.{IsOldOrNew}
 use Rattle.cc_library.specs.Answers.{OpenFaults, ChangeLeaves}
 use Rattle.cc_library.proofs.Opening.{has_header}
 use Rattle.cc_library.specs.Runs.{answer_number, AreDone, GoesOn, IsEdited, AreEdited}

@@ -9,9 +9,11 @@ use Rattle.cc_library.specs.declared.command.Command.{Command}
 use Rattle.cc_library.specs.declared.fault.LibraryFault.{LibraryFault}
 use Rattle.cc_library.specs.declared.fault.LibraryFault.TheVariants.{Exists, Absent, Full, DiskFault, Closed, Damaged, NotALibrary, OutOfMemory}
 use Rattle.cc_library.specs.Apply.{Units, apply, after, after_all, AreAccepted}
-use Rattle.cc_library.specs.Answers.{ReplayFaults, ReplaysBody}
+use Rattle.cc_library.specs.Answers.{ReplayFaults}
+use Rattle.cc_library.specs.internal.Steps.{ReplaysBody}
 use Rattle.cc_library.specs.Body.{Spells, body_of}
-use Rattle.cc_library.specs.Recovered.{AreSpelled, LeadTo, StandFor, RecoversAlone, RecoversOneOf, IsOldOrNew}
+use Rattle.cc_library.specs.Recovered.{AreSpelled, LeadTo, StandFor, RecoversAlone, RecoversOneOf}
+use Rattle.cc_library.specs.internal.Steps.{IsOldOrNew}
 use Rattle.cc_library.proofs.Commands.{one_command}
 
 -- one record leads from a map to the next

@@ -1,12 +1,12 @@
 -- Which answer a call of a library gives, when, and what it leaves. The failures are those that the disk has counted
--- before the call and behind it.
+-- before the call and after it.
 use Rattle.std.specs.Prelude.{◌≡◌, ℕ, ◌+◌, ◌<◌, ◌≤◌, Bool, true, false, IsTrue, IsOk, List, ◌∷◌, ◌++◌, [], Result, Ok, Err}
 use Rattle.cc_journal.specs.Format.{HasHeader, room_of}
 use Rattle.cc_library.specs.declared.command.Command.{Command}
 use Rattle.cc_library.specs.declared.fault.LibraryFault.{LibraryFault}
 use Rattle.cc_library.specs.declared.fault.LibraryFault.TheVariants.{Exists, Absent, Full, DiskFault, Closed, Damaged, NotALibrary, OutOfMemory}
 use Rattle.cc_library.specs.Apply.{Units, apply, after, exists, absent}
-use Rattle.cc_library.specs.Body.{body_of, Spells}
+use Rattle.cc_library.specs.Body.{body_of}
 use Rattle.cc_library.specs.Recovered.{Recovers, StandFor, View}
 
 -- `open`: 35 exactly where the device failed; else, of an honest disk with these bytes, 38 exactly where there is no right
@@ -32,18 +32,6 @@ ReplayFaults bodies Exists = ⊥
 ReplayFaults bodies Absent = ⊥
 ReplayFaults bodies Full = ⊥
 ReplayFaults bodies Closed = ⊥
-
--- one record more: 37 exactly where its body is that of no command that the map accepts
-abbrev pub ReplaysBody : Units → List ℕ → Result Units LibraryFault → Type 0
-ReplaysBody old body (Ok new) = (command : Command) × Spells body command × IsOk (apply old command) × (new ≡ after old command)
-ReplaysBody old body (Err Damaged) = (command : Command) → Spells body command → IsOk (apply old command) → ⊥
-ReplaysBody old body (Err OutOfMemory) = Unit {0}
-ReplaysBody old body (Err DiskFault) = ⊥
-ReplaysBody old body (Err NotALibrary) = ⊥
-ReplaysBody old body (Err Exists) = ⊥
-ReplaysBody old body (Err Absent) = ⊥
-ReplaysBody old body (Err Full) = ⊥
-ReplaysBody old body (Err Closed) = ⊥
 
 module _ {D : Type 0} where
   -- the call reaches the journal: the library is not closed, and the map accepts the command

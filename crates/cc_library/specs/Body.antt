@@ -36,7 +36,7 @@ abbrev pub unit_part : Option StoredUnit → List ℕ
 unit_part None = []
 unit_part (Some unit) = unit_fields unit
 
--- the version 1, the kind, the name, and the unit where there is one; nothing stands behind
+-- the version 1, the kind, the name, and the unit where there is one; nothing stands after
 abbrev pub body_bytes : Kind → List ℕ → Option StoredUnit → List ℕ
 body_bytes kind name unit = 1 ∷ (kind_number kind ∷ (name_field name ++ unit_part unit))
 

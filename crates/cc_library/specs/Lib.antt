@@ -1,9 +1,18 @@
+-- the numbers of the faults, and what a journal's fault is to the library
+pub mod Fault
+-- which bytes are a name
 pub mod Name
-pub mod Faults
+-- the map from names to units, and what a command makes of it
 pub mod Apply
+-- a command as the body of a record
 pub mod Body
+-- reading a body from left to right
 pub mod Reading
+-- the map that records stand for, and what an image recovers to; what contracts see of a library, and what its type keeps
 pub mod Recovered
+-- which answer a call gives, when, and what it leaves
 pub mod Answers
+-- a run of edits
 pub mod Runs
-pub mod Halves
+-- what only proofs and private contracts use
+pub mod internal

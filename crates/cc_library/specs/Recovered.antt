@@ -1,13 +1,13 @@
 -- What an image of a disk recovers to: the map that its records stand for.
-use Rattle.std.specs.Prelude.{◌≡◌, ◌⊎◌, ℕ, Bool, List, [], ◌∷◌, ◌++◌, refl}
+use Rattle.std.specs.Prelude.{◌≡◌, ◌⊎◌, ℕ, Bool, List, [], ◌∷◌, refl}
 use Rattle.std.specs.FinMap.{empty}
 use Rattle.std.specs.Coded.{Coded, code_by, coded×, coded_ℕ, coded_list, coded_bool}
-use Rattle.cc_journal.specs.Format.{HoldsRecords, HoldsAlone}
+use Rattle.cc_journal.specs.Format.{HoldsRecords}
 use Rattle.cc_library.specs.declared.command.Command.{Command}
 use Rattle.cc_library.specs.Apply.{Units, after_all, AreAccepted}
 use Rattle.cc_library.specs.Body.{Spells}
 
--- each body is the command's at its place, and there are as many of both
+-- each body is that of the command with the same index, and there are as many of both
 abbrev pub AreSpelled : List (List ℕ) → List Command → Type 0
 AreSpelled [] [] = Unit {0}
 AreSpelled [] (command ∷ commands) = ⊥
@@ -40,11 +40,6 @@ pub record RecoversAlone (image : List ℕ) (units : Units) : Type 0 where
 -- it recovers to the one or to the other alone
 abbrev pub RecoversOneOf : Units → Units → List ℕ → Type 0
 RecoversOneOf old new image = RecoversAlone image old ⊎ RecoversAlone image new
-
--- it has these records and recovers to this map alone, or these with one more and that map
-abbrev pub IsOldOrNew : ℕ → List (List ℕ) → Units → List ℕ → Units → List ℕ → Type 0
-IsOldOrNew area bodies old body new image =
-    (HoldsAlone image area bodies × RecoversAlone image old) ⊎ (HoldsAlone image area (bodies ++ body ∷ []) × RecoversAlone image new)
 
 -- what contracts see of a library: its disk, the size of an area, the bodies of its records, its map, whether it is closed
 pub record View (D : Type 0) : Type 0 where

@@ -3,7 +3,7 @@ use Rattle.std.specs.Prelude.{◌≡◌, ◌≢◌, ◌⊎◌, ℕ, Bool, false,
 use Rattle.cc_library.specs.declared.command.Command.{Command}
 use Rattle.cc_library.specs.declared.fault.LibraryFault.{LibraryFault}
 use Rattle.cc_library.specs.declared.fault.LibraryFault.TheVariants.{Exists, Absent, Full, DiskFault, Closed, Damaged, NotALibrary, OutOfMemory}
-use Rattle.cc_library.specs.Faults.{number_of}
+use Rattle.cc_library.specs.Fault.{fault_number}
 use Rattle.cc_library.specs.Apply.{after}
 use Rattle.cc_library.specs.Body.{body_of}
 use Rattle.cc_library.specs.Recovered.{RecoversOneOf, View}
@@ -12,7 +12,7 @@ use Rattle.cc_library.specs.Answers.{OpenFaults, ChangeAnswers, ChangeLeaves}
 -- the number of an answer, 0 for Ok
 abbrev pub answer_number : {T : Type 0} → Result T LibraryFault → ℕ
 answer_number (Ok done) = 0
-answer_number (Err fault) = number_of fault
+answer_number (Err fault) = fault_number fault
 
 -- the edits that a run did: each with number 0, of those with 35 the ones that the reopening showed, and no others
 abbrev pub AreDone : List Command → List ℕ → List Command → Type 0
@@ -25,7 +25,7 @@ AreDone (edit ∷ edits) (number ∷ numbers) done =
 
 module _ {D : Type 0} where
   -- the library that a change left is as before, or, where the device failed, it was opened again: of an honest disk it
-  -- has the records and the map from before the edit or from behind it
+  -- has the records and the map from before the edit or from after it
   abbrev pub GoesOn : {T : Type 0} → Bool → (D → ℕ) → View D → Command → Result T LibraryFault → (left new : View D) → Type 0
   GoesOn honest failures old edit (Ok done) left new = new ≡ left
   GoesOn honest failures old edit (Err DiskFault) left new =
@@ -58,7 +58,7 @@ module _ {D : Type 0} where
       (mid : View D) × IsEdited honest failures old edit number mid × AreEdited honest failures mid edits numbers new
 
   -- an edit in which the device failed, and whose disk could not be opened again: of an honest disk because the device
-  -- failed once more or memory ran out, and then the disk still has the map from before the edit or from behind it
+  -- failed once more or memory ran out, and then the disk still has the map from before the edit or from after it
   pub record IsRefused (honest : Bool) (failures : D → ℕ) (seen : D → List ℕ) (may_leave : D → List ℕ → Type 0) (old : View D) (edit : Command) (fault : LibraryFault) (disk : D) : Type 0 where
     pub left : View D
     pub answers : ChangeAnswers {T = Unit {0}} old edit (failures old.disk) (failures left.disk) (Err DiskFault)

@@ -7,7 +7,7 @@ use crate::unit::SharedUnit;
 use std::alloc::AllocError;
 
 /// The three kinds of command.
-#[derive(Clone, Copy, Debug, PartialEq, Eq)]
+#[derive(Clone, Copy)]
 pub enum Kind {
     Add,
     Replace,

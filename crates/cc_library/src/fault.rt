@@ -8,15 +8,17 @@ use thiserror::Error;
 /// Why bytes are no name.
 #[derive(Clone, Copy, Debug, PartialEq, Eq, Error)]
 pub enum NameFault {
-    /// The bytes break the rule of names (33).
-    #[error("not a name")]
+    /// 33: the bytes break the rule of names.
+    #[error("BadName")]
     BadName,
 }
 
 impl NameFault {
+    ghost use Rattle.cc_library.specs.Fault.{name_fault_number};
+
     /// The fault's number: 33.
-    pub fn number(&self) -> u8
-        ensures { result ≡ 33 }
+    pub fn number(&self) -> u32
+        ensures { result ≡ name_fault_number self.now }
     {
         match self {
             NameFault::BadName => 33,
@@ -27,38 +29,38 @@ impl NameFault {
 /// Why a call of a library was refused.
 #[derive(Clone, Copy, Debug, PartialEq, Eq, Error)]
 pub enum LibraryFault {
-    /// The name to be added has a unit (31).
-    #[error("the name exists")]
+    /// 31: the name to be added has a unit.
+    #[error("Exists")]
     Exists,
-    /// The name to be replaced or withdrawn has no unit (32).
-    #[error("the name is absent")]
+    /// 32: the name to be replaced or withdrawn has no unit.
+    #[error("Absent")]
     Absent,
-    /// The record does not fit its area (34).
-    #[error("the record does not fit")]
+    /// 34: the record does not fit its area.
+    #[error("Full")]
     Full,
-    /// The device failed in the call (35).
-    #[error("the device failed")]
+    /// 35: the device failed in the call.
+    #[error("DiskFault")]
     DiskFault,
-    /// A call before failed on the device, so the disk has to be opened again (36).
-    #[error("the library is closed")]
+    /// 36: an earlier call failed on the device, so the disk has to be opened again.
+    #[error("Closed")]
     Closed,
-    /// A record does not fit its area, or the records are no list of accepted commands (37).
-    #[error("the library is damaged")]
+    /// 37: a record does not fit its area, or the records are no list of accepted commands.
+    #[error("Damaged")]
     Damaged,
-    /// There is no right header (38).
-    #[error("not a library")]
+    /// 38: there is no right header.
+    #[error("NotALibrary")]
     NotALibrary,
-    /// Memory ran out (40).
-    #[error("out of memory")]
+    /// 40: memory ran out.
+    #[error("OutOfMemory")]
     OutOfMemory,
 }
 
 impl LibraryFault {
-    ghost use Rattle.cc_library.specs.Faults.{number_of};
+    ghost use Rattle.cc_library.specs.Fault.{fault_number};
 
     /// The fault's number.
-    pub fn number(&self) -> u8
-        ensures { result ≡ number_of self.now }
+    pub fn number(&self) -> u32
+        ensures { result ≡ fault_number self.now }
     {
         match self {
             LibraryFault::Exists => 31,
@@ -74,7 +76,7 @@ impl LibraryFault {
 }
 
 impl From<JournalFault> for LibraryFault {
-    ghost use Rattle.cc_library.specs.Faults.{fault_of};
+    ghost use Rattle.cc_library.specs.Fault.{fault_of};
 
     ghost from_gives = { λ journal fault. fault ≡ fault_of journal };
 

@@ -9,9 +9,10 @@ ghost use Rattle.cc_library.specs.declared.command.Command.{Command};
 ghost use Rattle.cc_library.specs.declared.command.Command.TheVariants as command;
 ghost use Rattle.cc_library.specs.Apply.{after, after_all, library_of};
 ghost use Rattle.cc_library.specs.Body.{body_of};
-ghost use Rattle.cc_library.specs.Recovered.{IsOldOrNew, Recovers, RecoversAlone, RecoversOneOf, StandFor};
+ghost use Rattle.cc_library.specs.Recovered.{Recovers, RecoversAlone, RecoversOneOf, StandFor};
 ghost use Rattle.cc_library.specs.Answers.{OpenFaults, ChangeAnswers, ChangeLeaves};
 ghost use Rattle.cc_library.specs.Runs.{AreDone, AreEdited, HadNoRoom, IsEdited, IsRefused, Stopped};
+ghost use Rattle.cc_library.specs.internal.Steps.{IsOldOrNew};
 
 use crate::body::body_of_command;
 use crate::command::{Command, Edit};
@@ -73,7 +74,7 @@ impl<D: Disk> Library<D> {
 
         // When each refusal comes.
         ensures sound { IfOk result (λ l. D.failures l.disk ≡ D.failures disk) }
-        ensures faults { IfErr result (λ e. OpenFaults D.honest (D.seen disk) (D.failures disk) (D.failures e.1) e.0) }
+        ensures refused { IfErr result (λ e. OpenFaults D.honest (D.seen disk) (D.failures disk) (D.failures e.1) e.0) }
 
         // The disk has the same size and the same bytes, and no crash leaves anything new.
         ensures size { MatchResult result (λ l. D.size l.disk ≡ D.size disk) (λ e. D.size e.1 ≡ D.size disk) }
@@ -227,7 +228,7 @@ impl<D: Disk> Library<D> {
         ensures kept { IfOk result.0 (λ l. IsTrue D.honest → l.closed ≡ false → (image : List ℕ) → D.may_leave l.disk image → RecoversAlone image l.units) }
 
         // Where it stopped.
-        ensures stopped { IfErr result.0 (λ e. HadNoRoom self result.1.items e.0 e.1
+        ensures refused { IfErr result.0 (λ e. HadNoRoom self result.1.items e.0 e.1
             ⊎ Stopped D.honest D.failures D.seen D.may_leave self edits.items result.1.items e.0 e.1) }
         ensures size { MatchResult result.0 (λ l. D.size l.disk ≡ D.size self.disk) (λ e. D.size e.1 ≡ D.size self.disk) }
     {
@@ -251,7 +252,7 @@ impl<D: Disk> Library<D> {
         (Ok(library), numbers)
     }
 
-    // One edit of a run: its number, and the library behind it, opened again where the device failed.
+    // One edit of a run: its number, and the library after it, opened again where the device failed.
     fn edited(mut self, alloc: Global, edit: Edit) -> (u32, Result<Library<D>, (LibraryFault, D)>)
         ensures edited { IfOk result.1 (λ l. IsEdited D.honest D.failures self edit result.0 l) }
         ensures refused { IfErr result.1 (λ e. (result.0 ≡ 35) × IsRefused D.honest D.failures D.seen D.may_leave self edit e.0 e.1) }
@@ -264,7 +265,7 @@ impl<D: Disk> Library<D> {
                     Ok(library) => (35, Ok(library)),
                     Err(refused) => (35, Err(refused)),
                 },
-                other => (u32::from(other.number()), Ok(self)),
+                other => (other.number(), Ok(self)),
             },
         }
     }
@@ -282,12 +283,19 @@ impl<D: Disk> Library<D> {
         // What the journal promises of its images, for the calls that end before a device call.
         let _ = self.journal.records();
         if self.closed {
+            drop(command);
             return Err(LibraryFault::Closed);
         }
         match self.units.refusal(&command) {
             None => {}
-            Some(31) => return Err(LibraryFault::Exists),
-            Some(_) => return Err(LibraryFault::Absent),
+            Some(31) => {
+                drop(command);
+                return Err(LibraryFault::Exists);
+            }
+            Some(_) => {
+                drop(command);
+                return Err(LibraryFault::Absent);
+            }
         }
         let body = body_of_command(alloc, &command)?;
         self.units.begin(&command)?;

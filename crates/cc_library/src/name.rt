@@ -63,8 +63,8 @@ fn are_name(bytes: &[u8]) -> bool
 impl Name {
     /// The name with these bytes, or 33 `BadName` where they are none. It takes no memory.
     pub fn new(bytes: &[u8]) -> Result<Name, NameFault>
-        ensures exact { IsOk result ↔ IsTrue (is_name bytes.now) }
-        ensures bytes { IfOk result (λ name. name ≡ bytes.now) }
+        ensures answers { IsOk result ↔ IsTrue (is_name bytes.now) }
+        ensures answer { IfOk result (λ name. name ≡ bytes.now) }
     {
         if !are_name(bytes) {
             return Err(NameFault::BadName);

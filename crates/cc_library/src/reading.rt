@@ -13,7 +13,7 @@ use std::alloc::{AllocError, AllocFailed, Global};
 use std::sync::Arc;
 
 /// Why no command was read.
-#[derive(Clone, Copy, Debug, PartialEq, Eq)]
+#[derive(Clone, Copy, Debug)]
 pub enum ReadFault {
     /// The bytes are no command.
     NoCommand,
@@ -44,10 +44,10 @@ impl<T: Drop> From<AllocFailed<T>> for ReadFault {
 /// The command that the bytes are, all of them.
 pub fn read_command(alloc: Global, bytes: &[u8]) -> Result<Command, ReadFault>
     // What is read is spelled so.
-    ensures found { IfOk result (λ command. Spells bytes.now command) }
+    ensures answer { IfOk result (λ command. Spells bytes.now command) }
     // What is spelled so is read, and nothing else is.
     ensures only { (command : Command) → Spells bytes.now command → Gives (λ c. c) result (Some command) }
-    ensures exact { Gives (λ command. command) result (command_in bytes.now) }
+    ensures answers { Gives (λ command. command) result (command_in bytes.now) }
 {
     command_at(alloc, bytes)
 }
@@ -63,6 +63,7 @@ fn command_at(alloc: Global, bytes: &[u8]) -> Result<Command, ReadFault>
     if version == 1 && rest.is_empty() {
         Ok(command)
     } else {
+        drop(command);
         Err(ReadFault::NoCommand)
     }
 }

@@ -1,7 +1,8 @@
 // What the records of a journal stand for.
 ghost use Rattle.std.specs.Prelude.{IfOk, IfErr};
 ghost use Rattle.cc_library.specs.Recovered.{StandFor};
-ghost use Rattle.cc_library.specs.Answers.{ReplayFaults, ReplaysBody};
+ghost use Rattle.cc_library.specs.Answers.{ReplayFaults};
+ghost use Rattle.cc_library.specs.internal.Steps.{ReplaysBody};
 
 use crate::fault::LibraryFault;
 use crate::reading::{ReadFault, read_command};
@@ -14,8 +15,8 @@ use std::alloc::Global;
 /// 37 exactly where they stand for none: a body is that of no command, or of one that the map so far refuses. 40 where
 /// memory ran out.
 pub fn replay(alloc: Global, bodies: &[Body]) -> Result<UnitMap, LibraryFault>
-    ensures found { IfOk result (λ units. StandFor bodies.now units) }
-    ensures faults { IfErr result (λ fault. ReplayFaults bodies.now fault) }
+    ensures answer { IfOk result (λ units. StandFor bodies.now units) }
+    ensures refused { IfErr result (λ fault. ReplayFaults bodies.now fault) }
 {
     let mut units = UnitMap::new(alloc);
     for body in bodies {
@@ -34,8 +35,11 @@ fn replay_body(alloc: Global, mut units: UnitMap, body: &Body) -> Result<UnitMap
         Err(ReadFault::OutOfMemory) => return Err(LibraryFault::OutOfMemory),
     };
     if units.refusal(&command).is_some() {
+        drop(command);
         return Err(LibraryFault::Damaged);
     }
-    units.apply(&command)?;
+    let applied = units.apply(&command);
+    drop(command);
+    applied?;
     Ok(units)
 }

@@ -23,7 +23,7 @@ impl Model for SharedUnit {
 }
 
 impl SharedUnit {
-    /// The unit behind this pointer. It takes no memory.
+    /// The unit that this pointer owns. It takes no memory.
     pub fn new(stored: Arc<StoredUnit>) -> SharedUnit
         ensures { result ≡ arc_value stored }
     {

@@ -6,7 +6,7 @@ ghost use Rattle.std.specs.Ordering.{nat_cmp};
 ghost use Rattle.std.specs.Cmp.Lexicographic.{slice_cmp};
 ghost use Rattle.std.specs.FinMap as map;
 ghost use Rattle.cc_library.specs.Apply.{apply, after, refusal};
-ghost use Rattle.cc_library.specs.Halves.{begun, finished, undone};
+ghost use Rattle.cc_library.specs.internal.Halves.{begun, finished, undone};
 
 use crate::command::Command;
 use crate::name::Name;
@@ -77,7 +77,7 @@ impl UnitMap {
     }
 
     /// Which number refuses the command now, 31 or 32, where one does. It takes no memory.
-    pub fn refusal(&self, command: &Command) -> Option<u8>
+    pub fn refusal(&self, command: &Command) -> Option<u32>
         ensures { result ≡ refusal (apply self.now command.now) }
     {
         match command {
@@ -91,7 +91,7 @@ impl UnitMap {
     /// Does the command, where the map does not refuse it. Without memory the map stays as it was.
     pub fn apply(&mut self, command: &Command) -> Result<(), AllocError>
         ensures ok { OnOk result (self.new ≡ after self.old command.now) }
-        ensures err { OnErr result (self.new ≡ self.old) }
+        ensures leaves { OnErr result (self.new ≡ self.old) }
     {
         if self.refusal(command).is_some() {
             return Ok(());

@@ -8,7 +8,7 @@ use std::marker::Model;
 pub const MOST_SOURCE: usize = 65_536;
 
 /// The source of a unit: any bytes, at most 65,536. A clause sees their list.
-#[derive(Debug, Drop)]
+#[derive(Drop)]
 pub struct Source {
     bytes: Vec<u8>,
 }
@@ -27,7 +27,7 @@ impl Source {
     /// The source of these bytes, or the bytes back where they are more than 65,536. It takes no memory.
     pub fn new(bytes: Vec<u8>) -> Result<Source, Vec<u8>>
         ensures fits { IsOk result ↔ (length bytes.items ≤ 65536) }
-        ensures kept { MatchResult result (λ source. source ≡ bytes.items) (λ back. back ≡ bytes) }
+        ensures hands_back { MatchResult result (λ source. source ≡ bytes.items) (λ back. back ≡ bytes) }
     {
         if bytes.len() > MOST_SOURCE {
             return Err(bytes);

@@ -8,10 +8,18 @@ use std::alloc::Global;
 use std::sync::Arc;
 use std::test::Fail;
 
-/// A unit without source and globals, with this one code word.
-pub fn unit(alloc: Global, word: u32) -> Result<Arc<StoredUnit>, Fail> {
-    let Ok(source) = Source::new(Vec::new(alloc)) else {
-        return Err(Fail::from("no bytes are a source"));
+/// What is done to a library: to the name of one letter, and with the unit of one word.
+#[derive(Clone, Copy)]
+pub enum Step {
+    Add(u8, u32),
+    Replace(u8, u32),
+    Withdraw(u8),
+}
+
+/// The unit of that source, with this one code word and no globals.
+pub fn unit(alloc: Global, source: &[u8], word: u32) -> Result<StoredUnit, Fail> {
+    let Ok(source) = Source::new(Vec::from_slice(alloc, source)?) else {
+        return Err(Fail::from("the bytes are no source"));
     };
     let Ok(code) = Code::new(vec![in alloc; word; 1]?) else {
         return Err(Fail::from("one word is code"));
@@ -19,12 +27,16 @@ pub fn unit(alloc: Global, word: u32) -> Result<Arc<StoredUnit>, Fail> {
     let Ok(globals) = Globals::new(Vec::new(alloc)) else {
         return Err(Fail::from("no words are globals"));
     };
-    let stored = StoredUnit {
+    Ok(StoredUnit {
         source,
         image: Image { code, globals },
         certificate: None,
-    };
-    Ok(Arc::new(alloc, stored)?)
+    })
+}
+
+/// The unit of that word, without source.
+pub fn word_unit(alloc: Global, word: u32) -> Result<Arc<StoredUnit>, Fail> {
+    Ok(Arc::new(alloc, unit(alloc, &[], word)?)?)
 }
 
 /// The name with one letter.
@@ -32,19 +44,65 @@ pub fn name(letter: u8) -> Result<Name, Fail> {
     Ok(Name::new(&[letter])?)
 }
 
-/// Add of that name with the unit of that word.
-pub fn add(alloc: Global, letter: u8, word: u32) -> Result<Command, Fail> {
-    Ok(Command::Add(name(letter)?, SharedUnit::new(unit(alloc, word)?)))
+/// The command of a step.
+fn command(alloc: Global, step: Step) -> Result<Command, Fail> {
+    match step {
+        Step::Add(letter, word) => Ok(Command::Add(
+            name(letter)?,
+            SharedUnit::new(word_unit(alloc, word)?),
+        )),
+        Step::Replace(letter, word) => Ok(Command::Replace(
+            name(letter)?,
+            SharedUnit::new(word_unit(alloc, word)?),
+        )),
+        Step::Withdraw(letter) => Ok(Command::Withdraw(name(letter)?)),
+    }
 }
 
-/// Replace of that name with the unit of that word.
-pub fn replace(alloc: Global, letter: u8, word: u32) -> Result<Command, Fail> {
-    Ok(Command::Replace(name(letter)?, SharedUnit::new(unit(alloc, word)?)))
+/// The commands of these steps.
+pub fn commands(alloc: Global, steps: &[Step]) -> Result<Vec<Command>, Fail> {
+    let mut commands = Vec::new(alloc);
+    for step in steps {
+        commands.push(command(alloc, *step)?)?;
+    }
+    Ok(commands)
 }
 
-/// Withdraw of that name.
-pub fn withdraw(letter: u8) -> Result<Command, Fail> {
-    Ok(Command::Withdraw(name(letter)?))
+// The number of an answer, 0 for Ok.
+fn number(answer: Result<(), LibraryFault>) -> u32 {
+    match answer {
+        Ok(()) => 0,
+        Err(fault) => fault.number(),
+    }
+}
+
+/// Does one step: the number of the answer.
+pub fn does<D: Disk>(alloc: Global, library: &mut Library<D>, step: Step) -> Result<u32, Fail> {
+    match step {
+        Step::Add(letter, word) => {
+            let unit = word_unit(alloc, word)?;
+            Ok(number(library.add(alloc, name(letter)?, unit)))
+        }
+        Step::Replace(letter, word) => {
+            let unit = word_unit(alloc, word)?;
+            Ok(number(library.replace(alloc, name(letter)?, unit)))
+        }
+        Step::Withdraw(letter) => Ok(number(library.withdraw(alloc, name(letter)?))),
+    }
+}
+
+/// Does these steps until one is refused: how many were done.
+pub fn steps_done<D: Disk>(
+    alloc: Global,
+    library: &mut Library<D>,
+    steps: &[Step],
+) -> Result<usize, Fail> {
+    for (done, step) in steps.iter().enumerate() {
+        if does(alloc, library, *step)? != 0 {
+            return Ok(done);
+        }
+    }
+    Ok(steps.len())
 }
 
 /// A formatted disk with areas of that many bytes.
@@ -82,39 +140,8 @@ pub fn opened<D: Disk + Drop>(alloc: Global, disk: D) -> Result<Library<D>, Fail
     }
 }
 
-/// The answer of opening a library.
-pub fn try_open<D: Disk>(alloc: Global, disk: D) -> Result<Library<D>, (LibraryFault, D)> {
-    Library::open(alloc, disk)
-}
-
-/// The answer of a run.
-pub fn ran<D: Disk>(
-    alloc: Global,
-    library: Library<D>,
-    edits: Vec<Command>,
-) -> (Result<Library<D>, (LibraryFault, D)>, Vec<u32>) {
-    library.run(alloc, edits)
-}
-
-/// Adds, adds, replaces and withdraws until one is refused: how many were done.
-pub fn changes_done<D: Disk>(alloc: Global, library: &mut Library<D>) -> Result<usize, Fail> {
-    if added(alloc, library, b'a', 1)? != 0 {
-        return Ok(0);
-    }
-    if added(alloc, library, b'b', 2)? != 0 {
-        return Ok(1);
-    }
-    if replaced(alloc, library, b'a', 3)? != 0 {
-        return Ok(2);
-    }
-    if withdrawn(alloc, library, b'b')? != 0 {
-        return Ok(3);
-    }
-    Ok(4)
-}
-
 /// The first code word of the unit of that name, where it has one.
-pub fn word_of<D: Disk>(library: &Library<D>, letter: u8) -> Result<Option<u32>, Fail> {
+fn word_of<D: Disk>(library: &Library<D>, letter: u8) -> Result<Option<u32>, Fail> {
     Ok(
         library
             .get(&name(letter)?)
@@ -122,12 +149,11 @@ pub fn word_of<D: Disk>(library: &Library<D>, letter: u8) -> Result<Option<u32>,
     )
 }
 
-/// Whether the library holds units of these words under `a` and `b`, or none, and no others.
-pub fn holds<D: Disk>(
-    alloc: Global,
-    library: &Library<D>,
-    wanted: (Option<u32>, Option<u32>),
-) -> Result<bool, Fail> {
+/// What a library holds under `a` and under `b`: the words of the units, where there are some.
+pub type Held = (Option<u32>, Option<u32>);
+
+/// Whether the library holds these units, and no others.
+pub fn holds<D: Disk>(alloc: Global, library: &Library<D>, wanted: Held) -> Result<bool, Fail> {
     let count = usize::from(wanted.0.is_some()) + usize::from(wanted.1.is_some());
     Ok(
         library.list(alloc)?.len() == count
@@ -136,54 +162,23 @@ pub fn holds<D: Disk>(
     )
 }
 
-/// The number of an answer, 0 for Ok.
-pub fn number(answer: Result<(), LibraryFault>) -> u8 {
-    match answer {
-        Ok(()) => 0,
-        Err(fault) => fault.number(),
-    }
+/// Whether the disk is opened and holds these units, and no others.
+pub fn recovers<D: Disk + Drop>(alloc: Global, disk: D, wanted: Held) -> Result<bool, Fail> {
+    holds(alloc, &opened(alloc, disk)?, wanted)
 }
 
-/// Adds a unit of that word: the number of the answer.
-pub fn added<D: Disk>(
-    alloc: Global,
-    library: &mut Library<D>,
-    letter: u8,
-    word: u32,
-) -> Result<u8, Fail> {
-    let unit = unit(alloc, word)?;
-    Ok(number(library.add(alloc, name(letter)?, unit)))
-}
-
-/// Replaces a unit by one of that word: the number of the answer.
-pub fn replaced<D: Disk>(
-    alloc: Global,
-    library: &mut Library<D>,
-    letter: u8,
-    word: u32,
-) -> Result<u8, Fail> {
-    let unit = unit(alloc, word)?;
-    Ok(number(library.replace(alloc, name(letter)?, unit)))
-}
-
-/// Withdraws a name: the number of the answer.
-pub fn withdrawn<D: Disk>(alloc: Global, library: &mut Library<D>, letter: u8) -> Result<u8, Fail> {
-    Ok(number(library.withdraw(alloc, name(letter)?)))
-}
-
-/// Whether a crash that leaves this byte where it may leaves a library that holds such units.
+/// Whether a crash that leaves this byte where it may leaves a library that holds these units.
 pub fn crash_leaves(
     alloc: Global,
     disk: &MemoryDisk,
     byte: u8,
-    wanted: (Option<u32>, Option<u32>),
+    wanted: Held,
 ) -> Result<bool, Fail> {
-    let after = disk.crash(alloc, &[byte; 272])?;
-    holds(alloc, &opened(alloc, after)?, wanted)
+    recovers(alloc, disk.crash(alloc, &[byte; 272])?, wanted)
 }
 
 /// The number of the fault with which the disk is refused, or 0.
-pub fn refusal<D: Disk + Drop>(alloc: Global, disk: D) -> u8 {
+pub fn refusal<D: Disk + Drop>(alloc: Global, disk: D) -> u32 {
     match Library::open(alloc, disk) {
         Ok(_) => 0,
         Err((fault, _)) => fault.number(),

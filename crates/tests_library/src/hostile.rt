@@ -1,5 +1,5 @@
 // Disks that nobody formatted so.
-use crate::helpers::{added, bytes_of, disk_of, formatted, holds, opened, refusal, try_open};
+use crate::helpers::{Step, bytes_of, disk_of, formatted, opened, recovers, refusal, steps_done};
 use cc_disk::{FuseDisk, FuseMode, MemoryDisk};
 use cc_library::Library;
 use std::alloc::Global;
@@ -21,42 +21,41 @@ fn row_disk(alloc: Global, changes: &[(usize, u8)]) -> Result<MemoryDisk, Fail> 
             bytes[i] = *byte;
         }
     }
-    for (place, byte) in changes {
-        if *place < bytes.len() {
-            bytes[*place] = *byte;
+    for (offset, byte) in changes {
+        if *offset < bytes.len() {
+            bytes[*offset] = *byte;
         }
     }
     disk_of(alloc, &bytes)
 }
 
 #[test]
-fn records_that_are_no_accepted_commands(rt: HostRuntime) -> Result<(), Fail> {
+fn each_change_of_the_row(rt: HostRuntime) -> Result<(), Fail> {
     let alloc = rt.alloc();
-    // Withdraw of an absent name.
-    assert_eq!(rt; refusal(alloc, row_disk(alloc, &[])?), 37);
-    // A body of 58 bytes that is no command; another version, another kind, a bad name.
-    for change in [(17, 0x3a), (21, 2), (21, 0), (22, 4), (23, 0), (24, 0x41)] {
-        assert_eq!(rt; refusal(alloc, row_disk(alloc, &[change])?), 37);
+    let table: [(&[(usize, u8)], u32); 12] = [
+        // Withdraw of an absent name.
+        (&[], 37),
+        // A body of 58 bytes that is no command; another version, another kind, a bad name.
+        (&[(17, 0x3a)], 37),
+        (&[(21, 2)], 37),
+        (&[(21, 0)], 37),
+        (&[(22, 4)], 37),
+        (&[(23, 0)], 37),
+        (&[(24, 0x41)], 37),
+        // Lengths past the area.
+        (&[(17, 0x3b)], 37),
+        (&[(17, 0xff), (18, 0xff), (19, 0xff), (20, 0xff)], 37),
+        // Wrong headers.
+        (&[(1, 0x44)], 38),
+        (&[(12, 1)], 38),
+        (&[(8, 0x3f)], 38),
+    ];
+    for (i, (changes, number)) in table.iter().enumerate() {
+        assert!(rt;
+            refusal(alloc, row_disk(alloc, changes)?) == *number,
+            "row {i}"
+        );
     }
-    // Lengths past the area.
-    assert_eq!(rt; refusal(alloc, row_disk(alloc, &[(17, 0x3b)])?), 37);
-    assert_eq!(rt;
-        refusal(
-            alloc,
-            row_disk(alloc, &[(17, 0xff), (18, 0xff), (19, 0xff), (20, 0xff)])?
-        ),
-        37
-    );
-    Ok(())
-}
-
-#[test]
-fn a_wrong_header_is_no_library(rt: HostRuntime) -> Result<(), Fail> {
-    let alloc = rt.alloc();
-    for change in [(1, 0x44), (12, 1), (8, 0x3f)] {
-        assert_eq!(rt; refusal(alloc, row_disk(alloc, &[change])?), 38);
-    }
-    assert_eq!(rt; refusal(alloc, MemoryDisk::new(alloc, 15)?), 38);
     Ok(())
 }
 
@@ -65,60 +64,73 @@ fn each_closed_gate_is_an_empty_library(rt: HostRuntime) -> Result<(), Fail> {
     let alloc = rt.alloc();
     for gate in 0..=255u8 {
         if gate != 0xa5 {
-            let library = opened(alloc, row_disk(alloc, &[(16, gate)])?)?;
-            assert!(rt; library.list(alloc)?.is_empty(), "gate {gate}");
+            assert!(rt;
+                recovers(alloc, row_disk(alloc, &[(16, gate)])?, (None, None))?,
+                "gate {gate}"
+            );
         }
     }
-    Ok(())
-}
-
-#[test]
-fn a_failure_hands_the_disk_back(rt: HostRuntime) -> Result<(), Fail> {
-    let alloc = rt.alloc();
-    let fuse = FuseDisk::new(disk_of(alloc, &two_records(alloc)?)?, 0, FuseMode::Once);
-    let Err((fault, fuse)) = try_open(alloc, fuse) else {
-        panic!(rt; "opened");
-    };
-    assert_eq!(rt; fault.number(), 35);
-    let library = opened(alloc, fuse)?;
-    assert!(rt; holds(alloc, &library, (Some(1), Some(2)))?);
     Ok(())
 }
 
 // The bytes of a disk with two records.
 fn two_records(alloc: Global) -> Result<Vec<u8>, Fail> {
     let mut library: Library<MemoryDisk> = opened(alloc, formatted(alloc, 64)?)?;
-    let _ = added(alloc, &mut library, b'a', 1)?;
-    let _ = added(alloc, &mut library, b'b', 2)?;
+    if steps_done(
+        alloc,
+        &mut library,
+        &[Step::Add(b'a', 1), Step::Add(b'b', 2)],
+    )? != 2
+    {
+        return Err(Fail::from("not added"));
+    }
     bytes_of(alloc, &mut library.into_disk())
 }
 
 #[test]
-fn every_prefix_is_opened_or_refused(rt: HostRuntime) -> Result<(), Fail> {
+fn a_failure_hands_the_disk_back(rt: HostRuntime) -> Result<(), Fail> {
+    let alloc = rt.alloc();
+    let fuse = FuseDisk::new(disk_of(alloc, &two_records(alloc)?)?, 0, FuseMode::Once);
+    let Err((fault, fuse)) = Library::open(alloc, fuse) else {
+        panic!(rt; "opened");
+    };
+    assert!(rt; fault.number() == 35 && recovers(alloc, fuse, (Some(1), Some(2)))?);
+    Ok(())
+}
+
+#[test]
+fn every_prefix_is_refused(rt: HostRuntime) -> Result<(), Fail> {
     let alloc = rt.alloc();
     let bytes = two_records(alloc)?;
-    assert_eq!(rt; bytes.len(), SIZE);
+    assert!(rt; bytes.len() == SIZE && refusal(alloc, disk_of(alloc, &bytes)?) == 0);
     for length in 0..bytes.len() {
-        assert_eq!(rt; refusal(alloc, disk_of(alloc, &bytes[..length])?), 38);
+        assert!(rt;
+            refusal(alloc, disk_of(alloc, &bytes[..length])?) == 38,
+            "{length} bytes"
+        );
     }
-    assert_eq!(rt; refusal(alloc, disk_of(alloc, &bytes)?), 0);
     Ok(())
+}
+
+// The number of the fault with which the disk with one byte changed is refused, or 0.
+fn refusal_with(alloc: Global, bytes: &[u8], offset: usize, byte: u8) -> Result<u32, Fail> {
+    let mut changed = Vec::from_slice(alloc, bytes)?;
+    if offset < changed.len() {
+        changed[offset] = byte;
+    }
+    Ok(refusal(alloc, disk_of(alloc, &changed)?))
 }
 
 #[test]
 fn every_change_of_a_byte_is_opened_or_refused(rt: HostRuntime) -> Result<(), Fail> {
     let alloc = rt.alloc();
     let bytes = two_records(alloc)?;
-    for place in 0..bytes.len() {
+    for offset in 0..bytes.len() {
         for byte in 0..=255u8 {
-            let mut changed = Vec::from_slice(alloc, &bytes)?;
-            if place < changed.len() {
-                changed[place] = byte;
-            }
-            let number = refusal(alloc, disk_of(alloc, &changed)?);
+            let number = refusal_with(alloc, &bytes, offset, byte)?;
             assert!(rt;
                 number == 0 || number == 37 || number == 38,
-                "byte {place} is {byte}"
+                "byte {offset} is {byte}"
             );
         }
     }

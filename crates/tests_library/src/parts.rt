@@ -1,13 +1,7 @@
-// Names, the map, and the bytes of commands.
-use cc_library::{
-    Command, Kind, Name, ReadFault, SharedUnit, UnitMap, body_of_command, command_body,
-    read_command,
-};
-use cc_link::{Source, StoredUnit};
-use cc_rv32::image::{Code, Globals, Image};
+// Names, and the bytes of commands.
+use crate::helpers::unit;
+use cc_library::{Kind, Name, ReadFault, body_of_command, command_body, read_command};
 use std::alloc::Global;
-use std::process::Abort;
-use std::sync::Arc;
 use std::test::Fail;
 
 // The body of Add of `a` with the source `int main(void){}`, one code word 0 and no global words.
@@ -17,94 +11,65 @@ static ADD: [u8; 36] =
 // The body of Withdraw of `a`.
 static WITHDRAW: [u8; 4] = *b"\x01\x03\x01a";
 
-/// The unit of that source, with one code word 0.
-fn unit(alloc: Global) -> Result<StoredUnit, Fail> {
-    let source = Vec::from_slice(alloc, b"int main(void){}".as_slice())?;
-    let Ok(source) = Source::new(source) else {
-        return Err(Fail::from("the source fits"));
-    };
-    let Ok(code) = Code::new(vec![in alloc; 0u32; 1]?) else {
-        return Err(Fail::from("one word is code"));
-    };
-    let Ok(globals) = Globals::new(Vec::new(alloc)) else {
-        return Err(Fail::from("no words are globals"));
-    };
-    Ok(StoredUnit {
-        source,
-        image: Image { code, globals },
-        certificate: None,
-    })
+#[test]
+fn names(rt: HostRuntime) {
+    let table: [(&[u8], bool); 9] = [
+        (b"a", true),
+        (b"a_9", true),
+        (&[b'a'; 32], true),
+        (b"", false),
+        (b"A", false),
+        (b"_a", false),
+        (b"9", false),
+        (b"aB", false),
+        (&[b'a'; 33], false),
+    ];
+    for (i, (bytes, right)) in table.iter().enumerate() {
+        assert!(rt; is_name(bytes) == *right, "row {i}");
+    }
 }
 
-#[test]
-fn names(rt: HostRuntime) -> Result<(), Fail> {
-    assert_eq!(rt; Name::new(b"a".as_slice())?.bytes(), b"a".as_slice());
-    assert_eq!(rt; Name::new(b"a_9".as_slice())?.bytes(), b"a_9".as_slice());
-    assert!(rt; Name::new([b'a'; 32].as_slice()).is_ok());
-    for bad in [
-        b"".as_slice(),
-        b"A".as_slice(),
-        b"_a".as_slice(),
-        b"9".as_slice(),
-        b"aB".as_slice(),
-        [b'a'; 33].as_slice(),
-    ] {
-        match Name::new(bad) {
-            Ok(_) => assert!(rt; false, "accepted"),
-            Err(fault) => assert_eq!(rt; fault.number(), 33),
-        }
+// Whether these bytes are a name, and the name has them.
+fn is_name(bytes: &[u8]) -> bool {
+    match Name::new(bytes) {
+        Ok(name) => name.bytes() == bytes,
+        Err(_) => false,
     }
-    Ok(())
 }
 
 #[test]
 fn bodies(rt: HostRuntime) -> Result<(), Fail> {
     let name = Name::new(b"a".as_slice())?;
-    let stored = unit(rt.alloc())?;
+    let stored = unit(rt.alloc(), b"int main(void){}".as_slice(), 0)?;
     let body = command_body(rt.alloc(), Kind::Add, &name, Some(&stored))?;
-    assert_eq!(rt; body.as_slice(), ADD.as_slice());
+    assert!(rt; body.as_slice() == ADD.as_slice());
     let body = command_body(rt.alloc(), Kind::Withdraw, &name, None)?;
-    assert_eq!(rt; body.as_slice(), WITHDRAW.as_slice());
-    let command = read_command(rt.alloc(), ADD.as_slice())?;
-    let again = body_of_command(rt.alloc(), &command)?;
-    assert_eq!(rt; again.as_slice(), ADD.as_slice());
+    assert!(rt; body.as_slice() == WITHDRAW.as_slice());
+    let again = body_of_command(rt.alloc(), &read_command(rt.alloc(), ADD.as_slice())?)?;
+    assert!(rt; again.as_slice() == ADD.as_slice());
     Ok(())
 }
 
-/// These bytes are no command.
-fn is_refused(rt: &(impl AllocGlobal + Abort), bytes: &[u8]) {
-    match read_command(rt.alloc(), bytes) {
-        Err(ReadFault::NoCommand) => {}
-        _ => assert!(rt; false, "read"),
+// Whether these bytes are refused as no command.
+fn is_refused(alloc: Global, bytes: &[u8]) -> bool {
+    match read_command(alloc, bytes) {
+        Err(ReadFault::NoCommand) => true,
+        _ => false,
     }
 }
 
 #[test]
 fn bytes_that_are_no_command(rt: HostRuntime) {
-    is_refused(&rt, b"".as_slice());
-    is_refused(&rt, b"\x01\x03\x01".as_slice());
-    is_refused(&rt, b"\x02\x03\x01a".as_slice());
-    is_refused(&rt, b"\x01\x04\x01a".as_slice());
-    is_refused(&rt, b"\x01\x03\x01A".as_slice());
-    is_refused(&rt, b"\x01\x03\x01a\x00".as_slice());
-    is_refused(&rt, &ADD[..35]);
-}
-
-#[test]
-fn a_map(rt: HostRuntime) -> Result<(), Fail> {
-    let alloc = rt.alloc();
-    let shared = SharedUnit::new(Arc::new(alloc, unit(alloc)?)?);
-    let mut map = UnitMap::new(alloc);
-    let add = Command::Add(Name::new(b"a".as_slice())?, shared);
-    assert_eq!(rt; map.refusal(&add), None);
-    map.apply(&add)?;
-    assert_eq!(rt; map.refusal(&add), Some(31));
-    assert!(rt; map.get(&Name::new(b"a".as_slice())?).is_some());
-    let withdraw = Command::Withdraw(Name::new(b"b".as_slice())?);
-    assert_eq!(rt; map.refusal(&withdraw), Some(32));
-    let withdraw = Command::Withdraw(Name::new(b"a".as_slice())?);
-    assert_eq!(rt; map.refusal(&withdraw), None);
-    map.apply(&withdraw)?;
-    assert!(rt; map.get(&Name::new(b"a".as_slice())?).is_none());
-    Ok(())
+    let table: [&[u8]; 7] = [
+        b"",
+        b"\x01\x03\x01",
+        b"\x02\x03\x01a",
+        b"\x01\x04\x01a",
+        b"\x01\x03\x01A",
+        b"\x01\x03\x01a\x00",
+        &ADD[..35],
+    ];
+    for (i, bytes) in table.iter().enumerate() {
+        assert!(rt; is_refused(rt.alloc(), bytes), "row {i}");
+    }
 }

@@ -1,17 +1,24 @@
-// Every point of failure of add, add, replace, withdraw, in each mode, and a crash behind it; and the same through `run`.
+// Every point of failure of add, add, replace, withdraw, in each mode, and a crash after it; and the same through `run`.
 use crate::helpers::{
-    add, changes_done, crash_leaves, formatted, holds, opened, ran, replace, try_open, withdraw,
+    Held, Step, commands, crash_leaves, formatted, holds, opened, recovers, steps_done,
 };
 use cc_disk::{FuseDisk, FuseMode, MemoryDisk};
-use cc_library::Command;
+use cc_library::Library;
 use std::alloc::Global;
 use std::test::Fail;
 
 // Three calls of opening an empty library, four of each change.
 const CALLS: u64 = 19;
 
-// What `a` and `b` stand for after so many of the changes.
-fn map_after(done: usize) -> (Option<u32>, Option<u32>) {
+const STEPS: [Step; 4] = [
+    Step::Add(b'a', 1),
+    Step::Add(b'b', 2),
+    Step::Replace(b'a', 3),
+    Step::Withdraw(b'b'),
+];
+
+// What `a` and `b` stand for after so many of the steps.
+fn map_after(done: usize) -> Held {
     match done {
         0 => (None, None),
         1 => (Some(1), None),
@@ -21,17 +28,24 @@ fn map_after(done: usize) -> (Option<u32>, Option<u32>) {
     }
 }
 
-// Does the changes until one is refused: the disk, and how many were done.
-fn changed(alloc: Global, disk: FuseDisk<MemoryDisk>) -> Result<(MemoryDisk, usize), Fail> {
-    let mut library = match try_open(alloc, disk) {
-        Ok(library) => library,
-        Err((_, disk)) => return Ok((disk.into_disk(), 0)),
-    };
-    let done = changes_done(alloc, &mut library)?;
-    Ok((library.into_disk().into_disk(), done))
+// A new library's disk whose calls meet a fuse.
+fn fused(alloc: Global, passes: u64, mode: FuseMode) -> Result<FuseDisk<MemoryDisk>, Fail> {
+    Ok(FuseDisk::new(formatted(alloc, 128)?, passes, mode))
 }
 
-// Whether each crash leaves the map after what was done, or with one change more.
+// Does the steps until one is refused: the disk, and how many were done.
+fn changed(alloc: Global, disk: FuseDisk<MemoryDisk>) -> Result<(MemoryDisk, usize), Fail> {
+    match Library::open(alloc, disk) {
+        Ok(opened) => {
+            let mut library = opened;
+            let done = steps_done(alloc, &mut library, &STEPS)?;
+            Ok((library.into_disk().into_disk(), done))
+        }
+        Err((_, disk)) => Ok((disk.into_disk(), 0)),
+    }
+}
+
+// Whether each crash leaves the map after what was done, or with one step more.
 fn is_right(alloc: Global, disk: &MemoryDisk, done: usize) -> Result<bool, Fail> {
     for byte in [0x00u8, 0xa5, 0xff] {
         let old = crash_leaves(alloc, disk, byte, map_after(done))?;
@@ -48,62 +62,65 @@ fn every_failure_and_a_crash(rt: HostRuntime) -> Result<(), Fail> {
     let alloc = rt.alloc();
     for passes in 0..CALLS + 1 {
         for mode in [FuseMode::Once, FuseMode::Before, FuseMode::Within] {
-            let fuse = FuseDisk::new(formatted(alloc, 128)?, passes, mode);
-            let (disk, done) = changed(alloc, fuse)?;
-            assert!(rt; done == 4 || passes < CALLS, "{passes} calls, {mode:?}");
-            assert!(rt; is_right(alloc, &disk, done)?, "{passes} calls, {mode:?}");
+            let (disk, done) = changed(alloc, fused(alloc, passes, mode)?)?;
+            let right = (done == 4 || passes < CALLS) && is_right(alloc, &disk, done)?;
+            assert!(rt; right, "{passes} calls, {mode:?}");
         }
     }
     Ok(())
 }
 
-fn four_edits(alloc: Global) -> Result<Vec<Command>, Fail> {
-    let mut edits = Vec::new(alloc);
-    edits.push(add(alloc, b'a', 1)?)?;
-    edits.push(add(alloc, b'b', 2)?)?;
-    edits.push(replace(alloc, b'a', 3)?)?;
-    edits.push(withdraw(b'b')?)?;
-    Ok(edits)
+// Whether a run over a fuse that is met once goes on to its end, with one 35 where it was met.
+fn goes_on(alloc: Global, passes: u64) -> Result<bool, Fail> {
+    let library = opened(alloc, fused(alloc, passes, FuseMode::Once)?)?;
+    let (library, numbers) = library.run(alloc, commands(alloc, &STEPS)?);
+    let failed = numbers.iter().filter(|number| **number == 35).count();
+    match library {
+        Ok(library) => {
+            let names = library.list(alloc)?.len();
+            let again = opened(alloc, library.into_disk().into_disk())?;
+            Ok(
+                numbers.len() == 4
+                    && failed == usize::from(passes < CALLS)
+                    && again.list(alloc)?.len() == names,
+            )
+        }
+        Err(_) => Ok(false),
+    }
 }
 
 #[test]
 fn a_run_goes_on_after_one_failure(rt: HostRuntime) -> Result<(), Fail> {
-    let alloc = rt.alloc();
     for passes in 3..CALLS + 1 {
-        let fuse = FuseDisk::new(formatted(alloc, 128)?, passes, FuseMode::Once);
-        let (library, numbers) = ran(alloc, opened(alloc, fuse)?, four_edits(alloc)?);
-        let Ok(library) = library else {
-            panic!(rt; "the run stopped at {passes} calls");
-        };
-        assert_eq!(rt; numbers.len(), 4);
-        let failed = numbers.iter().filter(|number| **number == 35).count();
-        assert_eq!(rt; failed, usize::from(passes < CALLS), "{passes} calls");
-        let wanted = library.list(alloc)?;
-        let disk = library.into_disk().into_disk();
-        let again = opened(alloc, disk)?;
-        assert_eq!(rt; again.list(alloc)?.len(), wanted.len());
+        assert!(rt; goes_on(rt.alloc(), passes)?, "{passes} calls");
     }
     Ok(())
 }
 
+// Whether a run over a fuse that fails for good stops with 35 at the step that met it.
+fn stops(alloc: Global, passes: u64) -> Result<bool, Fail> {
+    let library = opened(alloc, fused(alloc, passes, FuseMode::Before)?)?;
+    let (stopped, numbers) = library.run(alloc, commands(alloc, &STEPS)?);
+    let done = numbers.len().saturating_sub(1);
+    match stopped {
+        Ok(_) => Ok(false),
+        Err((fault, disk)) => {
+            let library = opened(alloc, disk.into_disk())?;
+            Ok(
+                fault.number() == 35
+                    && numbers.last().copied() == Some(35)
+                    && done as u64 == (passes - 3) / 4
+                    && (holds(alloc, &library, map_after(done))?
+                        || holds(alloc, &library, map_after(done.saturating_add(1)))?),
+            )
+        }
+    }
+}
+
 #[test]
 fn a_run_stops_where_its_disk_is_not_opened_again(rt: HostRuntime) -> Result<(), Fail> {
-    let alloc = rt.alloc();
     for passes in 3..CALLS {
-        let fuse = FuseDisk::new(formatted(alloc, 128)?, passes, FuseMode::Before);
-        let (stopped, numbers) = ran(alloc, opened(alloc, fuse)?, four_edits(alloc)?);
-        let Err((fault, disk)) = stopped else {
-            panic!(rt; "the run went on at {passes} calls");
-        };
-        assert_eq!(rt; fault.number(), 35);
-        assert_eq!(rt; numbers.last().copied(), Some(35));
-        let done = numbers.len().saturating_sub(1);
-        assert_eq!(rt; done as u64, (passes - 3) / 4);
-        let library = opened(alloc, disk.into_disk())?;
-        assert!(rt;
-            holds(alloc, &library, map_after(done))?
-                || holds(alloc, &library, map_after(done.saturating_add(1)))?
-        );
+        assert!(rt; stops(rt.alloc(), passes)?, "{passes} calls");
     }
     Ok(())
 }

@@ -23,17 +23,17 @@ impl FirstBytes {
     }
 }
 
-// The bytes from that place on, 0 where none is kept.
-fn recall(kept: &[u8], place: usize, buffer: &mut [u8]) {
+// The bytes from that offset on, 0 where none is kept.
+fn recall(kept: &[u8], offset: usize, buffer: &mut [u8]) {
     for (i, byte) in buffer.iter_mut().enumerate() {
-        *byte = kept.get(place.saturating_add(i)).copied().unwrap_or(0);
+        *byte = kept.get(offset.saturating_add(i)).copied().unwrap_or(0);
     }
 }
 
 // Keeps what lies within.
-fn keep(kept: &mut [u8], place: usize, bytes: &[u8]) {
+fn keep(kept: &mut [u8], offset: usize, bytes: &[u8]) {
     for (i, byte) in bytes.iter().enumerate() {
-        let at = place.saturating_add(i);
+        let at = offset.saturating_add(i);
         if at < kept.len() {
             kept[at] = *byte;
         }
@@ -59,13 +59,13 @@ impl Disk for FirstBytes {
         self.size
     }
 
-    fn read_at(&mut self, place: usize, buffer: &mut [u8]) -> Result<(), DiskFault> {
-        recall(&self.kept, place, buffer);
+    fn read_at(&mut self, offset: usize, buffer: &mut [u8]) -> Result<(), DiskFault> {
+        recall(&self.kept, offset, buffer);
         Ok(())
     }
 
-    fn write_at(&mut self, place: usize, bytes: &[u8]) -> Result<(), DiskFault> {
-        keep(&mut self.kept, place, bytes);
+    fn write_at(&mut self, offset: usize, bytes: &[u8]) -> Result<(), DiskFault> {
+        keep(&mut self.kept, offset, bytes);
         Ok(())
     }
 

@@ -50,21 +50,26 @@ pub fn row_disk(alloc: Global, changes: &[(usize, u8)]) -> Result<MemoryDisk, Fa
             bytes[i] = *byte;
         }
     }
-    for (place, byte) in changes {
-        if *place < bytes.len() {
-            bytes[*place] = *byte;
+    for (offset, byte) in changes {
+        if *offset < bytes.len() {
+            bytes[*offset] = *byte;
         }
     }
     disk_of(alloc, &bytes)
 }
 
-/// The bytes from one place to another, or none.
+/// The bytes from one offset to another, or none.
 pub fn part(bytes: &[u8], from: usize, to: usize) -> &[u8] {
     if from <= to && to <= bytes.len() {
         &bytes[from..to]
     } else {
         &[]
     }
+}
+
+/// Whether these are all the bytes of the disk.
+pub fn has_bytes<D: Disk>(alloc: Global, disk: &mut D, wanted: &[u8]) -> Result<bool, Fail> {
+    Ok(bytes_of(alloc, disk)?.as_slice() == wanted)
 }
 
 /// Whether these are those bodies, in order.
@@ -80,8 +85,24 @@ pub fn are_bodies(records: &[Body], wanted: &[&[u8]]) -> bool {
     true
 }
 
+/// The journal on a disk.
+pub fn opened<D: Disk + Drop>(alloc: Global, disk: D) -> Result<Journal<D>, Fail> {
+    match Journal::open(alloc, disk) {
+        Ok(journal) => Ok(journal),
+        Err(_) => Err(Fail::from("not opened")),
+    }
+}
+
+/// Whether the disk is opened and has records with these bodies, in order.
+pub fn holds<D: Disk + Drop>(alloc: Global, disk: D, wanted: &[&[u8]]) -> bool {
+    match Journal::open(alloc, disk) {
+        Ok(journal) => are_bodies(journal.records(), wanted),
+        Err(_) => false,
+    }
+}
+
 /// The number of the fault with which the disk is refused, or 0.
-pub fn refusal<D: Disk + Drop>(alloc: Global, disk: D) -> u8 {
+pub fn refusal<D: Disk + Drop>(alloc: Global, disk: D) -> u32 {
     match Journal::open(alloc, disk) {
         Ok(_) => 0,
         Err((fault, _)) => fault.number(),

@@ -1,72 +1,37 @@
 // Disks that nobody formatted so.
-use crate::helpers::{
-    ROW, SIZE, are_bodies, bytes_of, disk_of, formatted, part, refusal, row_disk,
-};
-use cc_disk::{Disk, FuseDisk, FuseMode, MemoryDisk};
+use crate::helpers::{bytes_of, holds, opened, part, refusal, row_disk};
+use cc_disk::{FuseDisk, FuseMode};
 use cc_journal::Journal;
+use std::alloc::Global;
 use std::test::Fail;
 
 #[test]
-fn a_wrong_header_is_no_library(rt: HostRuntime) -> Result<(), Fail> {
+fn each_change_of_the_row(rt: HostRuntime) -> Result<(), Fail> {
     let alloc = rt.alloc();
-    assert_eq!(rt; refusal(alloc, row_disk(alloc, &[])?), 0);
-    // The name, the reserved bytes, an area below 64, an area that does not fit.
-    for change in [
-        (1, 0x44),
-        (7, 0x30),
-        (12, 1),
-        (15, 1),
-        (8, 0x3f),
-        (8, 0x41),
-        (10, 1),
-        (11, 0x80),
-    ] {
-        assert_eq!(rt;
-            refusal(alloc, row_disk(alloc, &[change])?),
-            38,
-            "byte {} is {}",
-            change.0,
-            change.1
+    let table: [(&[(usize, u8)], u32); 13] = [
+        (&[], 0),
+        // The name, the reserved bytes, an area below 64, an area that does not fit.
+        (&[(1, 0x44)], 38),
+        (&[(7, 0x30)], 38),
+        (&[(12, 1)], 38),
+        (&[(15, 1)], 38),
+        (&[(8, 0x3f)], 38),
+        (&[(8, 0x41)], 38),
+        (&[(10, 1)], 38),
+        (&[(11, 0x80)], 38),
+        // A body of 58 bytes fits, and one of 59 does not.
+        (&[(17, 0x3a)], 0),
+        (&[(17, 0x3b)], 37),
+        (&[(17, 0xff), (18, 0xff), (19, 0xff), (20, 0xff)], 37),
+        // An open gate with too few bytes after it for a length.
+        (&[(17, 0x36), (75, 0xa5)], 37),
+    ];
+    for (i, (changes, number)) in table.iter().enumerate() {
+        assert!(rt;
+            refusal(alloc, row_disk(alloc, changes)?) == *number,
+            "row {i}"
         );
     }
-    for size in [0, 15, 16, 143] {
-        assert_eq!(rt;
-            refusal(alloc, MemoryDisk::new(alloc, size)?),
-            38,
-            "{size} bytes"
-        );
-    }
-    // A right header on a disk that is one byte too short.
-    let mut bytes = row_disk(alloc, &[])?;
-    let all = bytes_of(alloc, &mut bytes)?;
-    assert_eq!(rt; all.len(), SIZE);
-    assert_eq!(rt; refusal(alloc, disk_of(alloc, part(&all, 0, 143))?), 38);
-    Ok(())
-}
-
-#[test]
-fn a_length_past_the_area_is_damage(rt: HostRuntime) -> Result<(), Fail> {
-    let alloc = rt.alloc();
-    assert_eq!(rt; refusal(alloc, row_disk(alloc, &[(17, 0x3b)])?), 37);
-    assert_eq!(rt;
-        refusal(
-            alloc,
-            row_disk(alloc, &[(17, 0xff), (18, 0xff), (19, 0xff), (20, 0xff)])?
-        ),
-        37
-    );
-    // One byte less fits: a body of 58 bytes.
-    let Ok(journal) = Journal::open(alloc, row_disk(alloc, &[(17, 0x3a)])?) else {
-        panic!(rt; "not opened");
-    };
-    let records = journal.records();
-    assert_eq!(rt; records.len(), 1);
-    assert!(rt; records.iter().all(|record| record.as_slice().len() == 58));
-    // An open gate with too few bytes behind it for a length.
-    assert_eq!(rt;
-        refusal(alloc, row_disk(alloc, &[(17, 0x36), (75, 0xa5)])?),
-        37
-    );
     Ok(())
 }
 
@@ -74,43 +39,37 @@ fn a_length_past_the_area_is_damage(rt: HostRuntime) -> Result<(), Fail> {
 fn each_value_of_the_first_gate(rt: HostRuntime) -> Result<(), Fail> {
     let alloc = rt.alloc();
     for gate in 0..=255u8 {
-        let Ok(journal) = Journal::open(alloc, row_disk(alloc, &[(16, gate)])?) else {
-            panic!(rt; "not opened at {gate}");
+        let disk = row_disk(alloc, &[(16, gate)])?;
+        let right = if gate == 0xa5 {
+            holds(alloc, disk, &[&[1, 3, 1, 0x61]])
+        } else {
+            holds(alloc, disk, &[])
         };
-        assert_eq!(rt;
-            journal.records().len(),
-            usize::from(gate == 0xa5),
-            "gate {gate}"
-        );
+        assert!(rt; right, "gate {gate}");
     }
     Ok(())
+}
+
+// The bytes of the row's disk with that area byte, once a record with the body 77 was added.
+fn added_to(alloc: Global, area_byte: u8) -> Result<Vec<u8>, Fail> {
+    let mut journal = opened(alloc, row_disk(alloc, &[(0, area_byte)])?)?;
+    journal.append(alloc, &[0x77])?;
+    bytes_of(alloc, &mut journal.into_disk())
 }
 
 #[test]
 fn each_value_of_the_area_byte(rt: HostRuntime) -> Result<(), Fail> {
     let alloc = rt.alloc();
     for area_byte in 0..=255u8 {
-        let Ok(mut journal) = Journal::open(alloc, row_disk(alloc, &[(0, area_byte)])?) else {
-            panic!(rt; "not opened at {area_byte}");
-        };
-        let even = area_byte % 2 == 0;
-        assert_eq!(rt;
-            journal.records().len(),
-            usize::from(even),
+        let bytes = added_to(alloc, area_byte)?;
+        // The record goes after the first record of area A, or to the start of area B.
+        let start = if area_byte % 2 == 0 { 25 } else { 80 };
+        let record = part(&bytes, start, start + 6);
+        assert!(rt;
+            record == [0xa5, 1, 0, 0, 0, 0x77].as_slice()
+                && part(&bytes, 0, 1) == [area_byte].as_slice(),
             "area byte {area_byte}"
         );
-        // The next record goes to the same area: behind the first record of area A, or to the start of area B.
-        journal.append(alloc, &[0x77])?;
-        let mut disk = journal.into_disk();
-        let bytes = bytes_of(alloc, &mut disk)?;
-        assert_eq!(rt; bytes.len(), SIZE);
-        let start = if even { 25 } else { 80 };
-        assert_eq!(rt;
-            part(&bytes, start, start + 6),
-            [0xa5, 1, 0, 0, 0, 0x77].as_slice(),
-            "area byte {area_byte}"
-        );
-        assert_eq!(rt; bytes.first(), Some(&area_byte));
     }
     Ok(())
 }
@@ -122,42 +81,6 @@ fn a_failure_hands_the_disk_back(rt: HostRuntime) -> Result<(), Fail> {
     let Err((fault, fuse)) = Journal::open(alloc, fuse) else {
         panic!(rt; "opened");
     };
-    assert_eq!(rt; fault.number(), 35);
-    let Ok(journal) = Journal::open(alloc, fuse) else {
-        panic!(rt; "not opened again");
-    };
-    assert!(rt; are_bodies(journal.records(), &[&[1, 3, 1, 0x61]]));
-    Ok(())
-}
-
-#[test]
-fn open_settles_what_it_reads(rt: HostRuntime) -> Result<(), Fail> {
-    let alloc = rt.alloc();
-    let mut disk = row_disk(alloc, &[])?;
-    let bytes = bytes_of(alloc, &mut disk)?;
-    assert_eq!(rt; bytes.len(), SIZE);
-    assert_eq!(rt; disk.size(), SIZE);
-    // All bytes once more as they are, without a sync.
-    disk.write_at(0, &bytes)?;
-    let Ok(journal) = Journal::open(alloc, disk) else {
-        panic!(rt; "not opened");
-    };
-    assert!(rt; are_bodies(journal.records(), &[&[1, 3, 1, 0x61]]));
-    let after = journal.into_disk().crash(alloc, &[])?;
-    let Ok(journal) = Journal::open(alloc, after) else {
-        panic!(rt; "not opened again");
-    };
-    assert!(rt; are_bodies(journal.records(), &[&[1, 3, 1, 0x61]]));
-    Ok(())
-}
-
-#[test]
-fn a_row_is_what_a_fresh_disk_becomes(rt: HostRuntime) -> Result<(), Fail> {
-    let alloc = rt.alloc();
-    let mut fresh = formatted(alloc)?;
-    let bytes = bytes_of(alloc, &mut fresh)?;
-    assert_eq!(rt; bytes.len(), SIZE);
-    assert_eq!(rt; part(&bytes, 0, 16), part(&ROW, 0, 16));
-    assert_eq!(rt; part(&bytes, 16, 17), [0].as_slice());
+    assert!(rt; fault.number() == 35 && holds(alloc, fuse, &[&[1, 3, 1, 0x61]]));
     Ok(())
 }

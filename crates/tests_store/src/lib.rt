@@ -1,7 +1,8 @@
 //! Tests of the disk and the journal, from outside: worked rows, every point of failure, and disks that lie.
 //!
-//! `helpers` makes disks and reads them back, `disks` tests `cc_disk`, `rows` has the worked rows of the journal, `sweep`
-//! fails the device at each call in turn, `hostile` opens disks that nobody formatted so.
+//! `helpers` makes disks and reads them back, `first_bytes` is a disk of any size that is not honest, `disks` tests
+//! `cc_disk`, `rows` has the worked rows of the journal, `sweep` fails the device at each call in turn, `hostile` opens
+//! disks that nobody formatted so.
 #![tactic(auto)]
 
 #[cfg(test)]

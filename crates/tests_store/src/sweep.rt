@@ -1,9 +1,12 @@
-// Every point of failure of format, open and two appends, in each mode, and a crash behind it.
+// Every point of failure of format, open and two appends, in each mode, and a crash after it.
 use crate::helpers::{AREA, SIZE, are_bodies};
 use cc_disk::{FuseDisk, FuseMode, MemoryDisk};
 use cc_journal::{Journal, format};
 use std::alloc::Global;
 use std::test::Fail;
+
+// Two calls of `format`, three of `open`, four of each `append`.
+const CALLS: u64 = 13;
 
 const FIRST: [u8; 3] = [1, 2, 3];
 
@@ -57,52 +60,26 @@ fn is_right(alloc: Global, disk: MemoryDisk, reached: Reached) -> bool {
     }
 }
 
-#[test]
-fn every_failure_and_a_crash(rt: HostRuntime) -> Result<(), Fail> {
-    let alloc = rt.alloc();
-    // Two calls of `format`, three of `open`, four of each `append`.
-    for passes in 0..16u64 {
-        for mode in [FuseMode::Once, FuseMode::Before, FuseMode::Within] {
-            let (disk, reached) = run(alloc, passes, mode)?;
-            if passes >= 13 {
-                assert_eq!(rt; reached.kept, 2);
-            }
-            for byte in [0x00u8, 0xa5, 0xff] {
-                let after = disk.crash(alloc, &[byte; 144])?;
-                assert!(rt;
-                    is_right(alloc, after, reached),
-                    "{passes} calls, {mode:?}, {byte}"
-                );
-            }
-            assert!(rt; is_right(alloc, disk, reached), "{passes} calls, {mode:?}");
+// Whether the disk is right where so many calls pass before the fuse, and each crash leaves it so.
+fn survives(alloc: Global, passes: u64, mode: FuseMode) -> Result<bool, Fail> {
+    let (disk, reached) = run(alloc, passes, mode)?;
+    for byte in [0x00u8, 0xa5, 0xff] {
+        if !is_right(alloc, disk.crash(alloc, &[byte; 144])?, reached) {
+            return Ok(false);
         }
     }
-    Ok(())
+    Ok((passes < CALLS || reached.kept == 2) && is_right(alloc, disk, reached))
 }
 
 #[test]
-fn after_a_failure_the_journal_is_closed(rt: HostRuntime) -> Result<(), Fail> {
-    let alloc = rt.alloc();
-    let mut disk = MemoryDisk::new(alloc, SIZE)?;
-    format(&mut disk, AREA)?;
-    // Three calls of `open`, and two of the first `append`.
-    let fuse = FuseDisk::new(disk, 5, FuseMode::Once);
-    let Ok(mut journal) = Journal::open(alloc, fuse) else {
-        panic!(rt; "not opened");
-    };
-    let first = journal
-        .append(alloc, &FIRST)
-        .map_err(|fault| fault.number());
-    assert_eq!(rt; first, Err(35));
-    let second = journal
-        .append(alloc, &SECOND)
-        .map_err(|fault| fault.number());
-    assert_eq!(rt; second, Err(36));
-    assert!(rt; journal.records().is_empty());
-    // The disk has the old records or the old and the new one; its gate was not opened.
-    let Ok(journal) = Journal::open(alloc, journal.into_disk()) else {
-        panic!(rt; "not opened again");
-    };
-    assert!(rt; journal.records().is_empty());
+fn every_failure_and_a_crash(rt: HostRuntime) -> Result<(), Fail> {
+    for passes in 0..16u64 {
+        for mode in [FuseMode::Once, FuseMode::Before, FuseMode::Within] {
+            assert!(rt;
+                survives(rt.alloc(), passes, mode)?,
+                "{passes} calls, {mode:?}"
+            );
+        }
+    }
     Ok(())
 }

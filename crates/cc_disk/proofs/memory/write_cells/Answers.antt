@@ -6,5 +6,5 @@ use Rattle.cc_disk.proofs.memory.write_cells.Goals as goal
 
 pub loop-i-preserved : goal.loop-i-preserved
 loop-i-preserved c =
-    ap (λ (l : List Cell). set l (c.args.place + c.loop-i.i) (unsettled (get_or c.args.bytes.now c.loop-i.i 0))) c.loop-i.invariant
-    ∙ write_more c.args.cells.now c.args.place c.args.bytes.now c.loop-i.i c.requires (omega arith)
+    ap (λ (l : List Cell). set l (c.args.offset + c.loop-i.i) (unsettled (get_or c.args.bytes.now c.loop-i.i 0))) c.loop-i.invariant
+    ∙ write_more c.args.cells.now c.args.offset c.args.bytes.now c.loop-i.i c.requires (omega arith)

@@ -5,8 +5,8 @@ use Rattle.cc_journal.proofs.Bytes.{empty_holds}
 use Rattle.cc_journal.proofs.Records.{holds_alone}
 use Rattle.cc_journal.proofs.formatting.format.Goals as goal
 
-pub returns-clause-empty : goal.returns-clause-empty
-returns-clause-empty g c = λ h image now.
+pub returns-clause-kept : goal.returns-clause-kept
+returns-clause-kept g c = λ h image now.
     let D = g.D.Disk in
     let area = c.args.area in
     let rest = drop 17 (D.seen c.args.disk.now) in

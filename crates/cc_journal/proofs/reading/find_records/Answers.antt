@@ -1,8 +1,9 @@
 use Rattle.std.proofs.Common.{◌+◌, ◌≤◌, List, ℕ, IsNone, Err, if◌then◌else◌, drop, sym, ◌∙◌, ap, subst, arith, rules}
 use Rattle.std.proofs.lemmas.Result.{err_from_is_err_and}
 use Rattle.cc_journal.specs.Format.{IsArea, HasHeader, room_of}
-use Rattle.cc_journal.specs.Reading.{BeginsWith, EndsClosed, HoldsFrom}
-use Rattle.cc_journal.specs.Answers.{is_fault_of_disk}
+use Rattle.cc_journal.specs.Journal.{HoldsFrom}
+use Rattle.cc_journal.specs.internal.Reading.{BeginsWith, EndsClosed}
+use Rattle.cc_journal.specs.internal.Reading.{is_fault_of_disk}
 use Rattle.cc_journal.proofs.Scan.{holds_from, ends_of, header_of, reading_faults}
 use Rattle.cc_journal.proofs.reading.find_records.Goals as goal
 

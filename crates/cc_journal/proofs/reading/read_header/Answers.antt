@@ -1,7 +1,7 @@
 use Rattle.std.proofs.Common.{◌≡◌, ℕ, ◌+◌, ◌≤◌, List, IsTrue, IfSome, take, sym, ◌∙◌, ap, subst}
 use Rattle.std.proofs.lemmas.List.{take_at}
 use Rattle.cc_journal.specs.Format.{header, IsArea}
-use Rattle.cc_journal.specs.Reading.{BeginsWith}
+use Rattle.cc_journal.specs.internal.Reading.{BeginsWith}
 use Rattle.cc_journal.proofs.Bytes.{begins_whole, each_found}
 use Rattle.cc_journal.proofs.Records.{length-header}
 use Rattle.cc_journal.proofs.reading.read_header.Goals as goal

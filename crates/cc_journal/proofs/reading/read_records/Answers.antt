@@ -3,7 +3,7 @@ use Rattle.std.proofs.lemmas.Result.{err_from_is_err_and}
 use Rattle.std.proofs.lemmas.Grind.{common_steps}
 use Rattle.cc_journal.specs.Format.{records, record_bytes}
 use Rattle.cc_journal.specs.declared.fault.JournalFault.TheVariants.{Damaged}
-use Rattle.cc_journal.specs.Reading.{FindsRecord}
+use Rattle.cc_journal.specs.internal.Reading.{FindsRecord}
 use Rattle.cc_journal.proofs.Records.{length-records_push}
 use Rattle.cc_journal.proofs.Scan.{record_on, none_ends, reads_on}
 use Rattle.cc_journal.proofs.reading.read_records.Goals as goal
@@ -26,10 +26,10 @@ loop-bodies-preserved g c =
       reads = λ h. reads_on D.seen D.may_leave D.moment D.left_since c.args.disk.now c.loop-bodies.disk c.read_record.new.disk (so_far.reads h) (c.read_record.ensures.reads h);
       front = λ h.
           let S = D.seen c.args.disk.now in
-          let place = c.args.start + c.loop-bodies.used in
-          let found : (rest : List ℕ) × (drop place (D.seen c.loop-bodies.disk) ≡ record_bytes body ++ rest) =
-          subst (λ (o : Option (List ℕ)). FindsRecord (drop place (D.seen c.loop-bodies.disk)) (c.args.area - c.loop-bodies.used) (Ok o)) c.in-Some.is (c.in_ok-body.ensures.finds h) in
-          let at : drop place S ≡ record_bytes body ++ found.0 = ap (λ (l : List ℕ). drop place l) (sym (so_far.reads h).same) ∙ found.1 in
+          let offset = c.args.start + c.loop-bodies.used in
+          let found : (rest : List ℕ) × (drop offset (D.seen c.loop-bodies.disk) ≡ record_bytes body ++ rest) =
+          subst (λ (o : Option (List ℕ)). FindsRecord (drop offset (D.seen c.loop-bodies.disk)) (c.args.area - c.loop-bodies.used) (Ok o)) c.in-Some.is (c.in_ok-body.ensures.finds h) in
+          let at : drop offset S ≡ record_bytes body ++ found.0 = ap (λ (l : List ℕ). drop offset l) (sym (so_far.reads h).same) ∙ found.1 in
           record_on S c.args.start c.loop-bodies.used c.loop-bodies.bodies.items body found.0 (so_far.front h) at
           ∙ (λ i. records (back i) ++ drop (c.args.start + (c.loop-bodies.used + (size i + 5))) S);
     }
@@ -38,12 +38,12 @@ pub returns-in_err-body-clause-damaged : goal.returns-in_err-body-clause-damaged
 returns-in_err-body-clause-damaged g c = λ e h bodies ends room.
     let D = g.D.Disk in
     let S = D.seen c.args.disk.now in
-    let place = c.args.start + c.loop-bodies.used in
+    let offset = c.args.start + c.loop-bodies.used in
     let left = c.args.area - c.loop-bodies.used in
     let so_far = c.loop-bodies.invariant in
     let p = err_from_is_err_and c.from_residual.result c.from_residual.ensures.1 in
     let fault : c.in_err-body.field-0.0 ≡ Damaged = cc in
-    let found = subst (λ k. FindsRecord (drop place (D.seen c.loop-bodies.disk)) left (Err k)) fault (c.in_err-body.ensures.finds h) in
-    let same : drop place (D.seen c.loop-bodies.disk) ≡ drop place S = ap (λ (l : List ℕ). drop place l) (so_far.reads h).same in
+    let found = subst (λ k. FindsRecord (drop offset (D.seen c.loop-bodies.disk)) left (Err k)) fault (c.in_err-body.ensures.finds h) in
+    let same : drop offset (D.seen c.loop-bodies.disk) ≡ drop offset S = ap (λ (l : List ℕ). drop offset l) (so_far.reads h).same in
     none_ends S c.args.start c.loop-bodies.used c.args.area c.loop-bodies.bodies.items bodies c.requires.is_area.most so_far.taken so_far.fits (so_far.front h)
     found.0.0 (sym same ∙ found.0.1) (λ body rest is. found.1 body rest (same ∙ is)) ends room

@@ -13,8 +13,8 @@ is_found : (bytes : List ℕ) (r : Result Command ReadFault) → ((i : ℕ) → 
 is_found bytes (Ok command) below given = command_takes bytes command (from_index 256 bytes below) given
 is_found bytes (Err e) below given = tt
 
-pub returns-clause-found : goal.returns-clause-found
-returns-clause-found c = is_found c.args.bytes.now c.command_at.result (λ i. omega (arith, c.type_inv.bytes i)) c.command_at.ensures
+pub returns-clause-answer : goal.returns-clause-answer
+returns-clause-answer c = is_found c.args.bytes.now c.command_at.result (λ i. omega (arith, c.type_inv.bytes i)) c.command_at.ensures
 
 pub returns-clause-only : goal.returns-clause-only
 returns-clause-only c = λ command spells. subst (Gives (λ x. x) c.command_at.result) (spelled_is_read c.args.bytes.now command spells) c.command_at.ensures

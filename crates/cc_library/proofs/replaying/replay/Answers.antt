@@ -32,8 +32,8 @@ loop-body-preserved c =
           (subst (λ (bs : List (List ℕ)). LeadTo c.loop-body.units bs made) parts (c.loop-body.invariant.back made l));
     }
 
-pub returns-in_err-units-clause-faults : goal.returns-in_err-units-clause-faults
-returns-in_err-units-clause-faults c =
+pub returns-in_err-units-clause-refused : goal.returns-in_err-units-clause-refused
+returns-in_err-units-clause-refused c =
     let bodies : List (List ℕ) = c.args.bodies.now in
     let i = c.loop-body.body-index in
     let within : i < length bodies = omega arith in
@@ -42,8 +42,8 @@ returns-in_err-units-clause-faults c =
     rw (p.1, p.2) (fails_here bodies c.loop-body.units c.body-item.result (drop (i + 1) bodies) c.in_err-units.field-0.0 c.in_err-units.ensures
     (λ made l. subst (λ (bs : List (List ℕ)). LeadTo c.loop-body.units bs made) parts (c.loop-body.invariant.back made l)))
 
-pub returns-clause-found : goal.returns-clause-found
-returns-clause-found c =
+pub returns-clause-answer : goal.returns-clause-answer
+returns-clause-answer c =
     let bodies : List (List ℕ) = c.args.bodies.now in
     let nothing : drop c.loop-body.body-index bodies ≡ [] = drop_all c.loop-body.body-index bodies (omega arith) in
     c.loop-body.invariant.onward c.loop-body.units (subst (λ (bs : List (List ℕ)). LeadTo c.loop-body.units bs c.loop-body.units) (sym nothing) (none_left c.loop-body.units))

@@ -12,18 +12,18 @@ pub returns-clause-written : goal.returns-clause-written
 returns-clause-written c =
     let old = c.self.inside.cells.items in
     let new : List Cell = take c.self.inside.cells.len (c.write_cells.new.cells ++ drop (length c.write_cells.new.cells) old) in
-    let is : new ≡ written old c.args.place c.args.bytes.now = grind (arith, common_steps) in
-    subst (λ (v : DiskState). IsWritten (bytes_of v.cells) c.args.place c.args.bytes.now (bytes_of new)) c.self.view_is
-    (subst (λ (l : List Cell). IsWritten (bytes_of old) c.args.place c.args.bytes.now (bytes_of l)) (sym is) (bytes_of-written old c.args.place c.args.bytes.now))
+    let is : new ≡ written old c.args.offset c.args.bytes.now = grind (arith, common_steps) in
+    subst (λ (v : DiskState). IsWritten (bytes_of v.cells) c.args.offset c.args.bytes.now (bytes_of new)) c.self.view_is
+    (subst (λ (l : List Cell). IsWritten (bytes_of old) c.args.offset c.args.bytes.now (bytes_of l)) (sym is) (bytes_of-written old c.args.offset c.args.bytes.now))
 
 pub returns-clause-images : goal.returns-clause-images
 returns-clause-images c =
     let old = c.self.inside.cells.items in
     let new : List Cell = take c.self.inside.cells.len (c.write_cells.new.cells ++ drop (length c.write_cells.new.cells) old) in
-    let is : new ≡ written old c.args.place c.args.bytes.now = grind (arith, common_steps) in
-    let fits = subst (λ (v : DiskState). c.args.place + length c.args.bytes.now ≤ length v.cells) (sym c.self.view_is) c.requires in
-    subst (λ (v : DiskState). UnsettlesWithin c.args.place (length c.args.bytes.now) (IsImage v.cells) (IsImage new)) c.self.view_is
-    (subst (λ (l : List Cell). UnsettlesWithin c.args.place (length c.args.bytes.now) (IsImage old) (IsImage l)) (sym is) (written_images old c.args.place c.args.bytes.now fits))
+    let is : new ≡ written old c.args.offset c.args.bytes.now = grind (arith, common_steps) in
+    let fits = subst (λ (v : DiskState). c.args.offset + length c.args.bytes.now ≤ length v.cells) (sym c.self.view_is) c.requires in
+    subst (λ (v : DiskState). UnsettlesWithin c.args.offset (length c.args.bytes.now) (IsImage v.cells) (IsImage new)) c.self.view_is
+    (subst (λ (l : List Cell). UnsettlesWithin c.args.offset (length c.args.bytes.now) (IsImage old) (IsImage l)) (sym is) (written_images old c.args.offset c.args.bytes.now fits))
 
 pub returns-clause-time : goal.returns-clause-time
 returns-clause-time c =

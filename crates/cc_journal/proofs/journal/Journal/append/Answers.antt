@@ -4,7 +4,7 @@ use Rattle.std.proofs.lemmas.Result.{err_from_is_err_and}
 use Rattle.std.proofs.lemmas.Grind.{common_steps}
 use Rattle.cc_disk.specs.Images.{IsWritten, LeavesOnly}
 use Rattle.cc_journal.specs.Format.{HoldsOldOrNew, record_bytes, room_of}
-use Rattle.cc_journal.specs.Reading.{View}
+use Rattle.cc_journal.specs.Journal.{View}
 use Rattle.cc_journal.proofs.Images.{frame}
 use Rattle.cc_journal.proofs.Kept.{kept_alone, room_push, still, in_commit, kept_more}
 use Rattle.cc_journal.proofs.journal.Journal.append.Goals as goal
@@ -102,5 +102,5 @@ returns-in-Ok-clause-bytes g c =
     let body = c.args.body.now in
     let is : 0xa5 ∷ c.deref.result.now ≡ record_bytes body ++ 0 ∷ [] =
     ap (λ (l : List ℕ). 0xa5 ∷ l) (c.deref.ensures.value ∙ c.in_ok-kept.ensures.behind ∙ sym (append_assoc (to_le_bytes w32 (length body)) body (0 ∷ []))) in
-    subst (λ (v : View g.row.D.Denot). IsTrue D.honest → (place : ℕ) × IsWritten (D.seen v.disk) place (record_bytes body ++ 0 ∷ []) (D.seen c.commit.new.disk)) c.self.view_is
+    subst (λ (v : View g.row.D.Denot). IsTrue D.honest → (offset : ℕ) × IsWritten (D.seen v.disk) offset (record_bytes body ++ 0 ∷ []) (D.seen c.commit.new.disk)) c.self.view_is
     (λ h. (i.start + i.used, subst (λ (l : List ℕ). IsWritten (D.seen i.disk) (i.start + i.used) l (D.seen c.commit.new.disk)) is (c.in-Ok.ensures.written h)))

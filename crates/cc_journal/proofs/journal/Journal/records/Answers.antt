@@ -1,6 +1,6 @@
 use Rattle.std.proofs.Common.{◌≡◌, List, ℕ, false, IsTrue, subst}
 use Rattle.cc_journal.specs.Format.{HoldsAlone}
-use Rattle.cc_journal.specs.Reading.{View}
+use Rattle.cc_journal.specs.Journal.{View}
 use Rattle.cc_journal.proofs.Kept.{kept_alone}
 use Rattle.cc_journal.proofs.journal.Journal.records.Goals as goal
 

@@ -3,11 +3,12 @@ use Rattle.std.proofs.Common.{◌≡◌, List, ℕ, false, refl, IsTrue, sym, �
 use Rattle.std.specs.Prelude.{IsOk, Err}
 use Rattle.cc_disk.specs.Images.{LeavesOnly}
 use Rattle.cc_library.specs.declared.fault.LibraryFault.{LibraryFault}
-use Rattle.cc_library.specs.Faults.{fault_of}
+use Rattle.cc_library.specs.Fault.{fault_of}
 use Rattle.cc_library.specs.Apply.{apply, after}
 use Rattle.cc_library.specs.Answers.{ChangeLeaves}
 use Rattle.cc_library.specs.Body.{Spells, body_of}
-use Rattle.cc_library.specs.Recovered.{IsOldOrNew, View}
+use Rattle.cc_library.specs.Recovered.{View}
+use Rattle.cc_library.specs.internal.Steps.{IsOldOrNew}
 use Rattle.cc_library.proofs.Changing.{is_accepted, done_is, back_is}
 use Rattle.cc_library.proofs.Standing.{appended, stands_after, stands_still, holds_recovers}
 use Rattle.cc_library.proofs.Refused.{seen_as, quiet_change, closed_is, leaves_err}
@@ -83,7 +84,7 @@ invariant_of-self-in-Err g c =
     let ok : IsOk (apply i.units c.args.command) = is_accepted (apply i.units c.args.command) (sym c.refusal.ensures ∙ c.in-None.is) in
     let back = back_is i.units c.begin.new.self c.undo.new.self c.args.command ok c.in_ok-begin.ensures.ok c.undo.ensures in
     record {
-      stand = stands_still i.journal.bodies i.units c.append.new.self.bodies c.undo.new.self c.self.invariant.stand c.in-Err.ensures.refused back;
+      stand = stands_still i.journal.bodies i.units c.append.new.self.bodies c.undo.new.self c.self.invariant.stand c.in-Err.ensures.leaves back;
       same = closed_is c.in-Err.fault c.eq-self-inside.result i.journal c.append.new.self c.eq-self-inside.ensures (sym c.self.invariant.same ∙ c.if-self.false) c.in-Err.ensures.untouched (λ p. c.in-Err.ensures.closes (ap Err p));
     }
 
@@ -105,5 +106,5 @@ returns-clause-leaves g c =
     let back = back_is i.units c.begin.new.self c.undo.new.self c.args.command ok c.in_ok-begin.ensures.ok c.undo.ensures in
     subst (λ (f : LibraryFault). ChangeLeaves {T = Unit {0}} c.args.command c.args.self.now new (Err f)) (sym c.from.ensures)
     (subst (λ (v : View g.row.D.Denot). ChangeLeaves {T = Unit {0}} c.args.command v new (Err (fault_of c.in-Err.fault))) c.self.view_is
-    (leaves_err c.in-Err.fault c.args.command i.journal c.append.new.self i.units c.undo.new.self i.closed c.eq-self-inside.result back c.in-Err.ensures.untouched c.in-Err.ensures.refused c.append.ensures.area
+    (leaves_err c.in-Err.fault c.args.command i.journal c.append.new.self i.units c.undo.new.self i.closed c.eq-self-inside.result back c.in-Err.ensures.untouched c.in-Err.ensures.leaves c.append.ensures.area
     c.eq-self-inside.ensures c.if-self.false))

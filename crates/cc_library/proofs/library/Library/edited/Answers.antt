@@ -6,7 +6,8 @@ use Rattle.cc_library.specs.declared.fault.LibraryFault.{LibraryFault}
 use Rattle.cc_library.specs.declared.fault.LibraryFault.TheVariants.{DiskFault}
 use Rattle.cc_library.specs.Apply.{after}
 use Rattle.cc_library.specs.Body.{body_of}
-use Rattle.cc_library.specs.Recovered.{Recovers, IsOldOrNew}
+use Rattle.cc_library.specs.Recovered.{Recovers}
+use Rattle.cc_library.specs.internal.Steps.{IsOldOrNew}
 use Rattle.cc_library.specs.Answers.{OpenFaults, ChangeAnswers, ChangeLeaves}
 use Rattle.cc_library.proofs.Standing.{either}
 use Rattle.cc_library.proofs.Running.{reopened_as, cause_of, of_now, goes_on_same}
@@ -62,7 +63,7 @@ returns-in-Err-open-clause-refused g c =
     subst (λ (f : LibraryFault). ChangeAnswers {T = Unit {0}} old edit (D.failures old.disk) (D.failures left.disk) (Err f)) c.in-DiskFault.is c.in-Err.ensures.answers in
     let leaves : ChangeLeaves {T = Unit {0}} edit old left (Err DiskFault) = subst (λ (f : LibraryFault). ChangeLeaves {T = Unit {0}} edit old left (Err f)) c.in-DiskFault.is c.in-Err.ensures.leaves in
     let refused : OpenFaults D.honest (D.seen left.disk) (D.failures left.disk) (D.failures disk) fault =
-    subst (λ (d : g.row.D.Denot). OpenFaults D.honest (D.seen d) (D.failures d) (D.failures disk) fault) c.into_disk.ensures c.in-Err-open.ensures.faults in (
+    subst (λ (d : g.row.D.Denot). OpenFaults D.honest (D.seen d) (D.failures d) (D.failures disk) fault) c.into_disk.ensures c.in-Err-open.ensures.refused in (
       refl,
       record {
         left = left;
@@ -85,7 +86,7 @@ returns-in_default-clause-edited g c =
     record {
       answer = Err c.in-Err.fault;
       left = c.change.new.self;
-      number_is = cc (c.from.ensures, c.number.ensures, c.in_default.other-is);
+      number_is = cc (c.number.ensures, c.in_default.other-is);
       answers = c.in-Err.ensures.answers;
       leaves = c.in-Err.ensures.leaves;
       goes_on = goes_on_same D.honest D.failures c.args.self c.change.new.self c.args.edit c.in-Err.fault c.in_default.not-DiskFault;

@@ -11,7 +11,7 @@ pub returns-in-Ok-replay-clause-kept : goal.returns-in-Ok-replay-clause-kept
 returns-in-Ok-replay-clause-kept g c =
     let j = c.in-Ok.journal in
     let units = c.in-Ok-replay.units in
-    let stand : StandFor j.bodies units = subst (λ (bs : List (List ℕ)). StandFor bs units) c.records.ensures.records c.in-Ok-replay.ensures.found in
+    let stand : StandFor j.bodies units = subst (λ (bs : List (List ℕ)). StandFor bs units) c.records.ensures.records c.in-Ok-replay.ensures.answer in
     λ h image now. holds_recovers image j.area j.bodies units (c.in-Ok.ensures.kept h image now) stand
 
 pub returns-in-Ok-replay-clause-fresh : goal.returns-in-Ok-replay-clause-fresh
@@ -19,24 +19,24 @@ returns-in-Ok-replay-clause-fresh g c =
     let D = g.D.Disk in
     let j = c.in-Ok.journal in
     let units = c.in-Ok-replay.units in
-    let stand : StandFor j.bodies units = subst (λ (bs : List (List ℕ)). StandFor bs units) c.records.ensures.records c.in-Ok-replay.ensures.found in
+    let stand : StandFor j.bodies units = subst (λ (bs : List (List ℕ)). StandFor bs units) c.records.ensures.records c.in-Ok-replay.ensures.answer in
     λ h area holds.
     let alone = c.in-Ok.ensures.kept h (D.seen j.disk) (g.met.D.Disk.seen_is_image j.disk h) in
     let there : HoldsRecords (D.seen j.disk) area [] = subst (λ (l : List ℕ). HoldsRecords l area []) (sym (c.in-Ok.ensures.reads h).same) holds in
     let none : j.bodies ≡ [] = sym (alone.alone area [] there).1 in
     (none, new_map j.bodies units none stand)
 
-pub returns-in-Err-replay-clause-faults : goal.returns-in-Err-replay-clause-faults
-returns-in-Err-replay-clause-faults g c =
+pub returns-in-Err-replay-clause-refused : goal.returns-in-Err-replay-clause-refused
+returns-in-Err-replay-clause-refused g c =
     let D = g.D.Disk in
     let j = c.in-Ok.journal in
-    let faults : ReplayFaults j.bodies c.in-Err-replay.fault = subst (λ (bs : List (List ℕ)). ReplayFaults bs c.in-Err-replay.fault) c.records.ensures.records c.in-Err-replay.ensures.faults in
+    let faults : ReplayFaults j.bodies c.in-Err-replay.fault = subst (λ (bs : List (List ℕ)). ReplayFaults bs c.in-Err-replay.fault) c.records.ensures.records c.in-Err-replay.ensures.refused in
     let same : D.failures c.into_disk.result ≡ D.failures c.args.disk = subst (λ (d : g.row.D.Denot). D.failures d ≡ D.failures c.args.disk) (sym c.into_disk.ensures) c.in-Ok.ensures.sound in
     replay_refused D.honest (D.seen c.args.disk) j.area j.bodies (D.failures c.args.disk) (D.failures c.into_disk.result) c.in-Err-replay.fault
     (λ h. subst (λ (l : List ℕ). HoldsAlone l j.area j.bodies) (c.in-Ok.ensures.reads h).same (c.in-Ok.ensures.kept h (D.seen j.disk) (g.met.D.Disk.seen_is_image j.disk h)))
     faults same
 
-pub returns-in-Err-clause-faults : goal.returns-in-Err-clause-faults
-returns-in-Err-clause-faults g c =
+pub returns-in-Err-clause-refused : goal.returns-in-Err-clause-refused
+returns-in-Err-clause-refused g c =
     let D = g.D.Disk in
-    rw c.from.ensures (journal_refused D.honest (D.seen c.args.disk) (D.failures c.args.disk) (D.failures c.in-Err.disk) c.in-Err.fault c.in-Err.ensures.faults)
+    rw c.from.ensures (journal_refused D.honest (D.seen c.args.disk) (D.failures c.args.disk) (D.failures c.in-Err.disk) c.in-Err.fault c.in-Err.ensures.refused)

@@ -1,4 +1,4 @@
--- Each turn does one edit more and keeps its number; behind the last all edits are done.
+-- Each turn does one edit more and keeps its number; after the last all edits are done.
 use Rattle.std.proofs.Common.{◌≡◌, ◌+◌, ◌++◌, ◌∷◌, [], List, ℕ, inr, false, IsTrue, length, vec_len, ap, sym, subst, ◌∙◌, append_assoc, length-append, refl, arith}
 use Rattle.std.proofs.lemmas.List.{append-nil, nil_from_length}
 use Rattle.cc_library.specs.declared.command.Command.{Command}
@@ -9,7 +9,7 @@ use Rattle.cc_library.proofs.Standing.{holds_recovers}
 use Rattle.cc_library.proofs.Running.{one_edit_more, folds}
 use Rattle.cc_library.proofs.library.Library.run.Goals as goal
 
--- behind the last edit none is left
+-- after the last edit none is left
 all_taken : (taken rest edits : List Command) (n : ℕ) → n ≡ length rest → n ≡ 0 → taken ++ rest ≡ edits → taken ≡ edits
 all_taken taken rest edits n counted none parts =
     let nothing : rest ≡ [] = nil_from_length rest (sym counted ∙ none) in
@@ -51,8 +51,8 @@ loop-edit-preserved g c =
       count = ap length pushed ∙ length-append c.loop-edit.numbers.items (c.edited-number.result.0 ∷ []) ∙ ap (λ (n : ℕ). n + 1) inv.count ∙ sym (length-append c.loop-edit.yielded (c.in-Some.edit ∷ []));
     }
 
-pub returns-in-Err-clause-stopped : goal.returns-in-Err-clause-stopped
-returns-in-Err-clause-stopped g c =
+pub returns-in-Err-clause-refused : goal.returns-in-Err-clause-refused
+returns-in-Err-clause-refused g c =
     let inv = c.loop-edit.invariant in
     let stops = rw c.in-Err.is at c.edited-number.ensures.refused in
     let pushed : c.push.new.self.items ≡ c.loop-edit.numbers.items ++ c.edited-number.result.0 ∷ [] = rw c.unwrap.ensures at c.push.ensures.items in

@@ -2,19 +2,25 @@
 use Rattle.std.specs.Prelude.{ℕ}
 use Rattle.cc_journal.specs.declared.fault.JournalFault.{JournalFault}
 use Rattle.cc_journal.specs.declared.fault.JournalFault.TheVariants as journal
+use Rattle.cc_library.specs.declared.fault.NameFault.{NameFault}
+use Rattle.cc_library.specs.declared.fault.NameFault.TheVariants.{BadName}
 use Rattle.cc_library.specs.declared.fault.LibraryFault.{LibraryFault}
 use Rattle.cc_library.specs.declared.fault.LibraryFault.TheVariants.{Exists, Absent, Full, DiskFault, Closed, Damaged, NotALibrary, OutOfMemory}
 
--- the numbers of the faults
-abbrev pub number_of : LibraryFault → ℕ
-number_of Exists = 31
-number_of Absent = 32
-number_of Full = 34
-number_of DiskFault = 35
-number_of Closed = 36
-number_of Damaged = 37
-number_of NotALibrary = 38
-number_of OutOfMemory = 40
+-- the number of the fault of a name
+abbrev pub name_fault_number : NameFault → ℕ
+name_fault_number BadName = 33
+
+-- the numbers of a library's faults
+abbrev pub fault_number : LibraryFault → ℕ
+fault_number Exists = 31
+fault_number Absent = 32
+fault_number Full = 34
+fault_number DiskFault = 35
+fault_number Closed = 36
+fault_number Damaged = 37
+fault_number NotALibrary = 38
+fault_number OutOfMemory = 40
 
 -- a journal's fault is the library's of the same number
 abbrev pub fault_of : JournalFault → LibraryFault

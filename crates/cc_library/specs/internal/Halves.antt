@@ -1,5 +1,5 @@
--- A change in two halves, as the code of a library makes it: what needs memory before the journal is asked, the rest behind
--- its answer. No public call cites this page; `proofs/Changing` shows that the halves together are the change or nothing.
+-- A change in two halves, as the code of a library makes it: what needs memory before the journal is asked, the rest after
+-- its answer. `proofs/Changing` shows that the halves together are the change or nothing.
 use Rattle.std.specs.Prelude.{if◌then◌else◌}
 use Rattle.std.specs.FinMap.{contains_key, insert, remove}
 use Rattle.cc_library.specs.declared.command.Command.{Command}

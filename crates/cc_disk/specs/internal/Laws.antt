@@ -1,0 +1,17 @@
+-- Two of the laws that the disk in memory has to keep as a disk, proved.
+use Rattle.std.specs.Prelude.{ℕ, List, [], ◌∷◌, length}
+use Rattle.std.proofs.Common.{inl, inr, refl}
+use Rattle.cc_disk.specs.declared.cell.Cell.{Cell}
+use Rattle.cc_disk.specs.Model.{bytes_of, IsImage}
+use Rattle.cc_disk.specs.Past.{LeftSince}
+
+-- after the last call there is only the state now
+pub only_now_left : (now : List Cell) (past : List (List Cell)) (image : List ℕ) → LeftSince now past (length past) image → IsImage now image
+only_now_left now past image (inl here) = here
+only_now_left now [] image (inr none) = absurd none
+only_now_left now (state ∷ past) image (inr earlier) = only_now_left now past image (inr earlier)
+
+-- what a read gives is an image
+pub bytes_are_image : (cells : List Cell) → IsImage cells (bytes_of cells)
+bytes_are_image [] = tt
+bytes_are_image (cell ∷ cells) = (λ _. refl, bytes_are_image cells)

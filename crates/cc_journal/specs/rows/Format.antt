@@ -1,0 +1,21 @@
+-- Bytes of a journal, and what fits its smallest area, computed.
+use Rattle.std.specs.Prelude.{◌≡◌, [], ◌∷◌, ◌++◌, replicate, refl}
+use Rattle.cc_journal.specs.Format.{header, records, room_of}
+
+-- an area of 64 bytes with one record, whose body is 01 03 01 61, in area A: bytes 0 to 25 of the disk
+pub one_record : header 0 64 ++ (records ((1 ∷ 3 ∷ 1 ∷ 0x61 ∷ []) ∷ []) ++ 0 ∷ [])
+    ≡ 0x00 ∷ 0x43 ∷ 0x43 ∷ 0x4c ∷ 0x49 ∷ 0x42 ∷ 0x30 ∷ 0x31 ∷ 0x40 ∷ 0x00 ∷ 0x00 ∷ 0x00 ∷ 0x00 ∷ 0x00 ∷ 0x00 ∷ 0x00
+    ∷ 0xa5 ∷ 0x04 ∷ 0x00 ∷ 0x00 ∷ 0x00 ∷ 0x01 ∷ 0x03 ∷ 0x01 ∷ 0x61 ∷ 0x00 ∷ []
+one_record = refl
+
+-- a body of 58 bytes fills an area of 64 bytes
+pub body_of_58 : room_of (replicate 58 7 ∷ []) ≡ 64
+body_of_58 = refl
+
+-- one of 59 bytes does not fit it
+pub body_of_59 : room_of (replicate 59 7 ∷ []) ≡ 65
+body_of_59 = refl
+
+-- and after one of 58 bytes not even an empty one does
+pub bodies_of_58_and_0 : room_of (replicate 58 7 ∷ [] ∷ []) ≡ 69
+bodies_of_58_and_0 = refl

@@ -1,0 +1,26 @@
+-- What the steps of replaying and of a change come to.
+use Rattle.std.specs.Prelude.{◌≡◌, ◌⊎◌, ℕ, IsOk, List, [], ◌∷◌, ◌++◌, Result, Ok, Err}
+use Rattle.cc_journal.specs.Format.{HoldsAlone}
+use Rattle.cc_library.specs.declared.command.Command.{Command}
+use Rattle.cc_library.specs.declared.fault.LibraryFault.{LibraryFault}
+use Rattle.cc_library.specs.declared.fault.LibraryFault.TheVariants.{Exists, Absent, Full, DiskFault, Closed, Damaged, NotALibrary, OutOfMemory}
+use Rattle.cc_library.specs.Apply.{Units, apply, after}
+use Rattle.cc_library.specs.Body.{Spells}
+use Rattle.cc_library.specs.Recovered.{RecoversAlone}
+
+-- one record more: 37 exactly where its body is that of no command that the map accepts
+abbrev pub ReplaysBody : Units → List ℕ → Result Units LibraryFault → Type 0
+ReplaysBody old body (Ok new) = (command : Command) × Spells body command × IsOk (apply old command) × (new ≡ after old command)
+ReplaysBody old body (Err Damaged) = (command : Command) → Spells body command → IsOk (apply old command) → ⊥
+ReplaysBody old body (Err OutOfMemory) = Unit {0}
+ReplaysBody old body (Err DiskFault) = ⊥
+ReplaysBody old body (Err NotALibrary) = ⊥
+ReplaysBody old body (Err Exists) = ⊥
+ReplaysBody old body (Err Absent) = ⊥
+ReplaysBody old body (Err Full) = ⊥
+ReplaysBody old body (Err Closed) = ⊥
+
+-- it has these records and recovers to this map alone, or these with one more and that map
+abbrev pub IsOldOrNew : ℕ → List (List ℕ) → Units → List ℕ → Units → List ℕ → Type 0
+IsOldOrNew area bodies old body new image =
+    (HoldsAlone image area bodies × RecoversAlone image old) ⊎ (HoldsAlone image area (bodies ++ body ∷ []) × RecoversAlone image new)
