@@ -4,11 +4,11 @@ use Rattle.std.proofs.Common.{◌≡◌, ◌⊎◌, inl, inr, ⊎_elim, true, fa
 use Rattle.std.proofs.lemmas.List.{take_at, drop_at, drop_more, take-take, take-append-le, length-take-le, length-map}
 use Rattle.cc_disk.specs.declared.cell.Cell.{Cell}
 use Rattle.cc_disk.specs.Model.{bytes_of, IsImage, written, crashed, settled, left}
-use Rattle.cc_disk.specs.Past.{bytes_are_image}
+use Rattle.cc_disk.specs.internal.Laws.{bytes_are_image}
 use Rattle.cc_disk.specs.Images.{IsWritten, DiffersWithin, LeavesAlone}
 use Rattle.cc_disk.proofs.Cells.{length-image, written_images, bytes_of-written, synced_alone, bytes_of-synced, synced_adds_none}
 use Rattle.cc_journal.specs.Format.{header, open_gate, record_bytes, records, HoldsRecords}
-use Rattle.cc_journal.specs.Reading.{HoldsFrom}
+use Rattle.cc_journal.specs.Journal.{HoldsFrom}
 use Rattle.cc_journal.proofs.Records.{length-records_push, length-record_bytes}
 use Rattle.cc_journal.proofs.Images.{frame, length-frame, behind_gate, at_gate, committed, length-written}
 use Rattle.cc_library.specs.declared.command.Command.{Command}
@@ -44,7 +44,7 @@ holds_from area bodies image a =
     let h = a.holds in
     let front : header h.area_byte area ≡ header 0 area =
     sym (take_at (header h.area_byte area) (h.other ++ (records bodies ++ h.gate ∷ h.behind)) 16 refl) ∙ sym (ap (λ (l : List ℕ). take 16 l) h.bytes) ∙ a.header_is in
-    record { holds = h; begins = none_before h.area_byte area (length h.other) (first_of-header h.area_byte 0 area front) h.place }
+    record { holds = h; begins = none_before h.area_byte area (length h.other) (first_of-header h.area_byte 0 area front) h.offset }
 
 -- the bytes in front of a range that differs
 same_header : (place n : ℕ) (old new : List ℕ) (front : List ℕ) → 16 ≤ place → DiffersWithin place n old new → take 16 old ≡ front → take 16 new ≡ front

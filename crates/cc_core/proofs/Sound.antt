@@ -11,7 +11,7 @@ use Rattle.std.proofs.lemmas.List.Elements.{All-replicate, All-weaker, All-push,
 use Rattle.std.proofs.lemmas.Option.{slice_get_within}
 use Rattle.cc_disk.specs.declared.cell.Cell.{Cell}
 use Rattle.cc_disk.specs.Model.{bytes_of, crashed}
-use Rattle.cc_disk.specs.Past.{bytes_are_image}
+use Rattle.cc_disk.specs.internal.Laws.{bytes_are_image}
 use Rattle.cc_journal.specs.Format.{header, records, HoldsRecords}
 use Rattle.cc_journal.proofs.Records.{holds_alone, holds_same}
 use Rattle.cc_journal.proofs.Bytes.{empty_holds}

@@ -29,4 +29,4 @@ returns-then-is_err c =
     let committing = committing_is c.args.core.now.phase at.committing c.args.client at.numbered at.due due.Acknowledge at.is c.in-Acknowledge.is same in
     let dropped = c.drop_last.ensures ∙ ap (λ l. take (length l - 1) l) c.in_ok-push.ensures.ok ∙ take-push c.args.core.now.acknowledged c.in_ok-again.field-0 in
     memory_answers (Acknowledges c.args.client c.args.core.now) _ c.args.core.now _ refl refl (acknowledges c.args.core.now c.args.client at.numbered committing)
-    (λ i. record c.args.core.now { library = where_refused c.apply.result c.apply.ensures.err c.if-is_err.ensures.value i; acknowledged = dropped i })
+    (λ i. record c.args.core.now { library = where_refused c.apply.result c.apply.ensures.leaves c.if-is_err.ensures.value i; acknowledged = dropped i })

@@ -16,6 +16,6 @@ returns c =
       area,
       bodies,
       subst (λ (bytes : List ℕ). HoldsRecords bytes area bodies) same (c.in-Ok.ensures.records refl),
-      subst (λ (bs : List (List ℕ)). StandFor bs c.in-Ok-replay.units) c.records.ensures.records c.in-Ok-replay.ensures.found,
+      subst (λ (bs : List (List ℕ)). StandFor bs c.in-Ok-replay.units) c.records.ensures.records c.in-Ok-replay.ensures.answer,
       c.bytes_taken-used.ensures ∙ ap (λ (bs : List (List ℕ)). length (records bs)) c.records-2.ensures.records,
     )
