@@ -21,7 +21,7 @@ use Rattle.cc_core.specs.Step.{IsLongest, commands}
 use Rattle.cc_core.specs.Run.{Survives}
 use Rattle.cc_core.specs.internal.Ready.{HasRoom}
 use Rattle.cc_core.proofs.Orders.{library-push}
-use Rattle.cc_core.proofs.Held.{HoldsA, HoldsAOneOf, IsAtRest, InCommit, commit_images}
+use Rattle.cc_core.proofs.Held.{HoldsIn, HoldsInOneOf, IsAtRest, InCommit, commit_images}
 
 -- ---- what the disk holds, by phase
 
@@ -34,9 +34,9 @@ pub record LacksLast (bodies : List (List ℕ)) (order acknowledged : List Numbe
   pub stand : StandFor bodies (library_of (commands front))
 
 -- the image holds records that stand for the order, or for the order without its last command
-pub record Ends (area : ℕ) (order acknowledged : List Numbered) (image : List ℕ) : Type 0 where
+pub record Ends (byte area : ℕ) (order acknowledged : List Numbered) (image : List ℕ) : Type 0 where
   pub bodies : List (List ℕ)
-  pub held : HoldsA area bodies image
+  pub held : HoldsIn byte area bodies image
   pub known : StandFor bodies (library_of (commands order)) ⊎ LacksLast bodies order acknowledged
 
 -- in no commit: the disk is at rest, and holds the order
@@ -59,12 +59,12 @@ pub record HoldsFlight (numbered : Numbered) (due : Due) (store : StoreState) (o
 
 -- after a failed step: each image ends so
 abbrev pub HoldsEnds : StoreState → List Numbered → List Numbered → Type 0
-HoldsEnds store order acknowledged = (image : List ℕ) → IsImage store.cells image → Ends store.area order acknowledged image
+HoldsEnds store order acknowledged = (image : List ℕ) → IsImage store.cells image → Ends store.area_byte store.area order acknowledged image
 
 -- after a crash: there is one image, and it ends so
 pub record HoldsCrash (store : StoreState) (order acknowledged : List Numbered) : Type 0 where
   pub alone : LeavesAlone (bytes_of store.cells) (IsImage store.cells)
-  pub ends : Ends store.area order acknowledged (bytes_of store.cells)
+  pub ends : Ends store.area_byte store.area order acknowledged (bytes_of store.cells)
 
 abbrev pub IsKept : Phase → StoreState → List Numbered → List Numbered → Type 0
 IsKept Idle store order acknowledged = HoldsOrder store order
@@ -82,23 +82,23 @@ stand_more bodies front numbered order is stand spelled taken =
 -- what an image with the old records, or with one more, comes to
 pub ends_of : (numbered : Numbered) (store : StoreState) (order acknowledged : List Numbered) (bodies : List (List ℕ)) (front : List Numbered) → order ≡ front ++ numbered ∷ [] → All (Contains front) acknowledged
     → IsOk (apply (library_of (commands front)) numbered.command) → StandFor bodies (library_of (commands front)) → IsCommand numbered.command
-    → (image : List ℕ) → HoldsAOneOf store.area bodies (body_of numbered.command) image → Ends store.area order acknowledged image
+    → (image : List ℕ) → HoldsInOneOf store.area_byte store.area bodies (body_of numbered.command) image → Ends store.area_byte store.area order acknowledged image
 ends_of numbered store order acknowledged bodies front is acked taken stand spelled image (inl old) =
     record { bodies = bodies; held = old; known = inr (record { front = front; last = numbered; is = is; acked = acked; stand = stand }) }
 ends_of numbered store order acknowledged bodies front is acked taken stand spelled image (inr new) =
     record { bodies = bodies ++ body_of numbered.command ∷ []; held = new; known = inl (stand_more bodies front numbered order is stand spelled taken) }
 
 -- whatever the phase, each image ends so
-pub each_ends : (phase : Phase) (store : StoreState) (order acknowledged : List Numbered) → IsKept phase store order acknowledged → (image : List ℕ) → IsImage store.cells image → Ends store.area order acknowledged image
+pub each_ends : (phase : Phase) (store : StoreState) (order acknowledged : List Numbered) → IsKept phase store order acknowledged → (image : List ℕ) → IsImage store.cells image → Ends store.area_byte store.area order acknowledged image
 each_ends Idle store order acknowledged k image now = record { bodies = k.bodies; held = k.rest.images image now; known = inl k.stand }
 each_ends (Committing client numbered due) store order acknowledged k image now =
     ends_of numbered store order acknowledged k.bodies k.front k.is k.acked k.taken k.stand k.spelled image (commit_images due store k.bodies (body_of numbered.command) k.on_disk image now)
 each_ends (Failed failed) store order acknowledged k image now = k image now
-each_ends Crashed store order acknowledged k image now = subst (Ends store.area order acknowledged) (sym (k.alone image now)) k.ends
+each_ends Crashed store order acknowledged k image now = subst (Ends store.area_byte store.area order acknowledged) (sym (k.alone image now)) k.ends
 
 -- so it survives
-pub ends_survives : (area : ℕ) (order acknowledged : List Numbered) (image : List ℕ) → All (Contains order) acknowledged → Ends area order acknowledged image → Survives image order acknowledged
-ends_survives area order acknowledged image acked e = at e.known
+pub ends_survives : (byte area : ℕ) (order acknowledged : List Numbered) (image : List ℕ) → All (Contains order) acknowledged → Ends byte area order acknowledged image → Survives image order acknowledged
+ends_survives byte area order acknowledged image acked e = at e.known
   where
     at : StandFor e.bodies (library_of (commands order)) ⊎ LacksLast e.bodies order acknowledged → Survives image order acknowledged
     at (inl stand) = record {

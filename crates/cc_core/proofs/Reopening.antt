@@ -29,23 +29,23 @@ found_room store order library used area bodies r f =
 
 pub recoverable_of : (old : Core) → IsReady old → old.phase ≡ Crashed → IsRecoverable old.store old.order
 recoverable_of old ready crashed = subst (λ (phase : Phase). IsReadyIn phase old.store old.order) crashed ready
+    -- so the state behind them is the recovery's
 
-  -- so the state behind them is the recovery's
 pub found_reopens : (old new : Core) (library : Units) (used area : ℕ) (bodies : List (List ℕ)) (kept : List Numbered) → IsReady old → old.phase ≡ Crashed → IsFound old.store library used area bodies
-      → IsFrontKept library old.order kept → new ≡ record old { library = library; order = kept; phase = Idle; store = record old.store { used = used } } → Reopens old None new
+    → IsFrontKept library old.order kept → new ≡ record old { library = library; order = kept; phase = Idle; store = record old.store { used = used } } → Reopens old None new
 found_reopens old new library used area bodies kept ready crashed f keeps is =
-      let r = recoverable_of old ready crashed in
-      let same = r.holds.alone area bodies f.holds in
-      let library_is : r.library ≡ library =
-      one_map empty bodies r.library library (subst (λ (bs : List (List ℕ)). StandFor bs r.library) (sym same.1) r.stand) f.stand in
-      record {
-        crashed = crashed;
-        bodies = bodies;
-        library = library;
-        kept = kept;
-        holds = subst (λ (n : ℕ). HoldsRecords (bytes_of old.store.cells) n bodies) same.0 f.holds;
-        stand = f.stand;
-        longest = front_longest library old.order kept r.accepted (subst (λ (m : Units). IsOfOrder m old.order) library_is r.known) keeps;
-        silent = refl;
-        new_is = is ∙ ap (λ (n : ℕ). record old { library = library; order = kept; phase = Idle; store = record old.store { used = n } }) f.used_is;
-      }
+    let r = recoverable_of old ready crashed in
+    let same = r.holds.alone area bodies f.holds in
+    let library_is : r.library ≡ library =
+    one_map empty bodies r.library library (subst (λ (bs : List (List ℕ)). StandFor bs r.library) (sym same.1) r.stand) f.stand in
+    record {
+      crashed = crashed;
+      bodies = bodies;
+      library = library;
+      kept = kept;
+      holds = subst (λ (n : ℕ). HoldsRecords (bytes_of old.store.cells) n bodies) same.0 f.holds;
+      stand = f.stand;
+      longest = front_longest library old.order kept r.accepted (subst (λ (m : Units). IsOfOrder m old.order) library_is r.known) keeps;
+      silent = refl;
+      new_is = is ∙ ap (λ (n : ℕ). record old { library = library; order = kept; phase = Idle; store = record old.store { used = n } }) f.used_is;
+    }

@@ -49,7 +49,7 @@ use Rattle.cc_core.specs.internal.Ready.{IsFitting, IsRecoverable, IsReady, IsRe
 use Rattle.cc_core.proofs.Lists.{slice_get-set, slice_get-push, slice_get-last, Contains-slice_get, All-slice_get, take-push}
 use Rattle.cc_core.proofs.Whole.{IsRightCommand, IsNamed, IsLawful, verdict_right, verdict_taken}
 use Rattle.cc_core.proofs.Orders.{found-insert, found-remove, AreRight, AreRight-push, AreRight-front, EachUnit-empty, EachUnit-library, library-push, AreAccepted-push, AreAccepted-before, but_last-push}
-use Rattle.cc_core.proofs.Held.{HoldsA, commit_goes_on, room_goes_on, failed_images, crashed_image, crashed_alone}
+use Rattle.cc_core.proofs.Held.{HoldsIn, commit_goes_on, room_goes_on, failed_images, crashed_image, crashed_alone}
 use Rattle.cc_core.proofs.Ending.{LacksLast, HoldsOrder, HoldsFlight, HoldsCrash, IsKept, stand_more, ends_of, each_ends, ends_survives, kept_acked}
 
 -- each sequence number is below this one
@@ -79,14 +79,14 @@ AreRising-push n order a rising below at i j b c lt first second =
 -- a formatted disk holds no records
 formatted_holds : (area : ℕ) (store : StoreState) (order : List Numbered) → IsFormatted area store → order ≡ [] → HoldsOrder store order
 formatted_holds area store order f none =
-    let held : HoldsA store.area [] (bytes_of store.cells) = record {
+    let held : HoldsIn store.area_byte store.area [] (bytes_of store.cells) = record {
       holds = subst (λ (n : ℕ). HoldsRecords (bytes_of store.cells) n []) (sym f.same_area)
           (empty_holds (bytes_of store.cells) f.rest (length store.cells) area f.bytes (length-map store.cells (λ (c : Cell). c.byte)) f.is_area);
-      header_is = ap (λ (l : List ℕ). take 16 l) f.bytes ∙ take_at (header 0 area) (0 ∷ f.rest) 16 refl ∙ ap (header 0) (sym f.same_area);
+      header_is = ap (λ (l : List ℕ). take 16 l) f.bytes ∙ take_at (header 0 area) (0 ∷ f.rest) 16 refl ∙ ap (header 0) (sym f.same_area) ∙ ap (λ (b : ℕ). header b store.area) (sym f.first_area);
     } in
     record {
       bodies = [];
-      rest = record { taken = f.unused; images = λ image now. subst (HoldsA store.area []) (sym (f.alone image now)) held };
+      rest = record { taken = f.unused; images = λ image now. subst (HoldsIn store.area_byte store.area []) (sym (f.alone image now)) held };
       stand = subst (λ (l : List Numbered). StandFor [] (library_of (commands l))) (sym none) (record { commands = []; spelled = tt; accepted = tt; map_is = refl });
     }
 
@@ -373,7 +373,7 @@ module _ {P : Type 0} (rules : Rules P) (keeps : P → Type 0) where
         let rest = drop step.longest.count s.order in
         let whole : s.order ≡ kept ++ rest = sym (take-append-drop step.longest.count s.order) ∙ ap (λ (l : List Numbered). l ++ rest) (sym step.longest.front) in
         let same : step.bodies ≡ e.bodies = (holds_same (bytes_of s.store.cells) s.store.area s.store.area e.bodies step.bodies e.held.holds step.holds).1 in
-        let held : HoldsA s.store.area step.bodies (bytes_of s.store.cells) = record { holds = step.holds; header_is = e.held.header_is } in
+        let held : HoldsIn s.store.area_byte s.store.area step.bodies (bytes_of s.store.cells) = record { holds = step.holds; header_is = e.held.header_is } in
         let there : IsSoundCore is_right (record s { library = step.library; order = kept; phase = Idle; store = record s.store { used = length (records step.bodies) } }) = record {
           replay = sym step.longest.leads;
           accepted = AreAccepted-before kept rest (subst (λ (l : List Numbered). AreAccepted empty (commands l)) whole sound.accepted);
@@ -384,7 +384,7 @@ module _ {P : Type 0} (rules : Rules P) (keeps : P → Type 0) where
           below = λ k a is. sound.below k a (in_whole kept rest s.order whole k a is);
           disk = record {
             bodies = step.bodies;
-            rest = record { taken = refl; images = λ image now. subst (HoldsA s.store.area step.bodies) (sym (h.alone image now)) held };
+            rest = record { taken = refl; images = λ image now. subst (HoldsIn s.store.area_byte s.store.area step.bodies) (sym (h.alone image now)) held };
             stand = subst (StandFor step.bodies) (sym step.longest.leads) step.stand;
           };
         } in
@@ -463,7 +463,7 @@ module _ {P : Type 0} (rules : Rules P) (keeps : P → Type 0) where
     -- ---- what follows
 
     pub sound_survives : (s : Core) → IsSoundCore is_right s → EachImageSurvives s
-    sound_survives s sound image now = ends_survives s.store.area s.order s.acknowledged image sound.acked (each_ends s.phase s.store s.order s.acknowledged sound.disk image now)
+    sound_survives s sound image now = ends_survives s.store.area_byte s.store.area s.order s.acknowledged image sound.acked (each_ends s.phase s.store s.order s.acknowledged sound.disk image now)
 
     pub sound_right : (s : Core) → IsSoundCore is_right s → EachImageIsRight is_right s
     sound_right s sound image library now recovered =

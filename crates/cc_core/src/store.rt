@@ -18,11 +18,12 @@ const HEADER: usize = 16;
 /// The gate of a record that counts.
 const OPEN: u8 = 0xa5;
 
-/// A journal on a disk in memory, of which contracts see the cells, the size of an area in bytes, and how many bytes of
-/// the first area its records take.
+/// A journal on a disk in memory, of which contracts see the cells, the area byte, the size of an area in bytes, and how many
+/// bytes of the area that the byte names its records take.
 #[derive(Drop)]
 pub struct Store {
     disk: MemoryDisk,
+    area_byte: u8,
     area: u32,
     used: usize,
 }
@@ -34,7 +35,7 @@ impl Model for Store {
 
     ghost Value = { StoreState };
 
-    ghost view = { λ s. record { cells = s.disk.cells; area = s.area; used = s.used } };
+    ghost view = { λ s. record { cells = s.disk.cells; area_byte = s.area_byte; area = s.area; used = s.used } };
 
     ghost invariant = { λ s. IsArea (length s.disk.cells) s.area × (s.used + 1 ≤ s.area) };
 }
@@ -52,6 +53,7 @@ impl Store {
         let _ = disk.sync();
         Ok(Store {
             disk,
+            area_byte: 0,
             area,
             used: 0,
         })
@@ -64,19 +66,34 @@ impl Store {
         body.len() + 6 <= self.area as usize - self.used
     }
 
+    // The offset of the closed gate behind the last record.
+    fn gate(&self) -> usize
+        ensures gate { result ≡ gate_of self.now }
+        ensures within { gate_of self.now ≤ 16 + self.now.area + self.now.used }
+    {
+        let begin = if self.area_byte % 2 == 0 {
+            HEADER
+        } else {
+            HEADER + self.area as usize
+        };
+        begin + self.used
+    }
+
     /// Writes what stands behind the gate of the next record.
     pub(crate) fn write_body(&mut self, behind: &[u8])
         requires { self.old.used + length behind.now + 1 ≤ self.old.area }
         ensures { self.new ≡ with_cells self.old (written self.old.cells (gate_of self.old + 1) behind.now) }
     {
-        let _ = self.disk.write_at(HEADER + self.used + 1, behind);
+        let offset = self.gate() + 1;
+        let _ = self.disk.write_at(offset, behind);
     }
 
     /// Opens the gate of the next record.
     pub(crate) fn open_gate(&mut self)
         ensures { self.new ≡ with_cells self.old (written self.old.cells (gate_of self.old) (open_gate ∷ [])) }
     {
-        let _ = self.disk.write_at(HEADER + self.used, &[OPEN]);
+        let offset = self.gate();
+        let _ = self.disk.write_at(offset, &[OPEN]);
     }
 
     /// Settles every byte.

@@ -15,14 +15,18 @@ pub returns : goal.returns
 returns c =
     let old = c.args.core.now in
     let library = c.in_ok-library.library in
-    let found = c.in_ok-library.ensures in
-    (found_reopens old _ library c.in_ok-library.used found.0 found.1 c.drop_undone.new.order c.requires c.in-Crashed.is
-    (record { holds = found.2; stand = found.3; used_is = found.4 }) c.drop_undone.ensures
-    (λ i. record {
-      library = library;
-      order = c.drop_undone.new.order;
-      acknowledged = old.acknowledged;
-      phase = Idle;
-      store = c.set_used.ensures i;
-      upcoming = old.upcoming;
-    }), λ e. absurd (cc), λ e. absurd (cc), tt)
+    let found = c.in_ok-library.ensures in (
+      found_reopens old _ library c.in_ok-library.used found.0 found.1 c.drop_undone.new.order c.requires c.in-Crashed.is
+          (record { holds = found.2; stand = found.3; used_is = found.4 }) c.drop_undone.ensures
+          (λ i. record {
+            library = library;
+            order = c.drop_undone.new.order;
+            acknowledged = old.acknowledged;
+            phase = Idle;
+            store = c.set_used.ensures i;
+            upcoming = old.upcoming;
+          }),
+      λ e. absurd (cc),
+      λ e. absurd (cc),
+      tt,
+    )
