@@ -10,7 +10,8 @@ use Rattle.cc_disk.specs.Images.{LeavesAlone}
 use Rattle.cc_journal.proofs.Records.{holds_alone}
 use Rattle.cc_library.specs.Apply.{Units, apply, library_of}
 use Rattle.cc_library.specs.Body.{IsCommand, body_of}
-use Rattle.cc_library.specs.Recovered.{StandFor}
+use Rattle.cc_library.specs.Recovered.{StandFor, Recovers}
+use Rattle.cc_link.specs.declared.unit.StoredUnit.{StoredUnit}
 use Rattle.cc_library.proofs.Standing.{one_more, one_map, holds_recovers}
 use Rattle.cc_core.specs.declared.command.Numbered.{Numbered}
 use Rattle.cc_core.specs.declared.contents.Due.{Due}
@@ -18,7 +19,7 @@ use Rattle.cc_core.specs.declared.contents.Phase.{Phase}
 use Rattle.cc_core.specs.declared.contents.Phase.TheVariants.{Idle, Committing, Failed, Crashed}
 use Rattle.cc_core.specs.StoreState.{StoreState}
 use Rattle.cc_core.specs.Step.{IsLongest, commands}
-use Rattle.cc_core.specs.Run.{Survives}
+use Rattle.cc_core.specs.Run.{EachUnit, Survives}
 use Rattle.cc_core.specs.internal.Ready.{HasRoom}
 use Rattle.cc_core.proofs.Orders.{library-push}
 use Rattle.cc_core.proofs.Held.{HoldsIn, HoldsInOneOf, IsAtRest, InCommit, commit_images}
@@ -117,6 +118,17 @@ ends_survives byte area order acknowledged image acked e = at e.known
       acked = lacks.acked;
       recovers = holds_recovers image area e.bodies (library_of (commands lacks.front)) (holds_alone image area e.bodies e.held.holds) lacks.stand;
     }
+
+-- so what it recovers to is right, where the order's library is, and that of the order without its last command
+pub ends_right : (is_right : StoredUnit → Type 0) (byte area : ℕ) (order acknowledged : List Numbered) (image : List ℕ) → Ends byte area order acknowledged image → EachUnit is_right (library_of (commands order))
+    → ((front : List Numbered) (last : Numbered) → order ≡ front ++ last ∷ [] → EachUnit is_right (library_of (commands front))) → (library : Units) → Recovers image library → EachUnit is_right library
+ends_right is_right byte area order acknowledged image e whole before library recovered = at e.known
+  where
+    at : StandFor e.bodies (library_of (commands order)) ⊎ LacksLast e.bodies order acknowledged → EachUnit is_right library
+    at (inl stand) = subst (EachUnit is_right) (sym ((holds_recovers image area e.bodies (library_of (commands order)) (holds_alone image area e.bodies e.held.holds) stand).alone library recovered)) whole
+    at (inr lacks) =
+        subst (EachUnit is_right) (sym ((holds_recovers image area e.bodies (library_of (commands lacks.front)) (holds_alone image area e.bodies e.held.holds) lacks.stand).alone library recovered))
+        (before lacks.front lacks.last lacks.is)
 
 -- ---- the recovery
 

@@ -47,7 +47,7 @@ EachUnit-kept : (is_right : StoredUnit → Type 0) (library : Units) (b : Bool) 
 EachUnit-kept is_right library true made first second each new = (each, new)
 EachUnit-kept is_right library false made first second each new = (new, each)
 
-EachUnit-after : (is_right : StoredUnit → Type 0) (library : Units) (c : Command) → EachUnit is_right library → IsRightCommand is_right c → EachUnit is_right (after library c)
+pub EachUnit-after : (is_right : StoredUnit → Type 0) (library : Units) (c : Command) → EachUnit is_right library → IsRightCommand is_right c → EachUnit is_right (after library c)
 EachUnit-after is_right library (command.Add name unit) each right =
     (EachUnit-kept is_right library (contains_key library name) (insert library name unit) 31 32 each (EachUnit-insert is_right library name unit each right)).0
 EachUnit-after is_right library (command.Replace name unit) each right =
@@ -55,29 +55,8 @@ EachUnit-after is_right library (command.Replace name unit) each right =
 EachUnit-after is_right library (command.Withdraw name) each right =
     (EachUnit-kept is_right library (contains_key library name) (remove library name) 31 32 each (λ q u is. each q u (found-remove nat_list_cmp_total library name q u is))).1
 
--- each command of the order has a right unit
-abbrev pub AreRight : (StoredUnit → Type 0) → List Numbered → Type 0
-AreRight is_right [] = Unit {0}
-AreRight is_right (numbered ∷ order) = IsRightCommand is_right numbered.command × AreRight is_right order
-
-pub AreRight-push : (is_right : StoredUnit → Type 0) (order : List Numbered) (last : Numbered) → AreRight is_right order → IsRightCommand is_right last.command → AreRight is_right (order ++ last ∷ [])
-AreRight-push is_right [] last right one = (one, tt)
-AreRight-push is_right (numbered ∷ order) last right one = (right.0, AreRight-push is_right order last right.1 one)
-
-pub AreRight-front : (is_right : StoredUnit → Type 0) (front rest : List Numbered) → AreRight is_right (front ++ rest) → AreRight is_right front
-AreRight-front is_right [] rest right = tt
-AreRight-front is_right (numbered ∷ front) rest right = (right.0, AreRight-front is_right front rest right.1)
-
-EachUnit-after_all : (is_right : StoredUnit → Type 0) (library : Units) (order : List Numbered) → EachUnit is_right library → AreRight is_right order → EachUnit is_right (after_all library (commands order))
-EachUnit-after_all is_right library [] each right = each
-EachUnit-after_all is_right library (numbered ∷ order) each right =
-    EachUnit-after_all is_right (after library numbered.command) order (EachUnit-after is_right library numbered.command each right.0) right.1
-
 pub EachUnit-empty : (is_right : StoredUnit → Type 0) → EachUnit is_right empty
 EachUnit-empty is_right name unit is = let none = sym (get-empty (slice_cmp nat_cmp) name) ∙ is in absurd (cc)
-
-pub EachUnit-library : (is_right : StoredUnit → Type 0) (order : List Numbered) → AreRight is_right order → EachUnit is_right (library_of (commands order))
-EachUnit-library is_right order right = EachUnit-after_all is_right empty order (EachUnit-empty is_right) right
 
 -- ---- one command more
 
@@ -256,7 +235,7 @@ split_last (x ∷ xs) =
       | inr some ↦ inr (x ∷ some.0, some.1, ap (λ l. x ∷ l) some.2)
     ]
 
-no_push : {A : Type 0} (front : List A) (last : A) → [] ≡ front ++ last ∷ [] → ⊥
+pub no_push : {A : Type 0} (front : List A) (last : A) → [] ≡ front ++ last ∷ [] → ⊥
 no_push [] last e = absurd (cc)
 no_push (x ∷ front) last e = absurd (cc)
 

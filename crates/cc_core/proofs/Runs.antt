@@ -1,6 +1,7 @@
 -- A run goes on by one turn, and what is reached stays reached.
 use Rattle.std.proofs.Common.{◌≡◌, inl, List, [], ◌∷◌, ◌++◌, Option, Result, Ok, Err, refl, sym, subst}
 use Rattle.std.specs.Prelude.{IfOk, OnErr, OnOk}
+use Rattle.cc_link.specs.declared.unit.StoredUnit.{StoredUnit}
 use Rattle.cc_core.specs.declared.command.Reply.{Reply}
 use Rattle.cc_core.specs.declared.contents.Contents.{Contents}
 use Rattle.cc_core.specs.declared.event.Event.{Event}
@@ -17,13 +18,12 @@ module _ {P : Type 0} (rules : Rules P) (keeps : P → Type 0) where
   Run-push old (first ∷ events) mid e new run turn = (run.0, (run.1.0, Run-push run.0 events mid e new run.1.1 turn))
 
   -- what a step reaches from what is reached is reached; a refused event changes nothing
-  pub Reached-step : (old : Contents P) (e : Event P) (result : Result (Option Reply) CoreFault) (new : Contents P)
-      → Reached rules keeps old → Answers (Step rules old e) result old new → OnOk result (PutsCommand old.core new.core) → OnOk result (HandsIn keeps e) → Reached rules keeps new
-  Reached-step old e (Ok reply) new reached a puts hands = record {
-    area = reached.area;
+  pub Reached-step : (is_right : StoredUnit → Type 0) (old : Contents P) (e : Event P) (result : Result (Option Reply) CoreFault) (new : Contents P)
+      → Reached rules keeps is_right old → Answers (Step rules old e) result old new → OnOk result (PutsCommand old.core new.core) → OnOk result (HandsIn keeps e) → Reached rules keeps is_right new
+  Reached-step is_right old e (Ok reply) new reached a puts hands = record {
     first = reached.first;
     started = reached.started;
     events = reached.events ++ e ∷ [];
     run = Run-push _ reached.events old e new reached.run (inl (reply, a.0, puts, hands));
   }
-  Reached-step old e (Err fault) new reached a puts hands = subst (Reached rules keeps) (sym a.3) reached
+  Reached-step is_right old e (Err fault) new reached a puts hands = subst (Reached rules keeps is_right) (sym a.3) reached

@@ -20,6 +20,7 @@ use Rattle.cc_core.specs.declared.fault.Refusal.TheVariants as refusal
 use Rattle.cc_core.specs.StoreState.{StoreState}
 use Rattle.cc_core.specs.Store.{room_taken}
 use Rattle.cc_core.specs.Rules.{Rules, AreWhole}
+use Rattle.cc_core.specs.Run.{command_source}
 use Rattle.cc_core.proofs.Lists.{All-each}
 use Rattle.cc_core.specs.Job.{source_in, unless, with_unit, accepted, all_there, first_refused, made_pieces, built, command_of, closed, full, map_refusal, first_of_two, command_refusal, verdict}
 
@@ -148,3 +149,22 @@ module _ {P : Type 0} (rules : Rules P) (keeps : P → Type 0) where
       → IsNamed job → IsTrue (all_there job.pieces) → verdict rules phase library store job ≡ Ok c → IsRightCommand is_right c
   verdict_right is_right law phase library store job c named there is =
       command_right is_right law job job.request c refl named there (verdict_taken phase library store job c is).same
+
+  -- and has the source that was handed in
+  with_unit_source : (make : StoredUnit → Command) (source : List ℕ) → ((u : StoredUnit) → command_source (make u) ≡ Some u.source)
+      → (r : Result StoredUnit ℕ) (c : Command) → ((u : StoredUnit) → r ≡ Ok u → u.source ≡ source) → with_unit make r ≡ Ok c → command_source c ≡ Some source
+  with_unit_source make source makes (Ok u) c right is = let same : make u ≡ c = cc in ap command_source (sym same) ∙ makes u ∙ ap Some (right u refl)
+  with_unit_source make source makes (Err number) c right is = absurd (cc)
+
+  command_has_source : (is_right : StoredUnit → Type 0) → IsLawful is_right → (job : Job P) (asked : Request) (c : Command)
+      → job.request ≡ asked → IsNamed job → IsTrue (all_there job.pieces) → command_of rules job asked ≡ Ok c → command_source c ≡ source_in asked
+  command_has_source is_right law job (request.Add name source) c asks named there is =
+      with_unit_source (command.Add name) source (λ u. refl) (built rules job source) c (λ u made. (built_right is_right law job source u named (ap source_in asks) there made).0) is
+  command_has_source is_right law job (request.Replace name source) c asks named there is =
+      with_unit_source (command.Replace name) source (λ u. refl) (built rules job source) c (λ u made. (built_right is_right law job source u named (ap source_in asks) there made).0) is
+  command_has_source is_right law job (request.Withdraw name) c asks named there is = let same : command.Withdraw name ≡ c = cc in ap command_source (sym same)
+
+  pub verdict_source : (is_right : StoredUnit → Type 0) → IsLawful is_right → (phase : Phase) (library : Units) (store : StoreState) (job : Job P) (c : Command)
+      → IsNamed job → IsTrue (all_there job.pieces) → verdict rules phase library store job ≡ Ok c → command_source c ≡ source_in job.request
+  verdict_source is_right law phase library store job c named there is =
+      command_has_source is_right law job job.request c refl named there (verdict_taken phase library store job c is).same

@@ -3,8 +3,13 @@ ghost use Rattle.std.specs.FinMap.{empty};
 ghost use Rattle.cc_library.specs.Apply.{AreAccepted};
 ghost use Rattle.cc_core.specs.declared.contents.Contents.{Contents};
 ghost use Rattle.cc_core.specs.declared.event.Event.{Event};
-ghost use Rattle.cc_core.specs.Step.{Step, IsImpossible, IsStart, commands};
-ghost use Rattle.cc_core.specs.Run.{Turn, Run, EachUnit, EachImageSurvives, EachImageIsRight, PutsCommand, HandsIn, AreRising, live};
+ghost use Rattle.cc_core.specs.declared.command.Numbered.{Numbered};
+ghost use Rattle.cc_core.specs.declared.command.Reply.{Reply};
+ghost use Rattle.cc_core.specs.declared.contents.Core.{Core};
+ghost use Rattle.cc_core.specs.declared.contents.Phase.TheVariants.{Crashed};
+ghost use Rattle.cc_core.specs.declared.ids.ClientId.{ClientId};
+ghost use Rattle.cc_core.specs.Step.{Step, IsImpossible, IsStart, Reopens, StepsCore, commands};
+ghost use Rattle.cc_core.specs.Run.{Turn, Run, EachUnit, EachImageSurvives, EachImageIsRight, PutsCommand, HandsIn, AreRising, IsBeginning, IsOfCrash, PutsSource, Commits, LeavesRecord, live};
 
 use crate::build::Build;
 use crate::command::{Numbered, Reply};
@@ -42,7 +47,7 @@ impl<B: Build> Model for State<B> {
 
     ghost view = { λ s. s.contents };
 
-    ghost invariant = { λ s. Reached B.rules B.keeps s.contents };
+    ghost invariant = { λ s. Reached B.rules B.keeps B.is_right s.contents };
 }
 
 impl<B: Build> State<B> {
@@ -117,6 +122,7 @@ impl<B: Build> State<B> {
         ensures acked { result.now ≡ self.now.core.acknowledged }
         ensures in_order { All (Contains self.now.core.order) self.now.core.acknowledged }
         ensures rising { AreRising self.now.core.order }
+        ensures rising_acked { AreRising self.now.core.acknowledged }
         ensures survives { EachImageSurvives self.now.core }
         ensures right { EachImageIsRight B.is_right self.now.core }
     {
@@ -145,6 +151,7 @@ pub fn run_events<B: Build>(
     // Every acknowledged command is in the order, by its sequence number.
     ensures acked { IfOk result (λ new. All (Contains new.core.order) new.core.acknowledged) }
     ensures rising { IfOk result (λ new. AreRising new.core.order) }
+    ensures rising_acked { IfOk result (λ new. AreRising new.core.acknowledged) }
     // Each unit in the live map is right for its source.
     ensures units { IfOk result (λ new. EachUnit B.is_right new.core.library) }
     ensures refused { IfErr result (λ fault. fault ≡ CoreFault.OutOfMemory) }
@@ -157,13 +164,24 @@ pub fn run_events<B: Build>(
     Ok(state)
 }
 
-/// Whatever the events, from any start: whatever a crash leaves of the disk survives so, its units are right, and the live map
-/// is what the order gives.
+/// Whatever the events, from a fresh disk or an opened one: whatever a crash leaves of the disk survives so, its units are right,
+/// and the live map is what the order gives. In a crashed state the recovery is possible, and nothing else but another crash; a
+/// command that begins has the source that was handed in; and a commit leaves exactly the bytes of its record.
 pub fn crash_law<B: Build>()
-    ensures survives { (area : ℕ) (first new : Contents B.Piece) (events : List (Event B.Piece))
-        → IsStart area first → Run B.rules B.keeps first events new → EachImageSurvives new.core }
-    ensures right { (area : ℕ) (first new : Contents B.Piece) (events : List (Event B.Piece))
-        → IsStart area first → Run B.rules B.keeps first events new → EachImageIsRight B.is_right new.core }
-    ensures replay { (area : ℕ) (first new : Contents B.Piece) (events : List (Event B.Piece))
-        → IsStart area first → Run B.rules B.keeps first events new → new.core.library ≡ live new.core.phase new.core.order }
+    ensures survives { (first new : Contents B.Piece) (events : List (Event B.Piece))
+        → IsBeginning B.is_right first → Run B.rules B.keeps first events new → EachImageSurvives new.core }
+    ensures right { (first new : Contents B.Piece) (events : List (Event B.Piece))
+        → IsBeginning B.is_right first → Run B.rules B.keeps first events new → EachImageIsRight B.is_right new.core }
+    ensures replay { (first new : Contents B.Piece) (events : List (Event B.Piece))
+        → IsBeginning B.is_right first → Run B.rules B.keeps first events new → new.core.library ≡ live new.core.phase new.core.order }
+    ensures recovers { (first new : Contents B.Piece) (events : List (Event B.Piece))
+        → IsBeginning B.is_right first → Run B.rules B.keeps first events new → new.core.phase ≡ Crashed
+        → (reply : Option Reply) × (after : Contents B.Piece) × StepsCore Reopens new reply after }
+    ensures quiet { (first new after : Contents B.Piece) (events : List (Event B.Piece)) (event : Event B.Piece) (reply : Option Reply)
+        → IsBeginning B.is_right first → Run B.rules B.keeps first events new → new.core.phase ≡ Crashed
+        → Step B.rules new event reply after → IsOfCrash event }
+    ensures source { (first new after : Contents B.Piece) (events : List (Event B.Piece)) (client : ClientId)
+        → IsBeginning B.is_right first → Run B.rules B.keeps first events new → PutsSource B.rules client new after }
+    ensures leaves_record { (first new : Contents B.Piece) (events : List (Event B.Piece)) (client : ClientId) (numbered : Numbered) (after : Core)
+        → IsBeginning B.is_right first → Run B.rules B.keeps first events new → Commits client numbered new.core after → LeavesRecord numbered new.core after }
 {}

@@ -15,5 +15,5 @@ take_step-requires g c =
 
 pub invariant_of-self : goal.invariant_of-self
 invariant_of-self g c =
-    Reached-step g.B.Build.rules g.B.Build.keeps c.self.inside.contents c.args.event c.take_step.result c.take_step.new.contents c.self.invariant c.take_step.ensures.answers
+    Reached-step g.B.Build.rules g.B.Build.keeps g.B.Build.is_right c.self.inside.contents c.args.event c.take_step.result c.take_step.new.contents c.self.invariant c.take_step.ensures.answers
     c.take_step.ensures.puts c.take_step.ensures.hands
