@@ -1,7 +1,7 @@
 -- Where what an event asks holds, it has a step: the new state is the one that the step names. And how a handler's answer is
 -- that of the event.
 use Rattle.std.proofs.Common.{◌≡◌, ℕ, ◌+◌, ◌≤◌, refl, sym, subst, ap, ◌∙◌, Option, Some, None, arith, length, List}
-use Rattle.std.specs.Prelude.{slice_get, IsTrue, IfOk, OnOk, OnErr, IsErr, IsErrAnd, IsErrOf, is_err, Bool, true, ◌↔◌, Result, Ok, Err, ◌++◌, ◌∷◌, []}
+use Rattle.std.specs.Prelude.{slice_get, IsTrue, OnOk, OnErr, IsErr, IsErrAnd, IsErrOf, is_err, true, ◌↔◌, Result, Ok, Err, ◌++◌, ◌∷◌, []}
 use Rattle.std.specs.FinMap.{get, insert, remove, empty}
 use Rattle.std.proofs.lemmas.List.{length-append, length-take-le}
 use Rattle.cc_journal.specs.Format.{records}
@@ -36,7 +36,7 @@ use Rattle.cc_core.specs.Job.{job_of, with_piece, all_there, verdict}
 use Rattle.cc_core.specs.StoreState.{StoreState}
 use Rattle.cc_core.specs.Store.{stepped, due_after, FailsTo, crashed_store, behind_gate, gate_of, with_cells}
 use Rattle.cc_core.specs.Step.{Step, IsImpossible, IsUp, IsFree, Submits, Takes, Begins, Begun, Advances, Fails, Acknowledges, Crashes, Reopens, StepsCore, EndsJob, EndsAll, FailsJob, jobs_begun, ticked, numbered_now}
-use Rattle.cc_core.specs.Run.{PutsCommand, HandsIn}
+use Rattle.cc_core.specs.Run.{PutsCommand}
 use Rattle.cc_core.specs.internal.Answers.{Answers}
 use Rattle.cc_core.specs.internal.Ready.{IsRecoverable}
 use Rattle.cc_core.proofs.Orders.{front_longest, some_front}

@@ -1,8 +1,15 @@
 -- What is found on a disk after a crash is what the state says of it, so the recovery has its step.
-use Rattle.std.proofs.Common.{◌≡◌, ℕ, ◌+◌, ◌≤◌, List, None, refl, sym, ap, subst, ◌∙◌, arith, length}
+use Rattle.std.proofs.Common.{◌≡◌, ℕ, ◌+◌, ◌≤◌, List, None, refl, sym, ap, subst, ◌∙◌, arith, length, true, ◌∷◌, ◌++◌}
 use Rattle.std.specs.FinMap.{empty}
 use Rattle.cc_disk.specs.Model.{bytes_of, crashed}
 use Rattle.cc_journal.specs.Format.{records, HoldsRecords}
+use Rattle.cc_journal.specs.Answers.{OpenFaults}
+use Rattle.cc_journal.specs.declared.fault.JournalFault.{JournalFault}
+use Rattle.cc_journal.specs.declared.fault.JournalFault.TheVariants as journal_faults
+use Rattle.cc_library.specs.declared.fault.LibraryFault.{LibraryFault}
+use Rattle.cc_library.specs.declared.fault.LibraryFault.TheVariants as library_faults
+use Rattle.cc_library.specs.Answers.{ReplayFaults}
+use Rattle.cc_library.specs.Fault.{fault_of}
 use Rattle.cc_library.specs.Apply.{Units}
 use Rattle.cc_library.specs.Recovered.{StandFor}
 use Rattle.cc_library.proofs.Standing.{one_map}
@@ -49,3 +56,24 @@ found_reopens old new library used area bodies kept ready crashed f keeps is =
       silent = refl;
       new_is = is ∙ ap (λ (n : ℕ). record old { library = library; order = kept; phase = Idle; store = record old.store { used = n } }) f.used_is;
     }
+
+-- no refusal of the journal comes of a disk that holds records, but that memory runs out
+pub open_fault : (bytes : List ℕ) (area : ℕ) (bodies : List (List ℕ)) → HoldsRecords bytes area bodies → (fault : JournalFault) → OpenFaults true bytes 0 0 fault → fault_of fault ≡ library_faults.OutOfMemory
+open_fault bytes area bodies h journal_faults.DiskFault o = absurd (omega (arith, o))
+open_fault bytes area bodies h journal_faults.NotALibrary o =
+    absurd (o.1 refl area (record { area_byte = h.area_byte; rest = h.other ++ (records bodies ++ h.gate ∷ h.behind); bytes = h.bytes; is_area = h.is_area }))
+open_fault bytes area bodies h journal_faults.Damaged o = absurd ((o.1 refl).1 area bodies h)
+open_fault bytes area bodies h journal_faults.OutOfMemory o = refl
+open_fault bytes area bodies h journal_faults.Full o = absurd o
+open_fault bytes area bodies h journal_faults.Closed o = absurd o
+
+-- nor of records that stand for a map
+pub replay_fault : (bodies : List (List ℕ)) (units : Units) → StandFor bodies units → (fault : LibraryFault) → ReplayFaults bodies fault → fault ≡ library_faults.OutOfMemory
+replay_fault bodies units stand library_faults.Damaged r = absurd (r units stand)
+replay_fault bodies units stand library_faults.OutOfMemory r = refl
+replay_fault bodies units stand library_faults.DiskFault r = absurd r
+replay_fault bodies units stand library_faults.NotALibrary r = absurd r
+replay_fault bodies units stand library_faults.Exists r = absurd r
+replay_fault bodies units stand library_faults.Absent r = absurd r
+replay_fault bodies units stand library_faults.Full r = absurd r
+replay_fault bodies units stand library_faults.Closed r = absurd r

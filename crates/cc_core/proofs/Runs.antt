@@ -1,6 +1,6 @@
 -- A run goes on by one turn, and what is reached stays reached.
-use Rattle.std.proofs.Common.{◌≡◌, inl, List, [], ◌∷◌, ◌++◌, Option, Result, Ok, Err, refl, sym, subst}
-use Rattle.std.specs.Prelude.{IfOk, OnErr, OnOk}
+use Rattle.std.proofs.Common.{inl, List, [], ◌∷◌, ◌++◌, Option, Result, Ok, Err, refl, sym, subst}
+use Rattle.std.specs.Prelude.{OnOk}
 use Rattle.cc_link.specs.declared.unit.StoredUnit.{StoredUnit}
 use Rattle.cc_core.specs.declared.command.Reply.{Reply}
 use Rattle.cc_core.specs.declared.contents.Contents.{Contents}

@@ -1,7 +1,7 @@
 -- What holds of the contents after any events. One record says it, each step keeps it, and so does a run.
 -- How: beside the order and the jobs it says, by phase, what the disk's images hold; a device step goes on from one part of the
 -- commit to the next, a crash leaves one of the images, and a recovery reads it.
-use Rattle.std.proofs.Common.{◌≡◌, ◌⊎◌, inl, inr, ℕ, zero, suc, ◌+◌, ◌-◌, ◌<◌, ◌≤◌, ◌^◌, List, [], ◌∷◌, ◌++◌, length, take, drop, Option, Some, None, Result, Ok, Err, refl, sym, ap, subst, ◌∙◌, arith, All, Contains}
+use Rattle.std.proofs.Common.{◌≡◌, ◌⊎◌, inl, inr, ℕ, zero, suc, ◌+◌, ◌<◌, ◌≤◌, ◌^◌, List, [], ◌∷◌, ◌++◌, length, take, drop, Option, Some, None, Result, Ok, Err, refl, sym, ap, subst, ◌∙◌, arith, All, Contains}
 use Rattle.std.specs.Prelude.{IsOk, slice_get, replicate}
 use Rattle.std.specs.Ordering.{nat_cmp}
 use Rattle.std.specs.Cmp.{nat_cmp_total}
@@ -25,7 +25,6 @@ use Rattle.cc_library.specs.Apply.{apply, after, library_of, AreAccepted}
 use Rattle.cc_library.specs.Body.{IsCommand, body_of}
 use Rattle.cc_library.specs.Recovered.{StandFor, Recovers}
 use Rattle.cc_library.proofs.Standing.{holds_recovers}
-use Rattle.cc_library.specs.Apply.{Units}
 use Rattle.cc_core.specs.declared.command.Request.{Request}
 use Rattle.cc_core.specs.declared.command.Request.TheVariants as request
 use Rattle.cc_core.specs.declared.command.Numbered.{Numbered}
@@ -50,7 +49,7 @@ use Rattle.cc_core.specs.Job.{planned, job_of, source_in, with_piece, closed, ve
 use Rattle.cc_core.specs.StoreState.{StoreState}
 use Rattle.cc_core.specs.Store.{IsFormatted, gate_of, stepped, due_after, crashed_store}
 use Rattle.cc_core.specs.Step.{Step, Begins, Begun, Advances, Fails, Acknowledges, Crashes, Reopens, StepsCore, IsUp, IsFree, IsStart, jobs_begun, ticked, numbered_now, commands}
-use Rattle.cc_core.specs.Run.{EachUnit, AreRising, but_last, live, EachImageSurvives, EachImageIsRight, PutsCommand, HandsIn, Turn, Run, IsBeginning, IsOpened, IsOfCrash, PutsSource, Commits, LeavesRecord, Reached}
+use Rattle.cc_core.specs.Run.{EachUnit, AreRising, live, EachImageSurvives, EachImageIsRight, PutsCommand, HandsIn, Turn, Run, IsBeginning, IsOpened, IsOfCrash, PutsSource, Commits, LeavesRecord, Reached}
 use Rattle.cc_core.specs.internal.Ready.{IsFitting, IsRecoverable, IsReady, IsReadyIn}
 use Rattle.cc_core.proofs.Lists.{slice_get-set, slice_get-push, slice_get-last, Contains-slice_get, All-slice_get, take-push}
 use Rattle.cc_core.proofs.Whole.{IsRightCommand, IsNamed, IsLawful, verdict_right, verdict_source, verdict_taken}
@@ -406,8 +405,8 @@ module _ {P : Type 0} (rules : Rules P) (keeps : P → Type 0) where
     failed_sound client s reply new sound step =
         let f = flight s client step.numbered step.due sound step.committing in
         let disk : HoldsEnds step.store s.order s.acknowledged = λ image now.
-            ends_of step.numbered step.store s.order s.acknowledged f.bodies f.front f.is f.acked f.taken f.stand f.spelled image
-            (failed_images step.due s.store step.store f.bodies step.numbered.command f.room f.on_disk step.failed image now) in
+        ends_of step.numbered step.store s.order s.acknowledged f.bodies f.front f.is f.acked f.taken f.stand f.spelled image
+        (failed_images step.due s.store step.store f.bodies step.numbered.command f.room f.on_disk step.failed image now) in
         let there : IsSoundCore is_right (record s { store = step.store; phase = Failed (Some step.numbered) }) = record {
           replay = sound.replay ∙ ap (λ phase. live phase s.order) step.committing;
           accepted = sound.accepted;

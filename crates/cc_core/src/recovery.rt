@@ -88,7 +88,9 @@ pub(crate) fn recover(alloc: Global, core: &mut Core) -> Answer
     let Phase::Crashed = core.phase else {
         return Err(CoreFault::NotNow);
     };
-    let (library, used) = core.store.open(alloc)?;
+    let Ok((library, used)) = core.store.open(alloc) else {
+        return Err(CoreFault::OutOfMemory);
+    };
     drop_undone(&mut core.order, &library);
     core.library = library;
     core.store.set_used(used);

@@ -1,14 +1,15 @@
 // The core's disk: a journal in the first of its two areas, written one device step at a time.
-ghost use Rattle.std.specs.Prelude.{◌≡◌, ◌↔◌, ◌+◌, ◌^◌, ◌≤◌, [], ◌∷◌, List, ℕ, IsTrue, length, IfOk, OnOk, OnErr};
+ghost use Rattle.std.specs.Prelude.{◌≡◌, ◌↔◌, ◌+◌, ◌^◌, ◌≤◌, [], ◌∷◌, List, ℕ, IsTrue, length, IfOk, IfErr, OnOk, OnErr};
 ghost use Rattle.cc_disk.specs.Model.{bytes_of, IsImage, written, synced};
 ghost use Rattle.cc_disk.specs.Images.{LeavesAlone};
 ghost use Rattle.cc_journal.specs.Format.{HoldsRecords, IsArea, open_gate, records, room_of};
+ghost use Rattle.cc_library.specs.Apply.{Units};
 ghost use Rattle.cc_library.specs.Recovered.{StandFor};
 ghost use Rattle.cc_core.specs.Store.{IsFormatted, gate_of, room_taken, with_cells, crashed_store};
 
 use cc_disk::{Disk, MemoryDisk};
 use cc_journal::{Body, Journal, format};
-use cc_library::{UnitMap, replay};
+use cc_library::{LibraryFault, UnitMap, replay};
 use std::alloc::{AllocError, Global};
 use std::marker::Model;
 
@@ -129,19 +130,26 @@ impl Store {
         Ok(())
     }
 
-    /// Opens a copy of the disk, and reads the map that its records stand for and how many bytes they take. A disk whose
-    /// bytes hold such records refuses for want of memory alone.
-    pub(crate) fn open(&self, alloc: Global) -> Result<(UnitMap, usize), AllocError>
-        requires { LeavesAlone (bytes_of self.now.cells) (IsImage self.now.cells) }
-        ensures { IfOk result (λ found. (area : ℕ) × (bodies : List (List ℕ)) × HoldsRecords (bytes_of self.now.cells) area bodies
+    /// Opens a copy of the disk, and reads the map that its records stand for and how many bytes they take.
+    /// 40 `OutOfMemory` alone: no other refusal can come of a disk whose bytes hold records that stand for a map.
+    pub(crate) fn open(&self, alloc: Global) -> Result<(UnitMap, usize), LibraryFault>
+        requires alone { LeavesAlone (bytes_of self.now.cells) (IsImage self.now.cells) }
+        requires holds { (area : ℕ) × (bodies : List (List ℕ)) × (units : Units) × HoldsRecords (bytes_of self.now.cells) area bodies × StandFor bodies units }
+        ensures answer { IfOk result (λ found. (area : ℕ) × (bodies : List (List ℕ)) × HoldsRecords (bytes_of self.now.cells) area bodies
             × StandFor bodies found.0 × (found.1 ≡ length (records bodies))) }
+        ensures refused { IfErr result (λ fault. fault ≡ LibraryFault.OutOfMemory) }
     {
         let copy = self.disk.crash(alloc, &[])?;
-        let Ok(journal) = Journal::open(alloc, copy) else {
-            return Err(AllocError);
+        let journal = match Journal::open(alloc, copy) {
+            Ok(journal) => journal,
+            Err((fault, disk)) => {
+                drop(disk);
+                return Err(LibraryFault::from(fault));
+            }
         };
-        let Ok(units) = replay(alloc, journal.records()) else {
-            return Err(AllocError);
+        let units = match replay(alloc, journal.records()) {
+            Ok(units) => units,
+            Err(fault) => return Err(fault),
         };
         let used = bytes_taken(journal.records());
         Ok((units, used))

@@ -1,5 +1,5 @@
 -- How a handler answers for its step.
-use Rattle.std.specs.Prelude.{◌≡◌, Option, Result, Ok, Err, IfOk, OnErr, IsErrOf}
+use Rattle.std.specs.Prelude.{◌≡◌, Option, Result, IfOk, OnErr, IsErrOf}
 use Rattle.cc_core.specs.declared.command.Reply.{Reply}
 use Rattle.cc_core.specs.declared.fault.CoreFault.{CoreFault}
 use Rattle.cc_core.specs.declared.fault.CoreFault.TheVariants as faults

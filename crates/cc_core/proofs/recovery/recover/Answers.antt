@@ -6,17 +6,17 @@ use Rattle.cc_core.proofs.Possible.{reopens, memory_answers}
 use Rattle.cc_core.proofs.Reopening.{recoverable_of, found_reopens}
 use Rattle.cc_core.proofs.recovery.recover.Goals as goal
 
-pub returns-in_err-library : goal.returns-in_err-library
-returns-in_err-library c =
-    let e = c.from_residual.ensures in
-    memory_answers (Reopens c.args.core.now) c.from_residual.result c.args.core.now c.args.core.now e.0 e.1 (reopens c.args.core.now c.in-Crashed.is (recoverable_of c.args.core.now c.requires c.in-Crashed.is)) refl
+pub open-requires-clause-holds : goal.open-requires-clause-holds
+open-requires-clause-holds c =
+    let r = recoverable_of c.args.core.now c.requires c.in-Crashed.is in
+    (c.args.core.now.store.area, r.bodies, r.library, r.holds.holds, r.stand)
 
 pub returns : goal.returns
 returns c =
     let old = c.args.core.now in
-    let library = c.in_ok-library.library in
-    let found = c.in_ok-library.ensures in (
-      found_reopens old _ library c.in_ok-library.used found.0 found.1 c.drop_undone.new.order c.requires c.in-Crashed.is
+    let library = c.in-Ok.library in
+    let found = c.in-Ok.ensures.answer in (
+      found_reopens old _ library c.in-Ok.used found.0 found.1 c.drop_undone.new.order c.requires c.in-Crashed.is
           (record { holds = found.2; stand = found.3; used_is = found.4 }) c.drop_undone.ensures
           (λ i. record {
             library = library;
@@ -30,3 +30,7 @@ returns c =
       λ e. absurd (cc),
       tt,
     )
+
+pub returns-in_default-open : goal.returns-in_default-open
+returns-in_default-open c =
+    memory_answers (Reopens c.args.core.now) _ c.args.core.now c.args.core.now refl refl (reopens c.args.core.now c.in-Crashed.is (recoverable_of c.args.core.now c.requires c.in-Crashed.is)) refl

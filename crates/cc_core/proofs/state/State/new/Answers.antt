@@ -18,16 +18,19 @@ invariant_of-result g c = record {
     jobs = c.new-7.result;
     workers = c.new-8.result;
   };
-  started = inl (c.args.area, record {
-    library = c.new-2.ensures;
-    order = c.new-4.ensures ∙ c.new-3.ensures.items;
-    acknowledged = c.new-6.ensures ∙ c.new-5.ensures.items;
-    jobs = c.new-7.ensures;
-    workers = c.new-8.ensures;
-    phase = refl;
-    formatted = c.in_ok-store.ensures;
-    upcoming = ap (λ (p : SequenceNumber). p.value) c.first.ensures;
-  });
+  started = inl (
+    c.args.area,
+    record {
+      library = c.new-2.ensures;
+      order = c.new-4.ensures ∙ c.new-3.ensures.items;
+      acknowledged = c.new-6.ensures ∙ c.new-5.ensures.items;
+      jobs = c.new-7.ensures;
+      workers = c.new-8.ensures;
+      phase = refl;
+      formatted = c.in_ok-store.ensures;
+      upcoming = ap (λ (p : SequenceNumber). p.value) c.first.ensures;
+    },
+  );
   events = [];
   run = refl;
 }

@@ -1,5 +1,4 @@
 -- A step goes on from what was reached, which has what a step needs; after an error the contents are the same.
-use Rattle.cc_core.proofs.Possible.{exact}
 use Rattle.cc_core.proofs.Runs.{Reached-step}
 use Rattle.cc_core.proofs.Sound.{reached_IsSound, sound_ready}
 use Rattle.cc_core.proofs.state.State.step.Goals as goal
