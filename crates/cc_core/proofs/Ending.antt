@@ -10,95 +10,96 @@ use Rattle.cc_disk.specs.Images.{LeavesAlone}
 use Rattle.cc_journal.proofs.Records.{holds_alone}
 use Rattle.cc_library.specs.Apply.{Units, apply, library_of}
 use Rattle.cc_library.specs.Body.{IsCommand, body_of}
-use Rattle.cc_library.specs.Recovered.{StandFor}
+use Rattle.cc_library.specs.Recovered.{StandFor, Recovers}
+use Rattle.cc_link.specs.declared.unit.StoredUnit.{StoredUnit}
 use Rattle.cc_library.proofs.Standing.{one_more, one_map, holds_recovers}
-use Rattle.cc_core.specs.declared.command.Placed.{Placed}
+use Rattle.cc_core.specs.declared.command.Numbered.{Numbered}
 use Rattle.cc_core.specs.declared.contents.Due.{Due}
 use Rattle.cc_core.specs.declared.contents.Phase.{Phase}
 use Rattle.cc_core.specs.declared.contents.Phase.TheVariants.{Idle, Committing, Failed, Crashed}
 use Rattle.cc_core.specs.StoreState.{StoreState}
 use Rattle.cc_core.specs.Step.{IsLongest, commands}
-use Rattle.cc_core.specs.Run.{Survives}
-use Rattle.cc_core.specs.Ready.{HasRoom}
+use Rattle.cc_core.specs.Run.{EachUnit, Survives}
+use Rattle.cc_core.specs.internal.Ready.{HasRoom}
 use Rattle.cc_core.proofs.Orders.{library-push}
-use Rattle.cc_core.proofs.Held.{HoldsA, HoldsAOneOf, IsAtRest, InCommit, commit_images}
+use Rattle.cc_core.proofs.Held.{HoldsIn, HoldsInOneOf, IsAtRest, InCommit, commit_images}
 
 -- ---- what the disk holds, by phase
 
 -- the records stand for the order without its last command, which was not acknowledged
-pub record LacksLast (bodies : List (List ℕ)) (order acknowledged : List Placed) : Type 0 where
-  pub front : List Placed
-  pub last : Placed
+pub record LacksLast (bodies : List (List ℕ)) (order acknowledged : List Numbered) : Type 0 where
+  pub front : List Numbered
+  pub last : Numbered
   pub is : order ≡ front ++ last ∷ []
   pub acked : All (Contains front) acknowledged
   pub stand : StandFor bodies (library_of (commands front))
 
 -- the image holds records that stand for the order, or for the order without its last command
-pub record Ends (area : ℕ) (order acknowledged : List Placed) (image : List ℕ) : Type 0 where
+pub record Ends (byte area : ℕ) (order acknowledged : List Numbered) (image : List ℕ) : Type 0 where
   pub bodies : List (List ℕ)
-  pub held : HoldsA area bodies image
+  pub held : HoldsIn byte area bodies image
   pub known : StandFor bodies (library_of (commands order)) ⊎ LacksLast bodies order acknowledged
 
 -- in no commit: the disk is at rest, and holds the order
-pub record HoldsOrder (store : StoreState) (order : List Placed) : Type 0 where
+pub record HoldsOrder (store : StoreState) (order : List Numbered) : Type 0 where
   pub bodies : List (List ℕ)
   pub rest : IsAtRest store bodies
   pub stand : StandFor bodies (library_of (commands order))
 
 -- in a commit: the disk is where the due step says, and held the order without the last command
-pub record HoldsFlight (placed : Placed) (due : Due) (store : StoreState) (order acknowledged : List Placed) : Type 0 where
+pub record HoldsFlight (numbered : Numbered) (due : Due) (store : StoreState) (order acknowledged : List Numbered) : Type 0 where
   pub bodies : List (List ℕ)
-  pub front : List Placed
-  pub is : order ≡ front ++ placed ∷ []
+  pub front : List Numbered
+  pub is : order ≡ front ++ numbered ∷ []
   pub acked : All (Contains front) acknowledged
-  pub taken : IsOk (apply (library_of (commands front)) placed.command)
+  pub taken : IsOk (apply (library_of (commands front)) numbered.command)
   pub stand : StandFor bodies (library_of (commands front))
-  pub spelled : IsCommand placed.command
-  pub room : HasRoom due store placed.command
-  pub on_disk : InCommit due store bodies (body_of placed.command)
+  pub spelled : IsCommand numbered.command
+  pub room : HasRoom due store numbered.command
+  pub on_disk : InCommit due store bodies (body_of numbered.command)
 
 -- after a failed step: each image ends so
-abbrev pub HoldsEnds : StoreState → List Placed → List Placed → Type 0
-HoldsEnds store order acknowledged = (image : List ℕ) → IsImage store.cells image → Ends store.area order acknowledged image
+abbrev pub HoldsEnds : StoreState → List Numbered → List Numbered → Type 0
+HoldsEnds store order acknowledged = (image : List ℕ) → IsImage store.cells image → Ends store.area_byte store.area order acknowledged image
 
 -- after a crash: there is one image, and it ends so
-pub record HoldsCrash (store : StoreState) (order acknowledged : List Placed) : Type 0 where
+pub record HoldsCrash (store : StoreState) (order acknowledged : List Numbered) : Type 0 where
   pub alone : LeavesAlone (bytes_of store.cells) (IsImage store.cells)
-  pub ends : Ends store.area order acknowledged (bytes_of store.cells)
+  pub ends : Ends store.area_byte store.area order acknowledged (bytes_of store.cells)
 
-abbrev pub IsKept : Phase → StoreState → List Placed → List Placed → Type 0
+abbrev pub IsKept : Phase → StoreState → List Numbered → List Numbered → Type 0
 IsKept Idle store order acknowledged = HoldsOrder store order
-IsKept (Committing client placed due) store order acknowledged = HoldsFlight placed due store order acknowledged
-IsKept Failed store order acknowledged = HoldsEnds store order acknowledged
+IsKept (Committing client numbered due) store order acknowledged = HoldsFlight numbered due store order acknowledged
+IsKept (Failed failed) store order acknowledged = HoldsEnds store order acknowledged
 IsKept Crashed store order acknowledged = HoldsCrash store order acknowledged
 
 -- one record more stands for one command more
-pub stand_more : (bodies : List (List ℕ)) (front : List Placed) (placed : Placed) (order : List Placed) → order ≡ front ++ placed ∷ [] → StandFor bodies (library_of (commands front)) → IsCommand placed.command
-    → IsOk (apply (library_of (commands front)) placed.command) → StandFor (bodies ++ body_of placed.command ∷ []) (library_of (commands order))
-stand_more bodies front placed order is stand spelled taken =
-    subst (StandFor (bodies ++ body_of placed.command ∷ [])) (sym (ap (λ (l : List Placed). library_of (commands l)) is ∙ library-push front placed))
-    (one_more bodies (library_of (commands front)) (body_of placed.command) placed.command stand (record { spelled = refl; command_is = spelled }) taken)
+pub stand_more : (bodies : List (List ℕ)) (front : List Numbered) (numbered : Numbered) (order : List Numbered) → order ≡ front ++ numbered ∷ [] → StandFor bodies (library_of (commands front)) → IsCommand numbered.command
+    → IsOk (apply (library_of (commands front)) numbered.command) → StandFor (bodies ++ body_of numbered.command ∷ []) (library_of (commands order))
+stand_more bodies front numbered order is stand spelled taken =
+    subst (StandFor (bodies ++ body_of numbered.command ∷ [])) (sym (ap (λ (l : List Numbered). library_of (commands l)) is ∙ library-push front numbered))
+    (one_more bodies (library_of (commands front)) (body_of numbered.command) numbered.command stand (record { spelled = refl; command_is = spelled }) taken)
 
 -- what an image with the old records, or with one more, comes to
-pub ends_of : (placed : Placed) (store : StoreState) (order acknowledged : List Placed) (bodies : List (List ℕ)) (front : List Placed) → order ≡ front ++ placed ∷ [] → All (Contains front) acknowledged
-    → IsOk (apply (library_of (commands front)) placed.command) → StandFor bodies (library_of (commands front)) → IsCommand placed.command
-    → (image : List ℕ) → HoldsAOneOf store.area bodies (body_of placed.command) image → Ends store.area order acknowledged image
-ends_of placed store order acknowledged bodies front is acked taken stand spelled image (inl old) =
-    record { bodies = bodies; held = old; known = inr (record { front = front; last = placed; is = is; acked = acked; stand = stand }) }
-ends_of placed store order acknowledged bodies front is acked taken stand spelled image (inr new) =
-    record { bodies = bodies ++ body_of placed.command ∷ []; held = new; known = inl (stand_more bodies front placed order is stand spelled taken) }
+pub ends_of : (numbered : Numbered) (store : StoreState) (order acknowledged : List Numbered) (bodies : List (List ℕ)) (front : List Numbered) → order ≡ front ++ numbered ∷ [] → All (Contains front) acknowledged
+    → IsOk (apply (library_of (commands front)) numbered.command) → StandFor bodies (library_of (commands front)) → IsCommand numbered.command
+    → (image : List ℕ) → HoldsInOneOf store.area_byte store.area bodies (body_of numbered.command) image → Ends store.area_byte store.area order acknowledged image
+ends_of numbered store order acknowledged bodies front is acked taken stand spelled image (inl old) =
+    record { bodies = bodies; held = old; known = inr (record { front = front; last = numbered; is = is; acked = acked; stand = stand }) }
+ends_of numbered store order acknowledged bodies front is acked taken stand spelled image (inr new) =
+    record { bodies = bodies ++ body_of numbered.command ∷ []; held = new; known = inl (stand_more bodies front numbered order is stand spelled taken) }
 
 -- whatever the phase, each image ends so
-pub each_ends : (phase : Phase) (store : StoreState) (order acknowledged : List Placed) → IsKept phase store order acknowledged → (image : List ℕ) → IsImage store.cells image → Ends store.area order acknowledged image
+pub each_ends : (phase : Phase) (store : StoreState) (order acknowledged : List Numbered) → IsKept phase store order acknowledged → (image : List ℕ) → IsImage store.cells image → Ends store.area_byte store.area order acknowledged image
 each_ends Idle store order acknowledged k image now = record { bodies = k.bodies; held = k.rest.images image now; known = inl k.stand }
-each_ends (Committing client placed due) store order acknowledged k image now =
-    ends_of placed store order acknowledged k.bodies k.front k.is k.acked k.taken k.stand k.spelled image (commit_images due store k.bodies (body_of placed.command) k.on_disk image now)
-each_ends Failed store order acknowledged k image now = k image now
-each_ends Crashed store order acknowledged k image now = subst (Ends store.area order acknowledged) (sym (k.alone image now)) k.ends
+each_ends (Committing client numbered due) store order acknowledged k image now =
+    ends_of numbered store order acknowledged k.bodies k.front k.is k.acked k.taken k.stand k.spelled image (commit_images due store k.bodies (body_of numbered.command) k.on_disk image now)
+each_ends (Failed failed) store order acknowledged k image now = k image now
+each_ends Crashed store order acknowledged k image now = subst (Ends store.area_byte store.area order acknowledged) (sym (k.alone image now)) k.ends
 
 -- so it survives
-pub ends_survives : (area : ℕ) (order acknowledged : List Placed) (image : List ℕ) → All (Contains order) acknowledged → Ends area order acknowledged image → Survives image order acknowledged
-ends_survives area order acknowledged image acked e = at e.known
+pub ends_survives : (byte area : ℕ) (order acknowledged : List Numbered) (image : List ℕ) → All (Contains order) acknowledged → Ends byte area order acknowledged image → Survives image order acknowledged
+ends_survives byte area order acknowledged image acked e = at e.known
   where
     at : StandFor e.bodies (library_of (commands order)) ⊎ LacksLast e.bodies order acknowledged → Survives image order acknowledged
     at (inl stand) = record {
@@ -118,26 +119,37 @@ ends_survives area order acknowledged image acked e = at e.known
       recovers = holds_recovers image area e.bodies (library_of (commands lacks.front)) (holds_alone image area e.bodies e.held.holds) lacks.stand;
     }
 
+-- so what it recovers to is right, where the order's library is, and that of the order without its last command
+pub ends_right : (is_right : StoredUnit → Type 0) (byte area : ℕ) (order acknowledged : List Numbered) (image : List ℕ) → Ends byte area order acknowledged image → EachUnit is_right (library_of (commands order))
+    → ((front : List Numbered) (last : Numbered) → order ≡ front ++ last ∷ [] → EachUnit is_right (library_of (commands front))) → (library : Units) → Recovers image library → EachUnit is_right library
+ends_right is_right byte area order acknowledged image e whole before library recovered = at e.known
+  where
+    at : StandFor e.bodies (library_of (commands order)) ⊎ LacksLast e.bodies order acknowledged → EachUnit is_right library
+    at (inl stand) = subst (EachUnit is_right) (sym ((holds_recovers image area e.bodies (library_of (commands order)) (holds_alone image area e.bodies e.held.holds) stand).alone library recovered)) whole
+    at (inr lacks) =
+        subst (EachUnit is_right) (sym ((holds_recovers image area e.bodies (library_of (commands lacks.front)) (holds_alone image area e.bodies e.held.holds) lacks.stand).alone library recovered))
+        (before lacks.front lacks.last lacks.is)
+
 -- ---- the recovery
 
 -- the order that a recovery keeps holds every acknowledged command
-pub kept_acked : (bodies : List (List ℕ)) (order acknowledged kept : List Placed) (library : Units) → All (Contains order) acknowledged → StandFor bodies library
+pub kept_acked : (bodies : List (List ℕ)) (order acknowledged kept : List Numbered) (library : Units) → All (Contains order) acknowledged → StandFor bodies library
     → StandFor bodies (library_of (commands order)) ⊎ LacksLast bodies order acknowledged → IsLongest library order kept → All (Contains kept) acknowledged
 kept_acked bodies order acknowledged kept library acked stand known longest =
-    subst (λ (l : List Placed). All (Contains l) acknowledged) (sym longest.front) (at known (cases_eq longest.count (length order)))
+    subst (λ (l : List Numbered). All (Contains l) acknowledged) (sym longest.front) (at known (cases_eq longest.count (length order)))
   where
     -- a front that leads to this library is no longer than what is kept
-    no_more : (n : ℕ) (front : List Placed) → n ≤ length order → take n order ≡ front → StandFor bodies (library_of (commands front)) → longest.count < n → ⊥
+    no_more : (n : ℕ) (front : List Numbered) → n ≤ length order → take n order ≡ front → StandFor bodies (library_of (commands front)) → longest.count < n → ⊥
     no_more n front within is front_stand less =
-        longest.longest n less within (ap (λ (l : List Placed). library_of (commands l)) is ∙ one_map empty bodies (library_of (commands front)) library front_stand stand)
+        longest.longest n less within (ap (λ (l : List Numbered). library_of (commands l)) is ∙ one_map empty bodies (library_of (commands front)) library front_stand stand)
 
     at : StandFor bodies (library_of (commands order)) ⊎ LacksLast bodies order acknowledged → (longest.count ≡ length order) ⊎ (longest.count ≢ length order) → All (Contains (take longest.count order)) acknowledged
-    at known (inl same) = subst (λ (l : List Placed). All (Contains l) acknowledged) (sym (take_all longest.count order (omega arith))) acked
+    at known (inl same) = subst (λ (l : List Numbered). All (Contains l) acknowledged) (sym (take_all longest.count order (omega arith))) acked
     at (inl whole) (inr differs) = absurd (no_more (length order) order (omega arith) (take_all (length order) order (omega arith)) whole (omega (arith, longest.within, differs)))
     at (inr lacks) (inr differs) =
         let long : length order ≡ length lacks.front + 1 = ap length lacks.is ∙ length-append lacks.front (lacks.last ∷ []) in
         let front_is : take (length lacks.front) order ≡ lacks.front =
-        ap (λ (l : List Placed). take (length lacks.front) l) lacks.is ∙ take_at lacks.front (lacks.last ∷ []) (length lacks.front) refl in
+        ap (λ (l : List Numbered). take (length lacks.front) l) lacks.is ∙ take_at lacks.front (lacks.last ∷ []) (length lacks.front) refl in
         let not_less : longest.count < length lacks.front → ⊥ = no_more (length lacks.front) lacks.front (omega arith) front_is lacks.stand in
         let count_is : longest.count ≡ length lacks.front = omega (arith, not_less, differs, longest.within) in
-        subst (λ (l : List Placed). All (Contains l) acknowledged) (sym (ap (λ (n : ℕ). take n order) count_is ∙ front_is)) lacks.acked
+        subst (λ (l : List Numbered). All (Contains l) acknowledged) (sym (ap (λ (n : ℕ). take n order) count_is ∙ front_is)) lacks.acked

@@ -1,14 +1,15 @@
 -- What the images of the disk hold through a commit, one device step after the other. How: a write leaves each image as an
 -- image from before, but for its range; a sync leaves one image alone; the journal's lemmas say what such bytes hold.
-use Rattle.std.proofs.Common.{◌≡◌, ◌⊎◌, inl, inr, ⊎_elim, true, false, cond, ℕ, ◌+◌, ◌*◌, ◌%◌, ◌<◌, ◌≤◌, List, [], ◌∷◌, ◌++◌, length, take, drop, get_or, refl, sym, ◌∙◌, ap, subst, arith, length-append}
+use Rattle.std.proofs.Common.{◌≡◌, ◌⊎◌, inl, inr, ⊎_elim, true, false, cond, ℕ, ◌+◌, zero, suc, ◌*◌, ◌%◌, ◌<◌, ◌≤◌, List, [], ◌∷◌, ◌++◌, length, take, drop, get_or, refl, sym, ◌∙◌, ap, subst, arith, length-append}
+use Rattle.std.proofs.lemmas.Nat.{mod_below}
 use Rattle.std.proofs.lemmas.List.{take_at, drop_at, drop_more, take-take, take-append-le, length-take-le, length-map}
 use Rattle.cc_disk.specs.declared.cell.Cell.{Cell}
 use Rattle.cc_disk.specs.Model.{bytes_of, IsImage, written, crashed, settled, left}
-use Rattle.cc_disk.specs.Past.{bytes_are_image}
+use Rattle.cc_disk.specs.internal.Laws.{bytes_are_image}
 use Rattle.cc_disk.specs.Images.{IsWritten, DiffersWithin, LeavesAlone}
 use Rattle.cc_disk.proofs.Cells.{length-image, written_images, bytes_of-written, synced_alone, bytes_of-synced, synced_adds_none}
 use Rattle.cc_journal.specs.Format.{header, open_gate, record_bytes, records, HoldsRecords}
-use Rattle.cc_journal.specs.Reading.{HoldsFrom}
+use Rattle.cc_journal.specs.Journal.{HoldsFrom}
 use Rattle.cc_journal.proofs.Records.{length-records_push, length-record_bytes}
 use Rattle.cc_journal.proofs.Images.{frame, length-frame, behind_gate, at_gate, committed, length-written}
 use Rattle.cc_library.specs.declared.command.Command.{Command}
@@ -16,17 +17,29 @@ use Rattle.cc_library.specs.Body.{body_of}
 use Rattle.cc_core.specs.declared.contents.Due.{Due}
 use Rattle.cc_core.specs.declared.contents.Due.TheVariants.{WriteBody, SyncBody, WriteGate, SyncGate, Acknowledge}
 use Rattle.cc_core.specs.StoreState.{StoreState}
-use Rattle.cc_core.specs.Store.{stepped, due_after, FailsTo}
-use Rattle.cc_core.specs.Ready.{HasRoom}
+use Rattle.cc_core.specs.Store.{begin_of, gate_of, stepped, due_after, FailsTo}
+use Rattle.cc_core.specs.internal.Ready.{HasRoom}
 
--- these records stand in area A of the image, whose area byte is 0
-pub record HoldsA (area : ℕ) (bodies : List (List ℕ)) (image : List ℕ) : Type 0 where
+-- these records stand in the area of the image that this area byte names
+pub record HoldsIn (byte area : ℕ) (bodies : List (List ℕ)) (image : List ℕ) : Type 0 where
   pub holds : HoldsRecords image area bodies
-  pub header_is : take 16 image ≡ header 0 area
+  pub header_is : take 16 image ≡ header byte area
 
 -- these records, or these with one more
-abbrev pub HoldsAOneOf : ℕ → List (List ℕ) → List ℕ → List ℕ → Type 0
-HoldsAOneOf area bodies body image = HoldsA area bodies image ⊎ HoldsA area (bodies ++ body ∷ []) image
+abbrev pub HoldsInOneOf : ℕ → ℕ → List (List ℕ) → List ℕ → List ℕ → Type 0
+HoldsInOneOf byte area bodies body image = HoldsIn byte area bodies image ⊎ HoldsIn byte area (bodies ++ body ∷ []) image
+
+-- where an area begins: behind the header, or behind the first area
+part_most : (b n : ℕ) → b < 2 → b * n ≤ n
+part_most zero n lt = omega arith
+part_most (suc zero) n lt = omega arith
+part_most (suc (suc b)) n lt = absurd (omega arith)
+
+pub begin_most : (byte area : ℕ) → begin_of byte area ≤ 16 + area
+begin_most byte area = let le = part_most (byte % 2) area (mod_below byte 2 (omega arith)) in omega arith
+
+pub begin_least : (byte area : ℕ) → 16 ≤ begin_of byte area
+begin_least byte area = omega arith
 
 first_of : List ℕ → ℕ
 first_of [] = 0
@@ -36,15 +49,15 @@ first_of-header : (b c area : ℕ) → header b area ≡ header c area → b ≡
 unfolding first_of
 first_of-header b c area same = ap first_of same
 
-none_before : (b area n : ℕ) → b ≡ 0 → n ≡ b % 2 * area → 16 ≡ 16 + n
-none_before b area n zero is = omega (arith, is, ap (λ (k : ℕ). k % 2 * area) zero)
+begins_behind : (b byte area n : ℕ) → b ≡ byte → n ≡ b % 2 * area → begin_of byte area ≡ 16 + n
+begins_behind b byte area n same is = ap (λ (k : ℕ). 16 + k) (ap (λ (k : ℕ). k % 2 * area) (sym same) ∙ sym is)
 
-pub holds_from : (area : ℕ) (bodies : List (List ℕ)) (image : List ℕ) → HoldsA area bodies image → HoldsFrom image 16 area bodies
-holds_from area bodies image a =
+pub holds_from : (byte area : ℕ) (bodies : List (List ℕ)) (image : List ℕ) → HoldsIn byte area bodies image → HoldsFrom image (begin_of byte area) area bodies
+holds_from byte area bodies image a =
     let h = a.holds in
-    let front : header h.area_byte area ≡ header 0 area =
+    let front : header h.area_byte area ≡ header byte area =
     sym (take_at (header h.area_byte area) (h.other ++ (records bodies ++ h.gate ∷ h.behind)) 16 refl) ∙ sym (ap (λ (l : List ℕ). take 16 l) h.bytes) ∙ a.header_is in
-    record { holds = h; begins = none_before h.area_byte area (length h.other) (first_of-header h.area_byte 0 area front) h.place }
+    record { holds = h; begins = begins_behind h.area_byte byte area (length h.other) (first_of-header h.area_byte byte area front) h.offset }
 
 -- the bytes in front of a range that differs
 same_header : (place n : ℕ) (old new : List ℕ) (front : List ℕ) → 16 ≤ place → DiffersWithin place n old new → take 16 old ≡ front → take 16 new ≡ front
@@ -59,7 +72,7 @@ written_header place bytes old new front le within is same =
     ∙ take-take 16 place old le ∙ same
 
 -- a byte in front of bytes that were written before is one write of both
-two_writes : (old : List ℕ) (g x : ℕ) (xs written new : List ℕ) → g + 1 ≤ length old → IsWritten old (g + 1) xs written → IsWritten written g (x ∷ []) new → IsWritten old g (x ∷ xs) new
+pub two_writes : (old : List ℕ) (g x : ℕ) (xs written new : List ℕ) → g + 1 ≤ length old → IsWritten old (g + 1) xs written → IsWritten written g (x ∷ []) new → IsWritten old g (x ∷ xs) new
 two_writes old g x xs written new within first second =
     let rest = drop (g + 1 + length xs) old in
     let front : take g written ≡ take g old =
@@ -69,35 +82,43 @@ two_writes old g x xs written new within first second =
     let place : g + 1 + length xs ≡ g + length (x ∷ xs) = omega arith in
     second ∙ ap (λ (l : List ℕ). l ++ x ∷ drop (g + 1) written) front ∙ ap (λ (l : List ℕ). take g old ++ x ∷ l) (back ∙ ap (λ (k : ℕ). xs ++ drop k old) place)
 
-module _ (area used : ℕ) (bodies : List (List ℕ)) (taken : used ≡ length (records bodies)) where
+module _ (byte area used : ℕ) (bodies : List (List ℕ)) (taken : used ≡ length (records bodies)) where
   -- whatever stands behind the closed gate, the old records are held
-  behind_held : (n : ℕ) (old image : List ℕ) → HoldsA area bodies old → DiffersWithin (16 + used + 1) n old image → HoldsA area bodies image
-  behind_held n old image a differs = record {
-    holds = behind_gate old 16 area used bodies (holds_from area bodies old a) taken image n differs;
-    header_is = same_header (16 + used + 1) n old image (header 0 area) (omega arith) differs a.header_is;
-  }
+  behind_held : (n : ℕ) (old image : List ℕ) → HoldsIn byte area bodies old → DiffersWithin (begin_of byte area + used + 1) n old image → HoldsIn byte area bodies image
+  behind_held n old image a differs =
+      let least = begin_least byte area in
+      record {
+        holds = behind_gate old (begin_of byte area) area used bodies (holds_from byte area bodies old a) taken image n differs;
+        header_is = same_header (begin_of byte area + used + 1) n old image (header byte area) (omega (arith, least)) differs a.header_is;
+      }
 
   -- with a body written behind the gate, whatever the gate is, the old records or these and the new one are held
-  at_gate_held : (body old written image : List ℕ) → HoldsA area bodies old → used + length body + 6 ≤ area → IsWritten old (16 + used + 1) (frame body) written → length written ≡ length old
-      → DiffersWithin (16 + used) 1 written image → HoldsAOneOf area bodies body image
+  at_gate_held : (body old written image : List ℕ) → HoldsIn byte area bodies old → used + length body + 6 ≤ area → IsWritten old (begin_of byte area + used + 1) (frame body) written → length written ≡ length old
+      → DiffersWithin (begin_of byte area + used) 1 written image → HoldsInOneOf byte area bodies body image
   at_gate_held body old written image a room is long differs =
-      let within : 16 + used + 1 ≤ length old = omega (arith, room, a.holds.is_area.room) in
-      let head : take 16 image ≡ header 0 area =
-      same_header (16 + used) 1 written image (header 0 area) (omega arith) differs (written_header (16 + used + 1) (frame body) old written (header 0 area) (omega arith) within is a.header_is) in
+      let least = begin_least byte area in
+      let most = begin_most byte area in
+      let begin = begin_of byte area in
+      let within : begin + used + 1 ≤ length old = omega (arith, room, most, a.holds.is_area.room) in
+      let head : take 16 image ≡ header byte area =
+      same_header (begin + used) 1 written image (header byte area) (omega (arith, least)) differs (written_header (begin + used + 1) (frame body) old written (header byte area) (omega (arith, least)) within is a.header_is) in
       ⊎_elim
       (λ alone. inl (record { holds = alone.holds; header_is = head }))
       (λ alone. inr (record { holds = alone.holds; header_is = head }))
-      (at_gate old 16 area used bodies (holds_from area bodies old a) taken body written image room is long differs)
+      (at_gate old begin area used bodies (holds_from byte area bodies old a) taken body written image room is long differs)
 
   -- and with the gate open the new one is
-  opened_held : (body old written new : List ℕ) → HoldsA area bodies old → used + length body + 6 ≤ area → IsWritten old (16 + used + 1) (frame body) written
-      → IsWritten written (16 + used) (open_gate ∷ []) new → HoldsA area (bodies ++ body ∷ []) new
+  opened_held : (body old written new : List ℕ) → HoldsIn byte area bodies old → used + length body + 6 ≤ area → IsWritten old (begin_of byte area + used + 1) (frame body) written
+      → IsWritten written (begin_of byte area + used) (open_gate ∷ []) new → HoldsIn byte area (bodies ++ body ∷ []) new
   opened_held body old written new a room first second =
-      let within : 16 + used + 1 ≤ length old = omega (arith, room, a.holds.is_area.room) in
-      let both = two_writes old (16 + used) open_gate (frame body) written new within first second in
+      let least = begin_least byte area in
+      let most = begin_most byte area in
+      let begin = begin_of byte area in
+      let within : begin + used + 1 ≤ length old = omega (arith, room, most, a.holds.is_area.room) in
+      let both = two_writes old (begin + used) open_gate (frame body) written new within first second in
       record {
-        holds = (committed old 16 area used bodies (holds_from area bodies old a) taken body new room both).holds;
-        header_is = written_header (16 + used) (open_gate ∷ frame body) old new (header 0 area) (omega arith) (omega (arith, within)) both a.header_is;
+        holds = (committed old begin area used bodies (holds_from byte area bodies old a) taken body new room both).holds;
+        header_is = written_header (begin + used) (open_gate ∷ frame body) old new (header byte area) (omega (arith, least)) (omega (arith, within)) both a.header_is;
       }
 
 -- ---- the disk in each part of a commit
@@ -105,15 +126,15 @@ module _ (area used : ℕ) (bodies : List (List ℕ)) (taken : used ≡ length (
 -- the records and nothing unsettled that could change them
 pub record IsAtRest (store : StoreState) (bodies : List (List ℕ)) : Type 0 where
   pub taken : store.used ≡ length (records bodies)
-  pub images : (image : List ℕ) → IsImage store.cells image → HoldsA store.area bodies image
+  pub images : (image : List ℕ) → IsImage store.cells image → HoldsIn store.area_byte store.area bodies image
 
 -- a body was written behind the gate
 pub record IsBodyWritten (store : StoreState) (bodies : List (List ℕ)) (body : List ℕ) : Type 0 where
   pub rest : IsAtRest store bodies
   pub before : List ℕ
-  pub held : HoldsA store.area bodies before
+  pub held : HoldsIn store.area_byte store.area bodies before
   pub long : length (bytes_of store.cells) ≡ length before
-  pub seen : IsWritten before (16 + store.used + 1) (frame body) (bytes_of store.cells)
+  pub seen : IsWritten before (gate_of store + 1) (frame body) (bytes_of store.cells)
 
 -- and settled
 pub record IsBodySettled (store : StoreState) (bodies : List (List ℕ)) (body : List ℕ) : Type 0 where
@@ -123,8 +144,8 @@ pub record IsBodySettled (store : StoreState) (bodies : List (List ℕ)) (body :
 -- the gate was written
 pub record IsGateWritten (store : StoreState) (bodies : List (List ℕ)) (body : List ℕ) : Type 0 where
   pub taken : store.used ≡ length (records bodies)
-  pub images : (image : List ℕ) → IsImage store.cells image → HoldsAOneOf store.area bodies body image
-  pub seen : HoldsA store.area (bodies ++ body ∷ []) (bytes_of store.cells)
+  pub images : (image : List ℕ) → IsImage store.cells image → HoldsInOneOf store.area_byte store.area bodies body image
+  pub seen : HoldsIn store.area_byte store.area (bodies ++ body ∷ []) (bytes_of store.cells)
 
 -- by what is due
 abbrev pub InCommit : Due → StoreState → List (List ℕ) → List ℕ → Type 0
@@ -136,7 +157,7 @@ InCommit Acknowledge store bodies body = IsAtRest store (bodies ++ body ∷ [])
 
 -- every image holds the old records or the old and the new one
 pub commit_images : (due : Due) (store : StoreState) (bodies : List (List ℕ)) (body : List ℕ) → InCommit due store bodies body
-    → (image : List ℕ) → IsImage store.cells image → HoldsAOneOf store.area bodies body image
+    → (image : List ℕ) → IsImage store.cells image → HoldsInOneOf store.area_byte store.area bodies body image
 commit_images WriteBody store bodies body c image now = inl (c.images image now)
 commit_images SyncBody store bodies body c image now = inl (c.rest.images image now)
 commit_images WriteGate store bodies body c image now = inl (c.body_written.rest.images image now)
@@ -147,26 +168,26 @@ length-bytes_of : (cells : List Cell) → length (bytes_of cells) ≡ length cel
 length-bytes_of cells = length-map cells (λ (c : Cell). c.byte)
 
 -- the size of a disk that holds records
-size_of : (store : StoreState) (bodies : List (List ℕ)) → HoldsA store.area bodies (bytes_of store.cells) → 16 + 2 * store.area ≤ length store.cells
+size_of : (store : StoreState) (bodies : List (List ℕ)) → HoldsIn store.area_byte store.area bodies (bytes_of store.cells) → 16 + 2 * store.area ≤ length store.cells
 size_of store bodies a = omega (arith, a.holds.is_area.room, length-bytes_of store.cells)
 
 -- the bytes behind the gate are written, whatever they are
 body_images : (store : StoreState) (bodies : List (List ℕ)) (bytes : List ℕ) → IsAtRest store bodies → store.used + length bytes + 1 ≤ store.area
-    → (image : List ℕ) → IsImage (written store.cells (16 + store.used + 1) bytes) image → HoldsA store.area bodies image
+    → (image : List ℕ) → IsImage (written store.cells (gate_of store + 1) bytes) image → HoldsIn store.area_byte store.area bodies image
 body_images store bodies bytes rest room image now =
     let size = size_of store bodies (rest.images (bytes_of store.cells) (bytes_are_image store.cells)) in
-    let from = written_images store.cells (16 + store.used + 1) bytes (omega (arith, size, room)) image now in
-    behind_held store.area store.used bodies rest.taken (length bytes) from.0 image (rest.images from.0 from.1) from.2
+    let from = written_images store.cells (gate_of store + 1) bytes (omega (arith, size, room, begin_most store.area_byte store.area)) image now in
+    behind_held store.area_byte store.area store.used bodies rest.taken (length bytes) from.0 image (rest.images from.0 from.1) from.2
 
 -- the gate is written, whatever it is
 gate_images : (store : StoreState) (bodies : List (List ℕ)) (body : List ℕ) (byte : ℕ) → IsBodySettled store bodies body → store.used + length body + 6 ≤ store.area
-    → (image : List ℕ) → IsImage (written store.cells (16 + store.used) (byte ∷ [])) image → HoldsAOneOf store.area bodies body image
+    → (image : List ℕ) → IsImage (written store.cells (gate_of store) (byte ∷ [])) image → HoldsInOneOf store.area_byte store.area bodies body image
 gate_images store bodies body byte s room image now =
     let w = s.body_written in
     let size = size_of store bodies (w.rest.images (bytes_of store.cells) (bytes_are_image store.cells)) in
-    let from = written_images store.cells (16 + store.used) (byte ∷ []) (omega (arith, size, room)) image now in
-    let differs = subst (λ (old : List ℕ). DiffersWithin (16 + store.used) 1 old image) (s.alone from.0 from.1) from.2 in
-    at_gate_held store.area store.used bodies w.rest.taken body w.before (bytes_of store.cells) image w.held room w.seen w.long differs
+    let from = written_images store.cells (gate_of store) (byte ∷ []) (omega (arith, size, room, begin_most store.area_byte store.area)) image now in
+    let differs = subst (λ (old : List ℕ). DiffersWithin (gate_of store) 1 old image) (s.alone from.0 from.1) from.2 in
+    at_gate_held store.area_byte store.area store.used bodies w.rest.taken body w.before (bytes_of store.cells) image w.held room w.seen w.long differs
 
 -- each device step goes on to the next part
 pub commit_goes_on : (due : Due) (store : StoreState) (bodies : List (List ℕ)) (command : Command) → HasRoom due store command → InCommit due store bodies (body_of command)
@@ -174,14 +195,14 @@ pub commit_goes_on : (due : Due) (store : StoreState) (bodies : List (List ℕ))
 commit_goes_on WriteBody store bodies command room c =
     let body = body_of command in
     let size = size_of store bodies (c.images (bytes_of store.cells) (bytes_are_image store.cells)) in
-    let is = bytes_of-written store.cells (16 + store.used + 1) (frame body) in
+    let is = bytes_of-written store.cells (gate_of store + 1) (frame body) in
     let held = c.images (bytes_of store.cells) (bytes_are_image store.cells) in
     record {
       rest = record { taken = c.taken; images = body_images store bodies (frame body) c (omega (arith, room.0, length-frame body)) };
       before = bytes_of store.cells;
       held = held;
-      long = length-written (bytes_of store.cells) 16 store.area store.used bodies (holds_from store.area bodies (bytes_of store.cells) held) c.taken (16 + store.used + 1) (frame body) _
-          (omega (arith, room.0, length-frame body, size, length-bytes_of store.cells)) is;
+      long = length-written (bytes_of store.cells) (begin_of store.area_byte store.area) store.area store.used bodies (holds_from store.area_byte store.area bodies (bytes_of store.cells) held) c.taken (gate_of store + 1) (frame body) _
+          (omega (arith, room.0, length-frame body, size, length-bytes_of store.cells, begin_most store.area_byte store.area)) is;
       seen = is;
     }
 commit_goes_on SyncBody store bodies command room c =
@@ -192,7 +213,7 @@ commit_goes_on SyncBody store bodies command room c =
         before = c.before;
         held = c.held;
         long = subst (λ (l : List ℕ). length l ≡ length c.before) same c.long;
-        seen = subst (λ (l : List ℕ). IsWritten c.before (16 + store.used + 1) (frame (body_of command)) l) same c.seen;
+        seen = subst (λ (l : List ℕ). IsWritten c.before (gate_of store + 1) (frame (body_of command)) l) same c.seen;
       };
       alone = λ image now. synced_alone store.cells image now ∙ same;
     }
@@ -203,13 +224,13 @@ commit_goes_on WriteGate store bodies command room c =
     record {
       taken = w.rest.taken;
       images = gate_images store bodies body open_gate c fits;
-      seen = opened_held store.area store.used bodies w.rest.taken body w.before (bytes_of store.cells) _ w.held fits w.seen (bytes_of-written store.cells (16 + store.used) (open_gate ∷ []));
+      seen = opened_held store.area_byte store.area store.used bodies w.rest.taken body w.before (bytes_of store.cells) _ w.held fits w.seen (bytes_of-written store.cells (gate_of store) (open_gate ∷ []));
     }
 commit_goes_on SyncGate store bodies command room c =
     let body = body_of command in
     record {
       taken = omega (arith, c.taken, length-records_push bodies body);
-      images = λ image now. subst (λ (l : List ℕ). HoldsA store.area (bodies ++ body ∷ []) l) (sym (synced_alone store.cells image now)) c.seen;
+      images = λ image now. subst (λ (l : List ℕ). HoldsIn store.area_byte store.area (bodies ++ body ∷ []) l) (sym (synced_alone store.cells image now)) c.seen;
     }
 commit_goes_on Acknowledge store bodies command room c = c
 
@@ -223,19 +244,19 @@ room_goes_on Acknowledge store command room = tt
 
 -- what a failed step leaves
 pub failed_images : (due : Due) (store new : StoreState) (bodies : List (List ℕ)) (command : Command) → HasRoom due store command → InCommit due store bodies (body_of command) → FailsTo due command store new
-    → (image : List ℕ) → IsImage new.cells image → HoldsAOneOf new.area bodies (body_of command) image
+    → (image : List ℕ) → IsImage new.cells image → HoldsInOneOf new.area_byte new.area bodies (body_of command) image
 failed_images WriteBody store new bodies command room c f =
     let body = body_of command in
-    let P : StoreState → Type 0 = λ s. (image : List ℕ) → IsImage s.cells image → HoldsAOneOf s.area bodies body image in
+    let P : StoreState → Type 0 = λ s. (image : List ℕ) → IsImage s.cells image → HoldsInOneOf s.area_byte s.area bodies body image in
     subst P (sym f.2) (λ image now. inl (body_images store bodies f.0 c (omega (arith, room.0, length-frame body, f.1)) image now))
 failed_images SyncBody store new bodies command room c f =
-    let P : StoreState → Type 0 = λ s. (image : List ℕ) → IsImage s.cells image → HoldsAOneOf s.area bodies (body_of command) image in
+    let P : StoreState → Type 0 = λ s. (image : List ℕ) → IsImage s.cells image → HoldsInOneOf s.area_byte s.area bodies (body_of command) image in
     subst P (sym f) (commit_images SyncBody store bodies (body_of command) c)
 failed_images WriteGate store new bodies command room c f =
-    let P : StoreState → Type 0 = λ s. (image : List ℕ) → IsImage s.cells image → HoldsAOneOf s.area bodies (body_of command) image in
+    let P : StoreState → Type 0 = λ s. (image : List ℕ) → IsImage s.cells image → HoldsInOneOf s.area_byte s.area bodies (body_of command) image in
     subst P (sym f.1) (gate_images store bodies (body_of command) f.0 c (omega (arith, room.0)))
 failed_images SyncGate store new bodies command room c f =
-    let P : StoreState → Type 0 = λ s. (image : List ℕ) → IsImage s.cells image → HoldsAOneOf s.area bodies (body_of command) image in
+    let P : StoreState → Type 0 = λ s. (image : List ℕ) → IsImage s.cells image → HoldsInOneOf s.area_byte s.area bodies (body_of command) image in
     subst P (sym f) (commit_images SyncGate store bodies (body_of command) c)
 failed_images Acknowledge store new bodies command room c f = absurd f
 

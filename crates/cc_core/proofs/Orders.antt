@@ -16,10 +16,10 @@ use Rattle.cc_link.specs.declared.unit.StoredUnit.{StoredUnit}
 use Rattle.cc_library.specs.declared.command.Command.{Command}
 use Rattle.cc_library.specs.declared.command.Command.TheVariants as command
 use Rattle.cc_library.specs.Apply.{Units, apply, kept, after, after_all, library_of, AreAccepted}
-use Rattle.cc_core.specs.declared.command.Placed.{Placed}
+use Rattle.cc_core.specs.declared.command.Numbered.{Numbered}
 use Rattle.cc_core.specs.Step.{commands, IsLongest}
 use Rattle.cc_core.specs.Run.{EachUnit, but_last}
-use Rattle.cc_core.specs.Ready.{IsOldOrNew, IsInEffect, IsFrontKept}
+use Rattle.cc_core.specs.internal.Ready.{IsOfOrder, IsInEffect, IsFrontKept}
 use Rattle.cc_core.proofs.Lists.{take-push}
 use Rattle.cc_core.proofs.Whole.{IsRightCommand}
 
@@ -47,7 +47,7 @@ EachUnit-kept : (is_right : StoredUnit → Type 0) (library : Units) (b : Bool) 
 EachUnit-kept is_right library true made first second each new = (each, new)
 EachUnit-kept is_right library false made first second each new = (new, each)
 
-EachUnit-after : (is_right : StoredUnit → Type 0) (library : Units) (c : Command) → EachUnit is_right library → IsRightCommand is_right c → EachUnit is_right (after library c)
+pub EachUnit-after : (is_right : StoredUnit → Type 0) (library : Units) (c : Command) → EachUnit is_right library → IsRightCommand is_right c → EachUnit is_right (after library c)
 EachUnit-after is_right library (command.Add name unit) each right =
     (EachUnit-kept is_right library (contains_key library name) (insert library name unit) 31 32 each (EachUnit-insert is_right library name unit each right)).0
 EachUnit-after is_right library (command.Replace name unit) each right =
@@ -55,29 +55,8 @@ EachUnit-after is_right library (command.Replace name unit) each right =
 EachUnit-after is_right library (command.Withdraw name) each right =
     (EachUnit-kept is_right library (contains_key library name) (remove library name) 31 32 each (λ q u is. each q u (found-remove nat_list_cmp_total library name q u is))).1
 
--- each command of the order has a right unit
-abbrev pub AreRight : (StoredUnit → Type 0) → List Placed → Type 0
-AreRight is_right [] = Unit {0}
-AreRight is_right (placed ∷ order) = IsRightCommand is_right placed.command × AreRight is_right order
-
-pub AreRight-push : (is_right : StoredUnit → Type 0) (order : List Placed) (last : Placed) → AreRight is_right order → IsRightCommand is_right last.command → AreRight is_right (order ++ last ∷ [])
-AreRight-push is_right [] last right one = (one, tt)
-AreRight-push is_right (placed ∷ order) last right one = (right.0, AreRight-push is_right order last right.1 one)
-
-pub AreRight-front : (is_right : StoredUnit → Type 0) (front rest : List Placed) → AreRight is_right (front ++ rest) → AreRight is_right front
-AreRight-front is_right [] rest right = tt
-AreRight-front is_right (placed ∷ front) rest right = (right.0, AreRight-front is_right front rest right.1)
-
-EachUnit-after_all : (is_right : StoredUnit → Type 0) (library : Units) (order : List Placed) → EachUnit is_right library → AreRight is_right order → EachUnit is_right (after_all library (commands order))
-EachUnit-after_all is_right library [] each right = each
-EachUnit-after_all is_right library (placed ∷ order) each right =
-    EachUnit-after_all is_right (after library placed.command) order (EachUnit-after is_right library placed.command each right.0) right.1
-
 pub EachUnit-empty : (is_right : StoredUnit → Type 0) → EachUnit is_right empty
 EachUnit-empty is_right name unit is = let none = sym (get-empty (slice_cmp nat_cmp) name) ∙ is in absurd (cc)
-
-pub EachUnit-library : (is_right : StoredUnit → Type 0) (order : List Placed) → AreRight is_right order → EachUnit is_right (library_of (commands order))
-EachUnit-library is_right order right = EachUnit-after_all is_right empty order (EachUnit-empty is_right) right
 
 -- ---- one command more
 
@@ -85,10 +64,10 @@ after_all-push : (library : Units) (cs : List Command) (c : Command) → after_a
 after_all-push library [] c = refl
 after_all-push library (d ∷ cs) c = after_all-push (after library d) cs c
 
-commands-push : (front : List Placed) (last : Placed) → commands (front ++ last ∷ []) ≡ commands front ++ last.command ∷ []
-commands-push front last = map-append (λ (p : Placed). p.command) front (last ∷ [])
+commands-push : (front : List Numbered) (last : Numbered) → commands (front ++ last ∷ []) ≡ commands front ++ last.command ∷ []
+commands-push front last = map-append (λ (p : Numbered). p.command) front (last ∷ [])
 
-pub library-push : (front : List Placed) (last : Placed) → library_of (commands (front ++ last ∷ [])) ≡ after (library_of (commands front)) last.command
+pub library-push : (front : List Numbered) (last : Numbered) → library_of (commands (front ++ last ∷ [])) ≡ after (library_of (commands front)) last.command
 library-push front last = ap library_of (commands-push front last) ∙ after_all-push empty (commands front) last.command
 
 accepted_push : (library : Units) (cs : List Command) (c : Command) → AreAccepted library cs → IsOk (apply (after_all library cs) c) → AreAccepted library (cs ++ c ∷ [])
@@ -103,16 +82,16 @@ accepted_last : (library : Units) (cs : List Command) (c : Command) → AreAccep
 accepted_last library [] c all = all.0
 accepted_last library (d ∷ cs) c all = accepted_last (after library d) cs c all.1
 
-pub AreAccepted-push : (front : List Placed) (last : Placed) → AreAccepted empty (commands front) → IsOk (apply (library_of (commands front)) last.command) → AreAccepted empty (commands (front ++ last ∷ []))
+pub AreAccepted-push : (front : List Numbered) (last : Numbered) → AreAccepted empty (commands front) → IsOk (apply (library_of (commands front)) last.command) → AreAccepted empty (commands (front ++ last ∷ []))
 AreAccepted-push front last all taken = subst (AreAccepted empty) (sym (commands-push front last)) (accepted_push empty (commands front) last.command all taken)
 
-pub AreAccepted-before : (front rest : List Placed) → AreAccepted empty (commands (front ++ rest)) → AreAccepted empty (commands front)
-AreAccepted-before front rest all = accepted_before empty (commands front) (commands rest) (subst (AreAccepted empty) (map-append (λ (p : Placed). p.command) front rest) all)
+pub AreAccepted-before : (front rest : List Numbered) → AreAccepted empty (commands (front ++ rest)) → AreAccepted empty (commands front)
+AreAccepted-before front rest all = accepted_before empty (commands front) (commands rest) (subst (AreAccepted empty) (map-append (λ (p : Numbered). p.command) front rest) all)
 
-pub AreAccepted-last : (front : List Placed) (last : Placed) → AreAccepted empty (commands (front ++ last ∷ [])) → IsOk (apply (library_of (commands front)) last.command)
+pub AreAccepted-last : (front : List Numbered) (last : Numbered) → AreAccepted empty (commands (front ++ last ∷ [])) → IsOk (apply (library_of (commands front)) last.command)
 AreAccepted-last front last all = accepted_last empty (commands front) last.command (subst (AreAccepted empty) (commands-push front last) all)
 
-pub but_last-push : (front : List Placed) (last : Placed) (order : List Placed) → order ≡ front ++ last ∷ [] → but_last order ≡ front
+pub but_last-push : (front : List Numbered) (last : Numbered) (order : List Numbered) → order ≡ front ++ last ∷ [] → but_last order ≡ front
 but_last-push front last order is = ap but_last is ∙ take-push front last
 
 -- two lists that end are equal in their last elements
@@ -256,24 +235,24 @@ split_last (x ∷ xs) =
       | inr some ↦ inr (x ∷ some.0, some.1, ap (λ l. x ∷ l) some.2)
     ]
 
-no_push : {A : Type 0} (front : List A) (last : A) → [] ≡ front ++ last ∷ [] → ⊥
+pub no_push : {A : Type 0} (front : List A) (last : A) → [] ≡ front ++ last ∷ [] → ⊥
 no_push [] last e = absurd (cc)
 no_push (x ∷ front) last e = absurd (cc)
 
 -- the test of the last command keeps some front
-pub some_front : (library : Units) (order : List Placed) → (kept : List Placed) × IsFrontKept library order kept
+pub some_front : (library : Units) (order : List Numbered) → (kept : List Numbered) × IsFrontKept library order kept
 some_front library order =
     elim (split_last order) [
       | inl none ↦ (order, inl (refl, λ front last is. absurd (no_push front last (sym none ∙ is))))
       | inr some ↦ elim (decided_effect library some.1.command) [
-        | inl there ↦ (order, inl (refl, λ front last is. subst (λ (p : Placed). IsInEffect library p.command) (same_last some.0 some.1 front last (sym some.2 ∙ is)) there))
+        | inl there ↦ (order, inl (refl, λ front last is. subst (λ (p : Numbered). IsInEffect library p.command) (same_last some.0 some.1 front last (sym some.2 ∙ is)) there))
         | inr gone ↦ (some.0, inr (some.1, some.2, gone))
       ]
     ]
 
 -- ---- the longest front
 
-longest_whole : (library : Units) (order : List Placed) → library_of (commands order) ≡ library → IsLongest library order order
+longest_whole : (library : Units) (order : List Numbered) → library_of (commands order) ≡ library → IsLongest library order order
 longest_whole library order leads = record {
   count = length order;
   within = omega arith;
@@ -283,26 +262,26 @@ longest_whole library order leads = record {
 }
 
 -- what the test of the last command keeps is the longest front whose library was recovered
-pub front_longest : (library : Units) (old new : List Placed) → AreAccepted empty (commands old) → IsOldOrNew library old → IsFrontKept library old new → IsLongest library old new
+pub front_longest : (library : Units) (old new : List Numbered) → AreAccepted empty (commands old) → IsOfOrder library old → IsFrontKept library old new → IsLongest library old new
 front_longest library old new all (inl whole) (inl keeps) =
     subst (IsLongest library old) (sym keeps.0) (longest_whole library old (sym whole))
 front_longest library old new all (inr lacks) (inl keeps) =
     let front = lacks.0 in
     let last = lacks.1 in
-    let ok = AreAccepted-last front last (subst (λ (l : List Placed). AreAccepted empty (commands l)) lacks.2 all) in
+    let ok = AreAccepted-last front last (subst (λ (l : List Numbered). AreAccepted empty (commands l)) lacks.2 all) in
     let there = subst (λ (m : Units). IsInEffect m last.command) lacks.3 (keeps.1 front last lacks.2) in
-    let leads = ap (λ (l : List Placed). library_of (commands l)) lacks.2 ∙ library-push front last ∙ effect_stays (library_of (commands front)) last.command ok there ∙ sym lacks.3 in
+    let leads = ap (λ (l : List Numbered). library_of (commands l)) lacks.2 ∙ library-push front last ∙ effect_stays (library_of (commands front)) last.command ok there ∙ sym lacks.3 in
     subst (IsLongest library old) (sym keeps.0) (longest_whole library old leads)
 front_longest library old new all known (inr drops) =
     record {
       count = length new;
       within = omega (arith, long);
-      front = sym (take-push new last) ∙ ap (λ (l : List Placed). take (length l - 1) l) (sym is) ∙ ap (λ (n : ℕ). take n old) (omega (arith, long));
+      front = sym (take-push new last) ∙ ap (λ (l : List Numbered). take (length l - 1) l) (sym is) ∙ ap (λ (n : ℕ). take n old) (omega (arith, long));
       leads = leads known;
-      longest = λ n more within other. not_in_effect (whole_in_effect (ap (λ (l : List Placed). library_of (commands l)) (sym (take_all n old (omega (arith, long)))) ∙ other));
+      longest = λ n more within other. not_in_effect (whole_in_effect (ap (λ (l : List Numbered). library_of (commands l)) (sym (take_all n old (omega (arith, long)))) ∙ other));
     }
   where
-    last : Placed
+    last : Numbered
     last = drops.0
 
     is : old ≡ new ++ last ∷ []
@@ -315,13 +294,13 @@ front_longest library old new all known (inr drops) =
     long = ap length is ∙ length-append new (last ∷ [])
 
     ok : IsOk (apply (library_of (commands new)) last.command)
-    ok = AreAccepted-last new last (subst (λ (l : List Placed). AreAccepted empty (commands l)) is all)
+    ok = AreAccepted-last new last (subst (λ (l : List Numbered). AreAccepted empty (commands l)) is all)
 
     whole_in_effect : library_of (commands old) ≡ library → IsInEffect library last.command
     whole_in_effect same =
-        subst (λ (m : Units). IsInEffect m last.command) (sym (library-push new last) ∙ ap (λ (l : List Placed). library_of (commands l)) (sym is) ∙ same)
+        subst (λ (m : Units). IsInEffect m last.command) (sym (library-push new last) ∙ ap (λ (l : List Numbered). library_of (commands l)) (sym is) ∙ same)
         (after_in_effect (library_of (commands new)) last.command ok)
 
-    leads : IsOldOrNew library old → library_of (commands new) ≡ library
+    leads : IsOfOrder library old → library_of (commands new) ≡ library
     leads (inl whole) = absurd (not_in_effect (whole_in_effect (sym whole)))
-    leads (inr lacks) = ap (λ (l : List Placed). library_of (commands l)) (sym (but_last-push new last old is) ∙ but_last-push lacks.0 lacks.1 old lacks.2) ∙ sym lacks.3
+    leads (inr lacks) = ap (λ (l : List Numbered). library_of (commands l)) (sym (but_last-push new last old is) ∙ but_last-push lacks.0 lacks.1 old lacks.2) ∙ sym lacks.3

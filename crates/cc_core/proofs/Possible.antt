@@ -1,6 +1,7 @@
--- Where what an event asks holds, it has a step: the new state is the one that the step names.
-use Rattle.std.proofs.Common.{◌≡◌, ℕ, ◌+◌, ◌≤◌, refl, ap, ◌∙◌, Option, Some, None, arith, length, List}
-use Rattle.std.specs.Prelude.{slice_get, IsTrue, IfOk, OnOk, IsErrOf, ◌↔◌, Result, Ok, Err, ◌++◌, ◌∷◌, []}
+-- Where what an event asks holds, it has a step: the new state is the one that the step names. And how a handler's answer is
+-- that of the event.
+use Rattle.std.proofs.Common.{◌≡◌, ℕ, ◌+◌, ◌≤◌, refl, sym, subst, ap, ◌∙◌, Option, Some, None, arith, length, List}
+use Rattle.std.specs.Prelude.{slice_get, IsTrue, OnOk, OnErr, IsErr, IsErrAnd, IsErrOf, is_err, true, ◌↔◌, Result, Ok, Err, ◌++◌, ◌∷◌, []}
 use Rattle.std.specs.FinMap.{get, insert, remove, empty}
 use Rattle.std.proofs.lemmas.List.{length-append, length-take-le}
 use Rattle.cc_journal.specs.Format.{records}
@@ -9,12 +10,13 @@ use Rattle.cc_library.specs.declared.command.Command.{Command}
 use Rattle.cc_library.specs.Apply.{after}
 use Rattle.cc_library.specs.Body.{body_of}
 use Rattle.cc_core.specs.declared.command.Request.{Request}
-use Rattle.cc_core.specs.declared.command.Placed.{Placed}
+use Rattle.cc_core.specs.declared.command.Numbered.{Numbered}
 use Rattle.cc_core.specs.declared.command.Reply.{Reply}
 use Rattle.cc_core.specs.declared.command.Reply.TheVariants as replies
 use Rattle.cc_core.specs.declared.job.Job.{Job}
 use Rattle.cc_core.specs.declared.job.Progress.TheVariants.{Waiting, Taken}
 use Rattle.cc_core.specs.declared.contents.Contents.{Contents}
+use Rattle.cc_core.specs.declared.contents.Core.{Core}
 use Rattle.cc_core.specs.declared.contents.Due.{Due}
 use Rattle.cc_core.specs.declared.contents.Due.TheVariants as due
 use Rattle.cc_core.specs.declared.contents.Phase.{Phase}
@@ -23,117 +25,190 @@ use Rattle.cc_core.specs.declared.event.Event.{Event}
 use Rattle.cc_core.specs.declared.event.Event.TheVariants as event
 use Rattle.cc_core.specs.declared.fault.CoreFault.{CoreFault}
 use Rattle.cc_core.specs.declared.fault.CoreFault.TheVariants as faults
+use Rattle.cc_core.specs.declared.fault.Refusal.{Refusal}
+use Rattle.cc_core.specs.declared.fault.Refusal.TheVariants as refusal
+use Rattle.cc_core.specs.declared.ids.CallId.{CallId}
+use Rattle.cc_core.specs.declared.ids.ClientId.{ClientId}
+use Rattle.cc_core.specs.declared.ids.PartIndex.{PartIndex}
+use Rattle.cc_core.specs.declared.ids.WorkerId.{WorkerId}
 use Rattle.cc_core.specs.Rules.{Rules}
 use Rattle.cc_core.specs.Job.{job_of, with_piece, all_there, verdict}
 use Rattle.cc_core.specs.StoreState.{StoreState}
 use Rattle.cc_core.specs.Store.{stepped, due_after, FailsTo, crashed_store, behind_gate, gate_of, with_cells}
-use Rattle.cc_core.specs.Step.{Step, IsImpossible, IsUp, IsFree, Submits, Takes, Begins, Begun, Advances, Fails, Acknowledges, Crashes, Reopens, counted, placed_now}
+use Rattle.cc_core.specs.Step.{Step, IsImpossible, IsUp, IsFree, Submits, Takes, Begins, Begun, Advances, Fails, Acknowledges, Crashes, Reopens, StepsCore, EndsJob, EndsAll, FailsJob, jobs_begun, ticked, numbered_now}
 use Rattle.cc_core.specs.Run.{PutsCommand}
-use Rattle.cc_core.specs.Ready.{IsRecoverable}
+use Rattle.cc_core.specs.internal.Answers.{Answers}
+use Rattle.cc_core.specs.internal.Ready.{IsRecoverable}
 use Rattle.cc_core.proofs.Orders.{front_longest, some_front}
 
 -- a phase that was matched by its parts
-pub committing_is : (phase : Phase) (a b : ℕ) (placed : Placed) (d e : Due) → phase ≡ Committing a placed d → d ≡ e → a ≡ b → phase ≡ Committing b placed e
-committing_is phase a b placed d e is due_is client_is = is ∙ (λ i. Committing (client_is i) placed (due_is i))
+pub committing_is : (phase : Phase) (a b : ClientId) (numbered : Numbered) (d e : Due) → phase ≡ Committing a numbered d → d ≡ e → a.number ≡ b.number → phase ≡ Committing b numbered e
+committing_is phase a b numbered d e is due_is client_is = is ∙ (λ i. Committing (record { number = client_is i }) numbered (due_is i))
+
+-- ---- steps of the core
+
+pub advances : (due : Due) (old : Core) (client : ClientId) (numbered : Numbered) → old.phase ≡ Committing client numbered due
+    → (reply : Option Reply) × (new : Core) × Advances due old reply new
+advances due old client numbered committing = (
+  None,
+  record old { store = stepped due numbered.command old.store; phase = Committing client numbered (due_after due) },
+  record { client = client; numbered = numbered; committing = committing; silent = refl; new_is = refl },
+)
+
+fails_to : (old : Core) (client : ClientId) (numbered : Numbered) (due : Due) (store : StoreState) → old.phase ≡ Committing client numbered due → FailsTo due numbered.command old.store store
+    → (reply : Option Reply) × (new : Core) × Fails client old reply new
+fails_to old client numbered due store committing failed = (
+  Some (replies.Refused refusal.DiskFault),
+  record old { store = store; phase = Failed (Some numbered) },
+  record { numbered = numbered; due = due; store = store; committing = committing; failed = failed; told = refl; new_is = refl },
+)
+
+-- each device step can fail: a write may have left what it was to write
+pub fails : (old : Core) (client : ClientId) (numbered : Numbered) (now : Due) → old.phase ≡ Committing client numbered now → (now ≡ due.Acknowledge → ⊥)
+    → (reply : Option Reply) × (new : Core) × Fails client old reply new
+fails old client numbered due.WriteBody committing device =
+    let bytes = behind_gate (body_of numbered.command) in
+    fails_to old client numbered due.WriteBody (with_cells old.store (written old.store.cells (gate_of old.store + 1) bytes)) committing (bytes, refl, refl)
+fails old client numbered due.SyncBody committing device = fails_to old client numbered due.SyncBody old.store committing refl
+fails old client numbered due.WriteGate committing device =
+    fails_to old client numbered due.WriteGate (with_cells old.store (written old.store.cells (gate_of old.store) (0 ∷ []))) committing (0, refl)
+fails old client numbered due.SyncGate committing device = fails_to old client numbered due.SyncGate old.store committing refl
+fails old client numbered due.Acknowledge committing device = absurd (device refl)
+
+pub acknowledges : (old : Core) (client : ClientId) (numbered : Numbered) → old.phase ≡ Committing client numbered due.Acknowledge
+    → (reply : Option Reply) × (new : Core) × Acknowledges client old reply new
+acknowledges old client numbered committing = (
+  Some replies.Done,
+  record old { library = after old.library numbered.command; acknowledged = old.acknowledged ++ numbered ∷ []; phase = Idle },
+  record { numbered = numbered; committing = committing; done = refl; new_is = refl },
+)
+
+pub crashes : (choice : List ℕ) (old : Core) → (reply : Option Reply) × (new : Core) × Crashes choice old reply new
+crashes choice old = (None, record old { library = empty; phase = Crashed; store = crashed_store choice old.store }, record { silent = refl; new_is = refl })
+
+pub reopens : (old : Core) → old.phase ≡ Crashed → IsRecoverable old.store old.order → (reply : Option Reply) × (new : Core) × Reopens old reply new
+reopens old crashed r =
+    let kept = some_front r.library old.order in (
+      None,
+      record old { library = r.library; order = kept.0; phase = Idle; store = record old.store { used = length (records r.bodies) } },
+      record {
+        crashed = crashed;
+        bodies = r.bodies;
+        library = r.library;
+        kept = kept.0;
+        holds = r.holds.holds;
+        stand = r.stand;
+        longest = front_longest r.library old.order kept.0 r.accepted r.known kept.1;
+        silent = refl;
+        new_is = refl;
+      },
+    )
+
+begun : (old : Core) (client : ClientId) (v : Result Command Refusal) → (reply : Option Reply) × (new : Core) × Begun old client v reply new
+begun old client (Ok command) = (
+  None,
+  record (ticked old) { order = old.order ++ numbered_now old command ∷ []; phase = Committing client (numbered_now old command) due.WriteBody },
+  (refl, refl),
+)
+begun old client (Err refused) = (Some (replies.Refused refused), ticked old, (refl, refl))
+
+-- what an error leaves, where there was one
+pub where_refused : {T E X : Type 0} (r : Result T E) → OnErr r X → true ≡ is_err r → X
+where_refused (Ok value) kept err = absurd (cc)
+where_refused (Err fault) kept err = kept
+
+-- where memory ran out, all is as before and the event has a step
+pub memory_answers : {S : Type 0} (step : Option Reply → S → Type 0) (result : Result (Option Reply) CoreFault) (old new : S) → IsErr result → IsErrAnd result (λ fault. fault ≡ faults.OutOfMemory)
+    → (reply : Option Reply) × (after : S) × step reply after → new ≡ old → Answers step result old new
+memory_answers step (Ok reply) old new err is some same = absurd (cc)
+memory_answers step (Err fault) old new err is some same = (tt, λ e reply after s. absurd (cc), λ _. some, same)
+
+not_longer : (old new : Core) → length new.order ≤ length old.order → PutsCommand old new
+not_longer old new le numbered is = absurd (omega (arith, le, ap length is, length-append old.order (numbered ∷ [])))
+
+same_order : (old new : Core) → new.order ≡ old.order → PutsCommand old new
+same_order old new is = not_longer old new (omega (arith, ap length is))
+
+-- ---- steps of clients and workers
 
 module _ {P : Type 0} where
-  pub submits : (rules : Rules P) (old : Contents P) (client call : ℕ) (request : Request) → IsUp old.phase → get old.jobs client ≡ None
-      → (reply : Option Reply) × (new : Contents P) × Submits rules old client call request reply new
-  submits rules old client call request up free = (None, record (counted old) { jobs = insert old.jobs client (job_of rules call request) }, record { up = up; free = free; silent = refl; new_is = refl })
+  pub submits : (rules : Rules P) (old : Contents P) (client : ClientId) (call : CallId) (request : Request) → IsUp old.core.phase → get old.jobs client.number ≡ None
+      → (reply : Option Reply) × (new : Contents P) × Submits rules client call request old reply new
+  submits rules old client call request up free = (None, record old { jobs = insert old.jobs client.number (job_of rules call request) }, record { up = up; free = free; silent = refl; new_is = refl })
 
-  pub takes : (old : Contents P) (worker client part : ℕ) (job : Job P) → get old.workers worker ≡ None → get old.jobs client ≡ Some job → slice_get job.pieces part ≡ Some Waiting
-      → (reply : Option Reply) × (new : Contents P) × Takes old worker client part reply new
+  pub takes : (old : Contents P) (worker : WorkerId) (client : ClientId) (part : PartIndex) (job : Job P) → get old.workers worker.number ≡ None → get old.jobs client.number ≡ Some job
+      → slice_get job.pieces part.index ≡ Some Waiting → (reply : Option Reply) × (new : Contents P) × Takes worker client part old reply new
   takes old worker client part job idle held waits = (
     None,
-    record (counted old) { jobs = insert old.jobs client (with_piece job part Taken); workers = insert old.workers worker (record { client = client; part = part }) },
+    record old { jobs = insert old.jobs client.number (with_piece job part Taken); workers = insert old.workers worker.number (record { client = client; part = part }) },
     record { job = job; idle = idle; held = held; waits = waits; silent = refl; new_is = refl },
   )
 
-  begun : (old : Contents P) (client : ℕ) (v : Result Command ℕ) → (reply : Option Reply) × (new : Contents P) × Begun old client v reply new
-  begun old client (Ok command) = (
-    None,
-    record (counted old) { order = old.order ++ placed_now old command ∷ []; phase = Committing client (placed_now old command) due.WriteBody },
-    (refl, refl),
-  )
-  begun old client (Err number) = (Some (replies.Refused number), record (counted old) { jobs = remove old.jobs client }, (refl, refl))
-
-  pub begins : (rules : Rules P) (old : Contents P) (client : ℕ) (job : Job P) → IsFree old.phase → get old.jobs client ≡ Some job → IsTrue (all_there job.pieces)
-      → (reply : Option Reply) × (new : Contents P) × Begins rules old client reply new
+  pub begins : (rules : Rules P) (old : Contents P) (client : ClientId) (job : Job P) → IsFree old.core.phase → get old.jobs client.number ≡ Some job → IsTrue (all_there job.pieces)
+      → (reply : Option Reply) × (new : Contents P) × Begins rules client old reply new
   begins rules old client job free held ready =
-      let b = begun old client (verdict rules old.phase old.library old.store job) in
-      (b.0, b.1, record { job = job; free = free; held = held; ready = ready; begun = b.2 })
+      let v = verdict rules old.core.phase old.core.library old.core.store job in
+      let b = begun old.core client v in
+      (b.0, record old { core = b.1; jobs = jobs_begun old.jobs client v }, record { job = job; free = free; held = held; ready = ready; begun = b.2; jobs = refl; workers = refl })
 
-  pub acknowledges : (old : Contents P) (client : ℕ) (placed : Placed) → old.phase ≡ Committing client placed due.Acknowledge
-      → (reply : Option Reply) × (new : Contents P) × Acknowledges old client reply new
-  acknowledges old client placed committing = (
-    Some replies.Done,
-    record (counted old) {
-      library = after old.library placed.command;
-      acknowledged = old.acknowledged ++ placed ∷ [];
-      jobs = remove old.jobs client;
-      phase = Idle;
-    },
-    record { placed = placed; committing = committing; done = refl; new_is = refl },
+  -- ---- how a handler answers
+
+  -- a handler of the core answers for the event
+  pub core_answers : (step : Core → Option Reply → Core → Type 0) (old new : Contents P) (result : Result (Option Reply) CoreFault) → Answers (step old.core) result old.core new.core
+      → new.jobs ≡ old.jobs → new.workers ≡ old.workers → Answers (StepsCore step old) result old new
+  core_answers step old new (Ok reply) a jobs workers = (
+    record { core_step = a.0; jobs = jobs; workers = workers },
+    λ e other after s. a.1 e other after.core s.core_step,
+    λ e. let s = a.2 e in (s.0, record { core = s.1; jobs = old.jobs; workers = old.workers }, record { core_step = s.2; jobs = refl; workers = refl }),
+    tt,
+  )
+  core_answers step old new (Err fault) a jobs workers = (
+    tt,
+    λ e other after s. a.1 e other after.core s.core_step,
+    λ e. let s = a.2 e in (s.0, record { core = s.1; jobs = old.jobs; workers = old.workers }, record { core_step = s.2; jobs = refl; workers = refl }),
+    λ i. record { core = a.3 i; jobs = jobs i; workers = workers i },
   )
 
-  pub advances : (due : Due) (old : Contents P) (client : ℕ) (placed : Placed) → old.phase ≡ Committing client placed due
-      → (reply : Option Reply) × (new : Contents P) × Advances due old reply new
-  advances due old client placed committing = (
-    None,
-    record (counted old) { store = stepped due placed.command old.store; phase = Committing client placed (due_after due) },
-    record { client = client; placed = placed; committing = committing; silent = refl; new_is = refl },
+  -- so does one that ends a job, or all, where it refuses
+  pub ends_refused : (client : ClientId) (step : Core → Option Reply → Core → Type 0) (old new : Contents P) (fault : CoreFault) → Answers (step old.core) (Err fault) old.core new.core
+      → new.jobs ≡ old.jobs → new.workers ≡ old.workers → Answers (EndsJob client step old) (Err fault) old new
+  ends_refused client step old new fault a jobs workers = (
+    tt,
+    λ e other after s. a.1 e other after.core s.core_step,
+    λ e. let s = a.2 e in (s.0, record { core = s.1; jobs = remove old.jobs client.number; workers = old.workers }, record { core_step = s.2; jobs = refl; workers = refl }),
+    λ i. record { core = a.3 i; jobs = jobs i; workers = workers i },
   )
 
-  pub fails : (old : Contents P) (client : ℕ) (placed : Placed) (due : Due) (store : StoreState) → old.phase ≡ Committing client placed due → FailsTo due placed.command old.store store
-      → (reply : Option Reply) × (new : Contents P) × Fails old reply new
-  fails old client placed due store committing failed = (
-    Some (replies.Refused 35),
-    record (counted old) { store = store; jobs = remove old.jobs client; phase = Failed },
-    record { client = client; placed = placed; due = due; store = store; committing = committing; failed = failed; told = refl; new_is = refl },
+  pub ends_all_refused : (step : Core → Option Reply → Core → Type 0) (old new : Contents P) (fault : CoreFault) → Answers (step old.core) (Err fault) old.core new.core
+      → new.jobs ≡ old.jobs → new.workers ≡ old.workers → Answers (EndsAll step old) (Err fault) old new
+  ends_all_refused step old new fault a jobs workers = (
+    tt,
+    λ e other after s. a.1 e other after.core s.core_step,
+    λ e. let s = a.2 e in (s.0, record { core = s.1; jobs = empty; workers = empty }, record { core_step = s.2; jobs = refl; workers = refl }),
+    λ i. record { core = a.3 i; jobs = jobs i; workers = workers i },
   )
 
-  -- a body's write that failed may have left the body
-  pub fails_body : (old : Contents P) (client : ℕ) (placed : Placed) → old.phase ≡ Committing client placed due.WriteBody
-      → (reply : Option Reply) × (new : Contents P) × Fails old reply new
-  fails_body old client placed committing =
-      let bytes = behind_gate (body_of placed.command) in
-      fails old client placed due.WriteBody (with_cells old.store (written old.store.cells (gate_of old.store + 1) bytes)) committing (bytes, refl, refl)
-
-  pub crashes : (choice : List ℕ) (old : Contents P) → (reply : Option Reply) × (new : Contents P) × Crashes choice old reply new
-  crashes choice old = (
-    None,
-    record (counted old) { library = empty; jobs = empty; workers = empty; phase = Crashed; store = crashed_store choice old.store },
-    record { silent = refl; new_is = refl },
+  -- a failure names the client in commit
+  pub fails_refused : (client : ClientId) (numbered : Numbered) (d : Due) (old new : Contents P) (fault : CoreFault) → old.core.phase ≡ Committing client numbered d
+      → Answers (Fails client old.core) (Err fault) old.core new.core → new.jobs ≡ old.jobs → new.workers ≡ old.workers → Answers (FailsJob old) (Err fault) old new
+  fails_refused client numbered d old new fault committing a jobs workers = (
+    tt,
+    λ e other after s. let same : s.0 ≡ client = client_of (sym s.1.core_step.committing ∙ committing) in
+        a.1 e other after.core (subst (λ (who : ClientId). Fails who old.core other after.core) same s.1.core_step),
+    λ e. let s = a.2 e in (s.0, record { core = s.1; jobs = remove old.jobs client.number; workers = old.workers }, (client, record { core_step = s.2; jobs = refl; workers = refl })),
+    λ i. record { core = a.3 i; jobs = jobs i; workers = workers i },
   )
-
-  pub reopens : (old : Contents P) → old.phase ≡ Crashed → IsRecoverable old.store old.order → (reply : Option Reply) × (new : Contents P) × Reopens old reply new
-  reopens old crashed r =
-      let kept = some_front r.library old.order in (
-        None,
-        record (counted old) { library = r.library; order = kept.0; phase = Idle; store = record old.store { used = length (records r.bodies) } },
-        record {
-          crashed = crashed;
-          bodies = r.bodies;
-          library = r.library;
-          kept = kept.0;
-          holds = r.holds.holds;
-          stand = r.stand;
-          longest = front_longest r.library old.order kept.0 r.accepted r.known kept.1;
-          silent = refl;
-          new_is = refl;
-        },
-      )
+    where
+      client_of : {a b : ClientId} {m n : Numbered} {d e : Due} → Committing a m d ≡ Committing b n e → a ≡ b
+      client_of is = cc
 
   -- an answer that is a step, or 29 where there is none, or 40 where there is one, is 29 exactly where there is none
   pub exact : (rules : Rules P) (old : Contents P) (event : Event P) (result : Result (Option Reply) CoreFault) (new : Contents P)
-      → IfOk result (λ reply. Step rules old event reply new)
-      → (IsErrOf result faults.NotNow → IsImpossible rules old event)
-      → (IsErrOf result faults.OutOfMemory → (reply : Option Reply) × (after : Contents P) × Step rules old event reply after)
-      → IsErrOf result faults.NotNow ↔ IsImpossible rules old event
-  exact rules old event (Ok reply) new step not_now memory = (not_now, λ none. absurd (none reply new step))
-  exact rules old event (Err faults.NotNow) new step not_now memory = (not_now, λ none. refl)
-  exact rules old event (Err faults.OutOfMemory) new step not_now memory =
-      (not_now, λ none. let some = memory refl in absurd (none some.0 some.1 some.2))
+      → Answers (Step rules old event) result old new → IsErrOf result faults.NotNow ↔ IsImpossible rules old event
+  exact rules old event (Ok reply) new a = (a.1, λ none. absurd (none reply new a.0))
+  exact rules old event (Err faults.NotNow) new a = (a.1, λ none. refl)
+  exact rules old event (Err faults.OutOfMemory) new a =
+      (a.1, λ none. let some = a.2 refl in absurd (none some.0 some.1 some.2))
 
   -- the events that put nothing in the order
   abbrev pub IsNoBegin : Event P → Type 0
@@ -151,31 +226,30 @@ module _ {P : Type 0} where
   IsNoBegin (event.Crash choice) = Unit {0}
   IsNoBegin event.Recover = Unit {0}
 
-  not_longer : (old new : Contents P) → length new.order ≤ length old.order → PutsCommand old new
-  not_longer old new le placed is = absurd (omega (arith, le, ap length is, length-append old.order (placed ∷ [])))
+  -- a step whose core is as before
+  same_core : (old new : Contents P) → new.core ≡ old.core → PutsCommand old.core new.core
+  same_core old new is = same_order old.core new.core (ap (λ (s : Core). s.order) is)
 
-  same_order : (old new : Contents P) → new.order ≡ old.order → PutsCommand old new
-  same_order old new is = not_longer old new (omega (arith, ap length is))
-
-  step_puts_none : (rules : Rules P) (old : Contents P) (e : Event P) (reply : Option Reply) (new : Contents P) → IsNoBegin e → Step rules old e reply new → PutsCommand old new
-  step_puts_none rules old (event.Submit client call request) reply new plain step = same_order old new (ap (λ (s : Contents P). s.order) step.new_is)
-  step_puts_none rules old (event.Take worker client part) reply new plain step = same_order old new (ap (λ (s : Contents P). s.order) step.new_is)
-  step_puts_none rules old (event.Done worker piece) reply new plain step = same_order old new (ap (λ (s : Contents P). s.order) step.new_is)
-  step_puts_none rules old (event.Refuse worker number) reply new plain step = same_order old new (ap (λ (s : Contents P). s.order) step.new_is)
+  step_puts_none : (rules : Rules P) (old : Contents P) (e : Event P) (reply : Option Reply) (new : Contents P) → IsNoBegin e → Step rules old e reply new → PutsCommand old.core new.core
+  step_puts_none rules old (event.Submit client call request) reply new plain step = same_core old new (ap (λ (s : Contents P). s.core) step.new_is)
+  step_puts_none rules old (event.Take worker client part) reply new plain step = same_core old new (ap (λ (s : Contents P). s.core) step.new_is)
+  step_puts_none rules old (event.Done worker piece) reply new plain step = same_core old new (ap (λ (s : Contents P). s.core) step.new_is)
+  step_puts_none rules old (event.Refuse worker number) reply new plain step = same_core old new (ap (λ (s : Contents P). s.core) step.new_is)
   step_puts_none rules old (event.Begin client) reply new plain step = absurd plain
-  step_puts_none rules old event.WriteBody reply new plain step = same_order old new (ap (λ (s : Contents P). s.order) step.new_is)
-  step_puts_none rules old event.SyncBody reply new plain step = same_order old new (ap (λ (s : Contents P). s.order) step.new_is)
-  step_puts_none rules old event.WriteGate reply new plain step = same_order old new (ap (λ (s : Contents P). s.order) step.new_is)
-  step_puts_none rules old event.SyncGate reply new plain step = same_order old new (ap (λ (s : Contents P). s.order) step.new_is)
-  step_puts_none rules old event.Fail reply new plain step = same_order old new (ap (λ (s : Contents P). s.order) step.new_is)
-  step_puts_none rules old (event.Ack client) reply new plain step = same_order old new (ap (λ (s : Contents P). s.order) step.new_is)
-  step_puts_none rules old (event.Crash choice) reply new plain step = same_order old new (ap (λ (s : Contents P). s.order) step.new_is)
+  step_puts_none rules old event.WriteBody reply new plain step = same_order old.core new.core (ap (λ (s : Core). s.order) step.core_step.new_is)
+  step_puts_none rules old event.SyncBody reply new plain step = same_order old.core new.core (ap (λ (s : Core). s.order) step.core_step.new_is)
+  step_puts_none rules old event.WriteGate reply new plain step = same_order old.core new.core (ap (λ (s : Core). s.order) step.core_step.new_is)
+  step_puts_none rules old event.SyncGate reply new plain step = same_order old.core new.core (ap (λ (s : Core). s.order) step.core_step.new_is)
+  step_puts_none rules old event.Fail reply new plain step = same_order old.core new.core (ap (λ (s : Core). s.order) step.1.core_step.new_is)
+  step_puts_none rules old (event.Ack client) reply new plain step = same_order old.core new.core (ap (λ (s : Core). s.order) step.core_step.new_is)
+  step_puts_none rules old (event.Crash choice) reply new plain step = same_order old.core new.core (ap (λ (s : Core). s.order) step.core_step.new_is)
   step_puts_none rules old event.Recover reply new plain step =
-      not_longer old new
-      (omega (arith, ap (λ (s : Contents P). length s.order) step.new_is, ap length step.longest.front, length-take-le step.longest.count old.order step.longest.within, step.longest.within))
+      let r = step.core_step in
+      not_longer old.core new.core
+      (omega (arith, ap (λ (s : Core). length s.order) r.new_is, ap length r.longest.front, length-take-le r.longest.count old.core.order r.longest.within, r.longest.within))
 
   -- so of what an event answers
   pub puts_none : (rules : Rules P) (old : Contents P) (e : Event P) (result : Result (Option Reply) CoreFault) (new : Contents P) → IsNoBegin e
-      → IfOk result (λ reply. Step rules old e reply new) → OnOk result (PutsCommand old new)
-  puts_none rules old e (Ok reply) new plain step = step_puts_none rules old e reply new plain step
-  puts_none rules old e (Err fault) new plain step = tt
+      → Answers (Step rules old e) result old new → OnOk result (PutsCommand old.core new.core)
+  puts_none rules old e (Ok reply) new plain a = step_puts_none rules old e reply new plain a.0
+  puts_none rules old e (Err fault) new plain a = tt

@@ -1,28 +1,29 @@
 -- A run goes on by one turn, and what is reached stays reached.
-use Rattle.std.proofs.Common.{◌≡◌, inl, List, [], ◌∷◌, ◌++◌, Option, Result, Ok, Err, refl, sym, subst}
-use Rattle.std.specs.Prelude.{IfOk, OnErr, OnOk}
+use Rattle.std.proofs.Common.{inl, List, [], ◌∷◌, ◌++◌, Option, Result, Ok, Err, refl, sym, subst}
+use Rattle.std.specs.Prelude.{OnOk}
+use Rattle.cc_link.specs.declared.unit.StoredUnit.{StoredUnit}
 use Rattle.cc_core.specs.declared.command.Reply.{Reply}
 use Rattle.cc_core.specs.declared.contents.Contents.{Contents}
 use Rattle.cc_core.specs.declared.event.Event.{Event}
 use Rattle.cc_core.specs.declared.fault.CoreFault.{CoreFault}
 use Rattle.cc_core.specs.Rules.{Rules}
 use Rattle.cc_core.specs.Step.{Step}
-use Rattle.cc_core.specs.Run.{Turn, Run, Reached, PutsCommand}
+use Rattle.cc_core.specs.Run.{Turn, Run, Reached, PutsCommand, HandsIn}
+use Rattle.cc_core.specs.internal.Answers.{Answers}
 
-module _ {P : Type 0} (rules : Rules P) where
+module _ {P : Type 0} (rules : Rules P) (keeps : P → Type 0) where
   -- a run and one more turn
-  pub Run-push : (old : Contents P) (events : List (Event P)) (mid : Contents P) (e : Event P) (new : Contents P) → Run rules old events mid → Turn rules mid e new → Run rules old (events ++ e ∷ []) new
-  Run-push old [] mid e new run turn = (new, (subst (λ s. Turn rules s e new) run turn, refl))
+  pub Run-push : (old : Contents P) (events : List (Event P)) (mid : Contents P) (e : Event P) (new : Contents P) → Run rules keeps old events mid → Turn rules keeps mid e new → Run rules keeps old (events ++ e ∷ []) new
+  Run-push old [] mid e new run turn = (new, (subst (λ s. Turn rules keeps s e new) run turn, refl))
   Run-push old (first ∷ events) mid e new run turn = (run.0, (run.1.0, Run-push run.0 events mid e new run.1.1 turn))
 
   -- what a step reaches from what is reached is reached; a refused event changes nothing
-  pub Reached-step : (old : Contents P) (e : Event P) (result : Result (Option Reply) CoreFault) (new : Contents P)
-      → Reached rules old → IfOk result (λ reply. Step rules old e reply new) → OnOk result (PutsCommand old new) → OnErr result (new ≡ old) → Reached rules new
-  Reached-step old e (Ok reply) new reached step puts err = record {
-    area = reached.area;
+  pub Reached-step : (is_right : StoredUnit → Type 0) (old : Contents P) (e : Event P) (result : Result (Option Reply) CoreFault) (new : Contents P)
+      → Reached rules keeps is_right old → Answers (Step rules old e) result old new → OnOk result (PutsCommand old.core new.core) → OnOk result (HandsIn keeps e) → Reached rules keeps is_right new
+  Reached-step is_right old e (Ok reply) new reached a puts hands = record {
     first = reached.first;
     started = reached.started;
     events = reached.events ++ e ∷ [];
-    run = Run-push _ reached.events old e new reached.run (inl (reply, step, puts));
+    run = Run-push _ reached.events old e new reached.run (inl (reply, a.0, puts, hands));
   }
-  Reached-step old e (Err fault) new reached step puts err = subst (Reached rules) (sym err) reached
+  Reached-step is_right old e (Err fault) new reached a puts hands = subst (Reached rules keeps is_right) (sym a.3) reached

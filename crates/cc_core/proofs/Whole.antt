@@ -1,6 +1,6 @@
 -- A command that a job begins has a unit that is right: its pieces are all there, none was refused, and each
--- names the job's source and its own place, so they are all of the source's pieces and the build's law holds.
-use Rattle.std.proofs.Common.{◌≡◌, ℕ, zero, suc, ◌≤◌, Bool, true, false, if◌then◌else◌, List, [], ◌∷◌, length, Option, Some, None, Result, Ok, Err, refl, sym, ap, subst, ◌∙◌}
+-- names the job's source and its own index, so they are all of the source's pieces and the build's law holds.
+use Rattle.std.proofs.Common.{◌≡◌, ℕ, zero, suc, ◌≤◌, Bool, true, false, if◌then◌else◌, List, [], ◌∷◌, length, Option, Some, None, Result, Ok, Err, refl, sym, ap, subst, ◌∙◌, All}
 use Rattle.std.specs.Prelude.{slice_get, IsTrue, IsOk, nat_le}
 use Rattle.std.proofs.lemmas.Bool.{leb-true}
 use Rattle.cc_link.specs.declared.unit.StoredUnit.{StoredUnit}
@@ -11,13 +11,18 @@ use Rattle.cc_core.specs.declared.command.Request.TheVariants as request
 use Rattle.cc_core.specs.declared.job.Job.{Job}
 use Rattle.cc_core.specs.declared.job.Progress.{Progress}
 use Rattle.cc_core.specs.declared.job.Progress.TheVariants.{Waiting, Taken, Made, Refused}
-use Rattle.cc_library.specs.Apply.{Units, apply, refusal}
+use Rattle.cc_library.specs.Apply.{Units, apply, exists, absent}
+use Rattle.std.specs.FinMap.{contains_key, insert, remove}
 use Rattle.cc_library.specs.Body.{body_of}
 use Rattle.cc_core.specs.declared.contents.Phase.{Phase}
+use Rattle.cc_core.specs.declared.fault.Refusal.{Refusal}
+use Rattle.cc_core.specs.declared.fault.Refusal.TheVariants as refusal
 use Rattle.cc_core.specs.StoreState.{StoreState}
-use Rattle.cc_core.specs.Store.{room_with}
+use Rattle.cc_core.specs.Store.{room_taken}
 use Rattle.cc_core.specs.Rules.{Rules, AreWhole}
-use Rattle.cc_core.specs.Job.{source_in, unless, with_unit, accepted, all_there, first_refused, made_pieces, built, command_of, closed, full, verdict}
+use Rattle.cc_core.specs.Run.{command_source}
+use Rattle.cc_core.proofs.Lists.{All-each}
+use Rattle.cc_core.specs.Job.{source_in, unless, with_unit, accepted, all_there, first_refused, made_pieces, built, command_of, closed, full, map_refusal, first_of_two, command_refusal, verdict}
 
 -- the unit of a command, where it has one, is right
 abbrev pub IsRightCommand : (StoredUnit → Type 0) → Command → Type 0
@@ -25,18 +30,36 @@ IsRightCommand is_right (command.Add name unit) = is_right unit
 IsRightCommand is_right (command.Replace name unit) = is_right unit
 IsRightCommand is_right (command.Withdraw name) = Unit {0}
 
-unless-Ok : {A : Type 0} (o : Option ℕ) (r : Result A ℕ) (x : A) → unless o r ≡ Ok x → (o ≡ None) × (r ≡ Ok x)
+unless-Ok : {A E : Type 0} (o : Option E) (r : Result A E) (x : A) → unless o r ≡ Ok x → (o ≡ None) × (r ≡ Ok x)
 unless-Ok None r x is = (refl, is)
-unless-Ok (Some number) r x is = absurd (cc)
+unless-Ok (Some refused) r x is = absurd (cc)
 
-not_refused : {A : Type 0} (r : Result Units ℕ) (next : Result A ℕ) (x : A) → unless (refusal r) next ≡ Ok x → IsOk r
-not_refused (Ok library) next x is = refl
-not_refused (Err number) next x is = absurd (cc)
+both_none : (first second : Option Refusal) → first_of_two first second ≡ None → (first ≡ None) × (second ≡ None)
+both_none None second is = (refl, is)
+both_none (Some refused) second is = absurd (cc)
 
-not_full : {A : Type 0} (m n : ℕ) (next : Result A ℕ) (x : A) → unless (if nat_le m n then None else Some 34) next ≡ Ok x → m ≤ n
-not_full m n next x is = at (nat_le m n) refl is
+-- a command that the map does not refuse is accepted
+not_refused : (library : Units) (c : Command) → map_refusal library c ≡ None → IsOk (apply library c)
+not_refused library (command.Add name unit) none = at (contains_key library name) none
   where
-    at : (b : Bool) → nat_le m n ≡ b → unless (if b then None else Some 34) next ≡ Ok x → m ≤ n
+    at : (b : Bool) → (if b then Some refusal.Exists else None) ≡ None → IsOk (if b then Err exists else Ok (insert library name unit))
+    at true is = absurd (cc)
+    at false is = refl
+not_refused library (command.Replace name unit) none = at (contains_key library name) none
+  where
+    at : (b : Bool) → (if b then None else Some refusal.Absent) ≡ None → IsOk (if b then Ok (insert library name unit) else Err absent)
+    at true is = refl
+    at false is = absurd (cc)
+not_refused library (command.Withdraw name) none = at (contains_key library name) none
+  where
+    at : (b : Bool) → (if b then None else Some refusal.Absent) ≡ None → IsOk (if b then Ok (remove library name) else Err absent)
+    at true is = refl
+    at false is = absurd (cc)
+
+not_full : (m n : ℕ) → (if nat_le m n then None else Some refusal.Full) ≡ None → m ≤ n
+not_full m n is = at (nat_le m n) refl is
+  where
+    at : (b : Bool) → nat_le m n ≡ b → (if b then None else Some refusal.Full) ≡ None → m ≤ n
     at true le is = leb-true m n le
     at false le is = absurd (cc)
 
@@ -45,33 +68,34 @@ pub record IsTaken (phase : Phase) (library : Units) (store : StoreState) (r : R
   pub open' : closed phase ≡ None
   pub same : r ≡ Ok c
   pub ok : IsOk (apply library c)
-  pub fits : room_with store (body_of c) ≤ store.area
+  pub fits : room_taken store (body_of c) ≤ store.area
 
 accepted-taken : (phase : Phase) (library : Units) (store : StoreState) (r : Result Command ℕ) (c : Command) → accepted phase library store r ≡ Ok c → IsTaken phase library store r c
 accepted-taken phase library store (Ok d) c is =
-    let first = unless-Ok (closed phase) _ c is in
-    let second = unless-Ok (refusal (apply library d)) _ c first.1 in
-    let third = unless-Ok (full store d) (Ok d) c second.1 in
-    let same : d ≡ c = cc (third.1) in
+    let taken = unless-Ok (command_refusal phase library store d) (Ok d) c is in
+    let first = both_none (closed phase) (first_of_two (map_refusal library d) (full store d)) taken.0 in
+    let second = both_none (map_refusal library d) (full store d) first.1 in
+    let same : d ≡ c = cc (taken.1) in
     record {
       open' = first.0;
-      same = third.1;
-      ok = subst (λ e. IsOk (apply library e)) same (not_refused (apply library d) (unless (full store d) (Ok d)) c first.1);
-      fits = subst (λ e. room_with store (body_of e) ≤ store.area) same (not_full (room_with store (body_of d)) store.area (Ok d) c second.1);
+      same = ap Ok same;
+      ok = subst (λ e. IsOk (apply library e)) same (not_refused library d second.0);
+      fits = subst (λ e. room_taken store (body_of e) ≤ store.area) same (not_full (room_taken store (body_of d)) store.area second.1);
     }
 accepted-taken phase library store (Err number) c is = absurd (cc)
 
-module _ {P : Type 0} (rules : Rules P) where
-  -- a job's pieces are planned for its source, and each that was made names that source and its own place
+module _ {P : Type 0} (rules : Rules P) (keeps : P → Type 0) where
+  -- a job's pieces are planned for its source, and each that was made names that source and its own index, and keeps what its type keeps
   pub record IsNamed (job : Job P) : Type 0 where
     pub counted : (source : List ℕ) → source_in job.request ≡ Some source → job.refusal ≡ None → rules.plan source ≡ Ok (length job.pieces)
     pub named : (source : List ℕ) → source_in job.request ≡ Some source → (k : ℕ) (p : P) → slice_get job.pieces k ≡ Some (Made p) → (rules.source_of p ≡ source) × (rules.part_of p ≡ k)
+    pub kept : (k : ℕ) (p : P) → slice_get job.pieces k ≡ Some (Made p) → keeps p
 
   -- the law that each build proves
   abbrev pub IsLawful : (StoredUnit → Type 0) → Type 0
-  IsLawful is_right = (source : List ℕ) (pieces : List P) (unit : StoredUnit) → AreWhole rules source pieces → rules.unit source pieces ≡ Ok unit → (unit.source ≡ source) × is_right unit
+  IsLawful is_right = (source : List ℕ) (pieces : List P) (unit : StoredUnit) → AreWhole rules source pieces → All keeps pieces → rules.unit source pieces ≡ Ok unit → (unit.source ≡ source) × is_right unit
 
-  -- where all are there and none was refused, the pieces that were made are all of them, each in its place
+  -- where all are there and none was refused, the pieces that were made are all of them, each at its index
   all_made : (ps : List (Progress P)) → IsTrue (all_there ps) → first_refused ps ≡ None
       → (length (made_pieces ps) ≡ length ps) × ((k : ℕ) (p : P) → slice_get (made_pieces ps) k ≡ Some p → slice_get ps k ≡ Some (Made p))
   all_made [] there none = (refl, λ k p is. absurd (cc))
@@ -89,7 +113,7 @@ module _ {P : Type 0} (rules : Rules P) where
 
   -- a unit that a job's pieces give is right
   built_right : (is_right : StoredUnit → Type 0) → IsLawful is_right → (job : Job P) (source : List ℕ) (unit : StoredUnit)
-      → IsNamed job → source_in job.request ≡ Some source → IsTrue (all_there job.pieces) → built rules job source ≡ Ok unit → is_right unit
+      → IsNamed job → source_in job.request ≡ Some source → IsTrue (all_there job.pieces) → built rules job source ≡ Ok unit → (unit.source ≡ source) × is_right unit
   built_right is_right law job source unit named from there is =
       let first = unless-Ok job.refusal _ unit is in
       let second = unless-Ok (first_refused job.pieces) _ unit first.1 in
@@ -98,7 +122,8 @@ module _ {P : Type 0} (rules : Rules P) where
         counted = named.counted source from first.0 ∙ ap Ok (sym made.0);
         named = λ k p at. named.named source from k p (made.1 k p at);
       } in
-      (law source (made_pieces job.pieces) unit whole second.1).1
+      let each : All keeps (made_pieces job.pieces) = All-each keeps (made_pieces job.pieces) (λ k p at. named.kept k p (made.1 k p at)) in
+      law source (made_pieces job.pieces) unit whole each second.1
 
   with_unit_right : (is_right : StoredUnit → Type 0) (make : StoredUnit → Command) → ((u : StoredUnit) → is_right u → IsRightCommand is_right (make u))
       → (r : Result StoredUnit ℕ) (c : Command) → ((u : StoredUnit) → r ≡ Ok u → is_right u) → with_unit make r ≡ Ok c → IsRightCommand is_right c
@@ -108,9 +133,9 @@ module _ {P : Type 0} (rules : Rules P) where
   command_right : (is_right : StoredUnit → Type 0) → IsLawful is_right → (job : Job P) (asked : Request) (c : Command)
       → job.request ≡ asked → IsNamed job → IsTrue (all_there job.pieces) → command_of rules job asked ≡ Ok c → IsRightCommand is_right c
   command_right is_right law job (request.Add name source) c asks named there is =
-      with_unit_right is_right (command.Add name) (λ u h. h) (built rules job source) c (λ u made. built_right is_right law job source u named (ap source_in asks) there made) is
+      with_unit_right is_right (command.Add name) (λ u h. h) (built rules job source) c (λ u made. (built_right is_right law job source u named (ap source_in asks) there made).1) is
   command_right is_right law job (request.Replace name source) c asks named there is =
-      with_unit_right is_right (command.Replace name) (λ u h. h) (built rules job source) c (λ u made. built_right is_right law job source u named (ap source_in asks) there made) is
+      with_unit_right is_right (command.Replace name) (λ u h. h) (built rules job source) c (λ u made. (built_right is_right law job source u named (ap source_in asks) there made).1) is
   command_right is_right law job (request.Withdraw name) c asks named there is =
       let same : command.Withdraw name ≡ c = cc in subst (IsRightCommand is_right) same tt
 
@@ -124,3 +149,22 @@ module _ {P : Type 0} (rules : Rules P) where
       → IsNamed job → IsTrue (all_there job.pieces) → verdict rules phase library store job ≡ Ok c → IsRightCommand is_right c
   verdict_right is_right law phase library store job c named there is =
       command_right is_right law job job.request c refl named there (verdict_taken phase library store job c is).same
+
+  -- and has the source that was handed in
+  with_unit_source : (make : StoredUnit → Command) (source : List ℕ) → ((u : StoredUnit) → command_source (make u) ≡ Some u.source)
+      → (r : Result StoredUnit ℕ) (c : Command) → ((u : StoredUnit) → r ≡ Ok u → u.source ≡ source) → with_unit make r ≡ Ok c → command_source c ≡ Some source
+  with_unit_source make source makes (Ok u) c right is = let same : make u ≡ c = cc in ap command_source (sym same) ∙ makes u ∙ ap Some (right u refl)
+  with_unit_source make source makes (Err number) c right is = absurd (cc)
+
+  command_has_source : (is_right : StoredUnit → Type 0) → IsLawful is_right → (job : Job P) (asked : Request) (c : Command)
+      → job.request ≡ asked → IsNamed job → IsTrue (all_there job.pieces) → command_of rules job asked ≡ Ok c → command_source c ≡ source_in asked
+  command_has_source is_right law job (request.Add name source) c asks named there is =
+      with_unit_source (command.Add name) source (λ u. refl) (built rules job source) c (λ u made. (built_right is_right law job source u named (ap source_in asks) there made).0) is
+  command_has_source is_right law job (request.Replace name source) c asks named there is =
+      with_unit_source (command.Replace name) source (λ u. refl) (built rules job source) c (λ u made. (built_right is_right law job source u named (ap source_in asks) there made).0) is
+  command_has_source is_right law job (request.Withdraw name) c asks named there is = let same : command.Withdraw name ≡ c = cc in ap command_source (sym same)
+
+  pub verdict_source : (is_right : StoredUnit → Type 0) → IsLawful is_right → (phase : Phase) (library : Units) (store : StoreState) (job : Job P) (c : Command)
+      → IsNamed job → IsTrue (all_there job.pieces) → verdict rules phase library store job ≡ Ok c → command_source c ≡ source_in job.request
+  verdict_source is_right law phase library store job c named there is =
+      command_has_source is_right law job job.request c refl named there (verdict_taken phase library store job c is).same

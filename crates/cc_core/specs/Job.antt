@@ -1,21 +1,26 @@
 -- A client's job: how it begins, and what comes of it.
 use Rattle.std.specs.Prelude.{ℕ, Bool, true, false, List, [], ◌∷◌, slice_set, replicate, Option, Some, None, Result, Ok, Err, nat_le, if◌then◌else◌}
 use Rattle.std.specs.List.{list_all}
+use Rattle.std.specs.FinMap.{contains_key}
 use Rattle.cc_link.specs.declared.unit.StoredUnit.{StoredUnit}
 use Rattle.cc_library.specs.declared.command.Command.{Command}
 use Rattle.cc_library.specs.declared.command.Command.TheVariants as command
 use Rattle.cc_core.specs.declared.command.Request.{Request}
 use Rattle.cc_core.specs.declared.command.Request.TheVariants as request
+use Rattle.cc_core.specs.declared.fault.Refusal.{Refusal}
+use Rattle.cc_core.specs.declared.fault.Refusal.TheVariants as refusal
+use Rattle.cc_core.specs.declared.ids.CallId.{CallId}
+use Rattle.cc_core.specs.declared.ids.PartIndex.{PartIndex}
 use Rattle.cc_core.specs.declared.job.Job.{Job}
 use Rattle.cc_core.specs.declared.job.Progress.{Progress}
 use Rattle.cc_core.specs.declared.job.Progress.TheVariants.{Waiting, Taken, Made, Refused}
 use Rattle.cc_core.specs.Rules.{Rules}
 use Rattle.cc_core.specs.declared.contents.Phase.{Phase}
 use Rattle.cc_core.specs.declared.contents.Phase.TheVariants.{Idle, Committing, Failed, Crashed}
-use Rattle.cc_library.specs.Apply.{Units, apply, refusal}
+use Rattle.cc_library.specs.Apply.{Units}
 use Rattle.cc_library.specs.Body.{body_of}
 use Rattle.cc_core.specs.StoreState.{StoreState}
-use Rattle.cc_core.specs.Store.{room_with}
+use Rattle.cc_core.specs.Store.{room_taken}
 
 -- the source that a request hands in, where it hands one in
 abbrev pub source_in : Request → Option (List ℕ)
@@ -24,46 +29,61 @@ source_in (request.Replace name source) = Some source
 source_in (request.Withdraw name) = None
 
 -- a refusal where there is one, else what comes next
-abbrev pub unless : {A : Type 0} → Option ℕ → Result A ℕ → Result A ℕ
+abbrev pub unless : {A E : Type 0} → Option E → Result A E → Result A E
 unless None next = next
-unless (Some number) next = Err number
+unless (Some refusal) next = Err refusal
 
--- the command with the unit that was built, or the refusal
+-- the command with the unit that was built, or the number that refuses it
 abbrev pub with_unit : (StoredUnit → Command) → Result StoredUnit ℕ → Result Command ℕ
 with_unit make (Ok unit) = Ok (make unit)
 with_unit make (Err number) = Err number
 
--- the number that refuses any command after a device step failed, until the disk is opened again
-abbrev pub closed : Phase → Option ℕ
+-- any command is refused after a device step failed, until the disk is opened again
+abbrev pub closed : Phase → Option Refusal
 closed Idle = None
-closed (Committing client placed due) = None
-closed Failed = Some 36
+closed (Committing client numbered due) = None
+closed (Failed failed) = Some refusal.Closed
 closed Crashed = None
 
--- the number that refuses a command whose record does not fit its area
-abbrev pub full : StoreState → Command → Option ℕ
-full store command = if nat_le (room_with store (body_of command)) store.area then None else Some 34
+-- a name that is there is not added, one that is not there is not replaced or withdrawn
+abbrev pub map_refusal : Units → Command → Option Refusal
+map_refusal library (command.Add name unit) = if contains_key library name then Some refusal.Exists else None
+map_refusal library (command.Replace name unit) = if contains_key library name then None else Some refusal.Absent
+map_refusal library (command.Withdraw name) = if contains_key library name then None else Some refusal.Absent
 
--- a command that is taken, or the number that refuses it: 36 after a failed step, then 31 or 32, then 34
-abbrev pub accepted : Phase → Units → StoreState → Result Command ℕ → Result Command ℕ
-accepted phase library store (Ok command) = unless (closed phase) (unless (refusal (apply library command)) (unless (full store command) (Ok command)))
-accepted phase library store (Err number) = Err number
+-- a command whose record does not fit its area is refused
+abbrev pub full : StoreState → Command → Option Refusal
+full store command = if nat_le (room_taken store (body_of command)) store.area then None else Some refusal.Full
+
+-- the first of two refusals
+abbrev pub first_of_two : Option Refusal → Option Refusal → Option Refusal
+first_of_two None second = second
+first_of_two (Some refusal) second = Some refusal
+
+-- why a command is refused, where it is: 36 after a failed step, then 31 or 32, then 34
+abbrev pub command_refusal : Phase → Units → StoreState → Command → Option Refusal
+command_refusal phase library store command = first_of_two (closed phase) (first_of_two (map_refusal library command) (full store command))
+
+-- a command that is taken, or why it is refused: by the build, or as said before
+abbrev pub accepted : Phase → Units → StoreState → Result Command ℕ → Result Command Refusal
+accepted phase library store (Ok command) = unless (command_refusal phase library store command) (Ok command)
+accepted phase library store (Err number) = Err (refusal.Build number)
 
 module _ {P : Type 0} where
   -- the job of a call whose source has this plan: each piece waits; a refused source has no pieces
-  abbrev pub planned : ℕ → Request → Result ℕ ℕ → Job P
+  abbrev pub planned : CallId → Request → Result ℕ ℕ → Job P
   planned call asked (Ok pieces) = record { call = call; request = asked; refusal = None; pieces = replicate pieces Waiting }
   planned call asked (Err number) = record { call = call; request = asked; refusal = Some number; pieces = [] }
 
   -- the job that a request begins; a withdrawal has no pieces
-  abbrev pub job_of : Rules P → ℕ → Request → Job P
+  abbrev pub job_of : Rules P → CallId → Request → Job P
   job_of rules call (request.Add name source) = planned call (request.Add name source) (rules.plan source)
   job_of rules call (request.Replace name source) = planned call (request.Replace name source) (rules.plan source)
   job_of rules call (request.Withdraw name) = planned call (request.Withdraw name) (Ok 0)
 
   -- the job with another progress of one piece
-  abbrev pub with_piece : Job P → ℕ → Progress P → Job P
-  with_piece job part progress = record job { pieces = slice_set job.pieces part progress }
+  abbrev pub with_piece : Job P → PartIndex → Progress P → Job P
+  with_piece job part progress = record job { pieces = slice_set job.pieces part.index progress }
 
   -- a worker has answered this piece
   abbrev pub is_there : Progress P → Bool
@@ -103,6 +123,6 @@ module _ {P : Type 0} where
   command_of rules job (request.Replace name source) = with_unit (command.Replace name) (built rules job source)
   command_of rules job (request.Withdraw name) = Ok (command.Withdraw name)
 
-  -- the command that a job whose pieces are all there begins, or the number that refuses it
-  abbrev pub verdict : Rules P → Phase → Units → StoreState → Job P → Result Command ℕ
+  -- the command that a job whose pieces are all there begins, or why it is refused
+  abbrev pub verdict : Rules P → Phase → Units → StoreState → Job P → Result Command Refusal
   verdict rules phase library store job = accepted phase library store (command_of rules job job.request)

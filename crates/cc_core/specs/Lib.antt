@@ -1,8 +1,17 @@
-pub mod Faults
-pub mod Rules
-pub mod Job
+-- In reading order. The state is `Contents` in src/contents.rt, what may happen `Event` in src/event.rt.
+-- what contracts see of the core's disk
 pub mod StoreState
+-- what a build does, apart from any code
+pub mod Rules
+-- the numbers of the faults
+pub mod Fault
+-- the disk of a commit: its start, its four device steps and their failure, and a crash
 pub mod Store
+-- a client's job: how it begins, and what comes of it
+pub mod Job
+-- one step: what each event does
 pub mod Step
+-- whole runs, and what holds after any of them
 pub mod Run
-pub mod Ready
+-- what serves proofs and private contracts
+pub mod internal

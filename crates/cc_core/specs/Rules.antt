@@ -13,7 +13,7 @@ pub record Rules (P : Type 0) : Type 0 where
   -- the unit of a source that its pieces give, or the number that refuses them
   pub unit : List ℕ → List P → Result StoredUnit ℕ
 
--- the pieces are all that the source has, each in its place
+-- the pieces are all that the source has, each at its index
 pub record AreWhole {P : Type 0} (rules : Rules P) (source : List ℕ) (pieces : List P) : Type 0 where
   pub counted : rules.plan source ≡ Ok (length pieces)
   pub named : (k : ℕ) (piece : P) → slice_get pieces k ≡ Some piece → (rules.source_of piece ≡ source) × (rules.part_of piece ≡ k)

@@ -1,76 +1,148 @@
 -- Whole runs of the protocol core, and what holds after any of them.
-use Rattle.std.specs.Prelude.{ℕ, ◌≡◌, ◌-◌, ◌<◌, ◌≤◌, ◌⊎◌, List, [], ◌∷◌, ◌++◌, length, take, slice_get, Option, Some, All, Contains}
+use Rattle.std.specs.Prelude.{ℕ, ◌≡◌, ◌-◌, ◌<◌, ◌≤◌, ◌⊎◌, List, [], ◌∷◌, ◌++◌, length, take, slice_get, Option, Some, None, All, Contains}
 use Rattle.std.specs.FinMap.{get, empty}
-use Rattle.cc_disk.specs.Model.{IsImage}
+use Rattle.cc_disk.specs.Model.{IsImage, bytes_of}
+use Rattle.cc_disk.specs.Images.{LeavesAlone, IsWritten}
+use Rattle.cc_journal.specs.Format.{HoldsRecords, records, record_bytes}
+use Rattle.cc_library.specs.declared.command.Command.{Command}
+use Rattle.cc_library.specs.declared.command.Command.TheVariants as command
 use Rattle.cc_link.specs.declared.unit.StoredUnit.{StoredUnit}
-use Rattle.cc_library.specs.Apply.{Units, library_of}
-use Rattle.cc_library.specs.Body.{IsCommand}
-use Rattle.cc_library.specs.Recovered.{Recovers, RecoversAlone}
-use Rattle.cc_core.specs.declared.command.Placed.{Placed}
+use Rattle.cc_library.specs.Apply.{Units, AreAccepted, library_of}
+use Rattle.cc_library.specs.Body.{IsCommand, body_of}
+use Rattle.cc_library.specs.Recovered.{Recovers, RecoversAlone, StandFor}
+use Rattle.cc_core.specs.declared.command.Numbered.{Numbered}
 use Rattle.cc_core.specs.declared.command.Reply.{Reply}
 use Rattle.cc_core.specs.declared.contents.Contents.{Contents}
+use Rattle.cc_core.specs.declared.contents.Core.{Core}
+use Rattle.cc_core.specs.declared.contents.Due.TheVariants as dues
 use Rattle.cc_core.specs.declared.contents.Phase.{Phase}
 use Rattle.cc_core.specs.declared.contents.Phase.TheVariants.{Idle, Committing, Failed, Crashed}
 use Rattle.cc_core.specs.declared.event.Event.{Event}
+use Rattle.cc_core.specs.declared.event.Event.TheVariants as events
+use Rattle.cc_core.specs.declared.ids.ClientId.{ClientId}
+use Rattle.cc_core.specs.declared.ids.WorkerId.{WorkerId}
+use Rattle.cc_core.specs.declared.job.Job.{Job}
+use Rattle.cc_core.specs.Job.{source_in}
+use Rattle.cc_core.specs.Store.{gate_of}
 use Rattle.cc_core.specs.Rules.{Rules}
-use Rattle.cc_core.specs.Step.{Step, IsImpossible, IsStart, commands}
+use Rattle.cc_core.specs.Step.{Step, IsImpossible, IsStart, Advances, Begins, commands}
 
 -- each unit of the library has this property
 abbrev pub EachUnit : (StoredUnit → Type 0) → Units → Type 0
 EachUnit is_right library = (name : List ℕ) (unit : StoredUnit) → get library name ≡ Some unit → is_right unit
 
--- the places of these commands rise
-abbrev pub AreRising : List Placed → Type 0
-AreRising placed = (i j : ℕ) (a b : Placed) → i < j → slice_get placed i ≡ Some a → slice_get placed j ≡ Some b → a.place.number < b.place.number
+-- the sequence numbers of these commands rise
+abbrev pub AreRising : List Numbered → Type 0
+AreRising numbered = (i j : ℕ) (a b : Numbered) → i < j → slice_get numbered i ≡ Some a → slice_get numbered j ≡ Some b → a.number.value < b.number.value
 
 -- all commands but the last
-abbrev pub but_last : List Placed → List Placed
+abbrev pub but_last : List Numbered → List Numbered
 but_last order = take (length order - 1) order
 
 -- the library that clients see: that of the order, without the command in commit or failed, which is its last; from a crash
 -- until the recovery it is empty
-abbrev pub live : Phase → List Placed → Units
+abbrev pub live : Phase → List Numbered → Units
 live Idle order = library_of (commands order)
 live (Committing client last due) order = library_of (commands (but_last order))
-live Failed order = library_of (commands (but_last order))
+live (Failed (Some last)) order = library_of (commands (but_last order))
+live (Failed None) order = library_of (commands order)
 live Crashed order = empty
 
 -- The image recovers, to the library of a front of the order and to no other. The front holds every acknowledged command, and
 -- lacks at most the last of the order.
-pub record Survives (image : List ℕ) (order acknowledged : List Placed) : Type 0 where
-  pub kept : List Placed
-  pub lost : List Placed
+pub record Survives (image : List ℕ) (order acknowledged : List Numbered) : Type 0 where
+  pub kept : List Numbered
+  pub lost : List Numbered
   pub in_order : order ≡ kept ++ lost
   pub few : length lost ≤ 1
   pub acked : All (Contains kept) acknowledged
   pub recovers : RecoversAlone image (library_of (commands kept))
 
+-- every image of the disk survives so
+abbrev pub EachImageSurvives : Core → Type 0
+EachImageSurvives s = (image : List ℕ) → IsImage s.store.cells image → Survives image s.order s.acknowledged
+
+-- each unit of whatever an image recovers to has this property, that of a command in commit or failed too
+abbrev pub EachImageIsRight : (StoredUnit → Type 0) → Core → Type 0
+EachImageIsRight is_right s = (image : List ℕ) (library : Units) → IsImage s.store.cells image → Recovers image library → EachUnit is_right library
+
+-- the source of a command's unit, where it has one
+abbrev pub command_source : Command → Option (List ℕ)
+command_source (command.Add name unit) = Some unit.source
+command_source (command.Replace name unit) = Some unit.source
+command_source (command.Withdraw name) = None
+
+-- the four device steps of a commit, one after the other
+pub record Commits (client : ClientId) (numbered : Numbered) (old new : Core) : Type 0 where
+  pub body_written : Core
+  pub body_settled : Core
+  pub gate_written : Core
+  pub due_now : old.phase ≡ Committing client numbered dues.WriteBody
+  pub writes_body : Advances dues.WriteBody old None body_written
+  pub syncs_body : Advances dues.SyncBody body_written None body_settled
+  pub writes_gate : Advances dues.WriteGate body_settled None gate_written
+  pub syncs_gate : Advances dues.SyncGate gate_written None new
+
+-- they leave the bytes of one record, its gate open, and a closed gate behind it, at the offset of the closed gate, and no other byte differs
+abbrev pub LeavesRecord : Numbered → Core → Core → Type 0
+LeavesRecord numbered old new =
+    IsWritten (bytes_of old.store.cells) (gate_of old.store) (record_bytes (body_of numbered.command) ++ 0 ∷ []) (bytes_of new.store.cells)
+
+-- a command that goes into the order has a spelling: its name is a name, its unit a unit, as their types keep
+abbrev pub PutsCommand : Core → Core → Type 0
+PutsCommand old new = (numbered : Numbered) → new.order ≡ old.order ++ numbered ∷ [] → IsCommand numbered.command
+
 module _ {P : Type 0} where
-  -- every image of the disk survives so
-  abbrev pub EachImageSurvives : Contents P → Type 0
-  EachImageSurvives s = (image : List ℕ) → IsImage s.store.cells image → Survives image s.order s.acknowledged
-
-  -- each unit of whatever an image recovers to has this property, that of a command in commit or failed too
-  abbrev pub EachImageIsRight : (StoredUnit → Type 0) → Contents P → Type 0
-  EachImageIsRight is_right s = (image : List ℕ) (library : Units) → IsImage s.store.cells image → Recovers image library → EachUnit is_right library
-
-  -- a command that goes into the order has a spelling: its name is a name, its unit a unit, as their types keep
-  abbrev pub PutsCommand : Contents P → Contents P → Type 0
-  PutsCommand old new = (placed : Placed) → new.order ≡ old.order ++ placed ∷ [] → IsCommand placed.command
+  -- a piece that a worker hands in keeps what its type keeps
+  abbrev pub HandsIn : (P → Type 0) → Event P → Type 0
+  HandsIn keeps event = (worker : WorkerId) (piece : P) → event ≡ events.Done worker piece → keeps piece
 
   -- one turn of a run: an event that has a step takes it, and at each other the state stays
-  abbrev pub Turn : Rules P → Contents P → Event P → Contents P → Type 0
-  Turn rules old event new = ((reply : Option Reply) × Step rules old event reply new × PutsCommand old new) ⊎ (IsImpossible rules old event × (new ≡ old))
+  abbrev pub Turn : Rules P → (P → Type 0) → Contents P → Event P → Contents P → Type 0
+  Turn rules keeps old event new =
+      ((reply : Option Reply) × Step rules old event reply new × PutsCommand old.core new.core × HandsIn keeps event) ⊎ (IsImpossible rules old event × (new ≡ old))
 
   -- the run of these events, one turn after the other
-  abbrev pub Run : Rules P → Contents P → List (Event P) → Contents P → Type 0
-  Run rules old [] new = new ≡ old
-  Run rules old (event ∷ events) new = (mid : Contents P) × (Turn rules old event mid × Run rules mid events new)
+  abbrev pub Run : Rules P → (P → Type 0) → Contents P → List (Event P) → Contents P → Type 0
+  Run rules keeps old [] new = new ≡ old
+  Run rules keeps old (event ∷ later) new = (mid : Contents P) × (Turn rules keeps old event mid × Run rules keeps mid later new)
 
-  -- some events lead to these contents from a start
-  pub record Reached (rules : Rules P) (new : Contents P) : Type 0 where
-    pub area : ℕ
+  -- A disk of any size was opened, in either area: all is settled, and the records of its area stand for the live map, which is
+  -- the library of an order that some commands before made. That each unit of this base is right is a premise.
+  pub record IsOpened (is_right : StoredUnit → Type 0) (new : Contents P) : Type 0 where
+    pub phase : new.core.phase ≡ Idle
+    pub library : new.core.library ≡ library_of (commands new.core.order)
+    pub accepted : AreAccepted empty (commands new.core.order)
+    pub right : EachUnit is_right new.core.library
+    pub rising : AreRising new.core.order
+    pub below : (k : ℕ) (a : Numbered) → slice_get new.core.order k ≡ Some a → a.number.value < new.core.upcoming.value
+    pub acknowledged : new.core.acknowledged ≡ []
+    pub jobs : new.jobs ≡ empty
+    pub workers : new.workers ≡ empty
+    pub alone : LeavesAlone (bytes_of new.core.store.cells) (IsImage new.core.store.cells)
+    pub bodies : List (List ℕ)
+    pub holds : HoldsRecords (bytes_of new.core.store.cells) new.core.store.area bodies
+    pub area_byte : holds.area_byte ≡ new.core.store.area_byte
+    pub stand : StandFor bodies new.core.library
+    pub used : new.core.store.used ≡ length (records bodies)
+
+  -- a fresh disk or an opened one
+  abbrev pub IsBeginning : (StoredUnit → Type 0) → Contents P → Type 0
+  IsBeginning is_right new = ((area : ℕ) × IsStart area new) ⊎ IsOpened is_right new
+
+  -- from a crash to the recovery these alone may happen
+  abbrev pub IsOfCrash : Event P → Type 0
+  IsOfCrash event = ((choice : List ℕ) × (event ≡ events.Crash choice)) ⊎ (event ≡ events.Recover)
+
+  -- a command that begins has the source that its client handed in; a withdrawal has none
+  abbrev pub PutsSource : Rules P → ClientId → Contents P → Contents P → Type 0
+  PutsSource rules client old new =
+      Begins rules client old None new → (job : Job P) × (numbered : Numbered) × (get old.jobs client.number ≡ Some job)
+      × (new.core.order ≡ old.core.order ++ numbered ∷ []) × (command_source numbered.command ≡ source_in job.request)
+
+  -- some events lead to these contents from a beginning
+  pub record Reached (rules : Rules P) (keeps : P → Type 0) (is_right : StoredUnit → Type 0) (new : Contents P) : Type 0 where
     pub first : Contents P
-    pub started : IsStart area first
+    pub started : IsBeginning is_right first
     pub events : List (Event P)
-    pub run : Run rules first events new
+    pub run : Run rules keeps first events new

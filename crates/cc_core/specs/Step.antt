@@ -1,19 +1,27 @@
 -- The protocol core, one step at a time: from an old state an event may give this reply, or none, and go on to the new state.
 use Rattle.std.specs.Prelude.{ℕ, ◌≡◌, ◌+◌, ◌<◌, ◌≤◌, IsTrue, List, [], ◌∷◌, ◌++◌, length, map, take, slice_get, Option, Some, None, Result, Ok, Err}
-use Rattle.std.specs.FinMap.{get, insert, remove, empty}
+use Rattle.std.specs.Ordering.{nat_cmp}
+use Rattle.std.specs.FinMap.{FinMap, get, insert, remove, empty}
 use Rattle.cc_disk.specs.Model.{bytes_of}
 use Rattle.cc_journal.specs.Format.{HoldsRecords, records}
 use Rattle.cc_library.specs.declared.command.Command.{Command}
 use Rattle.cc_library.specs.Apply.{Units, after, library_of}
 use Rattle.cc_library.specs.Recovered.{StandFor}
 use Rattle.cc_core.specs.declared.command.Request.{Request}
-use Rattle.cc_core.specs.declared.command.Placed.{Placed}
+use Rattle.cc_core.specs.declared.command.Numbered.{Numbered}
 use Rattle.cc_core.specs.declared.command.Reply.{Reply}
 use Rattle.cc_core.specs.declared.command.Reply.TheVariants as replies
 use Rattle.cc_core.specs.declared.job.Job.{Job}
 use Rattle.cc_core.specs.declared.job.Work.{Work}
 use Rattle.cc_core.specs.declared.job.Progress.TheVariants.{Waiting, Taken, Made, Refused}
+use Rattle.cc_core.specs.declared.fault.Refusal.{Refusal}
+use Rattle.cc_core.specs.declared.fault.Refusal.TheVariants as refusal
+use Rattle.cc_core.specs.declared.ids.CallId.{CallId}
+use Rattle.cc_core.specs.declared.ids.ClientId.{ClientId}
+use Rattle.cc_core.specs.declared.ids.PartIndex.{PartIndex}
+use Rattle.cc_core.specs.declared.ids.WorkerId.{WorkerId}
 use Rattle.cc_core.specs.declared.contents.Contents.{Contents}
+use Rattle.cc_core.specs.declared.contents.Core.{Core}
 use Rattle.cc_core.specs.declared.contents.Due.{Due}
 use Rattle.cc_core.specs.declared.contents.Due.TheVariants as due
 use Rattle.cc_core.specs.declared.contents.Phase.{Phase}
@@ -28,184 +36,207 @@ use Rattle.cc_core.specs.Store.{IsFormatted, stepped, due_after, FailsTo, crashe
 -- from a crash until the recovery nothing else happens
 abbrev pub IsUp : Phase → Type 0
 IsUp Idle = Unit {0}
-IsUp (Committing client placed due) = Unit {0}
-IsUp Failed = Unit {0}
+IsUp (Committing client numbered due) = Unit {0}
+IsUp (Failed failed) = Unit {0}
 IsUp Crashed = ⊥
 
 -- a commit may begin where no other is under way; after a failed step it is refused
 abbrev pub IsFree : Phase → Type 0
 IsFree Idle = Unit {0}
-IsFree (Committing client placed due) = ⊥
-IsFree Failed = Unit {0}
+IsFree (Committing client numbered due) = ⊥
+IsFree (Failed failed) = Unit {0}
 IsFree Crashed = ⊥
 
--- the commands of an order, without their places
-abbrev pub commands : List Placed → List Command
-commands order = map (λ placed. placed.command) order
+-- the commands of an order, without their sequence numbers
+abbrev pub commands : List Numbered → List Command
+commands order = map (λ numbered. numbered.command) order
 
 -- the longest front of the order whose library is this one
-pub record IsLongest (library : Units) (order kept : List Placed) : Type 0 where
+pub record IsLongest (library : Units) (order kept : List Numbered) : Type 0 where
   pub count : ℕ
   pub within : count ≤ length order
   pub front : kept ≡ take count order
   pub leads : library_of (commands kept) ≡ library
   pub longest : (n : ℕ) → count < n → n ≤ length order → library_of (commands (take n order)) ≡ library → ⊥
 
+-- ---- the commit, over the core alone
+
+-- one Begin more took a step
+abbrev pub ticked : Core → Core
+ticked old = record old { upcoming = record { value = old.upcoming.value + 1 } }
+
+-- a command is named by the sequence number of its Begin
+abbrev pub numbered_now : Core → Command → Numbered
+numbered_now old command = record { number = old.upcoming; command = command }
+
+-- what a beginning comes to: a refusal is the reply; a command goes last in the order, and the write of its body is due
+abbrev pub Begun : Core → ClientId → Result Command Refusal → Option Reply → Core → Type 0
+Begun old client (Err refused) reply new = (reply ≡ Some (replies.Refused refused)) × (new ≡ ticked old)
+Begun old client (Ok command) reply new =
+    (reply ≡ None) × (new ≡ record (ticked old) { order = old.order ++ numbered_now old command ∷ []; phase = Committing client (numbered_now old command) due.WriteBody })
+
+-- the device step that is due is done
+pub record Advances (due : Due) (old : Core) (reply : Option Reply) (new : Core) : Type 0 where
+  pub client : ClientId
+  pub numbered : Numbered
+  pub committing : old.phase ≡ Committing client numbered due
+  pub silent : reply ≡ None
+  pub new_is : new ≡ record old { store = stepped due numbered.command old.store; phase = Committing client numbered (due_after due) }
+
+-- the device step that is due for this client fails: the reply is 35, and no device step is made any more
+pub record Fails (client : ClientId) (old : Core) (reply : Option Reply) (new : Core) : Type 0 where
+  pub numbered : Numbered
+  pub due : Due
+  pub store : StoreState
+  pub committing : old.phase ≡ Committing client numbered due
+  pub failed : FailsTo due numbered.command old.store store
+  pub told : reply ≡ Some (replies.Refused refusal.DiskFault)
+  pub new_is : new ≡ record old { store = store; phase = Failed (Some numbered) }
+
+-- the reply to the command that is on the disk: the library takes it
+pub record Acknowledges (client : ClientId) (old : Core) (reply : Option Reply) (new : Core) : Type 0 where
+  pub numbered : Numbered
+  pub committing : old.phase ≡ Committing client numbered due.Acknowledge
+  pub done : reply ≡ Some replies.Done
+  pub new_is : new ≡ record old {
+    library = after old.library numbered.command;
+    acknowledged = old.acknowledged ++ numbered ∷ [];
+    phase = Idle;
+  }
+
+-- the disk crashes, at any time; the live map is gone
+pub record Crashes (choice : List ℕ) (old : Core) (reply : Option Reply) (new : Core) : Type 0 where
+  pub silent : reply ≡ None
+  pub new_is : new ≡ record old { library = empty; phase = Crashed; store = crashed_store choice old.store }
+
+-- the library is opened: the live map is what the disk's records stand for, and the order its longest front that leads there
+pub record Reopens (old : Core) (reply : Option Reply) (new : Core) : Type 0 where
+  pub crashed : old.phase ≡ Crashed
+  pub bodies : List (List ℕ)
+  pub library : Units
+  pub kept : List Numbered
+  pub holds : HoldsRecords (bytes_of old.store.cells) old.store.area bodies
+  pub stand : StandFor bodies library
+  pub longest : IsLongest library old.order kept
+  pub silent : reply ≡ None
+  pub new_is : new ≡ record old {
+    library = library;
+    order = kept;
+    phase = Idle;
+    store = record old.store { used = length (records bodies) };
+  }
+
+-- ---- the core beside jobs and workers
+
 module _ {P : Type 0} where
   -- nothing has happened, and the disk is formatted with areas of that size
   pub record IsStart (area : ℕ) (new : Contents P) : Type 0 where
-    pub library : new.library ≡ empty
-    pub order : new.order ≡ []
-    pub acknowledged : new.acknowledged ≡ []
+    pub library : new.core.library ≡ empty
+    pub order : new.core.order ≡ []
+    pub acknowledged : new.core.acknowledged ≡ []
     pub jobs : new.jobs ≡ empty
     pub workers : new.workers ≡ empty
-    pub phase : new.phase ≡ Idle
-    pub formatted : IsFormatted area new.store
-    pub clock : new.clock.number ≡ 0
-
-  -- one event more took a step
-  abbrev pub counted : Contents P → Contents P
-  counted old = record old { clock = record { number = old.clock.number + 1 } }
-
-  -- a command is named by the place of the event that begins it
-  abbrev pub placed_now : Contents P → Command → Placed
-  placed_now old command = record { place = old.clock; command = command }
+    pub phase : new.core.phase ≡ Idle
+    pub formatted : IsFormatted area new.core.store
+    pub upcoming : new.core.upcoming.value ≡ 0
 
   -- a client without a job hands one in
-  pub record Submits (rules : Rules P) (old : Contents P) (client call : ℕ) (request : Request) (reply : Option Reply) (new : Contents P) : Type 0 where
-    pub up : IsUp old.phase
-    pub free : get old.jobs client ≡ None
+  pub record Submits (rules : Rules P) (client : ClientId) (call : CallId) (request : Request) (old : Contents P) (reply : Option Reply) (new : Contents P) : Type 0 where
+    pub up : IsUp old.core.phase
+    pub free : get old.jobs client.number ≡ None
     pub silent : reply ≡ None
-    pub new_is : new ≡ record (counted old) { jobs = insert old.jobs client (job_of rules call request) }
+    pub new_is : new ≡ record old { jobs = insert old.jobs client.number (job_of rules call request) }
 
   -- an idle worker takes a waiting piece of a client's job
-  pub record Takes (old : Contents P) (worker client part : ℕ) (reply : Option Reply) (new : Contents P) : Type 0 where
+  pub record Takes (worker : WorkerId) (client : ClientId) (part : PartIndex) (old : Contents P) (reply : Option Reply) (new : Contents P) : Type 0 where
     pub job : Job P
-    pub idle : get old.workers worker ≡ None
-    pub held : get old.jobs client ≡ Some job
-    pub waits : slice_get job.pieces part ≡ Some Waiting
+    pub idle : get old.workers worker.number ≡ None
+    pub held : get old.jobs client.number ≡ Some job
+    pub waits : slice_get job.pieces part.index ≡ Some Waiting
     pub silent : reply ≡ None
-    pub new_is : new ≡ record (counted old) {
-      jobs = insert old.jobs client (with_piece job part Taken);
-      workers = insert old.workers worker (record { client = client; part = part });
+    pub new_is : new ≡ record old {
+      jobs = insert old.jobs client.number (with_piece job part Taken);
+      workers = insert old.workers worker.number (record { client = client; part = part });
     }
 
   -- a busy worker hands in the piece that it took, by a value that names that job's source and that piece
-  pub record Finishes (rules : Rules P) (old : Contents P) (worker : ℕ) (piece : P) (reply : Option Reply) (new : Contents P) : Type 0 where
+  pub record Finishes (rules : Rules P) (worker : WorkerId) (piece : P) (old : Contents P) (reply : Option Reply) (new : Contents P) : Type 0 where
     pub work : Work
     pub job : Job P
-    pub busy : get old.workers worker ≡ Some work
-    pub held : get old.jobs work.client ≡ Some job
+    pub busy : get old.workers worker.number ≡ Some work
+    pub held : get old.jobs work.client.number ≡ Some job
     pub source : source_in job.request ≡ Some (rules.source_of piece)
-    pub part : rules.part_of piece ≡ work.part
+    pub part : rules.part_of piece ≡ work.part.index
     pub silent : reply ≡ None
-    pub new_is : new ≡ record (counted old) {
-      jobs = insert old.jobs work.client (with_piece job work.part (Made piece));
-      workers = remove old.workers worker;
+    pub new_is : new ≡ record old {
+      jobs = insert old.jobs work.client.number (with_piece job work.part (Made piece));
+      workers = remove old.workers worker.number;
     }
 
   -- a busy worker refuses the piece that it took
-  pub record Refuses (old : Contents P) (worker number : ℕ) (reply : Option Reply) (new : Contents P) : Type 0 where
+  pub record Refuses (worker : WorkerId) (number : ℕ) (old : Contents P) (reply : Option Reply) (new : Contents P) : Type 0 where
     pub work : Work
     pub job : Job P
-    pub busy : get old.workers worker ≡ Some work
-    pub held : get old.jobs work.client ≡ Some job
+    pub busy : get old.workers worker.number ≡ Some work
+    pub held : get old.jobs work.client.number ≡ Some job
     pub silent : reply ≡ None
-    pub new_is : new ≡ record (counted old) {
-      jobs = insert old.jobs work.client (with_piece job work.part (Refused number));
-      workers = remove old.workers worker;
+    pub new_is : new ≡ record old {
+      jobs = insert old.jobs work.client.number (with_piece job work.part (Refused number));
+      workers = remove old.workers worker.number;
     }
 
-  -- what a beginning leads to: a refusal is the reply and the job ends; a command goes last in the order, and the write of
-  -- its body is due
-  abbrev pub Begun : Contents P → ℕ → Result Command ℕ → Option Reply → Contents P → Type 0
-  Begun old client (Err number) reply new =
-      (reply ≡ Some (replies.Refused number)) × (new ≡ record (counted old) { jobs = remove old.jobs client })
-  Begun old client (Ok command) reply new =
-      (reply ≡ None) × (new ≡ record (counted old) { order = old.order ++ placed_now old command ∷ []; phase = Committing client (placed_now old command) due.WriteBody })
+  -- a refused job ends at its Begin
+  abbrev pub jobs_begun : FinMap nat_cmp (Job P) → ClientId → Result Command Refusal → FinMap nat_cmp (Job P)
+  jobs_begun jobs client (Ok command) = jobs
+  jobs_begun jobs client (Err refused) = remove jobs client.number
 
   -- a job whose pieces are all there begins, where no other commits
-  pub record Begins (rules : Rules P) (old : Contents P) (client : ℕ) (reply : Option Reply) (new : Contents P) : Type 0 where
+  pub record Begins (rules : Rules P) (client : ClientId) (old : Contents P) (reply : Option Reply) (new : Contents P) : Type 0 where
     pub job : Job P
-    pub free : IsFree old.phase
-    pub held : get old.jobs client ≡ Some job
+    pub free : IsFree old.core.phase
+    pub held : get old.jobs client.number ≡ Some job
     pub ready : IsTrue (all_there job.pieces)
-    pub begun : Begun old client (verdict rules old.phase old.library old.store job) reply new
+    pub begun : Begun old.core client (verdict rules old.core.phase old.core.library old.core.store job) reply new.core
+    pub jobs : new.jobs ≡ jobs_begun old.jobs client (verdict rules old.core.phase old.core.library old.core.store job)
+    pub workers : new.workers ≡ old.workers
 
-  -- the device step that is due is done
-  pub record Advances (due : Due) (old : Contents P) (reply : Option Reply) (new : Contents P) : Type 0 where
-    pub client : ℕ
-    pub placed : Placed
-    pub committing : old.phase ≡ Committing client placed due
-    pub silent : reply ≡ None
-    pub new_is : new ≡ record (counted old) { store = stepped due placed.command old.store; phase = Committing client placed (due_after due) }
+  -- a step of the core alone
+  pub record StepsCore (step : Core → Option Reply → Core → Type 0) (old : Contents P) (reply : Option Reply) (new : Contents P) : Type 0 where
+    pub core_step : step old.core reply new.core
+    pub jobs : new.jobs ≡ old.jobs
+    pub workers : new.workers ≡ old.workers
 
-  -- the device step that is due fails: the reply is 35, the job ends, and no device step is made any more
-  pub record Fails (old : Contents P) (reply : Option Reply) (new : Contents P) : Type 0 where
-    pub client : ℕ
-    pub placed : Placed
-    pub due : Due
-    pub store : StoreState
-    pub committing : old.phase ≡ Committing client placed due
-    pub failed : FailsTo due placed.command old.store store
-    pub told : reply ≡ Some (replies.Refused 35)
-    pub new_is : new ≡ record (counted old) { store = store; jobs = remove old.jobs client; phase = Failed }
+  -- a step of the core that ends a client's job
+  pub record EndsJob (client : ClientId) (step : Core → Option Reply → Core → Type 0) (old : Contents P) (reply : Option Reply) (new : Contents P) : Type 0 where
+    pub core_step : step old.core reply new.core
+    pub jobs : new.jobs ≡ remove old.jobs client.number
+    pub workers : new.workers ≡ old.workers
 
-  -- the reply to the command that is on the disk: the library takes it, and the job ends
-  pub record Acknowledges (old : Contents P) (client : ℕ) (reply : Option Reply) (new : Contents P) : Type 0 where
-    pub placed : Placed
-    pub committing : old.phase ≡ Committing client placed due.Acknowledge
-    pub done : reply ≡ Some replies.Done
-    pub new_is : new ≡ record (counted old) {
-      library = after old.library placed.command;
-      acknowledged = old.acknowledged ++ placed ∷ [];
-      jobs = remove old.jobs client;
-      phase = Idle;
-    }
+  -- the device step that is due fails, and the job in commit ends
+  abbrev pub FailsJob : Contents P → Option Reply → Contents P → Type 0
+  FailsJob old reply new = (client : ClientId) × EndsJob client (Fails client) old reply new
 
-  -- the disk crashes, at any time; the live map, jobs and workers are gone
-  pub record Crashes (choice : List ℕ) (old : Contents P) (reply : Option Reply) (new : Contents P) : Type 0 where
-    pub silent : reply ≡ None
-    pub new_is : new ≡ record (counted old) {
-      library = empty;
-      jobs = empty;
-      workers = empty;
-      phase = Crashed;
-      store = crashed_store choice old.store;
-    }
-
-  -- the library is opened: the live map is what the disk's records stand for, and the order its longest front that leads there
-  pub record Reopens (old : Contents P) (reply : Option Reply) (new : Contents P) : Type 0 where
-    pub crashed : old.phase ≡ Crashed
-    pub bodies : List (List ℕ)
-    pub library : Units
-    pub kept : List Placed
-    pub holds : HoldsRecords (bytes_of old.store.cells) old.store.area bodies
-    pub stand : StandFor bodies library
-    pub longest : IsLongest library old.order kept
-    pub silent : reply ≡ None
-    pub new_is : new ≡ record (counted old) {
-      library = library;
-      order = kept;
-      phase = Idle;
-      store = record old.store { used = length (records bodies) };
-    }
+  -- a step of the core that ends all jobs and all work
+  pub record EndsAll (step : Core → Option Reply → Core → Type 0) (old : Contents P) (reply : Option Reply) (new : Contents P) : Type 0 where
+    pub core_step : step old.core reply new.core
+    pub jobs : new.jobs ≡ empty
+    pub workers : new.workers ≡ empty
 
   -- the step that an event takes; no reply is a reply
   abbrev pub Step : Rules P → Contents P → Event P → Option Reply → Contents P → Type 0
-  Step rules old (event.Submit client call request) reply new = Submits rules old client call request reply new
-  Step rules old (event.Take worker client part) reply new = Takes old worker client part reply new
-  Step rules old (event.Done worker piece) reply new = Finishes rules old worker piece reply new
-  Step rules old (event.Refuse worker number) reply new = Refuses old worker number reply new
-  Step rules old (event.Begin client) reply new = Begins rules old client reply new
-  Step rules old event.WriteBody reply new = Advances due.WriteBody old reply new
-  Step rules old event.SyncBody reply new = Advances due.SyncBody old reply new
-  Step rules old event.WriteGate reply new = Advances due.WriteGate old reply new
-  Step rules old event.SyncGate reply new = Advances due.SyncGate old reply new
-  Step rules old event.Fail reply new = Fails old reply new
-  Step rules old (event.Ack client) reply new = Acknowledges old client reply new
-  Step rules old (event.Crash choice) reply new = Crashes choice old reply new
-  Step rules old event.Recover reply new = Reopens old reply new
+  Step rules old (event.Submit client call request) reply new = Submits rules client call request old reply new
+  Step rules old (event.Take worker client part) reply new = Takes worker client part old reply new
+  Step rules old (event.Done worker piece) reply new = Finishes rules worker piece old reply new
+  Step rules old (event.Refuse worker number) reply new = Refuses worker number old reply new
+  Step rules old (event.Begin client) reply new = Begins rules client old reply new
+  Step rules old event.WriteBody reply new = StepsCore (Advances due.WriteBody) old reply new
+  Step rules old event.SyncBody reply new = StepsCore (Advances due.SyncBody) old reply new
+  Step rules old event.WriteGate reply new = StepsCore (Advances due.WriteGate) old reply new
+  Step rules old event.SyncGate reply new = StepsCore (Advances due.SyncGate) old reply new
+  Step rules old event.Fail reply new = FailsJob old reply new
+  Step rules old (event.Ack client) reply new = EndsJob client (Acknowledges client) old reply new
+  Step rules old (event.Crash choice) reply new = EndsAll (Crashes choice) old reply new
+  Step rules old event.Recover reply new = StepsCore Reopens old reply new
 
   -- the event takes no step
   abbrev pub IsImpossible : Rules P → Contents P → Event P → Type 0

@@ -1,5 +1,5 @@
--- The disk of the core: a journal in its area A, written step by step.
-use Rattle.std.specs.Prelude.{◌≡◌, ℕ, ◌+◌, ◌*◌, List, [], ◌∷◌, ◌++◌, length}
+-- The disk of the core: a journal in one of its areas, written step by step.
+use Rattle.std.specs.Prelude.{◌≡◌, ℕ, ◌+◌, ◌*◌, ◌%◌, List, [], ◌∷◌, ◌++◌, length}
 use Rattle.std.specs.Int.{w32, to_le_bytes}
 use Rattle.cc_disk.specs.declared.cell.Cell.{Cell}
 use Rattle.cc_disk.specs.Model.{bytes_of, IsImage, written, synced, crashed}
@@ -19,11 +19,16 @@ pub record IsFormatted (area : ℕ) (store : StoreState) : Type 0 where
   pub rest : List ℕ
   pub bytes : bytes_of store.cells ≡ header 0 area ++ (0 ∷ rest)
   pub alone : LeavesAlone (bytes_of store.cells) (IsImage store.cells)
+  pub first_area : store.area_byte ≡ 0
   pub unused : store.used ≡ 0
 
--- where the closed gate behind the last record stands
+-- the offset at which the area that this byte names begins
+abbrev pub begin_of : (area_byte area : ℕ) → ℕ
+begin_of area_byte area = 16 + area_byte % 2 * area
+
+-- the offset of the closed gate behind the last record
 abbrev pub gate_of : StoreState → ℕ
-gate_of store = 16 + store.used
+gate_of store = begin_of store.area_byte store.area + store.used
 
 -- what stands behind the gate of a record with this body: the body's length as four bytes, the lowest first, the body, and
 -- the next gate, closed
@@ -31,8 +36,8 @@ abbrev pub behind_gate : List ℕ → List ℕ
 behind_gate body = to_le_bytes w32 (length body) ++ (body ++ 0 ∷ [])
 
 -- how many bytes of the area the records and their closed gate take with one more record of this body
-abbrev pub room_with : StoreState → List ℕ → ℕ
-room_with store body = store.used + (length body + 6)
+abbrev pub room_taken : StoreState → List ℕ → ℕ
+room_taken store body = store.used + (length body + 6)
 
 -- the disk with other cells
 abbrev pub with_cells : StoreState → List Cell → StoreState
@@ -44,7 +49,7 @@ abbrev pub stepped : Due → Command → StoreState → StoreState
 stepped WriteBody command store = with_cells store (written store.cells (gate_of store + 1) (behind_gate (body_of command)))
 stepped SyncBody command store = with_cells store (synced store.cells)
 stepped WriteGate command store = with_cells store (written store.cells (gate_of store) (open_gate ∷ []))
-stepped SyncGate command store = record { cells = synced store.cells; area = store.area; used = store.used + (length (body_of command) + 5) }
+stepped SyncGate command store = record store { cells = synced store.cells; used = store.used + (length (body_of command) + 5) }
 stepped Acknowledge command store = store
 
 -- what is due next
@@ -64,6 +69,6 @@ FailsTo WriteGate command old new = (byte : ℕ) × (new ≡ with_cells old (wri
 FailsTo SyncGate command old new = new ≡ old
 FailsTo Acknowledge command old new = ⊥
 
--- the disk after a crash that leaves this choice at the unsettled places
+-- the disk after a crash that leaves this choice at the unsettled offsets
 abbrev pub crashed_store : List ℕ → StoreState → StoreState
 crashed_store choice store = with_cells store (crashed store.cells choice)

@@ -2,8 +2,10 @@
 use Rattle.std.specs.Prelude.{ℕ, List}
 use Rattle.cc_disk.specs.declared.cell.Cell.{Cell}
 
--- its cells, the size of an area in bytes, and how many bytes of the first area the records take
+-- its cells, the area byte, which names the first area where it is even, else the second, the size of an area in bytes, and how
+-- many bytes of the named area the records take
 pub record StoreState : Type 0 where
   pub cells : List Cell
+  pub area_byte : ℕ
   pub area : ℕ
   pub used : ℕ

@@ -1,8 +1,8 @@
-ghost use Rattle.std.specs.Prelude.{◌≡◌, ◌↔◌, ℕ, List, Result, Ok, IfOk, IfErr, IsTrue, map};
+ghost use Rattle.std.specs.Prelude.{◌≡◌, ◌↔◌, ℕ, List, Result, Ok, IfOk, IfErr, IsTrue, All, map};
 ghost use Rattle.std.specs.Arc.{arc_value};
 ghost use Rattle.cc_link.specs.declared.unit.StoredUnit.{StoredUnit};
 ghost use Rattle.cc_core.specs.Rules.{Rules, AreWhole};
-ghost use Rattle.cc_core.specs.Faults.{RefusesAs};
+ghost use Rattle.cc_core.specs.Fault.{RefusesAs};
 
 use crate::fault::BuildFault;
 use cc_link::StoredUnit;
@@ -17,17 +17,21 @@ pub trait Build: Drop {
     // How many pieces a source has, what a piece names, and what pieces give.
     ghost rules: { Rules Self.Piece };
 
+    // What each piece of this type keeps, beside what it names.
+    ghost keeps: { Self.Piece → Type 0 };
+
     // The unit's image is right for its source.
     ghost is_right: { StoredUnit → Type 0 };
 
     /// How many pieces a source has, any bytes; or the number that refuses it.
     fn plan(&self, alloc: Global, source: &[u8]) -> Result<u32, BuildFault>
-        ensures ok { IfOk result (λ pieces. rules.plan source.now ≡ Ok pieces) }
-        ensures err { IfErr result (λ fault. RefusesAs fault (rules.plan source.now)) };
+        ensures answer { IfOk result (λ pieces. rules.plan source.now ≡ Ok pieces) }
+        ensures refused { IfErr result (λ fault. RefusesAs fault (rules.plan source.now)) };
 
     /// Whether a piece names this source and this part of it. It takes no memory.
     fn names(&self, piece: &Self::Piece, source: &[u8], part: u32) -> bool
-        ensures { IsTrue result ↔ ((rules.source_of piece.now ≡ source.now) × (rules.part_of piece.now ≡ part)) };
+        ensures named { IsTrue result ↔ ((rules.source_of piece.now ≡ source.now) × (rules.part_of piece.now ≡ part)) }
+        ensures kept { keeps piece.now };
 
     /// The unit that the pieces of a source give, or the number that refuses them.
     fn unit(
@@ -36,12 +40,12 @@ pub trait Build: Drop {
         source: &[u8],
         pieces: &[&Self::Piece],
     ) -> Result<Arc<StoredUnit>, BuildFault>
-        ensures ok { IfOk result
+        ensures answer { IfOk result
             (λ unit. rules.unit source.now (map (λ piece. piece.now) pieces.now) ≡ Ok (arc_value unit)) }
-        ensures err { IfErr result
+        ensures refused { IfErr result
             (λ fault. RefusesAs fault (rules.unit source.now (map (λ piece. piece.now) pieces.now))) };
 
-    // The unit that all pieces of a source give is of that source, and right for it.
+    // The unit that all pieces of a source give, each with what it keeps, is of that source, and right for it.
     ghost law: { (source : List ℕ) (pieces : List Self.Piece) (unit : StoredUnit)
-        → AreWhole rules source pieces → rules.unit source pieces ≡ Ok unit → (unit.source ≡ source) × is_right unit };
+        → AreWhole rules source pieces → All keeps pieces → rules.unit source pieces ≡ Ok unit → (unit.source ≡ source) × is_right unit };
 }

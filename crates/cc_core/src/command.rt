@@ -1,7 +1,8 @@
 ghost use Rattle.std.specs.Prelude.{◌≡◌, IfOk};
 
-use crate::place::Place;
+use crate::fault::Refusal;
 use crate::sequence::Sequence;
+use crate::sequence_number::SequenceNumber;
 use cc_library::{Command, Name};
 use std::alloc::AllocError;
 
@@ -13,29 +14,29 @@ pub enum Request {
     Withdraw(Name),
 }
 
-/// A command with its name: the place of the event that began it, among all events that took a step.
-/// Two commands that ask the same have two places.
+/// A command with its name: the sequence number of its Begin, among all Begins that took a step.
+/// Two commands that ask the same have two numbers.
 #[derive(Drop)]
-pub struct Placed {
-    pub place: Place,
+pub struct Numbered {
+    pub number: SequenceNumber,
     pub command: Command,
 }
 
-impl Placed {
-    /// The same command with its place once more.
-    pub(crate) fn again(&self) -> Result<Placed, AllocError>
-        ensures { IfOk result (λ placed. placed ≡ self.now) }
+impl Numbered {
+    /// The same command with its number once more.
+    pub(crate) fn again(&self) -> Result<Numbered, AllocError>
+        ensures { IfOk result (λ numbered. numbered ≡ self.now) }
     {
-        Ok(Placed {
-            place: self.place.same(),
+        Ok(Numbered {
+            number: self.number.same(),
             command: self.command.again()?,
         })
     }
 }
 
-/// What a client is answered: done, or refused with this number.
+/// What a client is answered: done, or why it is refused.
 #[derive(Drop)]
 pub enum Reply {
     Done,
-    Refused(u32),
+    Refused(Refusal),
 }

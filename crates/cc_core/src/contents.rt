@@ -1,7 +1,8 @@
-use crate::command::Placed;
+use crate::command::Numbered;
+use crate::ids::ClientId;
 use crate::job::{Job, Work};
-use crate::place::Place;
 use crate::sequence::Sequence;
+use crate::sequence_number::SequenceNumber;
 use crate::store::Store;
 use crate::table::Table;
 use cc_library::UnitMap;
@@ -27,23 +28,24 @@ pub enum Phase {
     /// None is.
     Idle,
     /// This client's is, and this is due.
-    Committing(u64, Placed, Due),
-    /// A device step has failed: no more are made until the library is opened again.
-    Failed,
+    Committing(ClientId, Numbered, Due),
+    /// A device step of this command, where it was one's, has failed: no more are made until the library is opened again.
+    Failed(Option<Numbered>),
     /// The disk has crashed: the library has to be opened.
     Crashed,
 }
 
 impl Phase {
     ghost use Rattle.std.specs.Prelude.{◌≡◌, ℕ};
-    ghost use Rattle.cc_core.specs.declared.command.Placed.{Placed};
+    ghost use Rattle.cc_core.specs.declared.command.Numbered.{Numbered};
     ghost use Rattle.cc_core.specs.declared.contents.Due.{Due};
+    ghost use Rattle.cc_core.specs.declared.ids.ClientId.{ClientId};
     ghost use Rattle.cc_core.specs.declared.contents.Phase.TheVariants.{Committing};
 
     /// In a commit, this is due next.
     pub(crate) fn go_on(&mut self, next: Due)
-        ensures { (client : ℕ) (placed : Placed) (due : Due)
-            → self.old ≡ Committing client placed due → self.new ≡ Committing client placed next }
+        ensures { (client : ClientId) (numbered : Numbered) (due : Due)
+            → self.old ≡ Committing client numbered due → self.new ≡ Committing client numbered next }
     {
         if let Phase::Committing(_, _, due) = self {
             *due = next;
@@ -51,22 +53,28 @@ impl Phase {
     }
 }
 
-/// What a state of the core holds, beside its build.
+/// What commits go over: the library, its order and the disk.
 #[derive(Drop)]
-pub struct Contents<P> {
+pub struct Core {
     /// The live map.
     pub library: UnitMap,
     /// The commands that were accepted, in the order in which they began.
-    pub order: Sequence<Placed>,
+    pub order: Sequence<Numbered>,
     /// The commands whose reply was given, in that order.
-    pub acknowledged: Sequence<Placed>,
+    pub acknowledged: Sequence<Numbered>,
+    pub phase: Phase,
+    /// The disk.
+    pub store: Store,
+    /// The sequence number of the next Begin.
+    pub upcoming: SequenceNumber,
+}
+
+/// What a state of the core holds, beside its build.
+#[derive(Drop)]
+pub struct Contents<P> {
+    pub core: Core,
     /// The job of each client that has one.
     pub jobs: Table<Job<P>>,
     /// What each worker has taken; a worker that is not named is idle.
     pub workers: Table<Work>,
-    pub phase: Phase,
-    /// The disk.
-    pub store: Store,
-    /// The place of the next event.
-    pub clock: Place,
 }

@@ -5,13 +5,15 @@ ghost use Rattle.cc_core.specs.declared.command.Reply.{Reply};
 ghost use Rattle.cc_core.specs.declared.contents.Contents.{Contents};
 ghost use Rattle.cc_core.specs.declared.contents.Due.TheVariants as due;
 ghost use Rattle.cc_core.specs.Store.{behind_gate};
-ghost use Rattle.cc_core.specs.Step.{Advances, Fails};
-ghost use Rattle.cc_core.specs.Ready.{IsReady};
+ghost use Rattle.cc_core.specs.internal.Answers.{Answers};
+ghost use Rattle.cc_core.specs.Step.{Advances, Fails, FailsJob};
+ghost use Rattle.cc_core.specs.internal.Ready.{IsReady};
 
-use crate::command::{Placed, Reply};
-use crate::contents::{Contents, Due, Phase};
+use crate::command::Reply;
+use crate::contents::{Contents, Core, Due, Phase};
 use crate::events::Answer;
-use crate::fault::CoreFault;
+use crate::fault::{CoreFault, Refusal};
+use crate::ids::ClientId;
 use cc_library::body_of_command;
 use std::alloc::{AllocError, Global};
 
@@ -28,118 +30,110 @@ fn frame(alloc: Global, body: &[u8]) -> Result<Vec<u8>, AllocError>
 }
 
 // The body's write is done. The bytes are made before the device is called.
-pub(crate) fn write_body<P>(alloc: Global, contents: &mut Contents<P>) -> Answer
-    requires { IsReady contents.old }
-    ensures ok { IfOk result (λ reply. Advances due.WriteBody contents.old reply contents.new) }
-    ensures not_now { IsErrOf result CoreFault.NotNow
-        → (reply : Option Reply) (new : Contents P) → ¬ (Advances due.WriteBody contents.old reply new) }
-    ensures memory { IsErrOf result CoreFault.OutOfMemory
-        → (reply : Option Reply) × (new : Contents P) × (Advances due.WriteBody contents.old reply new) }
-    ensures err { OnErr result (contents.new ≡ contents.old) }
+pub(crate) fn write_body(alloc: Global, core: &mut Core) -> Answer
+    requires { IsReady core.old }
+    ensures { Answers (Advances due.WriteBody core.old) result core.old core.new }
 {
-    let Phase::Committing(_, placed, due) = &contents.phase else {
+    let Phase::Committing(_, numbered, due) = &core.phase else {
         return Err(CoreFault::NotNow);
     };
     let Due::WriteBody = due else {
         return Err(CoreFault::NotNow);
     };
-    let body = body_of_command(alloc, &placed.command)?;
+    let body = body_of_command(alloc, &numbered.command)?;
     let behind = frame(alloc, &body)?;
-    contents.store.write_body(&behind);
-    contents.phase.go_on(Due::SyncBody);
-    contents.clock = contents.clock.next();
+    core.store.write_body(&behind);
+    core.phase.go_on(Due::SyncBody);
     Ok(None)
 }
 
-// The sync behind it is done.
-pub(crate) fn sync_body<P>(contents: &mut Contents<P>) -> Answer
-    requires { IsReady contents.old }
-    ensures ok { IfOk result (λ reply. Advances due.SyncBody contents.old reply contents.new) }
-    ensures not_now { IsErrOf result CoreFault.NotNow
-        → (reply : Option Reply) (new : Contents P) → ¬ (Advances due.SyncBody contents.old reply new) }
-    ensures memory { IsErrOf result CoreFault.OutOfMemory
-        → (reply : Option Reply) × (new : Contents P) × (Advances due.SyncBody contents.old reply new) }
-    ensures err { OnErr result (contents.new ≡ contents.old) }
+// The sync after it is done.
+pub(crate) fn sync_body(core: &mut Core) -> Answer
+    requires { IsReady core.old }
+    ensures { Answers (Advances due.SyncBody core.old) result core.old core.new }
 {
-    let Phase::Committing(_, _, Due::SyncBody) = &contents.phase else {
+    let Phase::Committing(_, _, Due::SyncBody) = &core.phase else {
         return Err(CoreFault::NotNow);
     };
-    contents.store.sync();
-    contents.phase.go_on(Due::WriteGate);
-    contents.clock = contents.clock.next();
+    core.store.sync();
+    core.phase.go_on(Due::WriteGate);
     Ok(None)
 }
 
 // The write that opens the gate is done.
-pub(crate) fn write_gate<P>(contents: &mut Contents<P>) -> Answer
-    requires { IsReady contents.old }
-    ensures ok { IfOk result (λ reply. Advances due.WriteGate contents.old reply contents.new) }
-    ensures not_now { IsErrOf result CoreFault.NotNow
-        → (reply : Option Reply) (new : Contents P) → ¬ (Advances due.WriteGate contents.old reply new) }
-    ensures memory { IsErrOf result CoreFault.OutOfMemory
-        → (reply : Option Reply) × (new : Contents P) × (Advances due.WriteGate contents.old reply new) }
-    ensures err { OnErr result (contents.new ≡ contents.old) }
+pub(crate) fn write_gate(core: &mut Core) -> Answer
+    requires { IsReady core.old }
+    ensures { Answers (Advances due.WriteGate core.old) result core.old core.new }
 {
-    let Phase::Committing(_, _, Due::WriteGate) = &contents.phase else {
+    let Phase::Committing(_, _, Due::WriteGate) = &core.phase else {
         return Err(CoreFault::NotNow);
     };
-    contents.store.open_gate();
-    contents.phase.go_on(Due::SyncGate);
-    contents.clock = contents.clock.next();
+    core.store.open_gate();
+    core.phase.go_on(Due::SyncGate);
     Ok(None)
 }
 
-// The sync behind it is done: the record is one of the journal's.
-pub(crate) fn sync_gate<P>(alloc: Global, contents: &mut Contents<P>) -> Answer
-    requires { IsReady contents.old }
-    ensures ok { IfOk result (λ reply. Advances due.SyncGate contents.old reply contents.new) }
-    ensures not_now { IsErrOf result CoreFault.NotNow
-        → (reply : Option Reply) (new : Contents P) → ¬ (Advances due.SyncGate contents.old reply new) }
-    ensures memory { IsErrOf result CoreFault.OutOfMemory
-        → (reply : Option Reply) × (new : Contents P) × (Advances due.SyncGate contents.old reply new) }
-    ensures err { OnErr result (contents.new ≡ contents.old) }
+// The sync after it is done: the record is one of the journal's.
+pub(crate) fn sync_gate(alloc: Global, core: &mut Core) -> Answer
+    requires { IsReady core.old }
+    ensures { Answers (Advances due.SyncGate core.old) result core.old core.new }
 {
-    let Phase::Committing(_, placed, due) = &contents.phase else {
+    let Phase::Committing(_, numbered, due) = &core.phase else {
         return Err(CoreFault::NotNow);
     };
     let Due::SyncGate = due else {
         return Err(CoreFault::NotNow);
     };
-    let length = body_of_command(alloc, &placed.command)?.len();
-    contents.store.sync();
-    let used = contents.store.used();
-    contents.store.set_used(used + (length + 5));
-    contents.phase.go_on(Due::Acknowledge);
-    contents.clock = contents.clock.next();
+    let length = body_of_command(alloc, &numbered.command)?.len();
+    core.store.sync();
+    let used = core.store.used();
+    core.store.set_used(used + (length + 5));
+    core.phase.go_on(Due::Acknowledge);
     Ok(None)
 }
 
 // The device step that is due fails. A write has reached the disk then, in whole, unsettled.
-pub(crate) fn fail<P: Drop>(alloc: Global, contents: &mut Contents<P>) -> Answer
-    requires { IsReady contents.old }
-    ensures ok { IfOk result (λ reply. Fails contents.old reply contents.new) }
-    ensures not_now { IsErrOf result CoreFault.NotNow
-        → (reply : Option Reply) (new : Contents P) → ¬ (Fails contents.old reply new) }
-    ensures memory { IsErrOf result CoreFault.OutOfMemory
-        → (reply : Option Reply) × (new : Contents P) × (Fails contents.old reply new) }
-    ensures err { OnErr result (contents.new ≡ contents.old) }
+fn fail_core(alloc: Global, core: &mut Core, client: ClientId) -> Answer
+    requires { IsReady core.old }
+    ensures { Answers (Fails client core.old) result core.old core.new }
 {
-    let Phase::Committing(client, placed, due) = &contents.phase else {
+    let Phase::Committing(committing, numbered, due) = &core.phase else {
+        return Err(CoreFault::NotNow);
+    };
+    if committing.number != client.number {
+        return Err(CoreFault::NotNow);
+    }
+    if let Due::Acknowledge = due {
+        return Err(CoreFault::NotNow);
+    }
+    let failed = numbered.again()?;
+    match due {
+        Due::WriteBody => {
+            let body = body_of_command(alloc, &numbered.command)?;
+            let behind = frame(alloc, &body)?;
+            core.store.write_body(&behind);
+        }
+        Due::WriteGate => core.store.open_gate(),
+        Due::SyncBody | Due::SyncGate | Due::Acknowledge => {}
+    }
+    core.phase = Phase::Failed(Some(failed));
+    Ok(Some(Reply::Refused(Refusal::DiskFault)))
+}
+
+// The device step that is due fails, and the job in commit ends.
+pub(crate) fn fail<P: Drop>(alloc: Global, contents: &mut Contents<P>) -> Answer
+    requires { IsReady contents.old.core }
+    ensures { Answers (FailsJob contents.old) result contents.old contents.new }
+{
+    let Phase::Committing(client, _, _) = &contents.core.phase else {
         return Err(CoreFault::NotNow);
     };
     let client = *client;
-    match due {
-        Due::WriteBody => {
-            let body = body_of_command(alloc, &placed.command)?;
-            let behind = frame(alloc, &body)?;
-            contents.store.write_body(&behind);
+    match fail_core(alloc, &mut contents.core, client) {
+        Ok(reply) => {
+            contents.jobs.remove(client.number);
+            Ok(reply)
         }
-        Due::WriteGate => contents.store.open_gate(),
-        Due::SyncBody | Due::SyncGate => {}
-        Due::Acknowledge => return Err(CoreFault::NotNow),
+        Err(fault) => Err(fault),
     }
-    contents.phase = Phase::Failed;
-    contents.jobs.remove(client);
-    contents.clock = contents.clock.next();
-    Ok(Some(Reply::Refused(35)))
 }

@@ -1,19 +1,20 @@
 use crate::command::Request;
+use crate::ids::{CallId, ClientId, PartIndex, WorkerId};
 use crate::sequence::Sequence;
 
-/// What may happen. Clients, calls and workers are any numbers; pieces are counted from 0.
+/// What may happen.
 #[derive(Drop)]
 pub enum Event<P> {
     /// A client without a job hands one in: client, call, request.
-    Submit(u64, u64, Request),
+    Submit(ClientId, CallId, Request),
     /// An idle worker takes a waiting piece: worker, client, piece.
-    Take(u64, u64, u32),
+    Take(WorkerId, ClientId, PartIndex),
     /// A worker hands in the piece that it took: worker, piece.
-    Done(u64, P),
+    Done(WorkerId, P),
     /// A worker refuses the piece that it took: worker, number.
-    Refuse(u64, u32),
+    Refuse(WorkerId, u32),
     /// A client's job, whose pieces are all there, begins its commit.
-    Begin(u64),
+    Begin(ClientId),
     /// The first device step of the commit: the record's body is written, and the closed gate behind it.
     WriteBody,
     /// The second: they are synced.
@@ -25,8 +26,8 @@ pub enum Event<P> {
     /// The device step that is due fails.
     Fail,
     /// The reply is given to the client whose command is in commit, when all four steps are done.
-    Ack(u64),
-    /// The disk crashes, and leaves byte `i` of this choice at each unsettled place `i`, 0 past its end. Behind the event
+    Ack(ClientId),
+    /// The disk crashes, and leaves byte `i` of this choice at each unsettled offset `i`, 0 past its end. After the event
     /// of a write this is a crash within that write; before that of a sync, one within that sync.
     Crash(Sequence<u8>),
     /// The library is opened after a crash.

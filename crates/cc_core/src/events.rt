@@ -5,25 +5,26 @@ ghost use Rattle.cc_core.specs.declared.contents.Contents.{Contents};
 ghost use Rattle.cc_core.specs.declared.contents.Due.TheVariants as due;
 ghost use Rattle.cc_core.specs.declared.contents.Phase.TheVariants.{Committing};
 ghost use Rattle.cc_core.specs.declared.job.Job.{Job};
-ghost use Rattle.cc_core.specs.Faults.{RefusesAs};
-ghost use Rattle.cc_core.specs.Job.{job_of, planned, source_in, verdict, built, command_of, with_piece};
+ghost use Rattle.cc_core.specs.Fault.{RefusesAs};
+ghost use Rattle.cc_core.specs.Job.{job_of, planned, source_in, verdict, built, command_of, command_refusal, map_refusal, with_piece};
+ghost use Rattle.cc_core.specs.internal.Answers.{Answers};
 ghost use Rattle.cc_library.specs.Body.{IsCommand};
-ghost use Rattle.cc_core.specs.Ready.{IsReady};
-ghost use Rattle.cc_core.specs.Run.{PutsCommand};
-ghost use Rattle.cc_core.specs.Step.{Step, IsImpossible, Submits, Takes, Finishes, Refuses, Begins, Acknowledges, IsFree, IsUp, counted, placed_now};
+ghost use Rattle.cc_core.specs.internal.Ready.{IsReady};
+ghost use Rattle.cc_core.specs.Run.{PutsCommand, HandsIn};
+ghost use Rattle.cc_core.specs.Step.{Step, Submits, Takes, Finishes, Refuses, Begins, Begun, Acknowledges, EndsJob, IsFree, IsUp};
 
 use crate::build::Build;
-use crate::command::{Placed, Reply, Request};
-use crate::contents::{Contents, Due, Phase};
+use crate::command::{Numbered, Reply, Request};
+use crate::contents::{Contents, Core, Due, Phase};
 use crate::device::{fail, sync_body, sync_gate, write_body, write_gate};
 use crate::event::Event;
-use crate::fault::{BuildFault, CoreFault};
+use crate::fault::{BuildFault, CoreFault, Refusal};
+use crate::ids::{CallId, ClientId, PartIndex, WorkerId};
 use crate::job::{
     Job, Progress, Work, all_made, all_waiting, are_all_there, least_refused, set_progress,
 };
 use crate::recovery::{crash, recover};
 use crate::sequence::Sequence;
-use crate::store::Store;
 use cc_library::{Command, SharedUnit, UnitMap, body_of_command};
 use std::alloc::{AllocError, Global};
 
@@ -34,7 +35,7 @@ pub(crate) type Answer = Result<Option<Reply>, CoreFault>;
 fn plan_job<B: Build>(
     build: &B,
     alloc: Global,
-    call: u64,
+    call: CallId,
     request: Request,
 ) -> Result<Job<B::Piece>, AllocError>
     ensures { IfOk result (λ job. job ≡ job_of B.rules call request) }
@@ -67,7 +68,7 @@ fn is_up(phase: &Phase) -> bool
     ensures { IsTrue result ↔ IsUp phase.now }
 {
     match phase {
-        Phase::Idle | Phase::Committing(_, _, _) | Phase::Failed => true,
+        Phase::Idle | Phase::Committing(_, _, _) | Phase::Failed(_) => true,
         Phase::Crashed => false,
     }
 }
@@ -77,98 +78,82 @@ pub(crate) fn submit<B: Build>(
     build: &B,
     alloc: Global,
     contents: &mut Contents<B::Piece>,
-    client: u64,
-    call: u64,
+    client: ClientId,
+    call: CallId,
     request: Request,
 ) -> Answer
-    ensures ok { IfOk result (λ reply. Submits B.rules contents.old client call request reply contents.new) }
-    ensures not_now { IsErrOf result CoreFault.NotNow
-        → (reply : Option Reply) (new : Contents B.Piece) → ¬ (Submits B.rules contents.old client call request reply new) }
-    ensures memory { IsErrOf result CoreFault.OutOfMemory
-        → (reply : Option Reply) × (new : Contents B.Piece) × (Submits B.rules contents.old client call request reply new) }
-    ensures err { OnErr result (contents.new ≡ contents.old) }
+    ensures { Answers (Submits B.rules client call request contents.old) result contents.old contents.new }
 {
-    if !is_up(&contents.phase) || contents.jobs.get(client).is_some() {
+    if !is_up(&contents.core.phase) || contents.jobs.get(client.number).is_some() {
         return Err(CoreFault::NotNow);
     }
     let job = plan_job(build, alloc, call, request)?;
-    contents.jobs.put(client, job)?;
-    contents.clock = contents.clock.next();
+    contents.jobs.put(client.number, job)?;
     Ok(None)
 }
 
 // An idle worker takes a waiting piece of a client's job.
 pub(crate) fn take<P: Drop>(
     contents: &mut Contents<P>,
-    worker: u64,
-    client: u64,
-    part: u32,
+    worker: WorkerId,
+    client: ClientId,
+    part: PartIndex,
 ) -> Answer
-    ensures ok { IfOk result (λ reply. Takes contents.old worker client part reply contents.new) }
-    ensures not_now { IsErrOf result CoreFault.NotNow
-        → (reply : Option Reply) (new : Contents P) → ¬ (Takes contents.old worker client part reply new) }
-    ensures memory { IsErrOf result CoreFault.OutOfMemory
-        → (reply : Option Reply) × (new : Contents P) × (Takes contents.old worker client part reply new) }
-    ensures err { OnErr result (contents.new ≡ contents.old) }
+    ensures { Answers (Takes worker client part contents.old) result contents.old contents.new }
 {
-    if contents.workers.get(worker).is_some() {
+    if contents.workers.get(worker.number).is_some() {
         return Err(CoreFault::NotNow);
     }
-    let Some(job) = contents.jobs.get(client) else {
+    let Some(job) = contents.jobs.get(client.number) else {
         return Err(CoreFault::NotNow);
     };
-    let Some(Progress::Waiting) = job.pieces.get(part as usize) else {
+    let Some(Progress::Waiting) = job.pieces.get(part.index as usize) else {
         return Err(CoreFault::NotNow);
     };
-    contents.workers.put(worker, Work { client, part })?;
+    contents.workers.put(worker.number, Work { client, part })?;
     set_progress(&mut contents.jobs, client, part, Progress::Taken);
-    contents.clock = contents.clock.next();
     Ok(None)
 }
 
 // Whether a piece names the source that a request hands in, and this part of it.
-fn names_part<B: Build>(build: &B, request: &Request, piece: &B::Piece, part: u32) -> bool
-    ensures { IsTrue result ↔ ((source_in request.now ≡ Some (B.rules.source_of piece.now)) × (B.rules.part_of piece.now ≡ part)) }
+fn names_part<B: Build>(build: &B, request: &Request, piece: &B::Piece, part: PartIndex) -> bool
+    ensures named { IsTrue result ↔ ((source_in request.now ≡ Some (B.rules.source_of piece.now)) × (B.rules.part_of piece.now ≡ part.index)) }
+    ensures kept { IsTrue result → B.keeps piece.now }
 {
     match request {
         Request::Add(_, source) | Request::Replace(_, source) => {
-            build.names(piece, source.as_slice(), part)
+            build.names(piece, source.as_slice(), part.index)
         }
         Request::Withdraw(_) => false,
     }
 }
 
 // What a worker has come to with the piece that it took.
-fn settle<P: Drop>(contents: &mut Contents<P>, worker: u64, work: Work, progress: Progress<P>)
-    ensures { (job : Job P) → table.get contents.old.jobs work.client ≡ Some job
-        → contents.new ≡ record (counted contents.old) {
-          jobs = table.insert contents.old.jobs work.client (with_piece job work.part progress);
-          workers = table.remove contents.old.workers worker;
+fn settle<P: Drop>(contents: &mut Contents<P>, worker: WorkerId, work: Work, progress: Progress<P>)
+    ensures { (job : Job P) → table.get contents.old.jobs work.client.number ≡ Some job
+        → contents.new ≡ record contents.old {
+          jobs = table.insert contents.old.jobs work.client.number (with_piece job work.part progress);
+          workers = table.remove contents.old.workers worker.number;
         } }
 {
     set_progress(&mut contents.jobs, work.client, work.part, progress);
-    contents.workers.remove(worker);
-    contents.clock = contents.clock.next();
+    contents.workers.remove(worker.number);
 }
 
 // A busy worker hands in the piece that it took.
 pub(crate) fn finish<B: Build>(
     build: &B,
     contents: &mut Contents<B::Piece>,
-    worker: u64,
+    worker: WorkerId,
     piece: B::Piece,
 ) -> Answer
-    ensures ok { IfOk result (λ reply. Finishes B.rules contents.old worker piece reply contents.new) }
-    ensures not_now { IsErrOf result CoreFault.NotNow
-        → (reply : Option Reply) (new : Contents B.Piece) → ¬ (Finishes B.rules contents.old worker piece reply new) }
-    ensures memory { IsErrOf result CoreFault.OutOfMemory
-        → (reply : Option Reply) × (new : Contents B.Piece) × (Finishes B.rules contents.old worker piece reply new) }
-    ensures err { OnErr result (contents.new ≡ contents.old) }
+    ensures answers { Answers (Finishes B.rules worker piece contents.old) result contents.old contents.new }
+    ensures hands { OnOk result (B.keeps piece) }
 {
-    let Some(work) = contents.workers.get(worker).copied() else {
+    let Some(work) = contents.workers.get(worker.number).copied() else {
         return Err(CoreFault::NotNow);
     };
-    let Some(job) = contents.jobs.get(work.client) else {
+    let Some(job) = contents.jobs.get(work.client.number) else {
         return Err(CoreFault::NotNow);
     };
     if !names_part(build, &job.request, &piece, work.part) {
@@ -179,18 +164,13 @@ pub(crate) fn finish<B: Build>(
 }
 
 // A busy worker refuses the piece that it took.
-pub(crate) fn refuse<P: Drop>(contents: &mut Contents<P>, worker: u64, number: u32) -> Answer
-    ensures ok { IfOk result (λ reply. Refuses contents.old worker number reply contents.new) }
-    ensures not_now { IsErrOf result CoreFault.NotNow
-        → (reply : Option Reply) (new : Contents P) → ¬ (Refuses contents.old worker number reply new) }
-    ensures memory { IsErrOf result CoreFault.OutOfMemory
-        → (reply : Option Reply) × (new : Contents P) × (Refuses contents.old worker number reply new) }
-    ensures err { OnErr result (contents.new ≡ contents.old) }
+pub(crate) fn refuse<P: Drop>(contents: &mut Contents<P>, worker: WorkerId, number: u32) -> Answer
+    ensures { Answers (Refuses worker number contents.old) result contents.old contents.new }
 {
-    let Some(work) = contents.workers.get(worker).copied() else {
+    let Some(work) = contents.workers.get(worker.number).copied() else {
         return Err(CoreFault::NotNow);
     };
-    if contents.jobs.get(work.client).is_none() {
+    if contents.jobs.get(work.client.number).is_none() {
         return Err(CoreFault::NotNow);
     }
     settle(contents, worker, work, Progress::Refused(number));
@@ -240,52 +220,77 @@ fn make_command<B: Build>(
     }
 }
 
-// The command that a job begins, or the first number that refuses it.
+// Why the map refuses a command, where it does.
+fn map_refusal(library: &UnitMap, command: &Command) -> Option<Refusal>
+    ensures { result ≡ map_refusal library.now command.now }
+{
+    match command {
+        Command::Add(name, _) => {
+            if library.contains(name) {
+                return Some(Refusal::Exists);
+            }
+        }
+        Command::Replace(name, _) | Command::Withdraw(name) => {
+            if !library.contains(name) {
+                return Some(Refusal::Absent);
+            }
+        }
+    }
+    None
+}
+
+// Why a command is refused, where it is: 36, then 31 or 32, then 34.
+fn refusal_of(alloc: Global, core: &Core, command: &Command) -> Result<Option<Refusal>, AllocError>
+    ensures refusal { IfOk result (λ refusal. refusal ≡ command_refusal core.now.phase core.now.library core.now.store command.now) }
+    ensures spelled { IfOk result (λ refusal. refusal ≡ None → IsCommand command.now) }
+{
+    if let Phase::Failed(_) = core.phase {
+        return Ok(Some(Refusal::Closed));
+    }
+    if let Some(refusal) = map_refusal(&core.library, command) {
+        return Ok(Some(refusal));
+    }
+    let body = body_of_command(alloc, command)?;
+    if core.store.fits(&body) {
+        Ok(None)
+    } else {
+        Ok(Some(Refusal::Full))
+    }
+}
+
+// The command that a job begins, or why it is refused.
 fn decide<B: Build>(
     build: &B,
     alloc: Global,
-    phase: &Phase,
-    library: &UnitMap,
-    store: &Store,
+    core: &Core,
     job: &Job<B::Piece>,
-) -> Result<Command, BuildFault>
-    ensures ok { IfOk result (λ command. verdict B.rules phase.now library.now store.now job.now ≡ Ok command) }
-    ensures command { IfOk result (λ command. IsCommand command) }
-    ensures err { IfErr result (λ fault. RefusesAs fault (verdict B.rules phase.now library.now store.now job.now)) }
+) -> Result<Result<Command, Refusal>, AllocError>
+    ensures verdict { IfOk result (λ decided. decided ≡ verdict B.rules core.now.phase core.now.library core.now.store job.now) }
+    ensures command { IfOk result (λ decided. IfOk decided (λ command. IsCommand command)) }
 {
-    let command = make_command(build, alloc, job)?;
-    if let Phase::Failed = phase {
-        return Err(BuildFault::Refused(36));
+    let command = match make_command(build, alloc, job) {
+        Ok(command) => command,
+        Err(BuildFault::Refused(number)) => return Ok(Err(Refusal::Build(number))),
+        Err(BuildFault::OutOfMemory) => return Err(AllocError),
+    };
+    match refusal_of(alloc, core, &command)? {
+        Some(refusal) => Ok(Err(refusal)),
+        None => Ok(Ok(command)),
     }
-    if let Some(number) = library.refusal(&command) {
-        return Err(BuildFault::Refused(u32::from(number)));
-    }
-    let body = body_of_command(alloc, &command)?;
-    if !store.fits(&body) {
-        return Err(BuildFault::Refused(34));
-    }
-    Ok(command)
 }
 
 // Puts a command last in the order, in commit for this client.
-fn put_in_order<P>(
-    contents: &mut Contents<P>,
-    client: u64,
-    command: Command,
-) -> Result<(), AllocError>
-    ensures ok { OnOk result (contents.new ≡ record (counted contents.old) {
-      order = contents.old.order ++ placed_now contents.old command ∷ [];
-      phase = Committing client (placed_now contents.old command) due.WriteBody;
-    }) }
-    ensures err { OnErr result (contents.new ≡ contents.old) }
+fn put_in_order(core: &mut Core, client: ClientId, command: Command) -> Result<(), AllocError>
+    ensures answer { OnOk result (Begun core.old client (Ok command) None core.new) }
+    ensures leaves { OnErr result (core.new ≡ core.old) }
 {
-    let placed = Placed {
-        place: contents.clock.same(),
+    let numbered = Numbered {
+        number: core.upcoming.same(),
         command,
     };
-    contents.order.push(placed.again()?)?;
-    contents.phase = Phase::Committing(client, placed, Due::WriteBody);
-    contents.clock = contents.clock.next();
+    core.order.push(numbered.again()?)?;
+    core.phase = Phase::Committing(client, numbered, Due::WriteBody);
+    core.upcoming = core.upcoming.next();
     Ok(())
 }
 
@@ -294,7 +299,7 @@ fn is_free(phase: &Phase) -> bool
     ensures { IsTrue result ↔ IsFree phase.now }
 {
     match phase {
-        Phase::Idle | Phase::Failed => true,
+        Phase::Idle | Phase::Failed(_) => true,
         Phase::Committing(_, _, _) | Phase::Crashed => false,
     }
 }
@@ -304,73 +309,66 @@ pub(crate) fn begin<B: Build>(
     build: &B,
     alloc: Global,
     contents: &mut Contents<B::Piece>,
-    client: u64,
+    client: ClientId,
 ) -> Answer
-    ensures ok { IfOk result (λ reply. Begins B.rules contents.old client reply contents.new) }
-    ensures not_now { IsErrOf result CoreFault.NotNow
-        → (reply : Option Reply) (new : Contents B.Piece) → ¬ (Begins B.rules contents.old client reply new) }
-    ensures memory { IsErrOf result CoreFault.OutOfMemory
-        → (reply : Option Reply) × (new : Contents B.Piece) × (Begins B.rules contents.old client reply new) }
-    ensures err { OnErr result (contents.new ≡ contents.old) }
-    ensures puts { OnOk result (PutsCommand contents.old contents.new) }
+    ensures answers { Answers (Begins B.rules client contents.old) result contents.old contents.new }
+    ensures puts { OnOk result (PutsCommand contents.old.core contents.new.core) }
 {
-    if !is_free(&contents.phase) {
+    if !is_free(&contents.core.phase) {
         return Err(CoreFault::NotNow);
     }
-    let Some(job) = contents.jobs.get(client) else {
+    let Some(job) = contents.jobs.get(client.number) else {
         return Err(CoreFault::NotNow);
     };
     if !are_all_there(job.pieces.as_slice()) {
         return Err(CoreFault::NotNow);
     }
-    match decide(
-        build,
-        alloc,
-        &contents.phase,
-        &contents.library,
-        &contents.store,
-        job,
-    ) {
+    match decide(build, alloc, &contents.core, job)? {
         Ok(command) => {
-            put_in_order(contents, client, command)?;
+            put_in_order(&mut contents.core, client, command)?;
             Ok(None)
         }
-        Err(BuildFault::Refused(number)) => {
-            contents.jobs.remove(client);
-            contents.clock = contents.clock.next();
-            Ok(Some(Reply::Refused(number)))
+        Err(refusal) => {
+            contents.jobs.remove(client.number);
+            contents.core.upcoming = contents.core.upcoming.next();
+            Ok(Some(Reply::Refused(refusal)))
         }
-        Err(BuildFault::OutOfMemory) => Err(CoreFault::OutOfMemory),
     }
 }
 
-// The reply is given to the client whose command is in commit.
-pub(crate) fn acknowledge<P: Drop>(contents: &mut Contents<P>, client: u64) -> Answer
-    ensures ok { IfOk result (λ reply. Acknowledges contents.old client reply contents.new) }
-    ensures not_now { IsErrOf result CoreFault.NotNow
-        → (reply : Option Reply) (new : Contents P) → ¬ (Acknowledges contents.old client reply new) }
-    ensures memory { IsErrOf result CoreFault.OutOfMemory
-        → (reply : Option Reply) × (new : Contents P) × (Acknowledges contents.old client reply new) }
-    ensures err { OnErr result (contents.new ≡ contents.old) }
+// The reply is given to the client whose command is in commit: the library takes the command.
+fn acknowledge_core(core: &mut Core, client: ClientId) -> Answer
+    ensures { Answers (Acknowledges client core.old) result core.old core.new }
 {
-    let Phase::Committing(committing, placed, due) = &contents.phase else {
+    let Phase::Committing(committing, numbered, due) = &core.phase else {
         return Err(CoreFault::NotNow);
     };
-    if *committing != client {
+    if committing.number != client.number {
         return Err(CoreFault::NotNow);
     }
     let Due::Acknowledge = due else {
         return Err(CoreFault::NotNow);
     };
-    contents.acknowledged.push(placed.again()?)?;
-    if contents.library.apply(&placed.command).is_err() {
-        contents.acknowledged.drop_last();
+    core.acknowledged.push(numbered.again()?)?;
+    if core.library.apply(&numbered.command).is_err() {
+        core.acknowledged.drop_last();
         return Err(CoreFault::OutOfMemory);
     }
-    contents.jobs.remove(client);
-    contents.phase = Phase::Idle;
-    contents.clock = contents.clock.next();
+    core.phase = Phase::Idle;
     Ok(Some(Reply::Done))
+}
+
+// The reply is given, and the client's job ends.
+pub(crate) fn acknowledge<P: Drop>(contents: &mut Contents<P>, client: ClientId) -> Answer
+    ensures { Answers (EndsJob client (Acknowledges client) contents.old) result contents.old contents.new }
+{
+    match acknowledge_core(&mut contents.core, client) {
+        Ok(reply) => {
+            contents.jobs.remove(client.number);
+            Ok(reply)
+        }
+        Err(fault) => Err(fault),
+    }
 }
 
 /// Takes the step of one event, and answers its reply, where it gives one; 29 where the event is not possible.
@@ -381,11 +379,10 @@ pub(crate) fn take_step<B: Build>(
     contents: &mut Contents<B::Piece>,
     event: Event<B::Piece>,
 ) -> Answer
-    requires { IsReady contents.old }
-    ensures ok { IfOk result (λ reply. Step B.rules contents.old event reply contents.new) }
-    ensures not_now { IsErrOf result CoreFault.NotNow ↔ IsImpossible B.rules contents.old event }
-    ensures err { OnErr result (contents.new ≡ contents.old) }
-    ensures puts { OnOk result (PutsCommand contents.old contents.new) }
+    requires { IsReady contents.old.core }
+    ensures answers { Answers (Step B.rules contents.old event) result contents.old contents.new }
+    ensures hands { OnOk result (HandsIn B.keeps event) }
+    ensures puts { OnOk result (PutsCommand contents.old.core contents.new.core) }
 {
     match event {
         Event::Submit(client, call, request) => {
@@ -395,13 +392,13 @@ pub(crate) fn take_step<B: Build>(
         Event::Done(worker, piece) => finish(build, contents, worker, piece),
         Event::Refuse(worker, number) => refuse(contents, worker, number),
         Event::Begin(client) => begin(build, alloc, contents, client),
-        Event::WriteBody => write_body(alloc, contents),
-        Event::SyncBody => sync_body(contents),
-        Event::WriteGate => write_gate(contents),
-        Event::SyncGate => sync_gate(alloc, contents),
+        Event::WriteBody => write_body(alloc, &mut contents.core),
+        Event::SyncBody => sync_body(&mut contents.core),
+        Event::WriteGate => write_gate(&mut contents.core),
+        Event::SyncGate => sync_gate(alloc, &mut contents.core),
         Event::Fail => fail(alloc, contents),
         Event::Ack(client) => acknowledge(contents, client),
         Event::Crash(choice) => crash(alloc, contents, &choice),
-        Event::Recover => recover(alloc, contents),
+        Event::Recover => recover(alloc, &mut contents.core),
     }
 }

@@ -6,20 +6,20 @@ use thiserror::Error;
 /// Why an event took no step.
 #[derive(Debug, Drop, Error)]
 pub enum CoreFault {
-    /// The event is not possible in this state.
-    #[error("not possible now")]
+    /// 29: the event is not possible in this state.
+    #[error("NotNow")]
     NotNow,
-    /// A growth was refused.
-    #[error("out of memory")]
+    /// 40: memory ran out.
+    #[error("OutOfMemory")]
     OutOfMemory,
 }
 
 impl CoreFault {
-    ghost use Rattle.cc_core.specs.Faults.{core_fault_number};
+    ghost use Rattle.cc_core.specs.Fault.{fault_number};
 
-    /// The fault's number: 29 where the event is not possible, 40 where memory was refused.
+    /// The fault's number: 29 where the event is not possible, 40 where memory ran out.
     pub fn number(&self) -> u32
-        ensures { result ≡ core_fault_number self.now }
+        ensures { result ≡ fault_number self.now }
     {
         match self {
             CoreFault::NotNow => 29,
@@ -38,21 +38,62 @@ impl From<AllocError> for CoreFault {
     }
 }
 
+/// Why a command is refused, as its reply says.
+#[derive(Debug, Drop, Error)]
+pub enum Refusal {
+    /// That number: the build refuses the source or its pieces with it.
+    #[error("Build")]
+    Build(u32),
+    /// 31: the name that is to be added is there.
+    #[error("Exists")]
+    Exists,
+    /// 32: the name that is to be replaced or withdrawn is not there.
+    #[error("Absent")]
+    Absent,
+    /// 34: the record does not fit its area.
+    #[error("Full")]
+    Full,
+    /// 35: the device step that was due failed.
+    #[error("DiskFault")]
+    DiskFault,
+    /// 36: a device step has failed, and the disk was not opened again.
+    #[error("Closed")]
+    Closed,
+}
+
+impl Refusal {
+    ghost use Rattle.cc_core.specs.Fault.{refusal_number};
+
+    /// The refusal's number: the build's own, or 31, 32, 34, 35 or 36.
+    pub fn number(&self) -> u32
+        ensures { result ≡ refusal_number self.now }
+    {
+        match self {
+            Refusal::Build(number) => *number,
+            Refusal::Exists => 31,
+            Refusal::Absent => 32,
+            Refusal::Full => 34,
+            Refusal::DiskFault => 35,
+            Refusal::Closed => 36,
+        }
+    }
+}
+
 /// Why a build gives no answer, or no unit.
 #[derive(Debug, Drop, Error)]
 pub enum BuildFault {
-    /// The source or its pieces are refused, with this number.
-    #[error("refused with number {0}")]
+    /// That number: the source or its pieces are refused with it.
+    #[error("Refused")]
     Refused(u32),
-    /// A growth was refused.
-    #[error("out of memory")]
+    /// 40: memory ran out.
+    #[error("OutOfMemory")]
     OutOfMemory,
 }
 
 impl BuildFault {
-    ghost use Rattle.cc_core.specs.Faults.{build_fault_number};
+    ghost use Rattle.cc_core.specs.Fault.{build_fault_number};
 
-    /// The number that refuses, or 40 where memory was refused.
+    /// The number that refuses, or 40 where memory ran out.
     pub fn number(&self) -> u32
         ensures { result ≡ build_fault_number self.now }
     {

@@ -6,6 +6,7 @@ ghost use Rattle.cc_core.specs.declared.job.Job.{Job};
 ghost use Rattle.cc_core.specs.declared.job.Progress.TheVariants.{Waiting};
 
 use crate::command::Request;
+use crate::ids::{CallId, ClientId, PartIndex};
 use crate::sequence::Sequence;
 use crate::table::Table;
 use std::alloc::{AllocError, Global};
@@ -27,17 +28,17 @@ pub enum Progress<P> {
 /// where one does, and how far each piece is.
 #[derive(Drop)]
 pub struct Job<P> {
-    pub call: u64,
+    pub call: CallId,
     pub request: Request,
     pub refusal: Option<u32>,
     pub pieces: Sequence<Progress<P>>,
 }
 
-/// What a worker has taken: a piece, counted from 0, of a client's job.
+/// What a worker has taken: a piece of a client's job.
 #[derive(Clone, Copy)]
 pub struct Work {
-    pub client: u64,
-    pub part: u32,
+    pub client: ClientId,
+    pub part: PartIndex,
 }
 
 impl<P> Progress<P> {
@@ -100,13 +101,13 @@ pub(crate) fn all_waiting<P: Drop>(
 // Sets how far one piece of a client's job is.
 pub(crate) fn set_progress<P: Drop>(
     jobs: &mut Table<Job<P>>,
-    client: u64,
-    part: u32,
+    client: ClientId,
+    part: PartIndex,
     progress: Progress<P>,
 )
-    ensures { (job : Job P) → table.get jobs.old client ≡ Some job → jobs.new ≡ table.insert jobs.old client (with_piece job part progress) }
+    ensures { (job : Job P) → table.get jobs.old client.number ≡ Some job → jobs.new ≡ table.insert jobs.old client.number (with_piece job part progress) }
 {
-    if let Some(job) = jobs.values.get_mut(&client) {
-        job.pieces.set(part as usize, progress);
+    if let Some(job) = jobs.values.get_mut(&client.number) {
+        job.pieces.set(part.index as usize, progress);
     }
 }

@@ -3,7 +3,7 @@
 //! A device step may fail, the disk may crash at any event, and the library is opened again.
 //! `command`: what is asked and kept. `build`: what makes units. `job`, `table`, `store`, `contents`: what a state holds.
 //! `event`, `events`, `device`, `recovery`: what may happen, and the step of each. `state`: the machine and its runs.
-//! It hands out `State`, `run_events`, `Event`, `Build`, and the types of requests, places and replies.
+//! It hands out `State`, `run_events`, `Event`, `Build`, and the types of requests, sequence numbers, replies and refusals.
 #![tactic(auto)]
 
 pub mod build;
@@ -13,10 +13,11 @@ mod device;
 pub mod event;
 mod events;
 pub mod fault;
+pub mod ids;
 mod job;
-pub mod place;
 mod recovery;
 pub mod sequence;
+pub mod sequence_number;
 pub mod state;
 mod store;
 mod table;

@@ -1,15 +1,16 @@
-// The crash, and the opening behind it.
+// The crash, and the opening after it.
 ghost use Rattle.std.specs.Prelude.{◌≡◌, ◌↔◌, ◌-◌, ℕ, List, Option, Some, IfOk, OnErr, IsErrOf, IsTrue, length, take};
 ghost use Rattle.std.specs.Arc.{arc_value};
-ghost use Rattle.cc_core.specs.declared.command.Placed.{Placed};
+ghost use Rattle.cc_core.specs.declared.command.Numbered.{Numbered};
 ghost use Rattle.cc_core.specs.declared.command.Reply.{Reply};
 ghost use Rattle.cc_core.specs.declared.contents.Contents.{Contents};
-ghost use Rattle.cc_core.specs.Step.{Crashes, Reopens};
+ghost use Rattle.cc_core.specs.Step.{Crashes, EndsAll, Reopens};
+ghost use Rattle.cc_core.specs.internal.Answers.{Answers};
 ghost use Rattle.cc_core.specs.Run.{but_last};
-ghost use Rattle.cc_core.specs.Ready.{IsReady, IsInEffect, IsFrontKept};
+ghost use Rattle.cc_core.specs.internal.Ready.{IsReady, IsInEffect, IsFrontKept};
 
-use crate::command::{Placed, Reply};
-use crate::contents::{Contents, Phase};
+use crate::command::Numbered;
+use crate::contents::{Contents, Core, Phase};
 use crate::events::Answer;
 use crate::fault::CoreFault;
 use crate::sequence::Sequence;
@@ -18,26 +19,32 @@ use cc_library::{Command, UnitMap};
 use cc_link::StoredUnit;
 use std::alloc::Global;
 
+// The disk crashes; the live map is gone.
+fn crash_core(alloc: Global, core: &mut Core, choice: &Sequence<u8>) -> Answer
+    ensures { Answers (Crashes choice.now core.old) result core.old core.new }
+{
+    core.store.crash(alloc, choice.as_slice())?;
+    core.library = UnitMap::new(alloc);
+    core.phase = Phase::Crashed;
+    Ok(None)
+}
+
 // The disk crashes; the live map, jobs and workers are gone.
 pub(crate) fn crash<P: Drop>(
     alloc: Global,
     contents: &mut Contents<P>,
     choice: &Sequence<u8>,
 ) -> Answer
-    ensures ok { IfOk result (λ reply. Crashes choice.now contents.old reply contents.new) }
-    ensures not_now { IsErrOf result CoreFault.NotNow
-        → (reply : Option Reply) (new : Contents P) → ¬ (Crashes choice.now contents.old reply new) }
-    ensures memory { IsErrOf result CoreFault.OutOfMemory
-        → (reply : Option Reply) × (new : Contents P) × (Crashes choice.now contents.old reply new) }
-    ensures err { OnErr result (contents.new ≡ contents.old) }
+    ensures { Answers (EndsAll (Crashes choice.now) contents.old) result contents.old contents.new }
 {
-    contents.store.crash(alloc, choice.as_slice())?;
-    contents.library = UnitMap::new(alloc);
-    contents.jobs = Table::new(alloc);
-    contents.workers = Table::new(alloc);
-    contents.phase = Phase::Crashed;
-    contents.clock = contents.clock.next();
-    Ok(None)
+    match crash_core(alloc, &mut contents.core, choice) {
+        Ok(reply) => {
+            contents.jobs = Table::new(alloc);
+            contents.workers = Table::new(alloc);
+            Ok(reply)
+        }
+        Err(fault) => Err(fault),
+    }
 }
 
 // Whether two units are the same: source, code and globals. There are no certificates yet.
@@ -63,7 +70,7 @@ fn is_in_effect(library: &UnitMap, command: &Command) -> bool
 }
 
 // Drops the last command where the map is not as it leaves it.
-fn drop_undone(order: &mut Sequence<Placed>, library: &UnitMap)
+fn drop_undone(order: &mut Sequence<Numbered>, library: &UnitMap)
     ensures { IsFrontKept library.now order.old order.new }
 {
     if let Some(last) = order.as_slice().last() {
@@ -74,23 +81,19 @@ fn drop_undone(order: &mut Sequence<Placed>, library: &UnitMap)
 }
 
 // The library is opened.
-pub(crate) fn recover<P: Drop>(alloc: Global, contents: &mut Contents<P>) -> Answer
-    requires { IsReady contents.old }
-    ensures ok { IfOk result (λ reply. Reopens contents.old reply contents.new) }
-    ensures not_now { IsErrOf result CoreFault.NotNow
-        → (reply : Option Reply) (new : Contents P) → ¬ (Reopens contents.old reply new) }
-    ensures memory { IsErrOf result CoreFault.OutOfMemory
-        → (reply : Option Reply) × (new : Contents P) × (Reopens contents.old reply new) }
-    ensures err { OnErr result (contents.new ≡ contents.old) }
+pub(crate) fn recover(alloc: Global, core: &mut Core) -> Answer
+    requires { IsReady core.old }
+    ensures { Answers (Reopens core.old) result core.old core.new }
 {
-    let Phase::Crashed = contents.phase else {
+    let Phase::Crashed = core.phase else {
         return Err(CoreFault::NotNow);
     };
-    let (library, used) = contents.store.open(alloc)?;
-    drop_undone(&mut contents.order, &library);
-    contents.library = library;
-    contents.store.set_used(used);
-    contents.phase = Phase::Idle;
-    contents.clock = contents.clock.next();
+    let Ok((library, used)) = core.store.open(alloc) else {
+        return Err(CoreFault::OutOfMemory);
+    };
+    drop_undone(&mut core.order, &library);
+    core.library = library;
+    core.store.set_used(used);
+    core.phase = Phase::Idle;
     Ok(None)
 }

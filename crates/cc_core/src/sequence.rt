@@ -41,11 +41,11 @@ impl<T> Sequence<T> {
         self.items.as_slice()
     }
 
-    /// The item at a place, counted from 0, where there is one.
-    pub fn get(&self, place: usize) -> Option<&T>
-        ensures { option_copied result ≡ slice_get self.now place }
+    /// The item at an index, counted from 0, where there is one.
+    pub fn get(&self, index: usize) -> Option<&T>
+        ensures { option_copied result ≡ slice_get self.now index }
     {
-        self.items.get(place)
+        self.items.get(index)
     }
 }
 
@@ -66,12 +66,12 @@ impl<T: Drop> Sequence<T> {
         let _ = self.items.pop();
     }
 
-    /// Puts an item at a place; a place past the end changes nothing.
-    pub(crate) fn set(&mut self, place: usize, item: T)
-        ensures { self.new ≡ slice_set self.old place item }
+    /// Puts an item at an index; an index past the end changes nothing.
+    pub(crate) fn set(&mut self, index: usize, item: T)
+        ensures { self.new ≡ slice_set self.old index item }
     {
-        if place < self.items.len() {
-            self.items[place] = item;
+        if index < self.items.len() {
+            self.items[index] = item;
         }
     }
 }

@@ -3,21 +3,26 @@ ghost use Rattle.std.specs.FinMap.{empty};
 ghost use Rattle.cc_library.specs.Apply.{AreAccepted};
 ghost use Rattle.cc_core.specs.declared.contents.Contents.{Contents};
 ghost use Rattle.cc_core.specs.declared.event.Event.{Event};
-ghost use Rattle.cc_core.specs.Step.{Step, IsImpossible, IsStart, commands};
-ghost use Rattle.cc_core.specs.Run.{Turn, Run, EachUnit, EachImageSurvives, EachImageIsRight, PutsCommand, AreRising, live};
+ghost use Rattle.cc_core.specs.declared.command.Numbered.{Numbered};
+ghost use Rattle.cc_core.specs.declared.command.Reply.{Reply};
+ghost use Rattle.cc_core.specs.declared.contents.Core.{Core};
+ghost use Rattle.cc_core.specs.declared.contents.Phase.TheVariants.{Crashed};
+ghost use Rattle.cc_core.specs.declared.ids.ClientId.{ClientId};
+ghost use Rattle.cc_core.specs.Step.{Step, IsImpossible, IsStart, Reopens, StepsCore, commands};
+ghost use Rattle.cc_core.specs.Run.{Turn, Run, EachUnit, EachImageSurvives, EachImageIsRight, PutsCommand, HandsIn, AreRising, IsBeginning, IsOfCrash, PutsSource, Commits, LeavesRecord, live};
 
 use crate::build::Build;
-use crate::command::{Placed, Reply};
-use crate::contents::{Contents, Phase};
+use crate::command::{Numbered, Reply};
+use crate::contents::{Contents, Core, Phase};
 use crate::event::Event;
 use crate::events::take_step;
 use crate::fault::CoreFault;
-use crate::place::Place;
 use crate::sequence::Sequence;
+use crate::sequence_number::SequenceNumber;
 use crate::store::Store;
 use crate::table::Table;
 use cc_library::UnitMap;
-use std::alloc::Global;
+use std::alloc::{AllocError, Global};
 use std::marker::Model;
 
 /// The protocol core over a build and a disk in memory. Contracts see its contents, and its type keeps that some list of
@@ -42,82 +47,86 @@ impl<B: Build> Model for State<B> {
 
     ghost view = { λ s. s.contents };
 
-    ghost invariant = { λ s. Reached B.rules s.contents };
+    ghost invariant = { λ s. Reached B.rules B.keeps B.is_right s.contents };
 }
 
 impl<B: Build> State<B> {
-    /// The state in which nothing has happened, on a formatted disk of `16 + 2 * area` bytes. Its only fault is want of
-    /// memory (40).
+    /// The state in which nothing has happened, on a formatted disk of `16 + 2 * area` bytes.
+    /// 40 `OutOfMemory` alone.
     pub fn new(alloc: Global, build: B, area: u32) -> Result<State<B>, CoreFault>
         requires least { 64 ≤ area }
         requires most { area ≤ 2 ^ 30 }
-        ensures start { IfOk result (λ state. IsStart area state) }
-        ensures err { IfErr result (λ fault. fault ≡ CoreFault.OutOfMemory) }
+        ensures answer { IfOk result (λ state. IsStart area state) }
+        ensures refused { IfErr result (λ fault. fault ≡ CoreFault.OutOfMemory) }
     {
         let store = Store::new(alloc, area)?;
         Ok(State {
             build,
             contents: Contents {
-                library: UnitMap::new(alloc),
-                order: Sequence::new(Vec::new(alloc)),
-                acknowledged: Sequence::new(Vec::new(alloc)),
+                core: Core {
+                    library: UnitMap::new(alloc),
+                    order: Sequence::new(Vec::new(alloc)),
+                    acknowledged: Sequence::new(Vec::new(alloc)),
+                    phase: Phase::Idle,
+                    store,
+                    upcoming: SequenceNumber::first(),
+                },
                 jobs: Table::new(alloc),
                 workers: Table::new(alloc),
-                phase: Phase::Idle,
-                store,
-                clock: Place::first(),
             },
         })
     }
 
     /// Takes the step of an event, and answers the reply where the event gives one: done, or a number.
-    /// 29 `NotNow` where the event is not possible; 40 `OutOfMemory` where a growth was refused.
+    /// 29 `NotNow` where the event is not possible; 40 `OutOfMemory` where memory ran out.
     /// After both the state is as before.
     pub fn step(
         &mut self,
         alloc: Global,
         event: Event<B::Piece>,
     ) -> Result<Option<Reply>, CoreFault>
-        ensures ok { IfOk result (λ reply. Step B.rules self.old event reply self.new) }
-        ensures not_now { IsErrOf result CoreFault.NotNow ↔ IsImpossible B.rules self.old event }
-        ensures err { OnErr result (self.new ≡ self.old) }
+        ensures answer { IfOk result (λ reply. Step B.rules self.old event reply self.new) }
+        ensures refused { IsErrOf result CoreFault.NotNow ↔ IsImpossible B.rules self.old event }
+        ensures leaves { OnErr result (self.new ≡ self.old) }
         // A command that goes into the order has a spelling, as the types of names and units keep.
-        ensures puts { OnOk result (PutsCommand self.old self.new) }
+        ensures puts { OnOk result (PutsCommand self.old.core self.new.core) }
+        // A piece that a worker hands in keeps what its type keeps.
+        ensures hands { OnOk result (HandsIn B.keeps event) }
     {
         take_step(&self.build, alloc, &mut self.contents, event)
     }
 
     // Takes the step of an event, where it has one.
-    fn turn(&mut self, alloc: Global, event: Event<B::Piece>) -> Result<(), CoreFault>
-        ensures ok { OnOk result (Turn B.rules self.old event self.new) }
-        ensures err { IfErr result (λ fault. fault ≡ CoreFault.OutOfMemory) }
+    fn turn(&mut self, alloc: Global, event: Event<B::Piece>) -> Result<(), AllocError>
+        ensures { OnOk result (Turn B.rules B.keeps self.old event self.new) }
     {
         match self.step(alloc, event) {
             Ok(_) | Err(CoreFault::NotNow) => Ok(()),
-            Err(CoreFault::OutOfMemory) => Err(CoreFault::OutOfMemory),
+            Err(CoreFault::OutOfMemory) => Err(AllocError),
         }
     }
 
     /// The live map: what the order gives, without the command in commit or failed; empty from a crash to the recovery.
     pub fn library(&self) -> &UnitMap
-        ensures library { result.now ≡ self.now.library }
-        ensures replay { self.now.library ≡ live self.now.phase self.now.order }
-        ensures accepted { AreAccepted empty (commands self.now.order) }
-        ensures units { EachUnit B.is_right self.now.library }
+        ensures library { result.now ≡ self.now.core.library }
+        ensures replay { self.now.core.library ≡ live self.now.core.phase self.now.core.order }
+        ensures accepted { AreAccepted empty (commands self.now.core.order) }
+        ensures units { EachUnit B.is_right self.now.core.library }
     {
-        &self.contents.library
+        &self.contents.core.library
     }
 
-    /// The commands whose reply was given, each with its place, in the order of the replies. Whatever a crash leaves of the
+    /// The commands whose reply was given, each with its sequence number, in the order of the replies. Whatever a crash leaves of the
     /// disk recovers to a library that holds them.
-    pub fn acked(&self) -> &[Placed]
-        ensures acked { result.now ≡ self.now.acknowledged }
-        ensures in_order { All (Contains self.now.order) self.now.acknowledged }
-        ensures rising { AreRising self.now.order }
-        ensures survives { EachImageSurvives self.now }
-        ensures right { EachImageIsRight B.is_right self.now }
+    pub fn acked(&self) -> &[Numbered]
+        ensures acked { result.now ≡ self.now.core.acknowledged }
+        ensures in_order { All (Contains self.now.core.order) self.now.core.acknowledged }
+        ensures rising { AreRising self.now.core.order }
+        ensures rising_acked { AreRising self.now.core.acknowledged }
+        ensures survives { EachImageSurvives self.now.core }
+        ensures right { EachImageIsRight B.is_right self.now.core }
     {
-        self.contents.acknowledged.as_slice()
+        self.contents.core.acknowledged.as_slice()
     }
 }
 
@@ -129,22 +138,23 @@ pub fn run_events<B: Build>(
     events: Vec<Event<B::Piece>>,
 ) -> Result<State<B>, CoreFault>
     // It is the run: a step for each event that has one, the state kept at each other.
-    ensures run { IfOk result (λ new. Run B.rules state events.items new) }
+    ensures run { IfOk result (λ new. Run B.rules B.keeps state events.items new) }
     // Whatever a crash leaves of the disk recovers to the library of a front of the order, which holds every acknowledged
     // command and lacks at most the last one.
-    ensures survives { IfOk result (λ new. EachImageSurvives new) }
+    ensures survives { IfOk result (λ new. EachImageSurvives new.core) }
     // Each unit of what is recovered is right for its source.
-    ensures right { IfOk result (λ new. EachImageIsRight B.is_right new) }
+    ensures right { IfOk result (λ new. EachImageIsRight B.is_right new.core) }
     // The live map is what the order gives, without the command in commit or failed; empty from a crash to the recovery.
-    ensures replay { IfOk result (λ new. new.library ≡ live new.phase new.order) }
+    ensures replay { IfOk result (λ new. new.core.library ≡ live new.core.phase new.core.order) }
     // Each command of the order was one that the library took in its turn.
-    ensures accepted { IfOk result (λ new. AreAccepted empty (commands new.order)) }
-    // Every acknowledged command is in the order, by its place.
-    ensures acked { IfOk result (λ new. All (Contains new.order) new.acknowledged) }
-    ensures rising { IfOk result (λ new. AreRising new.order) }
+    ensures accepted { IfOk result (λ new. AreAccepted empty (commands new.core.order)) }
+    // Every acknowledged command is in the order, by its sequence number.
+    ensures acked { IfOk result (λ new. All (Contains new.core.order) new.core.acknowledged) }
+    ensures rising { IfOk result (λ new. AreRising new.core.order) }
+    ensures rising_acked { IfOk result (λ new. AreRising new.core.acknowledged) }
     // Each unit in the live map is right for its source.
-    ensures units { IfOk result (λ new. EachUnit B.is_right new.library) }
-    ensures err { IfErr result (λ fault. fault ≡ CoreFault.OutOfMemory) }
+    ensures units { IfOk result (λ new. EachUnit B.is_right new.core.library) }
+    ensures refused { IfErr result (λ fault. fault ≡ CoreFault.OutOfMemory) }
 {
     for event in events {
         state.turn(alloc, event)?;
@@ -154,13 +164,24 @@ pub fn run_events<B: Build>(
     Ok(state)
 }
 
-/// Whatever the events, from any start: whatever a crash leaves of the disk survives so, its units are right, and the live map
-/// is what the order gives.
+/// Whatever the events, from a fresh disk or an opened one: whatever a crash leaves of the disk survives so, its units are right,
+/// and the live map is what the order gives. In a crashed state the recovery is possible, and nothing else but another crash; a
+/// command that begins has the source that was handed in; and a commit leaves exactly the bytes of its record.
 pub fn crash_law<B: Build>()
-    ensures survives { (area : ℕ) (first new : Contents B.Piece) (events : List (Event B.Piece))
-        → IsStart area first → Run B.rules first events new → EachImageSurvives new }
-    ensures right { (area : ℕ) (first new : Contents B.Piece) (events : List (Event B.Piece))
-        → IsStart area first → Run B.rules first events new → EachImageIsRight B.is_right new }
-    ensures replay { (area : ℕ) (first new : Contents B.Piece) (events : List (Event B.Piece))
-        → IsStart area first → Run B.rules first events new → new.library ≡ live new.phase new.order }
+    ensures survives { (first new : Contents B.Piece) (events : List (Event B.Piece))
+        → IsBeginning B.is_right first → Run B.rules B.keeps first events new → EachImageSurvives new.core }
+    ensures right { (first new : Contents B.Piece) (events : List (Event B.Piece))
+        → IsBeginning B.is_right first → Run B.rules B.keeps first events new → EachImageIsRight B.is_right new.core }
+    ensures replay { (first new : Contents B.Piece) (events : List (Event B.Piece))
+        → IsBeginning B.is_right first → Run B.rules B.keeps first events new → new.core.library ≡ live new.core.phase new.core.order }
+    ensures recovers { (first new : Contents B.Piece) (events : List (Event B.Piece))
+        → IsBeginning B.is_right first → Run B.rules B.keeps first events new → new.core.phase ≡ Crashed
+        → (reply : Option Reply) × (after : Contents B.Piece) × StepsCore Reopens new reply after }
+    ensures quiet { (first new after : Contents B.Piece) (events : List (Event B.Piece)) (event : Event B.Piece) (reply : Option Reply)
+        → IsBeginning B.is_right first → Run B.rules B.keeps first events new → new.core.phase ≡ Crashed
+        → Step B.rules new event reply after → IsOfCrash event }
+    ensures source { (first new after : Contents B.Piece) (events : List (Event B.Piece)) (client : ClientId)
+        → IsBeginning B.is_right first → Run B.rules B.keeps first events new → PutsSource B.rules client new after }
+    ensures leaves_record { (first new : Contents B.Piece) (events : List (Event B.Piece)) (client : ClientId) (numbered : Numbered) (after : Core)
+        → IsBeginning B.is_right first → Run B.rules B.keeps first events new → Commits client numbered new.core after → LeavesRecord numbered new.core after }
 {}

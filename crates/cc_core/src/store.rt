@@ -1,14 +1,15 @@
 // The core's disk: a journal in the first of its two areas, written one device step at a time.
-ghost use Rattle.std.specs.Prelude.{◌≡◌, ◌↔◌, ◌+◌, ◌^◌, ◌≤◌, [], ◌∷◌, List, ℕ, IsTrue, length, IfOk, OnOk, OnErr};
+ghost use Rattle.std.specs.Prelude.{◌≡◌, ◌↔◌, ◌+◌, ◌^◌, ◌≤◌, [], ◌∷◌, List, ℕ, IsTrue, length, IfOk, IfErr, OnOk, OnErr};
 ghost use Rattle.cc_disk.specs.Model.{bytes_of, IsImage, written, synced};
 ghost use Rattle.cc_disk.specs.Images.{LeavesAlone};
 ghost use Rattle.cc_journal.specs.Format.{HoldsRecords, IsArea, open_gate, records, room_of};
+ghost use Rattle.cc_library.specs.Apply.{Units};
 ghost use Rattle.cc_library.specs.Recovered.{StandFor};
-ghost use Rattle.cc_core.specs.Store.{IsFormatted, gate_of, room_with, with_cells, crashed_store};
+ghost use Rattle.cc_core.specs.Store.{IsFormatted, gate_of, room_taken, with_cells, crashed_store};
 
 use cc_disk::{Disk, MemoryDisk};
 use cc_journal::{Body, Journal, format};
-use cc_library::{UnitMap, replay};
+use cc_library::{LibraryFault, UnitMap, replay};
 use std::alloc::{AllocError, Global};
 use std::marker::Model;
 
@@ -18,11 +19,12 @@ const HEADER: usize = 16;
 /// The gate of a record that counts.
 const OPEN: u8 = 0xa5;
 
-/// A journal on a disk in memory, of which contracts see the cells, the size of an area in bytes, and how many bytes of
-/// the first area its records take.
+/// A journal on a disk in memory, of which contracts see the cells, the area byte, the size of an area in bytes, and how many
+/// bytes of the area that the byte names its records take.
 #[derive(Drop)]
 pub struct Store {
     disk: MemoryDisk,
+    area_byte: u8,
     area: u32,
     used: usize,
 }
@@ -34,7 +36,7 @@ impl Model for Store {
 
     ghost Value = { StoreState };
 
-    ghost view = { λ s. record { cells = s.disk.cells; area = s.area; used = s.used } };
+    ghost view = { λ s. record { cells = s.disk.cells; area_byte = s.area_byte; area = s.area; used = s.used } };
 
     ghost invariant = { λ s. IsArea (length s.disk.cells) s.area × (s.used + 1 ≤ s.area) };
 }
@@ -52,6 +54,7 @@ impl Store {
         let _ = disk.sync();
         Ok(Store {
             disk,
+            area_byte: 0,
             area,
             used: 0,
         })
@@ -59,9 +62,22 @@ impl Store {
 
     /// Whether a record with this body fits the area.
     pub(crate) fn fits(&self, body: &[u8]) -> bool
-        ensures { IsTrue result ↔ (room_with self.now body.now ≤ self.now.area) }
+        ensures { IsTrue result ↔ (room_taken self.now body.now ≤ self.now.area) }
     {
         body.len() + 6 <= self.area as usize - self.used
+    }
+
+    // The offset of the closed gate behind the last record.
+    fn gate(&self) -> usize
+        ensures gate { result ≡ gate_of self.now }
+        ensures within { gate_of self.now ≤ 16 + self.now.area + self.now.used }
+    {
+        let begin = if self.area_byte % 2 == 0 {
+            HEADER
+        } else {
+            HEADER + self.area as usize
+        };
+        begin + self.used
     }
 
     /// Writes what stands behind the gate of the next record.
@@ -69,14 +85,16 @@ impl Store {
         requires { self.old.used + length behind.now + 1 ≤ self.old.area }
         ensures { self.new ≡ with_cells self.old (written self.old.cells (gate_of self.old + 1) behind.now) }
     {
-        let _ = self.disk.write_at(HEADER + self.used + 1, behind);
+        let offset = self.gate() + 1;
+        let _ = self.disk.write_at(offset, behind);
     }
 
     /// Opens the gate of the next record.
     pub(crate) fn open_gate(&mut self)
         ensures { self.new ≡ with_cells self.old (written self.old.cells (gate_of self.old) (open_gate ∷ [])) }
     {
-        let _ = self.disk.write_at(HEADER + self.used, &[OPEN]);
+        let offset = self.gate();
+        let _ = self.disk.write_at(offset, &[OPEN]);
     }
 
     /// Settles every byte.
@@ -112,19 +130,26 @@ impl Store {
         Ok(())
     }
 
-    /// Opens a copy of the disk, and reads the map that its records stand for and how many bytes they take. A disk whose
-    /// bytes hold such records refuses for want of memory alone.
-    pub(crate) fn open(&self, alloc: Global) -> Result<(UnitMap, usize), AllocError>
-        requires { LeavesAlone (bytes_of self.now.cells) (IsImage self.now.cells) }
-        ensures { IfOk result (λ found. (area : ℕ) × (bodies : List (List ℕ)) × HoldsRecords (bytes_of self.now.cells) area bodies
+    /// Opens a copy of the disk, and reads the map that its records stand for and how many bytes they take.
+    /// 40 `OutOfMemory` alone: no other refusal can come of a disk whose bytes hold records that stand for a map.
+    pub(crate) fn open(&self, alloc: Global) -> Result<(UnitMap, usize), LibraryFault>
+        requires alone { LeavesAlone (bytes_of self.now.cells) (IsImage self.now.cells) }
+        requires holds { (area : ℕ) × (bodies : List (List ℕ)) × (units : Units) × HoldsRecords (bytes_of self.now.cells) area bodies × StandFor bodies units }
+        ensures answer { IfOk result (λ found. (area : ℕ) × (bodies : List (List ℕ)) × HoldsRecords (bytes_of self.now.cells) area bodies
             × StandFor bodies found.0 × (found.1 ≡ length (records bodies))) }
+        ensures refused { IfErr result (λ fault. fault ≡ LibraryFault.OutOfMemory) }
     {
         let copy = self.disk.crash(alloc, &[])?;
-        let Ok(journal) = Journal::open(alloc, copy) else {
-            return Err(AllocError);
+        let journal = match Journal::open(alloc, copy) {
+            Ok(journal) => journal,
+            Err((fault, disk)) => {
+                drop(disk);
+                return Err(LibraryFault::from(fault));
+            }
         };
-        let Ok(units) = replay(alloc, journal.records()) else {
-            return Err(AllocError);
+        let units = match replay(alloc, journal.records()) {
+            Ok(units) => units,
+            Err(fault) => return Err(fault),
         };
         let used = bytes_taken(journal.records());
         Ok((units, used))

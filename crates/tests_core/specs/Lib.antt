@@ -1,1 +1,2 @@
-pub mod OnePiece
+-- the build of the tests
+pub mod FewPieces

@@ -1,22 +1,52 @@
-ghost use Rattle.std.specs.Prelude.{◌≡◌, ◌∷◌, [], ◌≤◌, ◌<◌, length, IfOk};
+ghost use Rattle.std.specs.Prelude.{◌≡◌, ◌↔◌, ◌∷◌, [], ◌≤◌, ◌<◌, length, IfOk, IsTrue};
+ghost use Rattle.std.specs.Arc.{arc_value};
+ghost use Rattle.tests_core.specs.FewPieces.{keeps};
 
 use cc_library::SharedUnit;
 use cc_link::{Source, StoredUnit};
 use cc_rv32::image::{Code, Globals, Image};
 use std::alloc::{AllocError, Global};
+use std::marker::Model;
 use std::sync::Arc;
 
-/// A compiled source: its unit, whose image has one code word, the length of the source.
+/// A compiled part of a source: its unit, whose image has one code word, the length of the source, and which part it is.
 #[derive(Drop)]
-pub struct OnePiece {
-    pub unit: SharedUnit,
-    pub ghost right: { unit.image.code ≡ length unit.source ∷ [] },
+pub struct Piece {
+    unit: SharedUnit,
+    part: u32,
 }
 
-/// The piece of a source of at most 65,536 bytes.
-pub fn compiled(alloc: Global, source: &[u8]) -> Result<OnePiece, AllocError>
+impl Model for Piece {
+    ghost use Rattle.tests_core.specs.FewPieces.{Seen, is_right};
+
+    ghost Value = { Seen };
+
+    ghost view = { λ p. (p.unit, p.part) };
+
+    ghost invariant = { λ p. is_right p.unit };
+}
+
+impl Piece {
+    /// Whether it is this part of that source.
+    pub fn is_of(&self, source: &[u8], part: u32) -> bool
+        ensures named { IsTrue result ↔ ((self.now.0.source ≡ source.now) × (self.now.1 ≡ part)) }
+        ensures kept { keeps self.now }
+    {
+        self.part == part && self.unit.stored().source.bytes() == source
+    }
+
+    /// Its unit.
+    pub fn unit(&self) -> &Arc<StoredUnit>
+        ensures { arc_value result.now ≡ self.now.0 }
+    {
+        self.unit.stored()
+    }
+}
+
+/// That part of a source of at most 65,536 bytes.
+pub fn compiled(alloc: Global, source: &[u8], part: u32) -> Result<Piece, AllocError>
     requires { length source.now ≤ 65536 }
-    ensures { IfOk result (λ piece. piece.unit.source ≡ source.now) }
+    ensures { IfOk result (λ piece. (piece.0.source ≡ source.now) × (piece.1 ≡ part)) }
 {
     let code = Code::new(vec![in alloc; source.len() as u32; 1]?).unwrap();
     let globals = Globals::new(Vec::new(alloc)).unwrap();
@@ -27,7 +57,8 @@ pub fn compiled(alloc: Global, source: &[u8]) -> Result<OnePiece, AllocError>
         certificate: None,
     };
     let shared = Arc::new(alloc, unit)?;
-    Ok(OnePiece {
+    Ok(Piece {
         unit: SharedUnit::new(shared),
+        part,
     })
 }

@@ -1,16 +1,14 @@
--- Where a growth is refused the write of the body is due, so the event has a step.
-use Rattle.std.proofs.Common.{◌≡◌}
-use Rattle.cc_core.specs.declared.contents.Due.TheVariants as due
-use Rattle.cc_core.specs.declared.contents.Phase.TheVariants.{Committing}
-use Rattle.cc_core.proofs.Possible.{fails_body}
+-- What the core refuses is refused, and no job ends.
+use Rattle.std.proofs.Common.{refl, subst}
+use Rattle.cc_core.specs.internal.Answers.{Answers}
+use Rattle.cc_core.specs.Step.{Fails}
+use Rattle.cc_core.proofs.Possible.{fails_refused}
 use Rattle.cc_core.proofs.device.fail.Goals as goal
 
-pub returns-in_err-body-in-WriteBody-clause-memory : goal.returns-in_err-body-in-WriteBody-clause-memory
-returns-in_err-body-in-WriteBody-clause-memory g c =
-    let committing : c.args.contents.now.phase ≡ Committing c.in-Committing.client c.in-Committing.placed due.WriteBody = cc in
-    λ _. fails_body c.args.contents.now c.in-Committing.client c.in-Committing.placed committing
-
-pub returns-in_err-behind-in-WriteBody-clause-memory : goal.returns-in_err-behind-in-WriteBody-clause-memory
-returns-in_err-behind-in-WriteBody-clause-memory g c =
-    let committing : c.args.contents.now.phase ≡ Committing c.in-Committing.client c.in-Committing.placed due.WriteBody = cc in
-    λ _. fails_body c.args.contents.now c.in-Committing.client c.in-Committing.placed committing
+pub returns-in-Err : goal.returns-in-Err
+returns-in-Err g c =
+    let old = c.args.contents.now in
+    let core = c.fail_core.new.core in
+    let at = c.in-Committing in
+    fails_refused at.client at.field-1 at.field-2 old (record old { core = core }) c.in-Err.fault at.is
+    (subst (λ r. Answers (Fails at.client old.core) r old.core core) c.in-Err.is c.fail_core.ensures) refl refl

@@ -1,11 +1,13 @@
--- Where a growth is refused the step is due, so the event has one.
+-- Where memory runs out the step is due, so the event has one.
 use Rattle.std.proofs.Common.{refl}
 use Rattle.cc_core.specs.declared.contents.Due.TheVariants as due
-use Rattle.cc_core.proofs.Possible.{advances, committing_is}
+use Rattle.cc_core.specs.Step.{Advances}
+use Rattle.cc_core.proofs.Possible.{advances, committing_is, memory_answers}
 use Rattle.cc_core.proofs.device.sync_gate.Goals as goal
 
-pub returns-in_err-body_of_command-clause-memory : goal.returns-in_err-body_of_command-clause-memory
-returns-in_err-body_of_command-clause-memory g c =
+pub returns-in_err-body_of_command : goal.returns-in_err-body_of_command
+returns-in_err-body_of_command c =
     let at = c.in-Committing in
-    let committing = committing_is c.args.contents.now.phase at.field-0 at.field-0 at.placed at.due due.SyncGate at.is c.in-SyncGate.is refl in
-    λ _. advances due.SyncGate c.args.contents.now at.field-0 at.placed committing
+    let committing = committing_is c.args.core.now.phase at.field-0 at.field-0 at.numbered at.due due.SyncGate at.is c.in-SyncGate.is refl in
+    let e = c.from_residual.ensures in
+    memory_answers (Advances due.SyncGate c.args.core.now) c.from_residual.result c.args.core.now c.args.core.now e.0 e.1 (advances due.SyncGate c.args.core.now at.field-0 at.numbered committing) refl

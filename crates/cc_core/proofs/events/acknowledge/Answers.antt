@@ -1,26 +1,13 @@
--- Where a growth is refused the client's command is in commit and its reply is due, so the event has a step.
-use Rattle.std.proofs.Common.{◌≡◌, arith}
-use Rattle.cc_core.specs.declared.contents.Due.TheVariants as due
-use Rattle.cc_core.proofs.Possible.{acknowledges, committing_is}
+-- What the core refuses is refused, and no job ends.
+use Rattle.std.proofs.Common.{refl, subst}
+use Rattle.cc_core.specs.internal.Answers.{Answers}
+use Rattle.cc_core.specs.Step.{Acknowledges}
+use Rattle.cc_core.proofs.Possible.{ends_refused}
 use Rattle.cc_core.proofs.events.acknowledge.Goals as goal
 
-pub returns-in_err-again-clause-memory : goal.returns-in_err-again-clause-memory
-returns-in_err-again-clause-memory g c =
-    let at = c.in-Committing in
-    let same : at.committing ≡ c.args.client = omega arith in
-    let committing = committing_is c.args.contents.now.phase at.committing c.args.client at.placed at.due due.Acknowledge at.is c.in-Acknowledge.is same in
-    λ _. acknowledges c.args.contents.now c.args.client at.placed committing
-
-pub returns-in_err-push-clause-memory : goal.returns-in_err-push-clause-memory
-returns-in_err-push-clause-memory g c =
-    let at = c.in-Committing in
-    let same : at.committing ≡ c.args.client = omega arith in
-    let committing = committing_is c.args.contents.now.phase at.committing c.args.client at.placed at.due due.Acknowledge at.is c.in-Acknowledge.is same in
-    λ _. acknowledges c.args.contents.now c.args.client at.placed committing
-
-pub returns-then-is_err-clause-memory : goal.returns-then-is_err-clause-memory
-returns-then-is_err-clause-memory g c =
-    let at = c.in-Committing in
-    let same : at.committing ≡ c.args.client = omega arith in
-    let committing = committing_is c.args.contents.now.phase at.committing c.args.client at.placed at.due due.Acknowledge at.is c.in-Acknowledge.is same in
-    λ _. acknowledges c.args.contents.now c.args.client at.placed committing
+pub returns-in-Err : goal.returns-in-Err
+returns-in-Err g c =
+    let old = c.args.contents.now in
+    let core = c.acknowledge_core.new.core in
+    ends_refused c.args.client (Acknowledges c.args.client) old (record old { core = core }) c.in-Err.fault
+    (subst (λ r. Answers (Acknowledges c.args.client old.core) r old.core core) c.in-Err.is c.acknowledge_core.ensures) refl refl

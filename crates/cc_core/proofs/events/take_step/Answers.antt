@@ -1,121 +1,96 @@
--- Each arm answers as its handler does, so 29 comes exactly where the event has no step; `begin` alone puts a command in the order.
-use Rattle.std.proofs.Common.{sym, subst}
-use Rattle.std.specs.Prelude.{IsErrOf, ◌↔◌}
+-- Each arm answers as its handler does; `begin` alone puts a command in the order, and `finish` alone hands in a piece.
+use Rattle.std.proofs.Common.{refl, sym, subst}
+use Rattle.cc_core.specs.declared.contents.Due.TheVariants as due
 use Rattle.cc_core.specs.declared.event.Event.TheVariants as event
-use Rattle.cc_core.specs.declared.fault.CoreFault.TheVariants as faults
-use Rattle.cc_core.specs.Step.{IsImpossible}
-use Rattle.cc_core.proofs.Possible.{exact, puts_none}
+use Rattle.cc_core.specs.internal.Answers.{Answers}
+use Rattle.cc_core.specs.Step.{Step, Advances, Reopens}
+use Rattle.cc_core.proofs.Possible.{core_answers, puts_none}
 use Rattle.cc_core.proofs.events.take_step.Goals as goal
 
-pub returns-in-Submit-clause-not_now : goal.returns-in-Submit-clause-not_now
-returns-in-Submit-clause-not_now g c =
-    subst (λ e. IsErrOf c.submit.result faults.NotNow ↔ IsImpossible g.B.Build.rules c.args.contents.now e) (sym c.in-Submit.is)
-    (exact g.B.Build.rules c.args.contents.now (event.Submit c.in-Submit.client c.in-Submit.call c.in-Submit.request) c.submit.result c.submit.new.contents c.submit.ensures.ok c.submit.ensures.not_now c.submit.ensures.memory)
+pub returns-in-Submit-clause-answers : goal.returns-in-Submit-clause-answers
+returns-in-Submit-clause-answers g c =
+    subst (λ e. Answers (Step g.B.Build.rules c.args.contents.now e) c.submit.result c.args.contents.now c.submit.new.contents) (sym c.in-Submit.is) (c.submit.ensures)
 
 pub returns-in-Submit-clause-puts : goal.returns-in-Submit-clause-puts
-returns-in-Submit-clause-puts g c =
-    puts_none g.B.Build.rules c.args.contents.now (event.Submit c.in-Submit.client c.in-Submit.call c.in-Submit.request) c.submit.result c.submit.new.contents tt c.submit.ensures.ok
+returns-in-Submit-clause-puts g c = puts_none g.B.Build.rules c.args.contents.now (event.Submit c.in-Submit.client c.in-Submit.call c.in-Submit.request) c.submit.result c.submit.new.contents tt (c.submit.ensures)
 
-pub returns-in-Take-clause-not_now : goal.returns-in-Take-clause-not_now
-returns-in-Take-clause-not_now g c =
-    subst (λ e. IsErrOf c.take.result faults.NotNow ↔ IsImpossible g.B.Build.rules c.args.contents.now e) (sym c.in-Take.is)
-    (exact g.B.Build.rules c.args.contents.now (event.Take c.in-Take.worker c.in-Take.client c.in-Take.part) c.take.result c.take.new.contents c.take.ensures.ok c.take.ensures.not_now c.take.ensures.memory)
+pub returns-in-Take-clause-answers : goal.returns-in-Take-clause-answers
+returns-in-Take-clause-answers g c =
+    subst (λ e. Answers (Step g.B.Build.rules c.args.contents.now e) c.take.result c.args.contents.now c.take.new.contents) (sym c.in-Take.is) (c.take.ensures)
 
 pub returns-in-Take-clause-puts : goal.returns-in-Take-clause-puts
-returns-in-Take-clause-puts g c =
-    puts_none g.B.Build.rules c.args.contents.now (event.Take c.in-Take.worker c.in-Take.client c.in-Take.part) c.take.result c.take.new.contents tt c.take.ensures.ok
+returns-in-Take-clause-puts g c = puts_none g.B.Build.rules c.args.contents.now (event.Take c.in-Take.worker c.in-Take.client c.in-Take.part) c.take.result c.take.new.contents tt (c.take.ensures)
 
-pub returns-in-Done-clause-not_now : goal.returns-in-Done-clause-not_now
-returns-in-Done-clause-not_now g c =
-    subst (λ e. IsErrOf c.finish.result faults.NotNow ↔ IsImpossible g.B.Build.rules c.args.contents.now e) (sym c.in-Done.is)
-    (exact g.B.Build.rules c.args.contents.now (event.Done c.in-Done.worker c.in-Done.piece) c.finish.result c.finish.new.contents c.finish.ensures.ok c.finish.ensures.not_now c.finish.ensures.memory)
+pub returns-in-Done-clause-answers : goal.returns-in-Done-clause-answers
+returns-in-Done-clause-answers g c =
+    subst (λ e. Answers (Step g.B.Build.rules c.args.contents.now e) c.finish.result c.args.contents.now c.finish.new.contents) (sym c.in-Done.is) (c.finish.ensures.answers)
 
 pub returns-in-Done-clause-puts : goal.returns-in-Done-clause-puts
-returns-in-Done-clause-puts g c =
-    puts_none g.B.Build.rules c.args.contents.now (event.Done c.in-Done.worker c.in-Done.piece) c.finish.result c.finish.new.contents tt c.finish.ensures.ok
+returns-in-Done-clause-puts g c = puts_none g.B.Build.rules c.args.contents.now (event.Done c.in-Done.worker c.in-Done.piece) c.finish.result c.finish.new.contents tt (c.finish.ensures.answers)
 
-pub returns-in-Refuse-clause-not_now : goal.returns-in-Refuse-clause-not_now
-returns-in-Refuse-clause-not_now g c =
-    subst (λ e. IsErrOf c.refuse.result faults.NotNow ↔ IsImpossible g.B.Build.rules c.args.contents.now e) (sym c.in-Refuse.is)
-    (exact g.B.Build.rules c.args.contents.now (event.Refuse c.in-Refuse.worker c.in-Refuse.number) c.refuse.result c.refuse.new.contents c.refuse.ensures.ok c.refuse.ensures.not_now c.refuse.ensures.memory)
+pub returns-in-Refuse-clause-answers : goal.returns-in-Refuse-clause-answers
+returns-in-Refuse-clause-answers g c =
+    subst (λ e. Answers (Step g.B.Build.rules c.args.contents.now e) c.refuse.result c.args.contents.now c.refuse.new.contents) (sym c.in-Refuse.is) (c.refuse.ensures)
 
 pub returns-in-Refuse-clause-puts : goal.returns-in-Refuse-clause-puts
-returns-in-Refuse-clause-puts g c =
-    puts_none g.B.Build.rules c.args.contents.now (event.Refuse c.in-Refuse.worker c.in-Refuse.number) c.refuse.result c.refuse.new.contents tt c.refuse.ensures.ok
+returns-in-Refuse-clause-puts g c = puts_none g.B.Build.rules c.args.contents.now (event.Refuse c.in-Refuse.worker c.in-Refuse.number) c.refuse.result c.refuse.new.contents tt (c.refuse.ensures)
 
-pub returns-in-Begin-clause-not_now : goal.returns-in-Begin-clause-not_now
-returns-in-Begin-clause-not_now g c =
-    subst (λ e. IsErrOf c.begin.result faults.NotNow ↔ IsImpossible g.B.Build.rules c.args.contents.now e) (sym c.in-Begin.is)
-    (exact g.B.Build.rules c.args.contents.now (event.Begin c.in-Begin.client) c.begin.result c.begin.new.contents c.begin.ensures.ok c.begin.ensures.not_now c.begin.ensures.memory)
+pub returns-in-Begin-clause-answers : goal.returns-in-Begin-clause-answers
+returns-in-Begin-clause-answers g c =
+    subst (λ e. Answers (Step g.B.Build.rules c.args.contents.now e) c.begin.result c.args.contents.now c.begin.new.contents) (sym c.in-Begin.is) (c.begin.ensures.answers)
 
-pub returns-in-WriteBody-clause-not_now : goal.returns-in-WriteBody-clause-not_now
-returns-in-WriteBody-clause-not_now g c =
-    subst (λ e. IsErrOf c.write_body.result faults.NotNow ↔ IsImpossible g.B.Build.rules c.args.contents.now e) (sym c.in-WriteBody.is)
-    (exact g.B.Build.rules c.args.contents.now (event.WriteBody) c.write_body.result c.write_body.new.contents c.write_body.ensures.ok c.write_body.ensures.not_now c.write_body.ensures.memory)
+pub returns-in-WriteBody-clause-answers : goal.returns-in-WriteBody-clause-answers
+returns-in-WriteBody-clause-answers g c =
+    subst (λ e. Answers (Step g.B.Build.rules c.args.contents.now e) c.write_body.result c.args.contents.now (record c.args.contents.now { core = c.write_body.new.core })) (sym c.in-WriteBody.is) (core_answers (Advances due.WriteBody) c.args.contents.now (record c.args.contents.now { core = c.write_body.new.core }) c.write_body.result c.write_body.ensures refl refl)
 
 pub returns-in-WriteBody-clause-puts : goal.returns-in-WriteBody-clause-puts
-returns-in-WriteBody-clause-puts g c =
-    puts_none g.B.Build.rules c.args.contents.now (event.WriteBody) c.write_body.result c.write_body.new.contents tt c.write_body.ensures.ok
+returns-in-WriteBody-clause-puts g c = puts_none g.B.Build.rules c.args.contents.now event.WriteBody c.write_body.result (record c.args.contents.now { core = c.write_body.new.core }) tt (core_answers (Advances due.WriteBody) c.args.contents.now (record c.args.contents.now { core = c.write_body.new.core }) c.write_body.result c.write_body.ensures refl refl)
 
-pub returns-in-SyncBody-clause-not_now : goal.returns-in-SyncBody-clause-not_now
-returns-in-SyncBody-clause-not_now g c =
-    subst (λ e. IsErrOf c.sync_body.result faults.NotNow ↔ IsImpossible g.B.Build.rules c.args.contents.now e) (sym c.in-SyncBody.is)
-    (exact g.B.Build.rules c.args.contents.now (event.SyncBody) c.sync_body.result c.sync_body.new.contents c.sync_body.ensures.ok c.sync_body.ensures.not_now c.sync_body.ensures.memory)
+pub returns-in-SyncBody-clause-answers : goal.returns-in-SyncBody-clause-answers
+returns-in-SyncBody-clause-answers g c =
+    subst (λ e. Answers (Step g.B.Build.rules c.args.contents.now e) c.sync_body.result c.args.contents.now (record c.args.contents.now { core = c.sync_body.new.core })) (sym c.in-SyncBody.is) (core_answers (Advances due.SyncBody) c.args.contents.now (record c.args.contents.now { core = c.sync_body.new.core }) c.sync_body.result c.sync_body.ensures refl refl)
 
 pub returns-in-SyncBody-clause-puts : goal.returns-in-SyncBody-clause-puts
-returns-in-SyncBody-clause-puts g c =
-    puts_none g.B.Build.rules c.args.contents.now (event.SyncBody) c.sync_body.result c.sync_body.new.contents tt c.sync_body.ensures.ok
+returns-in-SyncBody-clause-puts g c = puts_none g.B.Build.rules c.args.contents.now event.SyncBody c.sync_body.result (record c.args.contents.now { core = c.sync_body.new.core }) tt (core_answers (Advances due.SyncBody) c.args.contents.now (record c.args.contents.now { core = c.sync_body.new.core }) c.sync_body.result c.sync_body.ensures refl refl)
 
-pub returns-in-WriteGate-clause-not_now : goal.returns-in-WriteGate-clause-not_now
-returns-in-WriteGate-clause-not_now g c =
-    subst (λ e. IsErrOf c.write_gate.result faults.NotNow ↔ IsImpossible g.B.Build.rules c.args.contents.now e) (sym c.in-WriteGate.is)
-    (exact g.B.Build.rules c.args.contents.now (event.WriteGate) c.write_gate.result c.write_gate.new.contents c.write_gate.ensures.ok c.write_gate.ensures.not_now c.write_gate.ensures.memory)
+pub returns-in-WriteGate-clause-answers : goal.returns-in-WriteGate-clause-answers
+returns-in-WriteGate-clause-answers g c =
+    subst (λ e. Answers (Step g.B.Build.rules c.args.contents.now e) c.write_gate.result c.args.contents.now (record c.args.contents.now { core = c.write_gate.new.core })) (sym c.in-WriteGate.is) (core_answers (Advances due.WriteGate) c.args.contents.now (record c.args.contents.now { core = c.write_gate.new.core }) c.write_gate.result c.write_gate.ensures refl refl)
 
 pub returns-in-WriteGate-clause-puts : goal.returns-in-WriteGate-clause-puts
-returns-in-WriteGate-clause-puts g c =
-    puts_none g.B.Build.rules c.args.contents.now (event.WriteGate) c.write_gate.result c.write_gate.new.contents tt c.write_gate.ensures.ok
+returns-in-WriteGate-clause-puts g c = puts_none g.B.Build.rules c.args.contents.now event.WriteGate c.write_gate.result (record c.args.contents.now { core = c.write_gate.new.core }) tt (core_answers (Advances due.WriteGate) c.args.contents.now (record c.args.contents.now { core = c.write_gate.new.core }) c.write_gate.result c.write_gate.ensures refl refl)
 
-pub returns-in-SyncGate-clause-not_now : goal.returns-in-SyncGate-clause-not_now
-returns-in-SyncGate-clause-not_now g c =
-    subst (λ e. IsErrOf c.sync_gate.result faults.NotNow ↔ IsImpossible g.B.Build.rules c.args.contents.now e) (sym c.in-SyncGate.is)
-    (exact g.B.Build.rules c.args.contents.now (event.SyncGate) c.sync_gate.result c.sync_gate.new.contents c.sync_gate.ensures.ok c.sync_gate.ensures.not_now c.sync_gate.ensures.memory)
+pub returns-in-SyncGate-clause-answers : goal.returns-in-SyncGate-clause-answers
+returns-in-SyncGate-clause-answers g c =
+    subst (λ e. Answers (Step g.B.Build.rules c.args.contents.now e) c.sync_gate.result c.args.contents.now (record c.args.contents.now { core = c.sync_gate.new.core })) (sym c.in-SyncGate.is) (core_answers (Advances due.SyncGate) c.args.contents.now (record c.args.contents.now { core = c.sync_gate.new.core }) c.sync_gate.result c.sync_gate.ensures refl refl)
 
 pub returns-in-SyncGate-clause-puts : goal.returns-in-SyncGate-clause-puts
-returns-in-SyncGate-clause-puts g c =
-    puts_none g.B.Build.rules c.args.contents.now (event.SyncGate) c.sync_gate.result c.sync_gate.new.contents tt c.sync_gate.ensures.ok
+returns-in-SyncGate-clause-puts g c = puts_none g.B.Build.rules c.args.contents.now event.SyncGate c.sync_gate.result (record c.args.contents.now { core = c.sync_gate.new.core }) tt (core_answers (Advances due.SyncGate) c.args.contents.now (record c.args.contents.now { core = c.sync_gate.new.core }) c.sync_gate.result c.sync_gate.ensures refl refl)
 
-pub returns-in-Fail-clause-not_now : goal.returns-in-Fail-clause-not_now
-returns-in-Fail-clause-not_now g c =
-    subst (λ e. IsErrOf c.fail.result faults.NotNow ↔ IsImpossible g.B.Build.rules c.args.contents.now e) (sym c.in-Fail.is)
-    (exact g.B.Build.rules c.args.contents.now (event.Fail) c.fail.result c.fail.new.contents c.fail.ensures.ok c.fail.ensures.not_now c.fail.ensures.memory)
+pub returns-in-Fail-clause-answers : goal.returns-in-Fail-clause-answers
+returns-in-Fail-clause-answers g c =
+    subst (λ e. Answers (Step g.B.Build.rules c.args.contents.now e) c.fail.result c.args.contents.now c.fail.new.contents) (sym c.in-Fail.is) (c.fail.ensures)
 
 pub returns-in-Fail-clause-puts : goal.returns-in-Fail-clause-puts
-returns-in-Fail-clause-puts g c =
-    puts_none g.B.Build.rules c.args.contents.now (event.Fail) c.fail.result c.fail.new.contents tt c.fail.ensures.ok
+returns-in-Fail-clause-puts g c = puts_none g.B.Build.rules c.args.contents.now event.Fail c.fail.result c.fail.new.contents tt (c.fail.ensures)
 
-pub returns-in-Ack-clause-not_now : goal.returns-in-Ack-clause-not_now
-returns-in-Ack-clause-not_now g c =
-    subst (λ e. IsErrOf c.acknowledge.result faults.NotNow ↔ IsImpossible g.B.Build.rules c.args.contents.now e) (sym c.in-Ack.is)
-    (exact g.B.Build.rules c.args.contents.now (event.Ack c.in-Ack.client) c.acknowledge.result c.acknowledge.new.contents c.acknowledge.ensures.ok c.acknowledge.ensures.not_now c.acknowledge.ensures.memory)
+pub returns-in-Ack-clause-answers : goal.returns-in-Ack-clause-answers
+returns-in-Ack-clause-answers g c =
+    subst (λ e. Answers (Step g.B.Build.rules c.args.contents.now e) c.acknowledge.result c.args.contents.now c.acknowledge.new.contents) (sym c.in-Ack.is) (c.acknowledge.ensures)
 
 pub returns-in-Ack-clause-puts : goal.returns-in-Ack-clause-puts
-returns-in-Ack-clause-puts g c =
-    puts_none g.B.Build.rules c.args.contents.now (event.Ack c.in-Ack.client) c.acknowledge.result c.acknowledge.new.contents tt c.acknowledge.ensures.ok
+returns-in-Ack-clause-puts g c = puts_none g.B.Build.rules c.args.contents.now (event.Ack c.in-Ack.client) c.acknowledge.result c.acknowledge.new.contents tt (c.acknowledge.ensures)
 
-pub returns-in-Crash-clause-not_now : goal.returns-in-Crash-clause-not_now
-returns-in-Crash-clause-not_now g c =
-    subst (λ e. IsErrOf c.crash.result faults.NotNow ↔ IsImpossible g.B.Build.rules c.args.contents.now e) (sym c.in-Crash.is)
-    (exact g.B.Build.rules c.args.contents.now (event.Crash c.in-Crash.choice) c.crash.result c.crash.new.contents c.crash.ensures.ok c.crash.ensures.not_now c.crash.ensures.memory)
+pub returns-in-Crash-clause-answers : goal.returns-in-Crash-clause-answers
+returns-in-Crash-clause-answers g c =
+    subst (λ e. Answers (Step g.B.Build.rules c.args.contents.now e) c.crash.result c.args.contents.now c.crash.new.contents) (sym c.in-Crash.is) (c.crash.ensures)
 
 pub returns-in-Crash-clause-puts : goal.returns-in-Crash-clause-puts
-returns-in-Crash-clause-puts g c =
-    puts_none g.B.Build.rules c.args.contents.now (event.Crash c.in-Crash.choice) c.crash.result c.crash.new.contents tt c.crash.ensures.ok
+returns-in-Crash-clause-puts g c = puts_none g.B.Build.rules c.args.contents.now (event.Crash c.in-Crash.choice) c.crash.result c.crash.new.contents tt (c.crash.ensures)
 
-pub returns-in-Recover-clause-not_now : goal.returns-in-Recover-clause-not_now
-returns-in-Recover-clause-not_now g c =
-    subst (λ e. IsErrOf c.recover.result faults.NotNow ↔ IsImpossible g.B.Build.rules c.args.contents.now e) (sym c.in-Recover.is)
-    (exact g.B.Build.rules c.args.contents.now (event.Recover) c.recover.result c.recover.new.contents c.recover.ensures.ok c.recover.ensures.not_now c.recover.ensures.memory)
+pub returns-in-Recover-clause-answers : goal.returns-in-Recover-clause-answers
+returns-in-Recover-clause-answers g c =
+    subst (λ e. Answers (Step g.B.Build.rules c.args.contents.now e) c.recover.result c.args.contents.now (record c.args.contents.now { core = c.recover.new.core })) (sym c.in-Recover.is) (core_answers Reopens c.args.contents.now (record c.args.contents.now { core = c.recover.new.core }) c.recover.result c.recover.ensures refl refl)
 
 pub returns-in-Recover-clause-puts : goal.returns-in-Recover-clause-puts
-returns-in-Recover-clause-puts g c =
-    puts_none g.B.Build.rules c.args.contents.now (event.Recover) c.recover.result c.recover.new.contents tt c.recover.ensures.ok
+returns-in-Recover-clause-puts g c = puts_none g.B.Build.rules c.args.contents.now event.Recover c.recover.result (record c.args.contents.now { core = c.recover.new.core }) tt (core_answers Reopens c.args.contents.now (record c.args.contents.now { core = c.recover.new.core }) c.recover.result c.recover.ensures refl refl)

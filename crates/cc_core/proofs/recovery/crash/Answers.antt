@@ -1,6 +1,13 @@
--- A crash always has a step.
-use Rattle.cc_core.proofs.Possible.{crashes}
+-- What the core refuses is refused, and all jobs stay.
+use Rattle.std.proofs.Common.{refl, subst}
+use Rattle.cc_core.specs.internal.Answers.{Answers}
+use Rattle.cc_core.specs.Step.{Crashes}
+use Rattle.cc_core.proofs.Possible.{ends_all_refused}
 use Rattle.cc_core.proofs.recovery.crash.Goals as goal
 
-pub returns-in_err-crash-clause-memory : goal.returns-in_err-crash-clause-memory
-returns-in_err-crash-clause-memory g c = λ _. crashes c.args.choice.now c.args.contents.now
+pub returns-in-Err : goal.returns-in-Err
+returns-in-Err g c =
+    let old = c.args.contents.now in
+    let core = c.crash_core.new.core in
+    ends_all_refused (Crashes c.args.choice.now) old (record old { core = core }) c.in-Err.fault
+    (subst (λ r. Answers (Crashes c.args.choice.now old.core) r old.core core) c.in-Err.is c.crash_core.ensures) refl refl

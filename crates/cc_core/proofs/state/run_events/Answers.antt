@@ -4,4 +4,4 @@ use Rattle.cc_core.proofs.state.run_events.Goals as goal
 
 pub loop-event-preserved : goal.loop-event-preserved
 loop-event-preserved g c =
-    Run-push g.B.Build.rules c.args.state c.loop-event.yielded c.loop-event.state c.in-Some.event c.turn.new.self c.loop-event.invariant c.in_ok-turn.ensures.ok
+    Run-push g.B.Build.rules g.B.Build.keeps c.args.state c.loop-event.yielded c.loop-event.state c.in-Some.event c.turn.new.self c.loop-event.invariant c.in_ok-turn.ensures

@@ -2,4 +2,4 @@ use Rattle.cc_core.specs.Run.{Run}
 use Rattle.cc_core.proofs.state.run_events.Given as goal
 
 abbrev pub invariant-loop-event : goal.invariant-loop-event
-invariant-loop-event g l = Run g.B.Build.rules l.fn.state l.yielded l.state
+invariant-loop-event g l = Run g.B.Build.rules g.B.Build.keeps l.fn.state l.yielded l.state

@@ -1,31 +1,34 @@
 -- What holds of whatever is reached holds of this state.
 use Rattle.std.proofs.Common.{subst, All, Contains}
 use Rattle.cc_core.specs.Run.{AreRising, EachImageSurvives, EachImageIsRight}
-use Rattle.cc_core.proofs.Sound.{reached_IsSound, sound_survives, sound_right}
+use Rattle.cc_core.proofs.Sound.{reached_IsSound, sound_survives}
 use Rattle.cc_core.proofs.state.State.acked.Goals as goal
 
 pub returns-clause-in_order : goal.returns-clause-in_order
 returns-clause-in_order g c =
-    subst (λ s. All (Contains s.order) s.acknowledged) c.self.view_is
-    (reached_IsSound g.B.Build.rules g.B.Build.is_right g.met.B.Build.law c.self.inside.contents c.self.invariant).acked
+    subst (λ s. All (Contains s.core.order) s.core.acknowledged) c.self.view_is
+    (reached_IsSound g.B.Build.rules g.B.Build.keeps g.B.Build.is_right g.met.B.Build.law c.self.inside.contents c.self.invariant).core.acked
 
 pub returns-clause-rising : goal.returns-clause-rising
 returns-clause-rising g c =
-    subst (λ s. AreRising s.order) c.self.view_is
-    (reached_IsSound g.B.Build.rules g.B.Build.is_right g.met.B.Build.law c.self.inside.contents c.self.invariant).rising
+    subst (λ s. AreRising s.core.order) c.self.view_is
+    (reached_IsSound g.B.Build.rules g.B.Build.keeps g.B.Build.is_right g.met.B.Build.law c.self.inside.contents c.self.invariant).core.rising
 
 pub returns-clause-survives : goal.returns-clause-survives
 returns-clause-survives g c =
     let rules = g.B.Build.rules in
+    let keeps = g.B.Build.keeps in
     let is_right = g.B.Build.is_right in
     let law = g.met.B.Build.law in
     let s = c.self.inside.contents in
-    subst (λ s. EachImageSurvives s) c.self.view_is (sound_survives rules is_right law s (reached_IsSound rules is_right law s c.self.invariant))
+    subst (λ s. EachImageSurvives s.core) c.self.view_is (sound_survives rules keeps is_right law s.core (reached_IsSound rules keeps is_right law s c.self.invariant).core)
 
 pub returns-clause-right : goal.returns-clause-right
 returns-clause-right g c =
-    let rules = g.B.Build.rules in
-    let is_right = g.B.Build.is_right in
-    let law = g.met.B.Build.law in
-    let s = c.self.inside.contents in
-    subst (λ s. EachImageIsRight is_right s) c.self.view_is (sound_right rules is_right law s (reached_IsSound rules is_right law s c.self.invariant))
+    subst (λ s. EachImageIsRight g.B.Build.is_right s.core) c.self.view_is
+    (reached_IsSound g.B.Build.rules g.B.Build.keeps g.B.Build.is_right g.met.B.Build.law c.self.inside.contents c.self.invariant).core.right
+
+pub returns-clause-rising_acked : goal.returns-clause-rising_acked
+returns-clause-rising_acked g c =
+    subst (λ s. AreRising s.core.acknowledged) c.self.view_is
+    (reached_IsSound g.B.Build.rules g.B.Build.keeps g.B.Build.is_right g.met.B.Build.law c.self.inside.contents c.self.invariant).core.rising_acked

@@ -6,11 +6,13 @@ use Rattle.cc_core.proofs.state.State.step.Goals as goal
 pub take_step-requires : goal.take_step-requires
 take_step-requires g c =
     let rules = g.B.Build.rules in
+    let keeps = g.B.Build.keeps in
     let is_right = g.B.Build.is_right in
     let law = g.met.B.Build.law in
     let s = c.self.inside.contents in
-    sound_ready rules is_right law s (reached_IsSound rules is_right law s c.self.invariant)
+    sound_ready rules keeps is_right law s.core (reached_IsSound rules keeps is_right law s c.self.invariant).core
 
 pub invariant_of-self : goal.invariant_of-self
 invariant_of-self g c =
-    Reached-step g.B.Build.rules c.self.inside.contents c.args.event c.take_step.result c.take_step.new.contents c.self.invariant c.take_step.ensures.ok c.take_step.ensures.puts c.take_step.ensures.err
+    Reached-step g.B.Build.rules g.B.Build.keeps g.B.Build.is_right c.self.inside.contents c.args.event c.take_step.result c.take_step.new.contents c.self.invariant c.take_step.ensures.answers
+    c.take_step.ensures.puts c.take_step.ensures.hands

@@ -21,5 +21,6 @@ returns c =
       rest = drop 17 (bytes_of c.in_ok-disk.disk.cells);
       bytes = c.sync.ensures.seen ∙ formatted refl;
       alone = λ image now. c.sync.ensures.settled image now ∙ sym c.sync.ensures.seen;
+      first_area = refl;
       unused = refl;
     }

@@ -1,0 +1,32 @@
+-- The numbers of the faults and refusals.
+use Rattle.std.specs.Prelude.{ℕ, ◌≡◌, Result, Err}
+use Rattle.cc_core.specs.declared.fault.CoreFault.{CoreFault}
+use Rattle.cc_core.specs.declared.fault.CoreFault.TheVariants as core_fault
+use Rattle.cc_core.specs.declared.fault.BuildFault.{BuildFault}
+use Rattle.cc_core.specs.declared.fault.BuildFault.TheVariants as build
+use Rattle.cc_core.specs.declared.fault.Refusal.{Refusal}
+use Rattle.cc_core.specs.declared.fault.Refusal.TheVariants as refusal
+
+-- the number of a fault of a step
+abbrev pub fault_number : CoreFault → ℕ
+fault_number core_fault.NotNow = 29
+fault_number core_fault.OutOfMemory = 40
+
+-- the number of a build's refusal, or 40
+abbrev pub build_fault_number : BuildFault → ℕ
+build_fault_number (build.Refused number) = number
+build_fault_number build.OutOfMemory = 40
+
+-- the number of a command's refusal
+abbrev pub refusal_number : Refusal → ℕ
+refusal_number (refusal.Build number) = number
+refusal_number refusal.Exists = 31
+refusal_number refusal.Absent = 32
+refusal_number refusal.Full = 34
+refusal_number refusal.DiskFault = 35
+refusal_number refusal.Closed = 36
+
+-- a build's fault answers for its rule: the number that the rule refuses with; where memory runs out it says nothing
+abbrev pub RefusesAs : {A : Type 0} → BuildFault → Result A ℕ → Type 0
+RefusesAs (build.Refused number) rule = rule ≡ Err number
+RefusesAs build.OutOfMemory rule = Unit {0}

@@ -1,0 +1,5 @@
+-- What serves proofs and private contracts.
+-- what a step needs of the state, and the test of a recovery
+pub mod Ready
+-- how a handler answers for its step
+pub mod Answers

@@ -1,0 +1,71 @@
+-- What a step needs of the state, which every state that is reached has.
+use Rattle.std.specs.Prelude.{◌≡◌, ◌⊎◌, ℕ, ◌≤◌, ◌^◌, List, [], ◌∷◌, ◌++◌, Some, None}
+use Rattle.std.specs.FinMap.{get, empty}
+use Rattle.cc_disk.specs.Model.{bytes_of, IsImage}
+use Rattle.cc_disk.specs.Images.{LeavesAlone}
+use Rattle.cc_journal.specs.Format.{HoldsAlone}
+use Rattle.cc_library.specs.declared.command.Command.{Command}
+use Rattle.cc_library.specs.declared.command.Command.TheVariants.{Add, Replace, Withdraw}
+use Rattle.cc_library.specs.Apply.{Units, AreAccepted, library_of}
+use Rattle.cc_library.specs.Body.{body_of}
+use Rattle.cc_library.specs.Recovered.{StandFor}
+use Rattle.cc_core.specs.declared.command.Numbered.{Numbered}
+use Rattle.cc_core.specs.declared.contents.Core.{Core}
+use Rattle.cc_core.specs.declared.contents.Due.{Due}
+use Rattle.cc_core.specs.declared.contents.Due.TheVariants.{WriteBody, SyncBody, WriteGate, SyncGate, Acknowledge}
+use Rattle.cc_core.specs.declared.contents.Phase.{Phase}
+use Rattle.cc_core.specs.declared.contents.Phase.TheVariants.{Idle, Committing, Failed, Crashed}
+use Rattle.cc_core.specs.Step.{commands}
+use Rattle.cc_core.specs.StoreState.{StoreState}
+use Rattle.cc_core.specs.Store.{room_taken}
+
+-- the record of this command fits the area
+abbrev pub IsFitting : StoreState → Command → Type 0
+IsFitting store command = (room_taken store (body_of command) ≤ store.area) × (store.area ≤ 2 ^ 30)
+
+-- until its record is one of the journal's, a command in commit has room in the area
+abbrev pub HasRoom : Due → StoreState → Command → Type 0
+HasRoom WriteBody store command = IsFitting store command
+HasRoom SyncBody store command = IsFitting store command
+HasRoom WriteGate store command = IsFitting store command
+HasRoom SyncGate store command = IsFitting store command
+HasRoom Acknowledge store command = Unit {0}
+
+-- this library is that of the order, or of the order without its last command
+abbrev pub IsOfOrder : Units → List Numbered → Type 0
+IsOfOrder library order =
+    (library ≡ library_of (commands order))
+    ⊎ ((front : List Numbered) × (last : Numbered) × (order ≡ front ++ last ∷ []) × (library ≡ library_of (commands front)))
+
+-- the disk holds records that stand for a library of the order, and every byte is settled
+pub record IsRecoverable (store : StoreState) (order : List Numbered) : Type 0 where
+  pub alone : LeavesAlone (bytes_of store.cells) (IsImage store.cells)
+  pub bodies : List (List ℕ)
+  pub library : Units
+  pub holds : HoldsAlone (bytes_of store.cells) store.area bodies
+  pub stand : StandFor bodies library
+  pub accepted : AreAccepted empty (commands order)
+  pub known : IsOfOrder library order
+
+-- what the phase needs of the rest
+abbrev pub IsReadyIn : Phase → StoreState → List Numbered → Type 0
+IsReadyIn Idle store order = Unit {0}
+IsReadyIn (Committing client numbered due) store order = HasRoom due store numbered.command
+IsReadyIn (Failed failed) store order = Unit {0}
+IsReadyIn Crashed store order = IsRecoverable store order
+
+-- what a step needs
+abbrev pub IsReady : Core → Type 0
+IsReady s = IsReadyIn s.phase s.store s.order
+
+-- the library is as the command leaves it
+abbrev pub IsInEffect : Units → Command → Type 0
+IsInEffect library (Add name unit) = get library name ≡ Some unit
+IsInEffect library (Replace name unit) = get library name ≡ Some unit
+IsInEffect library (Withdraw name) = get library name ≡ None
+
+-- the order is kept where its last command is in effect, or there is none; else all but that one are kept
+abbrev pub IsFrontKept : Units → List Numbered → List Numbered → Type 0
+IsFrontKept library old new =
+    ((new ≡ old) × ((front : List Numbered) (last : Numbered) → old ≡ front ++ last ∷ [] → IsInEffect library last.command))
+    ⊎ ((last : Numbered) × (old ≡ new ++ last ∷ []) × (IsInEffect library last.command → ⊥))

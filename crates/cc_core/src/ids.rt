@@ -1,0 +1,23 @@
+/// A client, by any number.
+#[derive(Clone, Copy)]
+pub struct ClientId {
+    pub number: u64,
+}
+
+/// A worker, by any number.
+#[derive(Clone, Copy)]
+pub struct WorkerId {
+    pub number: u64,
+}
+
+/// A call of a client, by any number.
+#[derive(Clone, Copy)]
+pub struct CallId {
+    pub number: u64,
+}
+
+/// A piece of a job, counted from 0.
+#[derive(Clone, Copy)]
+pub struct PartIndex {
+    pub index: u32,
+}

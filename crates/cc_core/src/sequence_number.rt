@@ -1,0 +1,39 @@
+ghost use Rattle.std.specs.Prelude.{◌≡◌, ℕ, ◌+◌};
+ghost use Rattle.std.specs.Borrow.{ftrue};
+
+use std::marker::Model;
+
+/// The sequence number of a Begin among those that took a step, counted from 0 at the start.
+/// Contracts alone see it, as `value`, which has no upper end. It takes no bytes at run time.
+#[derive(Drop)]
+pub struct SequenceNumber {
+    pub ghost value: { ℕ },
+}
+
+// It owns nothing.
+impl Model for SequenceNumber {
+    ghost also_owns = { λ _. ftrue };
+}
+
+impl SequenceNumber {
+    /// The number of the first event.
+    pub(crate) fn first() -> SequenceNumber
+        ensures { result ≡ record { value = 0 } }
+    {
+        SequenceNumber {}
+    }
+
+    /// The number after this one.
+    pub(crate) fn next(&self) -> SequenceNumber
+        ensures { result ≡ record { value = self.now.value + 1 } }
+    {
+        SequenceNumber {}
+    }
+
+    /// This number once more.
+    pub(crate) fn same(&self) -> SequenceNumber
+        ensures { result ≡ self.now }
+    {
+        SequenceNumber {}
+    }
+}
