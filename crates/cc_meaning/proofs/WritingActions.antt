@@ -1,11 +1,12 @@
 -- An assignment: the index of what is written, the right side, and the write, which stands behind both.
 use Rattle.std.proofs.Common.{◌≡◌, ℕ, ◌+◌, ◌-◌, List, [], ◌∷◌, ◌++◌, length, set, Option, Result, Ok, Err, OnOk, refl, sym, ap, ◌∙◌, append_assoc}
 use Rattle.cc_syntax.specs.Tree.{Target, AtVariable, AtElement}
-use Rattle.cc_typing.specs.Resolve.{Environment, assignment_code}
-use Rattle.cc_typing.specs.Emitted.{index_code, write_of}
-use Rattle.cc_typing.specs.declared.form.BinaryOperation.{BinaryOperation}
-use Rattle.cc_typing.specs.declared.form.Instruction.{Instruction}
-use Rattle.cc_typing.proofs.ResolvingExpressions.{behind, set_behind}
+use Rattle.cc_resolve.specs.Environment.{Environment}
+use Rattle.cc_meaning.specs.internal.Form.{assignment_code}
+use Rattle.cc_meaning.specs.internal.Emitted.{index_code, write_of}
+use Rattle.cc_resolve.specs.declared.operations.BinaryOperation.{BinaryOperation}
+use Rattle.cc_meaning.specs.declared.form.Instruction.{Instruction}
+use Rattle.cc_meaning.proofs.WritingExpressions.{behind, set_behind}
 
 in-parts : (op : Option BinaryOperation) (v : Environment) (t : Target) (right : List Instruction) → (index_code v t ++ right) ++ write_of op v t ∷ [] ≡ assignment_code op v t right
 in-parts op v (AtVariable x) right = refl

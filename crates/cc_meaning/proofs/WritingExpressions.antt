@@ -5,11 +5,12 @@ use Rattle.cc_syntax.specs.declared.ast.BinaryOperator.{BinaryOperator}
 use Rattle.cc_syntax.specs.declared.ast.BinaryOperator.TheVariants as source
 use Rattle.cc_syntax.specs.Tree as tree
 use Rattle.cc_syntax.specs.Tree.{Name, Expr, Exprs}
-use Rattle.cc_typing.specs.Resolve.{Environment, call_of, joined, expression_code, arguments_code}
-use Rattle.cc_typing.specs.Emitted.{short_cut, some_code, operated}
-use Rattle.cc_typing.specs.declared.form.BinaryOperation.{BinaryOperation}
-use Rattle.cc_typing.specs.declared.form.Instruction.{Instruction}
-use Rattle.cc_typing.specs.declared.form.Instruction.TheVariants.{Binary, Truth, AndThen, OrElse}
+use Rattle.cc_resolve.specs.Environment.{Environment}
+use Rattle.cc_meaning.specs.internal.Form.{call_of, joined, expression_code, arguments_code}
+use Rattle.cc_meaning.specs.internal.Emitted.{short_cut, some_code, operated}
+use Rattle.cc_resolve.specs.declared.operations.BinaryOperation.{BinaryOperation}
+use Rattle.cc_meaning.specs.declared.form.Instruction.{Instruction}
+use Rattle.cc_meaning.specs.declared.form.Instruction.TheVariants.{Binary, Truth, AndThen, OrElse}
 
 -- a part, and what stood before it, in front of what stood at first
 pub behind : {A : Type 0} (xs ys old mid new : List A) → new ≡ xs ++ mid → mid ≡ ys ++ old → new ≡ (xs ++ ys) ++ old

@@ -7,13 +7,14 @@ use Rattle.cc_syntax.specs.Tree as tree
 use Rattle.cc_syntax.specs.declared.ast.Scalar.{Scalar}
 use Rattle.cc_syntax.specs.declared.ast.Declarator.{Declarator}
 use Rattle.cc_syntax.specs.declared.ast.Statement.{Statement}
-use Rattle.cc_typing.specs.Resolving.{exits_of}
-use Rattle.cc_typing.specs.Resolve as resolve
-use Rattle.cc_typing.specs.Resolve.{Environment, inner, with_local, with_locals, behind, further, initial_code, declared_code, exits_of_body, turns_code, statement_code, statements_code}
-use Rattle.cc_typing.specs.declared.form.Instruction.{Instruction}
-use Rattle.cc_typing.specs.declared.form.Instruction.TheVariants.{Clear, Step, Repeat}
-use Rattle.cc_typing.specs.declared.resolver.statements.Exits.{Exits}
-use Rattle.cc_typing.proofs.Emitting.{reverse-front}
+use Rattle.cc_meaning.specs.internal.Writing.{exits_of}
+use Rattle.cc_meaning.specs.internal.Form as code
+use Rattle.cc_resolve.specs.Environment.{Environment, inner, with_local, with_locals, behind}
+use Rattle.cc_meaning.specs.internal.Form.{further, initial_code, declared_code, exits_of_body, turns_code, statement_code, statements_code}
+use Rattle.cc_meaning.specs.declared.form.Instruction.{Instruction}
+use Rattle.cc_meaning.specs.declared.form.Instruction.TheVariants.{Clear, Step, Repeat}
+use Rattle.cc_meaning.specs.declared.writer.statements.Exits.{Exits}
+use Rattle.cc_meaning.proofs.Emitting.{reverse-front}
 
 -- ---- declarations
 
@@ -157,7 +158,7 @@ Writing-next x w all c0 v c s rest v' c' before en ec =
     }
 
 -- a statement that declares nothing in the scope around it, in the form in which it is met
-pub statement-is : (s met : tree.Stmt) (v w : Environment) (x : resolve.Exits) (c c' : List Instruction) → s ≡ met → v ≡ behind s w → behind met w ≡ w
+pub statement-is : (s met : tree.Stmt) (v w : Environment) (x : code.Exits) (c c' : List Instruction) → s ≡ met → v ≡ behind s w → behind met w ≡ w
     → c' ≡ statement_code v x met ++ c → c' ≡ statement_code w x s ++ c
 statement-is s met v w x c c' is e stays written =
     let same : v ≡ w = e ∙ ap (λ u. behind u w) is ∙ stays in

@@ -15,7 +15,7 @@ pub struct Emitter {
 
 impl Model for Emitter {
     ghost use Rattle.std.specs.Prelude.{List, reverse};
-    ghost use Rattle.cc_typing.specs.declared.form.Instruction.{Instruction};
+    ghost use Rattle.cc_meaning.specs.declared.form.Instruction.{Instruction};
 
     ghost Value = { List Instruction };
 

@@ -3,48 +3,7 @@
 // The arguments of a call are its callee's first variables, and stand where the caller left them on the stack; the other
 // variables follow, and above them the words of unfinished expressions. A jump skips so many instructions behind itself.
 
-/// An operation on one word.
-#[derive(Clone, Copy, PartialEq, Eq, Debug)]
-pub enum UnaryOperation {
-    Negate,
-    Complement,
-    IsZero,
-}
-
-/// An operation on two words.
-#[derive(Clone, Copy, PartialEq, Eq, Debug)]
-pub enum BinaryOperation {
-    Multiply,
-    DivideSigned,
-    DivideUnsigned,
-    RemainderSigned,
-    RemainderUnsigned,
-    Add,
-    Subtract,
-    ShiftLeft,
-    ShiftRightSigned,
-    ShiftRightUnsigned,
-    LessSigned,
-    LessUnsigned,
-    GreaterSigned,
-    GreaterUnsigned,
-    LessOrEqualSigned,
-    LessOrEqualUnsigned,
-    GreaterOrEqualSigned,
-    GreaterOrEqualUnsigned,
-    Equal,
-    NotEqual,
-    And,
-    Xor,
-    Or,
-}
-
-/// Where an array's words are among those of all objects: the number of the first one, and how many there are.
-#[derive(Clone, Copy, PartialEq, Eq, Debug)]
-pub struct Extent {
-    pub place: usize,
-    pub length: usize,
-}
+use cc_resolve::{BinaryOperation, Extent, UnaryOperation};
 
 /// One step of an interpreter over a stack of words.
 #[derive(Clone, Copy, PartialEq, Eq, Debug)]

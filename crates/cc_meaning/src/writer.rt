@@ -1,16 +1,13 @@
 // From a tree to its resolved form: instructions over a stack of words, with numbers in place of names.
 //
-// `places` has where the names of file scope lead, and `environment` where a statement stands. `expressions`, `actions`,
-// `declarations` and `statements` write the instructions of a function, from the last one to the first; `objects` has the
-// words of objects and `units` puts functions and objects together. What a walk reads (`names`) and what it writes
-// (`code`) are two parameters.
+// `access` has the instructions that a name becomes. `expressions`, `actions`, `declarations` and `statements` write the
+// instructions of a function, from the last one to the first, and `units` puts functions and objects together. What a walk
+// reads (`names`) and what it writes (`code`) are two parameters.
 
+mod access;
 mod actions;
 mod declarations;
-mod environment;
 mod expressions;
-mod objects;
-mod places;
 mod statements;
 mod units;
 

@@ -6,15 +6,12 @@ use Rattle.indexmap.specs.IndexMap.{IndexMap, get, Updates}
 use Rattle.cc_typing.specs.Names.{same_name}
 use Rattle.cc_typing.specs.Entities.{names_in}
 use Rattle.cc_typing.specs.Scope as scope
-use Rattle.cc_typing.specs.Scope.{Visible}
 use Rattle.cc_typing.specs.Bindings as bindings
 use Rattle.cc_typing.specs.Bindings.{same_key}
-use Rattle.cc_typing.specs.Places.{first_of, IsNumbering, placed, local_names}
-use Rattle.cc_typing.specs.Resolve.{Placed, Places, Environment, extent_of, names_before, number_in, load, store_of}
-use Rattle.cc_typing.specs.declared.form.BinaryOperation.{BinaryOperation}
-use Rattle.cc_typing.specs.declared.form.Extent.{Extent}
-use Rattle.cc_typing.specs.declared.form.Instruction.{Instruction}
-use Rattle.cc_typing.specs.declared.form.Instruction.TheVariants.{Local, Global, SetLocal, SetGlobal, UpdateLocal, UpdateGlobal}
+use Rattle.cc_resolve.specs.Numberings.{first_of, IsNumbering, laid_objects, local_names}
+use Rattle.cc_resolve.specs.Layout.{LaidObject, extent_of, names_before}
+use Rattle.cc_resolve.specs.Environment.{number_in}
+use Rattle.cc_resolve.specs.declared.layout.Extent.{Extent}
 
 -- ---- one name more
 
@@ -97,31 +94,31 @@ names_before-is xs x r e = ap (λ k. or_length k (length xs)) e ∙ sym (names_b
 
 -- ---- objects
 
-pub placed-push : (xs : List (List ℕ)) (es : List Extent) (x : List ℕ) (e : Extent) → length xs ≡ length es → placed (xs ++ x ∷ []) (es ++ e ∷ []) ≡ placed xs es ++ record { name = x; extent = e } ∷ []
-placed-push [] [] x e h = refl
-placed-push [] (k ∷ es) x e h = absurd (omega arith)
-placed-push (y ∷ xs) [] x e h = absurd (omega arith)
-placed-push (y ∷ xs) (k ∷ es) x e h = ap (λ (l : List Placed). record { name = y; extent = k } ∷ l) (placed-push xs es x e (omega arith))
+pub laid_objects-push : (xs : List (List ℕ)) (es : List Extent) (x : List ℕ) (e : Extent) → length xs ≡ length es → laid_objects (xs ++ x ∷ []) (es ++ e ∷ []) ≡ laid_objects xs es ++ record { name = x; extent = e } ∷ []
+laid_objects-push [] [] x e h = refl
+laid_objects-push [] (k ∷ es) x e h = absurd (omega arith)
+laid_objects-push (y ∷ xs) [] x e h = absurd (omega arith)
+laid_objects-push (y ∷ xs) (k ∷ es) x e h = ap (λ (l : List LaidObject). record { name = y; extent = k } ∷ l) (laid_objects-push xs es x e (omega arith))
 
 -- the words of the object with a number
 abbrev pub extent_at : List Extent → Option ℕ → Extent
-extent_at es None = record { place = 0; length = 0 }
-extent_at es (Some i) = get_or es i (record { place = 0; length = 0 })
+extent_at es None = record { offset = 0; length = 0 }
+extent_at es (Some i) = get_or es i (record { offset = 0; length = 0 })
 
 extent_at-suc : (e : Extent) (es : List Extent) (r : Option ℕ) → extent_at es r ≡ extent_at (e ∷ es) (option_map suc r)
 extent_at-suc e es None = refl
 extent_at-suc e es (Some i) = refl
 
-extent_of-first : (xs : List (List ℕ)) (es : List Extent) (x : List ℕ) → length xs ≡ length es → extent_of (placed xs es) x ≡ extent_at es (first_of xs x)
+extent_of-first : (xs : List (List ℕ)) (es : List Extent) (x : List ℕ) → length xs ≡ length es → extent_of (laid_objects xs es) x ≡ extent_at es (first_of xs x)
 extent_of-first [] es x h = refl
 extent_of-first (y ∷ xs) [] x h = absurd (omega arith)
 extent_of-first (y ∷ xs) (e ∷ es) x h = by (same_name y x) (extent_of-first xs es x (omega arith))
   where
-    by : (c : Bool) → extent_of (placed xs es) x ≡ extent_at es (first_of xs x) → cond c e (extent_of (placed xs es) x) ≡ extent_at (e ∷ es) (cond c (Some 0) (option_map suc (first_of xs x)))
+    by : (c : Bool) → extent_of (laid_objects xs es) x ≡ extent_at es (first_of xs x) → cond c e (extent_of (laid_objects xs es) x) ≡ extent_at (e ∷ es) (cond c (Some 0) (option_map suc (first_of xs x)))
     by true k = refl
     by false k = k ∙ extent_at-suc e es (first_of xs x)
 
-pub extent_of-is : (xs : List (List ℕ)) (es : List Extent) (x : List ℕ) (r : Option ℕ) → length xs ≡ length es → r ≡ first_of xs x → extent_at es r ≡ extent_of (placed xs es) x
+pub extent_of-is : (xs : List (List ℕ)) (es : List Extent) (x : List ℕ) (r : Option ℕ) → length xs ≡ length es → r ≡ first_of xs x → extent_at es r ≡ extent_of (laid_objects xs es) x
 extent_of-is xs es x r h e = ap (extent_at es) e ∙ sym (extent_of-first xs es x h)
 
 first_of-below : (xs : List (List ℕ)) (x : List ℕ) (i : ℕ) → Some i ≡ first_of xs x → i < length xs
@@ -139,7 +136,7 @@ extent-inside xs es x i h e = let below : i < length xs = first_of-below xs x i 
 -- ---- locals
 
 -- the locals' numbers depend on their names alone
-number_in-names : (bs : List scope.Binding) (x : List ℕ) → bindings.number_in bs x ≡ number_in (local_names bs) x
+pub number_in-names : (bs : List scope.Binding) (x : List ℕ) → bindings.number_in bs x ≡ number_in (local_names bs) x
 number_in-names [] x = refl
 number_in-names (b ∷ bs) x = by (same_name b.name x) (number_in-names bs x)
   where
@@ -151,35 +148,7 @@ number_in-names (b ∷ bs) x = by (same_name b.name x) (number_in-names bs x)
     by true e = ap Some (long bs)
     by false e = e
 
--- a variable by its number
-abbrev pub load_at : Environment → List ℕ → Option ℕ → Instruction
-load_at v x None = Global (extent_of v.places.objects x).place
-load_at v x (Some i) = Local i
-
-abbrev pub store_at : Option BinaryOperation → Environment → List ℕ → Option ℕ → Instruction
-store_at None v x None = SetGlobal (extent_of v.places.objects x).place
-store_at None v x (Some i) = SetLocal i
-store_at (Some op) v x None = UpdateGlobal op (extent_of v.places.objects x).place
-store_at (Some op) v x (Some i) = UpdateLocal op i
-
 -- a result that is no error
 pub when_ok : {A E : Type 0} {P : Type 0} (r : Result A E) → OnOk r P → is_err r ≡ false → P
 when_ok (Ok a) p h = p
 when_ok (Err e) p h = absurd (let no : true ≡ false = h in cc)
-
-module _ (s : Visible) (bs : List scope.Binding) (p : Places) (x : List ℕ) where
-  abbrev pub here : Environment
-  here = record { visible = s; locals = local_names bs; places = p }
-
-  load-here : load_at here x (number_in (local_names bs) x) ≡ load here x
-  load-here = refl
-
-  store-here : (op : Option BinaryOperation) → store_at op here x (number_in (local_names bs) x) ≡ store_of op here x
-  store-here None = refl
-  store-here (Some o) = refl
-
-  pub load-is : (v : Environment) (r : Option ℕ) → here ≡ v → r ≡ bindings.number_in bs x → load_at here x r ≡ load v x
-  load-is v r ev er = ap (load_at here x) (er ∙ number_in-names bs x) ∙ load-here ∙ ap (λ w. load w x) ev
-
-  pub store-is : (op op' : Option BinaryOperation) (v : Environment) (r : Option ℕ) → here ≡ v → r ≡ bindings.number_in bs x → op' ≡ op → store_at op here x r ≡ store_of op' v x
-  store-is op op' v r ev er eo = ap (store_at op here x) (er ∙ number_in-names bs x) ∙ store-here op ∙ ap (λ w. store_of op w x) ev ∙ ap (λ o. store_of o v x) (sym eo)

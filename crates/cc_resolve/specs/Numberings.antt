@@ -5,9 +5,9 @@ use Rattle.indexmap.specs.IndexMap.{IndexMap, get}
 use Rattle.cc_typing.specs.Names.{same_name}
 use Rattle.cc_typing.specs.Bindings.{same_key}
 use Rattle.cc_typing.specs.Entities.{names_in}
-use Rattle.cc_typing.specs.Resolve.{Placed}
+use Rattle.cc_resolve.specs.Layout.{LaidObject}
 use Rattle.cc_typing.specs.Scope as scope
-use Rattle.cc_typing.specs.declared.form.Extent.{Extent}
+use Rattle.cc_resolve.specs.declared.layout.Extent.{Extent}
 
 -- how many names stand before a name, where it is one of them
 abbrev pub first_of : List (List ℕ) → List ℕ → Option ℕ
@@ -19,9 +19,9 @@ abbrev pub IsNumbering : {S : Type 0} → List (Bor (List ℕ)) → IndexMap (Bo
 IsNumbering names numbers = (x : Bor (List ℕ)) → get same_key numbers x ≡ first_of (names_in names) x.now
 
 -- objects, of their names and where their words are
-abbrev pub placed : List (List ℕ) → List Extent → List Placed
-placed (x ∷ names) (e ∷ extents) = record { name = x; extent = e } ∷ placed names extents
-placed names extents = []
+abbrev pub laid_objects : List (List ℕ) → List Extent → List LaidObject
+laid_objects (x ∷ names) (e ∷ extents) = record { name = x; extent = e } ∷ laid_objects names extents
+laid_objects names extents = []
 
 -- the names of the locals in scope
 abbrev pub local_names : List scope.Binding → List (List ℕ)

@@ -6,14 +6,12 @@ ghost use Rattle.cc_typing.specs.Scope.{parameter_declared, with_declared, first
 ghost use Rattle.cc_typing.specs.Entities.{entity_of};
 ghost use Rattle.cc_typing.specs.Bindings.{closed, file_level};
 ghost use Rattle.cc_typing.specs.Types.{variable_type, element_type, result_type, or_int};
-ghost use Rattle.cc_typing.specs.Resolve.{inner, with_local, types_in, extent_of, names_before, load, call_of, store_of, store_element_of};
+ghost use Rattle.cc_resolve.specs.Environment.{inner, number_in, with_local, types_in};
+ghost use Rattle.cc_resolve.specs.Layout.{extent_of, names_before};
 
-use super::places::Places;
-use crate::bindings::Bindings;
-use crate::entity::Entity;
-use crate::form::{BinaryOperation, Extent, Instruction};
-use crate::scope::{READ_WORD, Scope, WRITE_WORD};
+use super::layout::{Extent, Layout};
 use cc_syntax::{Parameter, Scalar};
+use cc_typing::{Bindings, Entity, Scope};
 use std::alloc::{AllocError, Global};
 use std::marker::Model;
 
@@ -24,28 +22,28 @@ const UNNAMED: &[u8] = b"";
 pub struct Environment<'a> {
     visible: Scope<'a>,
     locals: Bindings<'a>,
-    places: Places<'a>,
+    layout: Layout<'a>,
 }
 
 impl<'a> Model for Environment<'a> {
-    ghost use Rattle.cc_typing.specs.Resolve as resolve;
-    ghost use Rattle.cc_typing.specs.Places.{local_names};
+    ghost use Rattle.cc_resolve.specs.Environment as environment;
+    ghost use Rattle.cc_resolve.specs.Numberings.{local_names};
 
-    ghost Value = { resolve.Environment };
+    ghost Value = { environment.Environment };
 
-    ghost view = { λ e. record { visible = e.visible; locals = local_names e.locals; places = e.places } };
+    ghost view = { λ e. record { visible = e.visible; locals = local_names e.locals; layout = e.layout } };
 }
 
 impl<'a> Environment<'a> {
     /// File scope at the start of a text: the builtins, and no local.
-    pub fn new(alloc: Global, places: Places<'a>) -> Result<Environment<'a>, AllocError>
-        ensures { IfOk result (λ v. v ≡ record { visible = file_level first_file_scope.bindings; locals = []; places = places.entry }) }
+    pub fn new(alloc: Global, layout: Layout<'a>) -> Result<Environment<'a>, AllocError>
+        ensures { IfOk result (λ v. v ≡ record { visible = file_level first_file_scope.bindings; locals = []; layout = layout.entry }) }
     {
         let visible = Scope::new(alloc)?;
         Ok(Environment {
             visible,
             locals: Bindings::new(alloc),
-            places,
+            layout,
         })
     }
 
@@ -120,13 +118,6 @@ impl<'a> Environment<'a> {
         self.locals.len()
     }
 
-    /// The number of a function, in the order of definitions; of another name, how many functions there are.
-    pub fn function(&self, name: &[u8]) -> usize
-        ensures { result ≡ names_before self.now.places.functions name.now }
-    {
-        self.places.function(name)
-    }
-
     /// The type of a variable's value; a name that is no variable counts as one of type `int`.
     pub fn variable_type(&self, name: &[u8]) -> Scalar
         ensures { result ≡ variable_type (found (types_in self.now) name.now) }
@@ -160,63 +151,27 @@ impl<'a> Environment<'a> {
         }
     }
 
-    /// Where an array's words are.
-    pub fn array(&self, name: &[u8]) -> Extent
-        ensures { result ≡ extent_of self.now.places.objects name.now }
-    {
-        self.places.extent(name)
-    }
-
-    /// What pushes the value of a variable.
-    pub fn load(&self, name: &[u8]) -> Instruction
-        ensures { result ≡ load self.now name.now }
+    /// The number of the local that a name is, where it is one: how many were in scope when it was declared.
+    pub fn local(&self, name: &[u8]) -> Option<usize>
+        ensures { result ≡ number_in self.now.locals name.now }
     {
         match self.locals.find(name) {
-            Some(newest) => Instruction::Local(newest.number),
-            None => Instruction::Global(self.places.extent(name).place),
+            Some(newest) => Some(newest.number),
+            None => None,
         }
     }
 
-    /// What takes a word into a variable, or applies an operation to the variable's old value and the word.
-    pub fn store(&self, applied: Option<BinaryOperation>, name: &[u8]) -> Instruction
-        ensures { result ≡ store_of applied self.now name.now }
+    /// Where the words of the object of a name are; of another name none, at offset 0. A local of that name does not hide it.
+    pub fn object(&self, name: &[u8]) -> Extent
+        ensures { result ≡ extent_of self.now.layout.objects name.now }
     {
-        match self.locals.find(name) {
-            Some(newest) => match applied {
-                None => Instruction::SetLocal(newest.number),
-                Some(operation) => Instruction::UpdateLocal(operation, newest.number),
-            },
-            None => {
-                let place = self.places.extent(name).place;
-                match applied {
-                    None => Instruction::SetGlobal(place),
-                    Some(operation) => Instruction::UpdateGlobal(operation, place),
-                }
-            }
-        }
+        self.layout.extent(name)
     }
 
-    /// The same of an array's element, whose index stands below the word.
-    pub fn store_element(&self, applied: Option<BinaryOperation>, name: &[u8]) -> Instruction
-        ensures { result ≡ store_element_of applied self.now name.now }
+    /// The number of a function, in the order of definitions; of another name, how many functions there are.
+    pub fn function(&self, name: &[u8]) -> usize
+        ensures { result ≡ names_before self.now.layout.functions name.now }
     {
-        let extent = self.places.extent(name);
-        match applied {
-            None => Instruction::SetElement(extent),
-            Some(operation) => Instruction::UpdateElement(operation, extent),
-        }
-    }
-
-    /// What calls a function whose arguments are pushed.
-    pub fn call(&self, name: &[u8]) -> Instruction
-        ensures { result ≡ call_of self.now name.now }
-    {
-        if WRITE_WORD == name {
-            Instruction::Write
-        } else if READ_WORD == name {
-            Instruction::Read
-        } else {
-            Instruction::Call(self.places.function(name))
-        }
+        self.layout.function(name)
     }
 }

@@ -5,18 +5,15 @@ ghost use Rattle.cc_syntax.specs.Erase.{constant_tree, constant_trees, optional_
 ghost use Rattle.cc_syntax.specs.Tree as tree;
 ghost use Rattle.cc_typing.specs.Bindings.{file_level, file_of};
 ghost use Rattle.cc_typing.specs.Limits.{object_name};
-ghost use Rattle.cc_typing.specs.Resolve.{placed_from, all_words};
-ghost use Rattle.cc_typing.specs.Resolving.{place_behind};
+ghost use Rattle.cc_resolve.specs.Layout.{laid_from, all_words};
+ghost use Rattle.cc_resolve.specs.internal.Laying.{offset_behind};
 ghost use Rattle.cc_typing.specs.Scope.{with_object, with_objects};
 ghost use Rattle.cc_typing.specs.Types.{initial_word, initial_words, object_words};
 
 use super::environment::Environment;
-use super::places::Places;
-use crate::constants::{array_length, constant_word};
-use crate::entity::Entity;
-use crate::form::Extent;
-use crate::limits::object_words;
+use super::layout::{Extent, Layout};
 use cc_syntax::{ConstantExpression, Object, Scalar};
+use cc_typing::{Entity, array_length, constant_word, object_words};
 use std::alloc::AllocError;
 
 // ---- words
@@ -76,7 +73,7 @@ fn add_words(words: &mut Vec<u32>, tree: &Object) -> Result<(), AllocError>
     }
 }
 
-// ---- places
+// ---- offsets
 
 fn object_name(tree: &Object) -> &[u8]
     ensures { result.now ≡ (object_name (object_tree tree.now)).text }
@@ -86,45 +83,45 @@ fn object_name(tree: &Object) -> &[u8]
     }
 }
 
-// Adds an object whose words begin at a place, and answers the place behind them. Its words stand behind others, which are
-// no fewer than the places before.
+// Adds an object whose words begin at an offset, and answers the offset behind them. Its words stand behind others, which are
+// no fewer than the words before it.
 fn add_object<'a>(
-    places: &mut Places<'a>,
+    layout: &mut Layout<'a>,
     words: &mut Vec<u32>,
-    place: usize,
+    offset: usize,
     tree: &'a Object,
 ) -> Result<usize, AllocError>
-    requires { place ≤ length words.old.items }
-    ensures places { OnOk result (places.new ≡ record places.old {
-      objects = places.old.objects ++ record { name = (object_name (object_tree tree.now)).text; extent = record { place = place; length = object_words (object_tree tree.now) } } ∷ [];
+    requires { offset ≤ length words.old.items }
+    ensures layout { OnOk result (layout.new ≡ record layout.old {
+      objects = layout.old.objects ++ record { name = (object_name (object_tree tree.now)).text; extent = record { offset = offset; length = object_words (object_tree tree.now) } } ∷ [];
     }) }
     ensures words { OnOk result (words.new.items ≡ words.old.items ++ initial_words (object_tree tree.now)) }
-    ensures behind { IfOk result (λ n. n ≡ place + object_words (object_tree tree.now)) }
+    ensures behind { IfOk result (λ n. n ≡ offset + object_words (object_tree tree.now)) }
     ensures fits { IfOk result (λ n. n ≤ length words.new.items) }
 {
     let length = object_words(tree);
     add_words(words, tree)?;
-    places.add_object(object_name(tree), Extent { place, length })?;
-    Ok(place + length)
+    layout.add_object(object_name(tree), Extent { offset, length })?;
+    Ok(offset + length)
 }
 
-/// Adds objects, of which the first begins at a place, and answers the place behind them. Their words stand behind others,
-/// which are no fewer than the places before.
+/// Adds objects, of which the first begins at an offset, and answers the offset behind them. Their words stand behind others,
+/// which are no fewer than the words before it.
 pub fn add_objects<'a>(
-    places: &mut Places<'a>,
+    layout: &mut Layout<'a>,
     words: &mut Vec<u32>,
-    place: usize,
+    offset: usize,
     trees: &'a [Object],
 ) -> Result<usize, AllocError>
-    requires { place ≤ length words.old.items }
-    ensures places { OnOk result (places.new ≡ record places.old { objects = places.old.objects ++ placed_from place (object_trees trees.now) }) }
+    requires { offset ≤ length words.old.items }
+    ensures layout { OnOk result (layout.new ≡ record layout.old { objects = layout.old.objects ++ laid_from offset (object_trees trees.now) }) }
     ensures words { OnOk result (words.new.items ≡ words.old.items ++ all_words (object_trees trees.now)) }
-    ensures behind { IfOk result (λ n. n ≡ place_behind place (object_trees trees.now)) }
+    ensures behind { IfOk result (λ n. n ≡ offset_behind offset (object_trees trees.now)) }
     ensures fits { IfOk result (λ n. n ≤ length words.new.items) }
 {
-    let mut behind = place;
+    let mut behind = offset;
     for tree in trees {
-        behind = add_object(places, words, behind, tree)?;
+        behind = add_object(layout, words, behind, tree)?;
     }
     Ok(behind)
 }

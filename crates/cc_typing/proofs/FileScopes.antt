@@ -5,7 +5,7 @@ use Rattle.cc_syntax.specs.declared.ast.Scalar.{Scalar}
 use Rattle.cc_syntax.specs.Tree as tree
 use Rattle.cc_syntax.specs.Tree.{Parameter, Signature, Object, Single, Array, External, Declaration, Definition, Objects, Stmts, ConstantExpr}
 use Rattle.cc_typing.specs.Bindings.{closed, file_level, file_of, file_with}
-use Rattle.cc_typing.specs.Findings.{Found, after, is_bad_length}
+use Rattle.cc_typing.specs.internal.Findings.{Found, after, is_bad_length}
 use Rattle.cc_typing.specs.Names.{same_name}
 use Rattle.cc_typing.specs.Scope.{Elements, Binding, Visible, in_scope, is_declared, FileScope, has_name, with_declared, with_function, with_object, with_objects, parameter_declared, parameters_declared, body_scope, file_scope_behind}
 use Rattle.cc_typing.specs.Rules.{Around, broken_if, optional_constant_offences, constants_offences, length_offences, object_offences, objects_offences, parameter_offences, parameters_offences, signature_offences, external_offences, externals_offences, statements_offences, called_in_constants, called_in_optional_constant, called_in_object, called_in_objects, called_in_external, called, called_in_statements}

@@ -3,7 +3,7 @@ use Rattle.std.proofs.Common.{◌≡◌, ℕ, true, false, List, [], ◌∷◌, 
 use Rattle.cc_syntax.specs.Tree.{Name}
 use Rattle.cc_typing.specs.Rules.{undefined_among, broken_if}
 use Rattle.cc_typing.specs.Scope.{has_name}
-use Rattle.cc_typing.specs.Findings.{Found, earlier, noted, after}
+use Rattle.cc_typing.specs.internal.Findings.{Found, earlier, noted, after}
 use Rattle.cc_typing.specs.declared.rule.Offence.{Offence}
 use Rattle.cc_typing.specs.declared.rule.Rule.TheVariants.{Undefined}
 use Rattle.std.specs.Prelude.{not}

@@ -5,7 +5,7 @@ use Rattle.cc_syntax.specs.declared.ast.Scalar.{Scalar}
 use Rattle.cc_syntax.specs.Tree as tree
 use Rattle.cc_syntax.specs.Tree.{Expr, Declared, Start, Action, Stmt, Stmts, next, If, IfElse, While, DoWhile, For, Declares, Performs}
 use Rattle.cc_typing.specs.Bindings.{closed}
-use Rattle.cc_typing.specs.Findings.{Found, after, declarator_offences, is_bad_return}
+use Rattle.cc_typing.specs.internal.Findings.{Found, after, declarator_offences, is_bad_return}
 use Rattle.cc_typing.specs.Scope.{Variable, Binding, Visible, in_scope, opened, declared, is_declared, all_declared, scope_behind, scope_behind_start}
 use Rattle.cc_typing.specs.Rules.{broken_if, Around, within_loop, value_offences, optional_offences, optional_action_offences, declared_offences, start_offences, return_offences, statement_offences, statements_offences, called_in, called_in_optional, called_in_optional_action, called_in_declared, called_in_start, called_in_statement, called_in_statements}
 use Rattle.cc_typing.specs.declared.rule.Offence.{Offence}

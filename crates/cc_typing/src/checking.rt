@@ -4,12 +4,12 @@ ghost use Rattle.std.specs.Prelude.{◌≡◌, ◌⊎◌, ℕ, List, None, IfOk,
 ghost use Rattle.cc_syntax.specs.Source.{source};
 ghost use Rattle.cc_syntax.specs.Place.{place_of};
 ghost use Rattle.cc_syntax.specs.Erase.{external_tree, external_trees};
-ghost use Rattle.cc_typing.specs.Counts.{defined_after};
+ghost use Rattle.cc_typing.specs.internal.Counts.{defined_after};
 ghost use Rattle.cc_typing.specs.Fault.{fault_of};
-ghost use Rattle.cc_typing.specs.Findings.{noted};
+ghost use Rattle.cc_typing.specs.internal.Findings.{noted};
 ghost use Rattle.cc_typing.specs.Rules.{offences, is_main, defines_main, undefined_calls};
 ghost use Rattle.cc_typing.specs.Scope.{has_name, first_file_scope, file_scope_behind_all};
-ghost use Rattle.cc_typing.specs.Typed.{IsTyped, IsWithinLimits, IsRefusal, all_offences};
+ghost use Rattle.cc_typing.specs.Typed.{IsTyped, IsWithinLimits, IsTypeRefusal, all_offences};
 
 use super::entity::same_result;
 use super::externals::all_externals;
@@ -17,7 +17,6 @@ use super::fault::TypeFault;
 use super::findings::Findings;
 use super::limits::with_excesses;
 use super::names::Names;
-use super::resolver::resolve;
 use super::rule::{Offence, Rule};
 use super::scope::{READ_WORD, Scope, WRITE_WORD};
 use super::typed::TypedUnit;
@@ -35,7 +34,7 @@ pub fn check(alloc: Global, unit: Unit) -> Result<TypedUnit, TypeFault>
     ensures unit { IfOk result (λ t. t ≡ unit) }
     ensures typed { OnOk result (IsTyped (source unit).externals) }
     ensures limits { OnOk result (IsWithinLimits (source unit).externals) }
-    ensures refused { IfErr result (λ f. (f ≡ TypeFault.OutOfMemory) ⊎ IsRefusal (source unit) f) }
+    ensures refused { IfErr result (λ f. (f ≡ TypeFault.OutOfMemory) ⊎ IsTypeRefusal (source unit) f) }
 {
     let found = first_offences(alloc, unit.externals())?;
     if let Some(offence) = found.first {
@@ -50,8 +49,7 @@ pub fn check(alloc: Global, unit: Unit) -> Result<TypedUnit, TypeFault>
         let place = place_in(unit.text(), offence.at);
         return Err(fault(offence.rule, place));
     }
-    let form = resolve(alloc, unit.externals())?;
-    Ok(TypedUnit::new(unit, form))
+    Ok(TypedUnit::new(unit))
 }
 
 // The first offence, limits among them, and the first call of a function that is not defined.

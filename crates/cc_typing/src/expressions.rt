@@ -6,7 +6,7 @@
 ghost use Rattle.std.specs.Prelude.{◌≡◌, ◌==◌, [], not, length};
 ghost use Rattle.cc_syntax.specs.Erase.{expression_tree, expressions_of, optional_tree, target_tree, action_tree, optional_action};
 ghost use Rattle.cc_typing.specs.Entities.{optional_entity};
-ghost use Rattle.cc_typing.specs.Findings.{after};
+ghost use Rattle.cc_typing.specs.internal.Findings.{after};
 ghost use Rattle.cc_typing.specs.declared.rule.Rule.TheVariants.{WrongCount};
 ghost use Rattle.cc_typing.specs.Types.{result_type};
 ghost use Rattle.cc_typing.specs.Rules.{broken_if, variable_offences, array_offences, function_offences, void_offences, expression_offences, argument_offences, value_offences, optional_offences, target_offences, action_offences, optional_action_offences, called_in, called_in_all, called_in_optional, called_in_target, called_in_action, called_in_optional_action};

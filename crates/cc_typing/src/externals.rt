@@ -3,7 +3,7 @@
 ghost use Rattle.std.specs.Prelude.{◌≡◌, ℕ, List, [], length, option_map, OnOk};
 ghost use Rattle.cc_syntax.specs.Erase.{constant_tree, optional_constant, constant_trees, object_tree, object_trees, parameter_tree, parameter_trees, signature_tree, external_tree, external_trees};
 ghost use Rattle.cc_typing.specs.Bindings.{file_level, file_of, file_with};
-ghost use Rattle.cc_typing.specs.Findings.{after, is_bad_length};
+ghost use Rattle.cc_typing.specs.internal.Findings.{after, is_bad_length};
 ghost use Rattle.cc_typing.specs.Rules.{constant_offences, optional_constant_offences, constants_offences, object_offences, objects_offences, parameter_offences, parameters_offences, signature_offences, external_offences, externals_offences, called_in_constant, called_in_optional_constant, called_in_constants, called_in_object, called_in_objects, called_in_external, called};
 ghost use Rattle.cc_typing.specs.Scope.{in_scope, has_name, with_object, with_objects, parameter_declared, parameters_declared, body_scope, file_scope_behind};
 

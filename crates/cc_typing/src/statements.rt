@@ -5,7 +5,7 @@
 ghost use Rattle.std.specs.Prelude.{◌≡◌, OnOk};
 ghost use Rattle.cc_syntax.specs.Erase.{expression_tree, optional_tree, optional_action, declarator_tree, declarator_trees, beginning_tree, statement_tree, statements_of};
 ghost use Rattle.cc_syntax.specs.Tree as tree;
-ghost use Rattle.cc_typing.specs.Findings.{after, around_of, declarator_offences, is_bad_return};
+ghost use Rattle.cc_typing.specs.internal.Findings.{after, around_of, declarator_offences, is_bad_return};
 ghost use Rattle.cc_typing.specs.Rules.{within_loop, declared_offences, start_offences, return_offences, statement_offences, statements_offences, called_in_optional, called_in_declared, called_in_start, called_in_statement, called_in_statements};
 ghost use Rattle.cc_typing.specs.Scope.{Variable, in_scope, opened, declared, all_declared, scope_behind, scope_behind_start};
 

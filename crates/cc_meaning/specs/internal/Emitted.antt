@@ -3,10 +3,11 @@ use Rattle.std.specs.Prelude.{ℕ, ◌+◌, ◌-◌, List, [], ◌∷◌, length
 use Rattle.cc_syntax.specs.Tree.{Target, AtVariable, AtElement}
 use Rattle.cc_syntax.specs.declared.ast.BinaryOperator.{BinaryOperator}
 use Rattle.cc_syntax.specs.declared.ast.BinaryOperator.TheVariants.{LogicalAnd, LogicalOr}
-use Rattle.cc_typing.specs.Resolve.{Environment, expression_code, store_of, store_element_of}
-use Rattle.cc_typing.specs.declared.form.BinaryOperation.{BinaryOperation}
-use Rattle.cc_typing.specs.declared.form.Instruction.{Instruction}
-use Rattle.cc_typing.specs.declared.form.Instruction.TheVariants.{Binary, AndThen, OrElse}
+use Rattle.cc_resolve.specs.Environment.{Environment}
+use Rattle.cc_meaning.specs.internal.Form.{expression_code, store_of, store_element_of}
+use Rattle.cc_resolve.specs.declared.operations.BinaryOperation.{BinaryOperation}
+use Rattle.cc_meaning.specs.declared.form.Instruction.{Instruction}
+use Rattle.cc_meaning.specs.declared.form.Instruction.TheVariants.{Binary, AndThen, OrElse}
 
 -- what skips a right operand of so many instructions, where the operator may not need it
 abbrev pub short_cut : BinaryOperator → ℕ → Option Instruction

@@ -4,17 +4,19 @@ ghost use Rattle.std.specs.Prelude.{◌≡◌, ◌++◌, OnOk};
 ghost use Rattle.cc_syntax.specs.Tree as tree;
 ghost use Rattle.cc_syntax.specs.Erase.{expression_tree, target_tree, action_tree, optional_action};
 ghost use Rattle.cc_typing.specs.Types.{target_type};
-ghost use Rattle.cc_typing.specs.Resolve.{types_in, applied, action_code, optional_action_code};
-ghost use Rattle.cc_typing.specs.Emitted.{index_code, write_of};
+ghost use Rattle.cc_resolve.specs.Environment.{types_in};
+ghost use Rattle.cc_meaning.specs.internal.Form.{applied, action_code, optional_action_code};
+ghost use Rattle.cc_meaning.specs.internal.Emitted.{index_code, write_of};
 
-use super::environment::Environment;
+use super::access::{store, store_element};
 use super::expressions::expression;
 use crate::emitter::Emitter;
-use crate::form::{BinaryOperation, Instruction};
-use crate::operators::{applied_operator, operation, step_operator, working_type};
+use crate::form::Instruction;
+use cc_resolve::{BinaryOperation, Environment, operation};
 use cc_syntax::{
     Action, AssignmentOperator, BinaryOperator, Expression, Scalar, StepOperator, Target,
 };
+use cc_typing::{applied_operator, step_operator, working_type};
 use std::alloc::AllocError;
 
 // The operation that an assignment applies, of a target and a right side of these types.
@@ -43,11 +45,11 @@ fn write(
     match target {
         Target::Variable(name) => {
             let scalar = names.variable_type(name.bytes.as_slice());
-            names.store(applied(operator, scalar, right), name.bytes.as_slice())
+            store(names, applied(operator, scalar, right), name.bytes.as_slice())
         }
         Target::Element(name, _) => {
             let scalar = names.element_type(name.bytes.as_slice());
-            names.store_element(applied(operator, scalar, right), name.bytes.as_slice())
+            store_element(names, applied(operator, scalar, right), name.bytes.as_slice())
         }
     }
 }

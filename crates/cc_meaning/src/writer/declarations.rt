@@ -6,46 +6,18 @@
 ghost use Rattle.std.specs.Prelude.{◌≡◌, ◌∷◌, ◌++◌, length, OnOk};
 ghost use Rattle.cc_syntax.specs.Erase.{optional_tree, declarator_trees, beginning_tree};
 ghost use Rattle.cc_syntax.specs.declared.ast.Scalar.{Scalar};
-ghost use Rattle.cc_typing.specs.Resolve as resolve;
-ghost use Rattle.cc_typing.specs.Resolve.{with_local, with_locals, behind_start, initial_code, declared_code, start_code};
-ghost use Rattle.cc_typing.specs.declared.form.Instruction.TheVariants.{Clear};
+ghost use Rattle.cc_resolve.specs.Environment as resolve;
+ghost use Rattle.cc_resolve.specs.Environment.{with_local, with_locals, behind_start};
+ghost use Rattle.cc_meaning.specs.internal.Form.{initial_code, declared_code, start_code};
+ghost use Rattle.cc_meaning.specs.declared.form.Instruction.TheVariants.{Clear};
 
 use super::actions::optional_action;
-use super::environment::Environment;
 use super::expressions::expression;
 use crate::emitter::Emitter;
 use crate::form::Instruction;
+use cc_resolve::Environment;
 use cc_syntax::{Beginning, Declarator, Scalar};
 use std::alloc::AllocError;
-
-/// Brings the names of a declaration into scope.
-pub fn declare_names<'a>(
-    names: &mut Environment<'a>,
-    scalar: Scalar,
-    trees: &'a [Declarator],
-) -> Result<(), AllocError>
-    ensures { OnOk result (names.new ≡ with_locals scalar (declarator_trees trees.now) names.old) }
-{
-    for tree in trees {
-        names.declare(scalar, tree.name.bytes.as_slice())?;
-    }
-    Ok(())
-}
-
-/// Brings the names of the first part of a `for` header into scope.
-pub fn declare_beginning<'a>(
-    names: &mut Environment<'a>,
-    tree: &'a Beginning,
-) -> Result<(), AllocError>
-    ensures { OnOk result (names.new ≡ behind_start (beginning_tree tree.now) names.old) }
-{
-    match tree {
-        Beginning::Declaration(scalar, declared) => {
-            declare_names(names, *scalar, declared.as_slice())
-        }
-        Beginning::Action(_) => Ok(()),
-    }
-}
 
 // Writes the newest local's initialiser, where it has one, and takes the local back.
 fn declarator(

@@ -7,17 +7,19 @@ ghost use Rattle.cc_syntax.specs.Erase.{name_tree, expression_tree, expressions_
 ghost use Rattle.cc_typing.specs.Operators.{working_type};
 ghost use Rattle.cc_typing.specs.Scope.{found};
 ghost use Rattle.cc_typing.specs.Types.{variable_type, element_type, result_type, or_int, value_type};
-ghost use Rattle.cc_typing.specs.Resolve.{types_in, extent_of, operation, unary_code, load, call_of, expression_code, arguments_code, value_code, condition_code};
-ghost use Rattle.cc_typing.specs.Emitted.{short_cut, some_code, operated};
-ghost use Rattle.cc_typing.specs.declared.form.Instruction.TheVariants as instruction;
+ghost use Rattle.cc_resolve.specs.Environment.{types_in};
+ghost use Rattle.cc_resolve.specs.Layout.{extent_of};
+ghost use Rattle.cc_resolve.specs.Operations.{operation};
+ghost use Rattle.cc_meaning.specs.internal.Form.{unary_code, load, call_of, expression_code, arguments_code, value_code, condition_code};
+ghost use Rattle.cc_meaning.specs.internal.Emitted.{short_cut, some_code, operated};
+ghost use Rattle.cc_meaning.specs.declared.form.Instruction.TheVariants as instruction;
 
-use super::environment::Environment;
+use super::access::{call_instruction, load};
 use crate::emitter::Emitter;
 use crate::form::Instruction;
-use crate::operators::{
-    binary_type, common_type, operation, unary_operation, unary_type, working_type,
-};
+use cc_resolve::{Environment, operation, unary_operation};
 use cc_syntax::{BinaryOperator, Expression, Identifier, Scalar, UnaryOperator};
+use cc_typing::{binary_type, common_type, unary_type, working_type};
 use std::alloc::AllocError;
 
 fn unary(code: &mut Emitter, operator: UnaryOperator) -> Result<(), AllocError>
@@ -48,7 +50,7 @@ fn variable(
     ensures code { OnOk result (code.new ≡ load names.now (name_tree name.now).text ∷ code.old) }
     ensures scalar { IfOk result (λ t. t ≡ variable_type (found (types_in names.now) (name_tree name.now).text)) }
 {
-    code.emit(names.load(name.bytes.as_slice()))?;
+    code.emit(load(names, name.bytes.as_slice()))?;
     Ok(names.variable_type(name.bytes.as_slice()))
 }
 
@@ -58,10 +60,10 @@ fn element(
     code: &mut Emitter,
     name: &Identifier,
 ) -> Result<Scalar, AllocError>
-    ensures code { OnOk result (code.new ≡ instruction.Element (extent_of names.now.places.objects (name_tree name.now).text) ∷ code.old) }
+    ensures code { OnOk result (code.new ≡ instruction.Element (extent_of names.now.layout.objects (name_tree name.now).text) ∷ code.old) }
     ensures scalar { IfOk result (λ t. t ≡ element_type (found (types_in names.now) (name_tree name.now).text)) }
 {
-    code.emit(Instruction::Element(names.array(name.bytes.as_slice())))?;
+    code.emit(Instruction::Element(names.object(name.bytes.as_slice())))?;
     Ok(names.element_type(name.bytes.as_slice()))
 }
 
@@ -74,7 +76,7 @@ fn call(
     ensures code { OnOk result (code.new ≡ call_of names.now (name_tree name.now).text ∷ code.old) }
     ensures scalar { IfOk result (λ t. t ≡ or_int (result_type (found (types_in names.now) (name_tree name.now).text))) }
 {
-    code.emit(names.call(name.bytes.as_slice()))?;
+    code.emit(call_instruction(names, name.bytes.as_slice()))?;
     Ok(names.call_type(name.bytes.as_slice()))
 }
 

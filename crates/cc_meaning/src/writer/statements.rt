@@ -6,18 +6,20 @@
 ghost use Rattle.std.specs.Prelude.{◌≡◌, ◌≤◌, ◌<◌, ◌-◌, ◌∷◌, ◌++◌, List, length, OnOk};
 ghost use Rattle.cc_syntax.specs.Erase.{expression_tree, optional_tree, optional_action, beginning_tree, statement_tree, statements_of};
 ghost use Rattle.cc_syntax.specs.Tree as tree;
-ghost use Rattle.cc_typing.specs.Resolve as resolve;
-ghost use Rattle.cc_typing.specs.Resolve.{inner, behind, exits_of_body, expression_code, turns_code, statement_code, statements_code};
-ghost use Rattle.cc_typing.specs.Resolving.{exits_of, conditional_code};
-ghost use Rattle.cc_typing.specs.declared.form.Instruction.TheVariants.{Repeat};
-ghost use Rattle.cc_typing.specs.declared.form.Instruction as form;
+ghost use Rattle.cc_resolve.specs.Environment as resolve;
+ghost use Rattle.cc_meaning.specs.internal.Form as code;
+ghost use Rattle.cc_resolve.specs.Environment.{inner, behind};
+ghost use Rattle.cc_meaning.specs.internal.Form.{exits_of_body, expression_code, turns_code, statement_code, statements_code};
+ghost use Rattle.cc_meaning.specs.internal.Writing.{exits_of, conditional_code};
+ghost use Rattle.cc_meaning.specs.declared.form.Instruction.TheVariants.{Repeat};
+ghost use Rattle.cc_meaning.specs.declared.form.Instruction as form;
 
 use super::actions::optional_action;
-use super::declarations::{beginning, declaration, declare_beginning, declare_names};
-use super::environment::Environment;
+use super::declarations::{beginning, declaration};
 use super::expressions::{condition, expression, value};
 use crate::emitter::Emitter;
 use crate::form::Instruction;
+use cc_resolve::{Environment, declare_beginning, declare_statement};
 use cc_syntax::{Action, Beginning, Expression, Statement};
 use std::alloc::AllocError;
 
@@ -26,25 +28,6 @@ use std::alloc::AllocError;
 pub struct Exits {
     pub breaks: usize,
     pub continues: usize,
-}
-
-// Brings the names that a statement declares in the scope around it into scope.
-fn declare<'a>(names: &mut Environment<'a>, tree: &'a Statement) -> Result<(), AllocError>
-    ensures { OnOk result (names.new ≡ behind (statement_tree tree.now) names.old) }
-{
-    match tree {
-        Statement::Local(scalar, declared) => declare_names(names, *scalar, declared.as_slice()),
-        Statement::Block(_)
-        | Statement::Perform(_)
-        | Statement::Return(_, _)
-        | Statement::Break(_)
-        | Statement::Continue(_)
-        | Statement::If(_, _)
-        | Statement::IfElse(_, _, _)
-        | Statement::While(_, _)
-        | Statement::DoWhile(_, _)
-        | Statement::For(_, _, _, _) => Ok(()),
-    }
 }
 
 // A statement whose own names are in scope, which it takes back.
@@ -101,7 +84,7 @@ fn inner_statement<'a>(
     ensures code { OnOk result (code.new ≡ statement_code (inner names.old) (exits_of (length code.old) exits) (statement_tree tree.now) ++ code.old) }
 {
     let around = names.open();
-    declare(names, tree)?;
+    declare_statement(names, tree)?;
     statement(names, code, exits, tree)?;
     names.close(around);
     Ok(())
@@ -161,7 +144,7 @@ fn while_loop<'a>(
     test: &Expression,
 ) -> Result<(), AllocError>
     ensures names { OnOk result (names.new ≡ names.old) }
-    ensures code { OnOk result ((x : resolve.Exits) → code.new ≡ statement_code names.old x (tree.While (expression_tree test.now) (statement_tree body.now)) ++ code.old) }
+    ensures code { OnOk result ((x : code.Exits) → code.new ≡ statement_code names.old x (tree.While (expression_tree test.now) (statement_tree body.now)) ++ code.old) }
 {
     let breaks = code.len();
     code.emit(Instruction::Repeat(0))?;
@@ -179,7 +162,7 @@ fn do_loop<'a>(
     test: &Expression,
 ) -> Result<(), AllocError>
     ensures names { OnOk result (names.new ≡ names.old) }
-    ensures code { OnOk result ((x : resolve.Exits) → code.new ≡ statement_code names.old x (tree.DoWhile (statement_tree body.now) (expression_tree test.now)) ++ code.old) }
+    ensures code { OnOk result ((x : code.Exits) → code.new ≡ statement_code names.old x (tree.DoWhile (statement_tree body.now) (expression_tree test.now)) ++ code.old) }
 {
     let breaks = code.len();
     code.emit(Instruction::Repeat(0))?;
@@ -198,7 +181,7 @@ fn for_loop<'a>(
     body: &'a Statement,
 ) -> Result<(), AllocError>
     ensures names { OnOk result (names.new ≡ names.old) }
-    ensures code { OnOk result ((x : resolve.Exits)
+    ensures code { OnOk result ((x : code.Exits)
         → code.new ≡ statement_code names.old x (tree.For (beginning_tree first.now) (optional_tree test.now) (optional_action following.now) (statement_tree body.now)) ++ code.old) }
 {
     let around = names.open();
@@ -247,7 +230,7 @@ pub fn statements<'a>(
     ensures code { OnOk result (code.new ≡ statements_code names.old (exits_of (length code.old) exits) (statements_of trees.now) ++ code.old) }
 {
     for tree in trees {
-        declare(names, tree)?;
+        declare_statement(names, tree)?;
     }
     for tree in trees.iter().rev() {
         statement(names, code, exits, tree)?;

@@ -2,7 +2,7 @@ use Rattle.std.proofs.Common.{◌≡◌, ◌++◌, Some, map, drop}
 use Rattle.cc_syntax.specs.Erase.{constant_trees}
 use Rattle.cc_syntax.specs.Tree.{ConstantExpr}
 use Rattle.cc_typing.specs.Types.{initial_word}
-use Rattle.cc_typing.proofs.resolver.objects.add_values.Given as goal
+use Rattle.cc_resolve.proofs.objects.add_values.Given as goal
 
 abbrev pub invariant-loop-tree : goal.invariant-loop-tree
 invariant-loop-tree l =

@@ -1,7 +1,7 @@
 -- One more zero.
 use Rattle.std.proofs.Common.{◌++◌, replicate}
-use Rattle.cc_typing.proofs.ResolvingUnits.{one-more-zero}
-use Rattle.cc_typing.proofs.resolver.objects.add_zeros.Goals as goal
+use Rattle.cc_resolve.proofs.Behind.{one-more-zero}
+use Rattle.cc_resolve.proofs.objects.add_zeros.Goals as goal
 
 pub loop-preserved : goal.loop-preserved
 loop-preserved c =

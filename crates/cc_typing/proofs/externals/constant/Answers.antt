@@ -2,7 +2,7 @@
 use Rattle.std.proofs.Common.{◌≡◌, ◌∙◌, [], ap, sym}
 use Rattle.std.specs.Prelude.{not, is_some}
 use Rattle.cc_syntax.specs.Erase.{constant_tree}
-use Rattle.cc_typing.specs.Findings.{after}
+use Rattle.cc_typing.specs.internal.Findings.{after}
 use Rattle.cc_typing.specs.Rules.{broken_if, value_offences, called_in}
 use Rattle.cc_typing.specs.Scope.{in_scope}
 use Rattle.cc_typing.specs.Types.{constant_word}

@@ -2,7 +2,7 @@
 use Rattle.std.proofs.Common.{◌+◌, ◌++◌, ◌∙◌, ap, sym, drop}
 use Rattle.cc_syntax.specs.Erase.{beginning_tree, statement_tree, statements_of}
 use Rattle.cc_syntax.specs.declared.ast.Statement.{Statement}
-use Rattle.cc_typing.specs.Counts.{count_after}
+use Rattle.cc_typing.specs.internal.Counts.{count_after}
 use Rattle.cc_typing.specs.Limits.{start_names, locals_of, locals}
 use Rattle.cc_typing.proofs.Counting.{count-next, count-two}
 use Rattle.cc_typing.proofs.Trees.{statement_tree-block, statement_tree-if_else, statement_tree-for}

@@ -2,7 +2,7 @@
 use Rattle.std.proofs.Common.{◌≡◌, ◌∙◌, refl, ap, sym, subst}
 use Rattle.cc_syntax.specs.Erase.{expression_tree, optional_tree, optional_action, beginning_tree, statement_tree, statements_of}
 use Rattle.cc_syntax.specs.Tree.{For}
-use Rattle.cc_typing.specs.Findings.{after, around_of}
+use Rattle.cc_typing.specs.internal.Findings.{after, around_of}
 use Rattle.cc_typing.specs.Scope.{Visible, in_scope, opened}
 use Rattle.cc_typing.specs.Rules.{value_offences, statement_offences, statements_offences, called_in, called_in_statement, called_in_statements}
 use Rattle.cc_typing.proofs.SameTypes.{drop-item}

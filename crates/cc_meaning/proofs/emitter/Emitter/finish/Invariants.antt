@@ -1,5 +1,5 @@
 use Rattle.std.proofs.Common.{◌≡◌, ◌++◌, reverse, vec_len}
-use Rattle.cc_typing.proofs.emitter.Emitter.finish.Given as goal
+use Rattle.cc_meaning.proofs.emitter.Emitter.finish.Given as goal
 
 -- what is put, and then what is left, is what is to be put
 abbrev pub invariant-loop-instruction : goal.invariant-loop-instruction

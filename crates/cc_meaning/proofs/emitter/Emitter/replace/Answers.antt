@@ -1,8 +1,8 @@
 -- The place of an instruction, counted from the other end.
 use Rattle.std.proofs.Common.{◌≡◌, ◌<◌, ◌+◌, ◌-◌, ◌∙◌, length, set, sym, ap, arith}
 use Rattle.std.proofs.lemmas.List.{length-reverse}
-use Rattle.cc_typing.proofs.Emitting.{reverse-set}
-use Rattle.cc_typing.proofs.emitter.Emitter.replace.Goals as goal
+use Rattle.cc_meaning.proofs.Emitting.{reverse-set}
+use Rattle.cc_meaning.proofs.emitter.Emitter.replace.Goals as goal
 
 pub returns : goal.returns
 returns c =

@@ -2,13 +2,14 @@
 use Rattle.std.proofs.Common.{◌≡◌, ◌∙◌, ◌++◌, ap}
 use Rattle.cc_syntax.specs.declared.ast.Scalar.{Scalar}
 use Rattle.cc_syntax.specs.Erase.{expression_tree, target_tree}
-use Rattle.cc_typing.specs.Emitted.{write_of}
+use Rattle.cc_meaning.specs.internal.Emitted.{write_of}
 use Rattle.cc_typing.specs.Operators.{applied_operator}
-use Rattle.cc_typing.specs.Resolve.{types_in, applied, expression_code}
+use Rattle.cc_resolve.specs.Environment.{types_in}
+use Rattle.cc_meaning.specs.internal.Form.{applied, expression_code}
 use Rattle.cc_typing.specs.Types.{target_type, value_type}
-use Rattle.cc_typing.specs.declared.form.Instruction.TheVariants.{Drop}
-use Rattle.cc_typing.proofs.ResolvingActions.{assigned}
-use Rattle.cc_typing.proofs.resolver.actions.assignment.Goals as goal
+use Rattle.cc_meaning.specs.declared.form.Instruction.TheVariants.{Drop}
+use Rattle.cc_meaning.proofs.WritingActions.{assigned}
+use Rattle.cc_meaning.proofs.writer.actions.assignment.Goals as goal
 
 pub returns : goal.returns
 returns c =

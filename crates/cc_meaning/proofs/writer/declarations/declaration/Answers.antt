@@ -4,8 +4,8 @@ use Rattle.std.proofs.lemmas.Iterator.Adapters.{YieldsList-from_rev_slice}
 use Rattle.std.proofs.lemmas.Iterator.Consumers.{YieldsList-turn, YieldsList-end}
 use Rattle.std.proofs.lemmas.List.{drop_all, length_push}
 use Rattle.cc_typing.proofs.SameTypes.{drop-item}
-use Rattle.cc_typing.proofs.ResolvingStatements.{with_locals-reversed, declared_onto, declared-is, Undeclaring, Undeclaring-next}
-use Rattle.cc_typing.proofs.resolver.declarations.declaration.Goals as goal
+use Rattle.cc_meaning.proofs.WritingStatements.{with_locals-reversed, declared_onto, declared-is, Undeclaring, Undeclaring-next}
+use Rattle.cc_meaning.proofs.writer.declarations.declaration.Goals as goal
 
 pub loop-tree-init : goal.loop-tree-init
 loop-tree-init c t w e = record { names = e ∙ with_locals-reversed t c.args.trees.now w; code = refl }

@@ -1,9 +1,9 @@
 use Rattle.std.proofs.Common.{◌≡◌, length, drop, reverse}
 use Rattle.cc_syntax.specs.Erase.{declarator_trees}
 use Rattle.cc_syntax.specs.declared.ast.Scalar.{Scalar}
-use Rattle.cc_typing.specs.Resolve.{Environment, with_locals}
-use Rattle.cc_typing.proofs.ResolvingStatements.{Undeclaring}
-use Rattle.cc_typing.proofs.resolver.declarations.declaration.Given as goal
+use Rattle.cc_resolve.specs.Environment.{Environment, with_locals}
+use Rattle.cc_meaning.proofs.WritingStatements.{Undeclaring}
+use Rattle.cc_meaning.proofs.writer.declarations.declaration.Given as goal
 
 abbrev pub invariant-loop-tree : goal.invariant-loop-tree
 invariant-loop-tree l =

@@ -4,13 +4,15 @@ use Rattle.cc_syntax.specs.declared.ast.Expression.{Expression}
 use Rattle.cc_syntax.specs.declared.ast.Scalar.{Scalar}
 use Rattle.cc_syntax.specs.Erase.{name_tree, expression_tree, expressions_of}
 use Rattle.cc_syntax.specs.Tree as tree
-use Rattle.cc_typing.specs.Emitted.{short_cut, operated}
+use Rattle.cc_meaning.specs.internal.Emitted.{short_cut, operated}
 use Rattle.cc_typing.specs.Operators.{working_type}
-use Rattle.cc_typing.specs.Resolve.{types_in, operation, expression_code}
+use Rattle.cc_resolve.specs.Environment.{types_in}
+use Rattle.cc_resolve.specs.Operations.{operation}
+use Rattle.cc_meaning.specs.internal.Form.{expression_code}
 use Rattle.cc_typing.specs.Types.{value_type}
-use Rattle.cc_typing.proofs.ResolvingExpressions.{call-code, joined-code}
+use Rattle.cc_meaning.proofs.WritingExpressions.{call-code, joined-code}
 use Rattle.cc_typing.proofs.Trees.{expression_tree-call}
-use Rattle.cc_typing.proofs.resolver.expressions.+expressions.Goals as goal
+use Rattle.cc_meaning.proofs.writer.expressions.+expressions.Goals as goal
 
 pub expression-returns-in_ok-arguments-in-Call-clause-code : goal.expression-returns-in_ok-arguments-in-Call-clause-code
 expression-returns-in_ok-arguments-in-Call-clause-code t c =

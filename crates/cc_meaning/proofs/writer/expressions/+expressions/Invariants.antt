@@ -1,7 +1,7 @@
 use Rattle.std.proofs.Common.{◌≡◌, ◌≤◌, ◌++◌, length, drop}
 use Rattle.cc_syntax.specs.Erase.{expressions_of}
-use Rattle.cc_typing.specs.Resolve.{arguments_code}
-use Rattle.cc_typing.proofs.resolver.expressions.+expressions.Given as goal
+use Rattle.cc_meaning.specs.internal.Form.{arguments_code}
+use Rattle.cc_meaning.proofs.writer.expressions.+expressions.Given as goal
 
 -- the arguments from a number on stand
 abbrev pub invariant-arguments-loop-left : goal.invariant-arguments-loop-left

@@ -5,14 +5,15 @@ use Rattle.std.proofs.lemmas.Iterator.Consumers.{YieldsList-turn, YieldsList-end
 use Rattle.std.proofs.lemmas.List.{drop_all, length_push}
 use Rattle.cc_syntax.specs.Erase.{expression_tree, optional_tree, optional_action, beginning_tree, statement_tree, statements_of}
 use Rattle.cc_syntax.specs.Tree.{Block, While, DoWhile, For}
-use Rattle.cc_typing.specs.Resolving.{exits_of}
-use Rattle.cc_typing.specs.Resolve.{inner, statement_code, statements_code}
-use Rattle.cc_typing.specs.declared.form.Instruction.TheVariants.{Repeat}
+use Rattle.cc_meaning.specs.internal.Writing.{exits_of}
+use Rattle.cc_resolve.specs.Environment.{inner}
+use Rattle.cc_meaning.specs.internal.Form.{statement_code, statements_code}
+use Rattle.cc_meaning.specs.declared.form.Instruction.TheVariants.{Repeat}
 use Rattle.cc_typing.proofs.SameTypes.{drop-item}
 use Rattle.cc_typing.proofs.Trees.{statement_tree-block, statement_tree-while, statement_tree-do_while, statement_tree-for}
 use Rattle.cc_typing.proofs.Walks.{on_ok}
-use Rattle.cc_typing.proofs.ResolvingStatements.{behind_all, behind_all-reversed, written_onto, written-is, Writing, Writing-next, statement-is, exits-of-body, turns-are}
-use Rattle.cc_typing.proofs.resolver.statements.+resolved_statements.Goals as goal
+use Rattle.cc_meaning.proofs.WritingStatements.{behind_all, behind_all-reversed, written_onto, written-is, Writing, Writing-next, statement-is, exits-of-body, turns-are}
+use Rattle.cc_meaning.proofs.writer.statements.+resolved_statements.Goals as goal
 
 pub statement-returns-in-Block-clause-code : goal.statement-returns-in-Block-clause-code
 statement-returns-in-Block-clause-code t c =

@@ -1,6 +1,6 @@
 use Rattle.std.proofs.Common.{◌≡◌, length, drop, reverse}
-use Rattle.cc_typing.proofs.ResolvingStatements.{behind_all, Writing}
-use Rattle.cc_typing.proofs.resolver.statements.+resolved_statements.Given as goal
+use Rattle.cc_meaning.proofs.WritingStatements.{behind_all, Writing}
+use Rattle.cc_meaning.proofs.writer.statements.+resolved_statements.Given as goal
 
 abbrev pub invariant-statements-loop-tree : goal.invariant-statements-loop-tree
 invariant-statements-loop-tree l = behind_all (drop l.tree-index l.trees) l.names ≡ behind_all l.trees l.fn.names

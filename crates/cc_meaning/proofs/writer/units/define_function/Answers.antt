@@ -3,8 +3,8 @@ use Rattle.cc_syntax.specs.Erase.{parameter_trees, signature_tree}
 use Rattle.cc_typing.specs.Bindings.{file_of}
 use Rattle.cc_typing.specs.Scope.{with_function}
 use Rattle.cc_typing.proofs.Walks.{on_ok}
-use Rattle.cc_typing.proofs.ResolvingUnits.{function-names}
-use Rattle.cc_typing.proofs.resolver.units.define_function.Goals as goal
+use Rattle.cc_meaning.proofs.WritingUnits.{function-names}
+use Rattle.cc_meaning.proofs.writer.units.define_function.Goals as goal
 
 pub returns-clause-names : goal.returns-clause-names
 returns-clause-names c =

@@ -1,9 +1,9 @@
 -- One object more, of its name and of where its words are.
 use Rattle.std.proofs.Common.{◌∙◌, [], ◌∷◌, ◌++◌, ap, sym}
-use Rattle.cc_typing.specs.Places.{placed}
-use Rattle.cc_typing.specs.Resolve.{Places}
-use Rattle.cc_typing.proofs.ResolvingPlaces.{placed-push, when_ok}
-use Rattle.cc_typing.proofs.resolver.places.Places.add_object.Goals as goal
+use Rattle.cc_resolve.specs.Numberings.{laid_objects}
+use Rattle.cc_resolve.specs.Layout.{Layout}
+use Rattle.cc_resolve.proofs.Numbers.{laid_objects-push, when_ok}
+use Rattle.cc_resolve.proofs.layout.Layout.add_object.Goals as goal
 
 pub returns : goal.returns
 returns c =
@@ -12,5 +12,5 @@ returns c =
     let x = c.args.name.now in
     let named = when_ok c.push-2.result c.push-2.ensures.ok (sym c.is_err.ensures.value ∙ c.if-is_err.false) in
     ap (λ os. record { objects = os; functions = p.functions })
-    (ap (λ xs. placed xs c.push.new.self.items) named ∙ ap (placed (p.objects ++ x ∷ [])) c.in_ok-push.ensures.items ∙ placed-push p.objects p.extents.items x e c.self.invariant)
-    ∙ ap (λ (v : Places). record v { objects = v.objects ++ record { name = x; extent = e } ∷ [] }) c.self.view_is
+    (ap (λ xs. laid_objects xs c.push.new.self.items) named ∙ ap (laid_objects (p.objects ++ x ∷ [])) c.in_ok-push.ensures.items ∙ laid_objects-push p.objects p.extents.items x e c.self.invariant)
+    ∙ ap (λ (v : Layout). record v { objects = v.objects ++ record { name = x; extent = e } ∷ [] }) c.self.view_is

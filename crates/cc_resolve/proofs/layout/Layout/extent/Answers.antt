@@ -1,9 +1,9 @@
 -- The words of the object that stands first under the name.
 use Rattle.std.proofs.Common.{◌≡◌, ◌<◌, ◌∙◌, length, vec_len, Some, None, ap, arith}
 use Rattle.std.proofs.lemmas.List.{get_or_default}
-use Rattle.cc_typing.specs.Resolve.{Places, extent_of}
-use Rattle.cc_typing.proofs.ResolvingPlaces.{extent_of-is, extent-inside}
-use Rattle.cc_typing.proofs.resolver.places.Places.extent.Goals as goal
+use Rattle.cc_resolve.specs.Layout.{Layout, extent_of}
+use Rattle.cc_resolve.proofs.Numbers.{extent_of-is, extent-inside}
+use Rattle.cc_resolve.proofs.layout.Layout.extent.Goals as goal
 
 pub index-requires : goal.index-requires
 index-requires c =
@@ -17,10 +17,10 @@ returns-in-Some c =
     let p = c.self.inside in
     let below = extent-inside p.objects p.extents.items c.args.name.now c.in-Some.number c.self.invariant c.in-Some.ensures in
     c.index.ensures ∙ get_or_default p.extents.items c.in-Some.number _ _ below ∙ extent_of-is p.objects p.extents.items c.args.name.now (Some c.in-Some.number) c.self.invariant c.in-Some.ensures
-    ∙ ap (λ (v : Places). extent_of v.objects c.args.name.now) c.self.view_is
+    ∙ ap (λ (v : Layout). extent_of v.objects c.args.name.now) c.self.view_is
 
 pub returns-in-None : goal.returns-in-None
 returns-in-None c =
     let p = c.self.inside in
     extent_of-is p.objects p.extents.items c.args.name.now None c.self.invariant c.in-None.ensures
-    ∙ ap (λ (v : Places). extent_of v.objects c.args.name.now) c.self.view_is
+    ∙ ap (λ (v : Layout). extent_of v.objects c.args.name.now) c.self.view_is

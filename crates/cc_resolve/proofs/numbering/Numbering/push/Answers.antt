@@ -1,8 +1,8 @@
 -- A name that is there keeps its number, and a new one gets the next.
 use Rattle.std.proofs.Common.{◌∙◌, not, ap, subst, sym}
-use Rattle.cc_typing.specs.Places.{IsNumbering}
-use Rattle.cc_typing.proofs.ResolvingPlaces.{IsNumbering-again, IsNumbering-new, when_ok}
-use Rattle.cc_typing.proofs.resolver.places.Names.push.Goals as goal
+use Rattle.cc_resolve.specs.Numberings.{IsNumbering}
+use Rattle.cc_resolve.proofs.Numbers.{IsNumbering-again, IsNumbering-new, when_ok}
+use Rattle.cc_resolve.proofs.numbering.Numbering.push.Goals as goal
 
 pub invariant_of-self-else-is_err : goal.invariant_of-self-else-is_err
 invariant_of-self-else-is_err c =

@@ -1,0 +1,87 @@
+// The functions and the objects of a unit: where they are, and the names that they bring into scope.
+
+ghost use Rattle.std.specs.Prelude.{◌≡◌, ◌≤◌, [], ◌++◌, length, OnOk, IfOk};
+ghost use Rattle.cc_syntax.specs.Erase.{parameter_trees, signature_tree, external_tree, external_trees};
+ghost use Rattle.cc_typing.specs.Bindings.{file_level, file_of};
+ghost use Rattle.cc_typing.specs.internal.Counts.{objects_in};
+ghost use Rattle.cc_typing.specs.Limits.{objects};
+ghost use Rattle.cc_typing.specs.Scope.{parameters_declared, with_function};
+ghost use Rattle.cc_resolve.specs.Environment.{parameter_names};
+ghost use Rattle.cc_resolve.specs.Layout.{laid_from, layout_of, all_words};
+ghost use Rattle.cc_resolve.specs.internal.Laying.{offset_behind, defined_texts};
+
+use super::environment::Environment;
+use super::layout::Layout;
+use super::objects::add_objects;
+use cc_syntax::{External, Parameter, Signature};
+use cc_typing::Entity;
+use std::alloc::{AllocError, Global};
+
+/// Brings the parameters of a function into scope.
+pub fn declare_parameters<'a>(
+    names: &mut Environment<'a>,
+    trees: &'a [Parameter],
+) -> Result<(), AllocError>
+    ensures { OnOk result (names.new ≡ record names.old {
+      visible = parameters_declared (parameter_trees trees.now) names.old.visible;
+      locals = parameter_names (parameter_trees trees.now) names.old.locals;
+    }) }
+{
+    for tree in trees {
+        names.declare_parameter(tree)?;
+    }
+    Ok(())
+}
+
+/// Brings the name of a function into file scope.
+pub fn declare_function<'a>(names: &mut Environment<'a>, tree: &'a Signature) -> Result<(), AllocError>
+    requires { names.old.visible.inner ≡ [] }
+    ensures { OnOk result (names.new ≡ record names.old { visible = file_level (with_function (signature_tree tree.now) (file_of names.old.visible)).bindings }) }
+{
+    names.declare_in_file(tree.name.bytes.as_slice(), Entity::Function(tree))
+}
+
+// Adds the objects and the function of an external declaration, where the first object begins at an offset, and answers the
+// offset behind them.
+fn add_external<'a>(
+    layout: &mut Layout<'a>,
+    words: &mut Vec<u32>,
+    offset: usize,
+    tree: &'a External,
+) -> Result<usize, AllocError>
+    requires { offset ≤ length words.old.items }
+    ensures layout { OnOk result (layout.new ≡ record {
+      objects = layout.old.objects ++ laid_from offset (objects_in (external_tree tree.now));
+      functions = layout.old.functions ++ defined_texts (external_tree tree.now);
+    }) }
+    ensures words { OnOk result (words.new.items ≡ words.old.items ++ all_words (objects_in (external_tree tree.now))) }
+    ensures behind { IfOk result (λ n. n ≡ offset_behind offset (objects_in (external_tree tree.now))) }
+    ensures fits { IfOk result (λ n. n ≤ length words.new.items) }
+{
+    match tree {
+        External::Declaration(_) => Ok(offset),
+        External::Definition(signature, _) => {
+            layout.add_function(signature.name.bytes.as_slice())?;
+            Ok(offset)
+        }
+        External::Objects(_, trees) => add_objects(layout, words, offset, trees.as_slice()),
+    }
+}
+
+/// Where the names of a unit lead; the words of its objects before the run are put into an empty list.
+pub fn lay_out<'a>(
+    alloc: Global,
+    words: &mut Vec<u32>,
+    trees: &'a [External],
+) -> Result<Layout<'a>, AllocError>
+    requires { words.old.items ≡ [] }
+    ensures layout { IfOk result (λ p. p ≡ layout_of (external_trees trees.now)) }
+    ensures words { OnOk result (words.new.items ≡ all_words (objects (external_trees trees.now))) }
+{
+    let mut layout = Layout::new(alloc);
+    let mut offset = 0;
+    for tree in trees {
+        offset = add_external(&mut layout, words, offset, tree)?;
+    }
+    Ok(layout)
+}
