@@ -38,7 +38,10 @@ pub fn declare_beginning<'a>(
 }
 
 /// Brings the names that a statement declares in the scope around it into scope.
-pub fn declare_statement<'a>(names: &mut Environment<'a>, tree: &'a Statement) -> Result<(), AllocError>
+pub fn declare_statement<'a>(
+    names: &mut Environment<'a>,
+    tree: &'a Statement,
+) -> Result<(), AllocError>
     ensures { OnOk result (names.new ≡ behind (statement_tree tree.now) names.old) }
 {
     match tree {

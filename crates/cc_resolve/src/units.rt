@@ -34,7 +34,10 @@ pub fn declare_parameters<'a>(
 }
 
 /// Brings the name of a function into file scope.
-pub fn declare_function<'a>(names: &mut Environment<'a>, tree: &'a Signature) -> Result<(), AllocError>
+pub fn declare_function<'a>(
+    names: &mut Environment<'a>,
+    tree: &'a Signature,
+) -> Result<(), AllocError>
     requires { names.old.visible.inner ≡ [] }
     ensures { OnOk result (names.new ≡ record names.old { visible = file_level (with_function (signature_tree tree.now) (file_of names.old.visible)).bindings }) }
 {

@@ -18,11 +18,7 @@ pub fn load(names: &Environment<'_>, name: &[u8]) -> Instruction
 }
 
 /// What takes a word into a variable, or applies an operation to the variable's old value and the word.
-pub fn store(
-    names: &Environment<'_>,
-    applied: Option<BinaryOperation>,
-    name: &[u8],
-) -> Instruction
+pub fn store(names: &Environment<'_>, applied: Option<BinaryOperation>, name: &[u8]) -> Instruction
     ensures { result ≡ store_of applied names.now name.now }
 {
     match names.local(name) {

@@ -45,11 +45,19 @@ fn write(
     match target {
         Target::Variable(name) => {
             let scalar = names.variable_type(name.bytes.as_slice());
-            store(names, applied(operator, scalar, right), name.bytes.as_slice())
+            store(
+                names,
+                applied(operator, scalar, right),
+                name.bytes.as_slice(),
+            )
         }
         Target::Element(name, _) => {
             let scalar = names.element_type(name.bytes.as_slice());
-            store_element(names, applied(operator, scalar, right), name.bytes.as_slice())
+            store_element(
+                names,
+                applied(operator, scalar, right),
+                name.bytes.as_slice(),
+            )
         }
     }
 }
