@@ -86,18 +86,18 @@ module _ (form : FormTree) (cs : List Activation) (total : ℕ) where
 
   pub stores_global : (v : Environment) (most : ℕ) (vs : List ℕ) (s : State) (x : List ℕ) → Fits v total most vs s → number_in v.locals x ≡ None → (extent_of v.layout.objects x).length ≡ 1 → Stores v most vs s x
   stores_global v most vs s x h e one =
-      let place : ℕ = (extent_of v.layout.objects x).offset in
+      let offset : ℕ = (extent_of v.layout.objects x).offset in
       let f = found_object v total most vs s x h in
       let q : (w : ℕ) → Puts v total most vs s x 0 w = λ w. puts_element v total most vs s x 0 w h (omega arith) in
       let is : (w : ℕ) → stored x w s ≡ record s { globals = with_element x 0 w s.globals } = λ w. stored_object v total most vs s x w h e in
-      let at : place + 0 ≡ offset = omega arith in
-      let set : (p w : ℕ) → only_if (nat_lt place (length (all_of s.globals))) (Goes (record (conf p vs [] cs s) { globals = slice_set (all_of s.globals) place w })) ≡ Goes (conf p vs [] cs (stored x w s)) =
+      let at : offset + 0 ≡ offset = omega arith in
+      let set : (p w : ℕ) → only_if (nat_lt offset (length (all_of s.globals))) (Goes (record (conf p vs [] cs s) { globals = slice_set (all_of s.globals) offset w })) ≡ Goes (conf p vs [] cs (stored x w s)) =
       λ p w.
-      ap (λ b. only_if b (Goes (record (conf p vs [] cs s) { globals = slice_set (all_of s.globals) place w }))) (subst (λ k. nat_lt k (length (all_of s.globals)) ≡ true) at (q w).below)
+      ap (λ b. only_if b (Goes (record (conf p vs [] cs s) { globals = slice_set (all_of s.globals) offset w }))) (subst (λ k. nat_lt k (length (all_of s.globals)) ≡ true) at (q w).below)
       ∙ ap (λ gs. Goes (record (conf p vs [] cs s) { globals = gs })) (subst (λ k. slice_set (all_of s.globals) k w ≡ all_of (with_element x 0 w s.globals)) at (q w).words)
       ∙ ap (λ t. Goes (conf p vs [] cs t)) (sym (is w)) in
       let got = there (words_of s.globals x) 0 (let k = f.size in omega arith) in
-      let here : slice_get (all_of s.globals) place ≡ Some got.0 = ap (λ k. slice_get (all_of s.globals) k) (sym at) ∙ f.reads 0 (omega arith) ∙ got.1 in
+      let here : slice_get (all_of s.globals) offset ≡ Some got.0 = ap (λ k. slice_get (all_of s.globals) k) (sym at) ∙ f.reads 0 (omega arith) ∙ got.1 in
       let none : meaning.local_word s.locals x ≡ None = no_local s.locals x (ap (λ ns. number_in ns x) h.names ∙ e) in
       let old : got.0 ≡ variable_word x s =
       sym (ap (λ (o : Option ℕ). unwrap_or o 0) got.1) ∙ sym (ap (λ (o : Option ℕ). unwrap_or o (unwrap_or (slice_get (words_of s.globals x) 0) 0)) none) in
@@ -105,10 +105,10 @@ module _ (form : FormTree) (cs : List Activation) (total : ℕ) where
         variables = λ w. vs;
         fits = λ w. subst (λ t. Fits v total most vs t) (sym (is w)) (q w).fits;
         sets = λ p w.
-            ap (λ (o : Option ℕ). instruction_move form (elim o [ None ↦ instruction.SetGlobal place | Some k ↦ instruction.SetLocal k ]) (conf p vs (w ∷ []) cs s)) e ∙ set p w;
+            ap (λ (o : Option ℕ). instruction_move form (elim o [ None ↦ instruction.SetGlobal offset | Some k ↦ instruction.SetLocal k ]) (conf p vs (w ∷ []) cs s)) e ∙ set p w;
         updates = λ p w o.
-            ap (λ (n : Option ℕ). instruction_move form (elim n [ None ↦ instruction.UpdateGlobal o place | Some k ↦ instruction.UpdateLocal o k ]) (conf p vs (w ∷ []) cs s)) e
-            ∙ ap (λ (n : Option ℕ). with_word n (λ k. operated o k w (λ new. only_if (nat_lt place (length (all_of s.globals))) (Goes (record (conf p vs [] cs s) { globals = slice_set (all_of s.globals) place new }))))) here
+            ap (λ (n : Option ℕ). instruction_move form (elim n [ None ↦ instruction.UpdateGlobal o offset | Some k ↦ instruction.UpdateLocal o k ]) (conf p vs (w ∷ []) cs s)) e
+            ∙ ap (λ (n : Option ℕ). with_word n (λ k. operated o k w (λ new. only_if (nat_lt offset (length (all_of s.globals))) (Goes (record (conf p vs [] cs s) { globals = slice_set (all_of s.globals) offset new }))))) here
             ∙ option_same (binary_result o got.0 w) (Stops (outcome.Wrong (cause_of_operation o))) _ (λ new. Goes (conf p vs [] cs (stored x new s))) (λ new. set p new)
             ∙ ap (λ k. operated o k w (λ new. Goes (conf p vs [] cs (stored x new s)))) old;
       }

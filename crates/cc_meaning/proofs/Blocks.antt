@@ -148,11 +148,11 @@ module _ (form : FormTree) (cs : List Activation) (total : ℕ) where
 
   -- the form comes to a return of a word
   pub record Brings (layout : Layout) (c : Configuration) (most w : ℕ) (t : State) : Type 0 where
-    pub place : ℕ
+    pub offset : ℕ
     pub variables : List ℕ
     pub operands : List ℕ
-    pub here : slice_get form.code place ≡ Some instruction.Return
-    pub leads : Leads form c (conf place variables (w ∷ operands) cs t)
+    pub here : slice_get form.code offset ≡ Some instruction.Return
+    pub leads : Leads form c (conf offset variables (w ∷ operands) cs t)
     pub laid : layout_from 0 t.globals ≡ layout.objects
     pub steps : t.steps ≤ most
 

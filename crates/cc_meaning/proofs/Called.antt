@@ -89,11 +89,11 @@ module _ (form : FormTree) (layout : Layout) (defined : List (List ℕ)) (fs : L
 
   -- a body comes to a return of its word: over the calls around
   record Returned (cs : List Activation) (c : Configuration) (most w : ℕ) (t : State) : Type 0 where
-    place : ℕ
+    offset : ℕ
     variables : List ℕ
     operands : List ℕ
-    here : slice_get form.code place ≡ Some instruction.Return
-    leads : Leads form c (conf place variables (w ∷ operands) cs t)
+    here : slice_get form.code offset ≡ Some instruction.Return
+    leads : Leads form c (conf offset variables (w ∷ operands) cs t)
     laid : layout_from 0 t.globals ≡ layout.objects
     steps : t.steps ≤ most
 

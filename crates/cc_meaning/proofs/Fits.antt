@@ -78,11 +78,11 @@ load_local form v total most p vs ops cs s x i h e =
 load_global : (form : FormTree) (v : Environment) (total most p : ℕ) (vs ops : List ℕ) (cs : List Activation) (s : State) (x : List ℕ) → Fits v total most vs s → number_in v.locals x ≡ None
     → (extent_of v.layout.objects x).length ≡ 1 → instruction_move form (load v x) (conf p vs ops cs s) ≡ Goes (conf p vs (variable_word x s ∷ ops) cs s)
 load_global form v total most p vs ops cs s x h e one =
-    let place : ℕ = (extent_of v.layout.objects x).offset in
+    let offset : ℕ = (extent_of v.layout.objects x).offset in
     let f = found_object v total most vs s x h in
     let got = there (words_of s.globals x) 0 (let k = f.size in omega arith) in
-    let here : slice_get (all_of s.globals) place ≡ Some got.0 =
-    ap (λ k. slice_get (all_of s.globals) k) (let z : place ≡ place + 0 = omega arith in z) ∙ f.reads 0 (omega arith) ∙ got.1 in
+    let here : slice_get (all_of s.globals) offset ≡ Some got.0 =
+    ap (λ k. slice_get (all_of s.globals) k) (let z : offset ≡ offset + 0 = omega arith in z) ∙ f.reads 0 (omega arith) ∙ got.1 in
     let none : local_word s.locals x ≡ None = no_local s.locals x (ap (λ ns. number_in ns x) h.names ∙ e) in
     ap (λ (o : Option ℕ). instruction_move form (elim o [ None ↦ instruction.Global (extent_of v.layout.objects x).offset | Some k ↦ instruction.Local k ]) (conf p vs ops cs s)) e
     ∙ ap (λ (o : Option ℕ). with_word o (λ w. Goes (conf p vs (w ∷ ops) cs s))) here

@@ -7,7 +7,7 @@ ghost use Rattle.std.specs.Prelude.{◌≡◌, ◌≤◌, ◌<◌, ◌-◌, ◌�
 ghost use Rattle.cc_syntax.specs.Erase.{expression_tree, optional_tree, optional_action, beginning_tree, statement_tree, statements_of};
 ghost use Rattle.cc_syntax.specs.Tree as tree;
 ghost use Rattle.cc_resolve.specs.Environment as resolve;
-ghost use Rattle.cc_meaning.specs.internal.Form as code;
+ghost use Rattle.cc_meaning.specs.internal.Form as written;
 ghost use Rattle.cc_resolve.specs.Environment.{inner, behind};
 ghost use Rattle.cc_meaning.specs.internal.Form.{exits_of_body, expression_code, turns_code, statement_code, statements_code};
 ghost use Rattle.cc_meaning.specs.internal.Writing.{exits_of, conditional_code};
@@ -144,7 +144,7 @@ fn while_loop<'a>(
     test: &Expression,
 ) -> Result<(), AllocError>
     ensures names { OnOk result (names.new ≡ names.old) }
-    ensures code { OnOk result ((x : code.Exits) → code.new ≡ statement_code names.old x (tree.While (expression_tree test.now) (statement_tree body.now)) ++ code.old) }
+    ensures code { OnOk result ((x : written.Exits) → code.new ≡ statement_code names.old x (tree.While (expression_tree test.now) (statement_tree body.now)) ++ code.old) }
 {
     let breaks = code.len();
     code.emit(Instruction::Repeat(0))?;
@@ -162,7 +162,7 @@ fn do_loop<'a>(
     test: &Expression,
 ) -> Result<(), AllocError>
     ensures names { OnOk result (names.new ≡ names.old) }
-    ensures code { OnOk result ((x : code.Exits) → code.new ≡ statement_code names.old x (tree.DoWhile (statement_tree body.now) (expression_tree test.now)) ++ code.old) }
+    ensures code { OnOk result ((x : written.Exits) → code.new ≡ statement_code names.old x (tree.DoWhile (statement_tree body.now) (expression_tree test.now)) ++ code.old) }
 {
     let breaks = code.len();
     code.emit(Instruction::Repeat(0))?;
@@ -181,7 +181,7 @@ fn for_loop<'a>(
     body: &'a Statement,
 ) -> Result<(), AllocError>
     ensures names { OnOk result (names.new ≡ names.old) }
-    ensures code { OnOk result ((x : code.Exits)
+    ensures code { OnOk result ((x : written.Exits)
         → code.new ≡ statement_code names.old x (tree.For (beginning_tree first.now) (optional_tree test.now) (optional_action following.now) (statement_tree body.now)) ++ code.old) }
 {
     let around = names.open();
