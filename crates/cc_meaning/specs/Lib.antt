@@ -6,5 +6,7 @@ pub mod Meaning
 pub mod Function
 -- what the code's answer shows
 pub mod Erase
+-- the number of the fault
+pub mod Fault
 pub mod rows
 pub mod internal

@@ -6,7 +6,7 @@
 use cc_resolve::{BinaryOperation, Extent, UnaryOperation};
 
 /// One step of an interpreter over a stack of words.
-#[derive(Clone, Copy, PartialEq, Eq, Debug)]
+#[derive(Clone, Copy)]
 pub enum Instruction {
     /// Pushes a word.
     Constant(u32),
@@ -59,7 +59,7 @@ pub enum Instruction {
 }
 
 /// Where a function's instructions begin, how many parameters it has, and how many variables besides.
-#[derive(Clone, Copy, PartialEq, Eq, Debug)]
+#[derive(Clone, Copy)]
 pub struct Entry {
     pub start: usize,
     pub parameters: usize,

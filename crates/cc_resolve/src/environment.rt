@@ -48,7 +48,7 @@ impl<'a> Environment<'a> {
     }
 
     /// Declares a name in file scope, where it is new; else what stands there stays.
-    pub fn declare_in_file(&mut self, name: &'a [u8], entity: Entity<'a>) -> Result<(), AllocError>
+    pub(crate) fn declare_in_file(&mut self, name: &'a [u8], entity: Entity<'a>) -> Result<(), AllocError>
         requires { self.old.visible.inner ≡ [] }
         ensures { OnOk result (self.new ≡ record self.old { visible = file_level (with_declared name.now (entity_of entity.entry) (record { bindings = self.old.visible.outer; defined = [] })).bindings }) }
     {
@@ -72,7 +72,7 @@ impl<'a> Environment<'a> {
     }
 
     /// Declares a local, which gets the next number.
-    pub fn declare(&mut self, scalar: Scalar, name: &'a [u8]) -> Result<(), AllocError>
+    pub(crate) fn declare(&mut self, scalar: Scalar, name: &'a [u8]) -> Result<(), AllocError>
         ensures { OnOk result (self.new ≡ with_local scalar name.now self.old) }
     {
         self.visible.declare(name, Entity::Variable(scalar))?;
@@ -80,7 +80,7 @@ impl<'a> Environment<'a> {
     }
 
     /// Declares a parameter, which gets the next number, whether it has a name or not.
-    pub fn declare_parameter(&mut self, parameter: &'a Parameter) -> Result<(), AllocError>
+    pub(crate) fn declare_parameter(&mut self, parameter: &'a Parameter) -> Result<(), AllocError>
         ensures { OnOk result (self.new ≡ record self.old {
           visible = parameter_declared parameter.now.scalar (parameter_tree parameter.now).name self.old.visible;
           locals = elim (parameter_tree parameter.now).name [ None ↦ [] | Some x ↦ x.text ] ∷ self.old.locals;

@@ -8,7 +8,7 @@ use std::alloc::{AllocError, Global};
 use std::marker::Model;
 
 /// Where an object's words are among those of all objects: the number of the first one, and how many there are.
-#[derive(Clone, Copy, PartialEq, Eq, Debug)]
+#[derive(Clone, Copy)]
 pub struct Extent {
     pub offset: usize,
     pub length: usize,
@@ -71,7 +71,7 @@ impl<'a> Layout<'a> {
     }
 
     /// Where the words of an object are; of another name none, at offset 0.
-    pub fn extent(&self, name: &[u8]) -> Extent
+    pub(crate) fn extent(&self, name: &[u8]) -> Extent
         ensures { result ≡ extent_of self.now.objects name.now }
     {
         match self.objects.find(name) {

@@ -6,7 +6,7 @@ ghost use Rattle.cc_resolve.specs.Operations.{by_type, operation, unary_operatio
 use cc_syntax::{BinaryOperator, Scalar, UnaryOperator};
 
 /// An operation on one word.
-#[derive(Clone, Copy, PartialEq, Eq, Debug)]
+#[derive(Clone, Copy)]
 pub enum UnaryOperation {
     Negate,
     Complement,
@@ -14,7 +14,7 @@ pub enum UnaryOperation {
 }
 
 /// An operation on two words.
-#[derive(Clone, Copy, PartialEq, Eq, Debug)]
+#[derive(Clone, Copy)]
 pub enum BinaryOperation {
     Multiply,
     DivideSigned,

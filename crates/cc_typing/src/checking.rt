@@ -29,7 +29,7 @@ const MAIN: &[u8] = b"main";
 ///
 /// Of the faults 11 to 18 and 21 the one at the earliest token is answered, of several there the one with the least
 /// number. Where there is none, a unit without `main` has 19, at the end of the text; and where `main` is there, the first
-/// call of a function that is not defined has 20. 40 comes where memory is refused. The unit is given up on an `Err`.
+/// call of a function that is not defined has 20. 40 comes where memory runs out. The unit is given up on an `Err`.
 pub fn check(alloc: Global, unit: Unit) -> Result<TypedUnit, TypeFault>
     ensures unit { IfOk result (λ t. t ≡ unit) }
     ensures typed { OnOk result (IsTyped (source unit).externals) }
