@@ -2,13 +2,13 @@
 use Rattle.std.proofs.Common.{◌≡◌, ℕ, ◌+◌, List, [], ◌∷◌, ◌++◌, length, length-append, append_assoc, refl, sym, ap, ◌∙◌, arith}
 use Rattle.std.proofs.lemmas.List.{append-nil}
 use Rattle.std.specs.Prelude.{codes}
-use Rattle.cc_syntax.specs.Tree.{Parameter, External, Declaration, Definition, Objects}
-use Rattle.cc_typing.specs.Bindings.{closed, file_level, file_of}
+use Rattle.cc_syntax.specs.Tree.{Signature, External, Declaration, Definition, Objects}
+use Rattle.cc_typing.specs.Bindings.{file_level, file_of}
 use Rattle.cc_typing.specs.Limits.{objects, locals}
-use Rattle.cc_typing.specs.Scope.{Binding, Visible, FileScope, first_file_scope, with_function, parameters_declared, file_scope_behind}
-use Rattle.cc_typing.proofs.FileScopes.{with_objects-same, parameters_declared-outer}
+use Rattle.cc_typing.specs.Scope.{FileScope, first_file_scope, with_function, file_scope_behind}
+use Rattle.cc_typing.proofs.FileScopes.{with_objects-same}
 use Rattle.cc_resolve.specs.Layout.{Layout, layout_of, all_words, names_before}
-use Rattle.cc_resolve.specs.Environment.{Environment, parameter_names}
+use Rattle.cc_resolve.specs.Environment.{Environment, environment_of}
 use Rattle.cc_resolve.proofs.Behind.{some-more}
 use Rattle.cc_meaning.specs.declared.form.Entry.{Entry}
 use Rattle.cc_meaning.specs.declared.form.Instruction.{Instruction}
@@ -16,21 +16,12 @@ use Rattle.cc_meaning.specs.internal.Form.{FunctionCode, function_code, function
 
 -- ---- functions
 
--- behind a function's body its parameters are not in scope
-function-closed : (ps : List Parameter) (bs : List Binding) → closed 0 (parameters_declared ps (file_level bs)) ≡ file_level bs
-function-closed ps bs = ap file_level (parameters_declared-outer ps (file_level bs))
-
 -- the names of its parameters and locals go with a function
-pub function-names : (v v1 v2 v3 v4 v5 : Environment) (ps : List Parameter) (bs : List Binding) → v.locals ≡ [] → v1 ≡ record v { visible = file_level bs }
-    → v2 ≡ record v1 { visible = parameters_declared ps v1.visible; locals = parameter_names ps v1.locals } → v3 ≡ v2
-    → v4 ≡ record v3 { visible = closed 0 v3.visible } → v5 ≡ record v4 { locals = [] } → v5 ≡ record v { visible = file_level bs }
-function-names v v1 v2 v3 v4 v5 ps bs none e1 e2 e3 e4 e5 =
-    let bare : Visible → Environment = λ u. record { visible = u; locals = []; layout = v.layout } in
-    e5 ∙ ap (λ (u : Environment). record u { locals = [] }) e4
-    ∙ ap (λ (u : Environment). record u { visible = closed 0 u.visible; locals = [] }) (e3 ∙ e2)
-    ∙ ap (λ (u : Environment). record u { visible = closed 0 (parameters_declared ps u.visible); locals = [] }) e1
-    ∙ ap bare (function-closed ps bs)
-    ∙ ap (λ l. record v { visible = file_level bs; locals = l }) (sym none)
+pub function-names : (v v1 v2 v3 : Environment) (s : Signature) (f : FileScope) → v.locals ≡ [] → v1 ≡ environment_of v.layout s f → v2 ≡ v1
+    → ((layout : Layout) (t : Signature) (g : FileScope) → v2 ≡ environment_of layout t g → v3 ≡ record { visible = file_level (with_function t g).bindings; locals = []; layout = layout })
+    → v3 ≡ record v { visible = file_level (with_function s f).bindings }
+function-names v v1 v2 v3 s f none e1 e2 left =
+    left v.layout s f (e2 ∙ e1) ∙ ap (λ l. record v { visible = file_level (with_function s f).bindings; locals = l }) (sym none)
 
 -- ---- the code of functions
 

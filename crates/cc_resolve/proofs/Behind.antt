@@ -2,12 +2,12 @@
 use Rattle.std.proofs.Common.{◌≡◌, ℕ, suc, ◌+◌, ◌-◌, ◌<◌, ◌≤◌, List, [], ◌∷◌, ◌++◌, length, map, replicate, Some, None, refl, sym, ap, ◌∙◌, append_assoc, arith}
 use Rattle.cc_syntax.specs.declared.ast.Scalar.{Scalar}
 use Rattle.cc_syntax.specs.Tree.{Name, Parameter, Object, External, Declaration, Definition, Objects}
-use Rattle.cc_typing.specs.Bindings.{file_level, file_of}
+use Rattle.cc_typing.specs.Bindings.{closed, file_level, file_of}
 use Rattle.cc_typing.specs.internal.Counts.{objects_in}
 use Rattle.cc_typing.specs.Limits.{objects, object_name, function_names}
-use Rattle.cc_typing.specs.Scope.{Visible, with_object, with_objects, parameter_declared, parameters_declared}
+use Rattle.cc_typing.specs.Scope.{Binding, Visible, with_object, with_objects, parameter_declared, parameters_declared}
 use Rattle.cc_typing.specs.Types.{object_words, initial_words}
-use Rattle.cc_typing.proofs.FileScopes.{with_objects-same}
+use Rattle.cc_typing.proofs.FileScopes.{with_objects-same, parameters_declared-outer}
 use Rattle.cc_resolve.specs.Layout.{LaidObject, Layout, laid_from, all_words}
 use Rattle.cc_resolve.specs.Environment.{Environment, parameter_names}
 use Rattle.cc_resolve.specs.internal.Laying.{offset_behind, defined_texts}
@@ -140,3 +140,7 @@ pub Declaring-next : (v0 : Environment) (all : List Parameter) (v : Environment)
 Declaring-next v0 all v p rest v' before e = record {
   names = ap (λ (u : Environment). record u { visible = parameters_declared rest u.visible; locals = parameter_names rest u.locals }) e ∙ before.names;
 }
+
+-- behind a function's body its parameters are not in scope
+pub function-closed : (ps : List Parameter) (bs : List Binding) → closed 0 (parameters_declared ps (file_level bs)) ≡ file_level bs
+function-closed ps bs = ap file_level (parameters_declared-outer ps (file_level bs))

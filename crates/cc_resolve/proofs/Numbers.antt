@@ -9,7 +9,7 @@ use Rattle.cc_typing.specs.Scope as scope
 use Rattle.cc_typing.specs.Bindings as bindings
 use Rattle.cc_typing.specs.Bindings.{same_key}
 use Rattle.cc_resolve.specs.Numberings.{first_of, IsNumbering, laid_objects, local_names}
-use Rattle.cc_resolve.specs.Layout.{LaidObject, extent_of, names_before}
+use Rattle.cc_resolve.specs.Layout.{LaidObject, extent_of, object_number, names_before}
 use Rattle.cc_resolve.specs.Environment.{number_in}
 use Rattle.cc_resolve.specs.declared.layout.Extent.{Extent}
 
@@ -120,6 +120,12 @@ extent_of-first (y ∷ xs) (e ∷ es) x h = by (same_name y x) (extent_of-first 
 
 pub extent_of-is : (xs : List (List ℕ)) (es : List Extent) (x : List ℕ) (r : Option ℕ) → length xs ≡ length es → r ≡ first_of xs x → extent_at es r ≡ extent_of (laid_objects xs es) x
 extent_of-is xs es x r h e = ap (extent_at es) e ∙ sym (extent_of-first xs es x h)
+
+-- the names alone say the number of an object
+pub object_number-is : (xs : List (List ℕ)) (es : List Extent) (x : List ℕ) → length xs ≡ length es → first_of xs x ≡ object_number (laid_objects xs es) x
+object_number-is [] es x h = refl
+object_number-is (y ∷ xs) [] x h = absurd (omega arith)
+object_number-is (y ∷ xs) (e ∷ es) x h = ap (λ r. cond (same_name y x) (Some 0) (option_map suc r)) (object_number-is xs es x (omega arith))
 
 first_of-below : (xs : List (List ℕ)) (x : List ℕ) (i : ℕ) → Some i ≡ first_of xs x → i < length xs
 first_of-below [] x i h = absurd cc

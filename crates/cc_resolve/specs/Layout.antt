@@ -1,6 +1,6 @@
 -- Where the names of file scope lead: the objects lie one behind the other as one list of words, and a word's number is its
 -- offset in that list; the functions are numbered in the order of their definitions.
-use Rattle.std.specs.Prelude.{ℕ, ◌+◌, List, [], ◌∷◌, ◌++◌, map, if◌then◌else◌}
+use Rattle.std.specs.Prelude.{ℕ, suc, ◌+◌, List, [], ◌∷◌, ◌++◌, map, Option, Some, None, if◌then◌else◌, option_map}
 use Rattle.cc_syntax.specs.Tree.{Name, Object, External}
 use Rattle.cc_typing.specs.Names.{same_name}
 use Rattle.cc_typing.specs.Types.{object_words, initial_words}
@@ -22,6 +22,11 @@ laid_from at (o ∷ rest) =
 abbrev pub extent_of : List LaidObject → List ℕ → Extent
 extent_of [] x = record { offset = 0; length = 0 }
 extent_of (p ∷ rest) x = if same_name p.name x then p.extent else extent_of rest x
+
+-- the number of the object of a name, where it is one: how many objects stand before it
+abbrev pub object_number : List LaidObject → List ℕ → Option ℕ
+object_number [] x = None
+object_number (p ∷ rest) x = if same_name p.name x then Some 0 else option_map suc (object_number rest x)
 
 -- how many names stand before a name
 abbrev pub names_before : List (List ℕ) → List ℕ → ℕ

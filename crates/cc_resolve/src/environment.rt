@@ -7,7 +7,7 @@ ghost use Rattle.cc_typing.specs.Entities.{entity_of};
 ghost use Rattle.cc_typing.specs.Bindings.{closed, file_level};
 ghost use Rattle.cc_typing.specs.Types.{variable_type, element_type, result_type, or_int};
 ghost use Rattle.cc_resolve.specs.Environment.{inner, number_in, with_local, types_in};
-ghost use Rattle.cc_resolve.specs.Layout.{extent_of, names_before};
+ghost use Rattle.cc_resolve.specs.Layout.{extent_of, names_before, object_number};
 
 use super::layout::{Extent, Layout};
 use cc_syntax::{Parameter, Scalar};
@@ -48,7 +48,11 @@ impl<'a> Environment<'a> {
     }
 
     /// Declares a name in file scope, where it is new; else what stands there stays.
-    pub(crate) fn declare_in_file(&mut self, name: &'a [u8], entity: Entity<'a>) -> Result<(), AllocError>
+    pub(crate) fn declare_in_file(
+        &mut self,
+        name: &'a [u8],
+        entity: Entity<'a>,
+    ) -> Result<(), AllocError>
         requires { self.old.visible.inner ≡ [] }
         ensures { OnOk result (self.new ≡ record self.old { visible = file_level (with_declared name.now (entity_of entity.entry) (record { bindings = self.old.visible.outer; defined = [] })).bindings }) }
     {
@@ -103,7 +107,7 @@ impl<'a> Environment<'a> {
     }
 
     /// Takes all locals back, which are in no scope any more.
-    pub fn forget_locals(&mut self)
+    pub(crate) fn forget_locals(&mut self)
         ensures { self.new ≡ record self.old { locals = [] } }
     {
         while self.locals.len() > 0 {
@@ -166,6 +170,13 @@ impl<'a> Environment<'a> {
         ensures { result ≡ extent_of self.now.layout.objects name.now }
     {
         self.layout.extent(name)
+    }
+
+    /// The number of the object of a name, where it is one, in the order of declarations.
+    pub fn object_number(&self, name: &[u8]) -> Option<usize>
+        ensures { result ≡ object_number self.now.layout.objects name.now }
+    {
+        self.layout.object_number(name)
     }
 
     /// The number of a function, in the order of definitions; of another name, how many functions there are.

@@ -1,7 +1,7 @@
 // Where the names of file scope lead: the objects' words, and the functions' numbers.
 
 ghost use Rattle.std.specs.Prelude.{◌≡◌, [], ◌∷◌, ◌++◌, length, OnOk};
-ghost use Rattle.cc_resolve.specs.Layout.{extent_of, names_before};
+ghost use Rattle.cc_resolve.specs.Layout.{extent_of, names_before, object_number};
 
 use super::numbering::Numbering;
 use std::alloc::{AllocError, Global};
@@ -78,6 +78,13 @@ impl<'a> Layout<'a> {
             Some(number) => self.extents[number],
             None => NOWHERE,
         }
+    }
+
+    /// The number of the object of a name, where it is one.
+    pub(crate) fn object_number(&self, name: &[u8]) -> Option<usize>
+        ensures { result ≡ object_number self.now.objects name.now }
+    {
+        self.objects.find(name)
     }
 
     /// The number of a function; of another name, how many functions there are.

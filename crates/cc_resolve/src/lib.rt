@@ -18,4 +18,4 @@ pub use environment::Environment;
 pub use layout::{Extent, Layout};
 pub use objects::declare_objects;
 pub use operations::{BinaryOperation, UnaryOperation, operation, unary_operation};
-pub use units::{declare_function, declare_parameters, lay_out};
+pub use units::{declare_function, enter_function, lay_out, leave_function};

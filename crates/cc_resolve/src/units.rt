@@ -2,12 +2,13 @@
 
 ghost use Rattle.std.specs.Prelude.{◌≡◌, ◌≤◌, [], ◌++◌, length, OnOk, IfOk};
 ghost use Rattle.cc_syntax.specs.Erase.{parameter_trees, signature_tree, external_tree, external_trees};
+ghost use Rattle.cc_syntax.specs.Tree as tree;
 ghost use Rattle.cc_typing.specs.Bindings.{file_level, file_of};
 ghost use Rattle.cc_typing.specs.internal.Counts.{objects_in};
 ghost use Rattle.cc_typing.specs.Limits.{objects};
-ghost use Rattle.cc_typing.specs.Scope.{parameters_declared, with_function};
-ghost use Rattle.cc_resolve.specs.Environment.{parameter_names};
-ghost use Rattle.cc_resolve.specs.Layout.{laid_from, layout_of, all_words};
+ghost use Rattle.cc_typing.specs.Scope.{FileScope, parameters_declared, with_function};
+ghost use Rattle.cc_resolve.specs.Environment.{parameter_names, environment_of};
+ghost use Rattle.cc_resolve.specs.Layout.{Layout, laid_from, layout_of, all_words};
 ghost use Rattle.cc_resolve.specs.internal.Laying.{offset_behind, defined_texts};
 
 use super::environment::Environment;
@@ -17,8 +18,8 @@ use cc_syntax::{External, Parameter, Signature};
 use cc_typing::Entity;
 use std::alloc::{AllocError, Global};
 
-/// Brings the parameters of a function into scope.
-pub fn declare_parameters<'a>(
+// Brings the parameters of a function into scope.
+fn declare_parameters<'a>(
     names: &mut Environment<'a>,
     trees: &'a [Parameter],
 ) -> Result<(), AllocError>
@@ -33,7 +34,7 @@ pub fn declare_parameters<'a>(
     Ok(())
 }
 
-/// Brings the name of a function into file scope.
+/// Brings the name of a function into file scope, where it is new.
 pub fn declare_function<'a>(
     names: &mut Environment<'a>,
     tree: &'a Signature,
@@ -42,6 +43,28 @@ pub fn declare_function<'a>(
     ensures { OnOk result (names.new ≡ record names.old { visible = file_level (with_function (signature_tree tree.now) (file_of names.old.visible)).bindings }) }
 {
     names.declare_in_file(tree.name.bytes.as_slice(), Entity::Function(tree))
+}
+
+/// Enters a function's body from file scope: the function's name is in scope, and its parameters are the first locals.
+pub fn enter_function<'a>(
+    names: &mut Environment<'a>,
+    tree: &'a Signature,
+) -> Result<(), AllocError>
+    requires inner { names.old.visible.inner ≡ [] }
+    requires locals { names.old.locals ≡ [] }
+    ensures { OnOk result (names.new ≡ environment_of names.old.layout (signature_tree tree.now) (file_of names.old.visible)) }
+{
+    declare_function(names, tree)?;
+    declare_parameters(names, tree.parameters.as_slice())
+}
+
+/// Leaves a function's body: the function's name stays in file scope, and its parameters and locals go.
+pub fn leave_function(names: &mut Environment<'_>)
+    ensures { (layout : Layout) (s : tree.Signature) (f : FileScope) → names.old ≡ environment_of layout s f
+        → names.new ≡ record { visible = file_level (with_function s f).bindings; locals = []; layout = layout } }
+{
+    names.close(0);
+    names.forget_locals();
 }
 
 // Adds the objects and the function of an external declaration, where the first object begins at an offset, and answers the

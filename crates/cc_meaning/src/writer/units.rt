@@ -10,7 +10,9 @@ ghost use Rattle.cc_typing.specs.Scope.{with_function, file_scope_behind};
 use super::statements::{Exits, statements};
 use crate::emitter::Emitter;
 use crate::form::{Entry, Form, Instruction};
-use cc_resolve::{Environment, declare_function, declare_objects, declare_parameters, lay_out};
+use cc_resolve::{
+    Environment, declare_function, declare_objects, enter_function, lay_out, leave_function,
+};
 use cc_syntax::{External, Signature, Statement};
 use cc_typing::local_count;
 use std::alloc::{AllocError, Global};
@@ -30,8 +32,7 @@ fn define_function<'a>(
     ensures names { OnOk result (names.new ≡ record names.old { visible = file_level (with_function (signature_tree signature.now) (file_of names.old.visible)).bindings }) }
     ensures code { OnOk result (into.new.items ≡ into.old.items ++ function_code names.old.layout (file_of names.old.visible) (signature_tree signature.now) (statements_of body.now)) }
 {
-    declare_function(names, signature)?;
-    declare_parameters(names, signature.parameters.as_slice())?;
+    enter_function(names, signature)?;
     let mut code = Emitter::new(alloc);
     code.emit(Instruction::Return)?;
     code.emit(Instruction::Constant(0))?;
@@ -41,8 +42,7 @@ fn define_function<'a>(
         continues: end,
     };
     statements(names, &mut code, exits, body)?;
-    names.close(0);
-    names.forget_locals();
+    leave_function(names);
     code.finish(into)
 }
 
