@@ -1,20 +1,20 @@
 -- From every state some tokens lead to the end of a unit: an operand where one is missing, what closes each part that is
 -- open, an empty statement for the part of an `if` or a loop, a closing brace for each block.
 use Rattle.std.proofs.Common.{◌≡◌, ℕ, Bool, true, false, suc, List, [], ◌∷◌, ◌++◌, Option, Some, None, refl, ap, ◌∙◌, arith}
-use Rattle.cc_syntax.specs.declared.ast.Scalar.{Scalar}
-use Rattle.cc_syntax.specs.declared.ast.Scalar.TheVariants as scalar
-use Rattle.cc_syntax.specs.declared.token.Keyword.TheVariants as keyword
+use Rattle.cc_tokens.specs.declared.scalar.Scalar.{Scalar}
+use Rattle.cc_tokens.specs.declared.scalar.Scalar.TheVariants as scalar
+use Rattle.cc_tokens.specs.declared.token.Keyword.TheVariants as keyword
 use Rattle.cc_syntax.specs.declared.ast.StepOperator.{StepOperator}
-use Rattle.cc_syntax.specs.declared.token.Punctuator.{Punctuator}
-use Rattle.cc_syntax.specs.declared.token.Punctuator.TheVariants as punctuator
-use Rattle.cc_syntax.specs.declared.token.TokenKind.{TokenKind}
-use Rattle.cc_syntax.specs.declared.token.TokenKind.TheVariants as kind
-use Rattle.cc_syntax.specs.Token.{Lexeme}
-use Rattle.cc_syntax.specs.Tree.{Name, Expr, Number, Element, Call, Parenthesised, Unary, Cast, Binary, Conditional, Target, AtVariable, AtElement, Action, Assign, Step, Evaluate, Declared, Start, Declares, Performs, Stmt, Block, Local, Perform, Return, If, IfElse, While, DoWhile, For, ConstantExpr, Signature, Object, Single, Array, External, Declaration, Definition, Objects}
-use Rattle.cc_syntax.specs.Roles.{role_of}
-use Rattle.cc_syntax.specs.Grammar.{Placed, precedence}
-use Rattle.cc_syntax.specs.Machine.{State, AtFile, InBody, InFull, Inside, Stage, Item, AfterThen, AfterDo, Testing, Ending, Returning, ForOpening, ForStarting, ForTesting, ForStepping, LocalSign, Declaring, HasDeclared, Stepping, StepNamed, Stepped, Outer, Between, ResultSign, Typed, Named, Parameters, OnlyVoid, ParameterNext, ParameterSign, ParameterTyped, ParameterNamed, Headed, ObjectNext, ObjectNamed, Sizing, Sized, Initialising, Listing, Valuing, Listed, Phase, Operand, Operator, CastSign, CastType, Full, Context, OfBody, OfObject, Purpose, ToPerform, ToAssign, ToStep, ToReturn, ToTest, ToGoOn, ToInitialise, ForIf, ForWhile, ForDo, Position, AsLocal, AsHeader, Spot, AsStatement, AsStart, AsLast, Part, ToSize, ToSingle, ToValue, Naming, Open, InBlock, InThen, InElse, InWhile, InDo, InFor, Waiting, Parenthesis, Index, Arguments, Prefix, Casting, Infix, Then, Otherwise, in_body, settled, close_block, with_last, full_of, reduced, close, end_full, with_argument, with_object, with_parameter, constant, declared, step, standing}
-use Rattle.cc_syntax.proofs.MachineRuns.{Runs}
+use Rattle.cc_tokens.specs.declared.token.Punctuator.{Punctuator}
+use Rattle.cc_tokens.specs.declared.token.Punctuator.TheVariants as punctuator
+use Rattle.cc_tokens.specs.declared.token.TokenKind.{TokenKind}
+use Rattle.cc_tokens.specs.declared.token.TokenKind.TheVariants as kind
+use Rattle.cc_tokens.specs.Token.{Lexeme}
+use Rattle.cc_syntax.specs.Tree.{Name, Expr, Number, Element, Call, Parenthesised, Unary, Cast, Binary, Conditional, Target, AtVariable, AtElement, Action, Assign, Step, Evaluate, Declarator, Beginning, Declares, Performs, Stmt, Block, Local, Perform, Return, If, IfElse, While, DoWhile, For, ConstantExpr, Signature, Object, Single, Array, External, Declaration, Definition, Objects}
+use Rattle.cc_syntax.specs.internal.Roles.{role_of}
+use Rattle.cc_syntax.specs.Grammar.{Measured, precedence}
+use Rattle.cc_syntax.specs.internal.Parser.{State, AtFile, InBody, InFull, Inside, Stage, Item, AfterThen, AfterDo, Testing, Ending, Returning, ForOpening, ForStarting, ForTesting, ForStepping, LocalSign, Declaring, HasDeclared, Stepping, StepNamed, Stepped, Outer, Between, ResultSign, Typed, Named, Parameters, OnlyVoid, ParameterNext, ParameterSign, ParameterTyped, ParameterNamed, Headed, ObjectNext, ObjectNamed, Sizing, Sized, Initialising, Listing, Valuing, Listed, Phase, Operand, Operator, CastSign, CastType, Full, Context, OfBody, OfObject, Purpose, ToPerform, ToAssign, ToStep, ToReturn, ToTest, ToGoOn, ToInitialise, ForIf, ForWhile, ForDo, Position, AsLocal, AsHeader, Spot, AsStatement, AsStart, AsLast, Part, ToSize, ToSingle, ToValue, Naming, Open, InBlock, InThen, InElse, InWhile, InDo, InFor, Waiting, Parenthesis, Index, Arguments, Prefix, Casting, Infix, Then, Otherwise, in_body, settled, close_block, with_last, full_of, reduced, close, end_full, with_argument, with_object, with_parameter, constant, declared, step, standing}
+use Rattle.cc_syntax.proofs.ParserRuns.{Runs}
 use Rattle.cc_syntax.proofs.Forms.{operand, operator, pops}
 use Rattle.cc_syntax.proofs.Settles.{within}
 use Rattle.cc_syntax.proofs.ReadsExpression.{precedence-within}
@@ -28,7 +28,7 @@ IsUnit (e ∷ es) = Unit {0}
 
 -- some tokens lead to the end of a unit
 pub record Finishes (s : State) : Type 0 where
-  pub rest : List Placed
+  pub rest : List Measured
   pub tree : List External
   pub unit : IsUnit tree
   pub runs : Runs s rest (AtFile tree Between)
@@ -108,7 +108,7 @@ finish_top b h =
 abbrev zero_of : Expr
 zero_of = Number scalar.Int 0
 
--- behind a complete statement, by the statements that are open
+-- after a complete statement, by the statements that are open
 finish_settled : (os : List Open) (w : Bool) (b : Inside) (s : Stmt) → Finishes (in_body (settled w b os s))
 finish_settled [] w b s = finish_top (record { externals = b.externals; signature = b.signature; finished = with_last b.finished s; opened = [] }) refl
 finish_settled (InBlock ss ∷ os) w b s =
@@ -137,10 +137,10 @@ finish_item b = by _ (in_body (settled true b b.opened (Perform None))) (mark pu
 finish_ending : (b : Inside) (s : Stmt) → Finishes (InBody b (Ending s))
 finish_ending b s = by _ (in_body (settled true b b.opened s)) (mark punctuator.Semicolon) refl (finish_settled b.opened true b s)
 
-finish_stepping_for : (b : Inside) (a : Start) (e : Option Expr) → Finishes (InBody b (ForStepping a e))
+finish_stepping_for : (b : Inside) (a : Beginning) (e : Option Expr) → Finishes (InBody b (ForStepping a e))
 finish_stepping_for b a e = by _ (InBody (within b (InFor a e None ∷ b.opened)) Item) (mark punctuator.CloseParenthesis) refl (finish_item (within b (InFor a e None ∷ b.opened)))
 
-finish_testing_for : (b : Inside) (a : Start) → Finishes (InBody b (ForTesting a))
+finish_testing_for : (b : Inside) (a : Beginning) → Finishes (InBody b (ForTesting a))
 finish_testing_for b a = by _ (InBody b (ForStepping a None)) (mark punctuator.Semicolon) refl (finish_stepping_for b a None)
 
 finish_behind : (p : Spot) (b : Inside) (a : Action) → Finishes (behind b p a)
@@ -148,11 +148,11 @@ finish_behind AsStatement b a = finish_settled b.opened true b (Perform (Some a)
 finish_behind AsStart b a = finish_testing_for b (Performs (Some a))
 finish_behind (AsLast s e) b a = finish_item (within b (InFor s e (Some a) ∷ b.opened))
 
-finish_declared : (b : Inside) (w : Position) (t : Scalar) (ds : List Declared) → Finishes (declared_state b w t ds)
+finish_declared : (b : Inside) (w : Position) (t : Scalar) (ds : List Declarator) → Finishes (declared_state b w t ds)
 finish_declared b AsLocal t ds = finish_settled b.opened true b (Local t ds)
 finish_declared b AsHeader t ds = finish_testing_for b (Declares t ds)
 
-finish_has : (b : Inside) (w : Position) (t : Scalar) (ds : List Declared) (n : Name) → Finishes (InBody b (HasDeclared w t ds n))
+finish_has : (b : Inside) (w : Position) (t : Scalar) (ds : List Declarator) (n : Name) → Finishes (InBody b (HasDeclared w t ds n))
 finish_has b w t ds n =
     by _ (declared_state b w t (ds ++ declared n None ∷ [])) (mark punctuator.Semicolon) (declares-state b w t (ds ++ declared n None ∷ [])) (finish_declared b w t (ds ++ declared n None ∷ []))
 
@@ -161,7 +161,7 @@ finish_stepped b op t p k = by _ (behind b p (Step op t)) (terminator p) (acted-
 
 -- full expressions
 
--- a token that ends the whole full expression, and the state behind it
+-- a token that ends the whole full expression, and the state after it
 record EndsWhole (c : Context) (n : ℕ) (e : Expr) : Type 0 where
   last : TokenKind
   after : State

@@ -1,11 +1,11 @@
 -- The states of the machine in a full expression, and how tokens are counted there.
 use Rattle.std.proofs.Common.{◌≡◌, ◌<◌, ◌≤◌, ℕ, suc, List, [], ◌∷◌, ◌++◌, refl, sym, ap, subst, cond, leb, arith}
 use Rattle.std.proofs.lemmas.Bool.{lt-leb, le-leb}
-use Rattle.cc_syntax.specs.Token.{Lexeme}
+use Rattle.cc_tokens.specs.Token.{Lexeme}
 use Rattle.cc_syntax.specs.Tree.{Expr}
-use Rattle.cc_syntax.specs.Grammar.{Placed, full_after, precedence}
-use Rattle.cc_syntax.specs.Machine.{State, InFull, Operand, Operator, Context, Waiting, Parenthesis, Index, Arguments, Prefix, Casting, Infix, Then, Otherwise, full_of, reduced}
-use Rattle.cc_syntax.proofs.MachineRuns.{Runs, runs-append}
+use Rattle.cc_syntax.specs.Grammar.{Measured, full_after, precedence}
+use Rattle.cc_syntax.specs.internal.Parser.{State, InFull, Operand, Operator, Context, Waiting, Parenthesis, Index, Arguments, Prefix, Casting, Infix, Then, Otherwise, full_of, reduced}
+use Rattle.cc_syntax.proofs.ParserRuns.{Runs, runs-append}
 
 abbrev pub operand : Context → ℕ → List Waiting → State
 operand c n ws = InFull (full_of c ws n) Operand
@@ -13,7 +13,7 @@ operand c n ws = InFull (full_of c ws n) Operand
 abbrev pub operator : Context → ℕ → List Waiting → Expr → State
 operator c n ws e = InFull (full_of c ws n) (Operator e)
 
--- how many tokens there are behind those of a list
+-- how many tokens there are after those of a list
 abbrev pub count_after : ℕ → List Lexeme → ℕ
 count_after n [] = n
 count_after n (x ∷ xs) = count_after (suc n) xs
@@ -24,11 +24,11 @@ count_after-append n (x ∷ xs) ys = count_after-append (suc n) xs ys
 
 pub full_after-append : (n : ℕ) (xs ys : List Lexeme) → full_after n (xs ++ ys) ≡ full_after n xs ++ full_after (count_after n xs) ys
 full_after-append n [] ys = refl
-full_after-append n (x ∷ xs) ys = ap (λ (ps : List Placed). record { token = x; count = suc n; level = 0 } ∷ ps) (full_after-append (suc n) xs ys)
+full_after-append n (x ∷ xs) ys = ap (λ (ps : List Measured). record { token = x; count = suc n; level = 0 } ∷ ps) (full_after-append (suc n) xs ys)
 
 -- two parts of one full expression
 pub runs-full : (s m e : State) (n : ℕ) (xs ys : List Lexeme) → Runs s (full_after n xs) m → Runs m (full_after (count_after n xs) ys) e → Runs s (full_after n (xs ++ ys)) e
-runs-full s m e n xs ys h k = subst (λ (ps : List Placed). Runs s ps e) (sym (full_after-append n xs ys)) (runs-append s m e (full_after n xs) (full_after (count_after n xs) ys) h k)
+runs-full s m e n xs ys h k = subst (λ (ps : List Measured). Runs s ps e) (sym (full_after-append n xs ys)) (runs-append s m e (full_after n xs) (full_after (count_after n xs) ys) h k)
 
 -- what waits binds as tightly as the level, or not
 pub pops : {A : Type 0} (q t : ℕ) (x y : A) → q ≤ t → cond (leb q t) x y ≡ x

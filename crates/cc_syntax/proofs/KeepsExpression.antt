@@ -1,10 +1,10 @@
 -- What waits takes its operand: the tokens stay spelled.
 use Rattle.std.proofs.Common.{◌≡◌, ◌≤◌, ℕ, suc, List, [], ◌∷◌, ◌++◌, refl, sym, ap, subst, ◌∙◌, arith, append_assoc, inl, inr}
 use Rattle.std.proofs.lemmas.Bool.Decides.{leb_tells}
-use Rattle.cc_syntax.specs.Token.{Lexeme}
+use Rattle.cc_tokens.specs.Token.{Lexeme}
 use Rattle.cc_syntax.specs.Tree.{Expr, Number, Variable, Element, Call, Parenthesised, Unary, Cast, Binary, Conditional}
 use Rattle.cc_syntax.specs.Grammar.{SpellsExpression, precedence}
-use Rattle.cc_syntax.specs.Machine.{Waiting, Parenthesis, Index, Arguments, Prefix, Casting, Infix, Then, Otherwise, reduced}
+use Rattle.cc_syntax.specs.internal.Parser.{Waiting, Parenthesis, Index, Arguments, Prefix, Casting, Infix, Then, Otherwise, reduced}
 use Rattle.cc_syntax.proofs.Forms.{pops, keeps}
 use Rattle.cc_syntax.proofs.ReadsExpression.{precedence-within}
 use Rattle.cc_syntax.proofs.SoFar.{Room, Holds}
@@ -50,7 +50,7 @@ pub record Reduces (level : ℕ) (xs : List Lexeme) (r : Expr × List Waiting) :
   pub holds : Holds r.1 r.0 xs level
   pub room : Room level r.1
 
--- the tokens of what waits and of its operand are those before, and behind them those of both
+-- the tokens of what waits and of its operand are those before, and after them those of both
 regrouped : (xs front part rest more : List Lexeme) → xs ≡ front ++ part → front ≡ rest ++ more → xs ≡ rest ++ (more ++ part)
 regrouped xs front part rest more h k = h ∙ ap (λ (z : List Lexeme). z ++ part) k ∙ append_assoc rest more part
 

@@ -1,14 +1,14 @@
--- A token of a full expression keeps what its tokens spell: those that stay in it. With what waits and the operand behind
+-- A token of a full expression keeps what its tokens spell: those that stay in it. With what waits and the operand after
 -- it, the tokens that came are spelled (SoFar); where nothing waits any more, the whole expression is.
 use Rattle.std.proofs.Common.{◌≡◌, ◌≤◌, ℕ, List, [], ◌∷◌, ◌++◌, refl, sym, ap, subst, ◌∙◌, arith, append_assoc}
 use Rattle.cc_syntax.specs.declared.ast.BinaryOperator.{BinaryOperator}
-use Rattle.cc_syntax.specs.declared.token.Punctuator.TheVariants as punctuator
-use Rattle.cc_syntax.specs.declared.token.TokenKind.{TokenKind}
-use Rattle.cc_syntax.specs.declared.token.TokenKind.TheVariants as kind
-use Rattle.cc_syntax.specs.Token.{Lexeme}
+use Rattle.cc_tokens.specs.declared.token.Punctuator.TheVariants as punctuator
+use Rattle.cc_tokens.specs.declared.token.TokenKind.{TokenKind}
+use Rattle.cc_tokens.specs.declared.token.TokenKind.TheVariants as kind
+use Rattle.cc_tokens.specs.Token.{Lexeme}
 use Rattle.cc_syntax.specs.Tree.{Name, Expr, Number, Variable, Element, Call, Parenthesised, Unary, Cast, Binary, Conditional, Exprs, none, more}
 use Rattle.cc_syntax.specs.Grammar.{identifier, Marks, SpellsExpression, SpellsArguments, precedence, binary_punctuator}
-use Rattle.cc_syntax.specs.Machine.{Waiting, Parenthesis, Index, Arguments, Infix, Then, Otherwise, with_argument, name_of}
+use Rattle.cc_syntax.specs.internal.Parser.{Waiting, Parenthesis, Index, Arguments, Infix, Then, Otherwise, with_argument, name_of}
 use Rattle.cc_syntax.proofs.SoFar.{ArgumentsSoFar, WaitingSoFar, Holds}
 use Rattle.cc_syntax.proofs.KeepsExpression.{spells-looser, room-most, room-one, Reduces}
 
@@ -44,19 +44,19 @@ looser ws e xs q low h = record { front = h.front; part = h.part; level = h.leve
 behind : (xs front part : List Lexeme) (x : Lexeme) → xs ≡ front ++ part → xs ++ x ∷ [] ≡ front ++ (part ++ x ∷ [])
 behind xs front part x h = ap (λ (z : List Lexeme). z ++ x ∷ []) h ∙ append_assoc front part (x ∷ [])
 
--- a binary operator behind its left operand
+-- a binary operator after its left operand
 pub kept-binary : (op : BinaryOperator) (r : Expr × List Waiting) (xs : List Lexeme) (x : Lexeme) → Marks (binary_punctuator op) x → Reduces (precedence op) xs r → WaitingSoFar (Infix op r.0 ∷ r.1) (xs ++ x ∷ [])
 kept-binary op r xs x h k =
     let l = k.holds in
     (l.front, l.part, x, l.waits, spells-looser r.0 l.level (precedence op) l.part l.tight l.spelled, k.room, h, behind xs l.front l.part x l.whole)
 
--- a question mark behind its condition
+-- a question mark after its condition
 pub kept-question : (r : Expr × List Waiting) (xs : List Lexeme) (x : Lexeme) → Marks punctuator.Question x → Reduces 2 xs r → WaitingSoFar (Then r.0 ∷ r.1) (xs ++ x ∷ [])
 kept-question r xs x h k =
     let l = k.holds in
     (l.front, l.part, x, l.waits, spells-looser r.0 l.level 2 l.part l.tight l.spelled, room-one r.1 k.room, h, behind xs l.front l.part x l.whole)
 
--- a colon behind what stands between it and the question mark
+-- a colon after what stands between it and the question mark
 pub kept-colon : (c e : Expr) (ws : List Waiting) (xs : List Lexeme) (x : Lexeme) → Marks punctuator.Colon x → Holds (Then c ∷ ws) e xs 1 → WaitingSoFar (Otherwise c e ∷ ws) (xs ++ x ∷ [])
 kept-colon c e ws xs x h l =
     let w = l.waits in
@@ -159,7 +159,7 @@ kept-call-none n ws xs x h w =
       whole = behind xs w.0 (identifier n ∷ w.2 ∷ []) x whole;
     }
 
--- what opens behind a name
+-- what opens after a name
 variable-part : (n : Name) (ws : List Waiting) (xs : List Lexeme) → Holds ws (Variable n) xs 12 → (front : List Lexeme) × WaitingSoFar ws front × (xs ≡ front ++ identifier n ∷ [])
 variable-part n ws xs l = (l.front, l.waits, l.whole ∙ ap (λ (z : List Lexeme). l.front ++ z) l.spelled)
 

@@ -1,20 +1,20 @@
 -- Reading a token in a full expression keeps what its tokens spell, where the token stays in it.
 use Rattle.std.proofs.Common.{◌≡◌, suc, List, [], ◌∷◌, ◌++◌, Option, Some, None, refl, ap, ◌∙◌, append_assoc, inl, inr}
-use Rattle.cc_syntax.specs.declared.ast.Scalar.{Scalar}
-use Rattle.cc_syntax.specs.declared.ast.Scalar.TheVariants as scalar
-use Rattle.cc_syntax.specs.declared.token.Keyword.{Keyword}
-use Rattle.cc_syntax.specs.declared.token.Keyword.TheVariants as keyword
-use Rattle.cc_syntax.specs.declared.token.Punctuator.{Punctuator}
-use Rattle.cc_syntax.specs.declared.token.Punctuator.TheVariants as punctuator
-use Rattle.cc_syntax.specs.declared.token.TokenKind.{TokenKind}
-use Rattle.cc_syntax.specs.declared.token.TokenKind.TheVariants as kind
+use Rattle.cc_tokens.specs.declared.scalar.Scalar.{Scalar}
+use Rattle.cc_tokens.specs.declared.scalar.Scalar.TheVariants as scalar
+use Rattle.cc_tokens.specs.declared.token.Keyword.{Keyword}
+use Rattle.cc_tokens.specs.declared.token.Keyword.TheVariants as keyword
+use Rattle.cc_tokens.specs.declared.token.Punctuator.{Punctuator}
+use Rattle.cc_tokens.specs.declared.token.Punctuator.TheVariants as punctuator
+use Rattle.cc_tokens.specs.declared.token.TokenKind.{TokenKind}
+use Rattle.cc_tokens.specs.declared.token.TokenKind.TheVariants as kind
 use Rattle.cc_syntax.specs.declared.parser.role.Role.{Role}
 use Rattle.cc_syntax.specs.declared.parser.role.Role.TheVariants as role
-use Rattle.cc_syntax.specs.Token.{Lexeme}
+use Rattle.cc_tokens.specs.Token.{Lexeme}
 use Rattle.cc_syntax.specs.Tree.{Expr, Number, Variable, none}
-use Rattle.cc_syntax.specs.Roles.{role_of, keyword_role, punctuator_role}
+use Rattle.cc_syntax.specs.internal.Roles.{role_of, keyword_role, punctuator_role}
 use Rattle.cc_syntax.specs.Grammar.{Marks, IsKeyword, sign_word, unary_punctuator, binary_punctuator, assignment_punctuator, step_punctuator, SpellsType}
-use Rattle.cc_syntax.specs.Machine.{State, AtFile, InBody, InFull, Full, Phase, Operand, Operator, CastSign, CastType, Waiting, Parenthesis, Index, Arguments, Then, cast, call_of_none, operand_step, cast_step, cast_sign_step, open_name, close, name_of}
+use Rattle.cc_syntax.specs.internal.Parser.{State, AtFile, InBody, InFull, Full, Phase, Operand, Operator, CastSign, CastType, Waiting, Parenthesis, Index, Arguments, Then, cast, call_of_none, operand_step, cast_step, cast_sign_step, open_name, close, name_of}
 use Rattle.cc_syntax.proofs.SoFar.{WaitingSoFar, Holds, Casts, IsSign}
 use Rattle.cc_syntax.proofs.KeepsFull.{identified, holds-one, kept-colon, kept-parenthesis, kept-index, kept-comma, kept-call, kept-call-none, kept-open-call, kept-open-index}
 
@@ -158,7 +158,7 @@ kept-operand role.Int f xs x h k = kept-cast-int f.waiting f xs x h k
 kept-operand (role.SignWord t) f xs x h k = kept-cast-sign f.waiting f t xs x h k
 kept-operand _ f xs x h k = tt
 
--- a token behind the type of a cast
+-- a token after the type of a cast
 pub kept-cast : (r : Role) (f : Full) (t : Scalar) (xs : List Lexeme) (x : Lexeme) → HasRole r x → Casts f.waiting xs (λ type. SpellsType type t) → StaysIn f (xs ++ x ∷ []) (cast_step f t r)
 kept-cast role.CloseParenthesis f t xs x h k =
     (refl, refl, (k.front, k.type, k.opening, x, k.waits, k.opens, k.word, h, ap (λ (z : List Lexeme). z ++ x ∷ []) k.whole ∙ append_assoc k.front (k.opening ∷ k.type) (x ∷ [])))
@@ -184,13 +184,13 @@ kept-cast-word role.Int f t xs x h k =
     )
 kept-cast-word r f t xs x h k = kept-cast r f t xs x h (sign-type t f.waiting xs k)
 
--- a parenthesis or bracket behind a name
+-- a parenthesis or bracket after a name
 pub kept-name : (e : Expr) (r : Role) (f : Full) (xs : List Lexeme) (x : Lexeme) → HasRole r x → Holds f.waiting e xs 12 → StaysIn f (xs ++ x ∷ []) (open_name f e r)
 kept-name (Variable n) role.OpenParenthesis f xs x h k = (refl, refl, kept-open-call n f.waiting xs x h k)
 kept-name (Variable n) role.OpenBracket f xs x h k = (refl, refl, kept-open-index n f.waiting xs x h k)
 kept-name _ _ f xs x h k = tt
 
--- a closing token behind an operand, where something waits
+-- a closing token after an operand, where something waits
 pub kept-close : (r : Role) (e : Expr) (w : Waiting) (ws : List Waiting) (f : Full) (xs : List Lexeme) (x : Lexeme) → HasRole r x → Holds (w ∷ ws) e xs 1 → StaysIn f (xs ++ x ∷ []) (close f r (e, w ∷ ws))
 kept-close role.CloseParenthesis e Parenthesis ws f xs x h k = (refl, refl, kept-parenthesis e ws xs x h k)
 kept-close role.CloseBracket e (Index n) ws f xs x h k = (refl, refl, kept-index n e ws xs x h k)

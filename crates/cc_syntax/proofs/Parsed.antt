@@ -1,16 +1,17 @@
 -- From the tokens of a text to the text: the exits of `parse`.
 use Rattle.std.proofs.Common.{◌≡◌, ◌≤◌, ℕ, List, length, Result, Ok, Err, refl, subst, arith}
-use Rattle.cc_syntax.specs.declared.place.Place.{Place}
-use Rattle.cc_syntax.specs.declared.fault.SyntaxFault.{SyntaxFault}
-use Rattle.cc_syntax.specs.declared.fault.SyntaxFault.TheVariants as fault
+use Rattle.cc_tokens.specs.declared.place.Place.{Place}
+use Rattle.cc_tokens.specs.declared.fault.SyntaxFault.{SyntaxFault}
+use Rattle.cc_tokens.specs.declared.fault.SyntaxFault.TheVariants as fault
 use Rattle.cc_syntax.specs.declared.unit.Unit as unit
-use Rattle.cc_syntax.specs.Token.{Lexeme}
+use Rattle.cc_tokens.specs.Token.{Lexeme}
 use Rattle.cc_syntax.specs.Tree.{External}
-use Rattle.cc_syntax.specs.Tokens.{IsFlawFault}
+use Rattle.cc_tokens.specs.Tokens.{IsFlawFault}
 use Rattle.cc_syntax.specs.Limits.{SpellsWithin, UnexpectedAt, TooDeepAt}
 use Rattle.cc_syntax.specs.Parse.{SpellsText, BreaksAt, IsParseRefusal}
-use Rattle.cc_syntax.specs.Source.{source, AnswersTree, IsParse}
-use Rattle.cc_syntax.proofs.Cuts.{tokens_are_one, tokens_have_no_flaw}
+use Rattle.cc_syntax.specs.Source.{source, AnswersTree}
+use Rattle.cc_syntax.specs.internal.Answer.{IsParse}
+use Rattle.cc_tokens.proofs.Cuts.{tokens_are_one, tokens_have_no_flaw}
 use Rattle.cc_syntax.proofs.Verdict.{trees_are_one, spelled_have_no_fault}
 
 no_flaw : (text : List ℕ) (e : SyntaxFault) (tree : List External) → IsFlawFault text e → SpellsText text tree → ⊥
@@ -20,7 +21,7 @@ no_break : (Breaks : List Lexeme → ℕ → Type 0) (text : List ℕ) (p : Plac
 no_break Breaks text p tree h s none =
     none h.tokens h.number (subst (λ (ts : List Lexeme). SpellsWithin ts tree) (tokens_are_one text s.tokens h.tokens s.are h.are) s.spelled) h.here
 
--- a text that spells a tree is refused for want of memory alone
+-- a text that spells a tree is refused only because memory ran out
 spelled_refused : (text : List ℕ) (e : SyntaxFault) (tree : List External) → IsParseRefusal text e → length text ≤ 65536 → SpellsText text tree → e ≡ fault.OutOfMemory
 spelled_refused text (fault.BadByte p) tree h fits s = absurd (no_flaw text _ tree h s)
 spelled_refused text (fault.UnclosedComment p) tree h fits s = absurd (no_flaw text _ tree h s)

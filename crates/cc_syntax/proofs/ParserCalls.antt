@@ -4,8 +4,8 @@ use Rattle.cc_syntax.specs.Tree.{Name}
 use Rattle.cc_syntax.specs.Erase.{expressions_of}
 use Rattle.cc_syntax.specs.declared.ast.Expression.{Expression}
 use Rattle.cc_syntax.specs.declared.parser.state.Waiting as waiting
-use Rattle.cc_syntax.specs.Machine.{Waiting, Arguments, Full, call_of_none}
-use Rattle.cc_syntax.specs.MachineView.{waiting_view, waiting_views}
+use Rattle.cc_syntax.specs.internal.Parser.{Waiting, Arguments, Full, call_of_none}
+use Rattle.cc_syntax.specs.internal.ParserView.{waiting_view, waiting_views}
 use Rattle.cc_syntax.proofs.Views.{waiting_views-push}
 
 -- what waits last, seen by view

@@ -2,13 +2,13 @@
 use Rattle.std.proofs.Common.{◌≡◌, Bool, true, false, ◌&&◌, List, [], ◌∷◌, ◌++◌, Option, Some, None, is_some, ap, ◌∙◌, sym, refl}
 use Rattle.std.specs.List.{list_all}
 use Rattle.std.specs.Option.{option_map}
-use Rattle.cc_syntax.specs.Tree.{Expr, Start, Action, Stmt, Stmts, If, IfElse, While, For}
+use Rattle.cc_syntax.specs.Tree.{Expr, Beginning, Action, Stmt, Stmts, If, IfElse, While, For}
 use Rattle.cc_syntax.specs.Erase.{name_tree, parameter_trees}
 use Rattle.cc_syntax.specs.declared.ast.Identifier.{Identifier}
 use Rattle.cc_syntax.specs.declared.ast.Parameter.{Parameter}
 use Rattle.cc_syntax.specs.declared.parser.state.Open as open_statement
-use Rattle.cc_syntax.specs.Machine.{Open, InBlock, InThen, InElse, InWhile, InDo, InFor, Inside, Stage, Item, with_last, inside_of, settled, all_named}
-use Rattle.cc_syntax.specs.MachineView.{open_view, open_views}
+use Rattle.cc_syntax.specs.internal.Parser.{Open, InBlock, InThen, InElse, InWhile, InDo, InFor, Inside, Stage, Item, with_last, inside_of, settled, all_named}
+use Rattle.cc_syntax.specs.internal.ParserView.{open_view, open_views}
 use Rattle.cc_syntax.proofs.Views.{open_views-push}
 
 named-tree : (n : Option Identifier) → is_some (option_map name_tree n) ≡ is_some n
@@ -44,14 +44,14 @@ settled-block w b xs os o s ss rr r e d f g =
     ∙ ap (λ (u : Stmts). let p : Inside × Stage = (inside_of b b.finished (InBlock u ∷ open_views os), Item) in p) (sym f)
     ∙ ap (λ (u : Inside). let p : Inside × Stage = (u, Item) in p) (sym g)
 
--- it ends the part behind `else`
+-- it ends the part after `else`
 pub settled-else : (w : Bool) (b : Inside) (xs os : List open_statement.Open) (o : open_statement.Open) (s : Stmt) (c : Expr) (t r : Stmt) → xs ≡ os ++ o ∷ [] → open_view o ≡ InElse c t → r ≡ IfElse c t s → settled w b (open_views xs) s ≡ settled w b (open_views os) r
 settled-else w b xs os o s c t r e d f =
     ap (λ (v : List Open). settled w b v s) (open_views-last xs os o (InElse c t) e d)
     ∙ ap (λ (u : Stmt). settled w b (open_views os) u) (sym f)
 
 -- it ends a `for`
-pub settled-for : (w : Bool) (b : Inside) (xs os : List open_statement.Open) (o : open_statement.Open) (s : Stmt) (a : Start) (c : Option Expr) (l : Option Action) (r : Stmt) → xs ≡ os ++ o ∷ [] → open_view o ≡ InFor a c l → r ≡ For a c l s → settled w b (open_views xs) s ≡ settled w b (open_views os) r
+pub settled-for : (w : Bool) (b : Inside) (xs os : List open_statement.Open) (o : open_statement.Open) (s : Stmt) (a : Beginning) (c : Option Expr) (l : Option Action) (r : Stmt) → xs ≡ os ++ o ∷ [] → open_view o ≡ InFor a c l → r ≡ For a c l s → settled w b (open_views xs) s ≡ settled w b (open_views os) r
 settled-for w b xs os o s a c l r e d f =
     ap (λ (v : List Open). settled w b v s) (open_views-last xs os o (InFor a c l) e d)
     ∙ ap (λ (u : Stmt). settled w b (open_views os) u) (sym f)

@@ -4,17 +4,17 @@ use Rattle.cc_syntax.specs.declared.ast.AssignmentOperator.{AssignmentOperator}
 use Rattle.cc_syntax.specs.declared.ast.AssignmentOperator.TheVariants as assignment
 use Rattle.cc_syntax.specs.declared.ast.StepOperator.{StepOperator}
 use Rattle.cc_syntax.specs.declared.ast.StepOperator.TheVariants as stepping
-use Rattle.cc_syntax.specs.declared.token.Punctuator.TheVariants as punctuator
-use Rattle.cc_syntax.specs.declared.token.TokenKind.{TokenKind}
-use Rattle.cc_syntax.specs.declared.token.TokenKind.TheVariants as kind
+use Rattle.cc_tokens.specs.declared.token.Punctuator.TheVariants as punctuator
+use Rattle.cc_tokens.specs.declared.token.TokenKind.{TokenKind}
+use Rattle.cc_tokens.specs.declared.token.TokenKind.TheVariants as kind
 use Rattle.cc_syntax.specs.declared.parser.role.Role.{Role}
 use Rattle.cc_syntax.specs.declared.parser.role.Role.TheVariants as role
-use Rattle.cc_syntax.specs.Token.{Lexeme}
+use Rattle.cc_tokens.specs.Token.{Lexeme}
 use Rattle.cc_syntax.specs.Tree.{Name, Expr, Variable, Element, Target, AtVariable, AtElement, Action, Assign, Step, Evaluate, Performs, Perform}
-use Rattle.cc_syntax.specs.Roles.{role_of, punctuator_role}
-use Rattle.cc_syntax.specs.Grammar.{Placed, outside, full, full_after, begins, identifier, assignment_punctuator, step_punctuator, SpellsExpression, SpellsTarget, SpellsAction}
-use Rattle.cc_syntax.specs.Machine.{State, Operand, ForTesting, InFor, in_body, inside_of, settled, InBody, InFull, Inside, Item, Stepping, StepNamed, Stepped, Context, OfBody, ToPerform, ToAssign, ToStep, Spot, AsStatement, AsStart, AsLast, Waiting, Index, Full, full_of, reduced, close, assign, step_target, acted, end_full, operator_step, operand_step, action_step, role_step, role_level, name_of, count_of}
-use Rattle.cc_syntax.proofs.MachineRuns.{Runs, token, runs-append}
+use Rattle.cc_syntax.specs.internal.Roles.{role_of, punctuator_role}
+use Rattle.cc_syntax.specs.Grammar.{Measured, outside, full, full_after, begins, identifier, assignment_punctuator, step_punctuator, SpellsExpression, SpellsTarget, SpellsAction}
+use Rattle.cc_syntax.specs.internal.Parser.{State, Operand, ForTesting, InFor, in_body, inside_of, settled, InBody, InFull, Inside, Item, Stepping, StepNamed, Stepped, Context, OfBody, ToPerform, ToAssign, ToStep, Spot, AsStatement, AsStart, AsLast, Waiting, Index, Full, full_of, reduced, close, assign, step_target, acted, end_full, operator_step, operand_step, action_step, role_step, role_level, name_of, count_of}
+use Rattle.cc_syntax.proofs.ParserRuns.{Runs, token, runs-append}
 use Rattle.cc_syntax.proofs.Forms.{operand, operator, count_after, count_after-append, full_after-append, runs-full}
 use Rattle.cc_syntax.proofs.Settles.{settled-count, none-some}
 use Rattle.cc_syntax.proofs.ReadsExpression.{Read, read_expression}
@@ -27,7 +27,7 @@ read_full e xs c n h = read_expression e 1 xs c n [] h tt (omega arith)
 abbrev pub Closes : TokenKind → Type 0
 Closes k = (f : Full) (e : Expr) → operator_step f e (role_of k) ≡ close f (role_of k) (reduced 1 f.waiting e)
 
--- a full expression, and the token behind it
+-- a full expression, and the token after it
 pub read_ended : (c : Context) (n : ℕ) (xs : List Lexeme) (e : Expr) (x : Lexeme) (k : TokenKind) (m : State) (j : ℕ) → SpellsExpression 1 xs e → x.kind ≡ k → Closes k → end_full c (count_after n xs) e (role_of k) ≡ Some m → j ≡ count_of m → Runs (operand c n []) (full_after n xs ++ record { token = x; count = j; level = 0 } ∷ []) m
 read_ended c n xs e x k m j h i closes ends counts =
     let r = read_full e xs c n h in
@@ -36,7 +36,7 @@ read_ended c n xs e x k m j h i closes ends counts =
     runs-append _ last m (full_after n xs) (record { token = x; count = j; level = 0 } ∷ []) r.runs
     (token last m m x k j 0 [] i (closes f r.last ∙ ap (λ (z : Expr × List Waiting). close f (role_of k) z) (r.same 1 (omega arith)) ∙ ends) counts refl refl)
 
--- the operator behind a target is read where an action begins
+-- the operator after a target is read where an action begins
 
 assign_step : (op : AssignmentOperator) (f : Full) (e : Expr) → operator_step f e (punctuator_role (assignment_punctuator op)) ≡ assign f e op f.waiting
 assign_step assignment.Plain f e = refl
@@ -60,7 +60,7 @@ abbrev expression_of : Target → Expr
 expression_of (AtVariable v) = Variable v
 expression_of (AtElement v e) = Element v e
 
--- a target is read as the name or the element that it is, and nothing waits behind it
+-- a target is read as the name or the element that it is, and nothing waits after it
 record ReadTarget (c : Context) (n : ℕ) (xs : List Lexeme) (t : Target) : Type 0 where
   runs : Runs (operand c n []) (full_after n xs) (operator c (count_after n xs) [] (expression_of t))
 
@@ -89,7 +89,7 @@ steps_to : (t : Target) (b : Inside) (p : Spot) (k : ℕ) (op : StepOperator) �
 steps_to (AtVariable v) b p k op = step_step op (full_of (OfBody b (ToPerform p)) [] k) (Variable v)
 steps_to (AtElement v e) b p k op = step_step op (full_of (OfBody b (ToPerform p)) [] k) (Element v e)
 
--- the token that ends an action, and the state behind it
+-- the token that ends an action, and the state after it
 abbrev pub terminator : Spot → TokenKind
 terminator AsStatement = kind.Punctuator punctuator.Semicolon
 terminator AsStart = kind.Punctuator punctuator.Semicolon
@@ -137,13 +137,13 @@ pub no-operator : (c : Context) (n k : ℕ) (us ws : List Waiting) (last : Expr)
 no-operator c n k us ws last h = let e : true ≡ false = ap (λ (s : State). at_operand s) h in cc
 
 -- an action whose first token begins an expression
-enter : (xs : List Lexeme) (s : State) (b : Inside) (p : Spot) (level k : ℕ) (ws : List Waiting) (last : Expr) (rest : List Placed) (m : State) → Enters s b p level → Runs (operand (OfBody b (ToPerform p)) 0 []) (full xs) (operator (OfBody b (ToPerform p)) k ws last) → Runs (operator (OfBody b (ToPerform p)) k ws last) rest m → Runs s (begins level (full xs ++ rest)) m
+enter : (xs : List Lexeme) (s : State) (b : Inside) (p : Spot) (level k : ℕ) (ws : List Waiting) (last : Expr) (rest : List Measured) (m : State) → Enters s b p level → Runs (operand (OfBody b (ToPerform p)) 0 []) (full xs) (operator (OfBody b (ToPerform p)) k ws last) → Runs (operator (OfBody b (ToPerform p)) k ws last) rest m → Runs s (begins level (full xs ++ rest)) m
 enter [] s b p level k ws last rest m e h g = absurd (no-operator (OfBody b (ToPerform p)) 0 k [] ws last h)
 enter (x ∷ xs) s b p level k ws last rest m e h g =
     let goes = operand-acts (role_of x.kind) b p (name_of x) h.0 h.1 in
     (h.0, e.first (role_of x.kind) (name_of x) h.0 goes, h.2, e.begun (role_of x.kind) (name_of x) h.0 goes, runs-append h.0 (operator (OfBody b (ToPerform p)) k ws last) m (full_after 1 xs) rest h.4 g)
 
--- an increment or decrement before its target, and the token behind that
+-- an increment or decrement before its target, and the token after that
 read_stepped : (t : Target) (op : StepOperator) (xs : List Lexeme) (b : Inside) (p : Spot) (x : Lexeme) → SpellsTarget xs t → x.kind ≡ terminator p → Runs (InBody b (Stepping op p)) (full_after 1 xs ++ outside x ∷ []) (behind b p (Step op t))
 read_stepped (AtVariable v) op xs b p x h i =
     let m = behind b p (Step op (AtVariable v)) in
@@ -161,7 +161,7 @@ read_stepped (AtElement v e) op xs b p x h i =
     let last : Runs stepped (outside x ∷ []) m =
     token stepped m m x (terminator p) 0 0 [] i (acted-behind p b (Step op (AtElement v e))) (behind-count p b (Step op (AtElement v e))) refl refl in
     let inner : Runs (operand c 3 []) (full_after 3 (h.2 ++ h.1 ∷ []) ++ outside x ∷ []) m =
-    subst (λ (z : List Placed). Runs (operand c 3 []) (z ++ outside x ∷ []) m) (sym (full_after-append 3 h.2 (h.1 ∷ [])))
+    subst (λ (z : List Measured). Runs (operand c 3 []) (z ++ outside x ∷ []) m) (sym (full_after-append 3 h.2 (h.1 ∷ [])))
     (runs-append _ stepped m (full_after 3 h.2 ++ record { token = h.1; count = suc k; level = 0 } ∷ []) (outside x ∷ []) index last) in
     let runs : Runs (InBody b (Stepping op p)) (full_after 1 (identifier v ∷ h.0 ∷ h.2 ++ h.1 ∷ []) ++ outside x ∷ []) m =
     token (InBody b (Stepping op p)) (InBody b (StepNamed op v p)) m (identifier v) kind.Identifier 2 0 (full_after 2 (h.0 ∷ h.2 ++ h.1 ∷ []) ++ outside x ∷ []) refl refl refl refl
@@ -172,7 +172,7 @@ step-begins : (op : StepOperator) (b : Inside) (p : Spot) (v : Name) → action_
 step-begins stepping.Increment b p v = refl
 step-begins stepping.Decrement b p v = refl
 
--- an action, and the token behind it
+-- an action, and the token after it
 pub read_action : (a : Action) (xs : List Lexeme) (s : State) (b : Inside) (p : Spot) (level : ℕ) (x : Lexeme) → Enters s b p level → SpellsAction xs a → x.kind ≡ terminator p → Runs s (begins level (full xs ++ outside x ∷ [])) (behind b p a)
 read_action (Evaluate e) xs s b p level x enters h i =
     let c = OfBody b (ToPerform p) in
@@ -191,9 +191,9 @@ read_action (Assign op t e) xs s b p level x enters h i =
     let after : Runs (operator c n [] (expression_of t)) (full_after n (h.0 ∷ h.2) ++ outside x ∷ []) m =
     token (operator c n [] (expression_of t)) (operand (OfBody b (ToAssign op t p)) (suc n) []) m h.0 (kind.Punctuator (assignment_punctuator op)) (suc n) 0 (full_after (suc n) h.2 ++ outside x ∷ []) h.4 (assigns_to t b p n op) refl refl right in
     let grouped : full (h.1 ++ h.0 ∷ h.2) ++ outside x ∷ [] ≡ full h.1 ++ (full_after n (h.0 ∷ h.2) ++ outside x ∷ []) =
-    ap (λ (z : List Placed). z ++ outside x ∷ []) (full_after-append 0 h.1 (h.0 ∷ h.2)) ∙ append_assoc (full h.1) (full_after n (h.0 ∷ h.2)) (outside x ∷ []) in
+    ap (λ (z : List Measured). z ++ outside x ∷ []) (full_after-append 0 h.1 (h.0 ∷ h.2)) ∙ append_assoc (full h.1) (full_after n (h.0 ∷ h.2)) (outside x ∷ []) in
     subst (λ (z : List Lexeme). Runs s (begins level (full z ++ outside x ∷ [])) m) (sym h.6)
-    (subst (λ (z : List Placed). Runs s (begins level z) m) (sym grouped) (enter h.1 s b p level n [] (expression_of t) (full_after n (h.0 ∷ h.2) ++ outside x ∷ []) m enters left.runs after))
+    (subst (λ (z : List Measured). Runs s (begins level z) m) (sym grouped) (enter h.1 s b p level n [] (expression_of t) (full_after n (h.0 ∷ h.2) ++ outside x ∷ []) m enters left.runs after))
 read_action (Step op t) xs s b p level x enters (sign, target, marks, spelled, inl front) i =
     let m = behind b p (Step op t) in
     let after = read_stepped t op target b p x spelled i in
@@ -211,6 +211,6 @@ read_action (Step op t) xs s b p level x enters (sign, target, marks, spelled, i
     token (operator c n [] (expression_of t)) stepped m sign (kind.Punctuator (step_punctuator op)) (suc n) 0 (outside x ∷ []) marks (steps_to t b p n op) refl refl
     (token stepped m m x (terminator p) 0 0 [] i (acted-behind p b (Step op t)) (behind-count p b (Step op t)) refl refl) in
     let grouped : full (target ++ sign ∷ []) ++ outside x ∷ [] ≡ full target ++ (full_after n (sign ∷ []) ++ outside x ∷ []) =
-    ap (λ (z : List Placed). z ++ outside x ∷ []) (full_after-append 0 target (sign ∷ [])) ∙ append_assoc (full target) (full_after n (sign ∷ [])) (outside x ∷ []) in
+    ap (λ (z : List Measured). z ++ outside x ∷ []) (full_after-append 0 target (sign ∷ [])) ∙ append_assoc (full target) (full_after n (sign ∷ [])) (outside x ∷ []) in
     subst (λ (z : List Lexeme). Runs s (begins level (full z ++ outside x ∷ [])) m) (sym back)
-    (subst (λ (z : List Placed). Runs s (begins level z) m) (sym grouped) (enter target s b p level n [] (expression_of t) (full_after n (sign ∷ []) ++ outside x ∷ []) m enters left.runs after))
+    (subst (λ (z : List Measured). Runs s (begins level z) m) (sym grouped) (enter target s b p level n [] (expression_of t) (full_after n (sign ∷ []) ++ outside x ∷ []) m enters left.runs after))

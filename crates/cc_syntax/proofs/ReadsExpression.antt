@@ -1,25 +1,25 @@
--- Each expression that tokens spell is read from them: an induction on its tree. Behind its tokens the machine may still
+-- Each expression that tokens spell is read from them: an induction on its tree. After its tokens the machine may still
 -- hold parts of it that wait, which any operator of the level reduces to the whole expression.
 use Rattle.std.proofs.Common.{◌≡◌, ◌≤◌, ℕ, suc, List, [], ◌∷◌, ◌++◌, Some, refl, sym, ap, subst, ◌∙◌, arith, append_assoc, inl, inr}
 use Rattle.cc_syntax.specs.declared.ast.BinaryOperator.{BinaryOperator}
 use Rattle.cc_syntax.specs.declared.ast.BinaryOperator.TheVariants as binary
 use Rattle.cc_syntax.specs.declared.ast.UnaryOperator.{UnaryOperator}
 use Rattle.cc_syntax.specs.declared.ast.UnaryOperator.TheVariants as unary
-use Rattle.cc_syntax.specs.declared.ast.Scalar.{Scalar}
-use Rattle.cc_syntax.specs.declared.ast.Scalar.TheVariants as scalar
-use Rattle.cc_syntax.specs.declared.token.Keyword.TheVariants as keyword
-use Rattle.cc_syntax.specs.declared.token.Punctuator.TheVariants as punctuator
-use Rattle.cc_syntax.specs.declared.token.TokenKind.TheVariants as kind
+use Rattle.cc_tokens.specs.declared.scalar.Scalar.{Scalar}
+use Rattle.cc_tokens.specs.declared.scalar.Scalar.TheVariants as scalar
+use Rattle.cc_tokens.specs.declared.token.Keyword.TheVariants as keyword
+use Rattle.cc_tokens.specs.declared.token.Punctuator.TheVariants as punctuator
+use Rattle.cc_tokens.specs.declared.token.TokenKind.TheVariants as kind
 use Rattle.cc_syntax.specs.declared.parser.role.Role.TheVariants as role
-use Rattle.cc_syntax.specs.Token.{Lexeme}
+use Rattle.cc_tokens.specs.Token.{Lexeme}
 use Rattle.cc_syntax.specs.Tree.{Name, Expr, Number, Variable, Element, Call, Parenthesised, Unary, Cast, Binary, Conditional, Exprs, none, more}
-use Rattle.cc_syntax.specs.Roles.{punctuator_role}
+use Rattle.cc_syntax.specs.internal.Roles.{punctuator_role}
 use Rattle.cc_syntax.specs.Grammar.{Marks, SpellsType, SpellsExpression, SpellsArguments, full_after, precedence, binary_punctuator, unary_punctuator, identifier}
-use Rattle.cc_syntax.specs.Machine.{InFull, CastSign, CastType, Context, Waiting, Parenthesis, Index, Arguments, Prefix, Casting, Infix, Then, Otherwise, Full, full_of, reduced, operate, ask, close, operator_step, operand_step, with_argument, name_of}
-use Rattle.cc_syntax.proofs.MachineRuns.{Runs, token}
+use Rattle.cc_syntax.specs.internal.Parser.{InFull, CastSign, CastType, Context, Waiting, Parenthesis, Index, Arguments, Prefix, Casting, Infix, Then, Otherwise, Full, full_of, reduced, operate, ask, close, operator_step, operand_step, with_argument, name_of}
+use Rattle.cc_syntax.proofs.ParserRuns.{Runs, token}
 use Rattle.cc_syntax.proofs.Forms.{operand, operator, count_after, count_after-append, runs-full, pops, Fits, fits-more, fits-stays}
 
--- the tokens of an expression lead behind it, whatever stands before
+-- the tokens of an expression lead after it, whatever stands before
 pub record Read (c : Context) (n : ℕ) (ws : List Waiting) (l : ℕ) (xs : List Lexeme) (e : Expr) : Type 0 where
   pub last : Expr
   pub waiting : List Waiting
@@ -83,11 +83,11 @@ whole c n ws l xs ys e k h i r =
     subst (λ (z : List Lexeme). Read c n ws l z e) (sym h)
     (record { last = e; waiting = ws; runs = subst (λ (j : ℕ). Runs (operand c n ws) (full_after n ys) (operator c j ws e)) i r; same = λ q k. refl })
 
--- an operator behind its left operand
+-- an operator after its left operand
 behind_left : (op : BinaryOperator) (c : Context) (n : ℕ) (ws left : List Waiting) (last a : Expr) → reduced (precedence op) left last ≡ (a, ws) → operator_step (full_of c left n) last (punctuator_role (binary_punctuator op)) ≡ Some (operand c (suc n) (Infix op a ∷ ws))
 behind_left op c n ws left last a h = binary_step op (full_of c left n) last ∙ ap (λ (r : Expr × List Waiting). operate (full_of c left n) op r) h
 
--- the words of a type, and the parenthesis behind them, in a cast
+-- the words of a type, and the parenthesis after them, in a cast
 read_type : (t : Scalar) (xs : List Lexeme) (closing : Lexeme) (c : Context) (n : ℕ) (ws : List Waiting) → SpellsType xs t → Marks punctuator.CloseParenthesis closing → Runs (operand c n (Parenthesis ∷ ws)) (full_after n (xs ++ closing ∷ [])) (operand c (suc (count_after n xs)) (Casting t ∷ ws))
 read_type t xs closing c n ws (inl h) k =
     subst (λ (u : Scalar). Runs (operand c n (Parenthesis ∷ ws)) (full_after n (xs ++ closing ∷ [])) (operand c (suc (count_after n xs)) (Casting u ∷ ws))) (sym h.1)
@@ -113,7 +113,7 @@ read_type scalar.Unsigned xs closing c n ws (inr (inr h)) k =
     (token (InFull (full_of c ws (suc n)) (CastSign scalar.Unsigned)) (InFull (full_of c ws (suc (suc n))) (CastType scalar.Unsigned)) _ h.1 (kind.Keyword keyword.Int) (suc (suc n)) 0 (full_after (suc (suc n)) (closing ∷ [])) h.3 refl refl refl
     (token (InFull (full_of c ws (suc (suc n))) (CastType scalar.Unsigned)) (operand c (suc (suc (suc n))) (Casting scalar.Unsigned ∷ ws)) _ closing (kind.Punctuator punctuator.CloseParenthesis) (suc (suc (suc n))) 0 [] k refl refl refl refl)))
 
--- arguments behind those that have come
+-- arguments after those that have come
 abbrev pub appended : Exprs → Exprs → Exprs
 appended done none = done
 appended done (more e es) = appended (with_argument done e) es
@@ -249,7 +249,7 @@ mutual
         same = λ q k. right.same q (omega (arith, h.5, k)) ∙ pops q 1 _ _ (omega (arith, h.5, k));
       })
 
-  -- the arguments of a call, and the parenthesis behind them
+  -- the arguments of a call, and the parenthesis after them
   read_arguments : (es : Exprs) (xs : List Lexeme) (closing : Lexeme) (v : Name) (done : Exprs) (c : Context) (n : ℕ) (ws : List Waiting) → Comes done es → SpellsArguments xs es → Marks punctuator.CloseParenthesis closing → Runs (operand c n (Arguments v done ∷ ws)) (full_after n (xs ++ closing ∷ [])) (operator c (suc (count_after n xs)) ws (Call v (appended done es)))
   read_arguments none xs closing v done c n ws p h k =
       subst (λ (z : List Lexeme). Runs (operand c n (Arguments v done ∷ ws)) (full_after n (z ++ closing ∷ [])) (operator c (suc (count_after n z)) ws (Call v done))) (sym h)

@@ -1,21 +1,21 @@
 -- Each external declaration, and each unit, that tokens spell is read from them.
 use Rattle.std.proofs.Common.{◌≡◌, ℕ, Bool, true, List, [], ◌∷◌, ◌++◌, map, Option, Some, None, refl, sym, ap, subst, ◌∙◌, arith, append_assoc, inl, inr}
 use Rattle.std.specs.Prelude.{◌&&◌, is_some}
-use Rattle.cc_syntax.specs.declared.ast.Scalar.{Scalar}
-use Rattle.cc_syntax.specs.declared.ast.Scalar.TheVariants as scalar
+use Rattle.cc_tokens.specs.declared.scalar.Scalar.{Scalar}
+use Rattle.cc_tokens.specs.declared.scalar.Scalar.TheVariants as scalar
 use Rattle.cc_syntax.specs.declared.ast.AssignmentOperator.TheVariants as assignment
-use Rattle.cc_syntax.specs.declared.token.Keyword.TheVariants as keyword
-use Rattle.cc_syntax.specs.declared.token.Punctuator.TheVariants as punctuator
-use Rattle.cc_syntax.specs.declared.token.TokenKind.{TokenKind}
-use Rattle.cc_syntax.specs.declared.token.TokenKind.TheVariants as kind
+use Rattle.cc_tokens.specs.declared.token.Keyword.TheVariants as keyword
+use Rattle.cc_tokens.specs.declared.token.Punctuator.TheVariants as punctuator
+use Rattle.cc_tokens.specs.declared.token.TokenKind.{TokenKind}
+use Rattle.cc_tokens.specs.declared.token.TokenKind.TheVariants as kind
 use Rattle.cc_syntax.specs.declared.parser.role.Role.{Role}
 use Rattle.cc_syntax.specs.declared.parser.role.Role.TheVariants as role
-use Rattle.cc_syntax.specs.Token.{Lexeme}
+use Rattle.cc_tokens.specs.Token.{Lexeme}
 use Rattle.cc_syntax.specs.Tree.{Name, Expr, Stmts, end, Block, ConstantExpr, Parameter, Signature, Object, Single, Array, External, Declaration, Definition, Objects}
-use Rattle.cc_syntax.specs.Roles.{role_of}
-use Rattle.cc_syntax.specs.Grammar.{Placed, outside, full, identifier, Marks, SpellsType, SpellsStatement, SpellsRow, BeginsAt, SpellsConstantExpr, SpellsOptionalConstant, IsOptionalComma, SpellsList, SpellsObject, optional_identifier, SpellsParameter, SpellsParameters, SpellsResult, SpellsSignature, AreNamed, SpellsExternal, SpellsExternals, SpellsUnit}
-use Rattle.cc_syntax.specs.Machine.{State, AtFile, InBody, Inside, Item, Between, ResultSign, Typed, Named, Parameters, OnlyVoid, ParameterNext, ParameterSign, ParameterTyped, ParameterNamed, Headed, ObjectNext, ObjectNamed, Sizing, Sized, Initialising, Listing, Valuing, Listed, Naming, Context, OfObject, ToSize, ToSingle, ToValue, Waiting, full_of, close, first_step, with_object, with_parameter, signature_of, all_named, defines, end_list, role_step, role_level, name_of, count_of, start}
-use Rattle.cc_syntax.proofs.MachineRuns.{Runs, token, runs-append}
+use Rattle.cc_syntax.specs.internal.Roles.{role_of}
+use Rattle.cc_syntax.specs.Grammar.{Measured, outside, full, identifier, Marks, SpellsType, SpellsStatement, SpellsRow, BeginsAt, SpellsConstantExpr, SpellsOptionalConstant, IsOptionalComma, SpellsList, SpellsObject, optional_identifier, SpellsParameter, SpellsParameters, SpellsResult, SpellsSignature, AreNamed, SpellsExternal, SpellsExternals, SpellsUnit}
+use Rattle.cc_syntax.specs.internal.Parser.{State, AtFile, InBody, Inside, Item, Between, ResultSign, Typed, Named, Parameters, OnlyVoid, ParameterNext, ParameterSign, ParameterTyped, ParameterNamed, Headed, ObjectNext, ObjectNamed, Sizing, Sized, Initialising, Listing, Valuing, Listed, Naming, Context, OfObject, ToSize, ToSingle, ToValue, Waiting, full_of, close, first_step, with_object, with_parameter, signature_of, all_named, defines, end_list, role_step, role_level, name_of, count_of, start}
+use Rattle.cc_syntax.proofs.ParserRuns.{Runs, token, runs-append}
 use Rattle.cc_syntax.proofs.Forms.{operand, operator, count_after}
 use Rattle.cc_syntax.proofs.Settles.{none-some}
 use Rattle.cc_syntax.proofs.ReadsAction.{read_full, Closes}
@@ -23,7 +23,7 @@ use Rattle.cc_syntax.proofs.ReadsStatement.{appended, appended-end, Top, body_at
 
 -- the words of a type
 
--- a state in which a type may come, and the states behind `int` and behind `signed` or `unsigned`
+-- a state in which a type may come, and the states after `int` and after `signed` or `unsigned`
 record TypeWords (s : State) (typed sign : Scalar → State) : Type 0 where
   int : (v : Name) → role_step s role.Int v ≡ Some (typed scalar.Int)
   signed : (t : Scalar) (v : Name) → role_step s (role.SignWord t) v ≡ Some (sign t)
@@ -34,7 +34,7 @@ record TypeWords (s : State) (typed sign : Scalar → State) : Type 0 where
   typed_count : (t : Scalar) → 0 ≡ count_of (typed t)
   sign_count : (t : Scalar) → 0 ≡ count_of (sign t)
 
-read_words : (t : Scalar) (xs : List Lexeme) (s : State) (typed sign : Scalar → State) (P : State → Type 0) (rest : List Placed) (m : State) → TypeWords s typed sign → P (typed t) → P (sign t) → SpellsType xs t → ((a : State) → P a → Runs a rest m) → Runs s (map outside xs ++ rest) m
+read_words : (t : Scalar) (xs : List Lexeme) (s : State) (typed sign : Scalar → State) (P : State → Type 0) (rest : List Measured) (m : State) → TypeWords s typed sign → P (typed t) → P (sign t) → SpellsType xs t → ((a : State) → P a → Runs a rest m) → Runs s (map outside xs ++ rest) m
 read_words t xs s typed sign P rest m w p q (inl h) on =
     subst (λ (z : List Lexeme). Runs s (map outside z ++ rest) m) (sym h.3)
     (token s (typed scalar.Int) m h.0 (kind.Keyword keyword.Int) 0 0 rest h.2 (w.int (name_of h.0)) (w.typed_count scalar.Int) w.int_level
@@ -56,16 +56,16 @@ read_words scalar.Unsigned xs s typed sign P rest m w p q (inr (inr h)) on =
 
 -- constant expressions
 
--- a constant expression where one may begin, and the token behind it
-read_constant : (e : ConstantExpr) (ts : List Placed) (s : State) (c : Context) (x : Lexeme) (k : TokenKind) (rest : List Placed) (n m : State) → SpellsConstantExpr ts e → ((r : Role) (v : Name) (z : State) → v.at ≡ e.at → first_step c r v ≡ Some z → role_step s r v ≡ Some z) → ((r : Role) (v : Name) (z : State) → first_step c r v ≡ Some z → 0 ≡ role_level s r) → x.kind ≡ k → Closes k → ((j : ℕ) → close (full_of c [] j) (role_of k) (e.expr, []) ≡ Some n) → 0 ≡ count_of n → Runs n rest m → Runs s (ts ++ outside x ∷ rest) m
+-- a constant expression where one may begin, and the token after it
+read_constant : (e : ConstantExpr) (ts : List Measured) (s : State) (c : Context) (x : Lexeme) (k : TokenKind) (rest : List Measured) (n m : State) → SpellsConstantExpr ts e → ((r : Role) (v : Name) (z : State) → v.at ≡ e.at → first_step c r v ≡ Some z → role_step s r v ≡ Some z) → ((r : Role) (v : Name) (z : State) → first_step c r v ≡ Some z → 0 ≡ role_level s r) → x.kind ≡ k → Closes k → ((j : ℕ) → close (full_of c [] j) (role_of k) (e.expr, []) ≡ Some n) → 0 ≡ count_of n → Runs n rest m → Runs s (ts ++ outside x ∷ rest) m
 read_constant e ts s c x k rest n m h first none i closes goes counts on =
     let r = read_full e.expr h.0 c 0 h.1 in
     let j = count_after 0 h.0 in
     let last : Runs (operator c j r.waiting r.last) (outside x ∷ rest) m =
     token (operator c j r.waiting r.last) n m x k 0 0 rest i (closes (full_of c r.waiting j) r.last ∙ ap (λ (z : Expr × List Waiting). close (full_of c r.waiting j) (role_of k) z) (r.same 1 (omega arith)) ∙ goes j) counts refl on in
-    subst (λ (z : List Placed). Runs s (z ++ outside x ∷ rest) m) (sym h.3) (enter h.0 j r.waiting r.last (outside x ∷ rest) h.2 r.runs last)
+    subst (λ (z : List Measured). Runs s (z ++ outside x ∷ rest) m) (sym h.3) (enter h.0 j r.waiting r.last (outside x ∷ rest) h.2 r.runs last)
   where
-    enter : (xs : List Lexeme) (j : ℕ) (ws : List Waiting) (last : Expr) (behind : List Placed) → BeginsAt e.at xs → Runs (operand c 0 []) (full xs) (operator c j ws last) → Runs (operator c j ws last) behind m → Runs s (full xs ++ behind) m
+    enter : (xs : List Lexeme) (j : ℕ) (ws : List Waiting) (last : Expr) (behind : List Measured) → BeginsAt e.at xs → Runs (operand c 0 []) (full xs) (operator c j ws last) → Runs (operator c j ws last) behind m → Runs s (full xs ++ behind) m
     enter [] j ws last behind b h g = absurd b
     enter (y ∷ ys) j ws last behind b h g =
         (h.0, first (role_of y.kind) (name_of y) h.0 b h.1, h.2, none (role_of y.kind) (name_of y) h.0 h.1, runs-append h.0 (operator c j ws last) m _ behind h.4 g)
@@ -84,7 +84,7 @@ abbrev behind_parameter : End → List External → Signature → State
 behind_parameter Comma es f = AtFile es (ParameterNext f)
 behind_parameter Parenthesis es f = AtFile es (Headed f)
 
--- a state behind the words of a parameter's type
+-- a state after the words of a parameter's type
 record InParameter (es : List External) (f : Signature) (t : Scalar) (s : State) : Type 0 where
   named : (v : Name) → role_step s role.Identifier v ≡ Some (AtFile es (ParameterNamed (with_parameter f t (Some v))))
   ends : (z : End) (v : Name) → role_step s (role_of (end_kind z)) v ≡ Some (behind_parameter z es (with_parameter f t None))
@@ -143,18 +143,18 @@ words-first es f = record { int = λ v. refl; signed = λ t v. refl; int_behind 
 words-next : (es : List External) (f : Signature) → ParameterWords es f (AtFile es (ParameterNext f))
 words-next es f = record { int = λ v. refl; signed = λ t v. refl; int_behind = λ t v. refl; int_level = refl; sign_level = λ t. refl; behind_level = λ t. refl; typed_count = λ t. refl; sign_count = λ t. refl }
 
-read_parameter : (p : Parameter) (ts : List Placed) (es : List External) (f : Signature) (s : State) (z : End) (x : Lexeme) → ParameterWords es f s → SpellsParameter ts p → x.kind ≡ end_kind z → Runs s (ts ++ outside x ∷ []) (behind_parameter z es (with_parameter f p.scalar p.name))
+read_parameter : (p : Parameter) (ts : List Measured) (es : List External) (f : Signature) (s : State) (z : End) (x : Lexeme) → ParameterWords es f s → SpellsParameter ts p → x.kind ≡ end_kind z → Runs s (ts ++ outside x ∷ []) (behind_parameter z es (with_parameter f p.scalar p.name))
 read_parameter p ts es f s z x w h k =
     let m = behind_parameter z es (with_parameter f p.scalar p.name) in
     let name = map outside (optional_identifier p.name) in
     let runs = read_words p.scalar h.0 s (λ t. AtFile es (ParameterTyped f t)) (λ t. AtFile es (ParameterSign f t)) (InParameter es f p.scalar) (name ++ outside x ∷ []) m w (in-typed es f p.scalar) (in-sign es f p.scalar) h.1
     (λ a i. read_parameter_name p.name es f p.scalar a z x i k) in
-    subst (λ (ps : List Placed). Runs s ps m) (sym (append_assoc (map outside h.0) name (outside x ∷ [])) ∙ ap (λ (ps : List Placed). ps ++ outside x ∷ []) (sym h.2)) runs
+    subst (λ (ps : List Measured). Runs s ps m) (sym (append_assoc (map outside h.0) name (outside x ∷ [])) ∙ ap (λ (ps : List Measured). ps ++ outside x ∷ []) (sym h.2)) runs
 
 abbrev with_parameters : Signature → List Parameter → Signature
 with_parameters f ps = record { result = f.result; name = f.name; parameters = f.parameters ++ ps }
 
-read_parameter_row : (ps : List Parameter) (ts : List Placed) (es : List External) (f : Signature) (s : State) (x : Lexeme) → ParameterWords es f s → SpellsRow SpellsParameter ts ps → Marks punctuator.CloseParenthesis x → Runs s (ts ++ outside x ∷ []) (AtFile es (Headed (with_parameters f ps)))
+read_parameter_row : (ps : List Parameter) (ts : List Measured) (es : List External) (f : Signature) (s : State) (x : Lexeme) → ParameterWords es f s → SpellsRow SpellsParameter ts ps → Marks punctuator.CloseParenthesis x → Runs s (ts ++ outside x ∷ []) (AtFile es (Headed (with_parameters f ps)))
 read_parameter_row [] ts es f s x w h k = absurd h
 read_parameter_row (p ∷ []) ts es f s x w h k = read_parameter p ts es f s Parenthesis x w h k
 read_parameter_row (p ∷ q ∷ ps) ts es f s x w h k =
@@ -165,20 +165,20 @@ read_parameter_row (p ∷ q ∷ ps) ts es f s x w h k =
     let joined : Runs (AtFile es (ParameterNext g)) (h.2 ++ outside x ∷ []) m =
     subst (λ (z : List Parameter). Runs (AtFile es (ParameterNext g)) (h.2 ++ outside x ∷ []) (AtFile es (Headed (record { result = f.result; name = f.name; parameters = z })))) (append_assoc f.parameters (p ∷ []) (q ∷ ps)) others in
     let runs = runs-append s (AtFile es (ParameterNext g)) m (h.1 ++ outside h.0 ∷ []) (h.2 ++ outside x ∷ []) first joined in
-    subst (λ (z : List Placed). Runs s z m) (regroup h.1 (outside h.0) h.2 (outside x) ∙ ap (λ (z : List Placed). z ++ outside x ∷ []) (sym h.6)) runs
+    subst (λ (z : List Measured). Runs s z m) (regroup h.1 (outside h.0) h.2 (outside x) ∙ ap (λ (z : List Measured). z ++ outside x ∷ []) (sym h.6)) runs
   where
-    regroup : (a : List Placed) (p : Placed) (c : List Placed) (q : Placed) → (a ++ p ∷ []) ++ (c ++ q ∷ []) ≡ (a ++ p ∷ c) ++ q ∷ []
+    regroup : (a : List Measured) (p : Measured) (c : List Measured) (q : Measured) → (a ++ p ∷ []) ++ (c ++ q ∷ []) ≡ (a ++ p ∷ c) ++ q ∷ []
     regroup a p c q = simp append_assoc
 
-read_parameters : (ps : List Parameter) (ts : List Placed) (es : List External) (f : Signature) (x : Lexeme) → SpellsParameters ts ps → Marks punctuator.CloseParenthesis x → f.parameters ≡ [] → Runs (AtFile es (Parameters f)) (ts ++ outside x ∷ []) (AtFile es (Headed (with_parameters f ps)))
+read_parameters : (ps : List Parameter) (ts : List Measured) (es : List External) (f : Signature) (x : Lexeme) → SpellsParameters ts ps → Marks punctuator.CloseParenthesis x → f.parameters ≡ [] → Runs (AtFile es (Parameters f)) (ts ++ outside x ∷ []) (AtFile es (Headed (with_parameters f ps)))
 read_parameters [] ts es f x (inl h) k e =
-    subst (λ (z : List Placed). Runs (AtFile es (Parameters f)) (z ++ outside x ∷ []) (AtFile es (Headed (with_parameters f [])))) (sym h)
+    subst (λ (z : List Measured). Runs (AtFile es (Parameters f)) (z ++ outside x ∷ []) (AtFile es (Headed (with_parameters f [])))) (sym h)
     (token (AtFile es (Parameters f)) (AtFile es (Headed (with_parameters f []))) _ x (kind.Punctuator punctuator.CloseParenthesis) 0 0 [] k (headed f e) refl refl refl)
   where
     headed : (f : Signature) → f.parameters ≡ [] → Some (AtFile es (Headed f)) ≡ Some (AtFile es (Headed (with_parameters f [])))
     headed f e = ap (λ (z : List Parameter). Some (AtFile es (Headed (record { result = f.result; name = f.name; parameters = z })))) (e ∙ ap (λ (z : List Parameter). z ++ []) (sym e))
 read_parameters [] ts es f x (inr h) k e =
-    subst (λ (z : List Placed). Runs (AtFile es (Parameters f)) (z ++ outside x ∷ []) (AtFile es (Headed (with_parameters f [])))) (sym h.2)
+    subst (λ (z : List Measured). Runs (AtFile es (Parameters f)) (z ++ outside x ∷ []) (AtFile es (Headed (with_parameters f [])))) (sym h.2)
     (token (AtFile es (Parameters f)) (AtFile es (OnlyVoid f)) _ h.0 (kind.Keyword keyword.Void) 0 0 (outside x ∷ []) h.1 refl refl refl
     (token (AtFile es (OnlyVoid f)) (AtFile es (Headed (with_parameters f []))) _ x (kind.Punctuator punctuator.CloseParenthesis) 0 0 [] k (headed f e) refl refl refl))
   where
@@ -196,23 +196,23 @@ record FirstName (es : List External) (r : Option Scalar) (s : State) : Type 0 w
 words-external : (es : List External) → TypeWords (AtFile es Between) (λ t. AtFile es (Typed (Some t))) (λ t. AtFile es (ResultSign t))
 words-external es = record { int = λ v. refl; signed = λ t v. refl; int_behind = λ t v. refl; int_level = refl; sign_level = λ t. refl; behind_level = λ t. refl; typed_count = λ t. refl; sign_count = λ t. refl }
 
-read_first_type : (t : Scalar) (xs : List Lexeme) (es : List External) (rest : List Placed) (m : State) → SpellsType xs t → ((a : State) → FirstName es (Some t) a → Runs a rest m) → Runs (AtFile es Between) (map outside xs ++ rest) m
+read_first_type : (t : Scalar) (xs : List Lexeme) (es : List External) (rest : List Measured) (m : State) → SpellsType xs t → ((a : State) → FirstName es (Some t) a → Runs a rest m) → Runs (AtFile es Between) (map outside xs ++ rest) m
 read_first_type t xs es rest m h on =
     read_words t xs (AtFile es Between) (λ u. AtFile es (Typed (Some u))) (λ u. AtFile es (ResultSign u)) (FirstName es (Some t)) rest m (words-external es) (record { named = λ v. refl; begun = refl }) (record { named = λ v. refl; begun = refl }) h on
 
-read_result : (r : Option Scalar) (xs : List Lexeme) (es : List External) (rest : List Placed) (m : State) → SpellsResult xs r → ((a : State) → FirstName es r a → Runs a rest m) → Runs (AtFile es Between) (map outside xs ++ rest) m
+read_result : (r : Option Scalar) (xs : List Lexeme) (es : List External) (rest : List Measured) (m : State) → SpellsResult xs r → ((a : State) → FirstName es r a → Runs a rest m) → Runs (AtFile es Between) (map outside xs ++ rest) m
 read_result None xs es rest m h on =
     subst (λ (z : List Lexeme). Runs (AtFile es Between) (map outside z ++ rest) m) (sym h.2)
     (token (AtFile es Between) (AtFile es (Typed None)) m h.0 (kind.Keyword keyword.Void) 0 0 rest h.1 refl refl refl
     (on (AtFile es (Typed None)) (record { named = λ v. refl; begun = refl })))
 read_result (Some t) xs es rest m h on = read_first_type t xs es rest m h on
 
-read_signature : (f : Signature) (ts : List Placed) (es : List External) → SpellsSignature ts f → Runs (AtFile es Between) ts (AtFile es (Headed f))
+read_signature : (f : Signature) (ts : List Measured) (es : List External) → SpellsSignature ts f → Runs (AtFile es Between) ts (AtFile es (Headed f))
 read_signature f ts es h =
     let m = AtFile es (Headed f) in
     let g = signature_of f.result f.name in
     let parameters : Runs (AtFile es (Parameters g)) (h.3 ++ outside h.2 ∷ []) m = read_parameters f.parameters h.3 es g h.2 h.7 h.6 refl in
-    subst (λ (z : List Placed). Runs (AtFile es Between) z m) (sym h.8)
+    subst (λ (z : List Measured). Runs (AtFile es Between) z m) (sym h.8)
     (read_result f.result h.0 es (outside (identifier f.name) ∷ outside h.1 ∷ h.3 ++ outside h.2 ∷ []) m h.4 (λ a first.
     token a (AtFile es (Named f.result f.name)) m (identifier f.name) kind.Identifier 0 0 (outside h.1 ∷ h.3 ++ outside h.2 ∷ []) refl (first.named f.name) refl first.begun
     (token (AtFile es (Named f.result f.name)) (AtFile es (Parameters g)) m h.1 (kind.Punctuator punctuator.OpenParenthesis) 0 0 (h.3 ++ outside h.2 ∷ []) h.5 (opens f.result) refl refl parameters)))
@@ -227,14 +227,14 @@ named-all : (ps : List Parameter) → AreNamed ps → all_named ps ≡ true
 named-all [] h = refl
 named-all (p ∷ ps) h = ap (λ (n : Option Name). is_some n && all_named ps) h.0.1 ∙ named-all ps h.1
 
-read_body : (ss : Stmts) (ts : List Placed) (es : List External) (f : Signature) → AreNamed f.parameters → SpellsStatement 1 ts (Block ss) → Runs (AtFile es (Headed f)) ts (AtFile (es ++ Definition f ss ∷ []) Between)
+read_body : (ss : Stmts) (ts : List Measured) (es : List External) (f : Signature) → AreNamed f.parameters → SpellsStatement 1 ts (Block ss) → Runs (AtFile es (Headed f)) ts (AtFile (es ++ Definition f ss ∷ []) Between)
 read_body ss ts es f named h =
     let b : Inside = record { externals = es; signature = f; finished = end; opened = [] } in
     let m = AtFile (es ++ Definition f ss ∷ []) Between in
     let last : Runs (InBody (body_at Top b (appended end ss)) Item) (outside h.1 ∷ []) m =
     token (InBody (body_at Top b (appended end ss)) Item) m m h.1 (kind.Punctuator punctuator.CloseBrace) 0 0 [] h.4 (ap (λ (r : Stmts). Some (AtFile (es ++ Definition f r ∷ []) Between)) (appended-end ss)) refl refl refl in
     let inner = read_statements ss h.2 Top b end (outside h.1) m h.5 last in
-    subst (λ (ps : List Placed). Runs (AtFile es (Headed f)) ps m) (sym h.6)
+    subst (λ (ps : List Measured). Runs (AtFile es (Headed f)) ps m) (sym h.6)
     (token (AtFile es (Headed f)) (InBody b Item) m h.0 (kind.Punctuator punctuator.OpenBrace) 0 1 (h.2 ++ outside h.1 ∷ []) h.3 (ap (λ (z : Bool). defines es f z) (named-all f.parameters named)) refl refl inner)
 
 -- objects
@@ -258,7 +258,7 @@ behind-count Further es t os = refl
 abbrev naming : Scalar → List Object → Name → Naming
 naming t os v = record { scalar = t; objects = os; name = v }
 
--- a state behind the name of an object
+-- a state after the name of an object
 record BehindName (es : List External) (n : Naming) (s : State) : Type 0 where
   bracket : (v : Name) → role_step s role.OpenBracket v ≡ Some (AtFile es (Sizing n))
   sign : (v : Name) → role_step s (role.Assignment assignment.Plain) v ≡ Some (AtFile es (Initialising n))
@@ -267,7 +267,7 @@ record BehindName (es : List External) (n : Naming) (s : State) : Type 0 where
   sign_level : 0 ≡ role_level s (role.Assignment assignment.Plain)
   ends_level : (z : Separator) → 0 ≡ role_level s (role_of (separator z))
 
--- a state in which an object is named behind others
+-- a state in which an object is named after others
 record NamesObject (es : List External) (t : Scalar) (os : List Object) (s : State) : Type 0 where
   next : Name → State
   named : (v : Name) → role_step s role.Identifier v ≡ Some (next v)
@@ -311,9 +311,9 @@ valuing-acts : (r : Role) (es : List External) (n : Naming) (size : Option Const
 valuing-acts role.CloseBrace es n size vs at v z e h = absurd (none-some _ z refl h)
 valuing-acts r es n size vs at v z e h = ap (λ (a : ℕ). first_step (OfObject es n (ToValue size vs a)) r v) e ∙ h
 
-read_size : (e : Option ConstantExpr) (ts : List Placed) (x : Lexeme) (es : List External) (n : Naming) (rest : List Placed) (m : State) → SpellsOptionalConstant ts e → Marks punctuator.CloseBracket x → Runs (AtFile es (Sized n e)) rest m → Runs (AtFile es (Sizing n)) (ts ++ outside x ∷ rest) m
+read_size : (e : Option ConstantExpr) (ts : List Measured) (x : Lexeme) (es : List External) (n : Naming) (rest : List Measured) (m : State) → SpellsOptionalConstant ts e → Marks punctuator.CloseBracket x → Runs (AtFile es (Sized n e)) rest m → Runs (AtFile es (Sizing n)) (ts ++ outside x ∷ rest) m
 read_size None ts x es n rest m h k on =
-    subst (λ (z : List Placed). Runs (AtFile es (Sizing n)) (z ++ outside x ∷ rest) m) (sym h)
+    subst (λ (z : List Measured). Runs (AtFile es (Sizing n)) (z ++ outside x ∷ rest) m) (sym h)
     (token (AtFile es (Sizing n)) (AtFile es (Sized n None)) m x (kind.Punctuator punctuator.CloseBracket) 0 0 rest k refl refl refl on)
 read_size (Some e) ts x es n rest m h k on =
     read_constant e ts (AtFile es (Sizing n)) (OfObject es n (ToSize e.at)) x (kind.Punctuator punctuator.CloseBracket) rest (AtFile es (Sized n (Some e))) m h (λ r v z a g. sizing-acts r es n e.at v z a g) (λ r v z g. refl) k (λ f z. refl) (λ j. refl) refl on
@@ -323,7 +323,7 @@ end_list-some es n size [] v = refl
 end_list-some es n size (w ∷ vs) v = refl
 
 -- the values of a list, a comma or none, and the closing brace
-read_values : (vs : List ConstantExpr) (ts : List Placed) (comma : List Lexeme) (x : Lexeme) (es : List External) (n : Naming) (size : Option ConstantExpr) (done : List ConstantExpr) (rest : List Placed) (m : State) → SpellsRow SpellsConstantExpr ts vs → IsOptionalComma comma → Marks punctuator.CloseBrace x → Runs (AtFile es (Listed n.scalar (with_object n (Array n.name size (done ++ vs))))) rest m → Runs (AtFile es (Valuing n size done)) (ts ++ (map outside comma ++ outside x ∷ rest)) m
+read_values : (vs : List ConstantExpr) (ts : List Measured) (comma : List Lexeme) (x : Lexeme) (es : List External) (n : Naming) (size : Option ConstantExpr) (done : List ConstantExpr) (rest : List Measured) (m : State) → SpellsRow SpellsConstantExpr ts vs → IsOptionalComma comma → Marks punctuator.CloseBrace x → Runs (AtFile es (Listed n.scalar (with_object n (Array n.name size (done ++ vs))))) rest m → Runs (AtFile es (Valuing n size done)) (ts ++ (map outside comma ++ outside x ∷ rest)) m
 read_values [] ts comma x es n size done rest m h i k on = absurd h
 read_values (v ∷ []) ts comma x es n size done rest m h (inl i) k on =
     subst (λ (z : List Lexeme). Runs (AtFile es (Valuing n size done)) (ts ++ (map outside z ++ outside x ∷ rest)) m) (sym i)
@@ -342,7 +342,7 @@ read_values (v ∷ w ∷ vs) ts comma x es n size done rest m h i k on =
     let others : Runs middle (h.2 ++ tail) m = read_values (w ∷ vs) h.2 comma x es n size (done ++ v ∷ []) rest m h.5 i k on' in
     let first : Runs (AtFile es (Valuing n size done)) (h.1 ++ outside h.0 ∷ (h.2 ++ tail)) m =
     read_constant v h.1 (AtFile es (Valuing n size done)) (OfObject es n (ToValue size done v.at)) h.0 (kind.Punctuator punctuator.Comma) (h.2 ++ tail) middle m h.4 (λ r u z a g. valuing-acts r es n size done v.at u z a g) (λ r u z g. refl) h.3 (λ f z. refl) (λ j. refl) refl others in
-    subst (λ (z : List Placed). Runs (AtFile es (Valuing n size done)) z m) (sym (append_assoc h.1 (outside h.0 ∷ h.2) tail) ∙ ap (λ (z : List Placed). z ++ tail) (sym h.6)) first
+    subst (λ (z : List Measured). Runs (AtFile es (Valuing n size done)) z m) (sym (append_assoc h.1 (outside h.0 ∷ h.2) tail) ∙ ap (λ (z : List Measured). z ++ tail) (sym h.6)) first
 
 sized-ends : (z : Separator) (es : List External) (n : Naming) (size : Option ConstantExpr) (v : Name) → role_step (AtFile es (Sized n size)) (role_of (separator z)) v ≡ Some (behind z es n.scalar (with_object n (Array n.name size [])))
 sized-ends Last es n size v = refl
@@ -360,10 +360,10 @@ listed-level : (z : Separator) (es : List External) (t : Scalar) (os : List Obje
 listed-level Last es t os = refl
 listed-level Further es t os = refl
 
-read_list : (vs : List ConstantExpr) (ts : List Placed) (z : Separator) (x : Lexeme) (es : List External) (n : Naming) (size : Option ConstantExpr) → SpellsList ts vs → x.kind ≡ separator z → Runs (AtFile es (Sized n size)) (ts ++ outside x ∷ []) (behind z es n.scalar (with_object n (Array n.name size vs)))
+read_list : (vs : List ConstantExpr) (ts : List Measured) (z : Separator) (x : Lexeme) (es : List External) (n : Naming) (size : Option ConstantExpr) → SpellsList ts vs → x.kind ≡ separator z → Runs (AtFile es (Sized n size)) (ts ++ outside x ∷ []) (behind z es n.scalar (with_object n (Array n.name size vs)))
 read_list [] ts z x es n size h k =
     let m = behind z es n.scalar (with_object n (Array n.name size [])) in
-    subst (λ (ps : List Placed). Runs (AtFile es (Sized n size)) (ps ++ outside x ∷ []) m) (sym h)
+    subst (λ (ps : List Measured). Runs (AtFile es (Sized n size)) (ps ++ outside x ∷ []) m) (sym h)
     (token (AtFile es (Sized n size)) m m x (separator z) 0 0 [] k (sized-ends z es n size (name_of x)) (behind-count z es n.scalar (with_object n (Array n.name size []))) (sized-level z es n size) refl)
 read_list (v ∷ vs) ts z x es n size h k =
     let os = with_object n (Array n.name size (v ∷ vs)) in
@@ -372,10 +372,10 @@ read_list (v ∷ vs) ts z x es n size h k =
     token (AtFile es (Listed n.scalar os)) m m x (separator z) 0 0 [] k (listed-ends z es n.scalar os (name_of x)) (behind-count z es n.scalar os) (listed-level z es n.scalar os) refl in
     let values : Runs (AtFile es (Valuing n size [])) (h.3 ++ (map outside h.4 ++ outside h.2 ∷ outside x ∷ [])) m = read_values (v ∷ vs) h.3 h.4 h.2 es n size [] (outside x ∷ []) m h.8 h.9 h.7 listed in
     let grouped : (h.3 ++ (map outside h.4 ++ outside h.2 ∷ [])) ++ outside x ∷ [] ≡ h.3 ++ (map outside h.4 ++ outside h.2 ∷ outside x ∷ []) =
-    append_assoc h.3 (map outside h.4 ++ outside h.2 ∷ []) (outside x ∷ []) ∙ ap (λ (ps : List Placed). h.3 ++ ps) (append_assoc (map outside h.4) (outside h.2 ∷ []) (outside x ∷ [])) in
+    append_assoc h.3 (map outside h.4 ++ outside h.2 ∷ []) (outside x ∷ []) ∙ ap (λ (ps : List Measured). h.3 ++ ps) (append_assoc (map outside h.4) (outside h.2 ∷ []) (outside x ∷ [])) in
     let tail : Runs (AtFile es (Valuing n size [])) ((h.3 ++ (map outside h.4 ++ outside h.2 ∷ [])) ++ outside x ∷ []) m =
-    subst (λ (ps : List Placed). Runs (AtFile es (Valuing n size [])) ps m) (sym grouped) values in
-    subst (λ (ps : List Placed). Runs (AtFile es (Sized n size)) (ps ++ outside x ∷ []) m) (sym h.10)
+    subst (λ (ps : List Measured). Runs (AtFile es (Valuing n size [])) ps m) (sym grouped) values in
+    subst (λ (ps : List Measured). Runs (AtFile es (Sized n size)) (ps ++ outside x ∷ []) m) (sym h.10)
     (token (AtFile es (Sized n size)) (AtFile es (Listing n size)) m h.0 (kind.Punctuator punctuator.Assign) 0 0 (outside h.1 ∷ (h.3 ++ (map outside h.4 ++ outside h.2 ∷ [])) ++ outside x ∷ []) h.5 refl refl refl
     (token (AtFile es (Listing n size)) (AtFile es (Valuing n size [])) m h.1 (kind.Punctuator punctuator.OpenBrace) 0 0 ((h.3 ++ (map outside h.4 ++ outside h.2 ∷ [])) ++ outside x ∷ []) h.6 refl refl refl tail))
 
@@ -387,11 +387,11 @@ separator-closes : (z : Separator) → Closes (separator z)
 separator-closes Last f e = refl
 separator-closes Further f e = refl
 
-read_object : (o : Object) (ts : List Placed) (z : Separator) (x : Lexeme) (es : List External) (t : Scalar) (os : List Object) (s : State) → NamesObject es t os s → SpellsObject ts o → x.kind ≡ separator z → Runs s (ts ++ outside x ∷ []) (behind z es t (os ++ o ∷ []))
+read_object : (o : Object) (ts : List Measured) (z : Separator) (x : Lexeme) (es : List External) (t : Scalar) (os : List Object) (s : State) → NamesObject es t os s → SpellsObject ts o → x.kind ≡ separator z → Runs s (ts ++ outside x ∷ []) (behind z es t (os ++ o ∷ []))
 read_object (Single v None) ts z x es t os s names h k =
     let m = behind z es t (os ++ Single v None ∷ []) in
     let n = names.stands v in
-    subst (λ (ps : List Placed). Runs s (ps ++ outside x ∷ []) m) (sym h)
+    subst (λ (ps : List Measured). Runs s (ps ++ outside x ∷ []) m) (sym h)
     (token s (names.next v) m (identifier v) kind.Identifier 0 0 (outside x ∷ []) refl (names.named v) (names.counted v) names.begun
     (token (names.next v) m m x (separator z) 0 0 [] k (n.ends z (name_of x)) (behind-count z es t (os ++ Single v None ∷ [])) (n.ends_level z) refl))
 read_object (Single v (Some c)) ts z x es t os s names h k =
@@ -400,7 +400,7 @@ read_object (Single v (Some c)) ts z x es t os s names h k =
     let i = names.stands v in
     let value : Runs (AtFile es (Initialising n)) (h.1 ++ outside x ∷ []) m =
     read_constant c h.1 (AtFile es (Initialising n)) (OfObject es n (ToSingle c.at)) x (separator z) [] m m h.3 (λ r u y a g. ap (λ (b : ℕ). first_step (OfObject es n (ToSingle b)) r u) a ∙ g) (λ r u y g. refl) k (separator-closes z) (λ j. single-ends z es n c j) (behind-count z es t (os ++ Single v (Some c) ∷ [])) refl in
-    subst (λ (ps : List Placed). Runs s (ps ++ outside x ∷ []) m) (sym h.4)
+    subst (λ (ps : List Measured). Runs s (ps ++ outside x ∷ []) m) (sym h.4)
     (token s (names.next v) m (identifier v) kind.Identifier 0 0 (outside h.0 ∷ h.1 ++ outside x ∷ []) refl (names.named v) (names.counted v) names.begun
     (token (names.next v) (AtFile es (Initialising n)) m h.0 (kind.Punctuator punctuator.Assign) 0 0 (h.1 ++ outside x ∷ []) h.2 (i.sign (name_of h.0)) refl i.sign_level value))
 read_object (Array v size values) ts z x es t os s names h k =
@@ -410,12 +410,12 @@ read_object (Array v size values) ts z x es t os s names h k =
     let list = read_list values h.3 z x es n size h.7 k in
     let sized : Runs (AtFile es (Sizing n)) (h.2 ++ outside h.1 ∷ (h.3 ++ outside x ∷ [])) m = read_size size h.2 h.1 es n (h.3 ++ outside x ∷ []) m h.6 h.5 list in
     let tail : Runs (AtFile es (Sizing n)) ((h.2 ++ outside h.1 ∷ h.3) ++ outside x ∷ []) m =
-    subst (λ (ps : List Placed). Runs (AtFile es (Sizing n)) ps m) (sym (append_assoc h.2 (outside h.1 ∷ h.3) (outside x ∷ []))) sized in
-    subst (λ (ps : List Placed). Runs s (ps ++ outside x ∷ []) m) (sym h.8)
+    subst (λ (ps : List Measured). Runs (AtFile es (Sizing n)) ps m) (sym (append_assoc h.2 (outside h.1 ∷ h.3) (outside x ∷ []))) sized in
+    subst (λ (ps : List Measured). Runs s (ps ++ outside x ∷ []) m) (sym h.8)
     (token s (names.next v) m (identifier v) kind.Identifier 0 0 (outside h.0 ∷ (h.2 ++ outside h.1 ∷ h.3) ++ outside x ∷ []) refl (names.named v) (names.counted v) names.begun
     (token (names.next v) (AtFile es (Sizing n)) m h.0 (kind.Punctuator punctuator.OpenBracket) 0 0 ((h.2 ++ outside h.1 ∷ h.3) ++ outside x ∷ []) h.4 (i.bracket (name_of h.0)) refl i.bracket_level tail))
 
-read_objects : (others : List Object) (ts : List Placed) (x : Lexeme) (es : List External) (t : Scalar) (os : List Object) (s : State) → NamesObject es t os s → SpellsRow SpellsObject ts others → Marks punctuator.Semicolon x → Runs s (ts ++ outside x ∷ []) (AtFile (es ++ Objects t (os ++ others) ∷ []) Between)
+read_objects : (others : List Object) (ts : List Measured) (x : Lexeme) (es : List External) (t : Scalar) (os : List Object) (s : State) → NamesObject es t os s → SpellsRow SpellsObject ts others → Marks punctuator.Semicolon x → Runs s (ts ++ outside x ∷ []) (AtFile (es ++ Objects t (os ++ others) ∷ []) Between)
 read_objects [] ts x es t os s names h k = absurd h
 read_objects (o ∷ []) ts x es t os s names h k = read_object o ts Last x es t os s names h k
 read_objects (o ∷ p ∷ ps) ts x es t os s names h k =
@@ -426,31 +426,31 @@ read_objects (o ∷ p ∷ ps) ts x es t os s names h k =
     let joined : Runs middle (h.2 ++ outside x ∷ []) m =
     subst (λ (z : List Object). Runs middle (h.2 ++ outside x ∷ []) (AtFile (es ++ Objects t z ∷ []) Between)) (append_assoc os (o ∷ []) (p ∷ ps)) rest in
     let runs = runs-append s middle m (h.1 ++ outside h.0 ∷ []) (h.2 ++ outside x ∷ []) first joined in
-    subst (λ (z : List Placed). Runs s z m) (regroup h.1 (outside h.0) h.2 (outside x) ∙ ap (λ (z : List Placed). z ++ outside x ∷ []) (sym h.6)) runs
+    subst (λ (z : List Measured). Runs s z m) (regroup h.1 (outside h.0) h.2 (outside x) ∙ ap (λ (z : List Measured). z ++ outside x ∷ []) (sym h.6)) runs
   where
-    regroup : (a : List Placed) (p : Placed) (c : List Placed) (q : Placed) → (a ++ p ∷ []) ++ (c ++ q ∷ []) ≡ (a ++ p ∷ c) ++ q ∷ []
+    regroup : (a : List Measured) (p : Measured) (c : List Measured) (q : Measured) → (a ++ p ∷ []) ++ (c ++ q ∷ []) ≡ (a ++ p ∷ c) ++ q ∷ []
     regroup a p c q = simp append_assoc
 
 -- units
 
-read_external : (e : External) (ts : List Placed) (es : List External) → SpellsExternal ts e → Runs (AtFile es Between) ts (AtFile (es ++ e ∷ []) Between)
+read_external : (e : External) (ts : List Measured) (es : List External) → SpellsExternal ts e → Runs (AtFile es Between) ts (AtFile (es ++ e ∷ []) Between)
 read_external (Declaration f) ts es h =
     let m = AtFile (es ++ Declaration f ∷ []) Between in
-    subst (λ (z : List Placed). Runs (AtFile es Between) z m) (sym h.4)
+    subst (λ (z : List Measured). Runs (AtFile es Between) z m) (sym h.4)
     (runs-append (AtFile es Between) (AtFile es (Headed f)) m h.0 (outside h.1 ∷ []) (read_signature f h.0 es h.2)
     (token (AtFile es (Headed f)) m m h.1 (kind.Punctuator punctuator.Semicolon) 0 0 [] h.3 refl refl refl refl))
 read_external (Definition f body) ts es h =
     let m = AtFile (es ++ Definition f body ∷ []) Between in
-    subst (λ (z : List Placed). Runs (AtFile es Between) z m) (sym h.5)
+    subst (λ (z : List Measured). Runs (AtFile es Between) z m) (sym h.5)
     (runs-append (AtFile es Between) (AtFile es (Headed f)) m h.0 h.1 (read_signature f h.0 es h.2) (read_body body h.1 es f h.3 h.4))
 read_external (Objects t os) ts es h =
     let m = AtFile (es ++ Objects t os ∷ []) Between in
-    subst (λ (z : List Placed). Runs (AtFile es Between) z m) (sym h.6)
+    subst (λ (z : List Measured). Runs (AtFile es Between) z m) (sym h.6)
     (read_first_type t h.0 es (h.1 ++ outside h.2 ∷ []) m h.3 (λ a first. read_objects os h.1 h.2 es t [] a (names-first es t a first) h.4 h.5))
 
-read_externals : (us : List External) (ts : List Placed) (es : List External) → SpellsExternals ts us → Runs (AtFile es Between) ts (AtFile (es ++ us) Between)
+read_externals : (us : List External) (ts : List Measured) (es : List External) → SpellsExternals ts us → Runs (AtFile es Between) ts (AtFile (es ++ us) Between)
 read_externals [] ts es h =
-    subst (λ (z : List Placed). Runs (AtFile es Between) z (AtFile (es ++ []) Between)) (sym h) (ap (λ (z : List External). AtFile z Between) (sym (append_nil es)))
+    subst (λ (z : List Measured). Runs (AtFile es Between) z (AtFile (es ++ []) Between)) (sym h) (ap (λ (z : List External). AtFile z Between) (sym (append_nil es)))
   where
     append_nil : (zs : List External) → zs ++ [] ≡ zs
     append_nil [] = refl
@@ -459,9 +459,9 @@ read_externals (u ∷ us) ts es h =
     let m = AtFile (es ++ u ∷ us) Between in
     let rest : Runs (AtFile (es ++ u ∷ []) Between) h.1 m =
     subst (λ (z : List External). Runs (AtFile (es ++ u ∷ []) Between) h.1 (AtFile z Between)) (append_assoc es (u ∷ []) us) (read_externals us h.1 (es ++ u ∷ []) h.3) in
-    subst (λ (z : List Placed). Runs (AtFile es Between) z m) (sym h.4) (runs-append (AtFile es Between) (AtFile (es ++ u ∷ []) Between) m h.0 h.1 (read_external u h.0 es h.2) rest)
+    subst (λ (z : List Measured). Runs (AtFile es Between) z m) (sym h.4) (runs-append (AtFile es Between) (AtFile (es ++ u ∷ []) Between) m h.0 h.1 (read_external u h.0 es h.2) rest)
 
 -- each unit that tokens spell is read from them
-pub read_unit : (tree : List External) (ts : List Placed) → SpellsUnit ts tree → Runs start ts (AtFile tree Between)
+pub read_unit : (tree : List External) (ts : List Measured) → SpellsUnit ts tree → Runs start ts (AtFile tree Between)
 read_unit [] ts h = absurd h
 read_unit (e ∷ es) ts h = read_externals (e ∷ es) ts [] h

@@ -1,16 +1,16 @@
 -- The loop over all tokens: what each of its exits answers.
 use Rattle.std.proofs.Common.{◌≡◌, ◌<◌, ◌≤◌, ◌+◌, ℕ, suc, List, [], ◌∷◌, length, take, get_or, Some, None, Result, Ok, Err, refl, sym, ap, subst, arith}
 use Rattle.std.proofs.lemmas.List.{take_all}
-use Rattle.cc_syntax.specs.declared.token.Token.{Token}
+use Rattle.cc_tokens.specs.declared.token.Token.{Token}
 use Rattle.cc_syntax.specs.declared.parser.state.State as state
 use Rattle.cc_syntax.specs.declared.parser.stop.Stop as stop
 use Rattle.cc_syntax.specs.declared.parser.stop.Stop.TheVariants as stops
 use Rattle.cc_syntax.specs.declared.parser.stop.Refusal.TheVariants as refusals
-use Rattle.cc_syntax.specs.Token.{Lexeme, lexeme, lexemes}
+use Rattle.cc_tokens.specs.Token.{Lexeme, lexeme, lexemes}
 use Rattle.cc_syntax.specs.Tree.{External}
 use Rattle.cc_syntax.specs.Limits.{SpellsWithin}
-use Rattle.cc_syntax.specs.Machine.{State, AtFile, Between, count_of, tree_of}
-use Rattle.cc_syntax.specs.MachineView.{state_view, Advances, Refuses}
+use Rattle.cc_syntax.specs.internal.Parser.{State, AtFile, Between, count_of, tree_of}
+use Rattle.cc_syntax.specs.internal.ParserView.{state_view, Advances, Refuses}
 use Rattle.cc_syntax.proofs.Settles.{none-some}
 use Rattle.cc_syntax.proofs.Finishes.{IsUnit}
 use Rattle.cc_syntax.proofs.Verdict.{Reached, fine_before, unexpected, unexpected_end, too_deep, reach, spelled_within}
@@ -34,7 +34,7 @@ goes_on s text ts k d r next i h a e =
 all_of : (s : State) (text : List ℕ) (ts : List Token) (k : ℕ) → length ts ≤ k → Reached s (take k (lexemes text ts)) → Reached s (lexemes text ts)
 all_of s text ts k i h = subst (λ (z : List Lexeme). Reached s z) (take_all k (lexemes text ts) (omega (arith, length-lexemes text ts, i))) h
 
--- the state behind a whole unit
+-- the state after a whole unit
 unit_state : (s : State) (tree : List External) → tree_of s ≡ Some tree → (s ≡ AtFile tree Between) × IsUnit tree
 unit_state (AtFile [] o) tree e = absurd (none-some None tree refl e)
 unit_state (AtFile (d ∷ ds) Between) tree e =

@@ -5,10 +5,10 @@ use Rattle.std.specs.Prelude.{Bool}
 use Rattle.cc_syntax.specs.declared.parser.role.Role.{Role}
 use Rattle.cc_syntax.specs.declared.parser.role.Role.TheVariants as role
 use Rattle.cc_syntax.specs.Tree.{Name, Expr, Stmt, If, IfElse, While, For}
-use Rattle.cc_syntax.specs.Roles.{role_of}
-use Rattle.cc_syntax.specs.Grammar.{Placed}
-use Rattle.cc_syntax.specs.Machine.{State, Inside, Stage, Open, InBlock, InThen, InElse, InWhile, InDo, InFor, inside_of, in_body, settled, role_step, role_level, resting_step, resting_depth, resting_level, else_step, else_level, count_of, name_of}
-use Rattle.cc_syntax.proofs.MachineRuns.{Runs}
+use Rattle.cc_syntax.specs.internal.Roles.{role_of}
+use Rattle.cc_syntax.specs.Grammar.{Measured}
+use Rattle.cc_syntax.specs.internal.Parser.{State, Inside, Stage, Open, InBlock, InThen, InElse, InWhile, InDo, InFor, inside_of, in_body, settled, role_step, role_level, resting_step, resting_depth, resting_level, else_step, else_level, count_of, name_of}
+use Rattle.cc_syntax.proofs.ParserRuns.{Runs}
 
 -- the body with other open statements
 abbrev pub within : Inside → List Open → Inside
@@ -35,7 +35,7 @@ settled-count w b (InWhile e ∷ os) s = settled-count w b os (While e s)
 settled-count w b (InDo ∷ os) s = refl
 settled-count w b (InFor a e l ∷ os) s = settled-count w b os (For a e l s)
 
--- what a token does behind a statement that no `else` follows
+-- what a token does after a statement that no `else` follows
 resting-goes : (b : Inside) (os : List Open) (s : Stmt) (r : Role) (x : Name) → resting_step (settled false b os s) r x ≡ role_step (in_body (settled false b os s)) r x
 resting-goes b [] s r x = refl
 resting-goes b (InBlock ss ∷ os) s r x = refl
@@ -66,7 +66,7 @@ no-else b (InFor a e l ∷ os) s x = no-else b os (For a e l s) x
 pub none-some : {A : Type 0} (o : Option A) (m : A) → o ≡ None → o ≡ Some m → ⊥
 none-some o m h k = let e : None ≡ Some m = sym h ∙ k in cc
 
--- where another token than `else` can stand, it does the same before and behind the decision
+-- where another token than `else` can stand, it does the same before and after the decision
 else-goes : (r : Role) (b : Inside) (os : List Open) (e : Expr) (s : Stmt) (x : Name) (m : State) → role_step (in_body (settled false b os (If e s))) r x ≡ Some m → else_step (within b os) e s r x ≡ Some m
 else-goes role.Else b os e s x m h = absurd (none-some _ m (no-else b os (If e s) x) h)
 else-goes r b os e s x m h = ap (λ (z : Inside × Stage). resting_step z r x) (settled-within false b os os (If e s)) ∙ resting-goes b os (If e s) r x ∙ h
@@ -75,11 +75,11 @@ else-levels : (r : Role) (b : Inside) (os : List Open) (e : Expr) (s : Stmt) (x 
 else-levels role.Else b os e s x m h = absurd (none-some _ m (no-else b os (If e s) x) h)
 else-levels r b os e s x m h = resting-levels b os (If e s) r
 
--- what can be read behind the other state can be read behind the one
+-- what can be read after the other state can be read after the one
 abbrev pub RestsAs : State → State → Type 0
-RestsAs m n = (p : Placed) (ps : List Placed) (e : State) → Runs n (p ∷ ps) e → Runs m (p ∷ ps) e
+RestsAs m n = (p : Measured) (ps : List Measured) (e : State) → Runs n (p ∷ ps) e → Runs m (p ∷ ps) e
 
-pub rests-on : (m n e : State) (ps : List Placed) (q : Placed) (qs : List Placed) → RestsAs m n → Runs n (ps ++ q ∷ qs) e → Runs m (ps ++ q ∷ qs) e
+pub rests-on : (m n e : State) (ps : List Measured) (q : Measured) (qs : List Measured) → RestsAs m n → Runs n (ps ++ q ∷ qs) e → Runs m (ps ++ q ∷ qs) e
 rests-on m n e [] q qs h k = h q qs e k
 rests-on m n e (p ∷ ps) q qs h k = h p (ps ++ q ∷ qs) e k
 

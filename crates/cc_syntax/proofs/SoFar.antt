@@ -1,12 +1,12 @@
--- What the tokens of a full expression that have come spell: for what waits, a relation with the tokens behind which it
+-- What the tokens of a full expression that have come spell: for what waits, a relation with the tokens after which it
 -- waits. Reading a token keeps it (KeepsExpression).
 use Rattle.std.proofs.Common.{◌≡◌, ◌≤◌, ℕ, suc, List, [], ◌∷◌, ◌++◌}
-use Rattle.cc_syntax.specs.declared.ast.Scalar.{Scalar}
-use Rattle.cc_syntax.specs.declared.token.Punctuator.TheVariants as punctuator
-use Rattle.cc_syntax.specs.Token.{Lexeme}
+use Rattle.cc_tokens.specs.declared.scalar.Scalar.{Scalar}
+use Rattle.cc_tokens.specs.declared.token.Punctuator.TheVariants as punctuator
+use Rattle.cc_tokens.specs.Token.{Lexeme}
 use Rattle.cc_syntax.specs.Tree.{Expr, Exprs, none, more}
 use Rattle.cc_syntax.specs.Grammar.{identifier, Marks, IsKeyword, sign_word, SpellsType, SpellsExpression, SpellsArguments, precedence, unary_punctuator, binary_punctuator}
-use Rattle.cc_syntax.specs.Machine.{Waiting, Parenthesis, Index, Arguments, Prefix, Casting, Infix, Then, Otherwise}
+use Rattle.cc_syntax.specs.internal.Parser.{Waiting, Parenthesis, Index, Arguments, Prefix, Casting, Infix, Then, Otherwise}
 
 -- an expression of the level can fill the place
 abbrev pub Room : ℕ → List Waiting → Type 0
@@ -50,7 +50,7 @@ WaitingSoFar (Otherwise c a ∷ ws) xs =
     × SpellsExpression 1 left a × Room 1 ws × Marks punctuator.Question question × Marks punctuator.Colon colon
     × (xs ≡ front ++ (test ++ (question ∷ left ++ colon ∷ [])))
 
--- an operand of some level behind what waits for it
+-- an operand of some level after what waits for it
 pub record Holds (ws : List Waiting) (e : Expr) (xs : List Lexeme) (low : ℕ) : Type 0 where
   pub front : List Lexeme
   pub part : List Lexeme
@@ -61,7 +61,7 @@ pub record Holds (ws : List Waiting) (e : Expr) (xs : List Lexeme) (low : ℕ) :
   pub tight : low ≤ level
   pub whole : xs ≡ front ++ part
 
--- behind the word `signed` or `unsigned` of a cast, or behind its type
+-- after the word `signed` or `unsigned` of a cast, or after its type
 pub record Casts (ws : List Waiting) (xs : List Lexeme) (Word : List Lexeme → Type 0) : Type 0 where
   pub front : List Lexeme
   pub type : List Lexeme

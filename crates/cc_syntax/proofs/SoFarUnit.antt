@@ -1,33 +1,33 @@
 -- What the tokens before a state spell: at file scope, in a body, in a full expression.
 use Rattle.std.proofs.Common.{◌≡◌, ℕ, List, [], ◌∷◌, ◌++◌, map, Option, IfSome}
-use Rattle.cc_syntax.specs.declared.ast.Scalar.{Scalar}
-use Rattle.cc_syntax.specs.declared.token.Keyword.TheVariants as keyword
-use Rattle.cc_syntax.specs.declared.token.Punctuator.TheVariants as punctuator
-use Rattle.cc_syntax.specs.Token.{Lexeme}
+use Rattle.cc_tokens.specs.declared.scalar.Scalar.{Scalar}
+use Rattle.cc_tokens.specs.declared.token.Keyword.TheVariants as keyword
+use Rattle.cc_tokens.specs.declared.token.Punctuator.TheVariants as punctuator
+use Rattle.cc_tokens.specs.Token.{Lexeme}
 use Rattle.cc_syntax.specs.Tree.{Signature, External}
-use Rattle.cc_syntax.specs.Grammar.{Placed, outside, full, identifier, Marks, IsKeyword, sign_word, SpellsType, SpellsRow, BeginsAt, SpellsConstantExpr, SpellsOptionalConstant, SpellsObject, SpellsParameter, SpellsResult, SpellsSignature, SpellsExternals}
-use Rattle.cc_syntax.specs.Machine.{State, AtFile, InBody, InFull, Outer, Between, ResultSign, Typed, Named, Parameters, OnlyVoid, ParameterNext, ParameterSign, ParameterTyped, ParameterNamed, Headed, ObjectNext, ObjectNamed, Sizing, Sized, Initialising, Listing, Valuing, Listed, Phase, Context, OfBody, OfObject, Part, ToSize, ToSingle, ToValue, Naming, Waiting, count_of}
+use Rattle.cc_syntax.specs.Grammar.{Measured, outside, full, identifier, Marks, IsKeyword, sign_word, SpellsType, SpellsRow, BeginsAt, SpellsConstantExpr, SpellsOptionalConstant, SpellsObject, SpellsParameter, SpellsResult, SpellsSignature, SpellsExternals}
+use Rattle.cc_syntax.specs.internal.Parser.{State, AtFile, InBody, InFull, Outer, Between, ResultSign, Typed, Named, Parameters, OnlyVoid, ParameterNext, ParameterSign, ParameterTyped, ParameterNamed, Headed, ObjectNext, ObjectNamed, Sizing, Sized, Initialising, Listing, Valuing, Listed, Phase, Context, OfBody, OfObject, Part, ToSize, ToSingle, ToValue, Naming, Waiting, count_of}
 use Rattle.cc_syntax.proofs.Forms.{count_after}
 use Rattle.cc_syntax.proofs.SoFarBody.{RowSoFar, BodySoFar, PurposeSoFar, leads, spot_of}
 use Rattle.cc_syntax.proofs.KeepsPhase.{PhaseSoFar}
 use Rattle.cc_syntax.proofs.KeepsBody.{InBodySoFar}
 
--- a function's result, name, parenthesis and parameters so far, and what stands behind them
-abbrev pub ParametersSoFar : Signature → (List Placed → Type 0) → List Placed → List Placed → Type 0
+-- a function's result, name, parenthesis and parameters so far, and what stands after them
+abbrev pub ParametersSoFar : Signature → (List Measured → Type 0) → List Measured → List Measured → Type 0
 ParametersSoFar f Row behind mine =
-    (type : List Lexeme) × (opening : Lexeme) × (row : List Placed) × SpellsResult type f.result × Marks punctuator.OpenParenthesis opening × Row row
+    (type : List Lexeme) × (opening : Lexeme) × (row : List Measured) × SpellsResult type f.result × Marks punctuator.OpenParenthesis opening × Row row
     × (mine ≡ map outside type ++ (outside (identifier f.name) ∷ outside opening ∷ row ++ behind))
 
--- the type of a declaration of objects, the objects so far, and what stands behind them
-abbrev pub ObjectsSoFar : Scalar → (List Placed → Type 0) → List Placed → List Placed → Type 0
+-- the type of a declaration of objects, the objects so far, and what stands after them
+abbrev pub ObjectsSoFar : Scalar → (List Measured → Type 0) → List Measured → List Measured → Type 0
 ObjectsSoFar t Row behind mine =
-    (type : List Lexeme) × (row : List Placed) × SpellsType type t × Row row × (mine ≡ map outside type ++ (row ++ behind))
+    (type : List Lexeme) × (row : List Measured) × SpellsType type t × Row row × (mine ≡ map outside type ++ (row ++ behind))
 
-abbrev pub NamingSoFar : Naming → List Placed → List Placed → Type 0
+abbrev pub NamingSoFar : Naming → List Measured → List Measured → Type 0
 NamingSoFar n behind mine = ObjectsSoFar n.scalar (λ row. RowSoFar SpellsObject row n.objects) (outside (identifier n.name) ∷ behind) mine
 
 -- an external declaration that has begun
-abbrev pub OuterSoFar : Outer → List Placed → Type 0
+abbrev pub OuterSoFar : Outer → List Measured → Type 0
 OuterSoFar Between mine = mine ≡ []
 OuterSoFar (ResultSign t) mine = (word : Lexeme) × IsKeyword (sign_word t) word × (mine ≡ outside word ∷ [])
 OuterSoFar (Typed r) mine = (type : List Lexeme) × SpellsResult type r × (mine ≡ map outside type)
@@ -43,21 +43,21 @@ OuterSoFar (ObjectNext t os) mine = ObjectsSoFar t (λ row. RowSoFar SpellsObjec
 OuterSoFar (ObjectNamed n) mine = NamingSoFar n [] mine
 OuterSoFar (Sizing n) mine = (opening : Lexeme) × Marks punctuator.OpenBracket opening × NamingSoFar n (outside opening ∷ []) mine
 OuterSoFar (Sized n size) mine =
-    (opening closing : Lexeme) × (inner : List Placed) × Marks punctuator.OpenBracket opening × Marks punctuator.CloseBracket closing
+    (opening closing : Lexeme) × (inner : List Measured) × Marks punctuator.OpenBracket opening × Marks punctuator.CloseBracket closing
     × SpellsOptionalConstant inner size × NamingSoFar n (outside opening ∷ inner ++ outside closing ∷ []) mine
 OuterSoFar (Initialising n) mine = (sign : Lexeme) × Marks punctuator.Assign sign × NamingSoFar n (outside sign ∷ []) mine
 OuterSoFar (Listing n size) mine =
-    (opening closing sign : Lexeme) × (inner : List Placed) × Marks punctuator.OpenBracket opening × Marks punctuator.CloseBracket closing
+    (opening closing sign : Lexeme) × (inner : List Measured) × Marks punctuator.OpenBracket opening × Marks punctuator.CloseBracket closing
     × SpellsOptionalConstant inner size × Marks punctuator.Assign sign × NamingSoFar n (outside opening ∷ inner ++ outside closing ∷ outside sign ∷ []) mine
 OuterSoFar (Valuing n size vs) mine =
-    (opening closing sign brace : Lexeme) × (inner row : List Placed) × Marks punctuator.OpenBracket opening × Marks punctuator.CloseBracket closing
+    (opening closing sign brace : Lexeme) × (inner row : List Measured) × Marks punctuator.OpenBracket opening × Marks punctuator.CloseBracket closing
     × SpellsOptionalConstant inner size × Marks punctuator.Assign sign × Marks punctuator.OpenBrace brace × RowSoFar SpellsConstantExpr row vs
     × NamingSoFar n (outside opening ∷ inner ++ (outside closing ∷ outside sign ∷ outside brace ∷ row)) mine
 OuterSoFar (Listed t os) mine = ObjectsSoFar t (λ row. SpellsRow SpellsObject row os) [] mine
 
--- an external declaration behind those that are complete
-abbrev pub AtFileSoFar : List External → Outer → List Placed → Type 0
-AtFileSoFar es o ts = (before mine : List Placed) × SpellsExternals before es × OuterSoFar o mine × (ts ≡ before ++ mine)
+-- an external declaration after those that are complete
+abbrev pub AtFileSoFar : List External → Outer → List Measured → Type 0
+AtFileSoFar es o ts = (before mine : List Measured) × SpellsExternals before es × OuterSoFar o mine × (ts ≡ before ++ mine)
 
 -- the state in which a constant expression of the part begins
 abbrev pub part_outer : Naming → Part → Outer
@@ -66,13 +66,13 @@ part_outer n (ToSingle at) = Initialising n
 part_outer n (ToValue size vs at) = Valuing n size vs
 
 -- what stands before a full expression, and the tokens of the same full expression before the expression
-abbrev pub ContextSoFar : Context → List Placed → List Lexeme → Type 0
+abbrev pub ContextSoFar : Context → List Measured → List Lexeme → Type 0
 ContextSoFar (OfBody b p) ts xs =
-    (before mine : List Placed) × BodySoFar b.externals b.signature b.finished b.opened before × PurposeSoFar p b.opened mine xs × (ts ≡ before ++ mine)
+    (before mine : List Measured) × BodySoFar b.externals b.signature b.finished b.opened before × PurposeSoFar p b.opened mine xs × (ts ≡ before ++ mine)
 ContextSoFar (OfObject es n p) ts xs = (xs ≡ []) × AtFileSoFar es (part_outer n p) ts
 
 -- the tokens of a full expression: where its action is a statement the first has the level
-abbrev pub leads_of : Context → List Placed → List Placed
+abbrev pub leads_of : Context → List Measured → List Measured
 leads_of (OfBody b p) ts = leads (spot_of p) b.opened ts
 leads_of (OfObject es n p) ts = ts
 
@@ -86,23 +86,23 @@ abbrev pub StartsAt : Context → List Lexeme → Type 0
 StartsAt (OfBody b p) xs = Unit {0}
 StartsAt (OfObject es n p) xs = BeginsAt (offset_of p) xs
 
-pub record FullSoFar (c : Context) (ws : List Waiting) (k : ℕ) (p : Phase) (ts : List Placed) : Type 0 where
-  pub before : List Placed
+pub record FullSoFar (c : Context) (ws : List Waiting) (k : ℕ) (p : Phase) (ts : List Measured) : Type 0 where
+  pub before : List Measured
   pub front : List Lexeme
   pub xs : List Lexeme
   pub context : ContextSoFar c before front
   pub phase : PhaseSoFar p ws xs
   pub counted : k ≡ count_after 0 (front ++ xs)
   pub starts : StartsAt c xs
-  pub joins : (qs : List Placed) → leads_of c (full (front ++ xs) ++ qs) ≡ leads_of c (full (front ++ xs)) ++ qs
+  pub joins : (qs : List Measured) → leads_of c (full (front ++ xs) ++ qs) ≡ leads_of c (full (front ++ xs)) ++ qs
   pub whole : ts ≡ before ++ leads_of c (full (front ++ xs))
 
 -- the tokens before a state, and the state
-abbrev pub SoFar : State → List Placed → Type 0
+abbrev pub SoFar : State → List Measured → Type 0
 SoFar (AtFile es o) ts = AtFileSoFar es o ts
 SoFar (InBody b s) ts = InBodySoFar (b, s) ts
 SoFar (InFull f p) ts = FullSoFar f.context f.waiting f.count p ts
 
--- the state behind a token, where there is one, is reached by the tokens with it
-abbrev pub Kept : Option State → List Placed → Lexeme → ℕ → Type 0
+-- the state after a token, where there is one, is reached by the tokens with it
+abbrev pub Kept : Option State → List Measured → Lexeme → ℕ → Type 0
 Kept o ts x l = IfSome o (λ m. SoFar m (ts ++ record { token = x; count = count_of m; level = l } ∷ []))

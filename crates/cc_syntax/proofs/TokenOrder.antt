@@ -3,9 +3,9 @@ use Rattle.std.proofs.Common.{◌≡◌, ◌<◌, ◌≤◌, ℕ, zero, suc, Lis
 use Rattle.std.proofs.lemmas.List.{length-map}
 use Rattle.std.proofs.Math.Seq.{take-suc}
 use Rattle.std.proofs.Math.ListN.{get_or-map}
-use Rattle.cc_syntax.specs.declared.token.Token.{Token}
-use Rattle.cc_syntax.specs.Token.{Lexeme, lexeme, lexemes}
-use Rattle.cc_syntax.specs.Tokens.{AreInOrder}
+use Rattle.cc_tokens.specs.declared.token.Token.{Token}
+use Rattle.cc_tokens.specs.Token.{Lexeme, lexeme, lexemes}
+use Rattle.cc_tokens.specs.Tokens.{AreInOrder}
 use Rattle.cc_syntax.proofs.Verdict.{IsCutAt}
 
 in_order-low : (ts : List Token) (low high : ℕ) → AreInOrder low ts high → low ≤ high

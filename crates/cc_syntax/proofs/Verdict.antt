@@ -3,37 +3,37 @@
 use Rattle.std.proofs.Common.{◌≡◌, ◌<◌, ◌≤◌, ℕ, zero, suc, List, [], ◌∷◌, ◌++◌, length, take, drop, Option, Some, None, refl, sym, ap, subst, ◌∙◌, arith, append_assoc, inl, inr}
 use Rattle.std.specs.List.{AllByRecursion}
 use Rattle.std.proofs.lemmas.List.{map-append, take-append-drop}
-use Rattle.cc_syntax.specs.Token.{Lexeme}
+use Rattle.cc_tokens.specs.Token.{Lexeme}
 use Rattle.cc_syntax.specs.Tree.{External}
-use Rattle.cc_syntax.specs.Grammar.{Placed, SpellsUnit, tokens_of, Begins}
+use Rattle.cc_syntax.specs.Grammar.{Measured, SpellsUnit, plain_tokens, Begins}
 use Rattle.cc_syntax.specs.Limits.{IsWithin, PassesLimit, SpellsWithin, UnexpectedAt, TooDeepAt, IsFineBefore, TreesAreOne, SpelledHaveNoFault}
-use Rattle.cc_syntax.specs.Machine.{State, AtFile, Between, step, standing, start, tree_of}
-use Rattle.cc_syntax.proofs.MachineRuns.{Runs, runs-append, runs-split, runs-one}
+use Rattle.cc_syntax.specs.internal.Parser.{State, AtFile, Between, step, standing, start, tree_of}
+use Rattle.cc_syntax.proofs.ParserRuns.{Runs, runs-append, runs-split, runs-one}
 use Rattle.cc_syntax.proofs.ReadsExternal.{read_unit}
 use Rattle.cc_syntax.proofs.Finishes.{IsUnit, finishes}
 use Rattle.cc_syntax.proofs.Keeps.{unit_spelled}
 
 -- the machine has come to the state over these tokens, and none of them passes a limit
 pub record Reached (s : State) (xs : List Lexeme) : Type 0 where
-  pub placed : List Placed
+  pub placed : List Measured
   pub runs : Runs start placed s
   pub fine : AllByRecursion IsWithin placed
-  pub same : tokens_of placed ≡ xs
+  pub same : plain_tokens placed ≡ xs
 
-all-append : (a b : List Placed) → AllByRecursion IsWithin a → AllByRecursion IsWithin b → AllByRecursion IsWithin (a ++ b)
+all-append : (a b : List Measured) → AllByRecursion IsWithin a → AllByRecursion IsWithin b → AllByRecursion IsWithin (a ++ b)
 all-append [] b h k = k
 all-append (p ∷ a) b h k = (h.0, all-append a b h.1 k)
 
-all-middle : (a : List Placed) (p : Placed) (b : List Placed) → AllByRecursion IsWithin (a ++ p ∷ b) → IsWithin p
+all-middle : (a : List Measured) (p : Measured) (b : List Measured) → AllByRecursion IsWithin (a ++ p ∷ b) → IsWithin p
 all-middle [] p b h = h.0
 all-middle (q ∷ a) p b h = all-middle a p b h.1
 
-within-or-past : (p : Placed) → IsWithin p → PassesLimit p → ⊥
+within-or-past : (p : Measured) → IsWithin p → PassesLimit p → ⊥
 within-or-past p h (inl c) = let low : p.count ≤ 512 = h.0 in omega (arith, low, c)
 within-or-past p h (inr l) = let low : p.level ≤ 64 = h.1 in omega (arith, low, l)
 
-tokens_of-append : (a b : List Placed) → tokens_of (a ++ b) ≡ tokens_of a ++ tokens_of b
-tokens_of-append a b = map-append (λ (p : Placed). p.token) a b
+plain_tokens-append : (a b : List Measured) → plain_tokens (a ++ b) ≡ plain_tokens a ++ plain_tokens b
+plain_tokens-append a b = map-append (λ (p : Measured). p.token) a b
 
 head-same : (x y : Lexeme) (xs ys : List Lexeme) → x ∷ xs ≡ y ∷ ys → (x ≡ y) × (xs ≡ ys)
 head-same x y xs ys e = (cc, cc)
@@ -45,7 +45,7 @@ some-none : (o : Option State) (m : State) → o ≡ Some m → o ≡ None → �
 some-none o m h k = let e : Some m ≡ None = sym h ∙ k in cc
 
 -- a run over tokens that begin with those of another goes on from its end
-follow : (ps us : List Placed) (a s e : State) (zs : List Lexeme) → Runs a ps s → Runs a us e → tokens_of us ≡ tokens_of ps ++ zs → (vs : List Placed) × (us ≡ ps ++ vs) × Runs s vs e × (tokens_of vs ≡ zs)
+follow : (ps us : List Measured) (a s e : State) (zs : List Lexeme) → Runs a ps s → Runs a us e → plain_tokens us ≡ plain_tokens ps ++ zs → (vs : List Measured) × (us ≡ ps ++ vs) × Runs s vs e × (plain_tokens vs ≡ zs)
 follow [] us a s e zs h k t = (us, refl, subst (λ (z : State). Runs z us e) h k, t)
 follow (p ∷ ps) [] a s e zs h k t = absurd (nil-cons _ _ t)
 follow (p ∷ ps) (u ∷ us) a s e zs h k t =
@@ -53,9 +53,9 @@ follow (p ∷ ps) (u ∷ us) a s e zs h k t =
     let one = runs-one a h.0 k.0 (p ∷ []) (u ∷ []) (h.0, h.1, h.2, h.3, refl) (k.0, k.1, k.2, k.3, refl) (ap (λ (x : Lexeme). x ∷ []) (sym both.0)) in
     let rest = follow ps us h.0 s e zs h.4 (subst (λ (z : State). Runs z us e) (sym one.1) k.4) both.1 in
     let first : u ≡ p = sym (head-placed p u one.0) in
-    (rest.0, ap (λ (z : Placed). z ∷ us) first ∙ ap (λ (z : List Placed). p ∷ z) rest.1, rest.2, rest.3)
+    (rest.0, ap (λ (z : Measured). z ∷ us) first ∙ ap (λ (z : List Measured). p ∷ z) rest.1, rest.2, rest.3)
   where
-    head-placed : (p u : Placed) → p ∷ [] ≡ u ∷ [] → p ≡ u
+    head-placed : (p u : Measured) → p ∷ [] ≡ u ∷ [] → p ≡ u
     head-placed p u e = cc
 
 -- some unit goes on from what was reached
@@ -63,12 +63,12 @@ pub begins_from : (s : State) (xs : List Lexeme) → Reached s xs → Begins xs
 begins_from s xs r =
     let f = finishes s in
     let all = r.placed ++ f.rest in (
-      tokens_of f.rest,
+      plain_tokens f.rest,
       f.tree,
       (
         all,
         unit_spelled f.tree all f.unit (runs-append start s (AtFile f.tree Between) r.placed f.rest r.runs f.runs),
-        tokens_of-append r.placed f.rest ∙ ap (λ (z : List Lexeme). z ++ tokens_of f.rest) r.same,
+        plain_tokens-append r.placed f.rest ∙ ap (λ (z : List Lexeme). z ++ plain_tokens f.rest) r.same,
       ),
     )
 
@@ -81,7 +81,7 @@ pub record IsCutAt (tokens : List Lexeme) (k : ℕ) (x : Lexeme) : Type 0 where
 pub unexpected : (s : State) (tokens : List Lexeme) (k : ℕ) (x : Lexeme) → Reached s (take k tokens) → IsCutAt tokens k x → step s x ≡ None → UnexpectedAt tokens k
 unexpected s tokens k x r c h = inl (c.inside, no_unit)
   where
-    stuck : (m : State) (vs : List Placed) (zs : List Lexeme) → Runs s vs m → tokens_of vs ≡ x ∷ zs → ⊥
+    stuck : (m : State) (vs : List Measured) (zs : List Lexeme) → Runs s vs m → plain_tokens vs ≡ x ∷ zs → ⊥
     stuck m [] zs run t = nil-cons _ _ t
     stuck m (v ∷ vs) zs run t =
         let both = head-same _ _ _ _ t in
@@ -89,7 +89,7 @@ unexpected s tokens k x r c h = inl (c.inside, no_unit)
 
     no_unit : Begins (take (suc k) tokens) → ⊥
     no_unit b =
-        let same : tokens_of b.2.0 ≡ tokens_of r.placed ++ (x ∷ b.0) =
+        let same : plain_tokens b.2.0 ≡ plain_tokens r.placed ++ (x ∷ b.0) =
         b.2.2 ∙ ap (λ (z : List Lexeme). z ++ b.0) c.next ∙ append_assoc (take k tokens) (x ∷ []) b.0
         ∙ ap (λ (z : List Lexeme). z ++ (x ∷ b.0)) (sym r.same) in
         let rest = follow r.placed b.2.0 start s (AtFile b.1 Between) (x ∷ b.0) r.runs (read_unit b.1 b.2.0 b.2.1) same in
@@ -99,17 +99,17 @@ unexpected s tokens k x r c h = inl (c.inside, no_unit)
 pub unexpected_end : (s : State) (tokens : List Lexeme) (k : ℕ) → Reached s tokens → k ≡ length tokens → tree_of s ≡ None → UnexpectedAt tokens k
 unexpected_end s tokens k r e h = inr (e, λ tree spelled. none tree spelled.0 spelled.1 (runs-one start s (AtFile tree Between) r.placed spelled.0 r.runs (read_unit tree spelled.0 spelled.1) (r.same ∙ sym spelled.2)).1)
   where
-    none : (tree : List External) (ts : List Placed) → SpellsUnit ts tree → s ≡ AtFile tree Between → ⊥
+    none : (tree : List External) (ts : List Measured) → SpellsUnit ts tree → s ≡ AtFile tree Between → ⊥
     none [] ts u t = absurd u
     none (d ∷ ds) ts u t = let e : None ≡ Some (d ∷ ds) = sym h ∙ ap (λ (z : State). tree_of z) t in cc
 
 -- no token that was read within the limits is too deep in any unit
-in_run : (placed front rest : List Placed) (p : Placed) (s : State) (tree : List External) (zs : List Lexeme) → Runs start placed s → AllByRecursion IsWithin placed → SpellsUnit (front ++ p ∷ rest) tree → tokens_of placed ≡ tokens_of (front ++ p ∷ []) ++ zs → PassesLimit p → ⊥
+in_run : (placed front rest : List Measured) (p : Measured) (s : State) (tree : List External) (zs : List Lexeme) → Runs start placed s → AllByRecursion IsWithin placed → SpellsUnit (front ++ p ∷ rest) tree → plain_tokens placed ≡ plain_tokens (front ++ p ∷ []) ++ zs → PassesLimit p → ⊥
 in_run placed front rest p s tree zs runs fine unit same past =
-    let whole = subst (λ (z : List Placed). Runs start z (AtFile tree Between)) (sym (append_assoc front (p ∷ []) rest)) (read_unit tree (front ++ p ∷ rest) unit) in
+    let whole = subst (λ (z : List Measured). Runs start z (AtFile tree Between)) (sym (append_assoc front (p ∷ []) rest)) (read_unit tree (front ++ p ∷ rest) unit) in
     let cut = runs-split start (AtFile tree Between) (front ++ p ∷ []) rest whole in
     let goes = follow (front ++ p ∷ []) placed start cut.0 s zs cut.1 runs same in
-    let shown : AllByRecursion IsWithin (front ++ p ∷ goes.0) = subst (λ (z : List Placed). AllByRecursion IsWithin z) (goes.1 ∙ append_assoc front (p ∷ []) goes.0) fine in
+    let shown : AllByRecursion IsWithin (front ++ p ∷ goes.0) = subst (λ (z : List Measured). AllByRecursion IsWithin z) (goes.1 ∙ append_assoc front (p ∷ []) goes.0) fine in
     within-or-past p (all-middle front p goes.0 shown) past
 
 pub take-less : (j k : ℕ) (xs : List Lexeme) → j ≤ k → take j (take k xs) ≡ take j xs
@@ -120,7 +120,7 @@ take-less (suc j) (suc k) (x ∷ xs) h = ap (λ (z : List Lexeme). x ∷ z) (tak
 
 pub none_too_deep : (s : State) (tokens : List Lexeme) (k : ℕ) → Reached s (take k tokens) → (j : ℕ) → j < k → TooDeepAt tokens j → ⊥
 none_too_deep s tokens k r j h d =
-    let same : tokens_of r.placed ≡ tokens_of (d.0 ++ d.2 ∷ []) ++ drop (suc j) (take k tokens) =
+    let same : plain_tokens r.placed ≡ plain_tokens (d.0 ++ d.2 ∷ []) ++ drop (suc j) (take k tokens) =
     r.same ∙ sym (take-append-drop (suc j) (take k tokens))
     ∙ ap (λ (z : List Lexeme). z ++ drop (suc j) (take k tokens)) (take-less (suc j) k tokens (omega (arith, h)) ∙ sym d.7) in
     in_run r.placed d.0 d.1 d.2 s d.3 (drop (suc j) (take k tokens)) r.runs r.fine d.6 same d.5
@@ -142,7 +142,7 @@ too_deep s m tokens k x r c h past =
       c.inside,
       past,
       unit_spelled f.tree all f.unit (runs-append start s (AtFile f.tree Between) r.placed (p ∷ f.rest) r.runs runs),
-      tokens_of-append r.placed (p ∷ []) ∙ ap (λ (z : List Lexeme). z ++ x ∷ []) r.same ∙ sym c.next,
+      plain_tokens-append r.placed (p ∷ []) ∙ ap (λ (z : List Lexeme). z ++ x ∷ []) r.same ∙ sym c.next,
     )
 
 -- a token within the limits
@@ -153,7 +153,7 @@ reach s m tokens k x r c h within =
       placed = r.placed ++ p ∷ [];
       runs = runs-append start s m r.placed (p ∷ []) r.runs (m, h, refl, refl, refl);
       fine = all-append r.placed (p ∷ []) r.fine (within, tt);
-      same = tokens_of-append r.placed (p ∷ []) ∙ ap (λ (z : List Lexeme). z ++ x ∷ []) r.same ∙ sym c.next;
+      same = plain_tokens-append r.placed (p ∷ []) ∙ ap (λ (z : List Lexeme). z ++ x ∷ []) r.same ∙ sym c.next;
     }
 
 pub at_start : Reached start []

@@ -12,8 +12,8 @@ use Rattle.cc_syntax.specs.declared.ast.Parameter.{Parameter}
 use Rattle.cc_syntax.specs.declared.ast.External.{External}
 use Rattle.cc_syntax.specs.declared.parser.state.Waiting as waiting
 use Rattle.cc_syntax.specs.declared.parser.state.Open as open_statement
-use Rattle.cc_syntax.specs.Machine.{with_last, with_argument}
-use Rattle.cc_syntax.specs.MachineView.{waiting_view, waiting_views, open_view, open_views}
+use Rattle.cc_syntax.specs.internal.Parser.{with_last, with_argument}
+use Rattle.cc_syntax.specs.internal.ParserView.{waiting_view, waiting_views, open_view, open_views}
 
 reversed-push : {A B : Type 0} (f : A → B) (xs : List A) (x : A) → reverse (map f (xs ++ x ∷ [])) ≡ f x ∷ reverse (map f xs)
 reversed-push f xs x = ap reverse (map-append f xs (x ∷ [])) ∙ reverse-append (map f xs) (f x ∷ [])

@@ -1,8 +1,9 @@
 -- The tree of what the code keeps.
 use Rattle.std.specs.Prelude.{List, [], ◌∷◌, Option, map}
+use Rattle.std.specs.Global.{Box}
 use Rattle.std.specs.Option.{option_map}
 use Rattle.cc_syntax.specs.Tree as tree
-use Rattle.cc_syntax.specs.Tree.{Expr, Exprs, none, more, Declared, Start, Stmt, Stmts, end, next, ConstantExpr}
+use Rattle.cc_syntax.specs.Tree.{Expr, Exprs, none, more, Stmt, Stmts, end, next, ConstantExpr}
 use Rattle.cc_syntax.specs.declared.ast.Identifier.{Identifier}
 use Rattle.cc_syntax.specs.declared.ast.Expression.{Expression, Number, Name, Element', Call', Parenthesised', Unary', Cast', Binary', Conditional', Row_of-Expression, end_of-Expression, more_of-Expression}
 use Rattle.cc_syntax.specs.declared.ast.Target.{Target}
@@ -47,35 +48,35 @@ abbrev pub expressions_of : List Expression → Exprs
 expressions_of [] = none
 expressions_of (e ∷ rest) = more (expression_tree e) (expressions_of rest)
 
--- the tree of an expression that may be left out
-abbrev pub optional_tree : Option Expression → Option Expr
-optional_tree e = option_map expression_tree e
+-- the tree of an expression that may be left out, in its box
+abbrev pub optional_tree : Option (Box Expression) → Option Expr
+optional_tree e = option_map (λ b. expression_tree b.value) e
 
 -- the tree of what an assignment writes
 abbrev pub target_tree : Target → tree.Target
 target_tree (targets.Variable x) = tree.AtVariable (name_tree x)
-target_tree (targets.Element x e) = tree.AtElement (name_tree x) (expression_tree e)
+target_tree (targets.Element x e) = tree.AtElement (name_tree x) (expression_tree e.value)
 
 -- the tree of an action
 abbrev pub action_tree : Action → tree.Action
-action_tree (actions.Assign op t e) = tree.Assign op (target_tree t) (expression_tree e)
+action_tree (actions.Assign op t e) = tree.Assign op (target_tree t) (expression_tree e.value)
 action_tree (actions.Step op t) = tree.Step op (target_tree t)
-action_tree (actions.Evaluate e) = tree.Evaluate (expression_tree e)
+action_tree (actions.Evaluate e) = tree.Evaluate (expression_tree e.value)
 
 -- the tree of an action that may be left out
 abbrev pub optional_action : Option Action → Option tree.Action
 optional_action a = option_map action_tree a
 
 -- the tree of one name of a declaration
-abbrev pub declarator_tree : Declarator → Declared
+abbrev pub declarator_tree : Declarator → tree.Declarator
 declarator_tree d = record { name = name_tree d.name; initial = optional_tree d.initial }
 
 -- the trees of the names of a declaration
-abbrev pub declarator_trees : List Declarator → List Declared
+abbrev pub declarator_trees : List Declarator → List tree.Declarator
 declarator_trees ds = map declarator_tree ds
 
 -- the tree of the first part of a `for` header
-abbrev pub beginning_tree : Beginning → Start
+abbrev pub beginning_tree : Beginning → tree.Beginning
 beginning_tree (beginnings.Declaration t ds) = tree.Declares t (declarator_trees ds.items)
 beginning_tree (beginnings.Action a) = tree.Performs (optional_action a)
 
@@ -88,11 +89,11 @@ abbrev mutual
   statement_tree (Return at e) = tree.Return at (optional_tree e)
   statement_tree (Break at) = tree.Break at
   statement_tree (Continue at) = tree.Continue at
-  statement_tree (If' c p s) = tree.If (expression_tree c) (statement_tree s)
-  statement_tree (IfElse' c p s q r) = tree.IfElse (expression_tree c) (statement_tree s) (statement_tree r)
-  statement_tree (While' c p s) = tree.While (expression_tree c) (statement_tree s)
-  statement_tree (DoWhile' p s c) = tree.DoWhile (statement_tree s) (expression_tree c)
-  statement_tree (For' b c a p s) = tree.For (beginning_tree b) (optional_tree c) (optional_action a) (statement_tree s)
+  statement_tree (If' c p s) = tree.If (expression_tree c.value) (statement_tree s)
+  statement_tree (IfElse' c p s q r) = tree.IfElse (expression_tree c.value) (statement_tree s) (statement_tree r)
+  statement_tree (While' c p s) = tree.While (expression_tree c.value) (statement_tree s)
+  statement_tree (DoWhile' p s c) = tree.DoWhile (statement_tree s) (expression_tree c.value)
+  statement_tree (For' b c a p s) = tree.For (beginning_tree b.value) (optional_tree c) (optional_action a) (statement_tree s)
 
   pub statements_tree : {m : _} → Row_of-Statement m → Stmts
   statements_tree end_of-Statement = end
@@ -105,7 +106,7 @@ statements_of (s ∷ rest) = next (statement_tree s) (statements_of rest)
 
 -- the tree of a constant expression
 abbrev pub constant_tree : ConstantExpression → ConstantExpr
-constant_tree c = record { at = c.at; expr = expression_tree c.expression }
+constant_tree c = record { at = c.at; expr = expression_tree c.expression.value }
 
 -- the tree of a constant expression that may be left out
 abbrev pub optional_constant : Option ConstantExpression → Option ConstantExpr

@@ -1,7 +1,7 @@
 -- The grammar: which tokens spell which tree (C99 6.5 to 6.9), and how each token stands to the limits.
 use Rattle.std.specs.Prelude.{◌≡◌, ℕ, suc, ◌≤◌, List, [], ◌∷◌, ◌++◌, map, Option, Some, None, ◌⊎◌}
-use Rattle.cc_syntax.specs.declared.ast.Scalar.{Scalar}
-use Rattle.cc_syntax.specs.declared.ast.Scalar.TheVariants as scalar
+use Rattle.cc_tokens.specs.declared.scalar.Scalar.{Scalar}
+use Rattle.cc_tokens.specs.declared.scalar.Scalar.TheVariants as scalar
 use Rattle.cc_syntax.specs.declared.ast.UnaryOperator.{UnaryOperator}
 use Rattle.cc_syntax.specs.declared.ast.UnaryOperator.TheVariants as unary
 use Rattle.cc_syntax.specs.declared.ast.BinaryOperator.{BinaryOperator}
@@ -10,13 +10,13 @@ use Rattle.cc_syntax.specs.declared.ast.AssignmentOperator.{AssignmentOperator}
 use Rattle.cc_syntax.specs.declared.ast.AssignmentOperator.TheVariants as assignment
 use Rattle.cc_syntax.specs.declared.ast.StepOperator.{StepOperator}
 use Rattle.cc_syntax.specs.declared.ast.StepOperator.TheVariants as stepping
-use Rattle.cc_syntax.specs.declared.token.Keyword.{Keyword}
-use Rattle.cc_syntax.specs.declared.token.Keyword.TheVariants as keyword
-use Rattle.cc_syntax.specs.declared.token.Punctuator.{Punctuator}
-use Rattle.cc_syntax.specs.declared.token.Punctuator.TheVariants as punctuator
-use Rattle.cc_syntax.specs.declared.token.TokenKind.TheVariants as kind
-use Rattle.cc_syntax.specs.Token.{Lexeme}
-use Rattle.cc_syntax.specs.Tree.{Name, Expr, Number, Variable, Element, Call, Parenthesised, Unary, Cast, Binary, Conditional, Exprs, none, more, Target, AtVariable, AtElement, Action, Assign, Step, Evaluate, Declared, Start, Declares, Performs, Stmt, Block, Local, Perform, Return, Break, Continue, If, IfElse, While, DoWhile, For, Stmts, end, next, ConstantExpr, Parameter, Signature, Object, Single, Array, External, Declaration, Definition, Objects}
+use Rattle.cc_tokens.specs.declared.token.Keyword.{Keyword}
+use Rattle.cc_tokens.specs.declared.token.Keyword.TheVariants as keyword
+use Rattle.cc_tokens.specs.declared.token.Punctuator.{Punctuator}
+use Rattle.cc_tokens.specs.declared.token.Punctuator.TheVariants as punctuator
+use Rattle.cc_tokens.specs.declared.token.TokenKind.TheVariants as kind
+use Rattle.cc_tokens.specs.Token.{Lexeme}
+use Rattle.cc_syntax.specs.Tree.{Name, Expr, Number, Variable, Element, Call, Parenthesised, Unary, Cast, Binary, Conditional, Exprs, none, more, Target, AtVariable, AtElement, Action, Assign, Step, Evaluate, Declarator, Beginning, Declares, Performs, Stmt, Block, Local, Perform, Return, Break, Continue, If, IfElse, While, DoWhile, For, Stmts, end, next, ConstantExpr, Parameter, Signature, Object, Single, Array, External, Declaration, Definition, Objects}
 
 -- the punctuator of a unary operator (C99 6.5.3)
 abbrev pub unary_punctuator : UnaryOperator → Punctuator
@@ -105,7 +105,7 @@ abbrev pub sign_word : Scalar → Keyword
 sign_word scalar.Int = keyword.Signed
 sign_word scalar.Unsigned = keyword.Unsigned
 
--- a type: `int` alone, or `signed` or `unsigned` with `int` behind it or not (C99 6.7.2)
+-- a type: `int` alone, or `signed` or `unsigned` with `int` after it or not (C99 6.7.2)
 abbrev pub SpellsType : List Lexeme → Scalar → Type 0
 SpellsType ts t =
     ((word : Lexeme) × (t ≡ scalar.Int) × IsKeyword keyword.Int word × (ts ≡ word ∷ []))
@@ -115,7 +115,7 @@ SpellsType ts t =
 -- The tokens of an expression in which each operator that no parentheses enclose binds at least as tightly as the level.
 -- The operands of a binary operator have its own level on the left and the next one on the right, so each groups to the
 -- left; a conditional expression groups to the right; the operand of a unary operator or a cast has level 12, and so no
--- bare operator behind it.
+-- bare operator after it.
 abbrev mutual
   pub SpellsExpression : ℕ → List Lexeme → Expr → Type 0
   SpellsExpression level ts (Number t n) = (x : Lexeme) × (x.kind ≡ kind.Number t n) × (ts ≡ x ∷ [])
@@ -156,7 +156,7 @@ abbrev pub SpellsTarget : List Lexeme → Target → Type 0
 SpellsTarget ts (AtVariable n) = SpellsExpression 1 ts (Variable n)
 SpellsTarget ts (AtElement n e) = SpellsExpression 1 ts (Element n e)
 
--- an assignment, an increment or decrement, before its target or behind it, or an expression (C99 6.8.3)
+-- an assignment, an increment or decrement, before its target or after it, or an expression (C99 6.8.3)
 abbrev pub SpellsAction : List Lexeme → Action → Type 0
 SpellsAction ts (Assign op t e) =
     (sign : Lexeme) × (left right : List Lexeme) × SpellsTarget left t × Marks (assignment_punctuator op) sign
@@ -168,67 +168,67 @@ SpellsAction ts (Evaluate e) = SpellsExpression 1 ts e
 
 -- a token of a unit, and how it stands to the limits: it is the how-manieth token of a full expression (0: of none), and
 -- the first of a statement or declaration at a level (0: of none)
-pub record Placed : Type 0 where
+pub record Measured : Type 0 where
   pub token : Lexeme
   pub count : ℕ
   pub level : ℕ
 
 -- a token that belongs to no full expression
-abbrev pub outside : Lexeme → Placed
+abbrev pub outside : Lexeme → Measured
 outside x = record { token = x; count = 0; level = 0 }
 
 -- the tokens of a full expression, of which so many came before
-abbrev pub full_after : ℕ → List Lexeme → List Placed
+abbrev pub full_after : ℕ → List Lexeme → List Measured
 full_after n [] = []
 full_after n (x ∷ xs) = record { token = x; count = suc n; level = 0 } ∷ full_after (suc n) xs
 
 -- the tokens of a whole full expression
-abbrev pub full : List Lexeme → List Placed
+abbrev pub full : List Lexeme → List Measured
 full xs = full_after 0 xs
 
 -- the tokens of a statement or declaration at a level
-abbrev pub begins : ℕ → List Placed → List Placed
+abbrev pub begins : ℕ → List Measured → List Measured
 begins level [] = []
 begins level (p ∷ ps) = record { token = p.token; count = p.count; level = level } ∷ ps
 
 -- one or more parts, separated by commas
-abbrev pub SpellsRow : {A : Type 0} → (List Placed → A → Type 0) → List Placed → List A → Type 0
+abbrev pub SpellsRow : {A : Type 0} → (List Measured → A → Type 0) → List Measured → List A → Type 0
 SpellsRow Spells ts [] = ⊥
 SpellsRow Spells ts (a ∷ []) = Spells ts a
 SpellsRow Spells ts (a ∷ b ∷ rest) =
-    (comma : Lexeme) × (first others : List Placed) × Marks punctuator.Comma comma × Spells first a
+    (comma : Lexeme) × (first others : List Measured) × Marks punctuator.Comma comma × Spells first a
     × SpellsRow Spells others (b ∷ rest) × (ts ≡ first ++ outside comma ∷ others)
 
 -- one name of a declaration of locals, and the initialiser where there is one (C99 6.7)
-abbrev pub SpellsInitial : List Placed → Option Expr → Type 0
+abbrev pub SpellsInitial : List Measured → Option Expr → Type 0
 SpellsInitial ts None = ts ≡ []
 SpellsInitial ts (Some e) =
     (sign : Lexeme) × (right : List Lexeme) × Marks punctuator.Assign sign × SpellsExpression 1 right e × (ts ≡ outside sign ∷ full right)
 
-abbrev pub SpellsDeclared : List Placed → Declared → Type 0
-SpellsDeclared ts d = (initial : List Placed) × SpellsInitial initial d.initial × (ts ≡ outside (identifier d.name) ∷ initial)
+abbrev pub SpellsDeclared : List Measured → Declarator → Type 0
+SpellsDeclared ts d = (initial : List Measured) × SpellsInitial initial d.initial × (ts ≡ outside (identifier d.name) ∷ initial)
 
 -- a declaration of locals: a type, one or more names, and a semicolon (C99 6.7)
-abbrev pub SpellsLocal : List Placed → Scalar → List Declared → Type 0
+abbrev pub SpellsLocal : List Measured → Scalar → List Declarator → Type 0
 SpellsLocal ts t ds =
-    (type : List Lexeme) × (names : List Placed) × (semicolon : Lexeme) × SpellsType type t × SpellsRow SpellsDeclared names ds
+    (type : List Lexeme) × (names : List Measured) × (semicolon : Lexeme) × SpellsType type t × SpellsRow SpellsDeclared names ds
     × Marks punctuator.Semicolon semicolon × (ts ≡ map outside type ++ (names ++ outside semicolon ∷ []))
 
 -- a full expression, or nothing
-abbrev pub SpellsOptional : List Placed → Option Expr → Type 0
+abbrev pub SpellsOptional : List Measured → Option Expr → Type 0
 SpellsOptional ts None = ts ≡ []
 SpellsOptional ts (Some e) = (inner : List Lexeme) × SpellsExpression 1 inner e × (ts ≡ full inner)
 
 -- an action, which is one full expression, or nothing
-abbrev pub SpellsOptionalAction : List Placed → Option Action → Type 0
+abbrev pub SpellsOptionalAction : List Measured → Option Action → Type 0
 SpellsOptionalAction ts None = ts ≡ []
 SpellsOptionalAction ts (Some a) = (inner : List Lexeme) × SpellsAction inner a × (ts ≡ full inner)
 
 -- the first part of a `for` header, with its semicolon; a declaration there stands at the level (C99 6.8.5.3)
-abbrev pub SpellsStart : ℕ → List Placed → Start → Type 0
-SpellsStart level ts (Declares t ds) = (inner : List Placed) × SpellsLocal inner t ds × (ts ≡ begins level inner)
+abbrev pub SpellsStart : ℕ → List Measured → Beginning → Type 0
+SpellsStart level ts (Declares t ds) = (inner : List Measured) × SpellsLocal inner t ds × (ts ≡ begins level inner)
 SpellsStart level ts (Performs a) =
-    (inner : List Placed) × (semicolon : Lexeme) × SpellsOptionalAction inner a × Marks punctuator.Semicolon semicolon
+    (inner : List Measured) × (semicolon : Lexeme) × SpellsOptionalAction inner a × Marks punctuator.Semicolon semicolon
     × (ts ≡ inner ++ outside semicolon ∷ [])
 
 -- not a declaration (C99 6.8)
@@ -236,7 +236,7 @@ abbrev pub IsStatement : Stmt → Type 0
 IsStatement (Local t ds) = ⊥
 IsStatement s = Unit {0}
 
--- no `if` at the end of the statement could take an `else` that stands behind it (C99 6.8.4.1, paragraph 3)
+-- no `if` at the end of the statement could take an `else` that stands after it (C99 6.8.4.1, paragraph 3)
 abbrev pub IsClosed : Stmt → Type 0
 IsClosed (If e s) = ⊥
 IsClosed (IfElse e s t) = IsClosed t
@@ -248,16 +248,16 @@ IsClosed s = Unit {0}
 -- `if` or a loop is one level deeper. Full expressions (6.8): an action, a condition, the operand of a return, an
 -- initialiser. What stands between an `if` and its `else` is closed, so an `else` belongs to the nearest `if`.
 abbrev mutual
-  pub SpellsStatement : ℕ → List Placed → Stmt → Type 0
+  pub SpellsStatement : ℕ → List Measured → Stmt → Type 0
   SpellsStatement level ts (Block ss) =
-      (opening closing : Lexeme) × (inner : List Placed) × Marks punctuator.OpenBrace opening × Marks punctuator.CloseBrace closing
+      (opening closing : Lexeme) × (inner : List Measured) × Marks punctuator.OpenBrace opening × Marks punctuator.CloseBrace closing
       × SpellsStatements (suc level) inner ss × (ts ≡ begins level (outside opening ∷ inner ++ outside closing ∷ []))
-  SpellsStatement level ts (Local t ds) = (inner : List Placed) × SpellsLocal inner t ds × (ts ≡ begins level inner)
+  SpellsStatement level ts (Local t ds) = (inner : List Measured) × SpellsLocal inner t ds × (ts ≡ begins level inner)
   SpellsStatement level ts (Perform a) =
-      (inner : List Placed) × (semicolon : Lexeme) × SpellsOptionalAction inner a × Marks punctuator.Semicolon semicolon
+      (inner : List Measured) × (semicolon : Lexeme) × SpellsOptionalAction inner a × Marks punctuator.Semicolon semicolon
       × (ts ≡ begins level (inner ++ outside semicolon ∷ []))
   SpellsStatement level ts (Return at e) =
-      (word semicolon : Lexeme) × (operand : List Placed) × IsKeyword keyword.Return word × (word.at ≡ at)
+      (word semicolon : Lexeme) × (operand : List Measured) × IsKeyword keyword.Return word × (word.at ≡ at)
       × Marks punctuator.Semicolon semicolon × SpellsOptional operand e
       × (ts ≡ begins level (outside word ∷ operand ++ outside semicolon ∷ []))
   SpellsStatement level ts (Break at) =
@@ -267,37 +267,37 @@ abbrev mutual
       (word semicolon : Lexeme) × IsKeyword keyword.Continue word × (word.at ≡ at) × Marks punctuator.Semicolon semicolon
       × (ts ≡ begins level (outside word ∷ outside semicolon ∷ []))
   SpellsStatement level ts (If e s) =
-      (word opening closing : Lexeme) × (test : List Lexeme) × (part : List Placed) × IsKeyword keyword.If word
+      (word opening closing : Lexeme) × (test : List Lexeme) × (part : List Measured) × IsKeyword keyword.If word
       × Marks punctuator.OpenParenthesis opening × Marks punctuator.CloseParenthesis closing × SpellsExpression 1 test e
       × SpellsStatement (suc level) part s × IsStatement s
       × (ts ≡ begins level (outside word ∷ outside opening ∷ full test ++ outside closing ∷ part))
   SpellsStatement level ts (IfElse e s t) =
-      (word opening closing other : Lexeme) × (test : List Lexeme) × (part last : List Placed) × IsKeyword keyword.If word
+      (word opening closing other : Lexeme) × (test : List Lexeme) × (part last : List Measured) × IsKeyword keyword.If word
       × Marks punctuator.OpenParenthesis opening × Marks punctuator.CloseParenthesis closing × IsKeyword keyword.Else other
       × SpellsExpression 1 test e × SpellsStatement (suc level) part s × IsStatement s × IsClosed s
       × SpellsStatement (suc level) last t × IsStatement t
       × (ts ≡ begins level (outside word ∷ outside opening ∷ full test ++ (outside closing ∷ part ++ outside other ∷ last)))
   SpellsStatement level ts (While e s) =
-      (word opening closing : Lexeme) × (test : List Lexeme) × (body : List Placed) × IsKeyword keyword.While word
+      (word opening closing : Lexeme) × (test : List Lexeme) × (body : List Measured) × IsKeyword keyword.While word
       × Marks punctuator.OpenParenthesis opening × Marks punctuator.CloseParenthesis closing × SpellsExpression 1 test e
       × SpellsStatement (suc level) body s × IsStatement s
       × (ts ≡ begins level (outside word ∷ outside opening ∷ full test ++ outside closing ∷ body))
   SpellsStatement level ts (DoWhile s e) =
-      (word while opening closing semicolon : Lexeme) × (body : List Placed) × (test : List Lexeme) × IsKeyword keyword.Do word
+      (word while opening closing semicolon : Lexeme) × (body : List Measured) × (test : List Lexeme) × IsKeyword keyword.Do word
       × IsKeyword keyword.While while × Marks punctuator.OpenParenthesis opening × Marks punctuator.CloseParenthesis closing
       × Marks punctuator.Semicolon semicolon × SpellsStatement (suc level) body s × IsStatement s × SpellsExpression 1 test e
       × (ts ≡ begins level (outside word ∷ body ++ (outside while ∷ outside opening ∷ full test ++ outside closing ∷ outside semicolon ∷ [])))
   SpellsStatement level ts (For a e b s) =
-      (word opening semicolon closing : Lexeme) × (starting test last body : List Placed) × IsKeyword keyword.For word
+      (word opening semicolon closing : Lexeme) × (starting test last body : List Measured) × IsKeyword keyword.For word
       × Marks punctuator.OpenParenthesis opening × Marks punctuator.Semicolon semicolon × Marks punctuator.CloseParenthesis closing
       × SpellsStart (suc level) starting a × SpellsOptional test e × SpellsOptionalAction last b
       × SpellsStatement (suc level) body s × IsStatement s
       × (ts ≡ begins level (outside word ∷ outside opening ∷ starting ++ (test ++ (outside semicolon ∷ last ++ outside closing ∷ body))))
 
-  pub SpellsStatements : ℕ → List Placed → Stmts → Type 0
+  pub SpellsStatements : ℕ → List Measured → Stmts → Type 0
   SpellsStatements level ts end = ts ≡ []
   SpellsStatements level ts (next s ss) =
-      (first others : List Placed) × SpellsStatement level first s × SpellsStatements level others ss × (ts ≡ first ++ others)
+      (first others : List Measured) × SpellsStatement level first s × SpellsStatements level others ss × (ts ≡ first ++ others)
 
 -- the offset of the first token
 abbrev pub BeginsAt : ℕ → List Lexeme → Type 0
@@ -305,10 +305,10 @@ BeginsAt at [] = ⊥
 BeginsAt at (x ∷ xs) = x.at ≡ at
 
 -- a constant expression, which is a full expression (C99 6.6)
-abbrev pub SpellsConstantExpr : List Placed → ConstantExpr → Type 0
+abbrev pub SpellsConstantExpr : List Measured → ConstantExpr → Type 0
 SpellsConstantExpr ts c = (inner : List Lexeme) × SpellsExpression 1 inner c.expr × BeginsAt c.at inner × (ts ≡ full inner)
 
-abbrev pub SpellsOptionalConstant : List Placed → Option ConstantExpr → Type 0
+abbrev pub SpellsOptionalConstant : List Measured → Option ConstantExpr → Type 0
 SpellsOptionalConstant ts None = ts ≡ []
 SpellsOptionalConstant ts (Some c) = SpellsConstantExpr ts c
 
@@ -316,22 +316,22 @@ SpellsOptionalConstant ts (Some c) = SpellsConstantExpr ts c
 abbrev pub IsOptionalComma : List Lexeme → Type 0
 IsOptionalComma ts = (ts ≡ []) ⊎ ((comma : Lexeme) × Marks punctuator.Comma comma × (ts ≡ comma ∷ []))
 
--- the list of an array's values: nothing where there is none; a comma may stand behind the last (C99 6.7.8)
-abbrev pub SpellsList : List Placed → List ConstantExpr → Type 0
+-- the list of an array's values: nothing where there is none; a comma may stand after the last (C99 6.7.8)
+abbrev pub SpellsList : List Measured → List ConstantExpr → Type 0
 SpellsList ts [] = ts ≡ []
 SpellsList ts (v ∷ vs) =
-    (sign opening closing : Lexeme) × (row : List Placed) × (comma : List Lexeme) × Marks punctuator.Assign sign
+    (sign opening closing : Lexeme) × (row : List Measured) × (comma : List Lexeme) × Marks punctuator.Assign sign
     × Marks punctuator.OpenBrace opening × Marks punctuator.CloseBrace closing × SpellsRow SpellsConstantExpr row (v ∷ vs)
     × IsOptionalComma comma × (ts ≡ outside sign ∷ outside opening ∷ row ++ (map outside comma ++ outside closing ∷ []))
 
 -- one name of a declaration of objects (C99 6.7, 6.7.5.2)
-abbrev pub SpellsObject : List Placed → Object → Type 0
+abbrev pub SpellsObject : List Measured → Object → Type 0
 SpellsObject ts (Single n None) = ts ≡ outside (identifier n) ∷ []
 SpellsObject ts (Single n (Some c)) =
-    (sign : Lexeme) × (right : List Placed) × Marks punctuator.Assign sign × SpellsConstantExpr right c
+    (sign : Lexeme) × (right : List Measured) × Marks punctuator.Assign sign × SpellsConstantExpr right c
     × (ts ≡ outside (identifier n) ∷ outside sign ∷ right)
 SpellsObject ts (Array n size values) =
-    (opening closing : Lexeme) × (inner list : List Placed) × Marks punctuator.OpenBracket opening × Marks punctuator.CloseBracket closing
+    (opening closing : Lexeme) × (inner list : List Measured) × Marks punctuator.OpenBracket opening × Marks punctuator.CloseBracket closing
     × SpellsOptionalConstant inner size × SpellsList list values
     × (ts ≡ outside (identifier n) ∷ outside opening ∷ inner ++ outside closing ∷ list)
 
@@ -341,12 +341,12 @@ optional_identifier None = []
 optional_identifier (Some n) = identifier n ∷ []
 
 -- a parameter: its type, and its name where it has one (C99 6.7.5.3)
-abbrev pub SpellsParameter : List Placed → Parameter → Type 0
+abbrev pub SpellsParameter : List Measured → Parameter → Type 0
 SpellsParameter ts p =
     (type : List Lexeme) × SpellsType type p.scalar × (ts ≡ map outside type ++ map outside (optional_identifier p.name))
 
 -- `void` or nothing, or one or more parameters
-abbrev pub SpellsParameters : List Placed → List Parameter → Type 0
+abbrev pub SpellsParameters : List Measured → List Parameter → Type 0
 SpellsParameters ts [] = (ts ≡ []) ⊎ ((word : Lexeme) × IsKeyword keyword.Void word × (ts ≡ outside word ∷ []))
 SpellsParameters ts (p ∷ ps) = SpellsRow SpellsParameter ts (p ∷ ps)
 
@@ -356,9 +356,9 @@ SpellsResult ts None = (word : Lexeme) × IsKeyword keyword.Void word × (ts ≡
 SpellsResult ts (Some t) = SpellsType ts t
 
 -- a function's result, name and parameters (C99 6.7.5.3)
-abbrev pub SpellsSignature : List Placed → Signature → Type 0
+abbrev pub SpellsSignature : List Measured → Signature → Type 0
 SpellsSignature ts f =
-    (type : List Lexeme) × (opening closing : Lexeme) × (parameters : List Placed) × SpellsResult type f.result
+    (type : List Lexeme) × (opening closing : Lexeme) × (parameters : List Measured) × SpellsResult type f.result
     × Marks punctuator.OpenParenthesis opening × Marks punctuator.CloseParenthesis closing × SpellsParameters parameters f.parameters
     × (ts ≡ map outside type ++ (outside (identifier f.name) ∷ outside opening ∷ parameters ++ outside closing ∷ []))
 
@@ -368,34 +368,34 @@ AreNamed [] = Unit {0}
 AreNamed (p ∷ ps) = ((n : Name) × (p.name ≡ Some n)) × AreNamed ps
 
 -- an external declaration (C99 6.9): the body of a definition is a block at level 1, and its parameters have names
-abbrev pub SpellsExternal : List Placed → External → Type 0
+abbrev pub SpellsExternal : List Measured → External → Type 0
 SpellsExternal ts (Declaration f) =
-    (head : List Placed) × (semicolon : Lexeme) × SpellsSignature head f × Marks punctuator.Semicolon semicolon
+    (head : List Measured) × (semicolon : Lexeme) × SpellsSignature head f × Marks punctuator.Semicolon semicolon
     × (ts ≡ head ++ outside semicolon ∷ [])
 SpellsExternal ts (Definition f body) =
-    (head block : List Placed) × SpellsSignature head f × AreNamed f.parameters × SpellsStatement 1 block (Block body)
+    (head block : List Measured) × SpellsSignature head f × AreNamed f.parameters × SpellsStatement 1 block (Block body)
     × (ts ≡ head ++ block)
 SpellsExternal ts (Objects t os) =
-    (type : List Lexeme) × (row : List Placed) × (semicolon : Lexeme) × SpellsType type t × SpellsRow SpellsObject row os
+    (type : List Lexeme) × (row : List Measured) × (semicolon : Lexeme) × SpellsType type t × SpellsRow SpellsObject row os
     × Marks punctuator.Semicolon semicolon × (ts ≡ map outside type ++ (row ++ outside semicolon ∷ []))
 
--- external declarations, one behind the other
-abbrev pub SpellsExternals : List Placed → List External → Type 0
+-- external declarations, one after the other
+abbrev pub SpellsExternals : List Measured → List External → Type 0
 SpellsExternals ts [] = ts ≡ []
-SpellsExternals ts (e ∷ es) = (first others : List Placed) × SpellsExternal first e × SpellsExternals others es × (ts ≡ first ++ others)
+SpellsExternals ts (e ∷ es) = (first others : List Measured) × SpellsExternal first e × SpellsExternals others es × (ts ≡ first ++ others)
 
 -- a whole unit: one or more external declarations (C99 6.9)
-abbrev pub SpellsUnit : List Placed → List External → Type 0
+abbrev pub SpellsUnit : List Measured → List External → Type 0
 SpellsUnit ts [] = ⊥
 SpellsUnit ts (e ∷ es) = SpellsExternals ts (e ∷ es)
 
 -- the tokens alone
-abbrev pub tokens_of : List Placed → List Lexeme
-tokens_of ts = map (λ p. p.token) ts
+abbrev pub plain_tokens : List Measured → List Lexeme
+plain_tokens ts = map (λ p. p.token) ts
 
 -- the tokens spell the tree, whose limits are not asked
 abbrev pub Spells : List Lexeme → List External → Type 0
-Spells tokens tree = (ts : List Placed) × SpellsUnit ts tree × (tokens_of ts ≡ tokens)
+Spells tokens tree = (ts : List Measured) × SpellsUnit ts tree × (plain_tokens ts ≡ tokens)
 
 -- some unit, whose limits are not asked, begins with the tokens
 abbrev pub Begins : List Lexeme → Type 0

@@ -1,16 +1,14 @@
+-- the syntax tree
 pub mod Tree
+-- the tree of what the code keeps
 pub mod Erase
-pub mod Token
-pub mod Place
-pub mod Fault
-pub mod Source
-pub mod Spelling
-pub mod Constant
-pub mod Tokens
-pub mod Scan
+-- which tokens spell which tree, and how each token stands to the limits
 pub mod Grammar
+-- the limits of a unit, and the first token that breaks the grammar or a limit
 pub mod Limits
-pub mod Roles
-pub mod Machine
-pub mod MachineView
+-- what a text spells, and why it is refused
 pub mod Parse
+-- what a parsed text shows, and what is said of the answer
+pub mod Source
+-- no promise rests on these
+pub mod internal

@@ -1,20 +1,20 @@
 -- The limits of a unit, and the first token that breaks the grammar or a limit.
 use Rattle.std.specs.Prelude.{◌≡◌, ℕ, suc, ◌<◌, ◌≤◌, List, [], ◌∷◌, ◌++◌, length, take, ◌⊎◌}
 use Rattle.std.specs.List.{AllByRecursion}
-use Rattle.cc_syntax.specs.Token.{Lexeme}
+use Rattle.cc_tokens.specs.Token.{Lexeme}
 use Rattle.cc_syntax.specs.Tree.{External}
-use Rattle.cc_syntax.specs.Grammar.{Placed, SpellsUnit, tokens_of, Spells, Begins}
+use Rattle.cc_syntax.specs.Grammar.{Measured, SpellsUnit, plain_tokens, Spells, Begins}
 
 -- a full expression has at most 512 tokens, and levels go to 64
-abbrev pub IsWithin : Placed → Type 0
+abbrev pub IsWithin : Measured → Type 0
 IsWithin p = (p.count ≤ 512) × (p.level ≤ 64)
 
 -- the tokens spell the tree, and the limits hold
 abbrev pub SpellsWithin : List Lexeme → List External → Type 0
-SpellsWithin tokens tree = (ts : List Placed) × SpellsUnit ts tree × AllByRecursion IsWithin ts × (tokens_of ts ≡ tokens)
+SpellsWithin tokens tree = (ts : List Measured) × SpellsUnit ts tree × AllByRecursion IsWithin ts × (plain_tokens ts ≡ tokens)
 
--- a token past a limit: behind the 512th of a full expression, or the first of a statement or declaration below level 64
-abbrev pub PassesLimit : Placed → Type 0
+-- a token past a limit: after the 512th of a full expression, or the first of a statement or declaration below level 64
+abbrev pub PassesLimit : Measured → Type 0
 PassesLimit p = (512 < p.count) ⊎ (64 < p.level)
 
 -- no unit begins with the tokens up to and with number k; the end of the text counts as a last token
@@ -26,8 +26,8 @@ UnexpectedAt tokens k =
 -- in some unit that begins with the tokens up to and with number k, that token passes a limit
 abbrev pub TooDeepAt : List Lexeme → ℕ → Type 0
 TooDeepAt tokens k =
-    (front rest : List Placed) × (p : Placed) × (tree : List External) × (k < length tokens) × PassesLimit p
-    × SpellsUnit (front ++ p ∷ rest) tree × (tokens_of (front ++ p ∷ []) ≡ take (suc k) tokens)
+    (front rest : List Measured) × (p : Measured) × (tree : List External) × (k < length tokens) × PassesLimit p
+    × SpellsUnit (front ++ p ∷ rest) tree × (plain_tokens (front ++ p ∷ []) ≡ take (suc k) tokens)
 
 -- some unit goes on from the tokens before number k, none of which passes a limit
 abbrev pub IsFineBefore : List Lexeme → ℕ → Type 0

@@ -1,12 +1,12 @@
 -- What the text as a whole spells, and why it is refused.
 use Rattle.std.specs.Prelude.{◌≡◌, ℕ, ◌≤◌, List, length, slice_get, Option, Some, None}
-use Rattle.cc_syntax.specs.declared.place.Place.{Place}
-use Rattle.cc_syntax.specs.declared.fault.SyntaxFault.{SyntaxFault}
-use Rattle.cc_syntax.specs.declared.fault.SyntaxFault.TheVariants as fault
-use Rattle.cc_syntax.specs.Token.{Lexeme}
+use Rattle.cc_tokens.specs.declared.place.Place.{Place}
+use Rattle.cc_tokens.specs.declared.fault.SyntaxFault.{SyntaxFault}
+use Rattle.cc_tokens.specs.declared.fault.SyntaxFault.TheVariants as fault
+use Rattle.cc_tokens.specs.Token.{Lexeme}
 use Rattle.cc_syntax.specs.Tree.{External}
-use Rattle.cc_syntax.specs.Place.{place_of}
-use Rattle.cc_syntax.specs.Tokens.{IsTokens, IsRefusal}
+use Rattle.cc_tokens.specs.Place.{place_of}
+use Rattle.cc_tokens.specs.Tokens.{IsTokens, IsTokenRefusal}
 use Rattle.cc_syntax.specs.Limits.{SpellsWithin, UnexpectedAt, TooDeepAt, IsFineBefore}
 
 -- the text's tokens spell the tree, and the limits hold
@@ -38,4 +38,4 @@ pub record BreaksAt (Breaks : List Lexeme → ℕ → Type 0) (text : List ℕ) 
 abbrev pub IsParseRefusal : List ℕ → SyntaxFault → Type 0
 IsParseRefusal text (fault.Unexpected p) = BreaksAt UnexpectedAt text p
 IsParseRefusal text (fault.TooDeep p) = BreaksAt TooDeepAt text p
-IsParseRefusal text f = IsRefusal text f
+IsParseRefusal text f = IsTokenRefusal text f

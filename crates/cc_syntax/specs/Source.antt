@@ -1,11 +1,10 @@
 -- What a parsed text shows: its bytes and its tree.
-use Rattle.std.specs.Prelude.{◌≡◌, ◌≤◌, ℕ, List, length, Result, Ok, Err}
+use Rattle.std.specs.Prelude.{◌≡◌, List, Result, Ok, Err}
 use Rattle.cc_syntax.specs.Tree.{Source, External}
 use Rattle.cc_syntax.specs.Erase.{external_trees}
-use Rattle.cc_syntax.specs.declared.fault.SyntaxFault.{SyntaxFault}
-use Rattle.cc_syntax.specs.declared.fault.SyntaxFault.TheVariants.{OutOfMemory}
+use Rattle.cc_tokens.specs.declared.fault.SyntaxFault.{SyntaxFault}
+use Rattle.cc_tokens.specs.declared.fault.SyntaxFault.TheVariants.{OutOfMemory}
 use Rattle.cc_syntax.specs.declared.unit.Unit.{Unit}
-use Rattle.cc_syntax.specs.Parse.{SpellsText, IsParseRefusal}
 
 -- the bytes and the tree of a parsed text
 abbrev pub source : Unit → Source
@@ -15,12 +14,7 @@ source u = record { text = u.text.items; externals = external_trees u.externals.
 abbrev pub UnitTree : Type 0
 UnitTree = List External
 
--- the tree is answered, unless memory was refused
+-- the tree is answered, unless memory ran out
 abbrev pub AnswersTree : List External → Result Unit SyntaxFault → Type 0
 AnswersTree tree (Ok u) = (source u).externals ≡ tree
 AnswersTree tree (Err e) = e ≡ OutOfMemory
-
--- all that is said of the answer for a text: its tree with the text, or why there is none
-abbrev pub IsParse : List ℕ → Result Unit SyntaxFault → Type 0
-IsParse text (Ok u) = (length text ≤ 65536) × ((source u).text ≡ text) × SpellsText text (source u).externals
-IsParse text (Err e) = IsParseRefusal text e

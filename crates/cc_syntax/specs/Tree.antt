@@ -1,6 +1,6 @@
 -- The syntax tree, without where it lies in memory.
 use Rattle.std.specs.Prelude.{ℕ, List, Option}
-use Rattle.cc_syntax.specs.declared.ast.Scalar.{Scalar}
+use Rattle.cc_tokens.specs.declared.scalar.Scalar.{Scalar}
 use Rattle.cc_syntax.specs.declared.ast.UnaryOperator.{UnaryOperator}
 use Rattle.cc_syntax.specs.declared.ast.BinaryOperator.{BinaryOperator}
 use Rattle.cc_syntax.specs.declared.ast.AssignmentOperator.{AssignmentOperator}
@@ -41,20 +41,20 @@ pub data Action : Type 0 where
   Evaluate : Expr → Action
 
 -- one name of a declaration of locals, with its initialiser where it has one (C99 6.7)
-pub record Declared : Type 0 where
+pub record Declarator : Type 0 where
   pub name : Name
   pub initial : Option Expr
 
 -- the first part of a `for` header (C99 6.8.5.3)
-pub data Start : Type 0 where
-  Declares : Scalar → List Declared → Start
-  Performs : Option Action → Start
+pub data Beginning : Type 0 where
+  Declares : Scalar → List Declarator → Beginning
+  Performs : Option Action → Beginning
 
 -- a statement, or a declaration of locals (C99 6.8); a null statement performs no action
 mutual
   pub data Stmt : Type 0 where
     Block : Stmts → Stmt
-    Local : Scalar → List Declared → Stmt
+    Local : Scalar → List Declarator → Stmt
     Perform : Option Action → Stmt
     Return : ℕ → Option Expr → Stmt
     Break : ℕ → Stmt
@@ -63,7 +63,7 @@ mutual
     IfElse : Expr → Stmt → Stmt → Stmt
     While : Expr → Stmt → Stmt
     DoWhile : Stmt → Expr → Stmt
-    For : Start → Option Expr → Option Action → Stmt → Stmt
+    For : Beginning → Option Expr → Option Action → Stmt → Stmt
 
   pub data Stmts : Type 0 where
     end : Stmts

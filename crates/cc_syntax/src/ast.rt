@@ -1,15 +1,10 @@
 // The syntax tree. It keeps the offset in the text of each token that a fault may name, and a node for each pair of
 // parentheses, so that a list of tokens spells one tree at most.
 
-/// The type of a number, a variable or a value: `int` or `unsigned int` (C99 6.2.5).
-#[derive(Clone, Copy, PartialEq, Eq, Debug)]
-pub enum Scalar {
-    Int,
-    Unsigned,
-}
+use cc_tokens::Scalar;
 
 /// A unary operator: `+`, `-`, `~`, `!` (C99 6.5.3.3).
-#[derive(Clone, Copy, PartialEq, Eq, Debug)]
+#[derive(Clone, Copy)]
 pub enum UnaryOperator {
     Plus,
     Minus,
@@ -19,7 +14,7 @@ pub enum UnaryOperator {
 
 /// A binary operator (C99 6.5.5 to 6.5.14). `And`, `Xor` and `Or` go bit by bit; `LogicalAnd` and `LogicalOr` are `&&` and
 /// `||`, which evaluate their right operand only where they need it.
-#[derive(Clone, Copy, PartialEq, Eq, Debug)]
+#[derive(Clone, Copy)]
 pub enum BinaryOperator {
     Multiply,
     Divide,
@@ -42,7 +37,7 @@ pub enum BinaryOperator {
 }
 
 /// An assignment operator (C99 6.5.16): `=`, or one that applies a binary operator to the old value first.
-#[derive(Clone, Copy, PartialEq, Eq, Debug)]
+#[derive(Clone, Copy)]
 pub enum AssignmentOperator {
     Plain,
     Multiply,
@@ -57,8 +52,8 @@ pub enum AssignmentOperator {
     Or,
 }
 
-/// `++` or `--`, before or behind what it changes (C99 6.5.2.4, 6.5.3.1).
-#[derive(Clone, Copy, PartialEq, Eq, Debug)]
+/// `++` or `--`, before or after what it changes (C99 6.5.2.4, 6.5.3.1).
+#[derive(Clone, Copy)]
 pub enum StepOperator {
     Increment,
     Decrement,
@@ -93,23 +88,23 @@ pub enum Expression {
 #[derive(Drop)]
 pub enum Target {
     Variable(Identifier),
-    Element(Identifier, Expression),
+    Element(Identifier, Box<Expression>),
 }
 
 /// What an expression statement or a part of a `for` header does: an assignment, an increment or decrement, or an
 /// expression whose value is not used (C99 6.8.3).
 #[derive(Drop)]
 pub enum Action {
-    Assign(AssignmentOperator, Target, Expression),
+    Assign(AssignmentOperator, Target, Box<Expression>),
     Step(StepOperator, Target),
-    Evaluate(Expression),
+    Evaluate(Box<Expression>),
 }
 
 /// One name of a declaration of locals, with its initialiser where it has one (C99 6.7).
 #[derive(Drop)]
 pub struct Declarator {
     pub name: Identifier,
-    pub initial: Option<Expression>,
+    pub initial: Option<Box<Expression>>,
 }
 
 /// The first part of a `for` header: a declaration of locals, or an action where there is one (C99 6.8.5.3).
@@ -127,24 +122,24 @@ pub enum Statement {
     /// An expression statement; nothing for a semicolon alone.
     Perform(Option<Action>),
     /// `return`: the offset of the word, and the value where there is one.
-    Return(usize, Option<Expression>),
+    Return(usize, Option<Box<Expression>>),
     /// `break`: the offset of the word.
     Break(usize),
     /// `continue`: the offset of the word.
     Continue(usize),
-    If(Expression, Box<Statement>),
-    IfElse(Expression, Box<Statement>, Box<Statement>),
-    While(Expression, Box<Statement>),
-    DoWhile(Box<Statement>, Expression),
+    If(Box<Expression>, Box<Statement>),
+    IfElse(Box<Expression>, Box<Statement>, Box<Statement>),
+    While(Box<Expression>, Box<Statement>),
+    DoWhile(Box<Statement>, Box<Expression>),
     /// `for`: what it begins with, the condition where there is one, what follows each turn, and the body.
-    For(Beginning, Option<Expression>, Option<Action>, Box<Statement>),
+    For(Box<Beginning>, Option<Box<Expression>>, Option<Action>, Box<Statement>),
 }
 
 /// A constant expression (C99 6.6), and the offset of its first token in the text.
 #[derive(Drop)]
 pub struct ConstantExpression {
     pub at: usize,
-    pub expression: Expression,
+    pub expression: Box<Expression>,
 }
 
 /// A parameter of a function; only a declaration may leave its name out (C99 6.7.5.3).

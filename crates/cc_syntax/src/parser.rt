@@ -1,6 +1,6 @@
 // The tree that the tokens of a text spell.
 //
-// The parser is a machine that goes over the tokens once: `state` is where it stands between two of them, `step` what a
+// The parser goes over the tokens once: `state` is where it stands between two of them, `step` what a
 // token does in each state (`outer` at file scope, `body` in a function's body, `full` in a full expression, with the
 // operators that wait in `expression`), `settle` how statements end, `role` what a token is to the grammar, `read` all the
 // tokens with the limits. No call is nested deeper for a deeper text.
@@ -17,22 +17,20 @@ mod step;
 mod stop;
 
 ghost use Rattle.std.specs.Prelude.{◌≡◌, ◌≤◌, length, IfOk, IfErr};
-ghost use Rattle.cc_syntax.specs.Token.{lexemes};
-ghost use Rattle.cc_syntax.specs.Tokens.{AreInOrder, IsTokens};
+ghost use Rattle.cc_tokens.specs.Token.{lexemes};
+ghost use Rattle.cc_tokens.specs.Tokens.{AreInOrder, IsTokens};
 ghost use Rattle.cc_syntax.specs.Erase.{external_trees};
-ghost use Rattle.cc_syntax.specs.MachineView.{Refuses};
+ghost use Rattle.cc_syntax.specs.internal.ParserView.{Refuses};
 ghost use Rattle.cc_syntax.specs.Parse.{SpellsText, IsParseRefusal, place_at_token};
 ghost use Rattle.cc_syntax.specs.Limits.{TreesAreOne, SpelledHaveNoFault};
-ghost use Rattle.cc_syntax.specs.Source.{source, UnitTree, AnswersTree, IsParse};
+ghost use Rattle.cc_syntax.specs.Source.{source, UnitTree, AnswersTree};
+ghost use Rattle.cc_syntax.specs.internal.Answer.{IsParse};
 
 use crate::ast::External;
-use crate::fault::SyntaxFault;
-use crate::lexer::tokens;
 use crate::parser::read::read_tokens;
 use crate::parser::stop::Refusal;
-use crate::place::{Place, place_at};
-use crate::token::Token;
 use crate::unit::Unit;
+use cc_tokens::{Place, SyntaxFault, Token, place_at, tokens};
 use std::alloc::Global;
 
 /// The place of a token, or of the end of the text.
@@ -47,7 +45,7 @@ fn place_of_token(text: &[u8], tokens: &[Token], number: usize) -> Place
     }
 }
 
-/// The answer for a text whose tokens were refused by the grammar or a limit, or for want of memory.
+/// The answer for a text whose tokens were refused by the grammar or a limit, or because memory ran out.
 fn fault_of(text: &[u8], tokens: &[Token], refusal: Refusal) -> SyntaxFault
     requires fits { length text.now ≤ 65536 }
     requires ordered { AreInOrder 0 tokens.now (length text.now) }
@@ -90,8 +88,8 @@ fn parse_text(alloc: Global, text: &[u8]) -> Result<Unit, SyntaxFault>
 /// The tree that a text spells (C99 6.5 to 6.9, and the profile's grammar), with the text.
 ///
 /// Refusals: 7 and 1 to 4 as `tokens` has them; then 5 or 6 at the first token that has one: 5 where no unit begins with
-/// the tokens up to and with it (the end of the text counts as a last token), 6 where it is behind the 512th token of a
-/// full expression, or begins a statement or declaration below level 64; 40 where memory was refused.
+/// the tokens up to and with it (the end of the text counts as a last token), 6 where it is after the 512th token of a
+/// full expression, or begins a statement or declaration below level 64; 40 where memory ran out.
 pub fn parse(alloc: Global, text: &[u8]) -> Result<Unit, SyntaxFault>
     ensures fits { IfOk result (λ _. length text.now ≤ 65536) }
     ensures text { IfOk result (λ u. (source u).text ≡ text.now) }

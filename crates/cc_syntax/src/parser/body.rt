@@ -3,29 +3,29 @@
 ghost use Rattle.std.specs.Prelude.{◌≡◌, ◌≤◌, suc, [], ◌∷◌, ◌++◌, IfOk, Some, None, length};
 ghost use Rattle.cc_syntax.specs.Erase.{name_tree, expression_tree, statement_tree, beginning_tree, optional_tree, declarator_trees, target_tree};
 ghost use Rattle.cc_syntax.specs.Tree.{Step};
-ghost use Rattle.cc_syntax.specs.Machine.{name_of, action_step, item_step, do_step, resting_step, else_step, testing_step, ending_step, returning_step, for_opening_step, for_starting_step, for_testing_step, for_stepping_step, declaring_step, local_sign_step, declared_step, stepping_step, step_named_step, body_step, stage_count, acted};
-ghost use Rattle.cc_syntax.specs.MachineView.{body_view, stage_view, state_view, spot_view, test_view, position_view, Gives};
-ghost use Rattle.cc_syntax.specs.Token.{lexeme};
+ghost use Rattle.cc_syntax.specs.internal.Parser.{name_of, action_step, item_step, do_step, resting_step, else_step, testing_step, ending_step, returning_step, for_opening_step, for_starting_step, for_testing_step, for_stepping_step, declaring_step, local_sign_step, declared_step, stepping_step, step_named_step, body_step, stage_count, acted, InBody, Ending};
+ghost use Rattle.cc_syntax.specs.internal.ParserView.{body_view, stage_view, state_view, spot_view, test_view, position_view, Gives};
+ghost use Rattle.cc_tokens.specs.Token.{lexeme};
 
 use crate::ast::{
-    Action, AssignmentOperator, Beginning, Declarator, Expression, Identifier, Scalar, Statement,
+    Action, AssignmentOperator, Beginning, Declarator, Expression, Identifier, Statement,
     StepOperator, Target,
 };
 use crate::parser::full::{begin_full, identifier, step_first, with_declarator};
 use crate::parser::role::Role;
 use crate::parser::settle::{
     begin_declaration, end_action, end_block, end_declaration, settle_body, settled_state,
-    with_open,
+    settled_unboxed, with_open,
 };
 use crate::parser::state::{Body, Context, Open, Position, Purpose, Spot, Stage, State, Test};
 use crate::parser::stop::Stop;
-use crate::token::Token;
+use cc_tokens::{Scalar, Token};
 use std::alloc::Global;
 
 /// The first token of an action.
 fn step_action(
     alloc: Global,
-    body: Body,
+    body: Box<Body>,
     spot: Spot,
     role: Role,
     text: &[u8],
@@ -33,7 +33,7 @@ fn step_action(
 ) -> Result<State, Stop>
     requires order { token.from ≤ token.to }
     requires within { token.to ≤ length text.now }
-    ensures { Gives state_view result (action_step (body_view body) (spot_view spot) role (name_of (lexeme text.now token))) }
+    ensures { Gives state_view result (action_step (body_view body.value) (spot_view spot) role (name_of (lexeme text.now token))) }
 {
     match role {
         Role::Step(operator) => Ok(State::Body(body, Stage::Stepping(operator, spot))),
@@ -44,26 +44,34 @@ fn step_action(
     }
 }
 
+/// A statement that only its semicolon ends.
+fn ending(alloc: Global, body: Box<Body>, statement: Statement) -> Result<State, Stop>
+    ensures { Gives state_view result (Some (InBody (body_view body.value) (Ending (statement_tree statement)))) }
+{
+    let statement = Box::new(alloc, statement)?;
+    Ok(State::Body(body, Stage::Ending(statement)))
+}
+
 /// The first token of a statement or declaration, or the end of a block.
 fn step_item(
     alloc: Global,
-    body: Body,
+    body: Box<Body>,
     role: Role,
     text: &[u8],
     token: Token,
 ) -> Result<State, Stop>
     requires order { token.from ≤ token.to }
     requires within { token.to ≤ length text.now }
-    ensures { Gives state_view result (item_step (body_view body) role (name_of (lexeme text.now token))) }
+    ensures { Gives state_view result (item_step (body_view body.value) role (name_of (lexeme text.now token))) }
 {
     let at = token.from;
     match role {
         Role::OpenBrace => with_open(body, Open::Block(Vec::new(alloc))),
         Role::CloseBrace => end_block(alloc, body),
-        Role::Semicolon => settled_state(alloc, body, Statement::Perform(None)),
+        Role::Semicolon => settled_unboxed(alloc, body, Statement::Perform(None)),
         Role::Return => Ok(State::Body(body, Stage::Returning(at))),
-        Role::Break => Ok(State::Body(body, Stage::Ending(Statement::Break(at)))),
-        Role::Continue => Ok(State::Body(body, Stage::Ending(Statement::Continue(at)))),
+        Role::Break => ending(alloc, body, Statement::Break(at)),
+        Role::Continue => ending(alloc, body, Statement::Continue(at)),
         Role::If => Ok(State::Body(body, Stage::Testing(Test::If))),
         Role::While => Ok(State::Body(body, Stage::Testing(Test::While))),
         Role::Do => with_open(body, Open::Do),
@@ -79,9 +87,9 @@ fn step_item(
     }
 }
 
-/// The word behind the body of a `do`.
-fn step_do(body: Body, statement: Statement, role: Role) -> Result<State, Stop>
-    ensures { Gives state_view result (do_step (body_view body) (statement_tree statement) role) }
+/// The word after the body of a `do`.
+fn step_do(body: Box<Body>, statement: Box<Statement>, role: Role) -> Result<State, Stop>
+    ensures { Gives state_view result (do_step (body_view body.value) (statement_tree statement.value) role) }
 {
     match role {
         Role::While => Ok(State::Body(body, Stage::Testing(Test::Do(statement)))),
@@ -89,10 +97,10 @@ fn step_do(body: Body, statement: Statement, role: Role) -> Result<State, Stop>
     }
 }
 
-/// A token behind a statement that no `else` follows.
+/// A token after a statement that no `else` follows.
 fn step_resting(
     alloc: Global,
-    body: Body,
+    body: Box<Body>,
     stage: Stage,
     role: Role,
     text: &[u8],
@@ -100,33 +108,37 @@ fn step_resting(
 ) -> Result<State, Stop>
     requires order { token.from ≤ token.to }
     requires within { token.to ≤ length text.now }
-    ensures { Gives state_view result (resting_step (body_view body, stage_view stage) role (name_of (lexeme text.now token))) }
+    ensures { Gives state_view result (resting_step (body_view body.value, stage_view stage) role (name_of (lexeme text.now token))) }
 {
     match stage {
         Stage::Item => step_item(alloc, body, role, text, token),
         Stage::AfterDo(statement) => step_do(body, statement, role),
-        _ => Err(Stop::Unexpected),
+        other => {
+            drop(body);
+            drop(other);
+            Err(Stop::Unexpected)
+        }
     }
 }
 
-/// A token behind the part of an `if` that an `else` may follow.
+/// A token after the part of an `if` that an `else` may follow.
 fn step_else(
     alloc: Global,
-    body: Body,
-    test: Expression,
-    then: Statement,
+    body: Box<Body>,
+    test: Box<Expression>,
+    then: Box<Statement>,
     role: Role,
     text: &[u8],
     token: Token,
 ) -> Result<State, Stop>
     requires order { token.from ≤ token.to }
     requires within { token.to ≤ length text.now }
-    ensures { Gives state_view result (else_step (body_view body) (expression_tree test) (statement_tree then) role (name_of (lexeme text.now token))) }
+    ensures { Gives state_view result (else_step (body_view body.value) (expression_tree test.value) (statement_tree then.value) role (name_of (lexeme text.now token))) }
 {
     match role {
         Role::Else => with_open(body, Open::Else(test, then)),
         _ => {
-            let statement = Statement::If(test, Box::new(alloc, then)?);
+            let statement = Box::new(alloc, Statement::If(test, then))?;
             let (body, stage) = settle_body(alloc, false, body, statement)?;
             step_resting(alloc, body, stage, role, text, token)
         }
@@ -134,21 +146,30 @@ fn step_else(
 }
 
 /// The parenthesis before a condition.
-fn step_testing(alloc: Global, body: Body, test: Test, role: Role) -> Result<State, Stop>
-    ensures { Gives state_view result (testing_step (body_view body) (test_view test) role) }
+fn step_testing(alloc: Global, body: Box<Body>, test: Test, role: Role) -> Result<State, Stop>
+    ensures { Gives state_view result (testing_step (body_view body.value) (test_view test) role) }
 {
     match role {
         Role::OpenParenthesis => {
             let context = Context::Body(body, Purpose::Test(test));
-            Ok(begin_full(alloc, context, 0))
+            begin_full(alloc, context, 0)
         }
-        _ => Err(Stop::Unexpected),
+        _ => {
+            drop(body);
+            drop(test);
+            Err(Stop::Unexpected)
+        }
     }
 }
 
 /// The semicolon of a statement.
-fn step_ending(alloc: Global, body: Body, statement: Statement, role: Role) -> Result<State, Stop>
-    ensures { Gives state_view result (ending_step (body_view body) (statement_tree statement) role) }
+fn step_ending(
+    alloc: Global,
+    body: Box<Body>,
+    statement: Box<Statement>,
+    role: Role,
+) -> Result<State, Stop>
+    ensures { Gives state_view result (ending_step (body_view body.value) (statement_tree statement.value) role) }
 {
     match role {
         Role::Semicolon => settled_state(alloc, body, statement),
@@ -156,10 +177,10 @@ fn step_ending(alloc: Global, body: Body, statement: Statement, role: Role) -> R
     }
 }
 
-/// A token behind `return`.
+/// A token after `return`.
 fn step_returning(
     alloc: Global,
-    body: Body,
+    body: Box<Body>,
     at: usize,
     role: Role,
     text: &[u8],
@@ -167,10 +188,10 @@ fn step_returning(
 ) -> Result<State, Stop>
     requires order { token.from ≤ token.to }
     requires within { token.to ≤ length text.now }
-    ensures { Gives state_view result (returning_step (body_view body) at role (name_of (lexeme text.now token))) }
+    ensures { Gives state_view result (returning_step (body_view body.value) at role (name_of (lexeme text.now token))) }
 {
     match role {
-        Role::Semicolon => settled_state(alloc, body, Statement::Return(at, None)),
+        Role::Semicolon => settled_unboxed(alloc, body, Statement::Return(at, None)),
         _ => {
             let context = Context::Body(body, Purpose::Return(at));
             step_first(alloc, context, role, text, token)
@@ -178,9 +199,9 @@ fn step_returning(
     }
 }
 
-/// The parenthesis behind `for`.
-fn step_for_opening(body: Body, role: Role) -> Result<State, Stop>
-    ensures { Gives state_view result (for_opening_step (body_view body) role) }
+/// The parenthesis after `for`.
+fn step_for_opening(body: Box<Body>, role: Role) -> Result<State, Stop>
+    ensures { Gives state_view result (for_opening_step (body_view body.value) role) }
 {
     match role {
         Role::OpenParenthesis => Ok(State::Body(body, Stage::ForStarting)),
@@ -191,17 +212,20 @@ fn step_for_opening(body: Body, role: Role) -> Result<State, Stop>
 /// The first token of a `for` header.
 fn step_for_starting(
     alloc: Global,
-    body: Body,
+    body: Box<Body>,
     role: Role,
     text: &[u8],
     token: Token,
 ) -> Result<State, Stop>
     requires order { token.from ≤ token.to }
     requires within { token.to ≤ length text.now }
-    ensures { Gives state_view result (for_starting_step (body_view body) role (name_of (lexeme text.now token))) }
+    ensures { Gives state_view result (for_starting_step (body_view body.value) role (name_of (lexeme text.now token))) }
 {
     match role {
-        Role::Semicolon => Ok(State::Body(body, Stage::ForTesting(Beginning::Action(None)))),
+        Role::Semicolon => {
+            let start = Box::new(alloc, Beginning::Action(None))?;
+            Ok(State::Body(body, Stage::ForTesting(start)))
+        }
         Role::Int => {
             let stage = Stage::Declaring(Position::Header, Scalar::Int, Vec::new(alloc));
             Ok(State::Body(body, stage))
@@ -216,15 +240,15 @@ fn step_for_starting(
 /// The first token of a `for`'s condition.
 fn step_for_testing(
     alloc: Global,
-    body: Body,
-    start: Beginning,
+    body: Box<Body>,
+    start: Box<Beginning>,
     role: Role,
     text: &[u8],
     token: Token,
 ) -> Result<State, Stop>
     requires order { token.from ≤ token.to }
     requires within { token.to ≤ length text.now }
-    ensures { Gives state_view result (for_testing_step (body_view body) (beginning_tree start) role (name_of (lexeme text.now token))) }
+    ensures { Gives state_view result (for_testing_step (body_view body.value) (beginning_tree start.value) role (name_of (lexeme text.now token))) }
 {
     match role {
         Role::Semicolon => Ok(State::Body(body, Stage::ForStepping(start, None))),
@@ -238,16 +262,16 @@ fn step_for_testing(
 /// The first token of the last part of a `for` header.
 fn step_for_stepping(
     alloc: Global,
-    body: Body,
-    start: Beginning,
-    test: Option<Expression>,
+    body: Box<Body>,
+    start: Box<Beginning>,
+    test: Option<Box<Expression>>,
     role: Role,
     text: &[u8],
     token: Token,
 ) -> Result<State, Stop>
     requires order { token.from ≤ token.to }
     requires within { token.to ≤ length text.now }
-    ensures { Gives state_view result (for_stepping_step (body_view body) (beginning_tree start) (optional_tree test) role (name_of (lexeme text.now token))) }
+    ensures { Gives state_view result (for_stepping_step (body_view body.value) (beginning_tree start.value) (optional_tree test) role (name_of (lexeme text.now token))) }
 {
     match role {
         Role::CloseParenthesis => with_open(body, Open::For(start, test, None)),
@@ -258,7 +282,7 @@ fn step_for_stepping(
 /// A token where a name is declared.
 fn step_declaring(
     alloc: Global,
-    body: Body,
+    body: Box<Body>,
     position: Position,
     scalar: Scalar,
     declarators: Vec<Declarator>,
@@ -268,7 +292,7 @@ fn step_declaring(
 ) -> Result<State, Stop>
     requires order { token.from ≤ token.to }
     requires within { token.to ≤ length text.now }
-    ensures { Gives state_view result (declaring_step (body_view body) (position_view position) scalar (declarator_trees declarators.items) role (name_of (lexeme text.now token))) }
+    ensures { Gives state_view result (declaring_step (body_view body.value) (position_view position) scalar (declarator_trees declarators.items) role (name_of (lexeme text.now token))) }
 {
     match role {
         Role::Identifier => {
@@ -280,10 +304,10 @@ fn step_declaring(
     }
 }
 
-/// A token behind `signed` or `unsigned` of a declaration.
+/// A token after `signed` or `unsigned` of a declaration.
 fn step_local_sign(
     alloc: Global,
-    body: Body,
+    body: Box<Body>,
     position: Position,
     scalar: Scalar,
     role: Role,
@@ -292,7 +316,7 @@ fn step_local_sign(
 ) -> Result<State, Stop>
     requires order { token.from ≤ token.to }
     requires within { token.to ≤ length text.now }
-    ensures { Gives state_view result (local_sign_step (body_view body) (position_view position) scalar role (name_of (lexeme text.now token))) }
+    ensures { Gives state_view result (local_sign_step (body_view body.value) (position_view position) scalar role (name_of (lexeme text.now token))) }
 {
     let declarators = Vec::new(alloc);
     match role {
@@ -310,22 +334,22 @@ fn step_local_sign(
     }
 }
 
-/// A token behind a declared name.
+/// A token after a declared name.
 fn step_declared(
     alloc: Global,
-    body: Body,
+    body: Box<Body>,
     position: Position,
     scalar: Scalar,
     declarators: Vec<Declarator>,
     name: Identifier,
     role: Role,
 ) -> Result<State, Stop>
-    ensures { Gives state_view result (declared_step (body_view body) (position_view position) scalar (declarator_trees declarators.items) (name_tree name) role) }
+    ensures { Gives state_view result (declared_step (body_view body.value) (position_view position) scalar (declarator_trees declarators.items) (name_tree name) role) }
 {
     match role {
         Role::Assignment(AssignmentOperator::Plain) => {
             let purpose = Purpose::Initialise(position, scalar, declarators, name);
-            Ok(begin_full(alloc, Context::Body(body, purpose), 0))
+            begin_full(alloc, Context::Body(body, purpose), 0)
         }
         Role::Comma => {
             let declarators = with_declarator(declarators, name, None)?;
@@ -339,10 +363,10 @@ fn step_declared(
     }
 }
 
-/// A token behind `++` or `--`.
+/// A token after `++` or `--`.
 fn step_stepping(
     alloc: Global,
-    body: Body,
+    body: Box<Body>,
     operator: StepOperator,
     spot: Spot,
     role: Role,
@@ -351,32 +375,40 @@ fn step_stepping(
 ) -> Result<State, Stop>
     requires order { token.from ≤ token.to }
     requires within { token.to ≤ length text.now }
-    ensures { Gives state_view result (stepping_step (body_view body) operator (spot_view spot) role (name_of (lexeme text.now token))) }
+    ensures { Gives state_view result (stepping_step (body_view body.value) operator (spot_view spot) role (name_of (lexeme text.now token))) }
 {
     match role {
-        Role::Identifier => {
-            let name = identifier(alloc, text, token)?;
-            Ok(State::Body(body, Stage::StepNamed(operator, name, spot)))
+        Role::Identifier => match identifier(alloc, text, token) {
+            Ok(name) => Ok(State::Body(body, Stage::StepNamed(operator, name, spot))),
+            Err(error) => {
+                drop(body);
+                drop(spot);
+                Err(Stop::from(error))
+            }
+        },
+        _ => {
+            drop(body);
+            drop(spot);
+            Err(Stop::Unexpected)
         }
-        _ => Err(Stop::Unexpected),
     }
 }
 
-/// A token behind the name that `++` or `--` changes.
+/// A token after the name that `++` or `--` changes.
 fn step_step_named(
     alloc: Global,
-    body: Body,
+    body: Box<Body>,
     operator: StepOperator,
     name: Identifier,
     spot: Spot,
     role: Role,
 ) -> Result<State, Stop>
-    ensures { Gives state_view result (step_named_step (body_view body) operator (name_tree name) (spot_view spot) role) }
+    ensures { Gives state_view result (step_named_step (body_view body.value) operator (name_tree name) (spot_view spot) role) }
 {
     match role {
         Role::OpenBracket => {
             let context = Context::Body(body, Purpose::Step(operator, name, spot));
-            Ok(begin_full(alloc, context, 3))
+            begin_full(alloc, context, 3)
         }
         _ => {
             let action = Action::Step(operator, Target::Variable(name));
@@ -388,7 +420,7 @@ fn step_step_named(
 /// A token of a function's body, outside of full expressions.
 pub fn step_body(
     alloc: Global,
-    body: Body,
+    body: Box<Body>,
     stage: Stage,
     role: Role,
     text: &[u8],
@@ -396,7 +428,7 @@ pub fn step_body(
 ) -> Result<State, Stop>
     requires order { token.from ≤ token.to }
     requires within { token.to ≤ length text.now }
-    ensures { Gives state_view result (body_step (body_view body) (stage_view stage) role (name_of (lexeme text.now token))) }
+    ensures { Gives state_view result (body_step (body_view body.value) (stage_view stage) role (name_of (lexeme text.now token))) }
 {
     match stage {
         Stage::Item => step_item(alloc, body, role, text, token),

@@ -4,8 +4,8 @@ ghost use Rattle.std.specs.Prelude.{◌≡◌, ◌≤◌, suc, IfOk};
 ghost use Rattle.cc_syntax.specs.Grammar.{precedence};
 ghost use Rattle.cc_syntax.specs.Tree.{Call};
 ghost use Rattle.cc_syntax.specs.Erase.{name_tree, expression_tree, expressions_of};
-ghost use Rattle.cc_syntax.specs.Machine.{tightness, completed, reduced, with_argument};
-ghost use Rattle.cc_syntax.specs.MachineView.{waiting_view, waiting_views};
+ghost use Rattle.cc_syntax.specs.internal.Parser.{tightness, completed, reduced, with_argument};
+ghost use Rattle.cc_syntax.specs.internal.ParserView.{waiting_view, waiting_views};
 
 use crate::ast::{BinaryOperator, Expression, Identifier};
 use crate::parser::state::Waiting;
@@ -53,41 +53,48 @@ pub fn call_of(name: Identifier, arguments: Vec<Expression>) -> Expression
 /// The arguments with one more.
 pub fn with_argument_of(
     mut arguments: Vec<Expression>,
-    argument: Expression,
+    argument: Box<Expression>,
 ) -> Result<Vec<Expression>, AllocError>
-    ensures { IfOk result (λ es. expressions_of es.items ≡ with_argument (expressions_of arguments.items) (expression_tree argument)) }
+    ensures { IfOk result (λ es. expressions_of es.items ≡ with_argument (expressions_of arguments.items) (expression_tree argument.value)) }
 {
-    arguments.push(argument)?;
+    arguments.push(Box::into_inner(argument))?;
     Ok(arguments)
+}
+
+/// An expression in a box.
+pub fn boxed(alloc: Global, expression: Expression) -> Result<Box<Expression>, AllocError>
+    ensures { IfOk result (λ b. b.value ≡ expression) }
+{
+    Ok(Box::new(alloc, expression)?)
 }
 
 /// What waits, with its operand.
 pub fn complete(
     alloc: Global,
     waiting: Waiting,
-    operand: Expression,
-) -> Result<Expression, AllocError>
-    ensures { IfOk result (λ e. expression_tree e ≡ completed (waiting_view waiting) (expression_tree operand)) }
+    operand: Box<Expression>,
+) -> Result<Box<Expression>, AllocError>
+    ensures { IfOk result (λ e. expression_tree e.value ≡ completed (waiting_view waiting) (expression_tree operand.value)) }
 {
     match waiting {
-        Waiting::Parenthesis => Ok(Expression::Parenthesised(Box::new(alloc, operand)?)),
-        Waiting::Index(name) => Ok(Expression::Element(name, Box::new(alloc, operand)?)),
+        Waiting::Parenthesis => boxed(alloc, Expression::Parenthesised(operand)),
+        Waiting::Index(name) => boxed(alloc, Expression::Element(name, operand)),
         Waiting::Arguments(name, arguments) => {
-            Ok(call_of(name, with_argument_of(arguments, operand)?))
+            let arguments = with_argument_of(arguments, operand)?;
+            boxed(alloc, call_of(name, arguments))
         }
-        Waiting::Prefix(operator) => Ok(Expression::Unary(operator, Box::new(alloc, operand)?)),
-        Waiting::Cast(scalar) => Ok(Expression::Cast(scalar, Box::new(alloc, operand)?)),
-        Waiting::Infix(operator, left) => Ok(Expression::Binary(
-            operator,
-            Box::new(alloc, left)?,
-            Box::new(alloc, operand)?,
-        )),
-        Waiting::Then(_) => Ok(operand),
-        Waiting::Otherwise(test, then) => Ok(Expression::Conditional(
-            Box::new(alloc, test)?,
-            Box::new(alloc, then)?,
-            Box::new(alloc, operand)?,
-        )),
+        Waiting::Prefix(operator) => boxed(alloc, Expression::Unary(operator, operand)),
+        Waiting::Cast(scalar) => boxed(alloc, Expression::Cast(scalar, operand)),
+        Waiting::Infix(operator, left) => {
+            boxed(alloc, Expression::Binary(operator, left, operand))
+        }
+        Waiting::Then(test) => {
+            drop(test);
+            Ok(operand)
+        }
+        Waiting::Otherwise(test, then) => {
+            boxed(alloc, Expression::Conditional(test, then, operand))
+        }
     }
 }
 
@@ -96,9 +103,9 @@ pub fn reduce(
     alloc: Global,
     level: usize,
     waiting: &mut Vec<Waiting>,
-    operand: Expression,
-) -> Result<Expression, AllocError>
-    ensures { IfOk result (λ e. reduced level (waiting_views waiting.old.items) (expression_tree operand) ≡ (expression_tree e, waiting_views waiting.new.items)) }
+    operand: Box<Expression>,
+) -> Result<Box<Expression>, AllocError>
+    ensures { IfOk result (λ e. reduced level (waiting_views waiting.old.items) (expression_tree operand.value) ≡ (expression_tree e.value, waiting_views waiting.new.items)) }
 {
     let mut expression = operand;
     while let Some(last) = waiting.pop() {

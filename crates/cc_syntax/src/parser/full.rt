@@ -4,22 +4,24 @@ ghost use Rattle.std.specs.Prelude.{◌≡◌, ◌≤◌, suc, [], ◌∷◌, �
 ghost use Rattle.std.specs.Option.{option_map};
 ghost use Rattle.cc_syntax.specs.Grammar.{precedence};
 ghost use Rattle.cc_syntax.specs.Erase.{name_tree, expression_tree, expressions_of, declarator_trees, optional_tree, external_trees, target_tree, object_tree, constant_tree, object_trees, constant_trees, optional_constant};
-ghost use Rattle.cc_syntax.specs.Machine.{name_of, reduced, full_of, goes_on, begins_full, end_in_body, end_in_object, end_full, close, operate, ask, open_name, target_of, assign, step_target, operator_step, cast, call_of_none, operand_step, cast_step, cast_sign_step, full_step, first_step, declared, separated, end_list_value, Operand, Arguments, ToInitialise};
-ghost use Rattle.cc_syntax.specs.MachineView.{waiting_view, waiting_views, context_view, full_view, phase_view, state_view, body_view, position_view, purpose_view, naming_view, part_view, Gives};
-ghost use Rattle.cc_syntax.specs.Token.{lexeme};
+ghost use Rattle.cc_syntax.specs.internal.Parser.{name_of, reduced, full_of, goes_on, begins_full, end_in_body, end_in_object, end_full, close, operate, ask, open_name, target_of, assign, step_target, operator_step, cast, call_of_none, operand_step, cast_step, cast_sign_step, full_step, first_step, declared, separated, end_list_value, Operand, Arguments, ToInitialise};
+ghost use Rattle.cc_syntax.specs.internal.ParserView.{waiting_view, waiting_views, context_view, full_view, phase_view, state_view, body_view, position_view, purpose_view, naming_view, part_view, Gives};
+ghost use Rattle.cc_tokens.specs.Token.{lexeme};
 
 use crate::ast::{
     Action, AssignmentOperator, BinaryOperator, ConstantExpression, Declarator, Expression,
-    External, Identifier, Object, Scalar, Statement, StepOperator, Target, UnaryOperator,
+    External, Identifier, Object, Statement, StepOperator, Target, UnaryOperator,
 };
-use crate::parser::expression::{call_of, complete, precedence_of, reduce, with_argument_of};
+use crate::parser::expression::{
+    boxed, call_of, complete, precedence_of, reduce, with_argument_of,
+};
 use crate::parser::role::Role;
-use crate::parser::settle::{end_action, end_declaration, end_test, settled_state};
+use crate::parser::settle::{end_action, end_declaration, end_test, settled_unboxed};
 use crate::parser::state::{
     Body, Context, Full, Naming, Outer, Part, Phase, Position, Purpose, Stage, State, Waiting,
 };
 use crate::parser::stop::Stop;
-use crate::token::Token;
+use cc_tokens::{Scalar, Token};
 use std::alloc::{AllocError, Global};
 
 /// The identifier that a token is.
@@ -43,7 +45,7 @@ fn with_token(full: Full, phase: Phase) -> State
     State::Full(Full { count, ..full }, phase)
 }
 
-/// A full expression with one more token, behind which one more part waits.
+/// A full expression with one more token, after which one more part waits.
 fn with_waiting(full: Full, one: Waiting) -> Result<State, Stop>
     requires { full.count ≤ 512 }
     ensures { Gives state_view result (goes_on (full_view full) (waiting_view one ∷ waiting_views full.waiting.items) Operand) }
@@ -64,22 +66,22 @@ fn with_waiting(full: Full, one: Waiting) -> Result<State, Stop>
 }
 
 /// A full expression that begins, after so many of its tokens.
-pub fn begin_full(alloc: Global, context: Context, count: usize) -> State
-    ensures { Some (state_view result) ≡ begins_full (context_view context) count }
+pub fn begin_full(alloc: Global, context: Context, count: usize) -> Result<State, Stop>
+    ensures { Gives state_view result (begins_full (context_view context) count) }
 {
     let full = Full {
-        context,
+        context: Box::new(alloc, context)?,
         waiting: Vec::new(alloc),
         count,
     };
-    State::Full(full, Phase::Operand)
+    Ok(State::Full(full, Phase::Operand))
 }
 
 /// The declarators with one more at the end.
 pub fn with_declarator(
     mut declarators: Vec<Declarator>,
     name: Identifier,
-    initial: Option<Expression>,
+    initial: Option<Box<Expression>>,
 ) -> Result<Vec<Declarator>, AllocError>
     ensures { IfOk result (λ ds. declarator_trees ds.items ≡ declarator_trees declarators.items ++ declared (name_tree name) (optional_tree initial) ∷ []) }
 {
@@ -95,7 +97,7 @@ pub fn with_one(mut objects: Vec<Object>, object: Object) -> Result<Vec<Object>,
     Ok(objects)
 }
 
-/// The token behind a complete object.
+/// The token after a complete object.
 pub fn end_object(
     externals: Vec<External>,
     scalar: Scalar,
@@ -115,18 +117,18 @@ pub fn end_object(
     }
 }
 
-/// The token behind the initialiser of a local; how many tokens it has does not matter.
+/// The token after the initialiser of a local; how many tokens it has does not matter.
 fn end_initialiser(
     alloc: Global,
-    body: Body,
+    body: Box<Body>,
     position: Position,
     scalar: Scalar,
     declarators: Vec<Declarator>,
     name: Identifier,
-    initial: Expression,
+    initial: Box<Expression>,
     role: Role,
 ) -> Result<State, Stop>
-    ensures { Gives state_view result (end_in_body (body_view body) (ToInitialise (position_view position) scalar (declarator_trees declarators.items) (name_tree name)) 0 (expression_tree initial) role) }
+    ensures { Gives state_view result (end_in_body (body_view body.value) (ToInitialise (position_view position) scalar (declarator_trees declarators.items) (name_tree name)) 0 (expression_tree initial.value) role) }
 {
     match role {
         Role::Comma => {
@@ -141,17 +143,17 @@ fn end_initialiser(
     }
 }
 
-/// The token behind a full expression in a function's body.
+/// The token after a full expression in a function's body.
 fn end_body_part(
     alloc: Global,
-    body: Body,
+    body: Box<Body>,
     purpose: Purpose,
     count: usize,
-    expression: Expression,
+    expression: Box<Expression>,
     role: Role,
 ) -> Result<State, Stop>
     requires { count ≤ 512 }
-    ensures { Gives state_view result (end_in_body (body_view body) (purpose_view purpose) count (expression_tree expression) role) }
+    ensures { Gives state_view result (end_in_body (body_view body.value) (purpose_view purpose) count (expression_tree expression.value) role) }
 {
     match purpose {
         Purpose::Perform(spot) => {
@@ -166,15 +168,30 @@ fn end_body_part(
                 let target = Target::Element(name, expression);
                 Ok(State::Body(body, Stage::Stepped(operator, target, spot, count + 1)))
             }
-            _ => Err(Stop::Unexpected),
+            _ => {
+                drop(body);
+                drop(name);
+                drop(spot);
+                drop(expression);
+                Err(Stop::Unexpected)
+            }
         },
         Purpose::Return(at) => match role {
-            Role::Semicolon => settled_state(alloc, body, Statement::Return(at, Some(expression))),
+            Role::Semicolon => settled_unboxed(
+                alloc,
+                body,
+                Statement::Return(at, Some(expression)),
+            ),
             _ => Err(Stop::Unexpected),
         },
         Purpose::Test(test) => match role {
             Role::CloseParenthesis => end_test(alloc, body, test, expression),
-            _ => Err(Stop::Unexpected),
+            _ => {
+                drop(body);
+                drop(test);
+                drop(expression);
+                Err(Stop::Unexpected)
+            }
         },
         Purpose::Continue(start) => match role {
             Role::Semicolon => Ok(State::Body(body, Stage::ForStepping(start, Some(expression)))),
@@ -193,7 +210,7 @@ fn end_body_part(
     }
 }
 
-/// The token behind a value of an array's list.
+/// The token after a value of an array's list.
 fn end_value(
     externals: Vec<External>,
     naming: Naming,
@@ -224,15 +241,15 @@ fn end_value(
     }
 }
 
-/// The token behind a constant expression.
+/// The token after a constant expression.
 fn end_object_part(
     externals: Vec<External>,
     naming: Naming,
     part: Part,
-    expression: Expression,
+    expression: Box<Expression>,
     role: Role,
 ) -> Result<State, Stop>
-    ensures { Gives state_view result (end_in_object (external_trees externals.items) (naming_view naming) (part_view part) (expression_tree expression) role) }
+    ensures { Gives state_view result (end_in_object (external_trees externals.items) (naming_view naming) (part_view part) (expression_tree expression.value) role) }
 {
     match part {
         Part::Size(at) => match role {
@@ -259,16 +276,16 @@ fn end_object_part(
     }
 }
 
-/// The token behind a full expression.
+/// The token after a full expression.
 fn end_full_of(
     alloc: Global,
     context: Context,
     count: usize,
-    expression: Expression,
+    expression: Box<Expression>,
     role: Role,
 ) -> Result<State, Stop>
     requires { count ≤ 512 }
-    ensures { Gives state_view result (end_full (context_view context) count (expression_tree expression) role) }
+    ensures { Gives state_view result (end_full (context_view context) count (expression_tree expression.value) role) }
 {
     match context {
         Context::Body(body, purpose) => {
@@ -280,21 +297,23 @@ fn end_full_of(
     }
 }
 
-/// A closing token behind an argument of a call.
+/// A closing token after an argument of a call.
 fn close_argument(
+    alloc: Global,
     full: Full,
     name: Identifier,
     arguments: Vec<Expression>,
-    argument: Expression,
+    argument: Box<Expression>,
     role: Role,
 ) -> Result<State, Stop>
     requires { full.count ≤ 512 }
-    ensures { Gives state_view result (close (full_view full) role (expression_tree argument, Arguments (name_tree name) (expressions_of arguments.items) ∷ waiting_views full.waiting.items)) }
+    ensures { Gives state_view result (close (full_view full) role (expression_tree argument.value, Arguments (name_tree name) (expressions_of arguments.items) ∷ waiting_views full.waiting.items)) }
 {
     match role {
         Role::CloseParenthesis => {
             let arguments = with_argument_of(arguments, argument)?;
-            Ok(with_token(full, Phase::Operator(call_of(name, arguments))))
+            let call = boxed(alloc, call_of(name, arguments))?;
+            Ok(with_token(full, Phase::Operator(call)))
         }
         Role::Comma => {
             let arguments = with_argument_of(arguments, argument)?;
@@ -304,75 +323,93 @@ fn close_argument(
     }
 }
 
-/// A closing token behind an expression, where this waits for it.
+/// A closing token after an expression, where this waits for it.
 fn close_waiting(
     alloc: Global,
     full: Full,
     opening: Waiting,
-    expression: Expression,
+    expression: Box<Expression>,
     role: Role,
 ) -> Result<State, Stop>
     requires { full.count ≤ 512 }
-    ensures { Gives state_view result (close (full_view full) role (expression_tree expression, waiting_view opening ∷ waiting_views full.waiting.items)) }
+    ensures { Gives state_view result (close (full_view full) role (expression_tree expression.value, waiting_view opening ∷ waiting_views full.waiting.items)) }
 {
     match opening {
         Waiting::Parenthesis => match role {
             Role::CloseParenthesis => {
-                let whole = Expression::Parenthesised(Box::new(alloc, expression)?);
+                let whole = boxed(alloc, Expression::Parenthesised(expression))?;
                 Ok(with_token(full, Phase::Operator(whole)))
             }
             _ => Err(Stop::Unexpected),
         },
         Waiting::Index(name) => match role {
             Role::CloseBracket => {
-                let whole = Expression::Element(name, Box::new(alloc, expression)?);
+                let whole = boxed(alloc, Expression::Element(name, expression))?;
                 Ok(with_token(full, Phase::Operator(whole)))
             }
             _ => Err(Stop::Unexpected),
         },
         Waiting::Arguments(name, arguments) => {
-            close_argument(full, name, arguments, expression, role)
+            close_argument(alloc, full, name, arguments, expression, role)
         }
         Waiting::Then(test) => match role {
             Role::Colon => with_waiting(full, Waiting::Otherwise(test, expression)),
             _ => Err(Stop::Unexpected),
         },
-        _ => Err(Stop::Unexpected),
+        other => {
+            drop(full);
+            drop(other);
+            drop(expression);
+            Err(Stop::Unexpected)
+        }
     }
 }
 
-/// A closing token behind an operand.
-fn step_close(alloc: Global, full: Full, operand: Expression, role: Role) -> Result<State, Stop>
+/// A closing token after an operand.
+fn step_close(
+    alloc: Global,
+    full: Full,
+    operand: Box<Expression>,
+    role: Role,
+) -> Result<State, Stop>
     requires { full.count ≤ 512 }
-    ensures { Gives state_view result (close (full_view full) role (reduced 1 (waiting_views full.waiting.items) (expression_tree operand))) }
+    ensures { Gives state_view result (close (full_view full) role (reduced 1 (waiting_views full.waiting.items) (expression_tree operand.value))) }
 {
     let mut full = full;
     let inner = reduce(alloc, 1, &mut full.waiting, operand)?;
     match full.waiting.pop() {
-        None => end_full_of(alloc, full.context, full.count, inner, role),
+        None => {
+            let Full {
+                context,
+                waiting,
+                count,
+            } = full;
+            drop(waiting);
+            end_full_of(alloc, Box::into_inner(context), count, inner, role)
+        }
         Some(opening) => close_waiting(alloc, full, opening, inner, role),
     }
 }
 
-/// A binary operator behind an operand.
+/// A binary operator after an operand.
 fn step_binary(
     alloc: Global,
     full: Full,
-    operand: Expression,
+    operand: Box<Expression>,
     operator: BinaryOperator,
 ) -> Result<State, Stop>
     requires { full.count ≤ 512 }
-    ensures { Gives state_view result (operate (full_view full) operator (reduced (precedence operator) (waiting_views full.waiting.items) (expression_tree operand))) }
+    ensures { Gives state_view result (operate (full_view full) operator (reduced (precedence operator) (waiting_views full.waiting.items) (expression_tree operand.value))) }
 {
     let mut full = full;
     let left = reduce(alloc, precedence_of(operator), &mut full.waiting, operand)?;
     with_waiting(full, Waiting::Infix(operator, left))
 }
 
-/// A question mark behind an operand.
-fn step_question(alloc: Global, full: Full, operand: Expression) -> Result<State, Stop>
+/// A question mark after an operand.
+fn step_question(alloc: Global, full: Full, operand: Box<Expression>) -> Result<State, Stop>
     requires { full.count ≤ 512 }
-    ensures { Gives state_view result (ask (full_view full) (reduced 2 (waiting_views full.waiting.items) (expression_tree operand))) }
+    ensures { Gives state_view result (ask (full_view full) (reduced 2 (waiting_views full.waiting.items) (expression_tree operand.value))) }
 {
     let mut full = full;
     let test = reduce(alloc, 2, &mut full.waiting, operand)?;
@@ -380,25 +417,28 @@ fn step_question(alloc: Global, full: Full, operand: Expression) -> Result<State
 }
 
 /// What an assignment may write, where the expression is such a target.
-fn target(expression: Expression) -> Option<Target>
-    ensures { option_map target_tree result ≡ target_of (expression_tree expression) }
+fn target(expression: Box<Expression>) -> Option<Target>
+    ensures { option_map target_tree result ≡ target_of (expression_tree expression.value) }
 {
-    match expression {
+    match Box::into_inner(expression) {
         Expression::Name(name) => Some(Target::Variable(name)),
-        Expression::Element(name, index) => Some(Target::Element(name, Box::into_inner(index))),
-        _ => None,
+        Expression::Element(name, index) => Some(Target::Element(name, index)),
+        other => {
+            drop(other);
+            None
+        }
     }
 }
 
-/// An assignment operator behind an operand: it goes on with an action that begins with a target.
+/// An assignment operator after an operand: it goes on with an action that begins with a target.
 fn step_assignment(
     alloc: Global,
     full: Full,
-    operand: Expression,
+    operand: Box<Expression>,
     operator: AssignmentOperator,
 ) -> Result<State, Stop>
     requires { full.count ≤ 512 }
-    ensures { Gives state_view result (assign (full_view full) (expression_tree operand) operator (waiting_views full.waiting.items)) }
+    ensures { Gives state_view result (assign (full_view full) (expression_tree operand.value) operator (waiting_views full.waiting.items)) }
 {
     let Full {
         context,
@@ -408,25 +448,38 @@ fn step_assignment(
     if !waiting.is_empty() {
         return Err(Stop::Unexpected);
     }
-    match context {
+    match Box::into_inner(context) {
         Context::Body(body, purpose) => match purpose {
             Purpose::Perform(spot) => match target(operand) {
                 Some(target) => {
                     let purpose = Purpose::Assign(operator, target, spot);
-                    Ok(begin_full(alloc, Context::Body(body, purpose), count + 1))
+                    begin_full(alloc, Context::Body(body, purpose), count + 1)
                 }
-                None => Err(Stop::Unexpected),
+                None => {
+                    drop(body);
+                    drop(spot);
+                    Err(Stop::Unexpected)
+                }
             },
-            _ => Err(Stop::Unexpected),
+            other => {
+                drop(body);
+                drop(other);
+                drop(operand);
+                Err(Stop::Unexpected)
+            }
         },
-        Context::Object(_, _, _) => Err(Stop::Unexpected),
+        other => {
+            drop(other);
+            drop(operand);
+            Err(Stop::Unexpected)
+        }
     }
 }
 
-/// `++` or `--` behind an operand: it ends an action that begins with a target.
-fn step_step(full: Full, operand: Expression, operator: StepOperator) -> Result<State, Stop>
+/// `++` or `--` after an operand: it ends an action that begins with a target.
+fn step_step(full: Full, operand: Box<Expression>, operator: StepOperator) -> Result<State, Stop>
     requires { full.count ≤ 512 }
-    ensures { Gives state_view result (step_target (full_view full) (expression_tree operand) operator (waiting_views full.waiting.items)) }
+    ensures { Gives state_view result (step_target (full_view full) (expression_tree operand.value) operator (waiting_views full.waiting.items)) }
 {
     let Full {
         context,
@@ -436,26 +489,39 @@ fn step_step(full: Full, operand: Expression, operator: StepOperator) -> Result<
     if !waiting.is_empty() {
         return Err(Stop::Unexpected);
     }
-    match context {
+    match Box::into_inner(context) {
         Context::Body(body, purpose) => match purpose {
             Purpose::Perform(spot) => match target(operand) {
                 Some(target) => {
                     Ok(State::Body(body, Stage::Stepped(operator, target, spot, count + 1)))
                 }
-                None => Err(Stop::Unexpected),
+                None => {
+                    drop(body);
+                    drop(spot);
+                    Err(Stop::Unexpected)
+                }
             },
-            _ => Err(Stop::Unexpected),
+            other => {
+                drop(body);
+                drop(other);
+                drop(operand);
+                Err(Stop::Unexpected)
+            }
         },
-        Context::Object(_, _, _) => Err(Stop::Unexpected),
+        other => {
+            drop(other);
+            drop(operand);
+            Err(Stop::Unexpected)
+        }
     }
 }
 
-/// A parenthesis or bracket behind an operand, which is then a name.
-fn step_name(alloc: Global, full: Full, operand: Expression, role: Role) -> Result<State, Stop>
+/// A parenthesis or bracket after an operand, which is then a name.
+fn step_name(alloc: Global, full: Full, operand: Box<Expression>, role: Role) -> Result<State, Stop>
     requires { full.count ≤ 512 }
-    ensures { Gives state_view result (open_name (full_view full) (expression_tree operand) role) }
+    ensures { Gives state_view result (open_name (full_view full) (expression_tree operand.value) role) }
 {
-    match operand {
+    match Box::into_inner(operand) {
         Expression::Name(name) => match role {
             Role::OpenParenthesis => {
                 with_waiting(full, Waiting::Arguments(name, Vec::new(alloc)))
@@ -463,14 +529,23 @@ fn step_name(alloc: Global, full: Full, operand: Expression, role: Role) -> Resu
             Role::OpenBracket => with_waiting(full, Waiting::Index(name)),
             _ => Err(Stop::Unexpected),
         },
-        _ => Err(Stop::Unexpected),
+        other => {
+            drop(full);
+            drop(other);
+            Err(Stop::Unexpected)
+        }
     }
 }
 
-/// A token behind an operand.
-fn step_operator(alloc: Global, full: Full, operand: Expression, role: Role) -> Result<State, Stop>
+/// A token after an operand.
+fn step_operator(
+    alloc: Global,
+    full: Full,
+    operand: Box<Expression>,
+    role: Role,
+) -> Result<State, Stop>
     requires { full.count ≤ 512 }
-    ensures { Gives state_view result (operator_step (full_view full) (expression_tree operand) role) }
+    ensures { Gives state_view result (operator_step (full_view full) (expression_tree operand.value) role) }
 {
     match role {
         Role::Plus => step_binary(alloc, full, operand, BinaryOperator::Add),
@@ -484,7 +559,7 @@ fn step_operator(alloc: Global, full: Full, operand: Expression, role: Role) -> 
     }
 }
 
-/// A word of a type, directly behind an opening parenthesis.
+/// A word of a type, directly after an opening parenthesis.
 fn begin_cast(full: Full, phase: Phase) -> Result<State, Stop>
     requires { full.count ≤ 512 }
     ensures { Gives state_view result (cast (full_view full) (phase_view phase) (waiting_views full.waiting.items)) }
@@ -492,12 +567,17 @@ fn begin_cast(full: Full, phase: Phase) -> Result<State, Stop>
     let mut full = full;
     match full.waiting.pop() {
         Some(Waiting::Parenthesis) => Ok(with_token(full, phase)),
-        _ => Err(Stop::Unexpected),
+        other => {
+            drop(full);
+            drop(phase);
+            drop(other);
+            Err(Stop::Unexpected)
+        }
     }
 }
 
 /// The closing parenthesis of a call without arguments.
-fn end_call(full: Full) -> Result<State, Stop>
+fn end_call(alloc: Global, full: Full) -> Result<State, Stop>
     requires { full.count ≤ 512 }
     ensures { Gives state_view result (call_of_none (full_view full) (waiting_views full.waiting.items)) }
 {
@@ -507,9 +587,14 @@ fn end_call(full: Full) -> Result<State, Stop>
             if !arguments.is_empty() {
                 return Err(Stop::Unexpected);
             }
-            Ok(with_token(full, Phase::Operator(call_of(name, arguments))))
+            let call = boxed(alloc, call_of(name, arguments))?;
+            Ok(with_token(full, Phase::Operator(call)))
         }
-        _ => Err(Stop::Unexpected),
+        other => {
+            drop(full);
+            drop(other);
+            Err(Stop::Unexpected)
+        }
     }
 }
 
@@ -528,15 +613,15 @@ fn step_operand(
 {
     match role {
         Role::Number(scalar, word) => {
-            let number = Expression::Number(scalar, word);
+            let number = boxed(alloc, Expression::Number(scalar, word))?;
             Ok(with_token(full, Phase::Operator(number)))
         }
         Role::Identifier => {
-            let name = Expression::Name(identifier(alloc, text, token)?);
+            let name = boxed(alloc, Expression::Name(identifier(alloc, text, token)?))?;
             Ok(with_token(full, Phase::Operator(name)))
         }
         Role::OpenParenthesis => with_waiting(full, Waiting::Parenthesis),
-        Role::CloseParenthesis => end_call(full),
+        Role::CloseParenthesis => end_call(alloc, full),
         Role::Plus => with_waiting(full, Waiting::Prefix(UnaryOperator::Plus)),
         Role::Minus => with_waiting(full, Waiting::Prefix(UnaryOperator::Minus)),
         Role::Prefix(operator) => with_waiting(full, Waiting::Prefix(operator)),
@@ -546,7 +631,7 @@ fn step_operand(
     }
 }
 
-/// A token behind the type of a cast.
+/// A token after the type of a cast.
 fn step_cast(full: Full, scalar: Scalar, role: Role) -> Result<State, Stop>
     requires { full.count ≤ 512 }
     ensures { Gives state_view result (cast_step (full_view full) scalar role) }
@@ -557,7 +642,7 @@ fn step_cast(full: Full, scalar: Scalar, role: Role) -> Result<State, Stop>
     }
 }
 
-/// A token behind `signed` or `unsigned` of a cast.
+/// A token after `signed` or `unsigned` of a cast.
 fn step_cast_sign(full: Full, scalar: Scalar, role: Role) -> Result<State, Stop>
     requires { full.count ≤ 512 }
     ensures { Gives state_view result (cast_sign_step (full_view full) scalar role) }
@@ -603,7 +688,7 @@ pub fn step_first(
     ensures { Gives state_view result (first_step (context_view context) role (name_of (lexeme text.now token))) }
 {
     let full = Full {
-        context,
+        context: Box::new(alloc, context)?,
         waiting: Vec::new(alloc),
         count: 0,
     };

@@ -3,19 +3,18 @@
 ghost use Rattle.std.specs.Prelude.{◌≡◌, ◌≤◌, [], ◌∷◌, ◌++◌, IfOk, Some, None, length};
 ghost use Rattle.std.specs.Option.{option_map};
 ghost use Rattle.cc_syntax.specs.Erase.{name_tree, external_trees, signature_tree, parameter_trees, optional_constant, constant_trees, object_trees};
-ghost use Rattle.cc_syntax.specs.Machine.{name_of, external_step, typed_step, result_sign_step, object_step, named_step, parameter_step, parameters_step, only_void_step, parameter_named_step, parameter_typed_step, parameter_sign_step, headed_step, object_next_step, sizing_step, sized_step, listing_step, end_list, valuing_step, outer_step, with_parameter, signature_of, all_named};
-ghost use Rattle.cc_syntax.specs.MachineView.{naming_view, outer_view, state_view, Gives};
-ghost use Rattle.cc_syntax.specs.Token.{lexeme};
+ghost use Rattle.cc_syntax.specs.internal.Parser.{name_of, external_step, typed_step, result_sign_step, object_step, named_step, parameter_step, parameters_step, only_void_step, parameter_named_step, parameter_typed_step, parameter_sign_step, headed_step, object_next_step, sizing_step, sized_step, listing_step, end_list, valuing_step, outer_step, with_parameter, signature_of, all_named};
+ghost use Rattle.cc_syntax.specs.internal.ParserView.{naming_view, outer_view, state_view, Gives};
+ghost use Rattle.cc_tokens.specs.Token.{lexeme};
 
 use crate::ast::{
-    AssignmentOperator, ConstantExpression, External, Identifier, Object, Parameter, Scalar,
-    Signature,
+    AssignmentOperator, ConstantExpression, External, Identifier, Object, Parameter, Signature,
 };
 use crate::parser::full::{begin_full, end_object, identifier, step_first, with_one};
 use crate::parser::role::Role;
 use crate::parser::state::{Body, Context, Naming, Outer, Part, Stage, State};
 use crate::parser::stop::Stop;
-use crate::token::Token;
+use cc_tokens::{Scalar, Token};
 use std::alloc::{AllocError, Global};
 
 /// The first token of an external declaration.
@@ -31,7 +30,7 @@ fn step_external(externals: Vec<External>, role: Role) -> Result<State, Stop>
     Ok(State::File(externals, next))
 }
 
-/// A name behind a type or `void`.
+/// A name after a type or `void`.
 fn step_typed(
     alloc: Global,
     externals: Vec<External>,
@@ -53,7 +52,7 @@ fn step_typed(
     }
 }
 
-/// A token behind `signed` or `unsigned`.
+/// A token after `signed` or `unsigned`.
 fn step_result_sign(
     alloc: Global,
     externals: Vec<External>,
@@ -72,7 +71,7 @@ fn step_result_sign(
     }
 }
 
-/// A token behind the name of an object.
+/// A token after the name of an object.
 fn step_object(externals: Vec<External>, naming: Naming, role: Role) -> Result<State, Stop>
     ensures { Gives state_view result (object_step (external_trees externals.items) (naming_view naming) role) }
 {
@@ -93,7 +92,7 @@ fn step_object(externals: Vec<External>, naming: Naming, role: Role) -> Result<S
     }
 }
 
-/// A token behind the first name of an external declaration.
+/// A token after the first name of an external declaration.
 fn step_named(
     alloc: Global,
     externals: Vec<External>,
@@ -139,7 +138,7 @@ fn step_parameter(externals: Vec<External>, signature: Signature, role: Role) ->
     }
 }
 
-/// A token behind the opening parenthesis of a function's parameters.
+/// A token after the opening parenthesis of a function's parameters.
 fn step_parameters(
     externals: Vec<External>,
     signature: Signature,
@@ -154,7 +153,7 @@ fn step_parameters(
     }
 }
 
-/// The closing parenthesis behind `void`.
+/// The closing parenthesis after `void`.
 fn step_only_void(externals: Vec<External>, signature: Signature, role: Role) -> Result<State, Stop>
     ensures { Gives state_view result (only_void_step (external_trees externals.items) (signature_tree signature) role) }
 {
@@ -164,7 +163,7 @@ fn step_only_void(externals: Vec<External>, signature: Signature, role: Role) ->
     }
 }
 
-/// A token behind a parameter.
+/// A token after a parameter.
 fn step_parameter_named(
     externals: Vec<External>,
     signature: Signature,
@@ -192,7 +191,7 @@ fn with_parameter_of(
     Ok(signature)
 }
 
-/// A token behind a parameter's type.
+/// A token after a parameter's type.
 fn step_parameter_typed(
     alloc: Global,
     externals: Vec<External>,
@@ -219,7 +218,7 @@ fn step_parameter_typed(
     }
 }
 
-/// A token behind `signed` or `unsigned` of a parameter.
+/// A token after `signed` or `unsigned` of a parameter.
 fn step_parameter_sign(
     alloc: Global,
     externals: Vec<External>,
@@ -246,7 +245,7 @@ fn are_named(parameters: &[Parameter]) -> bool
     parameters.iter().all(|parameter| parameter.name.is_some())
 }
 
-/// A token behind a function's parameters: the end of its declaration, or a body, for which each parameter has its name.
+/// A token after a function's parameters: the end of its declaration, or a body, for which each parameter has its name.
 fn step_headed(
     alloc: Global,
     externals: Vec<External>,
@@ -271,7 +270,7 @@ fn step_headed(
                 finished: Vec::new(alloc),
                 open: Vec::new(alloc),
             };
-            Ok(State::Body(body, Stage::Item))
+            Ok(State::Body(Box::new(alloc, body)?, Stage::Item))
         }
         _ => Err(Stop::Unexpected),
     }
@@ -305,7 +304,7 @@ fn step_object_next(
     }
 }
 
-/// A token behind the bracket of an array.
+/// A token after the bracket of an array.
 fn step_sizing(
     alloc: Global,
     externals: Vec<External>,
@@ -327,7 +326,7 @@ fn step_sizing(
     }
 }
 
-/// A token behind the length of an array.
+/// A token after the length of an array.
 fn step_sized(
     alloc: Global,
     externals: Vec<External>,
@@ -372,7 +371,7 @@ fn step_listing(
     }
 }
 
-/// The closing brace of an array's list, behind a comma.
+/// The closing brace of an array's list, after a comma.
 fn end_list_of(
     externals: Vec<External>,
     naming: Naming,

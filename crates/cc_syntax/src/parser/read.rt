@@ -3,18 +3,18 @@
 ghost use Rattle.std.specs.Prelude.{◌≡◌, ◌<◌, ◌≤◌, length, MatchResult};
 ghost use Rattle.std.specs.Option.{option_map};
 ghost use Rattle.cc_syntax.specs.Erase.{external_trees};
-ghost use Rattle.cc_syntax.specs.Machine.{count_of, tree_of};
+ghost use Rattle.cc_syntax.specs.internal.Parser.{count_of, tree_of};
 ghost use Rattle.cc_syntax.specs.Limits.{SpellsWithin};
-ghost use Rattle.cc_syntax.specs.MachineView.{state_view, Advances, Refuses};
-ghost use Rattle.cc_syntax.specs.Token.{lexeme, lexemes};
-ghost use Rattle.cc_syntax.specs.Tokens.{AreInOrder};
+ghost use Rattle.cc_syntax.specs.internal.ParserView.{state_view, Advances, Refuses};
+ghost use Rattle.cc_tokens.specs.Token.{lexeme, lexemes};
+ghost use Rattle.cc_tokens.specs.Tokens.{AreInOrder};
 
 use crate::ast::External;
 use crate::parser::role::of_kind;
 use crate::parser::state::{Outer, State};
 use crate::parser::step::{count_so_far, level_begun, step};
 use crate::parser::stop::{Refusal, Stop};
-use crate::token::Token;
+use cc_tokens::Token;
 use std::alloc::Global;
 
 /// The most tokens that a full expression may have.
@@ -34,6 +34,7 @@ fn advance(alloc: Global, state: State, text: &[u8], token: Token) -> Result<Sta
     let level = level_begun(&state, role);
     let next = step(alloc, state, role, text, token)?;
     if count_so_far(&next) > MOST_TOKENS || level > DEEPEST_LEVEL {
+        drop(next);
         return Err(Stop::TooDeep);
     }
     Ok(next)
@@ -44,13 +45,23 @@ fn finished(state: State) -> Option<Vec<External>>
     ensures { option_map (λ es. external_trees es.items) result ≡ tree_of (state_view state) }
 {
     match state {
-        State::File(externals, Outer::Between) => {
-            if externals.is_empty() {
-                return None;
+        State::File(externals, outer) => match outer {
+            Outer::Between => {
+                if externals.is_empty() {
+                    return None;
+                }
+                Some(externals)
             }
-            Some(externals)
+            other => {
+                drop(externals);
+                drop(other);
+                None
+            }
+        },
+        other => {
+            drop(other);
+            None
         }
-        _ => None,
     }
 }
 

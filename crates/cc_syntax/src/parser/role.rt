@@ -1,10 +1,10 @@
 // What a token is to the grammar.
 
 ghost use Rattle.std.specs.Prelude.{◌≡◌};
-ghost use Rattle.cc_syntax.specs.Roles.{role_of, keyword_role, punctuator_role};
+ghost use Rattle.cc_syntax.specs.internal.Roles.{role_of, keyword_role, punctuator_role};
 
-use crate::ast::{AssignmentOperator, BinaryOperator, Scalar, StepOperator, UnaryOperator};
-use crate::token::{Keyword, Punctuator, TokenKind};
+use crate::ast::{AssignmentOperator, BinaryOperator, StepOperator, UnaryOperator};
+use cc_tokens::{Keyword, Punctuator, Scalar, TokenKind};
 
 /// What a token is to the grammar.
 #[derive(Clone, Copy)]
@@ -12,7 +12,7 @@ pub enum Role {
     Identifier,
     Number(Scalar, u32),
     Int,
-    /// `signed` or `unsigned`, behind which `int` may stand.
+    /// `signed` or `unsigned`, after which `int` may stand.
     SignWord(Scalar),
     Void,
     Return,

@@ -2,9 +2,10 @@
 
 use crate::ast::{
     Action, AssignmentOperator, Beginning, BinaryOperator, ConstantExpression, Declarator,
-    Expression, External, Identifier, Object, Scalar, Signature, Statement, StepOperator, Target,
+    Expression, External, Identifier, Object, Signature, Statement, StepOperator, Target,
     UnaryOperator,
 };
+use cc_tokens::Scalar;
 
 /// What waits for an operand to its right, or for a closing token.
 #[derive(Drop)]
@@ -15,22 +16,22 @@ pub enum Waiting {
     Arguments(Identifier, Vec<Expression>),
     Prefix(UnaryOperator),
     Cast(Scalar),
-    Infix(BinaryOperator, Expression),
+    Infix(BinaryOperator, Box<Expression>),
     /// A condition and its question mark.
-    Then(Expression),
-    /// A condition, what stands behind its question mark, and the colon.
-    Otherwise(Expression, Expression),
+    Then(Box<Expression>),
+    /// A condition, what stands after its question mark, and the colon.
+    Otherwise(Box<Expression>, Box<Expression>),
 }
 
 /// A statement that has begun and waits for a part: a block for its end, the others for a statement.
 #[derive(Drop)]
 pub enum Open {
     Block(Vec<Statement>),
-    Then(Expression),
-    Else(Expression, Statement),
-    While(Expression),
+    Then(Box<Expression>),
+    Else(Box<Expression>, Box<Statement>),
+    While(Box<Expression>),
     Do,
-    For(Beginning, Option<Expression>, Option<Action>),
+    For(Box<Beginning>, Option<Box<Expression>>, Option<Action>),
 }
 
 /// A function's body so far: the external declarations before it, its finished statements, and those that are open, the
@@ -48,7 +49,7 @@ pub struct Body {
 pub enum Spot {
     Statement,
     Start,
-    Last(Beginning, Option<Expression>),
+    Last(Box<Beginning>, Option<Box<Expression>>),
 }
 
 /// What a condition in parentheses belongs to.
@@ -57,7 +58,7 @@ pub enum Test {
     If,
     While,
     /// `do` with its body.
-    Do(Statement),
+    Do(Box<Statement>),
 }
 
 /// Where a declaration of locals stands: directly in a block, or in a `for` header.
@@ -78,7 +79,7 @@ pub enum Purpose {
     Return(usize),
     Test(Test),
     /// The condition of a `for`.
-    Continue(Beginning),
+    Continue(Box<Beginning>),
     Initialise(Position, Scalar, Vec<Declarator>, Identifier),
 }
 
@@ -102,14 +103,14 @@ pub enum Part {
 /// What stands around a full expression.
 #[derive(Drop)]
 pub enum Context {
-    Body(Body, Purpose),
+    Body(Box<Body>, Purpose),
     Object(Vec<External>, Naming, Part),
 }
 
 /// A full expression so far: what waits, the latest last, and how many tokens it has.
 #[derive(Drop)]
 pub struct Full {
-    pub context: Context,
+    pub context: Box<Context>,
     pub waiting: Vec<Waiting>,
     pub count: usize,
 }
@@ -118,11 +119,11 @@ pub struct Full {
 #[derive(Drop)]
 pub enum Phase {
     Operand,
-    /// An operator or the end, behind an operand.
-    Operator(Expression),
-    /// `int` or a closing parenthesis, behind `signed` or `unsigned` of a cast.
+    /// An operator or the end, after an operand.
+    Operator(Box<Expression>),
+    /// `int` or a closing parenthesis, after `signed` or `unsigned` of a cast.
     CastSign(Scalar),
-    /// A closing parenthesis, behind the type of a cast.
+    /// A closing parenthesis, after the type of a cast.
     CastType(Scalar),
 }
 
@@ -131,34 +132,34 @@ pub enum Phase {
 pub enum Stage {
     /// A statement, a declaration, or the end of the block.
     Item,
-    /// `else` or what an `Item` has, behind the first part of an `if`.
-    AfterThen(Expression, Statement),
-    /// `while`, behind the body of a `do`.
-    AfterDo(Statement),
+    /// `else` or what an `Item` has, after the first part of an `if`.
+    AfterThen(Box<Expression>, Box<Statement>),
+    /// `while`, after the body of a `do`.
+    AfterDo(Box<Statement>),
     /// `(`, before a condition.
     Testing(Test),
     /// A semicolon.
-    Ending(Statement),
-    /// A semicolon or an operand, behind `return`.
+    Ending(Box<Statement>),
+    /// A semicolon or an operand, after `return`.
     Returning(usize),
-    /// `(`, behind `for`.
+    /// `(`, after `for`.
     ForOpening,
     ForStarting,
     /// The condition of a `for`, or a semicolon.
-    ForTesting(Beginning),
+    ForTesting(Box<Beginning>),
     /// The last part of a `for` header, or its closing parenthesis.
-    ForStepping(Beginning, Option<Expression>),
-    /// `int` or a name, behind `signed` or `unsigned`.
+    ForStepping(Box<Beginning>, Option<Box<Expression>>),
+    /// `int` or a name, after `signed` or `unsigned`.
     LocalSign(Position, Scalar),
     /// A name to declare.
     Declaring(Position, Scalar, Vec<Declarator>),
-    /// `=`, a comma or a semicolon, behind a declared name.
+    /// `=`, a comma or a semicolon, after a declared name.
     Declared(Position, Scalar, Vec<Declarator>, Identifier),
-    /// A name, behind `++` or `--`.
+    /// A name, after `++` or `--`.
     Stepping(StepOperator, Spot),
-    /// `[` or the end, behind that name.
+    /// `[` or the end, after that name.
     StepNamed(StepOperator, Identifier, Spot),
-    /// The end, behind an increment or decrement of so many tokens.
+    /// The end, after an increment or decrement of so many tokens.
     Stepped(StepOperator, Target, Spot, usize),
 }
 
@@ -167,41 +168,41 @@ pub enum Stage {
 pub enum Outer {
     /// An external declaration, or the end of the text.
     Between,
-    /// `int` or a name, behind `signed` or `unsigned`.
+    /// `int` or a name, after `signed` or `unsigned`.
     ResultSign(Scalar),
-    /// A name, behind a type or `void`.
+    /// A name, after a type or `void`.
     Typed(Option<Scalar>),
-    /// What stands behind the first name.
+    /// What stands after the first name.
     Named(Option<Scalar>, Identifier),
-    /// `void`, a parameter or `)`, behind `(`.
+    /// `void`, a parameter or `)`, after `(`.
     Parameters(Signature),
-    /// `)`, behind `void`.
+    /// `)`, after `void`.
     OnlyVoid(Signature),
-    /// A parameter, behind a comma.
+    /// A parameter, after a comma.
     ParameterNext(Signature),
-    /// `int`, a name, a comma or `)`, behind `signed` or `unsigned`.
+    /// `int`, a name, a comma or `)`, after `signed` or `unsigned`.
     ParameterSign(Signature, Scalar),
-    /// A name, a comma or `)`, behind a parameter's type.
+    /// A name, a comma or `)`, after a parameter's type.
     ParameterTyped(Signature, Scalar),
-    /// A comma or `)`, behind a parameter.
+    /// A comma or `)`, after a parameter.
     ParameterNamed(Signature),
     /// A semicolon or a body.
     Headed(Signature),
-    /// A name, behind a comma.
+    /// A name, after a comma.
     ObjectNext(Scalar, Vec<Object>),
-    /// `[`, `=`, a comma or a semicolon, behind an object's name.
+    /// `[`, `=`, a comma or a semicolon, after an object's name.
     ObjectNamed(Naming),
     /// A length or `]`.
     Sizing(Naming),
-    /// `=`, a comma or a semicolon, behind `]`.
+    /// `=`, a comma or a semicolon, after `]`.
     Sized(Naming, Option<ConstantExpression>),
     /// The value of a single object.
     Initialising(Naming),
     /// `{`.
     Listing(Naming, Option<ConstantExpression>),
-    /// A value, or behind a comma `}`.
+    /// A value, or after a comma `}`.
     Valuing(Naming, Option<ConstantExpression>, Vec<ConstantExpression>),
-    /// A comma or a semicolon, behind a complete object.
+    /// A comma or a semicolon, after a complete object.
     Listed(Scalar, Vec<Object>),
 }
 
@@ -209,6 +210,6 @@ pub enum Outer {
 #[derive(Drop)]
 pub enum State {
     File(Vec<External>, Outer),
-    Body(Body, Stage),
+    Body(Box<Body>, Stage),
     Full(Full, Phase),
 }

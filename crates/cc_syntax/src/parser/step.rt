@@ -1,9 +1,9 @@
 // One token.
 
 ghost use Rattle.std.specs.Prelude.{◌≡◌, ◌<◌, ◌≤◌, ◌^◌, length, IfSome};
-ghost use Rattle.cc_syntax.specs.Machine.{name_of, role_step, role_level, count_of, item_level, resting_depth, stage_level};
-ghost use Rattle.cc_syntax.specs.MachineView.{state_view, stage_view, open_views, Gives};
-ghost use Rattle.cc_syntax.specs.Token.{lexeme};
+ghost use Rattle.cc_syntax.specs.internal.Parser.{name_of, role_step, role_level, count_of, item_level, resting_depth, stage_level};
+ghost use Rattle.cc_syntax.specs.internal.ParserView.{state_view, stage_view, open_views, Gives};
+ghost use Rattle.cc_tokens.specs.Token.{lexeme};
 
 use crate::parser::body::step_body;
 use crate::parser::full::step_full;
@@ -11,7 +11,7 @@ use crate::parser::outer::step_outer;
 use crate::parser::role::Role;
 use crate::parser::state::{Body, Open, Outer, Stage, State};
 use crate::parser::stop::Stop;
-use crate::token::Token;
+use cc_tokens::Token;
 use std::alloc::Global;
 
 /// The state after a token, or `Unexpected` where no unit goes on with it.
@@ -50,7 +50,7 @@ pub fn count_so_far(state: &State) -> usize
     }
 }
 
-/// The level of what begins behind so many open statements, 0 where a block ends.
+/// The level of what begins after so many open statements, 0 where a block ends.
 fn level_behind(count: usize, role: Role) -> usize
     requires { count < 2 ^ 63 }
     ensures { result ≡ item_level count role }
@@ -61,7 +61,7 @@ fn level_behind(count: usize, role: Role) -> usize
     }
 }
 
-/// How many open statements are left once a statement behind which no `else` stands is complete; none where a `do` waits
+/// How many open statements are left once a statement after which no `else` stands is complete; none where a `do` waits
 /// for its `while`.
 fn rest(statements: &[Open]) -> Option<usize>
     ensures depth { result ≡ resting_depth (open_views statements.now) }

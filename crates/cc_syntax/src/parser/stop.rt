@@ -3,9 +3,9 @@
 use std::alloc::{AllocError, AllocFailed};
 
 /// Why the parser stops at a token.
-#[derive(Debug, Drop)]
+#[derive(Drop)]
 pub enum Stop {
-    /// Memory was refused.
+    /// Memory ran out.
     Memory,
     /// No unit goes on with the token.
     Unexpected,
@@ -14,9 +14,9 @@ pub enum Stop {
 }
 
 /// Why tokens spell no unit.
-#[derive(Debug, Drop)]
+#[derive(Drop)]
 pub enum Refusal {
-    /// Memory was refused.
+    /// Memory ran out.
     Memory,
     /// No unit goes on with the token of this number; the end of the text counts as a last token.
     Unexpected(usize),

@@ -1,8 +1,8 @@
 use Rattle.std.proofs.Common.{◌≡◌, ◌<◌, Some, inl, inr, arith}
 use Rattle.std.proofs.lemmas.Grind.{common_steps}
-use Rattle.cc_syntax.specs.Machine.{step, count_of, level_at}
-use Rattle.cc_syntax.specs.MachineView.{state_view}
-use Rattle.cc_syntax.specs.Token.{lexeme}
+use Rattle.cc_syntax.specs.internal.Parser.{step, count_of, level_at}
+use Rattle.cc_syntax.specs.internal.ParserView.{state_view}
+use Rattle.cc_tokens.specs.Token.{lexeme}
 use Rattle.cc_syntax.proofs.parser.read.advance.Goals as goal
 use Rattle.cc_syntax.proofs.parser.read.advance.Goals.{then-count_so_far-gt-MOST_TOKENS-via-then-count_so_far-gt-MOST_TOKENS, then-count_so_far-gt-MOST_TOKENS-via-else-count_so_far-gt-MOST_TOKENS+then-level-gt-DEEPEST_LEVEL}
 

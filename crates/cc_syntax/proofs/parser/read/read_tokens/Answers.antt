@@ -1,10 +1,10 @@
 use Rattle.std.proofs.Common.{length, Err, Result, ap, ◌∙◌, sym, arith}
-use Rattle.cc_syntax.specs.declared.token.TokenKind.TheVariants.{Identifier}
+use Rattle.cc_tokens.specs.declared.token.TokenKind.TheVariants.{Identifier}
 use Rattle.cc_syntax.specs.declared.parser.stop.Stop as stop
 use Rattle.cc_syntax.specs.declared.parser.state.State as state
 use Rattle.std.specs.Option.{option_map}
 use Rattle.cc_syntax.specs.Erase.{external_trees}
-use Rattle.cc_syntax.specs.MachineView.{state_view}
+use Rattle.cc_syntax.specs.internal.ParserView.{state_view}
 use Rattle.cc_syntax.proofs.TokenOrder.{in_order-at}
 use Rattle.cc_syntax.proofs.ReadsTokens.{stopped, past_limit, goes_on, finished, unfinished}
 use Rattle.cc_syntax.proofs.parser.read.read_tokens.Goals as goal

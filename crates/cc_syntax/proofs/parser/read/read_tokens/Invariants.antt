@@ -1,7 +1,7 @@
 use Rattle.std.proofs.Common.{◌≤◌, take}
-use Rattle.cc_syntax.specs.Machine.{count_of}
-use Rattle.cc_syntax.specs.MachineView.{state_view}
-use Rattle.cc_syntax.specs.Token.{lexemes}
+use Rattle.cc_syntax.specs.internal.Parser.{count_of}
+use Rattle.cc_syntax.specs.internal.ParserView.{state_view}
+use Rattle.cc_tokens.specs.Token.{lexemes}
 use Rattle.cc_syntax.proofs.Verdict.{Reached}
 use Rattle.cc_syntax.proofs.parser.read.read_tokens.Given as goal
 

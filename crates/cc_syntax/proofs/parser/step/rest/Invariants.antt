@@ -1,6 +1,6 @@
 use Rattle.std.proofs.Common.{◌≡◌, ◌≤◌, length}
-use Rattle.cc_syntax.specs.Machine.{resting_depth}
-use Rattle.cc_syntax.specs.MachineView.{open_views}
+use Rattle.cc_syntax.specs.internal.Parser.{resting_depth}
+use Rattle.cc_syntax.specs.internal.ParserView.{open_views}
 use Rattle.cc_syntax.proofs.parser.step.rest.Given as goal
 
 -- what is left rests at the depth of all, and is no more

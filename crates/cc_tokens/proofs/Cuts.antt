@@ -1,0 +1,137 @@
+-- A text cut into pieces: one piece more at the end, and that no text is cut in two ways.
+use Rattle.std.proofs.Common.{◌≡◌, ℕ, suc, ◌+◌, ◌<◌, true, List, [], ◌∷◌, ◌++◌, length, get_or, take, drop, refl, sym, ap, ◌∙◌, arith, subst, ⊎_elim, length-append, append_assoc}
+use Rattle.std.specs.List.{flat_map}
+use Rattle.std.specs.Char.{is_ascii_digit}
+use Rattle.std.proofs.lemmas.Bool.{false≢true}
+use Rattle.std.proofs.lemmas.List.{take_at, drop_at, append-nil}
+use Rattle.cc_tokens.specs.declared.flaw.Flaw.{Flaw}
+use Rattle.cc_tokens.specs.declared.flaw.Flaw.TheVariants.{BadByte, UnclosedComment, BadConstant, ConstantTooLarge}
+use Rattle.cc_tokens.specs.declared.scan.Front.TheVariants as front
+use Rattle.cc_tokens.specs.Tokens.{Piece, blank, comment, token, piece_bytes, StandsBefore, IsCut, tokens_of, IsFlawed, IsStray, IsSpliced, IsNumber, TokensAreOne, TokensHaveNoFlaw, FirstFlawIsOne}
+use Rattle.cc_tokens.specs.internal.Scan.{front_of, punctuator_at}
+use Rattle.cc_tokens.proofs.ConstantForms.{constant_begins}
+use Rattle.cc_tokens.proofs.Complete.{answer_of, piece_complete, flaw_complete}
+
+-- One piece more.
+pub cut_more : (ps : List Piece) (p : Piece) (text rest after : List ℕ) → IsCut ps text rest → rest ≡ piece_bytes p ++ after → StandsBefore p after → IsCut (ps ++ p ∷ []) text after
+cut_more [] p text rest after cut whole stands = (after, cut ∙ whole, stands, refl)
+cut_more (q ∷ ps) p text rest after cut whole stands = (cut.0, cut.1, cut.2, cut_more ps p cut.0 rest after cut.3 whole stands)
+
+pub bytes_more : (ps : List Piece) (p : Piece) → length (flat_map piece_bytes (ps ++ p ∷ [])) ≡ length (flat_map piece_bytes ps) + length (piece_bytes p)
+bytes_more [] p = ap length (append-nil (piece_bytes p)) ∙ omega arith
+bytes_more (q ∷ ps) p =
+    let ih = bytes_more ps p in
+    omega (arith, length-append (piece_bytes q) (flat_map piece_bytes (ps ++ p ∷ [])), length-append (piece_bytes q) (flat_map piece_bytes ps))
+
+pub tokens_more : (at : ℕ) (ps : List Piece) (p : Piece) → tokens_of at (ps ++ p ∷ []) ≡ tokens_of at ps ++ tokens_of (at + length (flat_map piece_bytes ps)) (p ∷ [])
+tokens_more at [] p = ap (λ i. tokens_of i (p ∷ [])) (let e : at ≡ at + 0 = omega arith in e)
+tokens_more at (blank b ∷ ps) p = tokens_more (at + 1) ps p ∙ ap (λ i. tokens_of (at + 1) ps ++ tokens_of i (p ∷ [])) (let e : at + 1 + length (flat_map piece_bytes ps) ≡ at + suc (length (flat_map piece_bytes ps)) = omega arith in e)
+tokens_more at (comment c ∷ ps) p = tokens_more (at + length c) ps p ∙ ap (λ i. tokens_of (at + length c) ps ++ tokens_of i (p ∷ [])) (let e : at + length c + length (flat_map piece_bytes ps) ≡ at + length (c ++ flat_map piece_bytes ps) = omega (arith, length-append c (flat_map piece_bytes ps)) in e)
+tokens_more at (token k text ∷ ps) p = ap (λ ts. record { kind = k; text = text; at = at } ∷ ts) (tokens_more (at + length text) ps p ∙ ap (λ i. tokens_of (at + length text) ps ++ tokens_of i (p ∷ [])) (let e : at + length text + length (flat_map piece_bytes ps) ≡ at + length (text ++ flat_map piece_bytes ps) = omega (arith, length-append text (flat_map piece_bytes ps)) in e))
+
+pub cut_whole : (ps : List Piece) (text rest : List ℕ) → IsCut ps text rest → text ≡ flat_map piece_bytes ps ++ rest
+cut_whole [] text rest cut = cut
+cut_whole (p ∷ ps) text rest cut = cut.1 ∙ ap (λ bs. piece_bytes p ++ bs) (cut_whole ps cut.0 rest cut.3) ∙ sym (append_assoc (piece_bytes p) (flat_map piece_bytes ps) rest)
+
+-- One way.
+same_bytes : (c d a b : List ℕ) → c ++ a ≡ d ++ b → length c ≡ length d → (c ≡ d) × (a ≡ b)
+same_bytes c d a b e size = (
+  sym (take_at c a (length c) refl) ∙ ap (take (length c)) e ∙ take_at d b (length c) (sym size),
+  sym (drop_at c a (length c) refl) ∙ ap (drop (length c)) e ∙ drop_at d b (length c) (sym size),
+)
+
+same_piece : (p q : Piece) (a b : List ℕ) → piece_bytes p ++ a ≡ piece_bytes q ++ b → answer_of p ≡ answer_of q → (p ≡ q) × (a ≡ b)
+same_piece (blank x) (blank y) a b e same = (cc, cc)
+same_piece (blank x) (comment d) a b e same = absurd (let h : ⊥ = cc in h)
+same_piece (blank x) (token k d) a b e same = absurd (let h : ⊥ = cc in h)
+same_piece (comment c) (blank y) a b e same = absurd (let h : ⊥ = cc in h)
+same_piece (comment c) (comment d) a b e same = let size : length c ≡ length d = cc in let parts = same_bytes c d a b e size in (ap comment parts.0, parts.1)
+same_piece (comment c) (token k d) a b e same = absurd (let h : ⊥ = cc in h)
+same_piece (token j c) (blank y) a b e same = absurd (let h : ⊥ = cc in h)
+same_piece (token j c) (comment d) a b e same = absurd (let h : ⊥ = cc in h)
+same_piece (token j c) (token k d) a b e same =
+    let size : length c ≡ length d = cc in
+    let kinds : j ≡ k = cc in
+    let parts = same_bytes c d a b e size in
+    (ap (λ i. token i c) kinds ∙ ap (token k) parts.0, parts.1)
+
+-- two pieces at the front of one text are one
+front_piece : (p q : Piece) (text a b : List ℕ) → text ≡ piece_bytes p ++ a → StandsBefore p a → text ≡ piece_bytes q ++ b → StandsBefore q b → (p ≡ q) × (a ≡ b)
+front_piece p q text a b whole stands whole' stands' = same_piece p q a b (sym whole ∙ whole') (sym (piece_complete p a stands) ∙ ap front_of (sym whole ∙ whole') ∙ piece_complete q b stands')
+
+-- a piece is no flaw, and has bytes; a flaw has bytes
+piece_no_flaw : (p : Piece) (flaw : Flaw) (k : ℕ) → answer_of p ≡ front.Flawed flaw k → ⊥
+piece_no_flaw (blank b) flaw k e = let h : ⊥ = cc in h
+piece_no_flaw (comment c) flaw k e = let h : ⊥ = cc in h
+piece_no_flaw (token j c) flaw k e = let h : ⊥ = cc in h
+
+front_flaw : (p : Piece) (text a : List ℕ) (flaw : Flaw) (k : ℕ) → text ≡ piece_bytes p ++ a → StandsBefore p a → IsFlawed flaw text k → ⊥
+front_flaw p text a flaw k whole stands flawed = piece_no_flaw p flaw k (sym (piece_complete p a stands) ∙ ap front_of (sym whole) ∙ flaw_complete flaw text k flawed)
+
+front_of_nothing : front_of [] ≡ front.Flawed BadByte 0
+unfolding front_of punctuator_at
+front_of_nothing = refl
+
+piece_has_bytes : (p : Piece) (a : List ℕ) → [] ≡ piece_bytes p ++ a → StandsBefore p a → ⊥
+piece_has_bytes p a whole stands = piece_no_flaw p BadByte 0 (sym (piece_complete p a stands) ∙ ap front_of (sym whole) ∙ front_of_nothing)
+
+begins_nonempty : (text : List ℕ) → is_ascii_digit (get_or text 0 0) ≡ true → 0 < length text
+begins_nonempty [] digit = absurd (false≢true digit)
+begins_nonempty (b ∷ bs) digit = omega arith
+
+number_nonempty : (text : List ℕ) → IsNumber text → 0 < length text
+number_nonempty [] w = absurd w
+number_nonempty (b ∷ bs) w = omega arith
+
+front_nonempty : (text after bytes : List ℕ) → bytes ≡ text ++ after → 0 < length text → 0 < length bytes
+front_nonempty text after bytes whole some = omega (arith, ap length whole, length-append text after)
+
+pub flaw_has_bytes : (flaw : Flaw) (bytes : List ℕ) (k : ℕ) → IsFlawed flaw bytes k → 0 < length bytes
+flaw_has_bytes BadByte bytes k flawed = ⊎_elim
+    (λ (s : IsStray bytes × (k ≡ 0)). omega (arith, ap length s.0.whole))
+    (λ (s : IsSpliced bytes k). front_nonempty (s.front ++ s.back) s.after bytes s.whole (omega (arith, s.inside, length-append s.front s.back)))
+    flawed
+flaw_has_bytes UnclosedComment bytes k flawed = omega (arith, ap length flawed.0.whole)
+flaw_has_bytes BadConstant bytes k flawed = front_nonempty flawed.0.text flawed.0.after bytes flawed.0.whole (number_nonempty flawed.0.text flawed.0.number)
+flaw_has_bytes ConstantTooLarge bytes k flawed = front_nonempty flawed.0.text flawed.0.after bytes flawed.0.whole (begins_nonempty flawed.0.text (constant_begins flawed.0.constant flawed.0.text flawed.0.spelled))
+
+cut_one : (ps qs : List Piece) (text : List ℕ) → IsCut ps text [] → IsCut qs text [] → ps ≡ qs
+cut_one [] [] text cut cut' = refl
+cut_one [] (q ∷ qs) text cut cut' = absurd (piece_has_bytes q cut'.0 (sym cut ∙ cut'.1) cut'.2)
+cut_one (p ∷ ps) [] text cut cut' = absurd (piece_has_bytes p cut.0 (sym cut' ∙ cut.1) cut.2)
+cut_one (p ∷ ps) (q ∷ qs) text cut cut' =
+    let same = front_piece p q text cut.0 cut'.0 cut.1 cut.2 cut'.1 cut'.2 in
+    let ih = cut_one ps qs cut.0 cut.3 (subst (λ bs. IsCut qs bs []) (sym same.1) cut'.3) in
+    ap (λ x. x ∷ ps) same.0 ∙ ap (λ xs. q ∷ xs) ih
+
+cut_no_flaw : (ps qs : List Piece) (text rest : List ℕ) (flaw : Flaw) (k : ℕ) → IsCut ps text rest → IsFlawed flaw rest k → IsCut qs text [] → ⊥
+cut_no_flaw [] [] text rest flaw k cut flawed cut' = let some = flaw_has_bytes flaw rest k flawed in let size = ap length (sym cut' ∙ cut) in omega arith
+cut_no_flaw [] (q ∷ qs) text rest flaw k cut flawed cut' = front_flaw q rest cut'.0 flaw k (sym cut ∙ cut'.1) cut'.2 flawed
+cut_no_flaw (p ∷ ps) [] text rest flaw k cut flawed cut' = piece_has_bytes p cut.0 (sym cut' ∙ cut.1) cut.2
+cut_no_flaw (p ∷ ps) (q ∷ qs) text rest flaw k cut flawed cut' =
+    let same = front_piece p q text cut.0 cut'.0 cut.1 cut.2 cut'.1 cut'.2 in
+    cut_no_flaw ps qs cut.0 rest flaw k cut.3 flawed (subst (λ bs. IsCut qs bs []) (sym same.1) cut'.3)
+
+flaw_one : (ps qs : List Piece) (text rest rest' : List ℕ) (f g : Flaw) (i j : ℕ) → IsCut ps text rest → IsFlawed f rest i → IsCut qs text rest' → IsFlawed g rest' j → (f ≡ g) × (length (flat_map piece_bytes ps) + i ≡ length (flat_map piece_bytes qs) + j)
+flaw_one [] [] text rest rest' f g i j cut flawed cut' flawed' =
+    let same : front.Flawed f i ≡ front.Flawed g j = sym (flaw_complete f rest i flawed) ∙ ap front_of (sym cut ∙ cut') ∙ flaw_complete g rest' j flawed' in
+    (cc, (let places : i ≡ j = cc in ap (λ n. 0 + n) places))
+flaw_one [] (q ∷ qs) text rest rest' f g i j cut flawed cut' flawed' = absurd (front_flaw q rest cut'.0 f i (sym cut ∙ cut'.1) cut'.2 flawed)
+flaw_one (p ∷ ps) [] text rest rest' f g i j cut flawed cut' flawed' = absurd (front_flaw p rest' cut.0 g j (sym cut' ∙ cut.1) cut.2 flawed')
+flaw_one (p ∷ ps) (q ∷ qs) text rest rest' f g i j cut flawed cut' flawed' =
+    let same = front_piece p q text cut.0 cut'.0 cut.1 cut.2 cut'.1 cut'.2 in
+    let ih = flaw_one ps qs cut.0 rest rest' f g i j cut.3 flawed (subst (λ bs. IsCut qs bs rest') (sym same.1) cut'.3) flawed' in
+    let sizes = ap (λ x. length (piece_bytes x)) same.0 in
+    (ih.0, omega (arith, ih.1, sizes, length-append (piece_bytes p) (flat_map piece_bytes ps), length-append (piece_bytes q) (flat_map piece_bytes qs)))
+
+-- **the three laws**
+pub tokens_are_one : TokensAreOne
+tokens_are_one text a b one other = one.tokens ∙ ap (tokens_of 0) (cut_one one.pieces other.pieces text one.cut other.cut) ∙ sym other.tokens
+
+pub tokens_have_no_flaw : TokensHaveNoFlaw
+tokens_have_no_flaw text ts flaw at one f = cut_no_flaw f.pieces one.pieces text f.rest flaw f.offset f.cut f.flawed one.cut
+
+pub first_flaw_is_one : FirstFlawIsOne
+first_flaw_is_one text f g i j one other =
+    let same = flaw_one one.pieces other.pieces text one.rest other.rest f g one.offset other.offset one.cut one.flawed other.cut other.flawed in
+    (same.0, one.where_at ∙ same.1 ∙ sym other.where_at)

@@ -1,0 +1,14 @@
+pub mod Loops
+pub mod ConstantValue
+pub mod Tables
+pub mod Runs
+pub mod ConstantForms
+pub mod Words
+pub mod Punctuators
+pub mod Comments
+pub mod Fronts
+pub mod Complete
+pub mod Cuts
+pub mod Found
+pub mod Total
+pub mod TokenRows

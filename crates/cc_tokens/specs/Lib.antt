@@ -1,0 +1,14 @@
+-- lines and columns
+pub mod Place
+-- the numbers and the places of the faults
+pub mod Fault
+-- a token with its bytes and its offset
+pub mod Token
+-- how keywords and punctuators are spelled
+pub mod Spelling
+-- integer constants: what spells them, their values and types
+pub mod Constant
+-- the tokens of a text, its first flaw where it has none, and why it is refused
+pub mod Tokens
+-- no promise rests on these
+pub mod internal

@@ -1,0 +1,137 @@
+-- What the private functions of the scanner answer, as functions on lists. The definition of the tokens of a text does not
+-- rest on it: the proofs show that it agrees with that definition.
+use Rattle.std.specs.Prelude.{ℕ, zero, suc, ◌+◌, Bool, true, false, not, ◌||◌, ◌&&◌, ◌==◌, nat_lt, if◌then◌else◌, slice_index, List, [], ◌∷◌, length, take, drop, Option, Some, None, Result, Ok, Err}
+use Rattle.std.specs.List.{find, prefix_len, starts_with}
+use Rattle.std.specs.Str.{bytes_eq}
+use Rattle.std.specs.Char.{is_ascii_digit}
+use Rattle.cc_tokens.specs.declared.flaw.Flaw.{Flaw}
+use Rattle.cc_tokens.specs.declared.flaw.Flaw.TheVariants.{BadByte, UnclosedComment, BadConstant, ConstantTooLarge}
+use Rattle.cc_tokens.specs.declared.scan.Mark.{Mark}
+use Rattle.cc_tokens.specs.declared.scan.Mark.TheVariants.{CommentEnd, LineEnd, Splice}
+use Rattle.cc_tokens.specs.declared.scan.Run.{Run}
+use Rattle.cc_tokens.specs.declared.scan.Run.TheVariants as run
+use Rattle.cc_tokens.specs.declared.scan.Front.{Front}
+use Rattle.cc_tokens.specs.declared.scan.Front.TheVariants as front
+use Rattle.cc_tokens.specs.declared.scalar.Scalar.{Scalar}
+use Rattle.cc_tokens.specs.declared.token.Keyword.{Keyword}
+use Rattle.cc_tokens.specs.declared.token.Punctuator.{Punctuator}
+use Rattle.cc_tokens.specs.declared.token.TokenKind.{TokenKind}
+use Rattle.cc_tokens.specs.declared.token.TokenKind.TheVariants as kind
+use Rattle.cc_tokens.specs.declared.token.TheConstants.{KEYWORDS, PUNCTUATORS}
+use Rattle.cc_tokens.specs.Spelling.{keyword_bytes, punctuator_bytes}
+use Rattle.cc_tokens.specs.Constant.{Constant, is_digit_of, digits_value, constant_type}
+use Rattle.cc_tokens.specs.Tokens.{is_blank, is_nondigit, continues_word, continues_number, begins_comment, begins_close, begins_line_end, begins_splice}
+
+-- the test of a mark
+abbrev pub begins : Mark → List ℕ → Bool
+begins CommentEnd = begins_close
+begins LineEnd = begins_line_end
+begins Splice = begins_splice
+
+-- the first of n offsets at which the test holds, or n
+unfoldable pub offset_within : (List ℕ → Bool) → ℕ → List ℕ → ℕ
+offset_within test zero bytes = 0
+offset_within test (suc n) [] = suc n
+offset_within test (suc n) (b ∷ bs) = if test (b ∷ bs) then 0 else suc (offset_within test n bs)
+
+-- which bytes go on with a run
+abbrev pub goes_on : Run → ℕ → ℕ → Bool
+goes_on run.Word = continues_word
+goes_on run.Number = continues_number
+
+-- how many bytes go on, each from the one before it
+unfoldable pub run_length : (ℕ → ℕ → Bool) → ℕ → List ℕ → ℕ
+run_length may before [] = 0
+run_length may before (b ∷ bs) = if may before b then suc (run_length may b bs) else 0
+
+-- the keyword of these bytes
+unfoldable pub keyword_named : List ℕ → Option Keyword
+keyword_named word = find (λ k. bytes_eq (keyword_bytes k) word) KEYWORDS
+
+-- the longest punctuator at the front
+unfoldable pub punctuator_at : List ℕ → Option Punctuator
+punctuator_at bytes = find (λ p. starts_with (λ a b. a == b) bytes (punctuator_bytes p)) PUNCTUATORS
+
+-- what a word is
+abbrev pub word_kind : Option Keyword → TokenKind
+word_kind None = kind.Identifier
+word_kind (Some k) = kind.Keyword k
+
+-- the base of a number, and how many bytes of prefix it has
+unfoldable pub base_of : List ℕ → ℕ
+base_of bytes = if slice_index bytes 0 == 48 then (if slice_index bytes 1 == 120 || slice_index bytes 1 == 88 then 16 else 8) else 10
+
+abbrev pub prefix_of_base : ℕ → ℕ
+prefix_of_base base = if base == 10 then 0 else (if base == 8 then 1 else 2)
+
+-- whether these bytes are a suffix, or nothing
+unfoldable pub suffix_of : List ℕ → Option Bool
+suffix_of bytes =
+    if length bytes == 0 then Some false
+    else (if length bytes == 1 && (slice_index bytes 0 == 117 || slice_index bytes 0 == 85) then Some true
+    else None)
+
+-- the constant after a prefix, of which n bytes are digits
+abbrev pub with_suffix : ℕ → List ℕ → Option Bool → Option Constant
+with_suffix base digits None = None
+with_suffix base digits (Some suffixed) = Some (record { base = base; digits = digits; suffixed = suffixed })
+
+abbrev pub constant_behind : ℕ → ℕ → List ℕ → Option Constant
+constant_behind base n bytes =
+    if n == 0 && not (base == 8) then None
+    else with_suffix base (take n bytes) (suffix_of (drop n bytes))
+
+-- the constant that the bytes of a number spell
+unfoldable pub constant_spelled : List ℕ → Option Constant
+constant_spelled bytes =
+    let base = base_of bytes in
+    let behind = drop (prefix_of_base base) bytes in
+    constant_behind base (prefix_len (is_digit_of base) behind) behind
+
+-- what a constant is
+abbrev pub typed : Option Scalar → ℕ → Result TokenKind Flaw
+typed None value = Err ConstantTooLarge
+typed (Some type) value = Ok (kind.Number type value)
+
+abbrev pub constant_kind : Option Constant → Result TokenKind Flaw
+constant_kind None = Err BadConstant
+constant_kind (Some c) = typed (constant_type c) (digits_value c)
+
+-- a token of n bytes, or a flaw
+abbrev pub number_front : ℕ → Result TokenKind Flaw → Front
+number_front n (Ok k) = front.Token k n
+number_front n (Err flaw) = front.Flawed flaw 0
+
+abbrev pub punctuator_front : Option Punctuator → Front
+punctuator_front None = front.Flawed BadByte 0
+punctuator_front (Some p) = front.Token (kind.Punctuator p) (length (punctuator_bytes p))
+
+-- a comment of n bytes, unless a line splice stands in it
+abbrev pub spliced : ℕ → ℕ → Front
+spliced n place = if nat_lt place n then front.Flawed BadByte place else front.Comment n
+
+abbrev pub comment_of : ℕ → List ℕ → Front
+comment_of n bytes = spliced n (offset_within begins_splice n bytes)
+
+abbrev pub block_comment : ℕ → List ℕ → Front
+block_comment n bytes = if nat_lt n (length (drop 2 bytes)) then comment_of (n + 4) bytes else front.Flawed UnclosedComment 0
+
+abbrev pub comment_front : List ℕ → Front
+comment_front bytes =
+    let body = drop 2 bytes in
+    if slice_index bytes 1 == 42 then block_comment (offset_within begins_close (length body) body) bytes
+    else comment_of (offset_within begins_line_end (length body) body + 2) bytes
+
+-- how many bytes of a run stand at the front, of which the first is one
+abbrev pub run_of : (ℕ → ℕ → Bool) → List ℕ → ℕ
+run_of may bytes = suc (run_length may (slice_index bytes 0) (drop 1 bytes))
+
+-- what stands at the front of the bytes
+unfoldable pub front_of : List ℕ → Front
+front_of bytes =
+    let first = slice_index bytes 0 in
+    if is_blank first then front.Blank
+    else (if begins_comment bytes then comment_front bytes
+    else (if is_nondigit first then front.Token (word_kind (keyword_named (take (run_of continues_word bytes) bytes))) (run_of continues_word bytes)
+    else (if is_ascii_digit first then number_front (run_of continues_number bytes) (constant_kind (constant_spelled (take (run_of continues_number bytes) bytes)))
+    else punctuator_front (punctuator_at bytes))))

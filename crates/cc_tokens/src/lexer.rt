@@ -1,0 +1,72 @@
+// The tokens of a text, from its first byte to its last.
+
+ghost use Rattle.std.specs.Prelude.{◌≡◌, ◌<◌, ◌≤◌, length, IfOk, IfErr};
+ghost use Rattle.cc_tokens.specs.Place.{place_of};
+ghost use Rattle.cc_tokens.specs.Token.{lexemes};
+ghost use Rattle.cc_tokens.specs.Tokens.{IsTokens, AreInOrder, IsTokenRefusal, flaw_fault, TokensAreOne, TokensHaveNoFlaw, FirstFlawIsOne, TokensOrFlaw};
+
+use super::fault::SyntaxFault;
+use super::flaw::Flaw;
+use super::place::place_at;
+use super::scan::{Front, front_of};
+use super::token::Token;
+use std::alloc::Global;
+
+/// The most bytes that a text may have.
+const LARGEST: usize = 65536;
+
+// The fault of a flaw at an offset.
+fn fault_at(text: &[u8], flaw: Flaw, at: usize) -> SyntaxFault
+    requires { at ≤ length text.now }
+    ensures { result ≡ flaw_fault flaw (place_of text.now at) }
+{
+    let place = place_at(text, at);
+    match flaw {
+        Flaw::BadByte => SyntaxFault::BadByte(place),
+        Flaw::UnclosedComment => SyntaxFault::UnclosedComment(place),
+        Flaw::BadConstant => SyntaxFault::BadConstant(place),
+        Flaw::ConstantTooLarge => SyntaxFault::ConstantTooLarge(place),
+    }
+}
+
+/// The tokens of a text, in order (C99 6.4 and the profile).
+///
+/// Refusals: 7 where the text has more than 65,536 bytes, before all others; then the first of 1 to 4 in the text, at
+/// its first byte: 1 a byte that begins no token, or a line splice in a comment, 2 a comment that is never closed, 3 a
+/// number that is no constant, 4 a constant past its type's range; 40 where memory for the tokens ran out.
+pub fn tokens(alloc: Global, text: &[u8]) -> Result<Vec<Token>, SyntaxFault>
+    ensures fits { IfOk result (λ ts. length text.now ≤ 65536) }
+    ensures ordered { IfOk result (λ ts. AreInOrder 0 ts.items (length text.now)) }
+    ensures answer { IfOk result (λ ts. IsTokens text.now (lexemes text.now ts.items)) }
+    ensures refused { IfErr result (λ fault. IsTokenRefusal text.now fault) }
+{
+    if text.len() > LARGEST {
+        return Err(SyntaxFault::SourceTooLarge);
+    }
+    let mut found = Vec::new(alloc);
+    let mut at = 0;
+    while at < text.len() {
+        match front_of(&text[at..]) {
+            Front::Blank => at += 1,
+            Front::Comment(n) => at += n,
+            Front::Token(kind, n) => {
+                let to = at + n;
+                if found.push(Token { kind, from: at, to }).is_err() {
+                    return Err(SyntaxFault::OutOfMemory);
+                }
+                at = to;
+            }
+            Front::Flawed(flaw, n) => return Err(fault_at(text, flaw, at + n)),
+        }
+    }
+    Ok(found)
+}
+
+/// A text has one list of tokens or one first flaw, and not both. So `tokens` is `Ok` exactly where a text of at most
+/// 65,536 bytes has tokens, and memory for them.
+pub fn tokens_are_determined()
+    ensures one { TokensAreOne }
+    ensures no_flaw { TokensHaveNoFlaw }
+    ensures one_flaw { FirstFlawIsOne }
+    ensures either { TokensOrFlaw }
+{}

@@ -1,0 +1,38 @@
+// Lines and columns.
+
+ghost use Rattle.std.specs.Prelude.{◌≡◌, ◌+◌, ◌≤◌, ◌<◌, ◌^◌, ◌==◌, length, count_by, not};
+ghost use Rattle.std.specs.List.{take_while};
+ghost use Rattle.cc_tokens.specs.Place.{place_of, last_line_reversed};
+
+/// A place in a text: the line and the column, both counted from 1, the column in bytes.
+#[derive(Clone, Copy, PartialEq, Eq, Debug)]
+pub struct Place {
+    pub line: usize,
+    pub column: usize,
+}
+
+fn newlines(text: &[u8]) -> usize
+    ensures count { result ≡ count_by (λ b. b == 10) text.now }
+    ensures bound { result ≤ length text.now }
+{
+    text.iter().filter(|b| **b == 10).count()
+}
+
+fn last_line_len(text: &[u8]) -> usize
+    ensures count { result ≡ length (last_line_reversed text.now) }
+    ensures bound { result ≤ length text.now }
+{
+    text.iter().rev().take_while(|b| **b != 10).count()
+}
+
+/// The place of the byte at an offset of a text, or the place one past its last byte.
+pub fn place_at(text: &[u8], at: usize) -> Place
+    requires { at ≤ length text.now }
+    ensures { result ≡ place_of text.now at }
+{
+    let before = &text[..at];
+    Place {
+        line: 1 + newlines(before),
+        column: 1 + last_line_len(before),
+    }
+}
