@@ -1,9 +1,9 @@
 -- How a statement is left, in the resolved form; scopes and lists of locals.
 use Rattle.std.proofs.Common.{◌≡◌, ℕ, zero, suc, ◌+◌, ◌-◌, ◌≤◌, List, [], ◌∷◌, ◌++◌, length, reverse, take, drop, Some, slice_get, refl, sym, ap, ◌∙◌, subst, arith, length-append, append_assoc, take-append-drop}
 use Rattle.std.proofs.lemmas.List.{length-map, reverse-append, map-append, drop_at}
-use Rattle.cc_syntax.specs.declared.ast.Scalar.{Scalar}
+use Rattle.cc_tokens.specs.declared.scalar.Scalar.{Scalar}
 use Rattle.cc_syntax.specs.Tree as tree
-use Rattle.cc_syntax.specs.Tree.{Declared, Start, Declares, Performs, Stmt, Stmts, end, next, Block, Perform, Return, Break, Continue, If, IfElse, While, DoWhile, For}
+use Rattle.cc_syntax.specs.Tree.{Declarator, Beginning, Declares, Performs, Stmt, Stmts, end, next, Block, Perform, Return, Break, Continue, If, IfElse, While, DoWhile, For}
 use Rattle.cc_typing.specs.Scope.{all_declared, scope_behind}
 use Rattle.cc_typing.specs.Limits.{locals_of}
 use Rattle.cc_meaning.specs.declared.form.Instruction.TheVariants as instruction
@@ -22,29 +22,29 @@ use Rattle.cc_meaning.proofs.Fits.{Fits, Scoped, scoped_local}
 abbrev pub over : List (List ℕ) → Environment → Environment
 over extra v = record v { locals = extra ++ v.locals }
 
-pub with_locals_visible : (t : Scalar) (ds : List Declared) (v : Environment) → (with_locals t ds v).visible ≡ all_declared t ds v.visible
+pub with_locals_visible : (t : Scalar) (ds : List Declarator) (v : Environment) → (with_locals t ds v).visible ≡ all_declared t ds v.visible
 with_locals_visible t [] v = refl
 with_locals_visible t (d ∷ rest) v = with_locals_visible t rest (with_local t d.name.text v)
 
-pub with_locals_layout : (t : Scalar) (ds : List Declared) (v : Environment) → (with_locals t ds v).layout ≡ v.layout
+pub with_locals_layout : (t : Scalar) (ds : List Declarator) (v : Environment) → (with_locals t ds v).layout ≡ v.layout
 with_locals_layout t [] v = refl
 with_locals_layout t (d ∷ rest) v = with_locals_layout t rest (with_local t d.name.text v)
 
-pub with_locals_length : (t : Scalar) (ds : List Declared) (v : Environment) → length (with_locals t ds v).locals ≡ length v.locals + length ds
+pub with_locals_length : (t : Scalar) (ds : List Declarator) (v : Environment) → length (with_locals t ds v).locals ≡ length v.locals + length ds
 with_locals_length t [] v = omega arith
 with_locals_length t (d ∷ rest) v = let e = with_locals_length t rest (with_local t d.name.text v) in omega arith
 
-pub with_locals_over : (t : Scalar) (ds : List Declared) (v : Environment) → (extra : List (List ℕ)) × ((with_locals t ds v).locals ≡ extra ++ v.locals)
+pub with_locals_over : (t : Scalar) (ds : List Declarator) (v : Environment) → (extra : List (List ℕ)) × ((with_locals t ds v).locals ≡ extra ++ v.locals)
 with_locals_over t [] v = ([], refl)
 with_locals_over t (d ∷ rest) v =
     let e = with_locals_over t rest (with_local t d.name.text v) in (e.0 ++ d.name.text ∷ [], e.1 ∙ sym (append_assoc e.0 (d.name.text ∷ []) v.locals))
 
-pub scoped_locals : (layout : Layout) (defined : List (List ℕ)) (Takes : List ℕ → ℕ → Type 0) (t : Scalar) (ds : List Declared) (v : Environment)
+pub scoped_locals : (layout : Layout) (defined : List (List ℕ)) (Takes : List ℕ → ℕ → Type 0) (t : Scalar) (ds : List Declarator) (v : Environment)
     → Scoped layout defined Takes v → Scoped layout defined Takes (with_locals t ds v)
 scoped_locals layout defined Takes t [] v h = h
 scoped_locals layout defined Takes t (d ∷ rest) v h = scoped_locals layout defined Takes t rest (with_local t d.name.text v) (scoped_local layout defined Takes t d.name.text v h)
 
--- behind a statement
+-- after a statement
 pub record Behind (layout : Layout) (defined : List (List ℕ)) (Takes : List ℕ → ℕ → Type 0) (s : Stmt) (v : Environment) : Type 0 where
   pub visible : (behind s v).visible ≡ scope_behind s v.visible
   pub laid : (behind s v).layout ≡ v.layout
@@ -69,7 +69,7 @@ pub behind_is : (layout : Layout) (defined : List (List ℕ)) (Takes : List ℕ 
 behind_is layout defined Takes (tree.Local t ds) v h =
     let e = with_locals_over t ds v in
     let l = with_locals_length t ds v in
-    let m = length-map ds (λ (d : Declared). d.name) in
+    let m = length-map ds (λ (d : Declarator). d.name) in
     record {
       visible = with_locals_visible t ds v;
       laid = with_locals_layout t ds v;
@@ -111,7 +111,7 @@ names_drop zero ls = refl
 names_drop (suc d) [] = refl
 names_drop (suc d) (l ∷ ls) = names_drop d ls
 
--- behind a scope, whose locals no name has any more
+-- after a scope, whose locals no name has any more
 pub fits_left : (v : Environment) (extra : List (List ℕ)) (total most before : ℕ) (vs : List ℕ) (t : State) → before ≡ length v.locals → Fits (over extra v) total most vs t → Fits v total most vs (left_scope before t)
 fits_left v extra total most before vs t e h =
     let ls : List Local = t.locals in
@@ -181,7 +181,7 @@ module _ (form : FormTree) (cs : List Activation) (total : ℕ) where
   done_by layout c d most more f b k f' b' k' p le x y z Continues t h = z t h
   done_by layout c d most more f b k f' b' k' p le x y z (Returns w) t h = brings_after layout c d most more w t p le h
 
-  -- a part behind some moves, whose ways out mean the same
+  -- a part after some moves, whose ways out mean the same
   pub done_after : (layout : Layout) (c d : Configuration) (most more : ℕ) (f b k f' b' k' : State → Type 0) (r : Run Flow) → Leads form c d → most ≤ more
       → ((t : State) → f t → f' t) → ((t : State) → b t → b' t) → ((t : State) → k t → k' t) → Meets form d (Done layout d most f b k) r → Meets form c (Done layout c more f' b' k') r
   done_after layout c d most more f b k f' b' k' r p le x y z h =

@@ -230,7 +230,7 @@ module _ (form : FormTree) (layout : Layout) (defined : List (List ℕ)) (fs : L
       ≡ call_move (Some (record { start = e.start; parameters = e.code.parameters; variables = e.code.variables })) c
   call_moves x e v c pl = ap (λ (q : Layout). call_move (slice_get form.functions (names_before q.functions x)) c) pl ∙ ap (λ o. call_move o c) e.entry
 
-  -- behind the step of a call
+  -- after the step of a call
   entered_by : (cs : List Activation) (total m : ℕ) (ih : (cs : List Activation) (total : ℕ) → CallsMeet form layout TakesHere cs total m (calls m fs (1 + length cs))) (v : Environment) (f ws : List ℕ) (p : ℕ) (vs ops : List ℕ) (s : State)
       (most left : ℕ) (allowed : Bool) (e : Entered form layout defined fs f) → v.layout ≡ layout → length e.function.parameters ≡ length ws → slice_get form.code p ≡ Some (instruction.Call (names_before v.layout.functions f))
       → Fits v total most vs s → most < suc m → s.steps ≡ suc left → nat_lt (1 + length cs) most_open ≡ allowed

@@ -26,7 +26,7 @@ module _ (form : FormTree) (cs : List Activation) (total : ℕ) (layout : Layout
       (p : ℕ) (ops : List ℕ) (s : State) → Stands form.code p (arguments_code v es) → Fits v total most vs s
       → Meets form (conf p vs ops cs s) (Values form cs total (conf p vs ops cs s) v most vs (p + length (arguments_code v es)) (count_of es) ops) (evaluate_all es (types_in v) call s)
 
-  -- what a word is pushed for, and the instruction behind it
+  -- what a word is pushed for, and the instruction after it
   element_part : (e : Expr) (x : Name) (v : Environment) (most : ℕ) (vs : List ℕ) → Part form cs total v most vs (expression_code v e) (evaluate e (types_in v) call)
       → Part form cs total v most vs (expression_code v (Element x e)) (evaluate (Element x e) (types_in v) call)
   element_part e x v most vs f p ops s st h =

@@ -1,17 +1,17 @@
 -- The instructions of each statement do what the source says: by recursion on the tree. What a call does is handed in.
 use Rattle.std.proofs.Common.{◌≡◌, ℕ, zero, suc, ◌+◌, ◌<◌, ◌≤◌, List, [], ◌∷◌, ◌++◌, length, Option, Some, None, slice_get, refl, sym, ap, ◌∙◌, subst, arith, length-append}
 use Rattle.std.proofs.lemmas.List.{length-map}
-use Rattle.cc_syntax.specs.declared.ast.Scalar.{Scalar}
+use Rattle.cc_tokens.specs.declared.scalar.Scalar.{Scalar}
 use Rattle.cc_syntax.specs.Tree as tree
-use Rattle.cc_syntax.specs.Tree.{Expr, Action, Declared, Start, Declares, Performs, Stmt, Stmts, end, next, Block, Perform, Return, Break, Continue, If, IfElse, While, DoWhile, For}
-use Rattle.cc_typing.specs.Scope.{Binding, Visible, in_scope, opened, scope_behind, scope_behind_start}
-use Rattle.cc_typing.specs.Rules.{broken, void_offences, expression_offences, value_offences, optional_offences, optional_action_offences, start_offences, return_offences, Around, within_loop, statement_offences, statements_offences, undefined_among, called_in, called_in_optional, called_in_optional_action, called_in_start, called_in_statement, called_in_statements}
+use Rattle.cc_syntax.specs.Tree.{Expr, Action, Declarator, Beginning, Declares, Performs, Stmt, Stmts, end, next, Block, Perform, Return, Break, Continue, If, IfElse, While, DoWhile, For}
+use Rattle.cc_typing.specs.Scope.{Binding, Visible, in_scope, opened, scope_behind, scope_behind_beginning}
+use Rattle.cc_typing.specs.Rules.{broken, void_offences, expression_offences, value_offences, optional_offences, optional_action_offences, beginning_offences, return_offences, Around, within_loop, statement_offences, statements_offences, undefined_among, called_in, called_in_optional, called_in_optional_action, called_in_beginning, called_in_statement, called_in_statements}
 use Rattle.cc_typing.specs.declared.rule.Rule.TheVariants.{BadReturn}
-use Rattle.cc_typing.specs.Limits.{start_names, locals_of, locals}
+use Rattle.cc_typing.specs.Limits.{beginning_names, locals_of, locals}
 use Rattle.cc_meaning.specs.declared.form.Instruction.{Instruction}
 use Rattle.cc_meaning.specs.declared.form.Instruction.TheVariants as instruction
-use Rattle.cc_meaning.specs.internal.Form.{FormTree, expression_code, optional_action_code, Exits, further, declared_code, start_code, value_code, condition_code, turns_code, loop_code, exits_of_body, statement_code, statements_code}
-use Rattle.cc_resolve.specs.Environment.{Environment, types_in, inner, with_locals, behind, behind_start}
+use Rattle.cc_meaning.specs.internal.Form.{FormTree, expression_code, optional_action_code, Exits, further, declared_code, beginning_code, value_code, condition_code, turns_code, loop_code, exits_of_body, statement_code, statements_code}
+use Rattle.cc_resolve.specs.Environment.{Environment, types_in, inner, with_locals, behind, behind_beginning}
 use Rattle.cc_resolve.specs.Layout.{Layout}
 use Rattle.cc_meaning.specs.Meaning.{State, Run, Gives, Flow, Falls, Breaks, Continues, Returns, then_do, choose, Calls, behind_flow, begin_body, turns, evaluate, evaluate_or, perform_optional, declare, start, in_block, return, execute, execute_all}
 use Rattle.cc_meaning.specs.internal.FormMeaning.{Activation, Configuration}
@@ -25,20 +25,20 @@ use Rattle.cc_meaning.proofs.Performs.{optional_meets, declare_meets}
 use Rattle.cc_meaning.proofs.Blocks.{over, with_locals_visible, with_locals_layout, with_locals_length, with_locals_over, scoped_locals, behind_is, fits_env, Reaches, Leaves, Done, done_after, reaches_after, leaves_after, reaches_leaves, block_meets}
 use Rattle.cc_meaning.proofs.Loops.{Loop, turns_length, loop_stands, turns_meet, begins_meet}
 
--- behind the first part of a `for` header
-record BehindStart (layout : Layout) (defined : List (List ℕ)) (Takes : List ℕ → ℕ → Type 0) (s : Start) (v : Environment) : Type 0 where
-  visible : (behind_start s v).visible ≡ scope_behind_start s v.visible
-  laid : (behind_start s v).layout ≡ v.layout
+-- after the first part of a `for` header
+record BehindBeginning (layout : Layout) (defined : List (List ℕ)) (Takes : List ℕ → ℕ → Type 0) (s : Beginning) (v : Environment) : Type 0 where
+  visible : (behind_beginning s v).visible ≡ scope_behind_beginning s v.visible
+  laid : (behind_beginning s v).layout ≡ v.layout
   extra : List (List ℕ)
-  locals : (behind_start s v).locals ≡ extra ++ v.locals
-  room : length (behind_start s v).locals ≤ length v.locals + length (start_names s)
-  scoped : Scoped layout defined Takes (behind_start s v)
+  locals : (behind_beginning s v).locals ≡ extra ++ v.locals
+  room : length (behind_beginning s v).locals ≤ length v.locals + length (beginning_names s)
+  scoped : Scoped layout defined Takes (behind_beginning s v)
 
-behind_start_is : (layout : Layout) (defined : List (List ℕ)) (Takes : List ℕ → ℕ → Type 0) (s : Start) (v : Environment) → Scoped layout defined Takes v → BehindStart layout defined Takes s v
-behind_start_is layout defined Takes (Declares t ds) v h =
+behind_beginning_is : (layout : Layout) (defined : List (List ℕ)) (Takes : List ℕ → ℕ → Type 0) (s : Beginning) (v : Environment) → Scoped layout defined Takes v → BehindBeginning layout defined Takes s v
+behind_beginning_is layout defined Takes (Declares t ds) v h =
     let e = with_locals_over t ds v in
     let l = with_locals_length t ds v in
-    let m = length-map ds (λ (d : Declared). d.name) in
+    let m = length-map ds (λ (d : Declarator). d.name) in
     record {
       visible = with_locals_visible t ds v;
       laid = with_locals_layout t ds v;
@@ -47,7 +47,7 @@ behind_start_is layout defined Takes (Declares t ds) v h =
       room = omega arith;
       scoped = scoped_locals layout defined Takes t ds v h;
     }
-behind_start_is layout defined Takes (Performs a) v h = record { visible = refl; laid = refl; extra = []; locals = refl; room = omega arith; scoped = h }
+behind_beginning_is layout defined Takes (Performs a) v h = record { visible = refl; laid = refl; extra = []; locals = refl; room = omega arith; scoped = h }
 
 -- the value of a return keeps the rules
 return_value : (r : Option Scalar) (bs : List Binding) (at : ℕ) (e : Expr) → return_offences r bs at (Some e) ≡ [] → value_offences bs e ≡ []
@@ -66,7 +66,7 @@ module _ (form : FormTree) (cs : List Activation) (total : ℕ) (layout : Layout
       → Meets form (conf p vs [] cs t)
       (Done form cs total layout (conf p vs [] cs t) most (falls (conf p vs [] cs t) (p + length code)) (Leaves form cs total (conf p vs [] cs t) v most b) (Leaves form cs total (conf p vs [] cs t) v most k)) (part t)
 
-  -- a statement, behind which there is an environment
+  -- a statement, after which there is an environment
   abbrev StatementDoes : Environment → Environment → Exits → ℕ → List Instruction → (State → Run Flow) → Type 0
   StatementDoes v w x most code part = Does (λ c q t. Reaches form cs total c w most q t) v x most code part
 
@@ -173,7 +173,7 @@ module _ (form : FormTree) (cs : List Activation) (total : ℕ) (layout : Layout
 
   -- ---- if
 
-  -- behind the condition of an `if`
+  -- after the condition of an `if`
   arm_meets : (v : Environment) (x : Exits) (most p b k w : ℕ) (vs : List ℕ) (arm : List Instruction) (part : State → Run Flow) (t : State) → BlockDoes v x most arm part
       → slice_get form.code p ≡ Some (instruction.JumpIfZero (length arm)) → Stands form.code (p + 1) arm → b ≡ p + 1 + length arm + x.breaks → k ≡ p + 1 + length arm + x.continues → b ≤ length form.code → k ≤ length form.code → Fits v total most vs t
       → Meets form (conf p vs (w ∷ []) cs t) (Done form cs total layout (conf p vs (w ∷ []) cs t) most (Reaches form cs total (conf p vs (w ∷ []) cs t) v most (p + 1 + length arm))
@@ -308,7 +308,7 @@ module _ (form : FormTree) (cs : List Activation) (total : ℕ) (layout : Layout
       (λ u y. reaches_after form cs total c d v v most most q end_at u to refl refl (omega arith) (omega arith) y) (λ u y. y) (λ u y. y)
       (turns_there v body following test condition inside part at pl loop tests bodies follows (suc n) most vs t (omega arith) lt h)
 
-  -- a loop that is tested behind its body
+  -- a loop that is tested after its body
   do_meets : (v : Environment) (body test : List Instruction) (condition : State → Run ℕ) (inside : State → Run Flow) → v.layout ≡ layout
       → TestDoes v test condition → BodyDoes v (exits_of_body [] test) body inside → (most p : ℕ) (vs : List ℕ) (t : State) → most < n → Stands form.code p (turns_code body [] test) → Fits v total most vs t
       → Meets form (conf p vs [] cs t) (Done form cs total layout (conf p vs [] cs t) most (Reaches form cs total (conf p vs [] cs t) v most (p + length (turns_code body [] test))) Never Never)
@@ -364,7 +364,7 @@ module _ (form : FormTree) (cs : List Activation) (total : ℕ) (layout : Layout
       (λ y m. leaves_after form cs total c d w v extra most most b b y got.leads e pl (omega arith) refl m) (λ y m. leaves_after form cs total c d w v extra most most k k y got.leads e pl (omega arith) refl m)
       (g q b k got.variables u (omega arith) (omega arith) lb lk (stands_right form.code p q code others refl st) got.fits))
 
-  -- behind a statement, the rest of a list
+  -- after a statement, the rest of a list
   flow_meets : (v w : Environment) (x : Exits) (most q end_at b k : ℕ) (others : List Instruction) (rest : State → Run Flow) (extra : List (List ℕ)) (c : Configuration) (flow : Flow) (u : State) → w.locals ≡ extra ++ v.locals → w.layout ≡ v.layout
       → ListDoes w x most others rest → q + length others ≡ end_at → b ≡ q + length others + x.breaks → k ≡ q + length others + x.continues → b ≤ length form.code → k ≤ length form.code → Stands form.code q others
       → Done form cs total layout c most (Reaches form cs total c w most q) (Leaves form cs total c v most b) (Leaves form cs total c v most k) flow u
@@ -395,11 +395,11 @@ module _ (form : FormTree) (cs : List Activation) (total : ℕ) (layout : Layout
 
   -- ---- the first part of a `for` header
 
-  start_meets : (first : Start) (v : Environment) (most : ℕ) → Scoped layout defined Takes v → most < n → start_offences first v.visible ≡ [] → undefined_among defined (called_in_start first) ≡ []
-      → length v.locals + length (start_names first) ≤ total → (p : ℕ) (vs : List ℕ) (t : State) → Stands form.code p (start_code v first) → Fits v total most vs t
-      → Meets form (conf p vs [] cs t) (Acted form cs total (conf p vs [] cs t) (behind_start first v) most (p + length (start_code v first))) (start first call v.visible t)
+  start_meets : (first : Beginning) (v : Environment) (most : ℕ) → Scoped layout defined Takes v → most < n → beginning_offences first v.visible ≡ [] → undefined_among defined (called_in_beginning first) ≡ []
+      → length v.locals + length (beginning_names first) ≤ total → (p : ℕ) (vs : List ℕ) (t : State) → Stands form.code p (beginning_code v first) → Fits v total most vs t
+      → Meets form (conf p vs [] cs t) (Acted form cs total (conf p vs [] cs t) (behind_beginning first v) most (p + length (beginning_code v first))) (start first call v.visible t)
   start_meets (Declares t ds) v most scoped lt o d room =
-      declare_meets form cs total layout defined Takes n call calls_meet t ds v most scoped lt o d (let m = length-map ds (λ (d : Declared). d.name) in omega arith)
+      declare_meets form cs total layout defined Takes n call calls_meet t ds v most scoped lt o d (let m = length-map ds (λ (d : Declarator). d.name) in omega arith)
   start_meets (Performs a) v most scoped lt o d room = λ p vs t st h.
       optional_meets form cs total layout defined Takes n call calls_meet a v most vs scoped lt o d p t st h
 
@@ -422,7 +422,7 @@ module _ (form : FormTree) (cs : List Activation) (total : ℕ) (layout : Layout
         (block_of_list v x most (statements_code (inner v) x all) (execute_all all n call (opened v.visible)) (execute_all_meets all (inner v) x a most (scoped_inner layout defined Takes v scoped) lt o d room))
     execute_meets (tree.Local t ds) v x a most scoped lt o d room =
         acted_done v (with_locals t ds v) x most (declared_code v t ds) (declare t ds call v.visible)
-        (declare_meets form cs total layout defined Takes n call calls_meet t ds v most scoped lt o d (let m = length-map ds (λ (d : Declared). d.name) in omega arith))
+        (declare_meets form cs total layout defined Takes n call calls_meet t ds v most scoped lt o d (let m = length-map ds (λ (d : Declarator). d.name) in omega arith))
     execute_meets (Perform action) v x a most scoped lt o d room =
         acted_done v v x most (optional_action_code v action) (perform_optional action (types_in v) call)
         (λ p vs t st h. optional_meets form cs total layout defined Takes n call calls_meet action v most vs scoped lt o d p t st h)
@@ -486,25 +486,25 @@ module _ (form : FormTree) (cs : List Activation) (total : ℕ) (layout : Layout
     execute_meets (For first c following s) v x a most scoped lt o d room =
         let w = inner v in
         let scoped' = scoped_inner layout defined Takes v scoped in
-        let within = behind_start first w in
-        let i = behind_start_is layout defined Takes first w scoped' in
+        let within = behind_beginning first w in
+        let i = behind_beginning_is layout defined Takes first w scoped' in
         let test = condition_code within c in
         let next_part = optional_action_code within following in
         let out = exits_of_body next_part test in
         let body = statement_code (inner within) out s in
-        let code = start_code w first ++ loop_code body next_part test in
-        let names = length-append (start_names first) (locals_of s) in
+        let code = beginning_code w first ++ loop_code body next_part test in
+        let names = length-append (beginning_names first) (locals_of s) in
         let few = i.room in
-        let vis : Visible = scope_behind_start first (opened v.visible) in
+        let vis : Visible = scope_behind_beginning first (opened v.visible) in
         let all_of_loop : Visible → List _ = λ y. optional_offences (in_scope y) c ++ (optional_action_offences (in_scope y) following ++ statement_offences s (within_loop a) (opened y)) in
-        let of_start = nil_left (start_offences first (opened v.visible)) (all_of_loop vis) o in
-        let of_loop : all_of_loop within.visible ≡ [] = subst (λ y. all_of_loop y ≡ []) (sym i.visible) (nil_right (start_offences first (opened v.visible)) (all_of_loop vis) o) in
+        let of_start = nil_left (beginning_offences first (opened v.visible)) (all_of_loop vis) o in
+        let of_loop : all_of_loop within.visible ≡ [] = subst (λ y. all_of_loop y ≡ []) (sym i.visible) (nil_right (beginning_offences first (opened v.visible)) (all_of_loop vis) o) in
         let of_c = nil_left (optional_offences (types_in within) c) (optional_action_offences (types_in within) following ++ statement_offences s (within_loop a) (opened within.visible)) of_loop in
         let of_rest = nil_right (optional_offences (types_in within) c) (optional_action_offences (types_in within) following ++ statement_offences s (within_loop a) (opened within.visible)) of_loop in
         let of_f = nil_left (optional_action_offences (types_in within) following) (statement_offences s (within_loop a) (opened within.visible)) of_rest in
         let of_s = nil_right (optional_action_offences (types_in within) following) (statement_offences s (within_loop a) (opened within.visible)) of_rest in
-        let d_start = defined_left defined (called_in_start first) (called_in_optional c ++ (called_in_optional_action following ++ called_in_statement s)) d in
-        let d_loop = defined_right defined (called_in_start first) (called_in_optional c ++ (called_in_optional_action following ++ called_in_statement s)) d in
+        let d_start = defined_left defined (called_in_beginning first) (called_in_optional c ++ (called_in_optional_action following ++ called_in_statement s)) d in
+        let d_loop = defined_right defined (called_in_beginning first) (called_in_optional c ++ (called_in_optional_action following ++ called_in_statement s)) d in
         let d_rest = defined_right defined (called_in_optional c) (called_in_optional_action following ++ called_in_statement s) d_loop in
         let part_at : Visible → State → Run Flow = λ y t.
         then_do (start first call (opened v.visible) t) (λ flow u. turns (suc n) (evaluate_or 1 c (in_scope y) call) (in_block (execute s n call (opened y))) (perform_optional following (in_scope y) call) u) in
@@ -520,7 +520,7 @@ module _ (form : FormTree) (cs : List Activation) (total : ℕ) (layout : Layout
         statement_of_block v x most code (in_block (part_at vis))
         (block_of_list v x most code (part_at vis)
         (subst (λ y. ListDoes w x most code (part_at y)) i.visible
-        (first_then w within x most (start_code w first) (loop_code body next_part test) (start first call w.visible) (turns (suc n) (evaluate_or 1 c (types_in within) call) inside (perform_optional following (types_in within) call))
+        (first_then w within x most (beginning_code w first) (loop_code body next_part test) (start first call w.visible) (turns (suc n) (evaluate_or 1 c (types_in within) call) inside (perform_optional following (types_in within) call))
         (start_meets first w most scoped' lt of_start d_start (omega arith)) i.extra i.locals i.laid looped)))
 
     pub execute_all_meets : (ss : Stmts) (v : Environment) (x : Exits) (a : Around) (most : ℕ) → Scoped layout defined Takes v → most < n → statements_offences ss a v.visible ≡ [] → undefined_among defined (called_in_statements ss) ≡ []

@@ -3,7 +3,7 @@ use Rattle.std.proofs.Common.{◌≡◌, ℕ, zero, suc, ◌+◌, ◌<◌, ◌�
 use Rattle.std.proofs.lemmas.Bool.Decides.{leb_tells}
 use Rattle.std.proofs.Math.Dec.{eqb-suc-zero}
 use Rattle.cc_words.specs.Words.{truth_value}
-use Rattle.cc_syntax.specs.declared.ast.Scalar.{Scalar}
+use Rattle.cc_tokens.specs.declared.scalar.Scalar.{Scalar}
 use Rattle.cc_syntax.specs.declared.ast.UnaryOperator.{UnaryOperator}
 use Rattle.cc_syntax.specs.declared.ast.UnaryOperator.TheVariants as unary
 use Rattle.cc_syntax.specs.declared.ast.BinaryOperator.{BinaryOperator}
@@ -27,7 +27,7 @@ use Rattle.cc_meaning.proofs.Moves.{Leads, leads_refl, leads_then, conf, Meets, 
 use Rattle.cc_meaning.proofs.Plain.{IsPlain, Kind, IsAnd, IsOr, IsOther}
 use Rattle.cc_meaning.proofs.Fits.{Fits, found_object}
 
--- the form gives a word behind some instructions, over the operands that were there
+-- the form gives a word after some instructions, over the operands that were there
 pub record Value (form : FormTree) (cs : List Activation) (total : ℕ) (c : Configuration) (v : Environment) (most : ℕ) (vs : List ℕ) (q : ℕ) (ops : List ℕ) (w : ℕ) (t : State) : Type 0 where
   pub fits : Fits v total most vs t
   pub leads : Leads form c (conf q vs (w ∷ ops) cs t)
@@ -52,7 +52,7 @@ module _ (form : FormTree) (cs : List Activation) (total : ℕ) where
       (p : ℕ) (ops : List ℕ) (s : State) → Stands form.code p code → Fits v total most vs s
       → Meets form (conf p vs ops cs s) (Value form cs total (conf p vs ops cs s) v most vs (p + length code) ops) (part s)
 
-  -- behind some moves, and at another way to write the place
+  -- after some moves, and at another way to write the place
   pub value_after : (v : Environment) (most : ℕ) (vs ops : List ℕ) (c d : Configuration) (q q' : ℕ) (r : Run ℕ) → Leads form c d → q ≡ q'
       → Meets form d (Value form cs total d v most vs q ops) r → Meets form c (Value form cs total c v most vs q' ops) r
   value_after v most vs ops c d q q' r p e h =

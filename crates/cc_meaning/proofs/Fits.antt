@@ -2,7 +2,7 @@
 -- it.
 use Rattle.std.proofs.Common.{◌≡◌, ℕ, ◌+◌, ◌<◌, ◌≤◌, Bool, true, false, if◌then◌else◌, List, [], ◌∷◌, ◌++◌, length, reverse, nat_lt, ◌⊎◌, inl, inr, Option, Some, None, is_some, slice_get, slice_set, unwrap_or, refl, sym, ap, ◌∙◌, subst, arith}
 use Rattle.std.proofs.lemmas.Bool.{lt-ltb}
-use Rattle.cc_syntax.specs.declared.ast.Scalar.{Scalar}
+use Rattle.cc_tokens.specs.declared.scalar.Scalar.{Scalar}
 use Rattle.cc_typing.specs.Names.{same_name}
 use Rattle.cc_typing.specs.Scope as scope
 use Rattle.cc_typing.specs.Scope.{Binding, found, declared}
@@ -16,7 +16,7 @@ use Rattle.cc_meaning.proofs.Named.{there}
 use Rattle.cc_meaning.proofs.Held.{names_of, words_in, reads_local, no_local, writes_local, all_of, layout_from, Finds, finds, layout_keep, length_slice_set, get_below}
 use Rattle.cc_meaning.proofs.Moves.{conf}
 
--- the variables are the words of the locals, the oldest first, with others behind them that no name has; the objects stand
+-- the variables are the words of the locals, the oldest first, with others after them that no name has; the objects stand
 -- where they are placed; at most so many steps are left
 pub record Fits (v : Environment) (total most : ℕ) (vs : List ℕ) (s : State) : Type 0 where
   pub names : names_of s.locals ≡ v.locals
@@ -104,7 +104,7 @@ stored_global : (x : List ℕ) (w : ℕ) (s : State) → local_word s.locals x �
 stored_global x w s e =
     ap (λ o. if is_some o then record s { locals = with_local_word x w s.locals } else record s { globals = with_element x 0 w s.globals }) e
 
--- the variables behind a write to a local
+-- the variables after a write to a local
 pub record Sets (v : Environment) (total most : ℕ) (vs : List ℕ) (s : State) (x : List ℕ) (i w : ℕ) : Type 0 where
   pub below : nat_lt i (length vs) ≡ true
   pub fits : Fits v total most (slice_set vs i w) (stored x w s)
@@ -132,7 +132,7 @@ sets_local v total most vs s x i w h e =
       rest = λ p cs. ap (conf p (slice_set vs i w) [] cs) is;
     }
 
--- the words behind a write to an object's element
+-- the words after a write to an object's element
 pub record Puts (v : Environment) (total most : ℕ) (vs : List ℕ) (s : State) (x : List ℕ) (i w : ℕ) : Type 0 where
   pub below : nat_lt ((extent_of v.layout.objects x).offset + i) (length (all_of s.globals)) ≡ true
   pub words : slice_set (all_of s.globals) ((extent_of v.layout.objects x).offset + i) w ≡ all_of (with_element x i w s.globals)

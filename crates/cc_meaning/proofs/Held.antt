@@ -48,7 +48,7 @@ get_past (x ∷ xs) (suc i) h = get_past xs i (omega arith)
 pub reverse_cons : {A : Type 0} (x : A) (xs : List A) → reverse (x ∷ xs) ≡ reverse xs ++ (x ∷ [])
 reverse_cons x xs = reverse-append (x ∷ []) xs
 
--- the newest of some words is behind all others
+-- the newest of some words is after all others
 pub newest_last : {A : Type 0} (x : A) (xs junk : List A) → reverse (x ∷ xs) ++ junk ≡ reverse xs ++ (x ∷ junk)
 newest_last x xs junk = ap (λ (l : List _). l ++ junk) (reverse_cons x xs) ∙ append_assoc (reverse xs) (x ∷ []) junk
 
@@ -137,7 +137,7 @@ writes_local (l ∷ behind) junk x i w e = writes_local_by l behind junk x i w (
 
 -- ---- globals
 
--- the words of all objects, one behind the other
+-- the words of all objects, one after the other
 abbrev pub all_of : List Global → List ℕ
 all_of [] = []
 all_of (g ∷ rest) = g.words ++ all_of rest
@@ -153,7 +153,7 @@ pub record Finds (front : List ℕ) (gs : List Global) (x : List ℕ) (ext : Ext
   pub within : (i : ℕ) → i < ext.length → ext.offset + i < length (front ++ all_of gs)
   pub writes : (i w : ℕ) → i < ext.length → slice_set (front ++ all_of gs) (ext.offset + i) w ≡ front ++ all_of (with_element x i w gs)
 
--- behind the words of one object more
+-- after the words of one object more
 finds_behind : (front : List ℕ) (g : Global) (rest : List Global) (x : List ℕ) (ext : Extent) → same_name g.name x ≡ false → Finds (front ++ g.words) rest x ext → Finds front (g ∷ rest) x ext
 finds_behind front g rest x ext eq h =
     let words : words_of (g ∷ rest) x ≡ words_of rest x = ap (λ c. if c then g.words else words_of rest x) eq in

@@ -71,7 +71,7 @@ module _ (form : FormTree) (cs : List Activation) (total n : ℕ) (layout : Layo
   abbrev Ends : Configuration → ℕ → (b k : State → Type 0) → Flow → State → Type 0
   Ends c most b k = Done form cs total layout c most (Reaches form cs total c v most end_at) b k
 
-  -- behind the body
+  -- after the body
   behind_body_meets : (c : Configuration) (most : ℕ) (b k : State → Type 0) (go : State → Run Flow) (flow : Flow) (t : State)
       → ((vs : List ℕ) (u : State) → Fits v total most vs u → Meets form (conf following_at vs [] cs u) (Ends (conf following_at vs [] cs u) most b k) (go u))
       → Done form cs total layout c most (Reaches form cs total c v most following_at) (Reaches form cs total c v most end_at) (Reaches form cs total c v most following_at) flow t
@@ -134,7 +134,7 @@ module _ (form : FormTree) (cs : List Activation) (total n : ℕ) (layout : Layo
   FollowingDoes = (most : ℕ) (vs : List ℕ) (t : State) → most < n → Fits v total most vs t
       → Meets form (conf following_at vs [] cs t) (Acted form cs total (conf following_at vs [] cs t) v most test_at) (behind t)
 
-  -- behind the test
+  -- after the test
   tested : (i most w : ℕ) (b k : State → Type 0) (vs : List ℕ) (t : State) → BodyDoes → FollowingDoes → most < suc i → most < n → Fits v total most vs t
       → ((less : ℕ) (vs : List ℕ) (u : State) → less < i → less < n → Fits v total less vs u → Meets form (conf test_at vs [] cs u) (Ends (conf test_at vs [] cs u) less b k) (turns i condition inside behind u))
       → Meets form (conf repeat_at vs (w ∷ []) cs t) (Ends (conf repeat_at vs (w ∷ []) cs t) most b k)

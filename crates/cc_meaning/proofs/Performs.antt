@@ -2,10 +2,10 @@
 use Rattle.std.proofs.Common.{◌≡◌, ℕ, ◌+◌, ◌<◌, ◌≤◌, if◌then◌else◌, List, [], ◌∷◌, ◌++◌, length, reverse, drop, Option, Some, None, is_some, slice_get, slice_set, refl, sym, ap, ◌∙◌, subst, arith, length-append}
 use Rattle.std.proofs.lemmas.Bool.{lt-ltb}
 use Rattle.std.proofs.lemmas.List.{length-map, length-reverse}
-use Rattle.cc_syntax.specs.declared.ast.Scalar.{Scalar}
-use Rattle.cc_syntax.specs.declared.ast.Scalar.TheVariants.{Int}
+use Rattle.cc_tokens.specs.declared.scalar.Scalar.{Scalar}
+use Rattle.cc_tokens.specs.declared.scalar.Scalar.TheVariants.{Int}
 use Rattle.cc_syntax.specs.declared.ast.BinaryOperator.{BinaryOperator}
-use Rattle.cc_syntax.specs.Tree.{Expr, Target, AtVariable, AtElement, Action, Assign, Step, Evaluate, Declared}
+use Rattle.cc_syntax.specs.Tree.{Expr, Target, AtVariable, AtElement, Action, Assign, Step, Evaluate, Declarator}
 use Rattle.cc_typing.specs.Operators.{applied_operator, step_operator}
 use Rattle.cc_typing.specs.Scope.{found, is_declared}
 use Rattle.cc_typing.specs.Types.{value_type, target_type}
@@ -234,7 +234,7 @@ module _ (form : FormTree) (cs : List Activation) (total : ℕ) (layout : Layout
       initial_value t x e v most vs
       (expression_meets form cs total layout defined Takes n call calls_meet e (with_local t x v) most vs scoped lt (nil_left (expression_offences bs e) (void_offences bs e) o) d) p (meaning.with_local x s) st h
 
-  pub declare_meets : (t : Scalar) (ds : List Declared) (v : Environment) (most : ℕ) → Scoped layout defined Takes v → most < n → declared_offences t ds v.visible ≡ [] → undefined_among defined (called_in_declared ds) ≡ []
+  pub declare_meets : (t : Scalar) (ds : List Declarator) (v : Environment) (most : ℕ) → Scoped layout defined Takes v → most < n → declared_offences t ds v.visible ≡ [] → undefined_among defined (called_in_declared ds) ≡ []
       → length v.locals + length ds ≤ total → (p : ℕ) (vs : List ℕ) (s : State) → Stands form.code p (declared_code v t ds) → Fits v total most vs s
       → Meets form (conf p vs [] cs s) (Acted form cs total (conf p vs [] cs s) (with_locals t ds v) most (p + length (declared_code v t ds))) (declare t ds call v.visible s)
   declare_meets t [] v most scoped lt o d room p vs s st h = record {

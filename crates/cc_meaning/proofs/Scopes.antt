@@ -4,7 +4,7 @@ use Rattle.std.proofs.Common.{◌≡◌, ℕ, suc, ◌+◌, ◌-◌, Bool, true,
 use Rattle.std.proofs.lemmas.List.{length-map, length-replicate}
 use Rattle.std.proofs.lemmas.Bool.Decides.{leb_tells}
 use Rattle.std.proofs.lemmas.Cmp.{nat_list_eq_equiv}
-use Rattle.cc_syntax.specs.declared.ast.Scalar.{Scalar}
+use Rattle.cc_tokens.specs.declared.scalar.Scalar.{Scalar}
 use Rattle.cc_syntax.specs.Tree.{ConstantExpr, Parameter, Signature, Object, Single, Array, External, Declaration, Definition, Objects}
 use Rattle.cc_typing.specs.Names.{same_name}
 use Rattle.cc_typing.specs.Scope.{Entity, Variable, Elements, Function, Binding, found, is_declared, FileScope, with_declared, function_entity, with_function, with_object, with_objects, file_scope_behind, file_scope_behind_all, same_scalar, same_scalars, same_result}
@@ -134,7 +134,7 @@ extent_kept : (ps qs : List LaidObject) (x : List ℕ) → (extent_of ps x).leng
 extent_kept [] qs x e = absurd (omega arith)
 extent_kept (p ∷ rest) qs x e = extent_kept_by p rest qs x (same_name p.name x) e (extent_kept rest qs x)
 
--- behind all that have other names
+-- after all that have other names
 extent_last : (ps : List LaidObject) (q : LaidObject) (x : List ℕ) → named_in ps x ≡ false → same_name q.name x ≡ true → extent_of (ps ++ q ∷ []) x ≡ q.extent
 extent_last [] q x e h = ap (λ b. if b then q.extent else record { offset = 0; length = 0 }) h
 extent_last (p ∷ rest) q x e h =

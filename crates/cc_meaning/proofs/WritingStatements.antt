@@ -1,10 +1,10 @@
 -- Instructions are written from the last one to the first: the names of a list come into scope first, and then what stands
--- behind each of its members is there when the member is written.
+-- after each of its members is there when the member is written.
 use Rattle.std.proofs.Common.{◌≡◌, ℕ, ◌+◌, ◌-◌, ◌≤◌, List, [], ◌∷◌, ◌++◌, length, length-append, reverse, set, refl, sym, ap, ◌∙◌, append_assoc, arith}
 use Rattle.std.proofs.lemmas.List.{set-append_right}
 use Rattle.cc_syntax.specs.Erase.{optional_tree, declarator_trees, statement_tree, statements_of}
 use Rattle.cc_syntax.specs.Tree as tree
-use Rattle.cc_syntax.specs.declared.ast.Scalar.{Scalar}
+use Rattle.cc_tokens.specs.declared.scalar.Scalar.{Scalar}
 use Rattle.cc_syntax.specs.declared.ast.Declarator.{Declarator}
 use Rattle.cc_syntax.specs.declared.ast.Statement.{Statement}
 use Rattle.cc_meaning.specs.internal.Writing.{exits_of}
@@ -18,7 +18,7 @@ use Rattle.cc_meaning.proofs.Emitting.{reverse-front}
 
 -- ---- declarations
 
--- the environment behind some names of a declaration, the last one first
+-- the environment after some names of a declaration, the last one first
 abbrev pub with_reversed : Scalar → List Declarator → Environment → Environment
 with_reversed t [] w = w
 with_reversed t (d ∷ before) w = with_local t d.name.bytes.items (with_reversed t before w)
@@ -33,7 +33,7 @@ with_locals-reversed t (d ∷ ds) w =
     with_locals-reversed t ds (with_local t d.name.bytes.items w) ∙ sym (with_reversed-append t (reverse ds) (d ∷ []) w)
     ∙ sym (ap (λ l. with_reversed t l w) (reverse-front d ds))
 
--- one name of a declaration, whose local is the newest in an environment behind another one
+-- one name of a declaration, whose local is the newest in an environment after another one
 abbrev pub declarator_code : Scalar → Declarator → Environment → List Instruction
 declarator_code t d w = Clear (length w.locals) ∷ initial_code (with_local t d.name.bytes.items w) (length w.locals) (optional_tree d.initial)
 
@@ -79,7 +79,7 @@ Undeclaring-next t w all c0 v c d rest v' c' before en ec =
 
 -- ---- statements
 
--- the environment behind some statements, in the order of the text, and the last one first
+-- the environment after some statements, in the order of the text, and the last one first
 abbrev pub behind_all : List Statement → Environment → Environment
 behind_all [] w = w
 behind_all (s ∷ rest) w = behind_all rest (behind (statement_tree s) w)

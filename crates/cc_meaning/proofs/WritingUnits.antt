@@ -25,7 +25,7 @@ function-names v v1 v2 v3 s f none e1 e2 left =
 
 -- ---- the code of functions
 
--- what is declared in file scope behind an external declaration depends on what was declared there before it
+-- what is declared in file scope after an external declaration depends on what was declared there before it
 behind-bindings : (e : External) (g h : FileScope) → g.bindings ≡ h.bindings → (file_scope_behind e g).bindings ≡ (file_scope_behind e h).bindings
 behind-bindings (Declaration s) g h same = ap (λ bs. (with_function s (record { bindings = bs; defined = [] })).bindings) same
 behind-bindings (Definition s body) g h same = ap (λ bs. (with_function s (record { bindings = bs; defined = [] })).bindings) same
@@ -57,7 +57,7 @@ entries_from-append at (f ∷ xs) ys =
     ap (λ l. record { start = at; parameters = f.parameters; variables = f.variables } ∷ l)
     (entries_from-append (at + length f.code) xs ys ∙ ap (λ n. entries_from (at + length f.code) xs ++ entries_from n ys) k)
 
--- behind some external declarations of a unit
+-- after some external declarations of a unit
 pub record Resolving (p : Layout) (all : List FunctionCode) (v : Environment) (code : List Instruction) (entries : List Entry) (rest : List External) : Type 0 where
   pub inner : v.visible.inner ≡ []
   pub locals : v.locals ≡ []
@@ -109,7 +109,7 @@ Resolving-first all p v code entries ev ep ec ee =
           ∙ ap (λ l. entries_from (length l) (functions_code (layout_of all) (file_of v.visible) all)) ec ∙ ap (entries_from 0) there;
     }
 
--- behind the last one
+-- after the last one
 pub form-is : (all : List External) (p : Layout) (v : Environment) (code : List Instruction) (entries : List Entry) (rest : List External) (main : ℕ) (words : List ℕ)
     → Resolving (layout_of all) (unit_functions all) v code entries rest → rest ≡ [] → p ≡ layout_of all
     → main ≡ names_before p.functions (codes "main") → words ≡ all_words (objects all)

@@ -31,7 +31,7 @@ impl Emitter {
         }
     }
 
-    /// How many instructions stand behind the next one that is written.
+    /// How many instructions stand after the next one that is written.
     pub fn len(&self) -> usize
         ensures { result ≡ length self.now }
     {
@@ -46,7 +46,7 @@ impl Emitter {
         Ok(())
     }
 
-    /// How many instructions a jump that is written next skips, to go where so many stood behind it.
+    /// How many instructions a jump that is written next skips, to go where so many stood after it.
     pub fn distance(&self, target: usize) -> usize
         requires { target ≤ length self.now }
         ensures { result ≡ length self.now - target }
@@ -54,7 +54,7 @@ impl Emitter {
         self.items.len() - target
     }
 
-    /// Writes another instruction in the place of one, before which so many stood behind.
+    /// Writes another instruction in the place of one, before which so many stood after.
     pub fn replace(&mut self, behind: usize, instruction: Instruction)
         requires { behind < length self.old }
         ensures { self.new ≡ slice_set self.old (length self.old - (behind + 1)) instruction }
@@ -62,7 +62,7 @@ impl Emitter {
         self.items[behind] = instruction;
     }
 
-    /// Puts the instructions behind some others, in the order in which they run, and begins anew.
+    /// Puts the instructions after some others, in the order in which they run, and begins anew.
     pub fn finish(&mut self, code: &mut Vec<Instruction>) -> Result<(), AllocError>
         ensures code { OnOk result (code.new.items ≡ code.old.items ++ self.old) }
         ensures begun { OnOk result (self.new ≡ []) }

@@ -1,7 +1,7 @@
 // The resolved form of a unit: one list of instructions over a stack of words, with numbers in place of names.
 //
 // The arguments of a call are its callee's first variables, and stand where the caller left them on the stack; the other
-// variables follow, and above them the words of unfinished expressions. A jump skips so many instructions behind itself.
+// variables follow, and above them the words of unfinished expressions. A jump skips so many instructions after itself.
 
 use cc_resolve::{BinaryOperation, Extent, UnaryOperation};
 
@@ -66,8 +66,8 @@ pub struct Entry {
     pub variables: usize,
 }
 
-/// The resolved form of a unit: the instructions of all functions one behind the other, the functions in the order of
-/// their definitions, the number of `main`, and the words of all objects before the run, one object behind the other.
+/// The resolved form of a unit: the instructions of all functions one after the other, the functions in the order of
+/// their definitions, the number of `main`, and the words of all objects before the run, one object after the other.
 #[derive(Drop)]
 pub struct Form {
     pub code: Vec<Instruction>,

@@ -1,6 +1,6 @@
 -- Objects, parameters and external declarations, one after the other: what is done and what is left make the whole.
 use Rattle.std.proofs.Common.{◌≡◌, ℕ, suc, ◌+◌, ◌-◌, ◌<◌, ◌≤◌, List, [], ◌∷◌, ◌++◌, length, map, replicate, Some, None, refl, sym, ap, ◌∙◌, append_assoc, arith}
-use Rattle.cc_syntax.specs.declared.ast.Scalar.{Scalar}
+use Rattle.cc_tokens.specs.declared.scalar.Scalar.{Scalar}
 use Rattle.cc_syntax.specs.Tree.{Name, Parameter, Object, External, Declaration, Definition, Objects}
 use Rattle.cc_typing.specs.Bindings.{closed, file_level, file_of}
 use Rattle.cc_typing.specs.internal.Counts.{objects_in}
@@ -14,7 +14,7 @@ use Rattle.cc_resolve.specs.internal.Laying.{offset_behind, defined_texts}
 
 -- ---- lists
 
--- one more member of a list, behind those that are done
+-- one more member of a list, after those that are done
 pub one-more : {A : Type 0} (done done' : List A) (x : A) (rest whole : List A) → done ++ (x ∷ rest) ≡ whole → done' ≡ done ++ x ∷ [] → done' ++ rest ≡ whole
 one-more done done' x rest whole e is = ap (λ l. l ++ rest) is ∙ append_assoc done (x ∷ []) rest ∙ e
 
@@ -30,7 +30,7 @@ one-more-zero done done' whole n k h e is =
 
 -- ---- the words of objects, and where they are
 
--- behind some objects of a list
+-- after some objects of a list
 pub record Placing (p0 : Layout) (w0 : List ℕ) (at0 : ℕ) (all : List Object) (p : Layout) (w : List ℕ) (at : ℕ) (rest : List Object) : Type 0 where
   pub objects : p.objects ++ laid_from at rest ≡ p0.objects ++ laid_from at0 all
   pub functions : p.functions ≡ p0.functions
@@ -77,7 +77,7 @@ function_texts-next (Declaration s) rest = refl
 function_texts-next (Definition s body) rest = refl
 function_texts-next (Objects t os) rest = refl
 
--- behind some external declarations of a unit
+-- after some external declarations of a unit
 pub record Finding (all : List External) (p : Layout) (w : List ℕ) (at : ℕ) (rest : List External) : Type 0 where
   pub laid : p.objects ++ laid_from at (objects rest) ≡ laid_from 0 (objects all)
   pub numbered : p.functions ++ function_texts rest ≡ function_texts all
@@ -108,7 +108,7 @@ Finding-next all p w at e rest p' w' at' before ep ew ea h =
 
 -- ---- the names of objects
 
--- behind some names of a declaration of objects
+-- after some names of a declaration of objects
 pub record Naming (t : Scalar) (v0 : Environment) (all : List Object) (v : Environment) (rest : List Object) : Type 0 where
   pub inner : v.visible.inner ≡ []
   pub names : record v { visible = file_level (with_objects t rest (file_of v.visible)).bindings } ≡ record v0 { visible = file_level (with_objects t all (file_of v0.visible)).bindings }
@@ -129,7 +129,7 @@ in-file v e i = record { visible = record { inner = e i; outer = v.visible.outer
 
 -- ---- functions
 
--- behind some parameters
+-- after some parameters
 pub record Declaring (v0 : Environment) (all : List Parameter) (v : Environment) (rest : List Parameter) : Type 0 where
   pub names : record v { visible = parameters_declared rest v.visible; locals = parameter_names rest v.locals } ≡ record v0 { visible = parameters_declared all v0.visible; locals = parameter_names all v0.locals }
 
@@ -141,6 +141,6 @@ Declaring-next v0 all v p rest v' before e = record {
   names = ap (λ (u : Environment). record u { visible = parameters_declared rest u.visible; locals = parameter_names rest u.locals }) e ∙ before.names;
 }
 
--- behind a function's body its parameters are not in scope
+-- after a function's body its parameters are not in scope
 pub function-closed : (ps : List Parameter) (bs : List Binding) → closed 0 (parameters_declared ps (file_level bs)) ≡ file_level bs
 function-closed ps bs = ap file_level (parameters_declared-outer ps (file_level bs))

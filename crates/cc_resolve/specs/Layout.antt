@@ -1,4 +1,4 @@
--- Where the names of file scope lead: the objects lie one behind the other as one list of words, and a word's number is its
+-- Where the names of file scope lead: the objects lie one after the other as one list of words, and a word's number is its
 -- offset in that list; the functions are numbered in the order of their definitions.
 use Rattle.std.specs.Prelude.{ℕ, suc, ◌+◌, List, [], ◌∷◌, ◌++◌, map, Option, Some, None, if◌then◌else◌, option_map}
 use Rattle.cc_syntax.specs.Tree.{Name, Object, External}

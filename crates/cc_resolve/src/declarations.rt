@@ -2,7 +2,7 @@
 
 ghost use Rattle.std.specs.Prelude.{◌≡◌, OnOk};
 ghost use Rattle.cc_syntax.specs.Erase.{declarator_trees, beginning_tree, statement_tree};
-ghost use Rattle.cc_resolve.specs.Environment.{with_locals, behind, behind_start};
+ghost use Rattle.cc_resolve.specs.Environment.{with_locals, behind, behind_beginning};
 
 use super::environment::Environment;
 use cc_syntax::{Beginning, Declarator, Scalar, Statement};
@@ -27,7 +27,7 @@ pub fn declare_beginning<'a>(
     names: &mut Environment<'a>,
     tree: &'a Beginning,
 ) -> Result<(), AllocError>
-    ensures { OnOk result (names.new ≡ behind_start (beginning_tree tree.now) names.old) }
+    ensures { OnOk result (names.new ≡ behind_beginning (beginning_tree tree.now) names.old) }
 {
     match tree {
         Beginning::Declaration(scalar, declared) => {

@@ -51,7 +51,7 @@ impl<'a> Layout<'a> {
         }
     }
 
-    /// Adds an object behind the others; of two with one name the first stays.
+    /// Adds an object after the others; of two with one name the first stays.
     pub(crate) fn add_object(&mut self, name: &'a [u8], extent: Extent) -> Result<(), AllocError>
         ensures { OnOk result (self.new ≡ record self.old { objects = self.old.objects ++ record { name = name.now; extent = extent } ∷ [] }) }
     {

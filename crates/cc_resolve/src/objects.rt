@@ -36,7 +36,7 @@ fn initial_word(tree: &Option<ConstantExpression>) -> u32
     }
 }
 
-// Puts the words of a list behind some others.
+// Puts the words of a list after some others.
 fn add_values(words: &mut Vec<u32>, trees: &[ConstantExpression]) -> Result<(), AllocError>
     ensures { OnOk result (words.new.items ≡ words.old.items ++ map (λ (c : tree.ConstantExpr). initial_word (Some c)) (constant_trees trees.now)) }
 {
@@ -55,7 +55,7 @@ fn add_zeros(words: &mut Vec<u32>, count: usize) -> Result<(), AllocError>
     Ok(())
 }
 
-// Puts the words of an object behind some others.
+// Puts the words of an object after some others.
 fn add_words(words: &mut Vec<u32>, tree: &Object) -> Result<(), AllocError>
     ensures { OnOk result (words.new.items ≡ words.old.items ++ initial_words (object_tree tree.now)) }
 {
@@ -83,7 +83,7 @@ fn object_name(tree: &Object) -> &[u8]
     }
 }
 
-// Adds an object whose words begin at an offset, and answers the offset behind them. Its words stand behind others, which are
+// Adds an object whose words begin at an offset, and answers the offset after them. Its words stand after others, which are
 // no fewer than the words before it.
 fn add_object<'a>(
     layout: &mut Layout<'a>,
@@ -105,7 +105,7 @@ fn add_object<'a>(
     Ok(offset + length)
 }
 
-/// Adds objects, of which the first begins at an offset, and answers the offset behind them. Their words stand behind others,
+/// Adds objects, of which the first begins at an offset, and answers the offset after them. Their words stand after others,
 /// which are no fewer than the words before it.
 pub fn add_objects<'a>(
     layout: &mut Layout<'a>,

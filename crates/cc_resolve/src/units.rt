@@ -68,7 +68,7 @@ pub fn leave_function(names: &mut Environment<'_>)
 }
 
 // Adds the objects and the function of an external declaration, where the first object begins at an offset, and answers the
-// offset behind them.
+// offset after them.
 fn add_external<'a>(
     layout: &mut Layout<'a>,
     words: &mut Vec<u32>,

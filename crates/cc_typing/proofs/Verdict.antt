@@ -2,7 +2,7 @@
 use Rattle.std.proofs.Common.{◌≡◌, ℕ, inl, inr, true, false, ◌||◌, List, [], ◌∷◌, ◌++◌, length, Some, None, refl, sym, ap, ◌∙◌}
 use Rattle.std.specs.Prelude.{not}
 use Rattle.cc_syntax.specs.Tree.{Name, Source, External, Declaration, Definition, Objects}
-use Rattle.cc_syntax.specs.Place.{place_of}
+use Rattle.cc_tokens.specs.Place.{place_of}
 use Rattle.cc_typing.specs.Checked.{IsChecked}
 use Rattle.cc_typing.specs.internal.Counts.{defined_after}
 use Rattle.cc_typing.specs.Fault.{fault_of}
@@ -44,7 +44,7 @@ module _ (s : Source) where
 
 -- ---- the functions that are defined
 
--- the names of the functions that are defined behind some external declarations
+-- the names of the functions that are defined after some external declarations
 abbrev pub all_defined_after : List (List ℕ) → List External → List (List ℕ)
 all_defined_after d [] = d
 all_defined_after d (e ∷ rest) = all_defined_after (defined_after d e) rest
@@ -76,7 +76,7 @@ undefined_among-same [] d d' h = refl
 undefined_among-same (c ∷ cs) d d' h =
     ap (λ b. broken_if (not b) Undefined c.at ++ undefined_among d cs) (h c.text) ∙ ap (λ l. broken_if (not (has_name d' c.text)) Undefined c.at ++ l) (undefined_among-same cs d d' h)
 
--- behind some external declarations: what is done and what is left make the whole
+-- after some external declarations: what is done and what is left make the whole
 pub defined-next : (e : External) (rest left : List External) (d d' whole : List (List ℕ)) → left ≡ e ∷ rest → SameNames (all_defined_after d left) whole → SameNames d' (defined_after d e) → SameNames (all_defined_after d' rest) whole
 defined-next e rest left d d' whole el before ed = λ x.
     all_defined_after-same rest d' (defined_after d e) ed x ∙ sym (ap (λ l. has_name (all_defined_after d l) x) el) ∙ before x

@@ -2,7 +2,7 @@
 use Rattle.std.specs.Prelude.{ℕ, ◌≡◌, ◌⊎◌, ◌<◌, ◌≤◌, true, false, List, [], ◌∷◌, ◌++◌, length, map, Contains}
 use Rattle.std.specs.List.{AllByRecursion}
 use Rattle.cc_syntax.specs.Tree.{Name, External, Declaration, Definition, Objects, Source}
-use Rattle.cc_syntax.specs.Place.{place_of}
+use Rattle.cc_tokens.specs.Place.{place_of}
 use Rattle.cc_typing.specs.Rules.{offences, defines_main, undefined_calls}
 use Rattle.cc_typing.specs.Limits.{excesses, function_names}
 use Rattle.cc_typing.specs.Fault.{fault_of, rule_number}

@@ -2,7 +2,7 @@
 
 ghost use Rattle.std.specs.Prelude.{◌≡◌, ◌⊎◌, ℕ, List, None, IfOk, IfErr, OnOk};
 ghost use Rattle.cc_syntax.specs.Source.{source};
-ghost use Rattle.cc_syntax.specs.Place.{place_of};
+ghost use Rattle.cc_tokens.specs.Place.{place_of};
 ghost use Rattle.cc_syntax.specs.Erase.{external_tree, external_trees};
 ghost use Rattle.cc_typing.specs.internal.Counts.{defined_after};
 ghost use Rattle.cc_typing.specs.Fault.{fault_of};

@@ -1,6 +1,6 @@
 // The rules of expressions and actions (C99 6.5, 6.8.3).
 //
-// The walk goes on behind an offence, since the first in the text need not be the first that is met. The recursion is as
+// The walk goes on after an offence, since the first in the text need not be the first that is met. The recursion is as
 // deep as the tree: at most 512 tokens of a full expression.
 
 ghost use Rattle.std.specs.Prelude.{◌≡◌, ◌==◌, [], not, length};
@@ -151,7 +151,7 @@ fn arguments(scope: &Scope, findings: &mut Findings, trees: &[Expression])
 }
 
 /// A value that may be left out.
-pub fn optional_value(scope: &Scope, findings: &mut Findings, tree: &Option<Expression>)
+pub fn optional_value(scope: &Scope, findings: &mut Findings, tree: &Option<Box<Expression>>)
     ensures { findings.new ≡ after findings.old (optional_offences (in_scope scope.now) (optional_tree tree.now)) (called_in_optional (optional_tree tree.now)) }
 {
     if let Some(tree) = tree {

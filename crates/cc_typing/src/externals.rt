@@ -132,7 +132,7 @@ fn parameters<'a>(
     Ok(())
 }
 
-// What is said of a function. Behind it, the names of its parameters are in scope.
+// What is said of a function. After it, the names of its parameters are in scope.
 fn signature<'a>(
     scope: &mut Scope<'a>,
     findings: &mut Findings,
@@ -152,7 +152,7 @@ fn signature<'a>(
     parameters(scope, findings, tree.parameters.as_slice())
 }
 
-// An external declaration, behind definitions of some functions.
+// An external declaration, after definitions of some functions.
 fn external<'a>(
     scope: &mut Scope<'a>,
     findings: &mut Findings,
@@ -188,7 +188,7 @@ fn external<'a>(
     Ok(())
 }
 
-/// The external declarations of a unit, behind definitions of some functions.
+/// The external declarations of a unit, after definitions of some functions.
 pub fn all_externals<'a>(
     scope: &mut Scope<'a>,
     findings: &mut Findings,

@@ -4,7 +4,7 @@ ghost use Rattle.std.specs.Prelude.{◌≡◌, ◌≤◌, [], ◌∷◌, None, l
 ghost use Rattle.cc_syntax.specs.Erase.{name_tree, declarator_trees, beginning_tree, statement_tree, statements_of, object_tree, object_trees, signature_tree, external_tree, external_trees};
 ghost use Rattle.cc_typing.specs.internal.Counts.{count_after, defines, excess_of, objects_in, word_count, with_words, words_after};
 ghost use Rattle.cc_typing.specs.internal.Findings.{noted};
-ghost use Rattle.cc_typing.specs.Limits.{too_many, declared_names, start_names, locals_of, locals, function_names, objects, object_name, parameter_excesses, external_excesses, externals_excesses, excesses};
+ghost use Rattle.cc_typing.specs.Limits.{too_many, declared_names, beginning_names, locals_of, locals, function_names, objects, object_name, parameter_excesses, external_excesses, externals_excesses, excesses};
 ghost use Rattle.cc_typing.specs.Types.{object_words};
 
 use super::constants::array_length;
@@ -79,7 +79,7 @@ fn count_declared(count: &mut Count, names: &[Declarator])
 }
 
 fn count_beginning(count: &mut Count, beginning: &Beginning)
-    ensures { count.new ≡ count_after count.old (start_names (beginning_tree beginning.now)) }
+    ensures { count.new ≡ count_after count.old (beginning_names (beginning_tree beginning.now)) }
 {
     match beginning {
         Beginning::Declaration(_, names) => count_declared(count, names.as_slice()),

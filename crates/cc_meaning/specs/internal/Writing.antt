@@ -5,7 +5,7 @@ use Rattle.cc_meaning.specs.declared.form.Instruction.{Instruction}
 use Rattle.cc_meaning.specs.declared.form.Instruction.TheVariants.{JumpIfZero}
 use Rattle.cc_meaning.specs.declared.writer.statements.Exits.{Exits}
 
--- where a break and a continue go: each place is kept as how many instructions stand behind it, of so many that stand
+-- where a break and a continue go: each place is kept as how many instructions stand after it, of so many that stand
 abbrev pub exits_of : ℕ → Exits → form.Exits
 exits_of n e = record { breaks = n - e.breaks; continues = n - e.continues }
 

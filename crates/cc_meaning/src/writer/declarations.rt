@@ -5,10 +5,10 @@
 
 ghost use Rattle.std.specs.Prelude.{◌≡◌, ◌∷◌, ◌++◌, length, OnOk};
 ghost use Rattle.cc_syntax.specs.Erase.{optional_tree, declarator_trees, beginning_tree};
-ghost use Rattle.cc_syntax.specs.declared.ast.Scalar.{Scalar};
+ghost use Rattle.cc_tokens.specs.declared.scalar.Scalar.{Scalar};
 ghost use Rattle.cc_resolve.specs.Environment as resolve;
-ghost use Rattle.cc_resolve.specs.Environment.{with_local, with_locals, behind_start};
-ghost use Rattle.cc_meaning.specs.internal.Form.{initial_code, declared_code, start_code};
+ghost use Rattle.cc_resolve.specs.Environment.{with_local, with_locals, behind_beginning};
+ghost use Rattle.cc_meaning.specs.internal.Form.{initial_code, declared_code, beginning_code};
 ghost use Rattle.cc_meaning.specs.declared.form.Instruction.TheVariants.{Clear};
 
 use super::actions::optional_action;
@@ -61,9 +61,9 @@ pub fn beginning(
     code: &mut Emitter,
     tree: &Beginning,
 ) -> Result<(), AllocError>
-    ensures names { OnOk result ((w : resolve.Environment) → names.old ≡ behind_start (beginning_tree tree.now) w → names.new ≡ w) }
-    ensures code { OnOk result ((w : resolve.Environment) → names.old ≡ behind_start (beginning_tree tree.now) w
-        → code.new ≡ start_code w (beginning_tree tree.now) ++ code.old) }
+    ensures names { OnOk result ((w : resolve.Environment) → names.old ≡ behind_beginning (beginning_tree tree.now) w → names.new ≡ w) }
+    ensures code { OnOk result ((w : resolve.Environment) → names.old ≡ behind_beginning (beginning_tree tree.now) w
+        → code.new ≡ beginning_code w (beginning_tree tree.now) ++ code.old) }
 {
     match tree {
         Beginning::Declaration(_, declared) => declaration(names, code, declared.as_slice()),

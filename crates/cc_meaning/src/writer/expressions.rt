@@ -80,7 +80,7 @@ fn call(
     Ok(names.call_type(name.bytes.as_slice()))
 }
 
-// What skips the right operand, behind which so many instructions stand, where the operator may not need it.
+// What skips the right operand, after which so many instructions stand, where the operator may not need it.
 fn skip_right(code: &mut Emitter, operator: BinaryOperator, behind: usize) -> Result<(), AllocError>
     requires { behind ≤ length code.old }
     ensures { OnOk result (code.new ≡ some_code (short_cut operator (length code.old - behind)) ++ code.old) }
@@ -186,7 +186,7 @@ fn arguments(
 pub fn value(
     names: &Environment<'_>,
     code: &mut Emitter,
-    tree: &Option<Expression>,
+    tree: &Option<Box<Expression>>,
 ) -> Result<(), AllocError>
     ensures { OnOk result (code.new ≡ value_code names.now (optional_tree tree.now) ++ code.old) }
 {
@@ -203,7 +203,7 @@ pub fn value(
 pub fn condition(
     names: &Environment<'_>,
     code: &mut Emitter,
-    tree: &Option<Expression>,
+    tree: &Option<Box<Expression>>,
 ) -> Result<(), AllocError>
     ensures { OnOk result (code.new ≡ condition_code names.now (optional_tree tree.now) ++ code.old) }
 {

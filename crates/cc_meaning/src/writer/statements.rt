@@ -1,4 +1,4 @@
-// Statements, each written behind those that follow it.
+// Statements, each written after those that follow it.
 //
 // The names of a list are in scope before its statements are written, from the last to the first, and each declaration takes
 // its own names back. The recursion is as deep as the tree: at most 64 levels.
@@ -23,7 +23,7 @@ use cc_resolve::{Environment, declare_beginning, declare_statement};
 use cc_syntax::{Action, Beginning, Expression, Statement};
 use std::alloc::AllocError;
 
-/// Where a break and a continue go: how many instructions of the function stand behind that place.
+/// Where a break and a continue go: how many instructions of the function stand after that place.
 #[derive(Clone, Copy)]
 pub struct Exits {
     pub breaks: usize,
@@ -90,8 +90,8 @@ fn inner_statement<'a>(
     Ok(())
 }
 
-// A condition and what is done where it holds, of which another branch may stand behind: a condition that does not hold goes
-// to a place behind which `second` instructions stand.
+// A condition and what is done where it holds, of which another branch may stand after: a condition that does not hold goes
+// to a place after which `second` instructions stand.
 #[cycle(resolved_statements)]
 fn conditional<'a>(
     names: &mut Environment<'a>,
@@ -114,7 +114,7 @@ fn conditional<'a>(
     Ok(())
 }
 
-// The turns of a loop, where what follows its body and its condition stand, and the jump back behind them without its
+// The turns of a loop, where what follows its body and its condition stand, and the jump back after them without its
 // distance.
 #[cycle(resolved_statements)]
 fn turns<'a>(
@@ -176,7 +176,7 @@ fn for_loop<'a>(
     names: &mut Environment<'a>,
     code: &mut Emitter,
     first: &'a Beginning,
-    test: &Option<Expression>,
+    test: &Option<Box<Expression>>,
     following: &Option<Action>,
     body: &'a Statement,
 ) -> Result<(), AllocError>

@@ -19,7 +19,7 @@ use std::alloc::{AllocError, Global};
 
 const MAIN: &[u8] = b"main";
 
-// Declares a function, and puts its instructions behind those of others.
+// Declares a function, and puts its instructions after those of others.
 fn define_function<'a>(
     alloc: Global,
     names: &mut Environment<'a>,
@@ -47,7 +47,7 @@ fn define_function<'a>(
 }
 
 // Brings the names of an external declaration into file scope, and puts the instructions of the function that it defines
-// behind those of others.
+// after those of others.
 fn resolve_external<'a>(
     alloc: Global,
     names: &mut Environment<'a>,

@@ -4,7 +4,7 @@ use Rattle.cc_syntax.specs.Tree.{Name, Object, External}
 use Rattle.cc_typing.specs.internal.Counts.{defines}
 use Rattle.cc_typing.specs.Types.{object_words}
 
--- the offset behind some objects, of which the first begins at an offset
+-- the offset after some objects, of which the first begins at an offset
 abbrev pub offset_behind : ℕ → List Object → ℕ
 offset_behind at [] = at
 offset_behind at (o ∷ rest) = offset_behind (at + object_words o) rest

@@ -56,7 +56,7 @@ objects_in (Declaration s) = []
 objects_in (Definition s body) = []
 objects_in (Objects t os) = os
 
--- the names of the functions that are defined behind an external declaration
+-- the names of the functions that are defined after an external declaration
 abbrev pub defined_after : List (List ℕ) → External → List (List ℕ)
 defined_after d (Declaration s) = d
 defined_after d (Definition s body) = s.name.text ∷ d

@@ -1,7 +1,7 @@
 -- What the code has found so far.
 use Rattle.std.specs.Prelude.{ℕ, ◌==◌, ◌&&◌, ◌||◌, ◌++◌, Bool, true, false, List, [], ◌∷◌, Option, Some, None, if◌then◌else◌, nat_lt}
-use Rattle.cc_syntax.specs.declared.ast.Scalar.{Scalar}
-use Rattle.cc_syntax.specs.Tree.{Name, Expr, Declared}
+use Rattle.cc_tokens.specs.declared.scalar.Scalar.{Scalar}
+use Rattle.cc_syntax.specs.Tree.{Name, Expr, Declarator}
 use Rattle.cc_typing.specs.Fault.{rule_number}
 use Rattle.cc_typing.specs.Rules.{undefined_among, Around, broken_if, optional_offences}
 use Rattle.cc_typing.specs.Scope.{Variable, Visible, in_scope, declared, is_declared}
@@ -42,7 +42,7 @@ abbrev pub around_of : Surroundings → Around
 around_of a = record { result = a.result; in_loop = a.in_loop }
 
 -- one name of a declaration of locals
-abbrev pub declarator_offences : Scalar → Declared → Visible → List Offence
+abbrev pub declarator_offences : Scalar → Declarator → Visible → List Offence
 declarator_offences t d v =
     broken_if (is_declared v.inner d.name.text) Redeclared d.name.at ++ optional_offences (in_scope (declared d.name.text (Variable t) v)) d.initial
 

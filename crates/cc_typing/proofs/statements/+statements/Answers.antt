@@ -7,7 +7,7 @@ use Rattle.cc_typing.specs.Scope.{Visible, in_scope, opened}
 use Rattle.cc_typing.specs.Rules.{value_offences, statement_offences, statements_offences, called_in, called_in_statement, called_in_statements}
 use Rattle.cc_typing.proofs.SameTypes.{drop-item}
 use Rattle.cc_typing.proofs.Trees.{statement_tree-block, statement_tree-if, statement_tree-if_else, statement_tree-while, statement_tree-do_while, statement_tree-for}
-use Rattle.cc_typing.proofs.Walks.{on_ok, scope_behind_outer, scope_behind_start_outer, closes, closed-is, Walking, Walking-next, if-found, if_else-found, while-found, do_while-found, for-found}
+use Rattle.cc_typing.proofs.Walks.{on_ok, scope_behind_outer, scope_behind_beginning_outer, closes, closed-is, Walking, Walking-next, if-found, if_else-found, while-found, do_while-found, for-found}
 use Rattle.cc_typing.proofs.statements.+statements.Goals as goal
 
 pub all_statements-loop-tree-preserved : goal.all_statements-loop-tree-preserved
@@ -33,7 +33,7 @@ for_statement-close-requires t c =
     let first = beginning_tree c.args.first.now in
     let outer : c.inner_statement.new.scope.outer ≡ in_scope c.args.scope.now =
     ap (λ (v : Visible). v.outer) c.in_ok-inner_statement.ensures.scope ∙ ap (λ (v : Visible). v.outer) c.in_ok-beginning.ensures.scope
-    ∙ scope_behind_start_outer first c.open-names.new.self ∙ ap (λ (v : Visible). v.outer) c.open-names.ensures.scope in
+    ∙ scope_behind_beginning_outer first c.open-names.new.self ∙ ap (λ (v : Visible). v.outer) c.open-names.ensures.scope in
     closes c.args.scope.now c.inner_statement.new.scope c.open-names.result outer c.open-names.ensures.around
 
 pub for_statement-returns-clause-scope : goal.for_statement-returns-clause-scope
@@ -41,7 +41,7 @@ for_statement-returns-clause-scope t c =
     let first = beginning_tree c.args.first.now in
     let outer : c.inner_statement.new.scope.outer ≡ in_scope c.args.scope.now =
     ap (λ (v : Visible). v.outer) c.in_ok-inner_statement.ensures.scope ∙ ap (λ (v : Visible). v.outer) c.in_ok-beginning.ensures.scope
-    ∙ scope_behind_start_outer first c.open-names.new.self ∙ ap (λ (v : Visible). v.outer) c.open-names.ensures.scope in
+    ∙ scope_behind_beginning_outer first c.open-names.new.self ∙ ap (λ (v : Visible). v.outer) c.open-names.ensures.scope in
     closed-is c.args.scope.now c.inner_statement.new.scope c.close.new.self c.open-names.result outer c.open-names.ensures.around c.close.ensures
 
 pub for_statement-returns-clause-found : goal.for_statement-returns-clause-found

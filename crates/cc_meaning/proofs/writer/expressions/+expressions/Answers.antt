@@ -1,7 +1,7 @@
--- A call behind its arguments, and an operator behind its operands.
+-- A call after its arguments, and an operator after its operands.
 use Rattle.std.proofs.Common.{◌≡◌, ◌∙◌, ◌++◌, ap, sym, List}
 use Rattle.cc_syntax.specs.declared.ast.Expression.{Expression}
-use Rattle.cc_syntax.specs.declared.ast.Scalar.{Scalar}
+use Rattle.cc_tokens.specs.declared.scalar.Scalar.{Scalar}
 use Rattle.cc_syntax.specs.Erase.{name_tree, expression_tree, expressions_of}
 use Rattle.cc_syntax.specs.Tree as tree
 use Rattle.cc_meaning.specs.internal.Emitted.{short_cut, operated}

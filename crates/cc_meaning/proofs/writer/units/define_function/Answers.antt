@@ -1,4 +1,4 @@
--- Behind a function the scope is file scope again.
+-- After a function the scope is file scope again.
 use Rattle.cc_syntax.specs.Erase.{signature_tree}
 use Rattle.cc_typing.specs.Bindings.{file_of}
 use Rattle.cc_typing.proofs.Walks.{on_ok}
