@@ -28,35 +28,38 @@ pub statement-returns-in-While-clause-code : goal.statement-returns-in-While-cla
 statement-returns-in-While-clause-code t c =
     let v = c.args.names.now in
     let x = exits_of (length c.args.code.now) c.args.exits in
-    let test = expression_tree c.in-While.test in
+    let test = expression_tree c.in-While.test.value in
     on_ok c.while_loop.result
     (λ e w h. statement-is (statement_tree c.args.tree.now) (While test (statement_tree c.in-While.body.value)) v w x c.args.code.now c.while_loop.new.code
     (ap statement_tree c.in-While.is ∙ statement_tree-while c.in-While.test c.in-While.body) h refl
-    (e x ∙ ap (λ s. statement_code v x (While test (statement_tree s)) ++ c.args.code.now) c.deref-in-While.ensures))
+    (e x ∙ ap (λ q. statement_code v x (While (expression_tree q) (statement_tree c.deref-in-While.result.now)) ++ c.args.code.now) c.deref-in-While-2.ensures
+    ∙ ap (λ s. statement_code v x (While test (statement_tree s)) ++ c.args.code.now) c.deref-in-While.ensures))
     c.while_loop.ensures.code
 
 pub statement-returns-in-DoWhile-clause-code : goal.statement-returns-in-DoWhile-clause-code
 statement-returns-in-DoWhile-clause-code t c =
     let v = c.args.names.now in
     let x = exits_of (length c.args.code.now) c.args.exits in
-    let test = expression_tree c.in-DoWhile.test in
+    let test = expression_tree c.in-DoWhile.test.value in
     on_ok c.do_loop.result
     (λ e w h. statement-is (statement_tree c.args.tree.now) (DoWhile (statement_tree c.in-DoWhile.body.value) test) v w x c.args.code.now c.do_loop.new.code
     (ap statement_tree c.in-DoWhile.is ∙ statement_tree-do_while c.in-DoWhile.body c.in-DoWhile.test) h refl
-    (e x ∙ ap (λ s. statement_code v x (DoWhile (statement_tree s) test) ++ c.args.code.now) c.deref-in-DoWhile.ensures))
+    (e x ∙ ap (λ q. statement_code v x (DoWhile (statement_tree c.deref-in-DoWhile.result.now) (expression_tree q)) ++ c.args.code.now) c.deref-in-DoWhile-2.ensures
+    ∙ ap (λ s. statement_code v x (DoWhile (statement_tree s) test) ++ c.args.code.now) c.deref-in-DoWhile.ensures))
     c.do_loop.ensures.code
 
 pub statement-returns-in-For-clause-code : goal.statement-returns-in-For-clause-code
 statement-returns-in-For-clause-code t c =
     let v = c.args.names.now in
     let x = exits_of (length c.args.code.now) c.args.exits in
-    let first = beginning_tree c.in-For.first in
+    let first = beginning_tree c.in-For.first.value in
     let test = optional_tree c.in-For.test in
     let following = optional_action c.in-For.following in
     on_ok c.for_loop.result
     (λ e w h. statement-is (statement_tree c.args.tree.now) (For first test following (statement_tree c.in-For.body.value)) v w x c.args.code.now c.for_loop.new.code
     (ap statement_tree c.in-For.is ∙ statement_tree-for c.in-For.first c.in-For.test c.in-For.following c.in-For.body) h refl
-    (e x ∙ ap (λ s. statement_code v x (For first test following (statement_tree s)) ++ c.args.code.now) c.deref-in-For.ensures))
+    (e x ∙ ap (λ b. statement_code v x (For (beginning_tree b) test following (statement_tree c.deref-in-For-2.result.now)) ++ c.args.code.now) c.deref-in-For.ensures
+    ∙ ap (λ s. statement_code v x (For first test following (statement_tree s)) ++ c.args.code.now) c.deref-in-For-2.ensures))
     c.for_loop.ensures.code
 
 pub statements-loop-tree-2-init : goal.statements-loop-tree-2-init
