@@ -101,7 +101,7 @@ pub fn lay_out<'a>(
     trees: &'a [External],
 ) -> Result<Layout<'a>, AllocError>
     requires { words.old.items ≡ [] }
-    ensures layout { IfOk result (λ p. p ≡ layout_of (external_trees trees.now)) }
+    ensures answer { IfOk result (λ p. p ≡ layout_of (external_trees trees.now)) }
     ensures words { OnOk result (words.new.items ≡ all_words (objects (external_trees trees.now))) }
 {
     let mut layout = Layout::new(alloc);

@@ -31,7 +31,7 @@ const MAIN: &[u8] = b"main";
 /// number. Where there is none, a unit without `main` has 19, at the end of the text; and where `main` is there, the first
 /// call of a function that is not defined has 20. 40 comes where memory runs out. The unit is given up on an `Err`.
 pub fn check(alloc: Global, unit: Unit) -> Result<TypedUnit, TypeFault>
-    ensures unit { IfOk result (λ t. t ≡ unit) }
+    ensures answer { IfOk result (λ t. t ≡ unit) }
     ensures typed { OnOk result (IsTyped (source unit).externals) }
     ensures limits { OnOk result (IsWithinLimits (source unit).externals) }
     ensures refused { IfErr result (λ f. (f ≡ TypeFault.OutOfMemory) ⊎ IsTypeRefusal (source unit) f) }

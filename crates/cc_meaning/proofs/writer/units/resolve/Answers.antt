@@ -11,7 +11,7 @@ use Rattle.cc_meaning.proofs.writer.units.resolve.Goals as goal
 pub loop-tree-init : goal.loop-tree-init
 loop-tree-init c =
     Resolving-first (external_trees c.args.trees.now) c.in_ok-layout.layout c.in_ok-names.names c.new-code.result.items c.new-functions.result.items
-    c.in_ok-names.ensures c.in_ok-layout.ensures.layout c.new-code.ensures.items c.new-functions.ensures.items
+    c.in_ok-names.ensures c.in_ok-layout.ensures.answer c.new-code.ensures.items c.new-functions.ensures.items
 
 pub loop-tree-preserved : goal.loop-tree-preserved
 loop-tree-preserved c =
@@ -25,4 +25,4 @@ returns c =
     let all = external_trees c.args.trees.now in
     let left = ap external_trees (drop_all c.loop-tree.tree-index c.args.trees.now (omega (arith, c.loop-tree-test.false))) in
     form-is all c.in_ok-layout.layout c.loop-tree.names c.loop-tree.code.items c.loop-tree.functions.items _ c.function-main.result c.lay_out.new.words.items
-    c.loop-tree.invariant left c.in_ok-layout.ensures.layout c.function-main.ensures c.in_ok-layout.ensures.words
+    c.loop-tree.invariant left c.in_ok-layout.ensures.answer c.function-main.ensures c.in_ok-layout.ensures.words
