@@ -1,6 +1,6 @@
 // From a parsed unit to a typed one.
 
-ghost use Rattle.std.specs.Prelude.{◌≡◌, ◌⊎◌, ℕ, List, None, IfOk, IfErr, OnOk};
+ghost use Rattle.std.specs.Prelude.{◌≡◌, ◌⊎◌, ◌∷◌, ℕ, List, None, IfOk, IfErr, OnOk, codes};
 ghost use Rattle.cc_syntax.specs.Source.{source};
 ghost use Rattle.cc_tokens.specs.Place.{place_of};
 ghost use Rattle.cc_syntax.specs.Erase.{external_tree, external_trees};
@@ -64,12 +64,38 @@ fn first_offences(alloc: Global, externals: &[External]) -> Result<FirstOffences
     ensures undefined { IfOk result (λ r. r.undefined ≡ noted None (undefined_calls (external_trees externals.now))) }
 {
     let mut findings = Findings::new(definitions(alloc, externals)?);
-    let mut scope = Scope::new(alloc)?;
-    all_externals(&mut scope, &mut findings, builtins(alloc)?, externals)?;
-    Ok(FirstOffences {
+    let mut scope = match Scope::new(alloc) {
+        Ok(scope) => scope,
+        Err(error) => {
+            drop(findings);
+            return Err(error);
+        }
+    };
+    let mut defined = match builtins(alloc) {
+        Ok(defined) => defined,
+        Err(error) => {
+            drop(scope);
+            drop(findings);
+            return Err(error);
+        }
+    };
+    let walked = all_externals(&mut scope, &mut findings, &mut defined, externals);
+    drop(defined);
+    drop(scope);
+    let found = FirstOffences {
         first: with_excesses(findings.first(), externals),
         undefined: findings.undefined(),
-    })
+    };
+    drop(findings);
+    walked?;
+    Ok(found)
+}
+
+fn insert_builtins(names: &mut Names<'_>) -> Result<(), AllocError>
+    ensures { OnOk result ((x : List ℕ) → has_name names.new x ≡ has_name (codes "write_word" ∷ codes "read_word" ∷ names.old) x) }
+{
+    names.insert(READ_WORD)?;
+    names.insert(WRITE_WORD)
 }
 
 // The functions that are defined before a text begins.
@@ -77,9 +103,13 @@ fn builtins<'a>(alloc: Global) -> Result<Names<'a>, AllocError>
     ensures { IfOk result (λ r. (x : List ℕ) → has_name r x ≡ has_name first_file_scope.defined x) }
 {
     let mut names = Names::new(alloc);
-    names.insert(READ_WORD)?;
-    names.insert(WRITE_WORD)?;
-    Ok(names)
+    match insert_builtins(&mut names) {
+        Ok(()) => Ok(names),
+        Err(error) => {
+            drop(names);
+            Err(error)
+        }
+    }
 }
 
 fn define<'a>(names: &mut Names<'a>, external: &'a External) -> Result<(), AllocError>
@@ -97,7 +127,13 @@ fn definitions<'a>(alloc: Global, externals: &'a [External]) -> Result<Names<'a>
 {
     let mut names = builtins(alloc)?;
     for external in externals {
-        define(&mut names, external)?;
+        match define(&mut names, external) {
+            Ok(()) => {}
+            Err(error) => {
+                drop(names);
+                return Err(error);
+            }
+        }
     }
     Ok(names)
 }

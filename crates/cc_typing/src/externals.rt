@@ -192,14 +192,14 @@ fn external<'a>(
 pub fn all_externals<'a>(
     scope: &mut Scope<'a>,
     findings: &mut Findings,
-    mut defined: Names<'a>,
+    defined: &mut Names<'a>,
     trees: &'a [External],
 ) -> Result<(), AllocError>
     requires { scope.old.inner ≡ [] }
-    ensures { OnOk result (findings.new ≡ after findings.old (externals_offences (external_trees trees.now) (file_with scope.old defined.entry)) (called (external_trees trees.now))) }
+    ensures { OnOk result (findings.new ≡ after findings.old (externals_offences (external_trees trees.now) (file_with scope.old defined.old)) (called (external_trees trees.now))) }
 {
     for tree in trees {
-        external(scope, findings, &mut defined, tree)?;
+        external(scope, findings, defined, tree)?;
     }
     Ok(())
 }
