@@ -1,18 +1,21 @@
 -- The instructions of assignments, of other actions and of declarations do what the source says.
 use Rattle.std.proofs.Common.{◌≡◌, ℕ, suc, ◌+◌, ◌<◌, Bool, true, false, if◌then◌else◌, List, [], ◌∷◌, length, nat_lt, inl, inr, Option, Some, None, slice_get, slice_set, unwrap_or, refl, sym, ap, ◌∙◌, subst, arith}
 use Rattle.std.proofs.lemmas.Bool.Decides.{leb_tells}
-use Rattle.cc_syntax.specs.declared.ast.Scalar.{Scalar}
+use Rattle.cc_tokens.specs.declared.scalar.Scalar.{Scalar}
 use Rattle.cc_syntax.specs.declared.ast.BinaryOperator.{BinaryOperator}
 use Rattle.cc_typing.specs.Operators.{working_type, binary_word}
-use Rattle.cc_typing.specs.declared.form.Extent.{Extent}
-use Rattle.cc_typing.specs.declared.form.BinaryOperation.{BinaryOperation}
-use Rattle.cc_typing.specs.declared.form.Instruction.TheVariants as instruction
-use Rattle.cc_typing.specs.Resolve.{FormTree, Environment, number_in, extent_of, operation, store_of, store_element_of, applied}
+use Rattle.cc_resolve.specs.declared.layout.Extent.{Extent}
+use Rattle.cc_resolve.specs.declared.operations.BinaryOperation.{BinaryOperation}
+use Rattle.cc_meaning.specs.declared.form.Instruction.TheVariants as instruction
+use Rattle.cc_meaning.specs.internal.Form.{FormTree, store_of, store_element_of, applied}
+use Rattle.cc_resolve.specs.Environment.{Environment, number_in}
+use Rattle.cc_resolve.specs.Layout.{extent_of}
+use Rattle.cc_resolve.specs.Operations.{operation}
 use Rattle.cc_meaning.specs.Outcome as outcome
 use Rattle.cc_meaning.specs.declared.outcome.Cause.TheVariants.{Index}
 use Rattle.cc_meaning.specs.Meaning as meaning
 use Rattle.cc_meaning.specs.Meaning.{State, Run, Gives, Going, Wrong, Flow, Falls, then_do, Calls, words_of, with_element, with_local_word, variable_word, stored, read_element, write_element, cause_of, given, evaluate, evaluate_or, Destination, ToVariable, ToElement, old_value, write, new_value, perform, perform_optional, declare}
-use Rattle.cc_meaning.specs.FormMeaning.{Activation, Configuration, Move, Goes, Stops, instruction_move, binary_result, cause_of_operation, only_if, with_word, operated}
+use Rattle.cc_meaning.specs.internal.FormMeaning.{Activation, Configuration, Move, Goes, Stops, instruction_move, binary_result, cause_of_operation, only_if, with_word, operated}
 use Rattle.cc_meaning.proofs.Named.{there}
 use Rattle.cc_meaning.proofs.Held.{reads_local, no_local, all_of, get_past}
 use Rattle.cc_meaning.proofs.Moves.{Leads, leads_then, conf, Meets, meets_after, meets_same, instructed, instructed_last}
@@ -73,28 +76,28 @@ module _ (form : FormTree) (cs : List Activation) (total : ℕ) where
         variables = λ w. slice_set vs i w;
         fits = λ w. (q w).fits;
         sets = λ p w.
-            ap (λ (o : Option ℕ). instruction_move form (elim o [ None ↦ instruction.SetGlobal (extent_of v.places.objects x).place | Some k ↦ instruction.SetLocal k ]) (conf p vs (w ∷ []) cs s)) e ∙ one p w;
+            ap (λ (o : Option ℕ). instruction_move form (elim o [ None ↦ instruction.SetGlobal (extent_of v.layout.objects x).offset | Some k ↦ instruction.SetLocal k ]) (conf p vs (w ∷ []) cs s)) e ∙ one p w;
         updates = λ p w o.
-            ap (λ (n : Option ℕ). instruction_move form (elim n [ None ↦ instruction.UpdateGlobal o (extent_of v.places.objects x).place | Some k ↦ instruction.UpdateLocal o k ]) (conf p vs (w ∷ []) cs s)) e
+            ap (λ (n : Option ℕ). instruction_move form (elim n [ None ↦ instruction.UpdateGlobal o (extent_of v.layout.objects x).offset | Some k ↦ instruction.UpdateLocal o k ]) (conf p vs (w ∷ []) cs s)) e
             ∙ ap (λ (n : Option ℕ). with_word n (λ k. operated o k w (λ new. only_if (nat_lt i (length vs)) (Goes (conf p (slice_set vs i new) [] cs s))))) here
             ∙ option_same (binary_result o r.word w) (Stops (outcome.Wrong (cause_of_operation o))) _ (λ new. Goes (conf p (slice_set vs i new) [] cs (stored x new s))) (λ new. one p new)
             ∙ ap (λ k. operated o k w (λ new. Goes (conf p (slice_set vs i new) [] cs (stored x new s)))) old;
       }
 
-  pub stores_global : (v : Environment) (most : ℕ) (vs : List ℕ) (s : State) (x : List ℕ) → Fits v total most vs s → number_in v.locals x ≡ None → (extent_of v.places.objects x).length ≡ 1 → Stores v most vs s x
+  pub stores_global : (v : Environment) (most : ℕ) (vs : List ℕ) (s : State) (x : List ℕ) → Fits v total most vs s → number_in v.locals x ≡ None → (extent_of v.layout.objects x).length ≡ 1 → Stores v most vs s x
   stores_global v most vs s x h e one =
-      let place : ℕ = (extent_of v.places.objects x).place in
+      let offset : ℕ = (extent_of v.layout.objects x).offset in
       let f = found_object v total most vs s x h in
       let q : (w : ℕ) → Puts v total most vs s x 0 w = λ w. puts_element v total most vs s x 0 w h (omega arith) in
       let is : (w : ℕ) → stored x w s ≡ record s { globals = with_element x 0 w s.globals } = λ w. stored_object v total most vs s x w h e in
-      let at : place + 0 ≡ place = omega arith in
-      let set : (p w : ℕ) → only_if (nat_lt place (length (all_of s.globals))) (Goes (record (conf p vs [] cs s) { globals = slice_set (all_of s.globals) place w })) ≡ Goes (conf p vs [] cs (stored x w s)) =
+      let at : offset + 0 ≡ offset = omega arith in
+      let set : (p w : ℕ) → only_if (nat_lt offset (length (all_of s.globals))) (Goes (record (conf p vs [] cs s) { globals = slice_set (all_of s.globals) offset w })) ≡ Goes (conf p vs [] cs (stored x w s)) =
       λ p w.
-      ap (λ b. only_if b (Goes (record (conf p vs [] cs s) { globals = slice_set (all_of s.globals) place w }))) (subst (λ k. nat_lt k (length (all_of s.globals)) ≡ true) at (q w).below)
+      ap (λ b. only_if b (Goes (record (conf p vs [] cs s) { globals = slice_set (all_of s.globals) offset w }))) (subst (λ k. nat_lt k (length (all_of s.globals)) ≡ true) at (q w).below)
       ∙ ap (λ gs. Goes (record (conf p vs [] cs s) { globals = gs })) (subst (λ k. slice_set (all_of s.globals) k w ≡ all_of (with_element x 0 w s.globals)) at (q w).words)
       ∙ ap (λ t. Goes (conf p vs [] cs t)) (sym (is w)) in
       let got = there (words_of s.globals x) 0 (let k = f.size in omega arith) in
-      let here : slice_get (all_of s.globals) place ≡ Some got.0 = ap (λ k. slice_get (all_of s.globals) k) (sym at) ∙ f.reads 0 (omega arith) ∙ got.1 in
+      let here : slice_get (all_of s.globals) offset ≡ Some got.0 = ap (λ k. slice_get (all_of s.globals) k) (sym at) ∙ f.reads 0 (omega arith) ∙ got.1 in
       let none : meaning.local_word s.locals x ≡ None = no_local s.locals x (ap (λ ns. number_in ns x) h.names ∙ e) in
       let old : got.0 ≡ variable_word x s =
       sym (ap (λ (o : Option ℕ). unwrap_or o 0) got.1) ∙ sym (ap (λ (o : Option ℕ). unwrap_or o (unwrap_or (slice_get (words_of s.globals x) 0) 0)) none) in
@@ -102,10 +105,10 @@ module _ (form : FormTree) (cs : List Activation) (total : ℕ) where
         variables = λ w. vs;
         fits = λ w. subst (λ t. Fits v total most vs t) (sym (is w)) (q w).fits;
         sets = λ p w.
-            ap (λ (o : Option ℕ). instruction_move form (elim o [ None ↦ instruction.SetGlobal place | Some k ↦ instruction.SetLocal k ]) (conf p vs (w ∷ []) cs s)) e ∙ set p w;
+            ap (λ (o : Option ℕ). instruction_move form (elim o [ None ↦ instruction.SetGlobal offset | Some k ↦ instruction.SetLocal k ]) (conf p vs (w ∷ []) cs s)) e ∙ set p w;
         updates = λ p w o.
-            ap (λ (n : Option ℕ). instruction_move form (elim n [ None ↦ instruction.UpdateGlobal o place | Some k ↦ instruction.UpdateLocal o k ]) (conf p vs (w ∷ []) cs s)) e
-            ∙ ap (λ (n : Option ℕ). with_word n (λ k. operated o k w (λ new. only_if (nat_lt place (length (all_of s.globals))) (Goes (record (conf p vs [] cs s) { globals = slice_set (all_of s.globals) place new }))))) here
+            ap (λ (n : Option ℕ). instruction_move form (elim n [ None ↦ instruction.UpdateGlobal o offset | Some k ↦ instruction.UpdateLocal o k ]) (conf p vs (w ∷ []) cs s)) e
+            ∙ ap (λ (n : Option ℕ). with_word n (λ k. operated o k w (λ new. only_if (nat_lt offset (length (all_of s.globals))) (Goes (record (conf p vs [] cs s) { globals = slice_set (all_of s.globals) offset new }))))) here
             ∙ option_same (binary_result o got.0 w) (Stops (outcome.Wrong (cause_of_operation o))) _ (λ new. Goes (conf p vs [] cs (stored x new s))) (λ new. set p new)
             ∙ ap (λ k. operated o k w (λ new. Goes (conf p vs [] cs (stored x new s)))) old;
       }
@@ -140,59 +143,59 @@ module _ (form : FormTree) (cs : List Activation) (total : ℕ) where
   -- ---- elements
 
   -- an array and an index in it, or not
-  element_set_by : (v : Environment) (most : ℕ) (vs : List ℕ) (x : List ℕ) (i p w : ℕ) (s : State) (b : Bool) → nat_lt i (extent_of v.places.objects x).length ≡ b → Fits v total most vs s
-      → slice_get form.code p ≡ Some (instruction.SetElement (extent_of v.places.objects x)) → (b ≡ true → Puts v total most vs s x i w)
+  element_set_by : (v : Environment) (most : ℕ) (vs : List ℕ) (x : List ℕ) (i p w : ℕ) (s : State) (b : Bool) → nat_lt i (extent_of v.layout.objects x).length ≡ b → Fits v total most vs s
+      → slice_get form.code p ≡ Some (instruction.SetElement (extent_of v.layout.objects x)) → (b ≡ true → Puts v total most vs s x i w)
       → Meets form (conf p vs (w ∷ i ∷ []) cs s) (Acted form cs total (conf p vs (w ∷ i ∷ []) cs s) v most (p + 1)) (if b then Gives Falls (record s { globals = with_element x i w s.globals }) else Wrong Index s.output)
   element_set_by v most vs x i p w s true is h e q =
-      let ext : Extent = extent_of v.places.objects x in
+      let ext : Extent = extent_of v.layout.objects x in
       let t : State = record s { globals = with_element x i w s.globals } in
-      let move : Move = only_if (nat_lt (ext.place + i) (length (all_of s.globals))) (Goes (record (conf (p + 1) vs [] cs s) { globals = slice_set (all_of s.globals) (ext.place + i) w })) in
+      let move : Move = only_if (nat_lt (ext.offset + i) (length (all_of s.globals))) (Goes (record (conf (p + 1) vs [] cs s) { globals = slice_set (all_of s.globals) (ext.offset + i) w })) in
       record {
         falls = refl;
         variables = vs;
         fits = (q refl).fits;
         leads = instructed form (instruction.SetElement ext) p vs (w ∷ i ∷ []) cs s (conf (p + 1) vs [] cs t) e
             (ap (λ b. if b then move else Stops (outcome.Wrong Index)) is
-            ∙ ap (λ b. only_if b (Goes (record (conf (p + 1) vs [] cs s) { globals = slice_set (all_of s.globals) (ext.place + i) w }))) (q refl).below
+            ∙ ap (λ b. only_if b (Goes (record (conf (p + 1) vs [] cs s) { globals = slice_set (all_of s.globals) (ext.offset + i) w }))) (q refl).below
             ∙ ap (λ gs. Goes (record (conf (p + 1) vs [] cs s) { globals = gs })) (q refl).words);
       }
   element_set_by v most vs x i p w s false is h e q =
-      let ext : Extent = extent_of v.places.objects x in
-      let move : Move = only_if (nat_lt (ext.place + i) (length (all_of s.globals))) (Goes (record (conf (p + 1) vs [] cs s) { globals = slice_set (all_of s.globals) (ext.place + i) w })) in
+      let ext : Extent = extent_of v.layout.objects x in
+      let move : Move = only_if (nat_lt (ext.offset + i) (length (all_of s.globals))) (Goes (record (conf (p + 1) vs [] cs s) { globals = slice_set (all_of s.globals) (ext.offset + i) w })) in
       instructed_last form (instruction.SetElement ext) p vs (w ∷ i ∷ []) cs s (outcome.Wrong Index) e (ap (λ b. if b then move else Stops (outcome.Wrong Index)) is)
 
   -- the index is in the array of both
-  size_is : (v : Environment) (most : ℕ) (vs : List ℕ) (x : List ℕ) (i : ℕ) (s : State) → Fits v total most vs s → nat_lt i (length (words_of s.globals x)) ≡ nat_lt i (extent_of v.places.objects x).length
+  size_is : (v : Environment) (most : ℕ) (vs : List ℕ) (x : List ℕ) (i : ℕ) (s : State) → Fits v total most vs s → nat_lt i (length (words_of s.globals x)) ≡ nat_lt i (extent_of v.layout.objects x).length
   size_is v most vs x i s h = ap (nat_lt i) (sym (found_object v total most vs s x h).size)
 
-  in_array : (v : Environment) (i : ℕ) (x : List ℕ) → nat_lt i (extent_of v.places.objects x).length ≡ true → i < (extent_of v.places.objects x).length
-  in_array v i x e = elim (leb_tells (suc i) (extent_of v.places.objects x).length) [ inl t ↦ t.1 | inr t ↦ absurd (let f : true ≡ false = sym e ∙ t.0 in cc) ]
+  in_array : (v : Environment) (i : ℕ) (x : List ℕ) → nat_lt i (extent_of v.layout.objects x).length ≡ true → i < (extent_of v.layout.objects x).length
+  in_array v i x e = elim (leb_tells (suc i) (extent_of v.layout.objects x).length) [ inl t ↦ t.1 | inr t ↦ absurd (let f : true ≡ false = sym e ∙ t.0 in cc) ]
 
   -- the element that an update reads, and what the operator gives
   element_move : (v : Environment) (most : ℕ) (vs : List ℕ) (op : BinaryOperator) (t : Scalar) (x : List ℕ) (i p w old : ℕ) (s : State) (o : Option ℕ) → IsPlain op → binary_word op t old w ≡ o
-      → nat_lt i (extent_of v.places.objects x).length ≡ true → slice_get (all_of s.globals) ((extent_of v.places.objects x).place + i) ≡ Some old
-      → instruction_move form (instruction.UpdateElement (operation op t) (extent_of v.places.objects x)) (conf p vs (w ∷ i ∷ []) cs s)
+      → nat_lt i (extent_of v.layout.objects x).length ≡ true → slice_get (all_of s.globals) ((extent_of v.layout.objects x).offset + i) ≡ Some old
+      → instruction_move form (instruction.UpdateElement (operation op t) (extent_of v.layout.objects x)) (conf p vs (w ∷ i ∷ []) cs s)
       ≡ elim o [
         | None ↦ Stops (outcome.Wrong (cause_of op))
-        | Some new ↦ only_if (nat_lt ((extent_of v.places.objects x).place + i) (length (all_of s.globals)))
-            (Goes (record (conf p vs [] cs s) { globals = slice_set (all_of s.globals) ((extent_of v.places.objects x).place + i) new }))
+        | Some new ↦ only_if (nat_lt ((extent_of v.layout.objects x).offset + i) (length (all_of s.globals)))
+            (Goes (record (conf p vs [] cs s) { globals = slice_set (all_of s.globals) ((extent_of v.layout.objects x).offset + i) new }))
       ]
   element_move v most vs op t x i p w old s o plain is lt here =
-      let ext : Extent = extent_of v.places.objects x in
-      let go : ℕ → Move = λ new. only_if (nat_lt (ext.place + i) (length (all_of s.globals))) (Goes (record (conf p vs [] cs s) { globals = slice_set (all_of s.globals) (ext.place + i) new })) in
-      ap (λ b. if b then with_word (slice_get (all_of s.globals) (ext.place + i)) (λ k. operated (operation op t) k w go) else Stops (outcome.Wrong Index)) lt
+      let ext : Extent = extent_of v.layout.objects x in
+      let go : ℕ → Move = λ new. only_if (nat_lt (ext.offset + i) (length (all_of s.globals))) (Goes (record (conf p vs [] cs s) { globals = slice_set (all_of s.globals) (ext.offset + i) new })) in
+      ap (λ b. if b then with_word (slice_get (all_of s.globals) (ext.offset + i)) (λ k. operated (operation op t) k w go) else Stops (outcome.Wrong Index)) lt
       ∙ ap (λ (n : Option ℕ). with_word n (λ k. operated (operation op t) k w go)) here
       ∙ operated_is op t old w o go plain is
 
   element_update_by : (v : Environment) (most : ℕ) (vs : List ℕ) (op : BinaryOperator) (t : Scalar) (x : List ℕ) (i p w old : ℕ) (s : State) (o : Option ℕ) → IsPlain op → binary_word op t old w ≡ o
-      → nat_lt i (extent_of v.places.objects x).length ≡ true → Fits v total most vs s → slice_get (all_of s.globals) ((extent_of v.places.objects x).place + i) ≡ Some old
-      → slice_get form.code p ≡ Some (instruction.UpdateElement (operation op t) (extent_of v.places.objects x))
+      → nat_lt i (extent_of v.layout.objects x).length ≡ true → Fits v total most vs s → slice_get (all_of s.globals) ((extent_of v.layout.objects x).offset + i) ≡ Some old
+      → slice_get form.code p ≡ Some (instruction.UpdateElement (operation op t) (extent_of v.layout.objects x))
       → Meets form (conf p vs (w ∷ i ∷ []) cs s) (Acted form cs total (conf p vs (w ∷ i ∷ []) cs s) v most (p + 1)) (then_do (given op o s) (λ new y. write_element x i new y))
   element_update_by v most vs op t x i p w old s None plain is lt h here e =
-      instructed_last form (instruction.UpdateElement (operation op t) (extent_of v.places.objects x)) p vs (w ∷ i ∷ []) cs s (outcome.Wrong (cause_of op)) e
+      instructed_last form (instruction.UpdateElement (operation op t) (extent_of v.layout.objects x)) p vs (w ∷ i ∷ []) cs s (outcome.Wrong (cause_of op)) e
       (element_move v most vs op t x i (p + 1) w old s None plain is lt here)
   element_update_by v most vs op t x i p w old s (Some new) plain is lt h here e =
-      let ext : Extent = extent_of v.places.objects x in
+      let ext : Extent = extent_of v.layout.objects x in
       let q = puts_element v total most vs s x i new h (in_array v i x lt) in
       let u : State = record s { globals = with_element x i new s.globals } in
       let c = conf p vs (w ∷ i ∷ []) cs s in
@@ -204,7 +207,7 @@ module _ (form : FormTree) (cs : List Activation) (total : ℕ) where
         fits = q.fits;
         leads = instructed form (instruction.UpdateElement (operation op t) ext) p vs (w ∷ i ∷ []) cs s (conf (p + 1) vs [] cs u) e
             (element_move v most vs op t x i (p + 1) w old s (Some new) plain is lt here
-            ∙ ap (λ b. only_if b (Goes (record (conf (p + 1) vs [] cs s) { globals = slice_set (all_of s.globals) (ext.place + i) new }))) q.below
+            ∙ ap (λ b. only_if b (Goes (record (conf (p + 1) vs [] cs s) { globals = slice_set (all_of s.globals) (ext.offset + i) new }))) q.below
             ∙ ap (λ gs. Goes (record (conf (p + 1) vs [] cs s) { globals = gs })) q.words);
       })
 
@@ -213,13 +216,13 @@ module _ (form : FormTree) (cs : List Activation) (total : ℕ) where
       → Meets form (conf p vs (w ∷ i ∷ []) cs s) (Acted form cs total (conf p vs (w ∷ i ∷ []) cs s) v most (p + 1)) (then_do (new_value op t u (ToElement x i) w s) (λ new y. write (ToElement x i) new y))
   element_store_meets v most vs None t u x i p w s plain h e =
       let c = conf p vs (w ∷ i ∷ []) cs s in
-      let b = nat_lt i (extent_of v.places.objects x).length in
+      let b = nat_lt i (extent_of v.layout.objects x).length in
       meets_same form c (Acted form cs total c v most (p + 1)) (write_element x i w s) (if b then Gives Falls (record s { globals = with_element x i w s.globals }) else Wrong Index s.output)
       (ap (λ k. if k then Gives Falls (record s { globals = with_element x i w s.globals }) else Wrong Index s.output) (size_is v most vs x i s h))
       (element_set_by v most vs x i p w s b refl h e (λ lt. puts_element v total most vs s x i w h (in_array v i x lt)))
   element_store_meets v most vs (Some op) t u x i p w s plain h e =
       let c = conf p vs (w ∷ i ∷ []) cs s in
-      let ext : Extent = extent_of v.places.objects x in
+      let ext : Extent = extent_of v.layout.objects x in
       let f = found_object v total most vs s x h in
       let rest : ℕ → State → Run Flow = λ old y. then_do (given op (binary_word op (working_type op t u) old w) y) (λ new z. write_element x i new z) in
       let whole : Option ℕ → Run Flow = λ o. then_do (then_do (elim o [ None ↦ Wrong Index s.output | Some k ↦ Gives k s ]) (λ old y. given op (binary_word op (working_type op t u) old w) y)) (λ new z. write_element x i new z) in
@@ -232,6 +235,6 @@ module _ (form : FormTree) (cs : List Activation) (total : ℕ) where
             (let past : slice_get (words_of s.globals x) i ≡ None = get_past (words_of s.globals x) i (let k = f.size in let z = ge.1 in omega arith) in
             meets_same form c (Acted form cs total c v most (p + 1)) (whole (slice_get (words_of s.globals x) i)) (Wrong Index s.output) (ap whole past)
             (instructed_last form (instruction.UpdateElement (operation op (working_type op t u)) ext) p vs (w ∷ i ∷ []) cs s (outcome.Wrong Index) e
-            (ap (λ b. if b then with_word (slice_get (all_of s.globals) (ext.place + i)) (λ k. operated (operation op (working_type op t u)) k w (λ new. only_if (nat_lt (ext.place + i) (length (all_of s.globals)))
-            (Goes (record (conf (p + 1) vs [] cs s) { globals = slice_set (all_of s.globals) (ext.place + i) new })))) else Stops (outcome.Wrong Index)) ge.0)))
+            (ap (λ b. if b then with_word (slice_get (all_of s.globals) (ext.offset + i)) (λ k. operated (operation op (working_type op t u)) k w (λ new. only_if (nat_lt (ext.offset + i) (length (all_of s.globals)))
+            (Goes (record (conf (p + 1) vs [] cs s) { globals = slice_set (all_of s.globals) (ext.offset + i) new })))) else Stops (outcome.Wrong Index)) ge.0)))
       ]

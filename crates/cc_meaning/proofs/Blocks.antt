@@ -1,16 +1,18 @@
 -- How a statement is left, in the resolved form; scopes and lists of locals.
 use Rattle.std.proofs.Common.{◌≡◌, ℕ, zero, suc, ◌+◌, ◌-◌, ◌≤◌, List, [], ◌∷◌, ◌++◌, length, reverse, take, drop, Some, slice_get, refl, sym, ap, ◌∙◌, subst, arith, length-append, append_assoc, take-append-drop}
 use Rattle.std.proofs.lemmas.List.{length-map, reverse-append, map-append, drop_at}
-use Rattle.cc_syntax.specs.declared.ast.Scalar.{Scalar}
+use Rattle.cc_tokens.specs.declared.scalar.Scalar.{Scalar}
 use Rattle.cc_syntax.specs.Tree as tree
-use Rattle.cc_syntax.specs.Tree.{Declared, Start, Declares, Performs, Stmt, Stmts, end, next, Block, Perform, Return, Break, Continue, If, IfElse, While, DoWhile, For}
+use Rattle.cc_syntax.specs.Tree.{Declarator, Beginning, Declares, Performs, Stmt, Stmts, end, next, Block, Perform, Return, Break, Continue, If, IfElse, While, DoWhile, For}
 use Rattle.cc_typing.specs.Scope.{all_declared, scope_behind}
 use Rattle.cc_typing.specs.Limits.{locals_of}
-use Rattle.cc_typing.specs.declared.form.Instruction.TheVariants as instruction
-use Rattle.cc_typing.specs.Resolve.{FormTree, Environment, Places, with_local, with_locals, behind}
+use Rattle.cc_meaning.specs.declared.form.Instruction.TheVariants as instruction
+use Rattle.cc_meaning.specs.internal.Form.{FormTree}
+use Rattle.cc_resolve.specs.Environment.{Environment, with_local, with_locals, behind}
+use Rattle.cc_resolve.specs.Layout.{Layout}
 use Rattle.cc_meaning.specs.Meaning.{Local, State, Run, Gives, Flow, Falls, Breaks, Continues, Returns, left_scope, in_block}
-use Rattle.cc_meaning.specs.FormMeaning.{Activation, Configuration}
-use Rattle.cc_meaning.proofs.Held.{names_of, words_in, places_from}
+use Rattle.cc_meaning.specs.internal.FormMeaning.{Activation, Configuration}
+use Rattle.cc_meaning.proofs.Held.{names_of, words_in, layout_from}
 use Rattle.cc_meaning.proofs.Moves.{Leads, leads_then, conf, Meets, meets_after, meets_then}
 use Rattle.cc_meaning.proofs.Fits.{Fits, Scoped, scoped_local}
 
@@ -20,80 +22,80 @@ use Rattle.cc_meaning.proofs.Fits.{Fits, Scoped, scoped_local}
 abbrev pub over : List (List ℕ) → Environment → Environment
 over extra v = record v { locals = extra ++ v.locals }
 
-pub with_locals_visible : (t : Scalar) (ds : List Declared) (v : Environment) → (with_locals t ds v).visible ≡ all_declared t ds v.visible
+pub with_locals_visible : (t : Scalar) (ds : List Declarator) (v : Environment) → (with_locals t ds v).visible ≡ all_declared t ds v.visible
 with_locals_visible t [] v = refl
 with_locals_visible t (d ∷ rest) v = with_locals_visible t rest (with_local t d.name.text v)
 
-pub with_locals_places : (t : Scalar) (ds : List Declared) (v : Environment) → (with_locals t ds v).places ≡ v.places
-with_locals_places t [] v = refl
-with_locals_places t (d ∷ rest) v = with_locals_places t rest (with_local t d.name.text v)
+pub with_locals_layout : (t : Scalar) (ds : List Declarator) (v : Environment) → (with_locals t ds v).layout ≡ v.layout
+with_locals_layout t [] v = refl
+with_locals_layout t (d ∷ rest) v = with_locals_layout t rest (with_local t d.name.text v)
 
-pub with_locals_length : (t : Scalar) (ds : List Declared) (v : Environment) → length (with_locals t ds v).locals ≡ length v.locals + length ds
+pub with_locals_length : (t : Scalar) (ds : List Declarator) (v : Environment) → length (with_locals t ds v).locals ≡ length v.locals + length ds
 with_locals_length t [] v = omega arith
 with_locals_length t (d ∷ rest) v = let e = with_locals_length t rest (with_local t d.name.text v) in omega arith
 
-pub with_locals_over : (t : Scalar) (ds : List Declared) (v : Environment) → (extra : List (List ℕ)) × ((with_locals t ds v).locals ≡ extra ++ v.locals)
+pub with_locals_over : (t : Scalar) (ds : List Declarator) (v : Environment) → (extra : List (List ℕ)) × ((with_locals t ds v).locals ≡ extra ++ v.locals)
 with_locals_over t [] v = ([], refl)
 with_locals_over t (d ∷ rest) v =
     let e = with_locals_over t rest (with_local t d.name.text v) in (e.0 ++ d.name.text ∷ [], e.1 ∙ sym (append_assoc e.0 (d.name.text ∷ []) v.locals))
 
-pub scoped_locals : (places : Places) (defined : List (List ℕ)) (Takes : List ℕ → ℕ → Type 0) (t : Scalar) (ds : List Declared) (v : Environment)
-    → Scoped places defined Takes v → Scoped places defined Takes (with_locals t ds v)
-scoped_locals places defined Takes t [] v h = h
-scoped_locals places defined Takes t (d ∷ rest) v h = scoped_locals places defined Takes t rest (with_local t d.name.text v) (scoped_local places defined Takes t d.name.text v h)
+pub scoped_locals : (layout : Layout) (defined : List (List ℕ)) (Takes : List ℕ → ℕ → Type 0) (t : Scalar) (ds : List Declarator) (v : Environment)
+    → Scoped layout defined Takes v → Scoped layout defined Takes (with_locals t ds v)
+scoped_locals layout defined Takes t [] v h = h
+scoped_locals layout defined Takes t (d ∷ rest) v h = scoped_locals layout defined Takes t rest (with_local t d.name.text v) (scoped_local layout defined Takes t d.name.text v h)
 
--- behind a statement
-pub record Behind (places : Places) (defined : List (List ℕ)) (Takes : List ℕ → ℕ → Type 0) (s : Stmt) (v : Environment) : Type 0 where
+-- after a statement
+pub record Behind (layout : Layout) (defined : List (List ℕ)) (Takes : List ℕ → ℕ → Type 0) (s : Stmt) (v : Environment) : Type 0 where
   pub visible : (behind s v).visible ≡ scope_behind s v.visible
-  pub placed : (behind s v).places ≡ v.places
+  pub laid : (behind s v).layout ≡ v.layout
   pub extra : List (List ℕ)
   pub locals : (behind s v).locals ≡ extra ++ v.locals
   pub room : length (behind s v).locals ≤ length v.locals + length (locals_of s)
-  pub scoped : Scoped places defined Takes (behind s v)
+  pub scoped : Scoped layout defined Takes (behind s v)
 
-stays : (places : Places) (defined : List (List ℕ)) (Takes : List ℕ → ℕ → Type 0) (s : Stmt) (v : Environment) → behind s v ≡ v → scope_behind s v.visible ≡ v.visible → Scoped places defined Takes v → Behind places defined Takes s v
-stays places defined Takes s v e f h =
+stays : (layout : Layout) (defined : List (List ℕ)) (Takes : List ℕ → ℕ → Type 0) (s : Stmt) (v : Environment) → behind s v ≡ v → scope_behind s v.visible ≡ v.visible → Scoped layout defined Takes v → Behind layout defined Takes s v
+stays layout defined Takes s v e f h =
     let l : length (behind s v).locals ≡ length v.locals = ap (λ (w : Environment). length w.locals) e in
     record {
       visible = ap (λ (w : Environment). w.visible) e ∙ sym f;
-      placed = ap (λ (w : Environment). w.places) e;
+      laid = ap (λ (w : Environment). w.layout) e;
       extra = [];
       locals = ap (λ (w : Environment). w.locals) e;
       room = omega arith;
-      scoped = subst (Scoped places defined Takes) (sym e) h;
+      scoped = subst (Scoped layout defined Takes) (sym e) h;
     }
 
-pub behind_is : (places : Places) (defined : List (List ℕ)) (Takes : List ℕ → ℕ → Type 0) (s : Stmt) (v : Environment) → Scoped places defined Takes v → Behind places defined Takes s v
-behind_is places defined Takes (tree.Local t ds) v h =
+pub behind_is : (layout : Layout) (defined : List (List ℕ)) (Takes : List ℕ → ℕ → Type 0) (s : Stmt) (v : Environment) → Scoped layout defined Takes v → Behind layout defined Takes s v
+behind_is layout defined Takes (tree.Local t ds) v h =
     let e = with_locals_over t ds v in
     let l = with_locals_length t ds v in
-    let m = length-map ds (λ (d : Declared). d.name) in
+    let m = length-map ds (λ (d : Declarator). d.name) in
     record {
       visible = with_locals_visible t ds v;
-      placed = with_locals_places t ds v;
+      laid = with_locals_layout t ds v;
       extra = e.0;
       locals = e.1;
       room = omega arith;
-      scoped = scoped_locals places defined Takes t ds v h;
+      scoped = scoped_locals layout defined Takes t ds v h;
     }
-behind_is places defined Takes (Block all) v h = stays places defined Takes (Block all) v refl refl h
-behind_is places defined Takes (Perform a) v h = stays places defined Takes (Perform a) v refl refl h
-behind_is places defined Takes (Return at e) v h = stays places defined Takes (Return at e) v refl refl h
-behind_is places defined Takes (Break at) v h = stays places defined Takes (Break at) v refl refl h
-behind_is places defined Takes (Continue at) v h = stays places defined Takes (Continue at) v refl refl h
-behind_is places defined Takes (If c a) v h = stays places defined Takes (If c a) v refl refl h
-behind_is places defined Takes (IfElse c a b) v h = stays places defined Takes (IfElse c a b) v refl refl h
-behind_is places defined Takes (While c a) v h = stays places defined Takes (While c a) v refl refl h
-behind_is places defined Takes (DoWhile a c) v h = stays places defined Takes (DoWhile a c) v refl refl h
-behind_is places defined Takes (For f c b a) v h = stays places defined Takes (For f c b a) v refl refl h
+behind_is layout defined Takes (Block all) v h = stays layout defined Takes (Block all) v refl refl h
+behind_is layout defined Takes (Perform a) v h = stays layout defined Takes (Perform a) v refl refl h
+behind_is layout defined Takes (Return at e) v h = stays layout defined Takes (Return at e) v refl refl h
+behind_is layout defined Takes (Break at) v h = stays layout defined Takes (Break at) v refl refl h
+behind_is layout defined Takes (Continue at) v h = stays layout defined Takes (Continue at) v refl refl h
+behind_is layout defined Takes (If c a) v h = stays layout defined Takes (If c a) v refl refl h
+behind_is layout defined Takes (IfElse c a b) v h = stays layout defined Takes (IfElse c a b) v refl refl h
+behind_is layout defined Takes (While c a) v h = stays layout defined Takes (While c a) v refl refl h
+behind_is layout defined Takes (DoWhile a c) v h = stays layout defined Takes (DoWhile a c) v refl refl h
+behind_is layout defined Takes (For f c b a) v h = stays layout defined Takes (For f c b a) v refl refl h
 
 -- ---- configurations
 
 -- another way to write an environment
-pub fits_env : (v w : Environment) (total most : ℕ) (vs : List ℕ) (s : State) → v.locals ≡ w.locals → v.places ≡ w.places → Fits v total most vs s → Fits w total most vs s
+pub fits_env : (v w : Environment) (total most : ℕ) (vs : List ℕ) (s : State) → v.locals ≡ w.locals → v.layout ≡ w.layout → Fits v total most vs s → Fits w total most vs s
 fits_env v w total most vs s e f h = record {
   names = h.names ∙ e;
-  placed = h.placed ∙ ap (λ (p : Places). p.objects) f;
+  laid = h.laid ∙ ap (λ (p : Layout). p.objects) f;
   junk = h.junk;
   holds = h.holds;
   room = h.room;
@@ -102,14 +104,14 @@ fits_env v w total most vs s e f h = record {
 
 -- more steps may be left
 pub fits_most : (v : Environment) (total most more : ℕ) (vs : List ℕ) (s : State) → most ≤ more → Fits v total most vs s → Fits v total more vs s
-fits_most v total most more vs s le h = record { names = h.names; placed = h.placed; junk = h.junk; holds = h.holds; room = h.room; steps = (let k = h.steps in omega arith) }
+fits_most v total most more vs s le h = record { names = h.names; laid = h.laid; junk = h.junk; holds = h.holds; room = h.room; steps = (let k = h.steps in omega arith) }
 
 names_drop : (d : ℕ) (ls : List Local) → names_of (drop d ls) ≡ drop d (names_of ls)
 names_drop zero ls = refl
 names_drop (suc d) [] = refl
 names_drop (suc d) (l ∷ ls) = names_drop d ls
 
--- behind a scope, whose locals no name has any more
+-- after a scope, whose locals no name has any more
 pub fits_left : (v : Environment) (extra : List (List ℕ)) (total most before : ℕ) (vs : List ℕ) (t : State) → before ≡ length v.locals → Fits (over extra v) total most vs t → Fits v total most vs (left_scope before t)
 fits_left v extra total most before vs t e h =
     let ls : List Local = t.locals in
@@ -120,7 +122,7 @@ fits_left v extra total most before vs t e h =
     let parts : words_in ls ≡ words_in inside ++ words_in outside = ap words_in (sym (take-append-drop d ls)) ∙ map-append (λ (l : Local). l.word) inside outside in
     record {
       names = names_drop d ls ∙ ap (drop d) h.names ∙ drop_at extra v.locals d (let z = size in omega arith);
-      placed = h.placed;
+      laid = h.laid;
       junk = reverse (words_in inside) ++ h.junk;
       holds = h.holds ∙ ap (λ ws. reverse ws ++ h.junk) parts ∙ ap (λ (ws : List ℕ). ws ++ h.junk) (reverse-append (words_in inside) (words_in outside))
           ∙ append_assoc (reverse (words_in outside)) (reverse (words_in inside)) h.junk;
@@ -145,47 +147,47 @@ module _ (form : FormTree) (cs : List Activation) (total : ℕ) where
     pub leads : Leads form c (conf q variables [] cs t)
 
   -- the form comes to a return of a word
-  pub record Brings (places : Places) (c : Configuration) (most w : ℕ) (t : State) : Type 0 where
-    pub place : ℕ
+  pub record Brings (layout : Layout) (c : Configuration) (most w : ℕ) (t : State) : Type 0 where
+    pub offset : ℕ
     pub variables : List ℕ
     pub operands : List ℕ
-    pub here : slice_get form.code place ≡ Some instruction.Return
-    pub leads : Leads form c (conf place variables (w ∷ operands) cs t)
-    pub placed : places_from 0 t.globals ≡ places.objects
+    pub here : slice_get form.code offset ≡ Some instruction.Return
+    pub leads : Leads form c (conf offset variables (w ∷ operands) cs t)
+    pub laid : layout_from 0 t.globals ≡ layout.objects
     pub steps : t.steps ≤ most
 
   -- how a statement is left: it falls through, breaks or continues to what these say, or returns
-  abbrev pub Done : Places → Configuration → ℕ → (falls breaks continues : State → Type 0) → Flow → State → Type 0
-  Done places c most falls breaks continues Falls t = falls t
-  Done places c most falls breaks continues Breaks t = breaks t
-  Done places c most falls breaks continues Continues t = continues t
-  Done places c most falls breaks continues (Returns w) t = Brings places c most w t
+  abbrev pub Done : Layout → Configuration → ℕ → (falls breaks continues : State → Type 0) → Flow → State → Type 0
+  Done layout c most falls breaks continues Falls t = falls t
+  Done layout c most falls breaks continues Breaks t = breaks t
+  Done layout c most falls breaks continues Continues t = continues t
+  Done layout c most falls breaks continues (Returns w) t = Brings layout c most w t
 
-  brings_after : (places : Places) (c d : Configuration) (most more w : ℕ) (t : State) → Leads form c d → most ≤ more → Brings places d most w t → Brings places c more w t
-  brings_after places c d most more w t p le h = record {
-    place = h.place;
+  brings_after : (layout : Layout) (c d : Configuration) (most more w : ℕ) (t : State) → Leads form c d → most ≤ more → Brings layout d most w t → Brings layout c more w t
+  brings_after layout c d most more w t p le h = record {
+    offset = h.offset;
     variables = h.variables;
     operands = h.operands;
     here = h.here;
-    leads = leads_then form c d (conf h.place h.variables (w ∷ h.operands) cs t) p h.leads;
-    placed = h.placed;
+    leads = leads_then form c d (conf h.offset h.variables (w ∷ h.operands) cs t) p h.leads;
+    laid = h.laid;
     steps = (let k = h.steps in omega arith);
   }
 
-  done_by : (places : Places) (c d : Configuration) (most more : ℕ) (f b k f' b' k' : State → Type 0) → Leads form c d → most ≤ more
-      → ((t : State) → f t → f' t) → ((t : State) → b t → b' t) → ((t : State) → k t → k' t) → (flow : Flow) (t : State) → Done places d most f b k flow t → Done places c more f' b' k' flow t
-  done_by places c d most more f b k f' b' k' p le x y z Falls t h = x t h
-  done_by places c d most more f b k f' b' k' p le x y z Breaks t h = y t h
-  done_by places c d most more f b k f' b' k' p le x y z Continues t h = z t h
-  done_by places c d most more f b k f' b' k' p le x y z (Returns w) t h = brings_after places c d most more w t p le h
+  done_by : (layout : Layout) (c d : Configuration) (most more : ℕ) (f b k f' b' k' : State → Type 0) → Leads form c d → most ≤ more
+      → ((t : State) → f t → f' t) → ((t : State) → b t → b' t) → ((t : State) → k t → k' t) → (flow : Flow) (t : State) → Done layout d most f b k flow t → Done layout c more f' b' k' flow t
+  done_by layout c d most more f b k f' b' k' p le x y z Falls t h = x t h
+  done_by layout c d most more f b k f' b' k' p le x y z Breaks t h = y t h
+  done_by layout c d most more f b k f' b' k' p le x y z Continues t h = z t h
+  done_by layout c d most more f b k f' b' k' p le x y z (Returns w) t h = brings_after layout c d most more w t p le h
 
-  -- a part behind some moves, whose ways out mean the same
-  pub done_after : (places : Places) (c d : Configuration) (most more : ℕ) (f b k f' b' k' : State → Type 0) (r : Run Flow) → Leads form c d → most ≤ more
-      → ((t : State) → f t → f' t) → ((t : State) → b t → b' t) → ((t : State) → k t → k' t) → Meets form d (Done places d most f b k) r → Meets form c (Done places c more f' b' k') r
-  done_after places c d most more f b k f' b' k' r p le x y z h =
-      meets_after form c d (Done places d most f b k) (Done places c more f' b' k') r p (done_by places c d most more f b k f' b' k' p le x y z) h
+  -- a part after some moves, whose ways out mean the same
+  pub done_after : (layout : Layout) (c d : Configuration) (most more : ℕ) (f b k f' b' k' : State → Type 0) (r : Run Flow) → Leads form c d → most ≤ more
+      → ((t : State) → f t → f' t) → ((t : State) → b t → b' t) → ((t : State) → k t → k' t) → Meets form d (Done layout d most f b k) r → Meets form c (Done layout c more f' b' k') r
+  done_after layout c d most more f b k f' b' k' r p le x y z h =
+      meets_after form c d (Done layout d most f b k) (Done layout c more f' b' k') r p (done_by layout c d most more f b k f' b' k' p le x y z) h
 
-  pub reaches_after : (c d : Configuration) (v w : Environment) (most more q q' : ℕ) (t : State) → Leads form c d → v.locals ≡ w.locals → v.places ≡ w.places → most ≤ more → q ≡ q' → Reaches d v most q t → Reaches c w more q' t
+  pub reaches_after : (c d : Configuration) (v w : Environment) (most more q q' : ℕ) (t : State) → Leads form c d → v.locals ≡ w.locals → v.layout ≡ w.layout → most ≤ more → q ≡ q' → Reaches d v most q t → Reaches c w more q' t
   reaches_after c d v w most more q q' t p e f le at h = record {
     variables = h.variables;
     fits = fits_most w total most more h.variables t le (fits_env v w total most h.variables t e f h.fits);
@@ -193,7 +195,7 @@ module _ (form : FormTree) (cs : List Activation) (total : ℕ) where
   }
 
   -- some locals of v are further ones over w
-  pub leaves_after : (c d : Configuration) (v w : Environment) (extra : List (List ℕ)) (most more q q' : ℕ) (t : State) → Leads form c d → v.locals ≡ extra ++ w.locals → v.places ≡ w.places → most ≤ more → q ≡ q'
+  pub leaves_after : (c d : Configuration) (v w : Environment) (extra : List (List ℕ)) (most more q q' : ℕ) (t : State) → Leads form c d → v.locals ≡ extra ++ w.locals → v.layout ≡ w.layout → most ≤ more → q ≡ q'
       → Leaves d v most q t → Leaves c w more q' t
   leaves_after c d v w extra most more q q' t p e f le at h = record {
     extra = h.extra ++ extra;
@@ -203,7 +205,7 @@ module _ (form : FormTree) (cs : List Activation) (total : ℕ) where
     leads = leads_then form c d (conf q' h.variables [] cs t) p (subst (λ k. Leads form d (conf k h.variables [] cs t)) at h.leads);
   }
 
-  pub reaches_leaves : (c d : Configuration) (v w : Environment) (extra : List (List ℕ)) (most more q q' : ℕ) (t : State) → Leads form c d → v.locals ≡ extra ++ w.locals → v.places ≡ w.places → most ≤ more → q ≡ q'
+  pub reaches_leaves : (c d : Configuration) (v w : Environment) (extra : List (List ℕ)) (most more q q' : ℕ) (t : State) → Leads form c d → v.locals ≡ extra ++ w.locals → v.layout ≡ w.layout → most ≤ more → q ≡ q'
       → Reaches d v most q t → Leaves c w more q' t
   reaches_leaves c d v w extra most more q q' t p e f le at h = record {
     extra = extra;
@@ -217,19 +219,19 @@ module _ (form : FormTree) (cs : List Activation) (total : ℕ) where
   scope_left : (c : Configuration) (v : Environment) (most q : ℕ) (s t : State) → length s.locals ≡ length v.locals → Leaves c v most q t → Reaches c v most q (left_scope (length s.locals) t)
   scope_left c v most q s t e h = record { variables = h.variables; fits = fits_left v h.extra total most (length s.locals) h.variables t e h.fits; leads = h.leads }
 
-  block_done : (places : Places) (c : Configuration) (v : Environment) (most q b k : ℕ) (s : State) (flow : Flow) (t : State) → length s.locals ≡ length v.locals
-      → Done places c most (Leaves c v most q) (Leaves c v most b) (Leaves c v most k) flow t
-      → Done places c most (Reaches c v most q) (Reaches c v most b) (Reaches c v most k) flow (left_scope (length s.locals) t)
-  block_done places c v most q b k s Falls t e h = scope_left c v most q s t e h
-  block_done places c v most q b k s Breaks t e h = scope_left c v most b s t e h
-  block_done places c v most q b k s Continues t e h = scope_left c v most k s t e h
-  block_done places c v most q b k s (Returns w) t e h =
-      record { place = h.place; variables = h.variables; operands = h.operands; here = h.here; leads = h.leads; placed = h.placed; steps = h.steps }
+  block_done : (layout : Layout) (c : Configuration) (v : Environment) (most q b k : ℕ) (s : State) (flow : Flow) (t : State) → length s.locals ≡ length v.locals
+      → Done layout c most (Leaves c v most q) (Leaves c v most b) (Leaves c v most k) flow t
+      → Done layout c most (Reaches c v most q) (Reaches c v most b) (Reaches c v most k) flow (left_scope (length s.locals) t)
+  block_done layout c v most q b k s Falls t e h = scope_left c v most q s t e h
+  block_done layout c v most q b k s Breaks t e h = scope_left c v most b s t e h
+  block_done layout c v most q b k s Continues t e h = scope_left c v most k s t e h
+  block_done layout c v most q b k s (Returns w) t e h =
+      record { offset = h.offset; variables = h.variables; operands = h.operands; here = h.here; leads = h.leads; laid = h.laid; steps = h.steps }
 
-  pub block_meets : (places : Places) (c : Configuration) (v : Environment) (most q b k : ℕ) (vs : List ℕ) (s : State) (part : State → Run Flow) → Fits v total most vs s
-      → Meets form c (Done places c most (Leaves c v most q) (Leaves c v most b) (Leaves c v most k)) (part s)
-      → Meets form c (Done places c most (Reaches c v most q) (Reaches c v most b) (Reaches c v most k)) (in_block part s)
-  block_meets places c v most q b k vs s part fits h =
-      meets_then form c (Done places c most (Leaves c v most q) (Leaves c v most b) (Leaves c v most k)) (Done places c most (Reaches c v most q) (Reaches c v most b) (Reaches c v most k)) (part s)
+  pub block_meets : (layout : Layout) (c : Configuration) (v : Environment) (most q b k : ℕ) (vs : List ℕ) (s : State) (part : State → Run Flow) → Fits v total most vs s
+      → Meets form c (Done layout c most (Leaves c v most q) (Leaves c v most b) (Leaves c v most k)) (part s)
+      → Meets form c (Done layout c most (Reaches c v most q) (Reaches c v most b) (Reaches c v most k)) (in_block part s)
+  block_meets layout c v most q b k vs s part fits h =
+      meets_then form c (Done layout c most (Leaves c v most q) (Leaves c v most b) (Leaves c v most k)) (Done layout c most (Reaches c v most q) (Reaches c v most b) (Reaches c v most k)) (part s)
       (λ flow t. Gives flow (left_scope (length s.locals) t)) h
-      (λ flow t x. block_done places c v most q b k s flow t (sym (length-map s.locals (λ (l : Local). l.name)) ∙ ap length fits.names) x)
+      (λ flow t x. block_done layout c v most q b k s flow t (sym (length-map s.locals (λ (l : Local). l.name)) ∙ ap length fits.names) x)

@@ -7,17 +7,19 @@ use Rattle.cc_typing.specs.Names.{same_name}
 use Rattle.cc_typing.specs.Scope.{has_name}
 use Rattle.cc_typing.specs.Rules.{Around, statements_offences, undefined_among, called_in_statements}
 use Rattle.cc_typing.specs.Limits.{locals}
-use Rattle.cc_typing.specs.declared.form.Entry.{Entry}
-use Rattle.cc_typing.specs.declared.form.Instruction.{Instruction}
-use Rattle.cc_typing.specs.declared.form.Instruction.TheVariants as instruction
-use Rattle.cc_typing.specs.Resolve.{FormTree, Environment, Places, names_before, call_of, statements_code, FunctionCode, parameter_names}
+use Rattle.cc_meaning.specs.declared.form.Entry.{Entry}
+use Rattle.cc_meaning.specs.declared.form.Instruction.{Instruction}
+use Rattle.cc_meaning.specs.declared.form.Instruction.TheVariants as instruction
+use Rattle.cc_meaning.specs.internal.Form.{FormTree, call_of, statements_code, FunctionCode}
+use Rattle.cc_resolve.specs.Environment.{Environment, parameter_names}
+use Rattle.cc_resolve.specs.Layout.{Layout, names_before}
 use Rattle.cc_meaning.specs.Outcome as outcome
 use Rattle.cc_meaning.specs.declared.outcome.Cause.TheVariants.{Depth}
 use Rattle.cc_meaning.specs.Meaning.{Local, State, Gives, Wrong, Flow, Falls, Breaks, Continues, Returns, Calls, spend_of, Function, text_of, function_named, bound, result_of, run_body, run_optional, read_input, most_open, calls, execute_all}
-use Rattle.cc_meaning.specs.FormMeaning.{Activation, Configuration, Move, Goes, Stops, instruction_move, call_move, stepped, entered, only_if, read_move}
+use Rattle.cc_meaning.specs.internal.FormMeaning.{Activation, Configuration, Move, Goes, Stops, instruction_move, call_move, stepped, entered, only_if, read_move}
 use Rattle.cc_meaning.proofs.Named.{same_name_symm, call_begins}
 use Rattle.cc_meaning.proofs.Steps.{begun, body_part}
-use Rattle.cc_meaning.proofs.Held.{names_of, words_in, newest_last, places_from}
+use Rattle.cc_meaning.proofs.Held.{names_of, words_in, newest_last, layout_from}
 use Rattle.cc_meaning.proofs.Moves.{Halts, Leads, leads_refl, leads_then, conf, Meets, meets_then, meets_after, meets_same, Stands, stands_end, stands_left, stands_right, instructed, instructed_last}
 use Rattle.cc_meaning.proofs.Fits.{Fits, Scoped}
 use Rattle.cc_meaning.proofs.Expressions.{Value, CallsMeet}
@@ -55,14 +57,14 @@ pub data Takes (names : List (List ℕ)) (fs : List Function) (x : List ℕ) (co
       → ((g : Function) → function_named fs x ≡ Some g → length g.parameters ≡ count) → Takes names fs x count
 
 -- a function in the source and its instructions, in the environment where its body begins
-pub record Defined (places : Places) (defined : List (List ℕ)) (fs : List Function) (g : Function) (fc : FunctionCode) : Type 0 where
+pub record Defined (layout : Layout) (defined : List (List ℕ)) (fs : List Function) (g : Function) (fc : FunctionCode) : Type 0 where
   pub parameters : List Parameter
   pub named : g.parameters ≡ map (λ (p : Parameter). text_of p.name) parameters
   pub many : fc.parameters ≡ length parameters
   pub environment : Environment
   pub names : environment.locals ≡ parameter_names parameters []
   pub visible : environment.visible ≡ g.visible
-  pub scoped : Scoped places defined (Takes places.functions fs) environment
+  pub scoped : Scoped layout defined (Takes layout.functions fs) environment
   pub around : Around
   pub keeps_rules : statements_offences g.body around environment.visible ≡ []
   pub called : undefined_among defined (called_in_statements g.body) ≡ []
@@ -70,60 +72,60 @@ pub record Defined (places : Places) (defined : List (List ℕ)) (fs : List Func
   pub variables : fc.variables ≡ length (locals g.body)
 
 -- the function of a name, its number, and where its instructions stand
-pub record Entered (form : FormTree) (places : Places) (defined : List (List ℕ)) (fs : List Function) (x : List ℕ) : Type 0 where
+pub record Entered (form : FormTree) (layout : Layout) (defined : List (List ℕ)) (fs : List Function) (x : List ℕ) : Type 0 where
   pub function : Function
   pub code : FunctionCode
   pub is : function_named fs x ≡ Some function
   pub start : ℕ
-  pub entry : slice_get form.functions (names_before places.functions x) ≡ Some (record { start = start; parameters = code.parameters; variables = code.variables })
+  pub entry : slice_get form.functions (names_before layout.functions x) ≡ Some (record { start = start; parameters = code.parameters; variables = code.variables })
   pub stands : Stands form.code start code.code
-  pub means : Defined places defined fs function code
+  pub means : Defined layout defined fs function code
 
-module _ (form : FormTree) (places : Places) (defined : List (List ℕ)) (fs : List Function) (table : (x : List ℕ) → has_name places.functions x ≡ true → Entered form places defined fs x) where
+module _ (form : FormTree) (layout : Layout) (defined : List (List ℕ)) (fs : List Function) (table : (x : List ℕ) → has_name layout.functions x ≡ true → Entered form layout defined fs x) where
   abbrev TakesHere : List ℕ → ℕ → Type 0
-  TakesHere = Takes places.functions fs
+  TakesHere = Takes layout.functions fs
 
   -- ---- the body of a function
 
   -- a body comes to a return of its word: over the calls around
   record Returned (cs : List Activation) (c : Configuration) (most w : ℕ) (t : State) : Type 0 where
-    place : ℕ
+    offset : ℕ
     variables : List ℕ
     operands : List ℕ
-    here : slice_get form.code place ≡ Some instruction.Return
-    leads : Leads form c (conf place variables (w ∷ operands) cs t)
-    placed : places_from 0 t.globals ≡ places.objects
+    here : slice_get form.code offset ≡ Some instruction.Return
+    leads : Leads form c (conf offset variables (w ∷ operands) cs t)
+    laid : layout_from 0 t.globals ≡ layout.objects
     steps : t.steps ≤ most
 
   abbrev body_code : (g : Function) → Environment → List Instruction
   body_code g v = statements_code v (record { breaks = 0; continues = 0 }) g.body
 
-  falls_off : (cs : List Activation) (total : ℕ) (c : Configuration) (v : Environment) (most q : ℕ) (t : State) → v.places ≡ places → slice_get form.code q ≡ Some (instruction.Constant 0) → slice_get form.code (q + 1) ≡ Some instruction.Return
+  falls_off : (cs : List Activation) (total : ℕ) (c : Configuration) (v : Environment) (most q : ℕ) (t : State) → v.layout ≡ layout → slice_get form.code q ≡ Some (instruction.Constant 0) → slice_get form.code (q + 1) ≡ Some instruction.Return
       → Leaves form cs total c v most q t → Returned cs c most 0 t
   falls_off cs total c v most q t pl e e' h = record {
-    place = q + 1;
+    offset = q + 1;
     variables = h.variables;
     operands = [];
     here = e';
     leads = leads_then form c (conf q h.variables [] cs t) (conf (q + 1) h.variables (0 ∷ []) cs t) h.leads (instructed form (instruction.Constant 0) q h.variables [] cs t (conf (q + 1) h.variables (0 ∷ []) cs t) e refl);
-    placed = h.fits.placed ∙ ap (λ (p : Places). p.objects) pl;
+    laid = h.fits.laid ∙ ap (λ (p : Layout). p.objects) pl;
     steps = h.fits.steps;
   }
 
-  flow_returns : (cs : List Activation) (total : ℕ) (c : Configuration) (v : Environment) (most q b k : ℕ) (flow : Flow) (t : State) → v.places ≡ places → slice_get form.code q ≡ Some (instruction.Constant 0) → slice_get form.code (q + 1) ≡ Some instruction.Return → b ≡ q → k ≡ q
-      → Done form cs total places c most (Leaves form cs total c v most q) (Leaves form cs total c v most b) (Leaves form cs total c v most k) flow t → Returned cs c most (result_of flow) t
+  flow_returns : (cs : List Activation) (total : ℕ) (c : Configuration) (v : Environment) (most q b k : ℕ) (flow : Flow) (t : State) → v.layout ≡ layout → slice_get form.code q ≡ Some (instruction.Constant 0) → slice_get form.code (q + 1) ≡ Some instruction.Return → b ≡ q → k ≡ q
+      → Done form cs total layout c most (Leaves form cs total c v most q) (Leaves form cs total c v most b) (Leaves form cs total c v most k) flow t → Returned cs c most (result_of flow) t
   flow_returns cs total c v most q b k Falls t pl e e' eb ek h = falls_off cs total c v most q t pl e e' h
   flow_returns cs total c v most q b k Breaks t pl e e' eb ek h = falls_off cs total c v most q t pl e e' (subst (λ z. Leaves form cs total c v most z t) eb h)
   flow_returns cs total c v most q b k Continues t pl e e' eb ek h = falls_off cs total c v most q t pl e e' (subst (λ z. Leaves form cs total c v most z t) ek h)
   flow_returns cs total c v most q b k (Returns w) t pl e e' eb ek h =
-      record { place = h.place; variables = h.variables; operands = h.operands; here = h.here; leads = h.leads; placed = h.placed; steps = h.steps }
+      record { offset = h.offset; variables = h.variables; operands = h.operands; here = h.here; leads = h.leads; laid = h.laid; steps = h.steps }
 
   -- a body in a frame of its own
-  body_meets : (cs : List Activation) (n : ℕ) (call : Calls) → ((total : ℕ) → CallsMeet form places TakesHere cs total n call) → (g : Function) (fc : FunctionCode) (d : Defined places defined fs g fc) (p most : ℕ) (ws : List ℕ) (t : State)
-      → length ws ≡ length g.parameters → Stands form.code p fc.code → most < n → t.steps ≤ most → places_from 0 t.globals ≡ places.objects
+  body_meets : (cs : List Activation) (n : ℕ) (call : Calls) → ((total : ℕ) → CallsMeet form layout TakesHere cs total n call) → (g : Function) (fc : FunctionCode) (d : Defined layout defined fs g fc) (p most : ℕ) (ws : List ℕ) (t : State)
+      → length ws ≡ length g.parameters → Stands form.code p fc.code → most < n → t.steps ≤ most → layout_from 0 t.globals ≡ layout.objects
       → Meets form (conf p (ws ++ replicate fc.variables 0) [] cs t) (λ flow u. Returned cs (conf p (ws ++ replicate fc.variables 0) [] cs t) most (result_of flow) u)
       (execute_all g.body n call g.visible (record t { locals = bound g.parameters ws [] }))
-  body_meets cs n call calls_meet g fc d p most ws t many st lt le placed =
+  body_meets cs n call calls_meet g fc d p most ws t many st lt le laid =
       let v = d.environment in
       let vs = ws ++ replicate fc.variables 0 in
       let u : State = record t { locals = bound g.parameters ws [] } in
@@ -141,7 +143,7 @@ module _ (form : FormTree) (places : Places) (defined : List (List ℕ)) (fs : L
       ap (λ xs. names_of (bound xs ws [])) d.named ∙ bound_names d.parameters ws [] many' ∙ sym d.names in
       let fits : Fits v total most vs u = record {
         names = names;
-        placed = placed ∙ ap (λ (x : Places). x.objects) (sym d.scoped.placed);
+        laid = laid ∙ ap (λ (x : Layout). x.objects) (sym d.scoped.laid);
         junk = replicate fc.variables 0;
         holds = ap (λ (xs : List ℕ). xs ++ replicate fc.variables 0) (sym (bound_variables g.parameters ws many));
         room = refl;
@@ -152,10 +154,10 @@ module _ (form : FormTree) (places : Places) (defined : List (List ℕ)) (fs : L
       sym (ap (λ (xs : List (List ℕ)). length xs) names) ∙ length-map (bound g.parameters ws []) (λ (l : Local). l.name) ∙ sym (length-map (bound g.parameters ws []) (λ (l : Local). l.word))
       ∙ sym (length-reverse (words_in (bound g.parameters ws []))) ∙ ap (λ (xs : List ℕ). length xs) (bound_variables g.parameters ws many) in
       let zero_more : q ≡ q + 0 = omega arith in
-      meets_after form c c (Done form cs total places c most (Leaves form cs total c v most q) (Leaves form cs total c v most q) (Leaves form cs total c v most q)) (λ flow y. Returned cs c most (result_of flow) y)
-      (execute_all g.body n call g.visible u) (leads_refl form c) (λ flow y h. flow_returns cs total c v most q q q flow y d.scoped.placed in_last.0 in_last.1.0 refl refl h)
-      (subst (λ y. Meets form c (Done form cs total places c most (Leaves form cs total c v most q) (Leaves form cs total c v most q) (Leaves form cs total c v most q)) (execute_all g.body n call y u)) d.visible
-      (execute_all_meets form cs total places defined TakesHere n call (calls_meet total) g.body v (record { breaks = 0; continues = 0 }) d.around most d.scoped lt d.keeps_rules d.called (omega arith)
+      meets_after form c c (Done form cs total layout c most (Leaves form cs total c v most q) (Leaves form cs total c v most q) (Leaves form cs total c v most q)) (λ flow y. Returned cs c most (result_of flow) y)
+      (execute_all g.body n call g.visible u) (leads_refl form c) (λ flow y h. flow_returns cs total c v most q q q flow y d.scoped.laid in_last.0 in_last.1.0 refl refl h)
+      (subst (λ y. Meets form c (Done form cs total layout c most (Leaves form cs total c v most q) (Leaves form cs total c v most q) (Leaves form cs total c v most q)) (execute_all g.body n call y u)) d.visible
+      (execute_all_meets form cs total layout defined TakesHere n call (calls_meet total) g.body v (record { breaks = 0; continues = 0 }) d.around most d.scoped lt d.keeps_rules d.called (omega arith)
       p q q vs u zero_more zero_more end_at end_at in_code fits))
 
   -- ---- builtins
@@ -166,9 +168,9 @@ module _ (form : FormTree) (places : Places) (defined : List (List ℕ)) (fs : L
   write_meets n cs total v f [] p vs ops s most is one e h = absurd (omega arith)
   write_meets n cs total v f (w ∷ []) p vs ops s most is one e h =
       let called : call_of v f ≡ instruction.Write =
-      ap (λ b. if b then instruction.Write else (if same_name (codes "read_word") f then instruction.Read else instruction.Call (names_before v.places.functions f))) (same_name_symm (codes "write_word") f ∙ is) in
+      ap (λ b. if b then instruction.Write else (if same_name (codes "read_word") f then instruction.Read else instruction.Call (names_before v.layout.functions f))) (same_name_symm (codes "write_word") f ∙ is) in
       record {
-        fits = record { names = h.names; placed = h.placed; junk = h.junk; holds = h.holds; room = h.room; steps = h.steps };
+        fits = record { names = h.names; laid = h.laid; junk = h.junk; holds = h.holds; room = h.room; steps = h.steps };
         leads = instructed form instruction.Write p vs (w ∷ ops) cs s (conf (p + 1) vs (0 ∷ ops) cs (record s { output = s.output ++ w ∷ [] })) (e ∙ ap Some called) refl;
       }
   write_meets n cs total v f (w ∷ x ∷ rest) p vs ops s most is one e h = absurd (omega arith)
@@ -180,7 +182,7 @@ module _ (form : FormTree) (places : Places) (defined : List (List ℕ)) (fs : L
     leads = instructed form instruction.Read p vs ops cs s (conf (p + 1) vs (0 ∷ ops) cs s) e (ap (λ i. read_move i (conf (p + 1) vs ops cs s)) is);
   }
   read_by cs total v p vs ops s most (w ∷ rest) is e h = record {
-    fits = record { names = h.names; placed = h.placed; junk = h.junk; holds = h.holds; room = h.room; steps = h.steps };
+    fits = record { names = h.names; laid = h.laid; junk = h.junk; holds = h.holds; room = h.room; steps = h.steps };
     leads = instructed form instruction.Read p vs ops cs s (conf (p + 1) vs (w ∷ ops) cs (record s { input = rest })) e (ap (λ i. read_move i (conf (p + 1) vs ops cs s)) is);
   }
 
@@ -189,8 +191,8 @@ module _ (form : FormTree) (places : Places) (defined : List (List ℕ)) (fs : L
       → Meets form (conf p vs (reverse ws ++ ops) cs s) (Value form cs total (conf p vs (reverse ws ++ ops) cs s) v most vs (p + 1) ops) (read_input s.input s)
   read_meets cs total v f [] p vs ops s most not_write is none e h =
       let called : call_of v f ≡ instruction.Read =
-      ap (λ b. if b then instruction.Write else (if same_name (codes "read_word") f then instruction.Read else instruction.Call (names_before v.places.functions f))) (same_name_symm (codes "write_word") f ∙ not_write)
-      ∙ ap (λ b. if b then instruction.Read else instruction.Call (names_before v.places.functions f)) (same_name_symm (codes "read_word") f ∙ is) in
+      ap (λ b. if b then instruction.Write else (if same_name (codes "read_word") f then instruction.Read else instruction.Call (names_before v.layout.functions f))) (same_name_symm (codes "write_word") f ∙ not_write)
+      ∙ ap (λ b. if b then instruction.Read else instruction.Call (names_before v.layout.functions f)) (same_name_symm (codes "read_word") f ∙ is) in
       read_by cs total v p vs ops s most s.input refl (e ∙ ap Some called) h
   read_meets cs total v f (w ∷ rest) p vs ops s most not_write is none e h = absurd (omega arith)
 
@@ -212,32 +214,32 @@ module _ (form : FormTree) (places : Places) (defined : List (List ℕ)) (fs : L
       ∙ ap (λ (l : List ℕ). Goes (conf start (l ++ replicate variables 0) [] (record { next = p; variables = vs; operands = ops } ∷ cs) t)) (reverse-reverse ws)
 
   -- a return to the caller
-  returns_to : (cs : List Activation) (total : ℕ) (v : Environment) (p most left w : ℕ) (vs ops : List ℕ) (s t : State) (c : Configuration) → v.places ≡ places → left ≤ most → Fits v total most vs s
+  returns_to : (cs : List Activation) (total : ℕ) (v : Environment) (p most left w : ℕ) (vs ops : List ℕ) (s t : State) (c : Configuration) → v.layout ≡ layout → left ≤ most → Fits v total most vs s
       → Returned (record { next = p; variables = vs; operands = ops } ∷ cs) c left w t → Value form cs total c v most vs p ops w (record t { locals = s.locals })
   returns_to cs total v p most left w vs ops s t c pl le h r =
       let a : Activation = record { next = p; variables = vs; operands = ops } in
       record {
-        fits = record { names = h.names; placed = r.placed ∙ ap (λ (x : Places). x.objects) (sym pl); junk = h.junk; holds = h.holds; room = h.room; steps = (let z = r.steps in omega arith) };
-        leads = leads_then form c (conf r.place r.variables (w ∷ r.operands) (a ∷ cs) t) (conf p vs (w ∷ ops) cs (record t { locals = s.locals })) r.leads
-            (instructed form instruction.Return r.place r.variables (w ∷ r.operands) (a ∷ cs) t (conf p vs (w ∷ ops) cs (record t { locals = s.locals })) r.here refl);
+        fits = record { names = h.names; laid = r.laid ∙ ap (λ (x : Layout). x.objects) (sym pl); junk = h.junk; holds = h.holds; room = h.room; steps = (let z = r.steps in omega arith) };
+        leads = leads_then form c (conf r.offset r.variables (w ∷ r.operands) (a ∷ cs) t) (conf p vs (w ∷ ops) cs (record t { locals = s.locals })) r.leads
+            (instructed form instruction.Return r.offset r.variables (w ∷ r.operands) (a ∷ cs) t (conf p vs (w ∷ ops) cs (record t { locals = s.locals })) r.here refl);
       }
 
   -- what a call move does
-  call_moves : (x : List ℕ) (e : Entered form places defined fs x) (v : Environment) (c : Configuration) → v.places ≡ places
-      → instruction_move form (instruction.Call (names_before v.places.functions x)) c
+  call_moves : (x : List ℕ) (e : Entered form layout defined fs x) (v : Environment) (c : Configuration) → v.layout ≡ layout
+      → instruction_move form (instruction.Call (names_before v.layout.functions x)) c
       ≡ call_move (Some (record { start = e.start; parameters = e.code.parameters; variables = e.code.variables })) c
-  call_moves x e v c pl = ap (λ (q : Places). call_move (slice_get form.functions (names_before q.functions x)) c) pl ∙ ap (λ o. call_move o c) e.entry
+  call_moves x e v c pl = ap (λ (q : Layout). call_move (slice_get form.functions (names_before q.functions x)) c) pl ∙ ap (λ o. call_move o c) e.entry
 
-  -- behind the step of a call
-  entered_by : (cs : List Activation) (total m : ℕ) (ih : (cs : List Activation) (total : ℕ) → CallsMeet form places TakesHere cs total m (calls m fs (1 + length cs))) (v : Environment) (f ws : List ℕ) (p : ℕ) (vs ops : List ℕ) (s : State)
-      (most left : ℕ) (allowed : Bool) (e : Entered form places defined fs f) → v.places ≡ places → length e.function.parameters ≡ length ws → slice_get form.code p ≡ Some (instruction.Call (names_before v.places.functions f))
+  -- after the step of a call
+  entered_by : (cs : List Activation) (total m : ℕ) (ih : (cs : List Activation) (total : ℕ) → CallsMeet form layout TakesHere cs total m (calls m fs (1 + length cs))) (v : Environment) (f ws : List ℕ) (p : ℕ) (vs ops : List ℕ) (s : State)
+      (most left : ℕ) (allowed : Bool) (e : Entered form layout defined fs f) → v.layout ≡ layout → length e.function.parameters ≡ length ws → slice_get form.code p ≡ Some (instruction.Call (names_before v.layout.functions f))
       → Fits v total most vs s → most < suc m → s.steps ≡ suc left → nat_lt (1 + length cs) most_open ≡ allowed
       → Meets form (conf p vs (reverse ws ++ ops) cs s) (Value form cs total (conf p vs (reverse ws ++ ops) cs s) v most vs (p + 1) ops)
       (elim allowed [ true ↦ run_optional (function_named fs f) m (calls m fs (1 + length cs + 1)) ws (record s { steps = left }) | false ↦ Wrong Depth s.output ])
   entered_by cs total m ih v f ws p vs ops s most left false e pl many at h lt is deep =
       let c = conf (p + 1) vs (reverse ws ++ ops) cs s in
       let entry : Entry = record { start = e.start; parameters = e.code.parameters; variables = e.code.variables } in
-      instructed_last form (instruction.Call (names_before v.places.functions f)) p vs (reverse ws ++ ops) cs s (outcome.Wrong Depth) at
+      instructed_last form (instruction.Call (names_before v.layout.functions f)) p vs (reverse ws ++ ops) cs s (outcome.Wrong Depth) at
       (call_moves f e v c pl ∙ ap (λ k. stepped k (λ l. if nat_lt (1 + length cs) most_open then entered entry l c else Stops (outcome.Wrong Depth))) is
       ∙ ap (λ b. if b then entered entry left c else Stops (outcome.Wrong Depth)) deep)
   entered_by cs total m ih v f ws p vs ops s most left true e pl many at h lt is deep =
@@ -252,44 +254,44 @@ module _ (form : FormTree) (places : Places) (defined : List (List ℕ)) (fs : L
       let t : State = record s { steps = left } in
       let inside = conf e.start (ws ++ replicate fc.variables 0) [] (a ∷ cs) t in
       let to : Leads form before inside =
-      instructed form (instruction.Call (names_before v.places.functions f)) p vs (reverse ws ++ ops) cs s inside at
+      instructed form (instruction.Call (names_before v.layout.functions f)) p vs (reverse ws ++ ops) cs s inside at
       (call_moves f e v c pl ∙ ap (λ k. stepped k (λ l. if nat_lt (1 + length cs) most_open then entered entry l c else Stops (outcome.Wrong Depth))) is
       ∙ ap (λ b. if b then entered entry left c else Stops (outcome.Wrong Depth)) deep ∙ entering e.start fc.variables left (p + 1) ws vs ops cs s fc.parameters count) in
       let call' : Calls = calls m fs (1 + length cs + 1) in
-      let meets : (total' : ℕ) → CallsMeet form places TakesHere (a ∷ cs) total' m call' =
-      λ total'. subst (λ k. CallsMeet form places TakesHere (a ∷ cs) total' m (calls m fs k)) (let z : 1 + length (a ∷ cs) ≡ 1 + length cs + 1 = omega arith in z) (ih (a ∷ cs) total') in
+      let meets : (total' : ℕ) → CallsMeet form layout TakesHere (a ∷ cs) total' m call' =
+      λ total'. subst (λ k. CallsMeet form layout TakesHere (a ∷ cs) total' m (calls m fs k)) (let z : 1 + length (a ∷ cs) ≡ 1 + length cs + 1 = omega arith in z) (ih (a ∷ cs) total') in
       let steps = h.steps in
       meets_same form before (Value form cs total before v most vs (p + 1) ops) (run_optional (function_named fs f) m call' ws t) (run_body g m call' ws t) (ap (λ o. run_optional o m call' ws t) e.is)
       (meets_then form before (λ flow u. Returned (a ∷ cs) before left (result_of flow) u) (Value form cs total before v most vs (p + 1) ops) (execute_all g.body m call' g.visible (record t { locals = bound g.parameters ws [] }))
       (λ flow u. Gives (result_of flow) (record u { locals = t.locals }))
       (meets_after form before inside (λ flow u. Returned (a ∷ cs) inside left (result_of flow) u) (λ flow u. Returned (a ∷ cs) before left (result_of flow) u) (execute_all g.body m call' g.visible (record t { locals = bound g.parameters ws [] })) to
       (λ flow u r. record {
-        place = r.place;
+        offset = r.offset;
         variables = r.variables;
         operands = r.operands;
         here = r.here;
-        leads = leads_then form before inside (conf r.place r.variables (result_of flow ∷ r.operands) (a ∷ cs) u) to r.leads;
-        placed = r.placed;
+        leads = leads_then form before inside (conf r.offset r.variables (result_of flow ∷ r.operands) (a ∷ cs) u) to r.leads;
+        laid = r.laid;
         steps = r.steps;
       })
-      (body_meets (a ∷ cs) m call' meets g fc d e.start left ws t (sym many) e.stands (omega arith) (omega arith) (h.placed ∙ ap (λ (x : Places). x.objects) pl)))
+      (body_meets (a ∷ cs) m call' meets g fc d e.start left ws t (sym many) e.stands (omega arith) (omega arith) (h.laid ∙ ap (λ (x : Layout). x.objects) pl)))
       (λ flow u r. returns_to cs total v (p + 1) most left (result_of flow) vs ops s u before pl (omega arith) h r))
 
-  spent_by : (cs : List Activation) (total m : ℕ) (ih : (cs : List Activation) (total : ℕ) → CallsMeet form places TakesHere cs total m (calls m fs (1 + length cs))) (v : Environment) (f ws : List ℕ) (p : ℕ) (vs ops : List ℕ) (s : State)
-      (most left : ℕ) (e : Entered form places defined fs f) → v.places ≡ places → length e.function.parameters ≡ length ws → slice_get form.code p ≡ Some (instruction.Call (names_before v.places.functions f))
+  spent_by : (cs : List Activation) (total m : ℕ) (ih : (cs : List Activation) (total : ℕ) → CallsMeet form layout TakesHere cs total m (calls m fs (1 + length cs))) (v : Environment) (f ws : List ℕ) (p : ℕ) (vs ops : List ℕ) (s : State)
+      (most left : ℕ) (e : Entered form layout defined fs f) → v.layout ≡ layout → length e.function.parameters ≡ length ws → slice_get form.code p ≡ Some (instruction.Call (names_before v.layout.functions f))
       → Fits v total most vs s → most < suc m → s.steps ≡ left
       → Meets form (conf p vs (reverse ws ++ ops) cs s) (Value form cs total (conf p vs (reverse ws ++ ops) cs s) v most vs (p + 1) ops)
       (spend_of left (λ t. elim (nat_lt (1 + length cs) most_open) [ true ↦ body_part fs (1 + length cs) f ws m t | false ↦ Wrong Depth t.output ]) s)
   spent_by cs total m ih v f ws p vs ops s most zero e pl many at h lt is =
       let c = conf (p + 1) vs (reverse ws ++ ops) cs s in
       let entry : Entry = record { start = e.start; parameters = e.code.parameters; variables = e.code.variables } in
-      instructed_last form (instruction.Call (names_before v.places.functions f)) p vs (reverse ws ++ ops) cs s outcome.Going at
+      instructed_last form (instruction.Call (names_before v.layout.functions f)) p vs (reverse ws ++ ops) cs s outcome.Going at
       (call_moves f e v c pl ∙ ap (λ k. stepped k (λ l. if nat_lt (1 + length cs) most_open then entered entry l c else Stops (outcome.Wrong Depth))) is)
   spent_by cs total m ih v f ws p vs ops s most (suc left) e pl many at h lt is =
       entered_by cs total m ih v f ws p vs ops s most left (nat_lt (1 + length cs) most_open) e pl many at h lt is refl
 
-  call_by : (cs : List Activation) (total m : ℕ) (ih : (cs : List Activation) (total : ℕ) → CallsMeet form places TakesHere cs total m (calls m fs (1 + length cs))) (v : Environment) (f ws : List ℕ) (p : ℕ) (vs ops : List ℕ) (s : State)
-      (most : ℕ) → v.places ≡ places → TakesHere f (length ws) → slice_get form.code p ≡ Some (call_of v f) → Fits v total most vs s → most < suc m
+  call_by : (cs : List Activation) (total m : ℕ) (ih : (cs : List Activation) (total : ℕ) → CallsMeet form layout TakesHere cs total m (calls m fs (1 + length cs))) (v : Environment) (f ws : List ℕ) (p : ℕ) (vs ops : List ℕ) (s : State)
+      (most : ℕ) → v.layout ≡ layout → TakesHere f (length ws) → slice_get form.code p ≡ Some (call_of v f) → Fits v total most vs s → most < suc m
       → Meets form (conf p vs (reverse ws ++ ops) cs s) (Value form cs total (conf p vs (reverse ws ++ ops) cs s) v most vs (p + 1) ops) (calls (suc m) fs (1 + length cs) f ws s)
   call_by cs total m ih v f ws p vs ops s most pl (Writes is one) at h lt =
       let c = conf p vs (reverse ws ++ ops) cs s in
@@ -303,30 +305,30 @@ module _ (form : FormTree) (places : Places) (defined : List (List ℕ)) (fs : L
   call_by cs total m ih v f ws p vs ops s most pl (Enters not_write other has many) at h lt =
       let c = conf p vs (reverse ws ++ ops) cs s in
       let e = table f has in
-      let called : call_of v f ≡ instruction.Call (names_before v.places.functions f) =
-      ap (λ b. if b then instruction.Write else (if same_name (codes "read_word") f then instruction.Read else instruction.Call (names_before v.places.functions f))) (same_name_symm (codes "write_word") f ∙ not_write)
-      ∙ ap (λ b. if b then instruction.Read else instruction.Call (names_before v.places.functions f)) (same_name_symm (codes "read_word") f ∙ other) in
+      let called : call_of v f ≡ instruction.Call (names_before v.layout.functions f) =
+      ap (λ b. if b then instruction.Write else (if same_name (codes "read_word") f then instruction.Read else instruction.Call (names_before v.layout.functions f))) (same_name_symm (codes "write_word") f ∙ not_write)
+      ∙ ap (λ b. if b then instruction.Read else instruction.Call (names_before v.layout.functions f)) (same_name_symm (codes "read_word") f ∙ other) in
       meets_same form c (Value form cs total c v most vs (p + 1) ops) (calls (suc m) fs (1 + length cs) f ws s) (begun false false (nat_lt (1 + length cs) most_open) (body_part fs (1 + length cs) f ws) ws m s)
       (call_begins fs (1 + length cs) f ws m s not_write other) (spent_by cs total m ih v f ws p vs ops s most s.steps e pl (many e.function e.is) (at ∙ ap Some called) h lt refl)
 
-  pub calls_meet : (n : ℕ) (cs : List Activation) (total : ℕ) → CallsMeet form places TakesHere cs total n (calls n fs (1 + length cs))
+  pub calls_meet : (n : ℕ) (cs : List Activation) (total : ℕ) → CallsMeet form layout TakesHere cs total n (calls n fs (1 + length cs))
   calls_meet zero cs total = λ v f ws p vs ops s most pl takes at h lt. absurd (omega arith)
   calls_meet (suc m) cs total = λ v f ws p vs ops s most pl takes at h lt. call_by cs total m (calls_meet m) v f ws p vs ops s most pl takes at h lt
 
   -- ---- main
 
   -- a body that no other calls: the run stops as the source does
-  pub main_meets : (n : ℕ) (e : (x : List ℕ) × Entered form places defined fs x) (t : State) (opened : ℕ) → opened ≡ 1 → (e.1).function.parameters ≡ [] → t.steps < n → places_from 0 t.globals ≡ places.objects
+  pub main_meets : (n : ℕ) (e : (x : List ℕ) × Entered form layout defined fs x) (t : State) (opened : ℕ) → opened ≡ 1 → (e.1).function.parameters ≡ [] → t.steps < n → layout_from 0 t.globals ≡ layout.objects
       → Meets form (conf (e.1).start (replicate (e.1).code.variables 0) [] [] t) (λ w u. Halts form (conf (e.1).start (replicate (e.1).code.variables 0) [] [] t) (record { stop = outcome.Ended w; output = u.output }))
       (run_body (e.1).function n (calls n fs opened) [] t)
-  main_meets n e t opened one none lt placed =
+  main_meets n e t opened one none lt laid =
       let x = e.1 in
       let g = x.function in
       let c = conf x.start (replicate x.code.variables 0) [] [] t in
-      let meets : (total' : ℕ) → CallsMeet form places TakesHere [] total' n (calls n fs opened) =
-      λ total'. subst (λ k. CallsMeet form places TakesHere [] total' n (calls n fs k)) (let z : 1 + 0 ≡ opened = omega arith in z) (calls_meet n [] total') in
+      let meets : (total' : ℕ) → CallsMeet form layout TakesHere [] total' n (calls n fs opened) =
+      λ total'. subst (λ k. CallsMeet form layout TakesHere [] total' n (calls n fs k)) (let z : 1 + 0 ≡ opened = omega arith in z) (calls_meet n [] total') in
       meets_then form c (λ flow u. Returned [] c t.steps (result_of flow) u) (λ w u. Halts form c (record { stop = outcome.Ended w; output = u.output })) (execute_all g.body n (calls n fs opened) g.visible (record t { locals = bound g.parameters [] [] }))
       (λ flow u. Gives (result_of flow) (record u { locals = t.locals }))
-      (body_meets [] n (calls n fs opened) meets g x.code x.means x.start t.steps [] t (ap (λ (xs : List (List ℕ)). length xs) (sym none)) x.stands lt (omega arith) placed)
+      (body_meets [] n (calls n fs opened) meets g x.code x.means x.start t.steps [] t (ap (λ (xs : List (List ℕ)). length xs) (sym none)) x.stands lt (omega arith) laid)
       (λ flow u r. (r.leads).goes (record { stop = outcome.Ended (result_of flow); output = u.output })
-      (instructed_last form instruction.Return r.place r.variables (result_of flow ∷ r.operands) [] u (outcome.Ended (result_of flow)) r.here refl))
+      (instructed_last form instruction.Return r.offset r.variables (result_of flow ∷ r.operands) [] u (outcome.Ended (result_of flow)) r.here refl))

@@ -6,10 +6,12 @@ use Rattle.cc_typing.specs.Scope.{found}
 use Rattle.cc_typing.specs.Types.{value_type}
 use Rattle.cc_typing.specs.Rules.{array_offences, function_offences, count_of, void_offences, expression_offences, argument_offences, undefined_among, called_in, called_in_all}
 use Rattle.cc_typing.specs.declared.rule.Rule.TheVariants.{WrongKind}
-use Rattle.cc_typing.specs.declared.form.Instruction.TheVariants as instruction
-use Rattle.cc_typing.specs.Resolve.{FormTree, Environment, Places, types_in, extent_of, unary_code, load, call_of, expression_code, arguments_code}
+use Rattle.cc_meaning.specs.declared.form.Instruction.TheVariants as instruction
+use Rattle.cc_meaning.specs.internal.Form.{FormTree, unary_code, load, call_of, expression_code, arguments_code}
+use Rattle.cc_resolve.specs.Environment.{Environment, types_in}
+use Rattle.cc_resolve.specs.Layout.{Layout, extent_of}
 use Rattle.cc_meaning.specs.Meaning.{State, Gives, then_do, Calls, variable_word, read_element, evaluate, evaluate_all}
-use Rattle.cc_meaning.specs.FormMeaning.{Activation}
+use Rattle.cc_meaning.specs.internal.FormMeaning.{Activation}
 use Rattle.cc_meaning.proofs.Offences.{nil_left, nil_right, defined_left, defined_right, is_defined, variable_found, function_found}
 use Rattle.cc_meaning.proofs.Held.{newest_last}
 use Rattle.cc_meaning.proofs.Moves.{Leads, leads_refl, leads_then, conf, Meets, meets_then, meets_after, Stands, stands_left, stands_right}
@@ -17,19 +19,19 @@ use Rattle.cc_meaning.proofs.Plain.{kind_of}
 use Rattle.cc_meaning.proofs.Fits.{Fits, Scoped, load_move}
 use Rattle.cc_meaning.proofs.Expressions.{Value, Values, CallsMeet, Part, value_after, pushes, element_meets, unary_leads, binary_meets, conditional_meets}
 
-module _ (form : FormTree) (cs : List Activation) (total : ℕ) (places : Places) (defined : List (List ℕ)) (Takes : List ℕ → ℕ → Type 0) (n : ℕ) (call : Calls) (calls_meet : CallsMeet form places Takes cs total n call) where
+module _ (form : FormTree) (cs : List Activation) (total : ℕ) (layout : Layout) (defined : List (List ℕ)) (Takes : List ℕ → ℕ → Type 0) (n : ℕ) (call : Calls) (calls_meet : CallsMeet form layout Takes cs total n call) where
   -- arguments, one after the other
   abbrev Arguments : Environment → (most : ℕ) (vs : List ℕ) → Exprs → Type 0
   Arguments v most vs es =
       (p : ℕ) (ops : List ℕ) (s : State) → Stands form.code p (arguments_code v es) → Fits v total most vs s
       → Meets form (conf p vs ops cs s) (Values form cs total (conf p vs ops cs s) v most vs (p + length (arguments_code v es)) (count_of es) ops) (evaluate_all es (types_in v) call s)
 
-  -- what a word is pushed for, and the instruction behind it
+  -- what a word is pushed for, and the instruction after it
   element_part : (e : Expr) (x : Name) (v : Environment) (most : ℕ) (vs : List ℕ) → Part form cs total v most vs (expression_code v e) (evaluate e (types_in v) call)
       → Part form cs total v most vs (expression_code v (Element x e)) (evaluate (Element x e) (types_in v) call)
   element_part e x v most vs f p ops s st h =
       let code = expression_code v e in
-      let last = instruction.Element (extent_of v.places.objects x.text) ∷ [] in
+      let last = instruction.Element (extent_of v.layout.objects x.text) ∷ [] in
       let c = conf p vs ops cs s in
       let size = length-append code last in
       let in_last = stands_right form.code p (p + length code) code last refl st in
@@ -49,7 +51,7 @@ module _ (form : FormTree) (cs : List Activation) (total : ℕ) (places : Places
       (λ a t got. value_after form cs total v most vs ops c (conf (p + length code) vs (a ∷ ops) cs t) (p + length code + length (unary_code op)) (p + length (code ++ unary_code op)) (Gives (unary_word op a) t) got.leads (omega arith)
       (unary_leads form cs total v most vs ops (p + length code) a op t (stands_right form.code p (p + length code) code (unary_code op) refl st) got.fits))
 
-  call_part : (f : Name) (es : Exprs) (v : Environment) (most : ℕ) (vs : List ℕ) → Scoped places defined Takes v → most < n → Takes f.text (count_of es) → Arguments v most vs es
+  call_part : (f : Name) (es : Exprs) (v : Environment) (most : ℕ) (vs : List ℕ) → Scoped layout defined Takes v → most < n → Takes f.text (count_of es) → Arguments v most vs es
       → Part form cs total v most vs (expression_code v (Call f es)) (evaluate (Call f es) (types_in v) call)
   call_part f es v most vs scoped lt takes args p ops s st h =
       let code = arguments_code v es in
@@ -60,9 +62,9 @@ module _ (form : FormTree) (cs : List Activation) (total : ℕ) (places : Places
       meets_then form c (Values form cs total c v most vs (p + length code) (count_of es) ops) (Value form cs total c v most vs (p + length (code ++ last)) ops) (evaluate_all es (types_in v) call s)
       (λ ws t. call f.text ws t) (args p ops s (stands_left form.code p code last st) h)
       (λ ws t got. value_after form cs total v most vs ops c (conf (p + length code) vs (reverse ws ++ ops) cs t) (p + length code + 1) (p + length (code ++ last)) (call f.text ws t) got.leads (omega arith)
-      (calls_meet v f.text ws (p + length code) vs ops t most scoped.placed (subst (Takes f.text) (sym got.many) takes) in_last.0 got.fits lt))
+      (calls_meet v f.text ws (p + length code) vs ops t most scoped.laid (subst (Takes f.text) (sym got.many) takes) in_last.0 got.fits lt))
 
-  takes_of : (f : Name) (es : Exprs) (v : Environment) → Scoped places defined Takes v → function_offences (found (types_in v) f.text) (count_of es) f.at ≡ []
+  takes_of : (f : Name) (es : Exprs) (v : Environment) → Scoped layout defined Takes v → function_offences (found (types_in v) f.text) (count_of es) f.at ≡ []
       → undefined_among defined (called_in (Call f es)) ≡ [] → Takes f.text (count_of es)
   takes_of f es v scoped e d =
       let g = function_found (found (types_in v) f.text) (count_of es) f.at e in
@@ -92,7 +94,7 @@ module _ (form : FormTree) (cs : List Activation) (total : ℕ) (places : Places
       })))
 
   mutual
-    pub expression_meets : (e : Expr) (v : Environment) (most : ℕ) (vs : List ℕ) → Scoped places defined Takes v → most < n → expression_offences (types_in v) e ≡ [] → undefined_among defined (called_in e) ≡ []
+    pub expression_meets : (e : Expr) (v : Environment) (most : ℕ) (vs : List ℕ) → Scoped layout defined Takes v → most < n → expression_offences (types_in v) e ≡ [] → undefined_among defined (called_in e) ≡ []
         → Part form cs total v most vs (expression_code v e) (evaluate e (types_in v) call)
     expression_meets (Number t k) v most vs scoped lt e d = λ p ops s st h. pushes form cs total v most vs ops ops p (p + 1) k s (instruction.Constant k) st.0 h refl refl
     expression_meets (Variable x) v most vs scoped lt e d = λ p ops s st h.
@@ -128,7 +130,7 @@ module _ (form : FormTree) (cs : List Activation) (total : ℕ) (places : Places
         (expression_meets a v most vs scoped lt (nil_left (expression_offences bs a) (void_offences bs a) of_a) (defined_left defined (called_in a) (called_in b) d_ab))
         (expression_meets b v most vs scoped lt (nil_left (expression_offences bs b) (void_offences bs b) of_b) (defined_right defined (called_in a) (called_in b) d_ab))
 
-    pub arguments_meet : (es : Exprs) (v : Environment) (most : ℕ) (vs : List ℕ) → Scoped places defined Takes v → most < n → argument_offences (types_in v) es ≡ [] → undefined_among defined (called_in_all es) ≡ []
+    pub arguments_meet : (es : Exprs) (v : Environment) (most : ℕ) (vs : List ℕ) → Scoped layout defined Takes v → most < n → argument_offences (types_in v) es ≡ [] → undefined_among defined (called_in_all es) ≡ []
         → Arguments v most vs es
     arguments_meet none v most vs scoped lt e d = λ p ops s st h.
         record { fits = h; many = refl; leads = subst (λ k. Leads form (conf p vs ops cs s) (conf k vs ops cs s)) (let z : p ≡ p + 0 = omega arith in z) (leads_refl form (conf p vs ops cs s)) }

@@ -3,28 +3,31 @@ use Rattle.std.proofs.Common.{◌≡◌, ℕ, zero, suc, ◌+◌, ◌<◌, ◌�
 use Rattle.std.proofs.lemmas.Bool.Decides.{leb_tells}
 use Rattle.std.proofs.Math.Dec.{eqb-suc-zero}
 use Rattle.cc_words.specs.Words.{truth_value}
-use Rattle.cc_syntax.specs.declared.ast.Scalar.{Scalar}
+use Rattle.cc_tokens.specs.declared.scalar.Scalar.{Scalar}
 use Rattle.cc_syntax.specs.declared.ast.UnaryOperator.{UnaryOperator}
 use Rattle.cc_syntax.specs.declared.ast.UnaryOperator.TheVariants as unary
 use Rattle.cc_syntax.specs.declared.ast.BinaryOperator.{BinaryOperator}
 use Rattle.cc_syntax.specs.declared.ast.BinaryOperator.TheVariants.{LogicalAnd, LogicalOr}
 use Rattle.cc_typing.specs.Operators.{unary_word, binary_word, decided, is_true}
-use Rattle.cc_typing.specs.declared.form.Extent.{Extent}
-use Rattle.cc_typing.specs.declared.form.BinaryOperation.{BinaryOperation}
-use Rattle.cc_typing.specs.declared.form.Instruction.{Instruction}
-use Rattle.cc_typing.specs.declared.form.Instruction.TheVariants as instruction
-use Rattle.cc_typing.specs.Resolve.{FormTree, Environment, Places, extent_of, operation, unary_code, call_of, joined}
+use Rattle.cc_resolve.specs.declared.layout.Extent.{Extent}
+use Rattle.cc_resolve.specs.declared.operations.BinaryOperation.{BinaryOperation}
+use Rattle.cc_meaning.specs.declared.form.Instruction.{Instruction}
+use Rattle.cc_meaning.specs.declared.form.Instruction.TheVariants as instruction
+use Rattle.cc_meaning.specs.internal.Form.{FormTree, unary_code, call_of, joined}
+use Rattle.cc_resolve.specs.Environment.{Environment}
+use Rattle.cc_resolve.specs.Layout.{Layout, extent_of}
+use Rattle.cc_resolve.specs.Operations.{operation}
 use Rattle.cc_meaning.specs.Outcome as outcome
 use Rattle.cc_meaning.specs.declared.outcome.Cause.TheVariants.{Index}
 use Rattle.cc_meaning.specs.Meaning.{State, Run, Gives, Wrong, then_do, choose, Calls, words_of, read_element, cause_of, given, unless_decided}
-use Rattle.cc_meaning.specs.FormMeaning.{Activation, Configuration, Move, Goes, Stops, instruction_move, cause_of_operation, with_word}
+use Rattle.cc_meaning.specs.internal.FormMeaning.{Activation, Configuration, Move, Goes, Stops, instruction_move, cause_of_operation, with_word}
 use Rattle.cc_meaning.proofs.Named.{there}
 use Rattle.cc_meaning.proofs.Held.{all_of, get_past}
 use Rattle.cc_meaning.proofs.Moves.{Leads, leads_refl, leads_then, conf, Meets, meets_then, meets_after, meets_same, Stands, stands_end, stands_left, stands_right, instructed, instructed_last, may_jump, jumps}
 use Rattle.cc_meaning.proofs.Plain.{IsPlain, Kind, IsAnd, IsOr, IsOther}
 use Rattle.cc_meaning.proofs.Fits.{Fits, found_object}
 
--- the form gives a word behind some instructions, over the operands that were there
+-- the form gives a word after some instructions, over the operands that were there
 pub record Value (form : FormTree) (cs : List Activation) (total : ℕ) (c : Configuration) (v : Environment) (most : ℕ) (vs : List ℕ) (q : ℕ) (ops : List ℕ) (w : ℕ) (t : State) : Type 0 where
   pub fits : Fits v total most vs t
   pub leads : Leads form c (conf q vs (w ∷ ops) cs t)
@@ -36,10 +39,10 @@ pub record Values (form : FormTree) (cs : List Activation) (total : ℕ) (c : Co
   pub leads : Leads form c (conf q vs (reverse ws ++ ops) cs t)
 
 -- each call that takes so many words gives in the form what it gives in the source, where fewer than n steps are left
-abbrev pub CallsMeet : FormTree → Places → (List ℕ → ℕ → Type 0) → List Activation → (total n : ℕ) → Calls → Type 0
-CallsMeet form places Takes cs total n call =
+abbrev pub CallsMeet : FormTree → Layout → (List ℕ → ℕ → Type 0) → List Activation → (total n : ℕ) → Calls → Type 0
+CallsMeet form layout Takes cs total n call =
     (v : Environment) (f ws : List ℕ) (p : ℕ) (vs ops : List ℕ) (s : State) (most : ℕ)
-    → v.places ≡ places → Takes f (length ws) → slice_get form.code p ≡ Some (call_of v f) → Fits v total most vs s → most < n
+    → v.layout ≡ layout → Takes f (length ws) → slice_get form.code p ≡ Some (call_of v f) → Fits v total most vs s → most < n
     → Meets form (conf p vs (reverse ws ++ ops) cs s) (Value form cs total (conf p vs (reverse ws ++ ops) cs s) v most vs (p + 1) ops) (call f ws s)
 
 module _ (form : FormTree) (cs : List Activation) (total : ℕ) where
@@ -49,7 +52,7 @@ module _ (form : FormTree) (cs : List Activation) (total : ℕ) where
       (p : ℕ) (ops : List ℕ) (s : State) → Stands form.code p code → Fits v total most vs s
       → Meets form (conf p vs ops cs s) (Value form cs total (conf p vs ops cs s) v most vs (p + length code) ops) (part s)
 
-  -- behind some moves, and at another way to write the place
+  -- after some moves, and at another way to write the place
   pub value_after : (v : Environment) (most : ℕ) (vs ops : List ℕ) (c d : Configuration) (q q' : ℕ) (r : Run ℕ) → Leads form c d → q ≡ q'
       → Meets form d (Value form cs total d v most vs q ops) r → Meets form c (Value form cs total c v most vs q' ops) r
   value_after v most vs ops c d q q' r p e h =
@@ -67,22 +70,22 @@ module _ (form : FormTree) (cs : List Activation) (total : ℕ) where
 
   -- ---- elements
 
-  element_by : (v : Environment) (most : ℕ) (vs ops : List ℕ) (p i : ℕ) (x : List ℕ) (s : State) (o : Option ℕ) → slice_get form.code p ≡ Some (instruction.Element (extent_of v.places.objects x)) → Fits v total most vs s
+  element_by : (v : Environment) (most : ℕ) (vs ops : List ℕ) (p i : ℕ) (x : List ℕ) (s : State) (o : Option ℕ) → slice_get form.code p ≡ Some (instruction.Element (extent_of v.layout.objects x)) → Fits v total most vs s
       → slice_get (words_of s.globals x) i ≡ o
-      → instruction_move form (instruction.Element (extent_of v.places.objects x)) (conf (p + 1) vs (i ∷ ops) cs s)
+      → instruction_move form (instruction.Element (extent_of v.layout.objects x)) (conf (p + 1) vs (i ∷ ops) cs s)
       ≡ elim o [ None ↦ Stops (outcome.Wrong Index) | Some w ↦ Goes (conf (p + 1) vs (w ∷ ops) cs s) ]
       → Meets form (conf p vs (i ∷ ops) cs s) (Value form cs total (conf p vs (i ∷ ops) cs s) v most vs (p + 1) ops) (elim o [ None ↦ Wrong Index s.output | Some w ↦ Gives w s ])
-  element_by v most vs ops p i x s None e h is move = instructed_last form (instruction.Element (extent_of v.places.objects x)) p vs (i ∷ ops) cs s (outcome.Wrong Index) e move
-  element_by v most vs ops p i x s (Some w) e h is move = pushes v most vs (i ∷ ops) ops p (p + 1) w s (instruction.Element (extent_of v.places.objects x)) e h refl move
+  element_by v most vs ops p i x s None e h is move = instructed_last form (instruction.Element (extent_of v.layout.objects x)) p vs (i ∷ ops) cs s (outcome.Wrong Index) e move
+  element_by v most vs ops p i x s (Some w) e h is move = pushes v most vs (i ∷ ops) ops p (p + 1) w s (instruction.Element (extent_of v.layout.objects x)) e h refl move
 
   -- what the instruction does, by what is in the array
   element_move : (v : Environment) (most : ℕ) (vs ops : List ℕ) (p i : ℕ) (x : List ℕ) (s : State) → Fits v total most vs s
-      → instruction_move form (instruction.Element (extent_of v.places.objects x)) (conf p vs (i ∷ ops) cs s)
+      → instruction_move form (instruction.Element (extent_of v.layout.objects x)) (conf p vs (i ∷ ops) cs s)
       ≡ elim (slice_get (words_of s.globals x) i) [ None ↦ Stops (outcome.Wrong Index) | Some w ↦ Goes (conf p vs (w ∷ ops) cs s) ]
   element_move v most vs ops p i x s h =
-      let ext : Extent = extent_of v.places.objects x in
+      let ext : Extent = extent_of v.layout.objects x in
       let f = found_object v total most vs s x h in
-      let going : Move = with_word (slice_get (all_of s.globals) (ext.place + i)) (λ w. Goes (conf p vs (w ∷ ops) cs s)) in
+      let going : Move = with_word (slice_get (all_of s.globals) (ext.offset + i)) (λ w. Goes (conf p vs (w ∷ ops) cs s)) in
       elim (leb_tells (suc i) ext.length) [
         | inl t ↦
             (let lt : i < ext.length = t.1 in
@@ -96,7 +99,7 @@ module _ (form : FormTree) (cs : List Activation) (total : ℕ) where
             ∙ ap (λ (o : Option ℕ). elim o [ None ↦ Stops (outcome.Wrong Index) | Some w ↦ Goes (conf p vs (w ∷ ops) cs s) ]) (sym past))
       ]
 
-  pub element_meets : (v : Environment) (most : ℕ) (vs ops : List ℕ) (p i : ℕ) (x : List ℕ) (s : State) → slice_get form.code p ≡ Some (instruction.Element (extent_of v.places.objects x)) → Fits v total most vs s
+  pub element_meets : (v : Environment) (most : ℕ) (vs ops : List ℕ) (p i : ℕ) (x : List ℕ) (s : State) → slice_get form.code p ≡ Some (instruction.Element (extent_of v.layout.objects x)) → Fits v total most vs s
       → Meets form (conf p vs (i ∷ ops) cs s) (Value form cs total (conf p vs (i ∷ ops) cs s) v most vs (p + 1) ops) (read_element x i s)
   element_meets v most vs ops p i x s e h = element_by v most vs ops p i x s (slice_get (words_of s.globals x) i) e h refl (element_move v most vs ops (p + 1) i x s h)
 

@@ -2,23 +2,25 @@
 -- it.
 use Rattle.std.proofs.Common.{◌≡◌, ℕ, ◌+◌, ◌<◌, ◌≤◌, Bool, true, false, if◌then◌else◌, List, [], ◌∷◌, ◌++◌, length, reverse, nat_lt, ◌⊎◌, inl, inr, Option, Some, None, is_some, slice_get, slice_set, unwrap_or, refl, sym, ap, ◌∙◌, subst, arith}
 use Rattle.std.proofs.lemmas.Bool.{lt-ltb}
-use Rattle.cc_syntax.specs.declared.ast.Scalar.{Scalar}
+use Rattle.cc_tokens.specs.declared.scalar.Scalar.{Scalar}
 use Rattle.cc_typing.specs.Names.{same_name}
 use Rattle.cc_typing.specs.Scope as scope
 use Rattle.cc_typing.specs.Scope.{Binding, found, declared}
-use Rattle.cc_typing.specs.declared.form.Instruction.TheVariants as instruction
-use Rattle.cc_typing.specs.Resolve.{FormTree, Environment, Places, types_in, inner, with_local, number_in, extent_of, load}
+use Rattle.cc_meaning.specs.declared.form.Instruction.TheVariants as instruction
+use Rattle.cc_meaning.specs.internal.Form.{FormTree, load}
+use Rattle.cc_resolve.specs.Environment.{Environment, types_in, inner, with_local, number_in}
+use Rattle.cc_resolve.specs.Layout.{Layout, extent_of}
 use Rattle.cc_meaning.specs.Meaning.{State, local_word, words_of, with_local_word, with_element, variable_word, stored}
-use Rattle.cc_meaning.specs.FormMeaning.{Activation, Goes, instruction_move, with_word}
+use Rattle.cc_meaning.specs.internal.FormMeaning.{Activation, Goes, instruction_move, with_word}
 use Rattle.cc_meaning.proofs.Named.{there}
-use Rattle.cc_meaning.proofs.Held.{names_of, words_in, reads_local, no_local, writes_local, all_of, places_from, Finds, finds, places_keep, length_slice_set, get_below}
+use Rattle.cc_meaning.proofs.Held.{names_of, words_in, reads_local, no_local, writes_local, all_of, layout_from, Finds, finds, layout_keep, length_slice_set, get_below}
 use Rattle.cc_meaning.proofs.Moves.{conf}
 
--- the variables are the words of the locals, the oldest first, with others behind them that no name has; the objects stand
+-- the variables are the words of the locals, the oldest first, with others after them that no name has; the objects stand
 -- where they are placed; at most so many steps are left
 pub record Fits (v : Environment) (total most : ℕ) (vs : List ℕ) (s : State) : Type 0 where
   pub names : names_of s.locals ≡ v.locals
-  pub placed : places_from 0 s.globals ≡ v.places.objects
+  pub laid : layout_from 0 s.globals ≡ v.layout.objects
   pub junk : List ℕ
   pub holds : vs ≡ reverse (words_in s.locals) ++ junk
   pub room : length vs ≡ total
@@ -26,16 +28,16 @@ pub record Fits (v : Environment) (total most : ℕ) (vs : List ℕ) (s : State)
 
 -- a variable in scope is a local, or an object of one word
 abbrev pub Readable : Environment → List ℕ → Type 0
-Readable v x = ((i : ℕ) × (number_in v.locals x ≡ Some i)) ⊎ ((number_in v.locals x ≡ None) × ((extent_of v.places.objects x).length ≡ 1))
+Readable v x = ((i : ℕ) × (number_in v.locals x ≡ Some i)) ⊎ ((number_in v.locals x ≡ None) × ((extent_of v.layout.objects x).length ≡ 1))
 
 -- what names in scope lead to; `Takes f n` says that f is called with n words
-pub record Scoped (places : Places) (defined : List (List ℕ)) (Takes : List ℕ → ℕ → Type 0) (v : Environment) : Type 0 where
-  pub placed : v.places ≡ places
+pub record Scoped (layout : Layout) (defined : List (List ℕ)) (Takes : List ℕ → ℕ → Type 0) (v : Environment) : Type 0 where
+  pub laid : v.layout ≡ layout
   pub variable : (x : List ℕ) (t : Scalar) → found (types_in v) x ≡ Some (scope.Variable t) → Readable v x
   pub function : (f : List ℕ) (r : Option Scalar) (ts : List Scalar) → found (types_in v) f ≡ Some (scope.Function r ts) → scope.has_name defined f ≡ true → Takes f (length ts)
 
-pub scoped_inner : (places : Places) (defined : List (List ℕ)) (Takes : List ℕ → ℕ → Type 0) (v : Environment) → Scoped places defined Takes v → Scoped places defined Takes (inner v)
-scoped_inner places defined Takes v h = record { placed = h.placed; variable = h.variable; function = h.function }
+pub scoped_inner : (layout : Layout) (defined : List (List ℕ)) (Takes : List ℕ → ℕ → Type 0) (v : Environment) → Scoped layout defined Takes v → Scoped layout defined Takes (inner v)
+scoped_inner layout defined Takes v h = record { laid = h.laid; variable = h.variable; function = h.function }
 
 local_readable : (v : Environment) (t u : Scalar) (x y : List ℕ) (b : Bool) → same_name x y ≡ b
     → (if b then Some (scope.Variable t) else found (types_in v) y) ≡ Some (scope.Variable u) → (found (types_in v) y ≡ Some (scope.Variable u) → Readable v y) → Readable (with_local t x v) y
@@ -49,18 +51,18 @@ local_called : (v : Environment) (t : Scalar) (x f : List ℕ) (r : Option Scala
 local_called v t x f r ts true e = absurd (let g : Some (scope.Variable t) ≡ Some (scope.Function r ts) = e in cc)
 local_called v t x f r ts false e = e
 
-pub scoped_local : (places : Places) (defined : List (List ℕ)) (Takes : List ℕ → ℕ → Type 0) (t : Scalar) (x : List ℕ) (v : Environment)
-    → Scoped places defined Takes v → Scoped places defined Takes (with_local t x v)
-scoped_local places defined Takes t x v h = record {
-  placed = h.placed;
+pub scoped_local : (layout : Layout) (defined : List (List ℕ)) (Takes : List ℕ → ℕ → Type 0) (t : Scalar) (x : List ℕ) (v : Environment)
+    → Scoped layout defined Takes v → Scoped layout defined Takes (with_local t x v)
+scoped_local layout defined Takes t x v h = record {
+  laid = h.laid;
   variable = λ y u e. local_readable v t u x y (same_name x y) refl e (h.variable y u);
   function = λ f r ts e d. h.function f r ts (local_called v t x f r ts (same_name x f) e) d;
 }
 
 -- ---- objects
 
-pub found_object : (v : Environment) (total most : ℕ) (vs : List ℕ) (s : State) (x : List ℕ) → Fits v total most vs s → Finds [] s.globals x (extent_of v.places.objects x)
-found_object v total most vs s x h = subst (λ ps. Finds [] s.globals x (extent_of ps x)) h.placed (finds [] s.globals x 0 refl)
+pub found_object : (v : Environment) (total most : ℕ) (vs : List ℕ) (s : State) (x : List ℕ) → Fits v total most vs s → Finds [] s.globals x (extent_of v.layout.objects x)
+found_object v total most vs s x h = subst (λ ps. Finds [] s.globals x (extent_of ps x)) h.laid (finds [] s.globals x 0 refl)
 
 -- ---- reading a variable
 
@@ -69,20 +71,20 @@ load_local : (form : FormTree) (v : Environment) (total most p : ℕ) (vs ops : 
 load_local form v total most p vs ops cs s x i h e =
     let r = reads_local s.locals h.junk x i (ap (λ ns. number_in ns x) h.names ∙ e) in
     let here : slice_get vs i ≡ Some r.word = ap (λ (l : List ℕ). slice_get l i) h.holds ∙ r.by_number in
-    ap (λ (o : Option ℕ). instruction_move form (elim o [ None ↦ instruction.Global (extent_of v.places.objects x).place | Some k ↦ instruction.Local k ]) (conf p vs ops cs s)) e
+    ap (λ (o : Option ℕ). instruction_move form (elim o [ None ↦ instruction.Global (extent_of v.layout.objects x).offset | Some k ↦ instruction.Local k ]) (conf p vs ops cs s)) e
     ∙ ap (λ (o : Option ℕ). with_word o (λ w. Goes (conf p vs (w ∷ ops) cs s))) here
     ∙ ap (λ (o : Option ℕ). Goes (conf p vs (unwrap_or o (unwrap_or (slice_get (words_of s.globals x) 0) 0) ∷ ops) cs s)) (sym r.by_name)
 
 load_global : (form : FormTree) (v : Environment) (total most p : ℕ) (vs ops : List ℕ) (cs : List Activation) (s : State) (x : List ℕ) → Fits v total most vs s → number_in v.locals x ≡ None
-    → (extent_of v.places.objects x).length ≡ 1 → instruction_move form (load v x) (conf p vs ops cs s) ≡ Goes (conf p vs (variable_word x s ∷ ops) cs s)
+    → (extent_of v.layout.objects x).length ≡ 1 → instruction_move form (load v x) (conf p vs ops cs s) ≡ Goes (conf p vs (variable_word x s ∷ ops) cs s)
 load_global form v total most p vs ops cs s x h e one =
-    let place : ℕ = (extent_of v.places.objects x).place in
+    let offset : ℕ = (extent_of v.layout.objects x).offset in
     let f = found_object v total most vs s x h in
     let got = there (words_of s.globals x) 0 (let k = f.size in omega arith) in
-    let here : slice_get (all_of s.globals) place ≡ Some got.0 =
-    ap (λ k. slice_get (all_of s.globals) k) (let z : place ≡ place + 0 = omega arith in z) ∙ f.reads 0 (omega arith) ∙ got.1 in
+    let here : slice_get (all_of s.globals) offset ≡ Some got.0 =
+    ap (λ k. slice_get (all_of s.globals) k) (let z : offset ≡ offset + 0 = omega arith in z) ∙ f.reads 0 (omega arith) ∙ got.1 in
     let none : local_word s.locals x ≡ None = no_local s.locals x (ap (λ ns. number_in ns x) h.names ∙ e) in
-    ap (λ (o : Option ℕ). instruction_move form (elim o [ None ↦ instruction.Global (extent_of v.places.objects x).place | Some k ↦ instruction.Local k ]) (conf p vs ops cs s)) e
+    ap (λ (o : Option ℕ). instruction_move form (elim o [ None ↦ instruction.Global (extent_of v.layout.objects x).offset | Some k ↦ instruction.Local k ]) (conf p vs ops cs s)) e
     ∙ ap (λ (o : Option ℕ). with_word o (λ w. Goes (conf p vs (w ∷ ops) cs s))) here
     ∙ ap (λ (o : Option ℕ). Goes (conf p vs (unwrap_or o 0 ∷ ops) cs s)) (sym got.1)
     ∙ ap (λ (o : Option ℕ). Goes (conf p vs (unwrap_or o (unwrap_or (slice_get (words_of s.globals x) 0) 0) ∷ ops) cs s)) (sym none)
@@ -102,7 +104,7 @@ stored_global : (x : List ℕ) (w : ℕ) (s : State) → local_word s.locals x �
 stored_global x w s e =
     ap (λ o. if is_some o then record s { locals = with_local_word x w s.locals } else record s { globals = with_element x 0 w s.globals }) e
 
--- the variables behind a write to a local
+-- the variables after a write to a local
 pub record Sets (v : Environment) (total most : ℕ) (vs : List ℕ) (s : State) (x : List ℕ) (i w : ℕ) : Type 0 where
   pub below : nat_lt i (length vs) ≡ true
   pub fits : Fits v total most (slice_set vs i w) (stored x w s)
@@ -120,7 +122,7 @@ sets_local v total most vs s x i w h e =
       below = lt-ltb i (length vs) (get_below vs i r.word here);
       fits = subst (λ t. Fits v total most (slice_set vs i w) t) (sym is) (record {
         names = q.names ∙ h.names;
-        placed = h.placed;
+        laid = h.laid;
         junk = h.junk;
         holds = ap (λ (l : List ℕ). slice_set l i w) h.holds ∙ q.words;
         room = length_slice_set vs i w ∙ h.room;
@@ -130,21 +132,21 @@ sets_local v total most vs s x i w h e =
       rest = λ p cs. ap (conf p (slice_set vs i w) [] cs) is;
     }
 
--- the words behind a write to an object's element
+-- the words after a write to an object's element
 pub record Puts (v : Environment) (total most : ℕ) (vs : List ℕ) (s : State) (x : List ℕ) (i w : ℕ) : Type 0 where
-  pub below : nat_lt ((extent_of v.places.objects x).place + i) (length (all_of s.globals)) ≡ true
-  pub words : slice_set (all_of s.globals) ((extent_of v.places.objects x).place + i) w ≡ all_of (with_element x i w s.globals)
+  pub below : nat_lt ((extent_of v.layout.objects x).offset + i) (length (all_of s.globals)) ≡ true
+  pub words : slice_set (all_of s.globals) ((extent_of v.layout.objects x).offset + i) w ≡ all_of (with_element x i w s.globals)
   pub fits : Fits v total most vs (record s { globals = with_element x i w s.globals })
 
-pub puts_element : (v : Environment) (total most : ℕ) (vs : List ℕ) (s : State) (x : List ℕ) (i w : ℕ) → Fits v total most vs s → i < (extent_of v.places.objects x).length → Puts v total most vs s x i w
+pub puts_element : (v : Environment) (total most : ℕ) (vs : List ℕ) (s : State) (x : List ℕ) (i w : ℕ) → Fits v total most vs s → i < (extent_of v.layout.objects x).length → Puts v total most vs s x i w
 puts_element v total most vs s x i w h lt =
     let f = found_object v total most vs s x h in
     record {
-      below = lt-ltb ((extent_of v.places.objects x).place + i) (length (all_of s.globals)) (f.within i lt);
+      below = lt-ltb ((extent_of v.layout.objects x).offset + i) (length (all_of s.globals)) (f.within i lt);
       words = f.writes i w lt;
       fits = record {
         names = h.names;
-        placed = places_keep x i w 0 s.globals ∙ h.placed;
+        laid = layout_keep x i w 0 s.globals ∙ h.laid;
         junk = h.junk;
         holds = h.holds;
         room = h.room;

@@ -2,8 +2,9 @@
 use Rattle.std.proofs.Common.{◌≡◌, ℕ, zero, suc, ◌+◌, ◌<◌, ◌≤◌, Bool, true, false, if◌then◌else◌, List, [], ◌∷◌, ◌++◌, length, map, reverse, Some, None, slice_get, slice_set, refl, sym, ap, ◌∙◌, subst, arith, append_assoc, length-append}
 use Rattle.std.proofs.lemmas.List.{reverse-append, length-map, length-reverse}
 use Rattle.cc_typing.specs.Names.{same_name}
-use Rattle.cc_typing.specs.declared.form.Extent.{Extent}
-use Rattle.cc_typing.specs.Resolve.{Placed, extent_of, number_in}
+use Rattle.cc_resolve.specs.declared.layout.Extent.{Extent}
+use Rattle.cc_resolve.specs.Layout.{LaidObject, extent_of}
+use Rattle.cc_resolve.specs.Environment.{number_in}
 use Rattle.cc_meaning.specs.Meaning.{Local, Global, local_word, words_of, with_local_word, with_element}
 
 -- ---- lists
@@ -47,7 +48,7 @@ get_past (x ∷ xs) (suc i) h = get_past xs i (omega arith)
 pub reverse_cons : {A : Type 0} (x : A) (xs : List A) → reverse (x ∷ xs) ≡ reverse xs ++ (x ∷ [])
 reverse_cons x xs = reverse-append (x ∷ []) xs
 
--- the newest of some words is behind all others
+-- the newest of some words is after all others
 pub newest_last : {A : Type 0} (x : A) (xs junk : List A) → reverse (x ∷ xs) ++ junk ≡ reverse xs ++ (x ∷ junk)
 newest_last x xs junk = ap (λ (l : List _). l ++ junk) (reverse_cons x xs) ∙ append_assoc (reverse xs) (x ∷ []) junk
 
@@ -136,38 +137,38 @@ writes_local (l ∷ behind) junk x i w e = writes_local_by l behind junk x i w (
 
 -- ---- globals
 
--- the words of all objects, one behind the other
+-- the words of all objects, one after the other
 abbrev pub all_of : List Global → List ℕ
 all_of [] = []
 all_of (g ∷ rest) = g.words ++ all_of rest
 
 -- where their words are, of which the first begins at a place
-abbrev pub places_from : ℕ → List Global → List Placed
-places_from at [] = []
-places_from at (g ∷ rest) = record { name = g.name; extent = record { place = at; length = length g.words } } ∷ places_from (at + length g.words) rest
+abbrev pub layout_from : ℕ → List Global → List LaidObject
+layout_from at [] = []
+layout_from at (g ∷ rest) = record { name = g.name; extent = record { offset = at; length = length g.words } } ∷ layout_from (at + length g.words) rest
 
 pub record Finds (front : List ℕ) (gs : List Global) (x : List ℕ) (ext : Extent) : Type 0 where
   pub size : ext.length ≡ length (words_of gs x)
-  pub reads : (i : ℕ) → i < ext.length → slice_get (front ++ all_of gs) (ext.place + i) ≡ slice_get (words_of gs x) i
-  pub within : (i : ℕ) → i < ext.length → ext.place + i < length (front ++ all_of gs)
-  pub writes : (i w : ℕ) → i < ext.length → slice_set (front ++ all_of gs) (ext.place + i) w ≡ front ++ all_of (with_element x i w gs)
+  pub reads : (i : ℕ) → i < ext.length → slice_get (front ++ all_of gs) (ext.offset + i) ≡ slice_get (words_of gs x) i
+  pub within : (i : ℕ) → i < ext.length → ext.offset + i < length (front ++ all_of gs)
+  pub writes : (i w : ℕ) → i < ext.length → slice_set (front ++ all_of gs) (ext.offset + i) w ≡ front ++ all_of (with_element x i w gs)
 
--- behind the words of one object more
+-- after the words of one object more
 finds_behind : (front : List ℕ) (g : Global) (rest : List Global) (x : List ℕ) (ext : Extent) → same_name g.name x ≡ false → Finds (front ++ g.words) rest x ext → Finds front (g ∷ rest) x ext
 finds_behind front g rest x ext eq h =
     let words : words_of (g ∷ rest) x ≡ words_of rest x = ap (λ c. if c then g.words else words_of rest x) eq in
     let all : (front ++ g.words) ++ all_of rest ≡ front ++ all_of (g ∷ rest) = append_assoc front g.words (all_of rest) in
     record {
       size = h.size ∙ ap length (sym words);
-      reads = λ i lt. ap (λ (l : List ℕ). slice_get l (ext.place + i)) (sym all) ∙ h.reads i lt ∙ ap (λ (l : List ℕ). slice_get l i) (sym words);
-      within = λ i lt. subst (λ (l : List ℕ). ext.place + i < length l) all (h.within i lt);
+      reads = λ i lt. ap (λ (l : List ℕ). slice_get l (ext.offset + i)) (sym all) ∙ h.reads i lt ∙ ap (λ (l : List ℕ). slice_get l i) (sym words);
+      within = λ i lt. subst (λ (l : List ℕ). ext.offset + i < length l) all (h.within i lt);
       writes = λ i w lt.
           let new : with_element x i w (g ∷ rest) ≡ g ∷ with_element x i w rest = ap (λ c. if c then record g { words = slice_set g.words i w } ∷ rest else g ∷ with_element x i w rest) eq in
-          ap (λ (l : List ℕ). slice_set l (ext.place + i) w) (sym all) ∙ h.writes i w lt ∙ append_assoc front g.words (all_of (with_element x i w rest)) ∙ ap (λ ks. front ++ all_of ks) (sym new);
+          ap (λ (l : List ℕ). slice_set l (ext.offset + i) w) (sym all) ∙ h.writes i w lt ∙ append_assoc front g.words (all_of (with_element x i w rest)) ∙ ap (λ ks. front ++ all_of ks) (sym new);
     }
 
 finds_here : (front : List ℕ) (g : Global) (rest : List Global) (x : List ℕ) (at : ℕ) → same_name g.name x ≡ true → length front ≡ at
-    → Finds front (g ∷ rest) x (record { place = at; length = length g.words })
+    → Finds front (g ∷ rest) x (record { offset = at; length = length g.words })
 finds_here front g rest x at eq e =
     let words : words_of (g ∷ rest) x ≡ g.words = ap (λ c. if c then g.words else words_of rest x) eq in
     record {
@@ -181,23 +182,23 @@ finds_here front g rest x at eq e =
     }
 
 finds_by : (front : List ℕ) (g : Global) (rest : List Global) (x : List ℕ) (at : ℕ) (b : Bool) → same_name g.name x ≡ b → length front ≡ at
-    → Finds (front ++ g.words) rest x (extent_of (places_from (at + length g.words) rest) x)
-    → Finds front (g ∷ rest) x (if b then record { place = at; length = length g.words } else extent_of (places_from (at + length g.words) rest) x)
+    → Finds (front ++ g.words) rest x (extent_of (layout_from (at + length g.words) rest) x)
+    → Finds front (g ∷ rest) x (if b then record { offset = at; length = length g.words } else extent_of (layout_from (at + length g.words) rest) x)
 finds_by front g rest x at true eq e ih = finds_here front g rest x at eq e
-finds_by front g rest x at false eq e ih = finds_behind front g rest x (extent_of (places_from (at + length g.words) rest) x) eq ih
+finds_by front g rest x at false eq e ih = finds_behind front g rest x (extent_of (layout_from (at + length g.words) rest) x) eq ih
 
-pub finds : (front : List ℕ) (gs : List Global) (x : List ℕ) (at : ℕ) → length front ≡ at → Finds front gs x (extent_of (places_from at gs) x)
+pub finds : (front : List ℕ) (gs : List Global) (x : List ℕ) (at : ℕ) → length front ≡ at → Finds front gs x (extent_of (layout_from at gs) x)
 finds front [] x at e = record { size = refl; reads = λ i lt. absurd (omega arith); within = λ i lt. absurd (omega arith); writes = λ i w lt. absurd (omega arith) }
 finds front (g ∷ rest) x at e =
     finds_by front g rest x at (same_name g.name x) refl e (finds (front ++ g.words) rest x (at + length g.words) (length-append front g.words ∙ ap (λ k. k + length g.words) e))
 
-places_keep_by : (x : List ℕ) (i w at : ℕ) (g : Global) (rest : List Global) (b : Bool) → places_from (at + length g.words) (with_element x i w rest) ≡ places_from (at + length g.words) rest
-    → places_from at (if b then record g { words = slice_set g.words i w } ∷ rest else g ∷ with_element x i w rest) ≡ places_from at (g ∷ rest)
-places_keep_by x i w at g rest true ih =
-    ap (λ k. record { name = g.name; extent = record { place = at; length = k } } ∷ places_from (at + k) rest) (length_slice_set g.words i w)
-places_keep_by x i w at g rest false ih = ap (λ (ps : List Placed). record { name = g.name; extent = record { place = at; length = length g.words } } ∷ ps) ih
+layout_keep_by : (x : List ℕ) (i w at : ℕ) (g : Global) (rest : List Global) (b : Bool) → layout_from (at + length g.words) (with_element x i w rest) ≡ layout_from (at + length g.words) rest
+    → layout_from at (if b then record g { words = slice_set g.words i w } ∷ rest else g ∷ with_element x i w rest) ≡ layout_from at (g ∷ rest)
+layout_keep_by x i w at g rest true ih =
+    ap (λ k. record { name = g.name; extent = record { offset = at; length = k } } ∷ layout_from (at + k) rest) (length_slice_set g.words i w)
+layout_keep_by x i w at g rest false ih = ap (λ (ps : List LaidObject). record { name = g.name; extent = record { offset = at; length = length g.words } } ∷ ps) ih
 
 -- a write moves no object
-pub places_keep : (x : List ℕ) (i w at : ℕ) (gs : List Global) → places_from at (with_element x i w gs) ≡ places_from at gs
-places_keep x i w at [] = refl
-places_keep x i w at (g ∷ rest) = places_keep_by x i w at g rest (same_name g.name x) (places_keep x i w (at + length g.words) rest)
+pub layout_keep : (x : List ℕ) (i w at : ℕ) (gs : List Global) → layout_from at (with_element x i w gs) ≡ layout_from at gs
+layout_keep x i w at [] = refl
+layout_keep x i w at (g ∷ rest) = layout_keep_by x i w at g rest (same_name g.name x) (layout_keep x i w (at + length g.words) rest)

@@ -84,7 +84,7 @@ lasts_by V W f k (Going output) go other within same h = λ j c v.
     subst (λ r. Begins output (written r)) (sym (same (k + j) c v)) (h j (f c) (within (k + j) c v))
 lasts_by V W f k (Wrong cause output) go other within same h = λ j c v. same (k + j) c v ∙ h j (f c) (within (k + j) c v)
 
--- behind a first part that gives something, the rest
+-- after a first part that gives something, the rest
 lasts_behind : {A C B : Type 0} (W : ℕ → B → Type 0) → Lowers W → (k spent : ℕ) (x : A) (t : State) (first : B → ℕ → Run A) (later : A → B → State → Run C) (r : Run C)
     → k ≡ spent + t.steps → ((j : ℕ) (b : B) → W (spent + j) b → first b (spent + j) ≡ Gives x (at t j))
     → Lasts W t.steps r (λ b j. later x b (at t j)) → Lasts W k r (λ b j. then_do (first b j) (λ y u. later y b u))
@@ -255,7 +255,7 @@ module _ (test : ℕ → State → Run ℕ) (body behind : ℕ → State → Run
   abbrev turns_at : ℕ → ℕ → State → Run Flow
   turns_at i n s = turns i (test n) (body n) (behind n) s
 
-  -- behind the body of a turn
+  -- after the body of a turn
   abbrev next_turn : ℕ → ℕ → State → Run Flow
   next_turn i n u = then_do (behind n u) (λ flow v. turns_at i n v)
 

@@ -26,3 +26,8 @@ pub mod Taking
 pub mod Calling
 pub mod Fetching
 pub mod Running
+pub mod Emitting
+pub mod WritingExpressions
+pub mod WritingActions
+pub mod WritingStatements
+pub mod WritingUnits

@@ -1,12 +1,14 @@
 -- The instructions of a loop do what the source's turns do.
 use Rattle.std.proofs.Common.{◌≡◌, ℕ, zero, suc, ◌+◌, ◌-◌, ◌<◌, ◌≤◌, List, [], ◌∷◌, ◌++◌, length, Some, slice_get, refl, ap, ◌∙◌, arith, length-append}
 use Rattle.std.proofs.lemmas.Bool.{le-leb}
-use Rattle.cc_typing.specs.declared.form.Instruction.{Instruction}
-use Rattle.cc_typing.specs.declared.form.Instruction.TheVariants as instruction
-use Rattle.cc_typing.specs.Resolve.{FormTree, Environment, Places, turns_code}
+use Rattle.cc_meaning.specs.declared.form.Instruction.{Instruction}
+use Rattle.cc_meaning.specs.declared.form.Instruction.TheVariants as instruction
+use Rattle.cc_meaning.specs.internal.Form.{FormTree, turns_code}
+use Rattle.cc_resolve.specs.Environment.{Environment}
+use Rattle.cc_resolve.specs.Layout.{Layout}
 use Rattle.cc_meaning.specs.Outcome as outcome
 use Rattle.cc_meaning.specs.Meaning.{State, Run, Gives, Flow, Falls, Breaks, Continues, Returns, then_do, choose, spend_of, behind_body, begin_body, turns}
-use Rattle.cc_meaning.specs.FormMeaning.{Activation, Configuration, Goes, only_if, jump, stepped}
+use Rattle.cc_meaning.specs.internal.FormMeaning.{Activation, Configuration, Goes, only_if, jump, stepped}
 use Rattle.cc_meaning.proofs.Moves.{Leads, conf, Meets, meets_then, Stands, stands_left, stands_right, instructed, instructed_last, may_jump}
 use Rattle.cc_meaning.proofs.Fits.{Fits}
 use Rattle.cc_meaning.proofs.Expressions.{Value, Part}
@@ -48,7 +50,7 @@ loop_stands code body following test p st =
       ends = at_last.1;
     }
 
-module _ (form : FormTree) (cs : List Activation) (total n : ℕ) (places : Places) (v : Environment) (placed : v.places ≡ places) (body following test : List Instruction) (p : ℕ) (loop : Loop form.code body following test p)
+module _ (form : FormTree) (cs : List Activation) (total n : ℕ) (layout : Layout) (v : Environment) (laid : v.layout ≡ layout) (body following test : List Instruction) (p : ℕ) (loop : Loop form.code body following test p)
     (condition : State → Run ℕ) (inside behind : State → Run Flow) where
   abbrev body_at : ℕ
   body_at = p + 1
@@ -67,19 +69,19 @@ module _ (form : FormTree) (cs : List Activation) (total n : ℕ) (places : Plac
 
   -- what a loop comes to: it falls through, or returns
   abbrev Ends : Configuration → ℕ → (b k : State → Type 0) → Flow → State → Type 0
-  Ends c most b k = Done form cs total places c most (Reaches form cs total c v most end_at) b k
+  Ends c most b k = Done form cs total layout c most (Reaches form cs total c v most end_at) b k
 
-  -- behind the body
+  -- after the body
   behind_body_meets : (c : Configuration) (most : ℕ) (b k : State → Type 0) (go : State → Run Flow) (flow : Flow) (t : State)
       → ((vs : List ℕ) (u : State) → Fits v total most vs u → Meets form (conf following_at vs [] cs u) (Ends (conf following_at vs [] cs u) most b k) (go u))
-      → Done form cs total places c most (Reaches form cs total c v most following_at) (Reaches form cs total c v most end_at) (Reaches form cs total c v most following_at) flow t
+      → Done form cs total layout c most (Reaches form cs total c v most following_at) (Reaches form cs total c v most end_at) (Reaches form cs total c v most following_at) flow t
       → Meets form c (Ends c most b k) (behind_body flow go t)
   behind_body_meets c most b k go Falls t f h =
-      done_after form cs total places c (conf following_at h.variables [] cs t) most most (Reaches form cs total (conf following_at h.variables [] cs t) v most end_at) b k (Reaches form cs total c v most end_at) b k (go t) h.leads (omega arith)
+      done_after form cs total layout c (conf following_at h.variables [] cs t) most most (Reaches form cs total (conf following_at h.variables [] cs t) v most end_at) b k (Reaches form cs total c v most end_at) b k (go t) h.leads (omega arith)
       (λ u x. reaches_after form cs total c (conf following_at h.variables [] cs t) v v most most end_at end_at u h.leads refl refl (omega arith) refl x) (λ u x. x) (λ u x. x) (f h.variables t h.fits)
   behind_body_meets c most b k go Breaks t f h = h
   behind_body_meets c most b k go Continues t f h =
-      done_after form cs total places c (conf following_at h.variables [] cs t) most most (Reaches form cs total (conf following_at h.variables [] cs t) v most end_at) b k (Reaches form cs total c v most end_at) b k (go t) h.leads (omega arith)
+      done_after form cs total layout c (conf following_at h.variables [] cs t) most most (Reaches form cs total (conf following_at h.variables [] cs t) v most end_at) b k (Reaches form cs total c v most end_at) b k (go t) h.leads (omega arith)
       (λ u x. reaches_after form cs total c (conf following_at h.variables [] cs t) v v most most end_at end_at u h.leads refl refl (omega arith) refl x) (λ u x. x) (λ u x. x) (f h.variables t h.fits)
   behind_body_meets c most b k go (Returns w) t f h = h
 
@@ -87,7 +89,7 @@ module _ (form : FormTree) (cs : List Activation) (total n : ℕ) (places : Plac
   abbrev pub BodyDoes : Type 0
   BodyDoes = (most : ℕ) (vs : List ℕ) (t : State) → most < n → Fits v total most vs t
       → Meets form (conf body_at vs [] cs t)
-      (Done form cs total places (conf body_at vs [] cs t) most (Reaches form cs total (conf body_at vs [] cs t) v most following_at) (Reaches form cs total (conf body_at vs [] cs t) v most end_at) (Reaches form cs total (conf body_at vs [] cs t) v most following_at))
+      (Done form cs total layout (conf body_at vs [] cs t) most (Reaches form cs total (conf body_at vs [] cs t) v most following_at) (Reaches form cs total (conf body_at vs [] cs t) v most end_at) (Reaches form cs total (conf body_at vs [] cs t) v most following_at))
       (inside t)
 
   -- a step is spent, then the body is done
@@ -104,10 +106,10 @@ module _ (form : FormTree) (cs : List Activation) (total n : ℕ) (places : Plac
       let to : Leads form c d =
       instructed form instruction.Step p vs [] cs t d loop.begins (ap (λ l. stepped l (λ m. Goes (conf (p + 1) vs [] cs (record t { steps = m })))) e) in
       let fewer : left < most = let k = h.steps in omega arith in
-      let fits : Fits v total left vs u = record { names = h.names; placed = h.placed; junk = h.junk; holds = h.holds; room = h.room; steps = omega arith } in
-      done_after form cs total places c d left most (Reaches form cs total d v left end_at) b k (Reaches form cs total c v most end_at) b k (then_do (inside u) (λ flow x. behind_body flow go x)) to (omega arith)
+      let fits : Fits v total left vs u = record { names = h.names; laid = h.laid; junk = h.junk; holds = h.holds; room = h.room; steps = omega arith } in
+      done_after form cs total layout c d left most (Reaches form cs total d v left end_at) b k (Reaches form cs total c v most end_at) b k (then_do (inside u) (λ flow x. behind_body flow go x)) to (omega arith)
       (λ x y. reaches_after form cs total c d v v left most end_at end_at x to refl refl (omega arith) refl y) (λ x y. y) (λ x y. y)
-      (meets_then form d (Done form cs total places d left (Reaches form cs total d v left following_at) (Reaches form cs total d v left end_at) (Reaches form cs total d v left following_at)) (Ends d left b k) (inside u)
+      (meets_then form d (Done form cs total layout d left (Reaches form cs total d v left following_at) (Reaches form cs total d v left end_at) (Reaches form cs total d v left following_at)) (Ends d left b k) (inside u)
       (λ flow x. behind_body flow go x) (does left vs u (omega arith) fits) (λ flow x got. behind_body_meets d left b k go flow x (λ vs' y fits'. f left vs' y fewer fits') got))
 
   pub begins_meet : (most : ℕ) (b k : State → Type 0) (vs : List ℕ) (go : State → Run Flow) (t : State) → BodyDoes → most < n → Fits v total most vs t
@@ -132,7 +134,7 @@ module _ (form : FormTree) (cs : List Activation) (total n : ℕ) (places : Plac
   FollowingDoes = (most : ℕ) (vs : List ℕ) (t : State) → most < n → Fits v total most vs t
       → Meets form (conf following_at vs [] cs t) (Acted form cs total (conf following_at vs [] cs t) v most test_at) (behind t)
 
-  -- behind the test
+  -- after the test
   tested : (i most w : ℕ) (b k : State → Type 0) (vs : List ℕ) (t : State) → BodyDoes → FollowingDoes → most < suc i → most < n → Fits v total most vs t
       → ((less : ℕ) (vs : List ℕ) (u : State) → less < i → less < n → Fits v total less vs u → Meets form (conf test_at vs [] cs u) (Ends (conf test_at vs [] cs u) less b k) (turns i condition inside behind u))
       → Meets form (conf repeat_at vs (w ∷ []) cs t) (Ends (conf repeat_at vs (w ∷ []) cs t) most b k)
@@ -147,7 +149,7 @@ module _ (form : FormTree) (cs : List Activation) (total n : ℕ) (places : Plac
       let d = conf p vs [] cs t in
       let go : State → Run Flow = λ u. then_do (behind u) (λ flow x. turns i condition inside behind x) in
       let to = goes_back vs w t in
-      done_after form cs total places c d most most (Reaches form cs total d v most end_at) b k (Reaches form cs total c v most end_at) b k (begin_body inside go t) to (omega arith)
+      done_after form cs total layout c d most most (Reaches form cs total d v most end_at) b k (Reaches form cs total c v most end_at) b k (begin_body inside go t) to (omega arith)
       (λ x y. reaches_after form cs total c d v v most most end_at end_at x to refl refl (omega arith) refl y) (λ x y. y) (λ x y. y)
       (begins_meet most b k vs go t does less h
       (λ fewer vs' u lt' fits.
@@ -155,7 +157,7 @@ module _ (form : FormTree) (cs : List Activation) (total n : ℕ) (places : Plac
       meets_then form e (Acted form cs total e v fewer test_at) (Ends e fewer b k) (behind u) (λ flow x. turns i condition inside behind x) (follows fewer vs' u (omega arith) fits)
       (λ flow x got.
       let g = conf test_at got.variables [] cs x in
-      done_after form cs total places e g fewer fewer (Reaches form cs total g v fewer end_at) b k (Reaches form cs total e v fewer end_at) b k (turns i condition inside behind x) got.leads (omega arith)
+      done_after form cs total layout e g fewer fewer (Reaches form cs total g v fewer end_at) b k (Reaches form cs total e v fewer end_at) b k (turns i condition inside behind x) got.leads (omega arith)
       (λ y z. reaches_after form cs total e g v v fewer fewer end_at end_at y got.leads refl refl (omega arith) refl z) (λ y z. z) (λ y z. z)
       (ih fewer got.variables x (omega arith) (omega arith) got.fits))))
 
@@ -168,7 +170,7 @@ module _ (form : FormTree) (cs : List Activation) (total n : ℕ) (places : Plac
       (λ w u. choose w (begin_body inside (λ x. then_do (behind x) (λ flow y. turns i condition inside behind y))) (λ x. Gives Falls x) u) (tests most vs less test_at [] t loop.has_test h)
       (λ w u got.
       let d = conf repeat_at vs (w ∷ []) cs u in
-      done_after form cs total places c d most most (Reaches form cs total d v most end_at) b k (Reaches form cs total c v most end_at) b k
+      done_after form cs total layout c d most most (Reaches form cs total d v most end_at) b k (Reaches form cs total c v most end_at) b k
       (choose w (begin_body inside (λ x. then_do (behind x) (λ flow y. turns i condition inside behind y))) (λ x. Gives Falls x) u) got.leads (omega arith)
       (λ y z. reaches_after form cs total c d v v most most end_at end_at y got.leads refl refl (omega arith) refl z) (λ y z. z) (λ y z. z)
       (tested i most w b k vs u does follows lt less got.fits (λ fewer vs' x lt' less' fits. turns_meet i fewer b k vs' x tests does follows lt' less' fits)))

@@ -2,21 +2,23 @@
 use Rattle.std.proofs.Common.{◌≡◌, ℕ, ◌+◌, ◌<◌, ◌≤◌, if◌then◌else◌, List, [], ◌∷◌, ◌++◌, length, reverse, drop, Option, Some, None, is_some, slice_get, slice_set, refl, sym, ap, ◌∙◌, subst, arith, length-append}
 use Rattle.std.proofs.lemmas.Bool.{lt-ltb}
 use Rattle.std.proofs.lemmas.List.{length-map, length-reverse}
-use Rattle.cc_syntax.specs.declared.ast.Scalar.{Scalar}
-use Rattle.cc_syntax.specs.declared.ast.Scalar.TheVariants.{Int}
+use Rattle.cc_tokens.specs.declared.scalar.Scalar.{Scalar}
+use Rattle.cc_tokens.specs.declared.scalar.Scalar.TheVariants.{Int}
 use Rattle.cc_syntax.specs.declared.ast.BinaryOperator.{BinaryOperator}
-use Rattle.cc_syntax.specs.Tree.{Expr, Target, AtVariable, AtElement, Action, Assign, Step, Evaluate, Declared}
+use Rattle.cc_syntax.specs.Tree.{Expr, Target, AtVariable, AtElement, Action, Assign, Step, Evaluate, Declarator}
 use Rattle.cc_typing.specs.Operators.{applied_operator, step_operator}
 use Rattle.cc_typing.specs.Scope.{found, is_declared}
 use Rattle.cc_typing.specs.Types.{value_type, target_type}
 use Rattle.cc_typing.specs.Rules.{broken_if, array_offences, void_offences, expression_offences, value_offences, optional_offences, target_offences, action_offences, optional_action_offences, declared_offences, undefined_among, called_in, called_in_optional, called_in_target, called_in_action, called_in_optional_action, called_in_declared}
 use Rattle.cc_typing.specs.declared.rule.Rule.TheVariants.{BadAssign, Redeclared}
-use Rattle.cc_typing.specs.declared.form.Instruction.{Instruction}
-use Rattle.cc_typing.specs.declared.form.Instruction.TheVariants as instruction
-use Rattle.cc_typing.specs.Resolve.{FormTree, Environment, Places, types_in, with_local, with_locals, number_in, extent_of, expression_code, store_of, store_element_of, applied, assignment_code, action_code, optional_action_code, initial_code, declared_code}
+use Rattle.cc_meaning.specs.declared.form.Instruction.{Instruction}
+use Rattle.cc_meaning.specs.declared.form.Instruction.TheVariants as instruction
+use Rattle.cc_meaning.specs.internal.Form.{FormTree, expression_code, store_of, store_element_of, applied, assignment_code, action_code, optional_action_code, initial_code, declared_code}
+use Rattle.cc_resolve.specs.Environment.{Environment, types_in, with_local, with_locals, number_in}
+use Rattle.cc_resolve.specs.Layout.{Layout, extent_of}
 use Rattle.cc_meaning.specs.Meaning as meaning
 use Rattle.cc_meaning.specs.Meaning.{State, Run, Gives, Flow, Falls, then_do, Calls, with_local_word, with_element, stored, evaluate, evaluate_or, Destination, ToVariable, ToElement, write, new_value, perform, perform_optional, declare}
-use Rattle.cc_meaning.specs.FormMeaning.{Activation, Configuration, Goes, only_if}
+use Rattle.cc_meaning.specs.internal.FormMeaning.{Activation, Configuration, Goes, only_if}
 use Rattle.cc_meaning.proofs.Offences.{nil_left, nil_right, defined_left, defined_right, variable_found}
 use Rattle.cc_meaning.proofs.Named.{name_is_itself}
 use Rattle.cc_meaning.proofs.Held.{words_in, set_right, newest_last, length_slice_set}
@@ -32,7 +34,7 @@ cleared_words : (ws junk : List ℕ) → 0 < length junk → slice_set (reverse 
 cleared_words ws [] h = absurd (omega arith)
 cleared_words ws (j ∷ junk) h = set_right (reverse ws) (j ∷ junk) 0 (length ws) 0 (let e = length-reverse ws in omega arith) ∙ sym (newest_last 0 ws junk)
 
-module _ (form : FormTree) (cs : List Activation) (total : ℕ) (places : Places) (defined : List (List ℕ)) (Takes : List ℕ → ℕ → Type 0) (n : ℕ) (call : Calls) (calls_meet : CallsMeet form places Takes cs total n call) where
+module _ (form : FormTree) (cs : List Activation) (total : ℕ) (layout : Layout) (defined : List (List ℕ)) (Takes : List ℕ → ℕ → Type 0) (n : ℕ) (call : Calls) (calls_meet : CallsMeet form layout Takes cs total n call) where
   -- ---- assignments
 
   variable_assigned : (v : Environment) (most : ℕ) (vs : List ℕ) (op : Option BinaryOperator) (t u : Scalar) (x : List ℕ) (right : List Instruction) (part : State → Run ℕ) → IsPlainIfAny op → Readable v x
@@ -84,7 +86,7 @@ module _ (form : FormTree) (cs : List Activation) (total : ℕ) (places : Places
       (then_do (new_value op t u (ToElement x i) w z) (λ new k. write (ToElement x i) new k)) got'.leads (omega arith)
       (element_store_meets form cs total v most vs op t u x i (p + length left + length right) w z plain got'.fits in_last.0)))))
 
-  target_assigned : (v : Environment) (most : ℕ) (vs : List ℕ) (op : Option BinaryOperator) (t u : Scalar) (target : Target) (right : List Instruction) (part : State → Run ℕ) → Scoped places defined Takes v → most < n → IsPlainIfAny op
+  target_assigned : (v : Environment) (most : ℕ) (vs : List ℕ) (op : Option BinaryOperator) (t u : Scalar) (target : Target) (right : List Instruction) (part : State → Run ℕ) → Scoped layout defined Takes v → most < n → IsPlainIfAny op
       → target_offences (types_in v) target ≡ [] → undefined_among defined (called_in_target target) ≡ [] → Part form cs total v most vs right part
       → (p : ℕ) (s : State) → Stands form.code p (assignment_code (applied op t u) v target right) → Fits v total most vs s
       → Meets form (conf p vs [] cs s) (Acted form cs total (conf p vs [] cs s) v most (p + length (assignment_code (applied op t u) v target right)))
@@ -95,7 +97,7 @@ module _ (form : FormTree) (cs : List Activation) (total : ℕ) (places : Places
   target_assigned v most vs op t u (AtElement x i) right part scoped lt plain e d f =
       let own = nil_right (array_offences (found (types_in v) x.text) x.at) (value_offences (types_in v) i) e in
       element_assigned v most vs op t u x.text (expression_code v i) right (evaluate i (types_in v) call) part plain
-      (expression_meets form cs total places defined Takes n call calls_meet i v most vs scoped lt (nil_left (expression_offences (types_in v) i) (void_offences (types_in v) i) own) d) f
+      (expression_meets form cs total layout defined Takes n call calls_meet i v most vs scoped lt (nil_left (expression_offences (types_in v) i) (void_offences (types_in v) i) own) d) f
 
   -- ---- actions
 
@@ -120,7 +122,7 @@ module _ (form : FormTree) (cs : List Activation) (total : ℕ) (places : Places
             (ap (λ k. Goes (conf k vs [] cs t)) (let z : p + length code + 1 ≡ p + length (code ++ last) = omega arith in z)));
       })
 
-  pub perform_meets : (a : Action) (v : Environment) (most : ℕ) (vs : List ℕ) → Scoped places defined Takes v → most < n → action_offences (types_in v) a ≡ [] → undefined_among defined (called_in_action a) ≡ []
+  pub perform_meets : (a : Action) (v : Environment) (most : ℕ) (vs : List ℕ) → Scoped layout defined Takes v → most < n → action_offences (types_in v) a ≡ [] → undefined_among defined (called_in_action a) ≡ []
       → (p : ℕ) (s : State) → Stands form.code p (action_code v a) → Fits v total most vs s
       → Meets form (conf p vs [] cs s) (Acted form cs total (conf p vs [] cs s) v most (p + length (action_code v a))) (perform a (types_in v) call s)
   perform_meets (Assign op target e) v most vs scoped lt o d =
@@ -128,14 +130,14 @@ module _ (form : FormTree) (cs : List Activation) (total : ℕ) (places : Places
       let own = nil_right (target_offences bs target) (value_offences bs e) o in
       target_assigned v most vs (applied_operator op) (target_type bs target) (value_type bs e) target (expression_code v e) (evaluate e bs call) scoped lt (applied_is_plain op)
       (nil_left (target_offences bs target) (value_offences bs e) o) (defined_left defined (called_in_target target) (called_in e) d)
-      (expression_meets form cs total places defined Takes n call calls_meet e v most vs scoped lt (nil_left (expression_offences bs e) (void_offences bs e) own) (defined_right defined (called_in_target target) (called_in e) d))
+      (expression_meets form cs total layout defined Takes n call calls_meet e v most vs scoped lt (nil_left (expression_offences bs e) (void_offences bs e) own) (defined_right defined (called_in_target target) (called_in e) d))
   perform_meets (Step op target) v most vs scoped lt o d =
       target_assigned v most vs (applied_operator (step_operator op)) (target_type (types_in v) target) Int target (instruction.Constant 1 ∷ []) (λ s. Gives 1 s) scoped lt (step_is_plain op) o d
       (λ p ops s st h. pushes form cs total v most vs ops ops p (p + 1) 1 s (instruction.Constant 1) st.0 h refl refl)
   perform_meets (Evaluate e) v most vs scoped lt o d =
-      dropped e v most vs (expression_meets form cs total places defined Takes n call calls_meet e v most vs scoped lt o d)
+      dropped e v most vs (expression_meets form cs total layout defined Takes n call calls_meet e v most vs scoped lt o d)
 
-  pub optional_meets : (a : Option Action) (v : Environment) (most : ℕ) (vs : List ℕ) → Scoped places defined Takes v → most < n → optional_action_offences (types_in v) a ≡ [] → undefined_among defined (called_in_optional_action a) ≡ []
+  pub optional_meets : (a : Option Action) (v : Environment) (most : ℕ) (vs : List ℕ) → Scoped layout defined Takes v → most < n → optional_action_offences (types_in v) a ≡ [] → undefined_among defined (called_in_optional_action a) ≡ []
       → (p : ℕ) (s : State) → Stands form.code p (optional_action_code v a) → Fits v total most vs s
       → Meets form (conf p vs [] cs s) (Acted form cs total (conf p vs [] cs s) v most (p + length (optional_action_code v a))) (perform_optional a (types_in v) call s)
   optional_meets None v most vs scoped lt o d p s st h = record {
@@ -159,7 +161,7 @@ module _ (form : FormTree) (cs : List Activation) (total : ℕ) (places : Places
       let room = h.room in
       record {
         names = ap (λ (ns : List (List ℕ)). x ∷ ns) h.names;
-        placed = h.placed;
+        laid = h.laid;
         junk = drop 1 h.junk;
         holds = ap (λ k. slice_set vs k 0) many ∙ ap (λ (l : List ℕ). slice_set l (length ws) 0) h.holds ∙ cleared_words ws h.junk (omega arith);
         room = length_slice_set vs (length v.locals) 0 ∙ room;
@@ -200,7 +202,7 @@ module _ (form : FormTree) (cs : List Activation) (total : ℕ) (places : Places
       let size = length-append code last in
       let in_last = stands_right form.code p (p + length code) code last refl st in
       let setting : store_of None v' x ≡ instruction.SetLocal i =
-      ap (λ (o : Option ℕ). elim o [ None ↦ instruction.SetGlobal (extent_of v'.places.objects x).place | Some k ↦ instruction.SetLocal k ]) (newest_number t x v) in
+      ap (λ (o : Option ℕ). elim o [ None ↦ instruction.SetGlobal (extent_of v'.layout.objects x).offset | Some k ↦ instruction.SetLocal k ]) (newest_number t x v) in
       meets_after form c c (Value form cs total c v' most vs (p + length code) []) (Begun c v' most (p + length (code ++ last)) x) (evaluate e (types_in v') call s) (leads_refl form c)
       (λ w y got.
       let q = stores_local form cs total v' most vs y x i got.fits (newest_number t x v) in
@@ -213,7 +215,7 @@ module _ (form : FormTree) (cs : List Activation) (total : ℕ) (places : Places
       })
       (f p [] s (stands_left form.code p code last st) h)
 
-  initial_meets : (t : Scalar) (x : List ℕ) (e : Option Expr) (v : Environment) (most : ℕ) (vs : List ℕ) → Scoped places defined Takes (with_local t x v) → most < n
+  initial_meets : (t : Scalar) (x : List ℕ) (e : Option Expr) (v : Environment) (most : ℕ) (vs : List ℕ) → Scoped layout defined Takes (with_local t x v) → most < n
       → optional_offences (types_in (with_local t x v)) e ≡ [] → undefined_among defined (called_in_optional e) ≡ []
       → (p : ℕ) (s : State) → Stands form.code p (initial_code (with_local t x v) (length v.locals) e) → Fits (with_local t x v) total most vs (meaning.with_local x s)
       → Meets form (conf p vs [] cs (meaning.with_local x s)) (Begun (conf p vs [] cs (meaning.with_local x s)) (with_local t x v) most (p + length (initial_code (with_local t x v) (length v.locals) e)) x)
@@ -230,9 +232,9 @@ module _ (form : FormTree) (cs : List Activation) (total : ℕ) (places : Places
   initial_meets t x (Some e) v most vs scoped lt o d p s st h =
       let bs = types_in (with_local t x v) in
       initial_value t x e v most vs
-      (expression_meets form cs total places defined Takes n call calls_meet e (with_local t x v) most vs scoped lt (nil_left (expression_offences bs e) (void_offences bs e) o) d) p (meaning.with_local x s) st h
+      (expression_meets form cs total layout defined Takes n call calls_meet e (with_local t x v) most vs scoped lt (nil_left (expression_offences bs e) (void_offences bs e) o) d) p (meaning.with_local x s) st h
 
-  pub declare_meets : (t : Scalar) (ds : List Declared) (v : Environment) (most : ℕ) → Scoped places defined Takes v → most < n → declared_offences t ds v.visible ≡ [] → undefined_among defined (called_in_declared ds) ≡ []
+  pub declare_meets : (t : Scalar) (ds : List Declarator) (v : Environment) (most : ℕ) → Scoped layout defined Takes v → most < n → declared_offences t ds v.visible ≡ [] → undefined_among defined (called_in_declared ds) ≡ []
       → length v.locals + length ds ≤ total → (p : ℕ) (vs : List ℕ) (s : State) → Stands form.code p (declared_code v t ds) → Fits v total most vs s
       → Meets form (conf p vs [] cs s) (Acted form cs total (conf p vs [] cs s) (with_locals t ds v) most (p + length (declared_code v t ds))) (declare t ds call v.visible s)
   declare_meets t [] v most scoped lt o d room p vs s st h = record {
@@ -253,7 +255,7 @@ module _ (form : FormTree) (cs : List Activation) (total : ℕ) (places : Places
       let c = conf p vs [] cs s in
       let again = broken_if (is_declared v.visible.inner name) Redeclared x.name.at in
       let own = nil_right again (optional_offences (types_in v') x.initial ++ declared_offences t rest v'.visible) o in
-      let scoped' = scoped_local places defined Takes t name v scoped in
+      let scoped' = scoped_local layout defined Takes t name v scoped in
       let to = clears t name v most p vs s h (omega arith) st.0 in
       let fits' = new_local t name v most vs s h (omega arith) in
       let d' = conf (p + 1) vs' [] cs s' in

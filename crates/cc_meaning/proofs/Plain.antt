@@ -1,7 +1,7 @@
 -- Operators and the operations that stand for them.
 use Rattle.std.proofs.Common.{◌≡◌, ℕ, List, [], ◌∷◌, ◌++◌, Option, Some, None, refl}
-use Rattle.cc_syntax.specs.declared.ast.Scalar.{Scalar}
-use Rattle.cc_syntax.specs.declared.ast.Scalar.TheVariants.{Int, Unsigned}
+use Rattle.cc_tokens.specs.declared.scalar.Scalar.{Scalar}
+use Rattle.cc_tokens.specs.declared.scalar.Scalar.TheVariants.{Int, Unsigned}
 use Rattle.cc_syntax.specs.declared.ast.BinaryOperator.{BinaryOperator}
 use Rattle.cc_syntax.specs.declared.ast.BinaryOperator.TheVariants.{Multiply, Divide, Remainder, Add, Subtract, ShiftLeft, ShiftRight, Less, Greater, LessOrEqual, GreaterOrEqual, Equal, NotEqual, And, Xor, Or, LogicalAnd, LogicalOr}
 use Rattle.cc_syntax.specs.declared.ast.AssignmentOperator.{AssignmentOperator}
@@ -9,12 +9,13 @@ use Rattle.cc_syntax.specs.declared.ast.AssignmentOperator.TheVariants as assign
 use Rattle.cc_syntax.specs.declared.ast.StepOperator.{StepOperator}
 use Rattle.cc_syntax.specs.declared.ast.StepOperator.TheVariants.{Increment, Decrement}
 use Rattle.cc_typing.specs.Operators.{binary_word, decided, applied_operator, step_operator}
-use Rattle.cc_typing.specs.Resolve.{operation, joined}
-use Rattle.cc_typing.specs.declared.form.BinaryOperation.{BinaryOperation}
-use Rattle.cc_typing.specs.declared.form.Instruction.{Instruction}
-use Rattle.cc_typing.specs.declared.form.Instruction.TheVariants.{Binary}
+use Rattle.cc_resolve.specs.Operations.{operation}
+use Rattle.cc_meaning.specs.internal.Form.{joined}
+use Rattle.cc_resolve.specs.declared.operations.BinaryOperation.{BinaryOperation}
+use Rattle.cc_meaning.specs.declared.form.Instruction.{Instruction}
+use Rattle.cc_meaning.specs.declared.form.Instruction.TheVariants.{Binary}
 use Rattle.cc_meaning.specs.Meaning.{cause_of}
-use Rattle.cc_meaning.specs.FormMeaning.{binary_result, cause_of_operation}
+use Rattle.cc_meaning.specs.internal.FormMeaning.{binary_result, cause_of_operation}
 
 -- an operator that needs both its operands, which an operation stands for
 pub record IsPlain (op : BinaryOperator) : Type 0 where

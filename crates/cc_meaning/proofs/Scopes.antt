@@ -4,7 +4,7 @@ use Rattle.std.proofs.Common.{◌≡◌, ℕ, suc, ◌+◌, ◌-◌, Bool, true,
 use Rattle.std.proofs.lemmas.List.{length-map, length-replicate}
 use Rattle.std.proofs.lemmas.Bool.Decides.{leb_tells}
 use Rattle.std.proofs.lemmas.Cmp.{nat_list_eq_equiv}
-use Rattle.cc_syntax.specs.declared.ast.Scalar.{Scalar}
+use Rattle.cc_tokens.specs.declared.scalar.Scalar.{Scalar}
 use Rattle.cc_syntax.specs.Tree.{ConstantExpr, Parameter, Signature, Object, Single, Array, External, Declaration, Definition, Objects}
 use Rattle.cc_typing.specs.Names.{same_name}
 use Rattle.cc_typing.specs.Scope.{Entity, Variable, Elements, Function, Binding, found, is_declared, FileScope, with_declared, function_entity, with_function, with_object, with_objects, file_scope_behind, file_scope_behind_all, same_scalar, same_scalars, same_result}
@@ -13,8 +13,8 @@ use Rattle.cc_typing.specs.Types as types
 use Rattle.cc_typing.specs.Rules.{broken_if, differs, signature_offences, parameters_offences, optional_constant_offences, constants_offences, length_offences, object_offences, objects_offences, value_offences, external_offences, externals_offences}
 use Rattle.cc_typing.specs.declared.rule.Rule.TheVariants.{Redeclared, WrongKind, WrongCount}
 use Rattle.cc_typing.specs.Limits.{objects, object_name}
-use Rattle.cc_typing.specs.declared.form.Extent.{Extent}
-use Rattle.cc_typing.specs.Resolve.{Placed, placed_from, extent_of}
+use Rattle.cc_resolve.specs.declared.layout.Extent.{Extent}
+use Rattle.cc_resolve.specs.Layout.{LaidObject, laid_from, extent_of}
 use Rattle.cc_meaning.proofs.Offences.{nil_left, nil_right, not_broken, or_left, or_right}
 use Rattle.cc_meaning.proofs.Named.{name_is_itself, same_name_symm}
 
@@ -112,11 +112,11 @@ signature_takes s f e =
 -- ---- objects
 
 -- the names of the objects that are placed
-abbrev named_in : List Placed → List ℕ → Bool
+abbrev named_in : List LaidObject → List ℕ → Bool
 named_in [] x = false
 named_in (p ∷ rest) x = same_name p.name x || named_in rest x
 
-named_append : (ps qs : List Placed) (x : List ℕ) → named_in (ps ++ qs) x ≡ (named_in ps x || named_in qs x)
+named_append : (ps qs : List LaidObject) (x : List ℕ) → named_in (ps ++ qs) x ≡ (named_in ps x || named_in qs x)
 named_append [] qs x = refl
 named_append (p ∷ rest) qs x = ap (λ b. same_name p.name x || b) (named_append rest qs x) ∙ sym (or_assoc (same_name p.name x) (named_in rest x) (named_in qs x))
   where
@@ -125,23 +125,23 @@ named_append (p ∷ rest) qs x = ap (λ b. same_name p.name x || b) (named_appen
     or_assoc false b c = refl
 
 -- the first of that name stays the first
-extent_kept_by : (p : Placed) (rest qs : List Placed) (x : List ℕ) (b : Bool) → (if b then p.extent else extent_of rest x).length ≡ 1 → ((extent_of rest x).length ≡ 1 → (extent_of (rest ++ qs) x).length ≡ 1)
+extent_kept_by : (p : LaidObject) (rest qs : List LaidObject) (x : List ℕ) (b : Bool) → (if b then p.extent else extent_of rest x).length ≡ 1 → ((extent_of rest x).length ≡ 1 → (extent_of (rest ++ qs) x).length ≡ 1)
     → (if b then p.extent else extent_of (rest ++ qs) x).length ≡ 1
 extent_kept_by p rest qs x true e ih = e
 extent_kept_by p rest qs x false e ih = ih e
 
-extent_kept : (ps qs : List Placed) (x : List ℕ) → (extent_of ps x).length ≡ 1 → (extent_of (ps ++ qs) x).length ≡ 1
+extent_kept : (ps qs : List LaidObject) (x : List ℕ) → (extent_of ps x).length ≡ 1 → (extent_of (ps ++ qs) x).length ≡ 1
 extent_kept [] qs x e = absurd (omega arith)
 extent_kept (p ∷ rest) qs x e = extent_kept_by p rest qs x (same_name p.name x) e (extent_kept rest qs x)
 
--- behind all that have other names
-extent_last : (ps : List Placed) (q : Placed) (x : List ℕ) → named_in ps x ≡ false → same_name q.name x ≡ true → extent_of (ps ++ q ∷ []) x ≡ q.extent
-extent_last [] q x e h = ap (λ b. if b then q.extent else record { place = 0; length = 0 }) h
+-- after all that have other names
+extent_last : (ps : List LaidObject) (q : LaidObject) (x : List ℕ) → named_in ps x ≡ false → same_name q.name x ≡ true → extent_of (ps ++ q ∷ []) x ≡ q.extent
+extent_last [] q x e h = ap (λ b. if b then q.extent else record { offset = 0; length = 0 }) h
 extent_last (p ∷ rest) q x e h =
     ap (λ b. if b then p.extent else extent_of (rest ++ q ∷ []) x) (or_left (same_name p.name x) (named_in rest x) e) ∙ extent_last rest q x (or_right (same_name p.name x) (named_in rest x) e) h
 
 -- each object has a declared name, and one of a variable is one word
-record Sized (bs : List Binding) (ps : List Placed) : Type 0 where
+record Sized (bs : List Binding) (ps : List LaidObject) : Type 0 where
   known : (x : List ℕ) → named_in ps x ≡ true → is_declared bs x ≡ true
   one : (x : List ℕ) (t : Scalar) → found bs x ≡ Some (Variable t) → (extent_of ps x).length ≡ 1
 
@@ -157,7 +157,7 @@ new_by f y x e' t true c P p q h old new = old h
 new_by f y x e' t false true P p q h old new = new refl refl (let g : Some e' ≡ Some (Variable t) = sym (ap (λ k. if k then Some e' else found f.bindings x) q) ∙ h in cc)
 new_by f y x e' t false false P p q h old new = old (sym (ap (λ k. if k then Some e' else found f.bindings x) q) ∙ h)
 
-sized_function : (s : Signature) (f : FileScope) (ps : List Placed) → Sized f.bindings ps → Sized (with_function s f).bindings ps
+sized_function : (s : Signature) (f : FileScope) (ps : List LaidObject) → Sized f.bindings ps → Sized (with_function s f).bindings ps
 sized_function s f ps h = record {
   known = λ x e. declared_kept s.name.text x (function_entity s) f (found f.bindings x) refl (h.known x e);
   one = λ x t e.
@@ -173,13 +173,13 @@ declared_now y e' f = now (is_declared f.bindings y) refl
     now false e = ap (λ k. is_some (if k then Some e' else found f.bindings y)) (name_is_itself y)
 
 -- the known names, with one more
-known_more : (y : List ℕ) (e' : Entity) (f : FileScope) (ps : List Placed) (q : Placed) (x : List ℕ) (b c : Bool) → named_in ps x ≡ b → same_name y x ≡ c → (b || (c || false)) ≡ true
+known_more : (y : List ℕ) (e' : Entity) (f : FileScope) (ps : List LaidObject) (q : LaidObject) (x : List ℕ) (b c : Bool) → named_in ps x ≡ b → same_name y x ≡ c → (b || (c || false)) ≡ true
     → Sized f.bindings ps → is_declared (with_declared y e' f).bindings x ≡ true
 known_more y e' f ps q x true c p r e h = declared_kept y x e' f (found f.bindings x) refl (h.known x p)
 known_more y e' f ps q x false true p r e h = sym (ap is_some (found_same (with_declared y e' f).bindings y x r)) ∙ declared_now y e' f
 known_more y e' f ps q x false false p r e h = absurd (true≢false (sym e))
 
-sized_new : (y : List ℕ) (e' : Entity) (f : FileScope) (ps : List Placed) (q : Placed) → q.name ≡ y → ((t : Scalar) → e' ≡ Variable t → q.extent.length ≡ 1) → Sized f.bindings ps
+sized_new : (y : List ℕ) (e' : Entity) (f : FileScope) (ps : List LaidObject) (q : LaidObject) → q.name ≡ y → ((t : Scalar) → e' ≡ Variable t → q.extent.length ≡ 1) → Sized f.bindings ps
     → Sized (with_declared y e' f).bindings (ps ++ q ∷ [])
 sized_new y e' f ps q is one h = record {
   known = λ x e.
@@ -197,45 +197,45 @@ sized_new y e' f ps q is one h = record {
     unknown true h = absurd (h refl)
     unknown false h = refl
 
-sized_object : (t : Scalar) (o : Object) (at : ℕ) (f : FileScope) (ps : List Placed) → Sized f.bindings ps
-    → Sized (with_object t o f).bindings (ps ++ record { name = (object_name o).text; extent = record { place = at; length = object_words o } } ∷ [])
+sized_object : (t : Scalar) (o : Object) (at : ℕ) (f : FileScope) (ps : List LaidObject) → Sized f.bindings ps
+    → Sized (with_object t o f).bindings (ps ++ record { name = (object_name o).text; extent = record { offset = at; length = object_words o } } ∷ [])
 sized_object t (Single y i) at f ps h =
-    sized_new y.text (Variable t) f ps (record { name = y.text; extent = record { place = at; length = 1 } }) refl (λ u e. refl) h
+    sized_new y.text (Variable t) f ps (record { name = y.text; extent = record { offset = at; length = 1 } }) refl (λ u e. refl) h
 sized_object t (Array y n values) at f ps h =
-    sized_new y.text (Elements t) f ps (record { name = y.text; extent = record { place = at; length = object_words (Array y n values) } }) refl (λ u e. absurd (let z : Elements t ≡ Variable u = e in cc)) h
+    sized_new y.text (Elements t) f ps (record { name = y.text; extent = record { offset = at; length = object_words (Array y n values) } }) refl (λ u e. absurd (let z : Elements t ≡ Variable u = e in cc)) h
 
 -- all words of some objects
 abbrev words_of_objects : List Object → ℕ
 words_of_objects [] = 0
 words_of_objects (o ∷ rest) = object_words o + words_of_objects rest
 
-placed_append : (at : ℕ) (os more : List Object) → placed_from at (os ++ more) ≡ placed_from at os ++ placed_from (at + words_of_objects os) more
-placed_append at [] more = ap (λ k. placed_from k more) (let z : at ≡ at + 0 = omega arith in z)
-placed_append at (o ∷ rest) more =
-    ap (λ (ps : List Placed). record { name = (object_name o).text; extent = record { place = at; length = object_words o } } ∷ ps)
-    (placed_append (at + object_words o) rest more
-    ∙ ap (λ k. placed_from (at + object_words o) rest ++ placed_from k more) (let z : at + object_words o + words_of_objects rest ≡ at + (object_words o + words_of_objects rest) = omega arith in z))
+laid_append : (at : ℕ) (os more : List Object) → laid_from at (os ++ more) ≡ laid_from at os ++ laid_from (at + words_of_objects os) more
+laid_append at [] more = ap (λ k. laid_from k more) (let z : at ≡ at + 0 = omega arith in z)
+laid_append at (o ∷ rest) more =
+    ap (λ (ps : List LaidObject). record { name = (object_name o).text; extent = record { offset = at; length = object_words o } } ∷ ps)
+    (laid_append (at + object_words o) rest more
+    ∙ ap (λ k. laid_from (at + object_words o) rest ++ laid_from k more) (let z : at + object_words o + words_of_objects rest ≡ at + (object_words o + words_of_objects rest) = omega arith in z))
 
-sized_objects : (t : Scalar) (os : List Object) (at : ℕ) (f : FileScope) (ps : List Placed) → Sized f.bindings ps → Sized (with_objects t os f).bindings (ps ++ placed_from at os)
+sized_objects : (t : Scalar) (os : List Object) (at : ℕ) (f : FileScope) (ps : List LaidObject) → Sized f.bindings ps → Sized (with_objects t os f).bindings (ps ++ laid_from at os)
 sized_objects t [] at f ps h = subst (Sized f.bindings) (sym (append-nil ps)) h
 sized_objects t (o ∷ rest) at f ps h =
-    let q : Placed = record { name = (object_name o).text; extent = record { place = at; length = object_words o } } in
-    subst (Sized (with_objects t rest (with_object t o f)).bindings) (append_assoc ps (q ∷ []) (placed_from (at + object_words o) rest))
+    let q : LaidObject = record { name = (object_name o).text; extent = record { offset = at; length = object_words o } } in
+    subst (Sized (with_objects t rest (with_object t o f)).bindings) (append_assoc ps (q ∷ []) (laid_from (at + object_words o) rest))
     (sized_objects t rest (at + object_words o) (with_object t o f) (ps ++ q ∷ []) (sized_object t o at f ps h))
 
-sized_externals : (ds : List External) (at : ℕ) (f : FileScope) (ps : List Placed) → Sized f.bindings ps → Sized (file_scope_behind_all ds f).bindings (ps ++ placed_from at (objects ds))
+sized_externals : (ds : List External) (at : ℕ) (f : FileScope) (ps : List LaidObject) → Sized f.bindings ps → Sized (file_scope_behind_all ds f).bindings (ps ++ laid_from at (objects ds))
 sized_externals [] at f ps h = subst (Sized f.bindings) (sym (append-nil ps)) h
 sized_externals (Declaration s ∷ rest) at f ps h = sized_externals rest at (file_scope_behind (Declaration s) f) ps (sized_function s f ps h)
 sized_externals (Definition s body ∷ rest) at f ps h = sized_externals rest at (file_scope_behind (Definition s body) f) ps (sized_function s f ps h)
 sized_externals (Objects t os ∷ rest) at f ps h =
     let g = with_objects t os f in
     subst (Sized (file_scope_behind_all rest g).bindings)
-    (append_assoc ps (placed_from at os) (placed_from (at + words_of_objects os) (objects rest)) ∙ ap (λ (qs : List Placed). ps ++ qs) (sym (placed_append at os (objects rest))))
-    (sized_externals rest (at + words_of_objects os) g (ps ++ placed_from at os) (sized_objects t os at f ps h))
+    (append_assoc ps (laid_from at os) (laid_from (at + words_of_objects os) (objects rest)) ∙ ap (λ (qs : List LaidObject). ps ++ qs) (sym (laid_append at os (objects rest))))
+    (sized_externals rest (at + words_of_objects os) g (ps ++ laid_from at os) (sized_objects t os at f ps h))
 
 -- a variable of a unit is an object of one word
 pub variable_size : (ds : List External) (f : FileScope) (x : List ℕ) (t : Scalar) → ((y : List ℕ) (u : Scalar) → found f.bindings y ≡ Some (Variable u) → ⊥) → found (file_scope_behind_all ds f).bindings x ≡ Some (Variable t)
-    → (extent_of (placed_from 0 (objects ds)) x).length ≡ 1
+    → (extent_of (laid_from 0 (objects ds)) x).length ≡ 1
 variable_size ds f x t none e = (sized_externals ds 0 f [] (record { known = λ y b. absurd (true≢false (sym b)); one = λ y u g. absurd (none y u g) })).one x t e
 
 -- ---- the words of objects before the run

@@ -2,15 +2,15 @@
 -- still be opened.
 use Rattle.std.proofs.Common.{◌≡◌, ℕ, zero, suc, ◌+◌, ◌-◌, ◌<◌, ◌≤◌, List, [], ◌∷◌, ◌++◌, Bool, true, false, if◌then◌else◌, length, nat_lt, Option, Some, None, is_some, slice_get, codes, refl, sym, ◌∙◌, arith, inl, inr, true≢false}
 use Rattle.std.proofs.lemmas.Bool.Decides.{leb_tells}
-use Rattle.cc_syntax.specs.declared.ast.Scalar.{Scalar}
-use Rattle.cc_syntax.specs.declared.ast.Scalar.TheVariants.{Int}
+use Rattle.cc_tokens.specs.declared.scalar.Scalar.{Scalar}
+use Rattle.cc_tokens.specs.declared.scalar.Scalar.TheVariants.{Int}
 use Rattle.cc_syntax.specs.declared.ast.BinaryOperator.{BinaryOperator}
 use Rattle.cc_syntax.specs.Tree as tree
-use Rattle.cc_syntax.specs.Tree.{Name, Expr, Exprs, none, more, Number, Variable, Element, Call, Parenthesised, Unary, Cast, Binary, Conditional, Target, AtVariable, AtElement, Action, Assign, Step, Evaluate, Declared, Start, Declares, Performs, Stmt, Stmts, end, next, Block, Perform, Return, Break, Continue, If, IfElse, While, DoWhile, For}
+use Rattle.cc_syntax.specs.Tree.{Name, Expr, Exprs, none, more, Number, Variable, Element, Call, Parenthesised, Unary, Cast, Binary, Conditional, Target, AtVariable, AtElement, Action, Assign, Step, Evaluate, Declarator, Beginning, Declares, Performs, Stmt, Stmts, end, next, Block, Perform, Return, Break, Continue, If, IfElse, While, DoWhile, For}
 use Rattle.cc_typing.specs.Names.{same_name}
 use Rattle.cc_typing.specs.Operators.{working_type, unary_word, binary_word, decided, applied_operator, step_operator}
 use Rattle.cc_typing.specs.Scope as scope
-use Rattle.cc_typing.specs.Scope.{Binding, Visible, in_scope, opened, declared, scope_behind, scope_behind_start}
+use Rattle.cc_typing.specs.Scope.{Binding, Visible, in_scope, opened, declared, scope_behind, scope_behind_beginning}
 use Rattle.cc_typing.specs.Types.{value_type, target_type}
 use Rattle.cc_meaning.specs.Meaning.{Local, Global, State, Run, Gives, Wrong, Flow, Falls, Breaks, Continues, Returns, then_do, choose, Calls, local_word, words_of, with_local_word, with_element, variable_word, stored, read_element, write_element, given, unless_decided, evaluate, evaluate_all, evaluate_or, Destination, ToVariable, ToElement, destination, old_value, write, new_value, perform, perform_optional, with_local, declare, start, left_scope, in_block, return, execute, execute_all, behind_flow, Function, bound, result_of, run_body, run_optional, read_input, calls, function_named, most_open, spend, turns}
 use Rattle.cc_meaning.specs.Function.{Begins}
@@ -155,12 +155,12 @@ module _ (call : ℕ → Calls) (steady : (f ws : List ℕ) → Steady Under (λ
   behind_local : {A : Type 0} (x : List ℕ) (part : ℕ → State → Run A) → Steady Under part → Steady Under (λ n s. part n (with_local x s))
   behind_local x part p = record { grows = λ n s. p.grows n (with_local x s); lasts = λ n s w. p.lasts n (with_local x s) w }
 
-  -- behind a write to a variable
+  -- after a write to a variable
   behind_stored : (x : List ℕ) (w : ℕ) (part : ℕ → State → Run Flow) → Steady Under part → Steady Under (λ n s. part n (stored x w s))
   behind_stored x w part p =
       steady_then Under under (λ n s. Gives Falls (stored x w s)) (λ ls flow n u. part n u) (stored_steady x w) (λ ls flow. p)
 
-  declare_steady : (t : Scalar) (ds : List Declared) (v : Visible) → Steady Under (λ n s. declare t ds (call n) v s)
+  declare_steady : (t : Scalar) (ds : List Declarator) (v : Visible) → Steady Under (λ n s. declare t ds (call n) v s)
   declare_steady t [] v = steady_gives Under Falls
   declare_steady t (d ∷ rest) v =
       steady_then Under under (λ n s. evaluate_or 0 d.initial (in_scope (declared d.name.text (scope.Variable t) v)) (call n) (with_local d.name.text s))
@@ -168,7 +168,7 @@ module _ (call : ℕ → Calls) (steady : (f ws : List ℕ) → Steady Under (λ
       (behind_local d.name.text (λ n s. evaluate_or 0 d.initial (in_scope (declared d.name.text (scope.Variable t) v)) (call n) s) (evaluate_or_steady 0 d.initial (in_scope (declared d.name.text (scope.Variable t) v))))
       (λ ls w. behind_stored d.name.text w (λ n u. declare t rest (call n) (declared d.name.text (scope.Variable t) v) u) (declare_steady t rest (declared d.name.text (scope.Variable t) v)))
 
-  start_steady : (first : Start) (v : Visible) → Steady Under (λ n s. start first (call n) v s)
+  start_steady : (first : Beginning) (v : Visible) → Steady Under (λ n s. start first (call n) v s)
   start_steady (Declares t ds) v = declare_steady t ds v
   start_steady (Performs a) v = optional_steady a (in_scope v)
 
@@ -209,17 +209,17 @@ module _ (call : ℕ → Calls) (steady : (f ws : List ℕ) → Steady Under (λ
         (evaluate_steady c (in_scope v)) (block_steady (λ n t. execute body n (call n) (opened v) t) (execute_steady body (opened v))) (steady_gives Under Falls))
     execute_steady (For first c behind body) v =
         block_steady
-        (λ n t. then_do (start first (call n) (opened v) t) (λ flow u. turns (suc n) (evaluate_or 1 c (in_scope (scope_behind_start first (opened v))) (call n))
-        (in_block (execute body n (call n) (opened (scope_behind_start first (opened v))))) (perform_optional behind (in_scope (scope_behind_start first (opened v))) (call n)) u))
+        (λ n t. then_do (start first (call n) (opened v) t) (λ flow u. turns (suc n) (evaluate_or 1 c (in_scope (scope_behind_beginning first (opened v))) (call n))
+        (in_block (execute body n (call n) (opened (scope_behind_beginning first (opened v))))) (perform_optional behind (in_scope (scope_behind_beginning first (opened v))) (call n)) u))
         (steady_then Under under (λ n t. start first (call n) (opened v) t)
-        (λ ls flow n u. turns (suc n) (evaluate_or 1 c (in_scope (scope_behind_start first (opened v))) (call n))
-        (in_block (execute body n (call n) (opened (scope_behind_start first (opened v))))) (perform_optional behind (in_scope (scope_behind_start first (opened v))) (call n)) u)
+        (λ ls flow n u. turns (suc n) (evaluate_or 1 c (in_scope (scope_behind_beginning first (opened v))) (call n))
+        (in_block (execute body n (call n) (opened (scope_behind_beginning first (opened v))))) (perform_optional behind (in_scope (scope_behind_beginning first (opened v))) (call n)) u)
         (start_steady first (opened v))
-        (λ ls flow. steady_turns (λ n s. evaluate_or 1 c (in_scope (scope_behind_start first (opened v))) (call n) s)
-        (λ n s. in_block (execute body n (call n) (opened (scope_behind_start first (opened v)))) s) (λ n s. perform_optional behind (in_scope (scope_behind_start first (opened v))) (call n) s)
-        (evaluate_or_steady 1 c (in_scope (scope_behind_start first (opened v))))
-        (block_steady (λ n t. execute body n (call n) (opened (scope_behind_start first (opened v))) t) (execute_steady body (opened (scope_behind_start first (opened v)))))
-        (optional_steady behind (in_scope (scope_behind_start first (opened v))))))
+        (λ ls flow. steady_turns (λ n s. evaluate_or 1 c (in_scope (scope_behind_beginning first (opened v))) (call n) s)
+        (λ n s. in_block (execute body n (call n) (opened (scope_behind_beginning first (opened v)))) s) (λ n s. perform_optional behind (in_scope (scope_behind_beginning first (opened v))) (call n) s)
+        (evaluate_or_steady 1 c (in_scope (scope_behind_beginning first (opened v))))
+        (block_steady (λ n t. execute body n (call n) (opened (scope_behind_beginning first (opened v))) t) (execute_steady body (opened (scope_behind_beginning first (opened v)))))
+        (optional_steady behind (in_scope (scope_behind_beginning first (opened v))))))
 
     pub execute_all_steady : (ss : Stmts) (v : Visible) → Steady Under (λ n t. execute_all ss n (call n) v t)
     execute_all_steady end v = steady_gives Under Falls
@@ -243,7 +243,7 @@ module _ (call : ℕ → Calls) (steady : (f ws : List ℕ) → Steady Under (λ
 
 -- ---- calls
 
--- a call behind the tests of its name and of how many are open, with what its body does
+-- a call after the tests of its name and of how many are open, with what its body does
 abbrev pub begun : (writes reads allowed : Bool) → (ℕ → State → Run ℕ) → List ℕ → ℕ → State → Run ℕ
 begun writes reads allowed body ws n s =
     elim writes [

@@ -2,8 +2,8 @@
 use Rattle.std.proofs.Common.{◌≡◌, ℕ, zero, suc, ◌+◌, Bool, true, false, true≢false, ◌||◌, ◌&&◌, ◌==◌, if◌then◌else◌, List, [], ◌∷◌, ◌++◌, length, map, replicate, inl, inr, Option, Some, None, slice_get, codes, refl, sym, ap, ◌∙◌, subst, arith, length-append, append_assoc}
 use Rattle.std.proofs.lemmas.List.{length-map, nil_from_length}
 use Rattle.std.proofs.lemmas.Bool.{eqb-true}
-use Rattle.cc_syntax.specs.declared.ast.Scalar.{Scalar}
-use Rattle.cc_syntax.specs.declared.ast.Scalar.TheVariants.{Int}
+use Rattle.cc_tokens.specs.declared.scalar.Scalar.{Scalar}
+use Rattle.cc_tokens.specs.declared.scalar.Scalar.TheVariants.{Int}
 use Rattle.cc_syntax.specs.Tree.{Name, Stmts, Parameter, Signature, Object, External, Declaration, Definition, Objects}
 use Rattle.cc_typing.specs.Names.{same_name}
 use Rattle.cc_typing.specs.Scope as scope
@@ -13,16 +13,18 @@ use Rattle.cc_typing.specs.Rules.{broken_if, signature_offences, statements_offe
 use Rattle.cc_typing.specs.declared.rule.Rule.TheVariants.{Redeclared}
 use Rattle.cc_typing.specs.Limits.{objects, object_name, function_names}
 use Rattle.cc_typing.specs.Typed.{IsTyped}
-use Rattle.cc_typing.specs.declared.form.Entry.{Entry}
-use Rattle.cc_typing.specs.declared.form.Instruction.{Instruction}
-use Rattle.cc_typing.specs.Resolve.{Places, Placed, placed_from, number_in, names_before, parameter_names, environment_of, FunctionCode, functions_code, places_of, unit_functions, all_code, entries_from, all_words, resolved}
+use Rattle.cc_meaning.specs.declared.form.Entry.{Entry}
+use Rattle.cc_meaning.specs.declared.form.Instruction.{Instruction}
+use Rattle.cc_resolve.specs.Layout.{Layout, LaidObject, laid_from, names_before, layout_of, all_words}
+use Rattle.cc_resolve.specs.Environment.{number_in, parameter_names, environment_of}
+use Rattle.cc_meaning.specs.internal.Form.{FunctionCode, functions_code, unit_functions, all_code, entries_from, resolved}
 use Rattle.cc_meaning.specs.Outcome as outcome
 use Rattle.cc_meaning.specs.Outcome.{Outcome}
 use Rattle.cc_meaning.specs.Meaning.{State, Run, Gives, Going, Wrong, Function, text_of, functions_from, functions, function_named, run_body, run_optional, calls, initial_globals, outcome_of, source_behavior}
-use Rattle.cc_meaning.specs.FormMeaning.{Configuration, form_run, first_configuration, started, form_behavior, FormsMeanTheirUnits}
+use Rattle.cc_meaning.specs.internal.FormMeaning.{Configuration, form_run, first_configuration, started, form_behavior, FormsMeanTheirUnits}
 use Rattle.cc_meaning.proofs.Offences.{nil_left, nil_right, defined_left, defined_right}
 use Rattle.cc_meaning.proofs.Named.{same_name_symm, objects_keep}
-use Rattle.cc_meaning.proofs.Held.{all_of, places_from, get_right}
+use Rattle.cc_meaning.proofs.Held.{all_of, layout_from, get_right}
 use Rattle.cc_meaning.proofs.Moves.{Halts, conf, Meets, Stands}
 use Rattle.cc_meaning.proofs.Fits.{Readable, Scoped, scoped_local}
 use Rattle.cc_meaning.proofs.Scopes as scopes
@@ -41,32 +43,32 @@ stands_in front (i ∷ xs) back = (
 
 -- ---- scopes
 
-scoped_unnamed : (places : Places) (defined : List (List ℕ)) (T : List ℕ → ℕ → Type 0) (visible : Visible) (names : List (List ℕ)) → Scoped places defined T (record { visible = visible; locals = names; places = places })
-    → Scoped places defined T (record { visible = visible; locals = [] ∷ names; places = places })
-scoped_unnamed places defined T visible names h = record {
-  placed = refl;
+scoped_unnamed : (layout : Layout) (defined : List (List ℕ)) (T : List ℕ → ℕ → Type 0) (visible : Visible) (names : List (List ℕ)) → Scoped layout defined T (record { visible = visible; locals = names; layout = layout })
+    → Scoped layout defined T (record { visible = visible; locals = [] ∷ names; layout = layout })
+scoped_unnamed layout defined T visible names h = record {
+  laid = refl;
   variable = λ x t e. unnamed x (same_name [] x) refl (h.variable x t e);
   function = h.function;
 }
   where
-    unnamed : (x : List ℕ) (b : Bool) → same_name [] x ≡ b → Readable (record { visible = visible; locals = names; places = places }) x → Readable (record { visible = visible; locals = [] ∷ names; places = places }) x
+    unnamed : (x : List ℕ) (b : Bool) → same_name [] x ≡ b → Readable (record { visible = visible; locals = names; layout = layout }) x → Readable (record { visible = visible; locals = [] ∷ names; layout = layout }) x
     unnamed x true e r = inl (length names, ap (λ c. if c then Some (length names) else number_in names x) e)
     unnamed x false e r =
         let same : number_in ([] ∷ names) x ≡ number_in names x = ap (λ c. if c then Some (length names) else number_in names x) e in
         elim r [ inl q ↦ inl (q.0, same ∙ q.1) | inr q ↦ inr (same ∙ q.0, q.1) ]
 
-scoped_parameter : (places : Places) (defined : List (List ℕ)) (T : List ℕ → ℕ → Type 0) (t : Scalar) (name : Option Name) (visible : Visible) (names : List (List ℕ))
-    → Scoped places defined T (record { visible = visible; locals = names; places = places })
-    → Scoped places defined T (record { visible = parameter_declared t name visible; locals = elim name [ None ↦ [] | Some x ↦ x.text ] ∷ names; places = places })
-scoped_parameter places defined T t None visible names h = scoped_unnamed places defined T visible names h
-scoped_parameter places defined T t (Some x) visible names h = scoped_local places defined T t x.text (record { visible = visible; locals = names; places = places }) h
+scoped_parameter : (layout : Layout) (defined : List (List ℕ)) (T : List ℕ → ℕ → Type 0) (t : Scalar) (name : Option Name) (visible : Visible) (names : List (List ℕ))
+    → Scoped layout defined T (record { visible = visible; locals = names; layout = layout })
+    → Scoped layout defined T (record { visible = parameter_declared t name visible; locals = elim name [ None ↦ [] | Some x ↦ x.text ] ∷ names; layout = layout })
+scoped_parameter layout defined T t None visible names h = scoped_unnamed layout defined T visible names h
+scoped_parameter layout defined T t (Some x) visible names h = scoped_local layout defined T t x.text (record { visible = visible; locals = names; layout = layout }) h
 
-scoped_parameters : (places : Places) (defined : List (List ℕ)) (T : List ℕ → ℕ → Type 0) (ps : List Parameter) (visible : Visible) (names : List (List ℕ))
-    → Scoped places defined T (record { visible = visible; locals = names; places = places })
-    → Scoped places defined T (record { visible = parameters_declared ps visible; locals = parameter_names ps names; places = places })
-scoped_parameters places defined T [] visible names h = h
-scoped_parameters places defined T (p ∷ rest) visible names h =
-    scoped_parameters places defined T rest (parameter_declared p.scalar p.name visible) (elim p.name [ None ↦ [] | Some x ↦ x.text ] ∷ names) (scoped_parameter places defined T p.scalar p.name visible names h)
+scoped_parameters : (layout : Layout) (defined : List (List ℕ)) (T : List ℕ → ℕ → Type 0) (ps : List Parameter) (visible : Visible) (names : List (List ℕ))
+    → Scoped layout defined T (record { visible = visible; locals = names; layout = layout })
+    → Scoped layout defined T (record { visible = parameters_declared ps visible; locals = parameter_names ps names; layout = layout })
+scoped_parameters layout defined T [] visible names h = h
+scoped_parameters layout defined T (p ∷ rest) visible names h =
+    scoped_parameters layout defined T rest (parameter_declared p.scalar p.name visible) (elim p.name [ None ↦ [] | Some x ↦ x.text ] ∷ names) (scoped_parameter layout defined T p.scalar p.name visible names h)
 
 -- ---- names of functions
 
@@ -191,11 +193,11 @@ words_laid : (os : List Object) → all_of (map (λ (o : Object). record { name 
 words_laid [] = refl
 words_laid (o ∷ rest) = ap (λ (l : List ℕ). initial_words o ++ l) (words_laid rest)
 
-objects_placed : (at : ℕ) (os : List Object) → AllFit os → places_from at (map (λ (o : Object). record { name = (object_name o).text; words = initial_words o }) os) ≡ placed_from at os
-objects_placed at [] h = refl
-objects_placed at (o ∷ rest) h =
-    ap (λ k. record { name = (object_name o).text; extent = record { place = at; length = k } } ∷ places_from (at + k) (map (λ (x : Object). record { name = (object_name x).text; words = initial_words x }) rest)) h.0
-    ∙ ap (λ (ps : List Placed). record { name = (object_name o).text; extent = record { place = at; length = object_words o } } ∷ ps) (objects_placed (at + object_words o) rest h.1)
+objects_laid : (at : ℕ) (os : List Object) → AllFit os → layout_from at (map (λ (o : Object). record { name = (object_name o).text; words = initial_words o }) os) ≡ laid_from at os
+objects_laid at [] h = refl
+objects_laid at (o ∷ rest) h =
+    ap (λ k. record { name = (object_name o).text; extent = record { offset = at; length = k } } ∷ layout_from (at + k) (map (λ (x : Object). record { name = (object_name x).text; words = initial_words x }) rest)) h.0
+    ∙ ap (λ (ps : List LaidObject). record { name = (object_name o).text; extent = record { offset = at; length = object_words o } } ∷ ps) (objects_laid (at + object_words o) rest h.1)
 
 -- ---- the functions of a unit beside their instructions
 
@@ -235,8 +237,8 @@ no_variables y u e = none (same_name (codes "write_word") y) (same_name (codes "
     none false false e = let z : None ≡ Some (scope.Variable u) = e in cc
 
 module _ (unit : List External) (typed : IsTyped unit) where
-  abbrev places : Places
-  places = places_of unit
+  abbrev layout : Layout
+  layout = layout_of unit
 
   abbrev known : List (List ℕ)
   known = (final_scope unit).defined
@@ -246,14 +248,14 @@ module _ (unit : List External) (typed : IsTyped unit) where
 
   -- the scope of a body
   body_scoped : (s : Signature) (body : Stmts) (rest : List External) (f : FileScope) → file_scope_behind_all rest (file_scope_behind (Definition s body) f) ≡ final_scope unit
-      → Scoped places known TakesHere (environment_of places s f)
+      → Scoped layout known TakesHere (environment_of layout s f)
   body_scoped s body rest f whole =
       let outer : List Binding = (with_function s f).bindings in
       let stays : (x : List ℕ) (e : scope.Entity) → found outer x ≡ Some e → found (final_scope unit).bindings x ≡ Some e =
       λ x e h. ap (λ (g : FileScope). found g.bindings x) (sym whole) ∙ keeps_externals rest (file_scope_behind (Definition s body) f) x e h in
-      scoped_parameters places known TakesHere s.parameters (record { inner = []; outer = outer }) []
+      scoped_parameters layout known TakesHere s.parameters (record { inner = []; outer = outer }) []
       (record {
-        placed = refl;
+        laid = refl;
         variable = λ x t e. inr (refl, variable_size unit first_file_scope x t no_variables (stays x (scope.Variable t) e));
         function = λ x r ts e has. takes_by unit typed x r ts (same_name x (codes "write_word")) (same_name x (codes "read_word")) refl refl (stays x (scope.Function r ts) e) has;
       })
@@ -261,11 +263,11 @@ module _ (unit : List External) (typed : IsTyped unit) where
   -- functions, their instructions and their names, in the same order
   abbrev Matched : List Function → List FunctionCode → List (List ℕ) → Type 0
   Matched [] [] [] = Unit {0}
-  Matched (g ∷ gs) (c ∷ cs) (x ∷ xs) = (g.name ≡ x) × Defined places known (functions unit) g c × Matched gs cs xs
+  Matched (g ∷ gs) (c ∷ cs) (x ∷ xs) = (g.name ≡ x) × Defined layout known (functions unit) g c × Matched gs cs xs
   Matched gs cs xs = ⊥
 
   matched : (ds : List External) (f : FileScope) → externals_offences ds f ≡ [] → undefined_among known (called ds) ≡ [] → file_scope_behind_all ds f ≡ final_scope unit
-      → Matched (functions_from ds f) (functions_code places f ds) (names_in ds)
+      → Matched (functions_from ds f) (functions_code layout f ds) (names_in ds)
   matched [] f o d whole = tt
   matched (Declaration s ∷ rest) f o d whole =
       matched rest (file_scope_behind (Declaration s) f) (nil_right (external_offences (Declaration s) f) (externals_offences rest (file_scope_behind (Declaration s) f)) o) d whole
@@ -279,7 +281,7 @@ module _ (unit : List External) (typed : IsTyped unit) where
           parameters = s.parameters;
           named = refl;
           many = refl;
-          environment = environment_of places s f;
+          environment = environment_of layout s f;
           names = refl;
           visible = refl;
           scoped = body_scoped s body rest f whole;
@@ -302,10 +304,10 @@ module _ (unit : List External) (typed : IsTyped unit) where
     start : ℕ
     entry : slice_get (entries_from at cs) (names_before xs x) ≡ Some (record { start = start; parameters = instructions.parameters; variables = instructions.variables })
     stands : Stands code start instructions.code
-    means : Defined places known (functions unit) function instructions
+    means : Defined layout known (functions unit) function instructions
 
   listed_by : (g : Function) (gs : List Function) (c : FunctionCode) (cs : List FunctionCode) (y : List ℕ) (xs : List (List ℕ)) (code : List Instruction) (at : ℕ) (x : List ℕ) (b : Bool) → same_name y x ≡ b → g.name ≡ y
-      → Defined places known (functions unit) g c → Stands code at c.code → (b || has_name xs x) ≡ true → (has_name xs x ≡ true → Listed gs cs xs code (at + length c.code) x) → Listed (g ∷ gs) (c ∷ cs) (y ∷ xs) code at x
+      → Defined layout known (functions unit) g c → Stands code at c.code → (b || has_name xs x) ≡ true → (has_name xs x ≡ true → Listed gs cs xs code (at + length c.code) x) → Listed (g ∷ gs) (c ∷ cs) (y ∷ xs) code at x
   listed_by g gs c cs y xs code at x true e is d st has ih = record {
     function = g;
     instructions = c;
@@ -341,7 +343,7 @@ module _ (unit : List External) (typed : IsTyped unit) where
       (λ has'. subst (λ code. Listed gs cs xs code (at + length c.code) x) (append_assoc front c.code (all_code cs))
       (listed gs cs xs (front ++ c.code) (at + length c.code) x (length-append front c.code ∙ ap (λ k. k + length c.code) e) m.2 has'))
 
-  table : (x : List ℕ) → has_name places.functions x ≡ true → Entered (resolved unit) places known (functions unit) x
+  table : (x : List ℕ) → has_name layout.functions x ≡ true → Entered (resolved unit) layout known (functions unit) x
   table x has =
       let r = listed (functions unit) (unit_functions unit) (names_in unit) [] 0 x refl (matched unit first_file_scope typed.0 typed.2 refl) has in
       record { function = r.function; code = r.instructions; is = r.is; start = r.start; entry = r.entry; stands = r.stands; means = r.means }
@@ -353,22 +355,22 @@ module _ (unit : List External) (typed : IsTyped unit) where
   halts_as c (Going output) h = h
   halts_as c (Wrong cause output) h = h
 
-  main_run : (input : List ℕ) (left : ℕ) (e : Entered (resolved unit) places known (functions unit) (codes "main")) → e.function.parameters ≡ []
+  main_run : (input : List ℕ) (left : ℕ) (e : Entered (resolved unit) layout known (functions unit) (codes "main")) → e.function.parameters ≡ []
       → Halts (resolved unit) (conf e.start (replicate e.code.variables 0) [] [] (record { locals = []; globals = initial_globals unit; input = input; output = []; steps = left }))
       (outcome_of (run_body e.function (suc left) (calls (suc left) (functions unit) 1) [] (record { locals = []; globals = initial_globals unit; input = input; output = []; steps = left })))
   main_run input left e none =
       let t : State = record { locals = []; globals = initial_globals unit; input = input; output = []; steps = left } in
       halts_as (conf e.start (replicate e.code.variables 0) [] [] t) (run_body e.function (suc left) (calls (suc left) (functions unit) 1) [] t)
-      (main_meets (resolved unit) places known (functions unit) table (suc left) (codes "main", e) t 1 refl none (omega arith) (objects_placed 0 (objects unit) (all_fit unit first_file_scope typed.0)))
+      (main_meets (resolved unit) layout known (functions unit) table (suc left) (codes "main", e) t 1 refl none (omega arith) (objects_laid 0 (objects unit) (all_fit unit first_file_scope typed.0)))
 
-  no_parameters : (e : Entered (resolved unit) places known (functions unit) (codes "main")) → e.function.parameters ≡ []
+  no_parameters : (e : Entered (resolved unit) layout known (functions unit) (codes "main")) → e.function.parameters ≡ []
   no_parameters e =
       nil_from_length e.function.parameters
       (same_count (final_scope unit).bindings (codes "main") (length e.function.parameters) 0 (function_takes unit first_file_scope (final_scope unit) (codes "main") e.function typed.0 refl e.is)
       (main_takes unit first_file_scope (final_scope unit) typed.0 refl typed.1))
 
   -- with no step left, and with one at least
-  behaves : (text input : List ℕ) (n : ℕ) (e : Entered (resolved unit) places known (functions unit) (codes "main"))
+  behaves : (text input : List ℕ) (n : ℕ) (e : Entered (resolved unit) layout known (functions unit) (codes "main"))
       → (k : ℕ) × (form_behavior k (resolved unit) input n ≡ Some (source_behavior (record { text = text; externals = unit }) input n))
   behaves text input zero e = (
     0,

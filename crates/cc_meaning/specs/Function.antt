@@ -1,4 +1,4 @@
--- The meaning of one function, as every later pass cites it: what a call of it does, its body behind the step of the call,
+-- The meaning of one function, as every later pass cites it: what a call of it does, its body after the step of the call,
 -- and what holds of both in each typed unit.
 use Rattle.std.specs.Prelude.{◌≡◌, ℕ, suc, ◌+◌, ◌-◌, ◌<◌, ◌≤◌, List, [], ◌++◌, length, map, unwrap_or, slice_get}
 use Rattle.cc_syntax.specs.Tree.{External, Source}
@@ -15,7 +15,7 @@ pub record Shared : Type 0 where
   pub input : List ℕ
   pub output : List ℕ
 
--- what a call gives: its word, and what is shared behind it
+-- what a call gives: its word, and what is shared after it
 pub record Answer : Type 0 where
   pub word : ℕ
   pub shared : Shared

@@ -1,10 +1,12 @@
+-- how a run comes out
 pub mod Outcome
+-- what a program does: the meaning of C
 pub mod Meaning
+-- the meaning of one function
 pub mod Function
-pub mod Rows
-pub mod FormMeaning
-pub mod Laid
-pub mod Shows
-pub mod FormRows
-pub mod Shown
-pub mod Ran
+-- what the code's answer shows
+pub mod Erase
+-- the number of the fault
+pub mod Fault
+pub mod rows
+pub mod internal

@@ -5,16 +5,16 @@
 -- Steps are spent by the start of `main`, by each call of a defined function, and each time that the body of a loop
 -- begins. A number n, which is greater than the steps left, makes each recursion end and decides nothing.
 use Rattle.std.specs.Prelude.{ℕ, zero, suc, ◌+◌, ◌-◌, true, false, List, [], ◌∷◌, ◌++◌, length, drop, map, nat_lt, if◌then◌else◌, Option, Some, None, is_some, unwrap_or, slice_get, slice_set, codes}
-use Rattle.cc_syntax.specs.declared.ast.Scalar.{Scalar}
-use Rattle.cc_syntax.specs.declared.ast.Scalar.TheVariants.{Int}
+use Rattle.cc_tokens.specs.declared.scalar.Scalar.{Scalar}
+use Rattle.cc_tokens.specs.declared.scalar.Scalar.TheVariants.{Int}
 use Rattle.cc_syntax.specs.declared.ast.BinaryOperator.{BinaryOperator}
 use Rattle.cc_syntax.specs.declared.ast.BinaryOperator.TheVariants.{ShiftLeft, ShiftRight}
 use Rattle.cc_syntax.specs.Tree as tree
-use Rattle.cc_syntax.specs.Tree.{Name, Expr, Exprs, none, more, Number, Variable, Element, Call, Parenthesised, Unary, Cast, Binary, Conditional, Target, AtVariable, AtElement, Action, Assign, Step, Evaluate, Declared, Start, Declares, Performs, Stmt, Stmts, end, next, Block, Perform, Return, Break, Continue, If, IfElse, While, DoWhile, For, Parameter, Object, External, Source}
+use Rattle.cc_syntax.specs.Tree.{Name, Expr, Exprs, none, more, Number, Variable, Element, Call, Parenthesised, Unary, Cast, Binary, Conditional, Target, AtVariable, AtElement, Action, Assign, Step, Evaluate, Declarator, Beginning, Declares, Performs, Stmt, Stmts, end, next, Block, Perform, Return, Break, Continue, If, IfElse, While, DoWhile, For, Parameter, Object, External, Source}
 use Rattle.cc_typing.specs.Names.{same_name}
 use Rattle.cc_typing.specs.Operators.{working_type, unary_word, binary_word, decided, applied_operator, step_operator}
 use Rattle.cc_typing.specs.Scope as scope
-use Rattle.cc_typing.specs.Scope.{Binding, Visible, in_scope, opened, declared, scope_behind, scope_behind_start, body_scope, FileScope, first_file_scope, file_scope_behind}
+use Rattle.cc_typing.specs.Scope.{Binding, Visible, in_scope, opened, declared, scope_behind, scope_behind_beginning, body_scope, FileScope, first_file_scope, file_scope_behind}
 use Rattle.cc_typing.specs.Types.{value_type, target_type, initial_words}
 use Rattle.cc_typing.specs.Limits.{objects, object_name}
 use Rattle.cc_meaning.specs.Outcome as outcome
@@ -214,12 +214,12 @@ spend_of (suc left) go s = go (record s { steps = left })
 abbrev pub spend : {A : Type 0} → (State → Run A) → State → Run A
 spend go s = spend_of s.steps go s
 
--- goes on behind a statement that falls through
+-- goes on after a statement that falls through
 abbrev pub behind_flow : Flow → (State → Run Flow) → State → Run Flow
 behind_flow Falls go s = go s
 behind_flow flow go s = Gives flow s
 
--- goes on behind a loop's body that falls through or continues; a break ends the loop (6.8.6.2, 6.8.6.3)
+-- goes on after a loop's body that falls through or continues; a break ends the loop (6.8.6.2, 6.8.6.3)
 abbrev pub behind_body : Flow → (State → Run Flow) → State → Run Flow
 behind_body Falls go s = go s
 behind_body Continues go s = go s
@@ -230,7 +230,7 @@ behind_body (Returns w) go s = Gives (Returns w) s
 abbrev pub begin_body : (State → Run Flow) → (State → Run Flow) → State → Run Flow
 begin_body body go s = spend (λ t. then_do (body t) (λ flow u. behind_body flow go u)) s
 
--- fewer than n turns of a loop: its condition, its body, and what stands behind the body in a `for` header (6.8.5)
+-- fewer than n turns of a loop: its condition, its body, and what stands after the body in a `for` header (6.8.5)
 abbrev pub turns : ℕ → (State → Run ℕ) → (State → Run Flow) → (State → Run Flow) → State → Run Flow
 turns zero test body behind s = Going s.output
 turns (suc n) test body behind s =
@@ -244,18 +244,18 @@ with_local x s = record s { locals = record { name = x; word = 0 } ∷ s.locals 
 
 -- declares locals one after the other: each is 0, then gets the value of its initialiser, in whose scope it is
 -- (6.2.1, 6.7.8)
-abbrev pub declare : Scalar → List Declared → Calls → Visible → State → Run Flow
+abbrev pub declare : Scalar → List Declarator → Calls → Visible → State → Run Flow
 declare t [] call v s = Gives Falls s
 declare t (d ∷ rest) call v s =
     then_do (evaluate_or 0 d.initial (in_scope (declared d.name.text (scope.Variable t) v)) call (with_local d.name.text s))
     (λ w u. declare t rest call (declared d.name.text (scope.Variable t) v) (stored d.name.text w u))
 
 -- the first part of a `for` header
-abbrev pub start : Start → Calls → Visible → State → Run Flow
+abbrev pub start : Beginning → Calls → Visible → State → Run Flow
 start (Declares t ds) call v s = declare t ds call v s
 start (Performs a) call v s = perform_optional a (in_scope v) call s
 
--- behind a scope only the oldest locals stay, as many as there were before it (6.2.1)
+-- after a scope only the oldest locals stay, as many as there were before it (6.2.1)
 abbrev pub left_scope : ℕ → State → State
 left_scope before s = record s { locals = drop (length s.locals - before) s.locals }
 
@@ -291,9 +291,9 @@ abbrev mutual
       (turns (suc n) (evaluate c (in_scope v) call) (in_block (execute body n call (opened v))) (λ t. Gives Falls t)) s
   execute (For first c behind body) n call v s =
       in_block (λ t. then_do (start first call (opened v) t) (λ flow u.
-      turns (suc n) (evaluate_or 1 c (in_scope (scope_behind_start first (opened v))) call)
-      (in_block (execute body n call (opened (scope_behind_start first (opened v)))))
-      (perform_optional behind (in_scope (scope_behind_start first (opened v))) call) u)) s
+      turns (suc n) (evaluate_or 1 c (in_scope (scope_behind_beginning first (opened v))) call)
+      (in_block (execute body n call (opened (scope_behind_beginning first (opened v)))))
+      (perform_optional behind (in_scope (scope_behind_beginning first (opened v))) call) u)) s
 
   pub execute_all : Stmts → ℕ → Calls → Visible → State → Run Flow
   execute_all end n call v s = Gives Falls s
@@ -343,7 +343,7 @@ result_of (Returns w) = w
 result_of flow = 0
 
 -- the body of a function on the words of its arguments: it has the parameters alone as its locals, and its caller's are
--- back behind it
+-- back after it
 abbrev pub run_body : Function → ℕ → Calls → List ℕ → State → Run ℕ
 run_body f n call ws s =
     then_do (execute_all f.body n call f.visible (record s { locals = bound f.parameters ws [] }))

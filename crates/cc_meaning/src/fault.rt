@@ -1,6 +1,7 @@
 // Why a program is not run.
 
 ghost use Rattle.std.specs.Prelude.{◌≡◌};
+ghost use Rattle.cc_meaning.specs.Fault.{fault_number};
 
 use std::alloc::AllocError;
 use thiserror::Error;
@@ -8,7 +9,7 @@ use thiserror::Error;
 /// Why a program is not run to its end or its last step.
 #[derive(Debug, Drop, Error)]
 pub enum MeaningFault {
-    /// 40: memory was refused.
+    /// 40: memory ran out.
     #[error("OutOfMemory")]
     OutOfMemory,
 }
@@ -16,7 +17,7 @@ pub enum MeaningFault {
 impl MeaningFault {
     /// The number of the fault: 40.
     pub fn number(&self) -> u32
-        ensures { result ≡ 40 }
+        ensures { result ≡ fault_number self.now }
     {
         match self {
             MeaningFault::OutOfMemory => 40,

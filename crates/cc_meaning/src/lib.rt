@@ -1,16 +1,20 @@
 // What a C program does: its behavior on an input within a number of steps.
 //
-// `operation` has what operations give on words, `machine` runs a resolved form over one stack, `run` runs a typed unit; `laws`
-// has what holds of every program, `outcome` how a run comes out, `fault` the refusal 40. The crate hands out `interpret` and
-// these types, and in `specs/Meaning.antt` the meaning of C, which `interpret` is proved to give.
+// `form` has the instructions that a typed unit becomes, and `writer` writes them, on `emitter`; `operation` has what
+// operations give on words, `interpreter` runs a form over one stack, `run` runs a typed unit; `laws` has what holds of every
+// program, `outcome` how a run comes out, `fault` the refusal 40. The crate hands out `interpret` and these types, and in
+// `specs/Meaning.antt` the meaning of C, which `interpret` is proved to give.
 #![tactic(auto)]
 
+mod emitter;
 mod fault;
+mod form;
+mod interpreter;
 mod laws;
-mod machine;
 mod operation;
 mod outcome;
 mod run;
+mod writer;
 
 pub use fault::MeaningFault;
 pub use laws::{functions_have_meaning, runs_go_on};

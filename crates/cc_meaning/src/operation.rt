@@ -1,10 +1,10 @@
 // What operations give on words.
 
 ghost use Rattle.std.specs.Prelude.{◌≡◌, ok_or};
-ghost use Rattle.cc_meaning.specs.FormMeaning.{unary_result, binary_result, cause_of_operation};
+ghost use Rattle.cc_meaning.specs.internal.FormMeaning.{unary_result, binary_result, cause_of_operation};
 
 use super::outcome::Cause;
-use cc_typing::{BinaryOperation, UnaryOperation};
+use cc_resolve::{BinaryOperation, UnaryOperation};
 
 /// What an operation on one word gives.
 pub fn unary(operation: UnaryOperation, word: u32) -> u32

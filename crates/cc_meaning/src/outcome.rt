@@ -29,7 +29,7 @@ pub enum Stop {
 }
 
 /// A list of words.
-#[derive(Drop, Debug)]
+#[derive(Drop)]
 pub struct Words {
     words: Vec<u32>,
 }
@@ -67,7 +67,7 @@ impl Words {
 }
 
 /// How a run stops, and the words that it wrote up to there.
-#[derive(Drop, Debug)]
+#[derive(Drop)]
 pub struct Outcome {
     pub stop: Stop,
     pub output: Words,

@@ -1,10 +1,11 @@
 -- What is counted is how many there are, and the place kept is where the limit is passed.
-use Rattle.std.proofs.Common.{◌≡◌, ℕ, zero, suc, ◌+◌, Bool, true, false, if◌then◌else◌, nat_lt, List, [], ◌∷◌, ◌++◌, map, take, drop, Option, Some, None, is_some, refl, sym, ap, subst, ◌∙◌, arith}
+use Rattle.std.proofs.Common.{◌≡◌, ℕ, zero, suc, ◌+◌, Bool, true, false, if◌then◌else◌, nat_lt, List, [], ◌∷◌, ◌++◌, length, map, take, drop, Option, Some, None, is_some, refl, sym, ap, subst, ◌∙◌, arith}
+use Rattle.std.proofs.lemmas.Bool.{false≢true}
 use Rattle.std.proofs.lemmas.Bool.Decides.{nat_tests}
 use Rattle.cc_syntax.specs.Tree.{Name, Object}
 use Rattle.cc_typing.specs.Types.{object_words}
 use Rattle.cc_typing.specs.Limits.{most_words, too_many, past, word_excesses, object_name}
-use Rattle.cc_typing.specs.Counts.{counted, passed, count_after, excess_of, WordCount, with_words, words_after}
+use Rattle.cc_typing.specs.internal.Counts.{counted, passed, count_after, excess_of, WordCount, with_words, words_after}
 use Rattle.cc_typing.specs.declared.limits.Count.{Count}
 use Rattle.cc_typing.specs.declared.rule.Rule.TheVariants.{TooMany}
 
@@ -77,3 +78,33 @@ words-are n (o ∷ os) = by (nat_lt most_words (n + object_words o)) (words-are 
         ≡ (if b then too_many (object_name o) ∷ [] else word_excesses (n + object_words o) os)
     by true e = ap (λ (w : WordCount). excess_of w.past) (words-once n (object_name o).at os)
     by false e = e
+
+-- ---- where no name is past the number allowed
+
+-- a place that is kept stays
+passed-some : (most n at : ℕ) (xs : List Name) → is_some (passed most n (Some at) xs) ≡ true
+passed-some most n at [] = refl
+passed-some most n at (x ∷ xs) = by (nat_lt n most) (passed-some most (n + 1) at xs) (passed-some most n at xs)
+  where
+    by : (b : Bool) → is_some (passed most (n + 1) (Some at) xs) ≡ true → is_some (passed most n (Some at) xs) ≡ true
+        → is_some (if b then passed most (n + 1) (Some at) xs else passed most n (Some at) xs) ≡ true
+    by true e d = e
+    by false e d = d
+
+-- where no name is past the number allowed, all are counted
+pub counted-all : (most n : ℕ) (xs : List Name) → is_some (passed most n None xs) ≡ false → counted most n xs ≡ n + length xs
+counted-all most n [] h = omega arith
+counted-all most n (x ∷ xs) h = by (nat_lt n most) (counted-all most (n + 1) xs) (passed-some most n x.at xs) h
+  where
+    by : (b : Bool) → (is_some (passed most (n + 1) None xs) ≡ false → counted most (n + 1) xs ≡ n + 1 + length xs) → is_some (passed most n (Some x.at) xs) ≡ true
+        → is_some (if b then passed most (n + 1) None xs else passed most n (Some x.at) xs) ≡ false
+        → counted most (if b then n + 1 else n) xs ≡ n + length (x ∷ xs)
+    by true e d k = let done : counted most (n + 1) xs ≡ n + 1 + length xs = e k in omega arith
+    by false e d k = absurd (false≢true (sym k ∙ d))
+
+pub count-is : (most : ℕ) (c k : Count) (xs : List Name) → k ≡ record { most = most; names = 0; past = None } → c ≡ count_after k xs → c.past ≡ None → c.names ≡ length xs
+count-is most c k xs ek ec none =
+    let is : c ≡ count_after (record { most = most; names = 0; past = None }) xs = ec ∙ ap (λ q. count_after q xs) ek in
+    let all = counted-all most 0 xs (sym (ap (λ (q : Count). is_some q.past) is) ∙ ap is_some none) in
+    let names : c.names ≡ counted most 0 xs = ap (λ (q : Count). q.names) is in
+    omega arith

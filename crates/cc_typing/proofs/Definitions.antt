@@ -1,11 +1,12 @@
 -- The functions that some external declarations define, one by one.
-use Rattle.std.proofs.Common.{◌≡◌, ℕ, List, [], ◌∷◌, ◌++◌, map, refl, ap, ◌∙◌}
+use Rattle.std.proofs.Common.{◌≡◌, ℕ, zero, suc, List, [], ◌∷◌, ◌++◌, length, map, slice_get, Some, refl, ap, ◌∙◌}
 use Rattle.cc_syntax.specs.Erase.{external_tree, external_trees}
 use Rattle.cc_syntax.specs.Tree as tree
 use Rattle.cc_syntax.specs.Tree.{Name, Object, Declaration, Definition, Objects}
 use Rattle.cc_syntax.specs.declared.ast.External.{External}
-use Rattle.cc_typing.specs.Counts.{defines, objects_in}
+use Rattle.cc_typing.specs.internal.Counts.{defines, objects_in}
 use Rattle.cc_typing.specs.Limits.{function_names, objects}
+use Rattle.cc_typing.specs.Typed.{definitions}
 
 pub function_names-next : (e : tree.External) (rest : List tree.External) → function_names (e ∷ rest) ≡ defines e ++ function_names rest
 function_names-next (Declaration s) rest = refl
@@ -17,14 +18,29 @@ objects-next (Declaration s) rest = refl
 objects-next (Definition s body) rest = refl
 objects-next (Objects t os) rest = refl
 
--- the names of the functions that some external declarations define
-abbrev pub names_of : List External → List (List ℕ)
-names_of es = map (λ (x : Name). x.text) (function_names (external_trees es))
+pub definitions-next : (e : tree.External) (rest : List tree.External) → definitions (e ∷ rest) ≡ definitions (e ∷ []) ++ definitions rest
+definitions-next (Declaration s) rest = refl
+definitions-next (Definition s body) rest = refl
+definitions-next (Objects t os) rest = refl
 
-pub names-none : (e : External) (left rest : List External) → left ≡ e ∷ rest → defines (external_tree e) ≡ [] → names_of left ≡ names_of rest
-names-none e left rest el none =
-    ap names_of el ∙ ap (λ (xs : List Name). map (λ (x : Name). x.text) xs) (function_names-next (external_tree e) (external_trees rest) ∙ ap (λ (xs : List Name). xs ++ function_names (external_trees rest)) none)
+pub definitions-none : (e : External) (left rest : List External) → left ≡ e ∷ rest → definitions (external_tree e ∷ []) ≡ [] → definitions (external_trees left) ≡ definitions (external_trees rest)
+definitions-none e left rest el none =
+    ap (λ es. definitions (external_trees es)) el ∙ definitions-next (external_tree e) (external_trees rest) ∙ ap (λ ds. ds ++ definitions (external_trees rest)) none
 
-pub names-one : (e : External) (x : Name) (left rest : List External) → left ≡ e ∷ rest → defines (external_tree e) ≡ x ∷ [] → names_of left ≡ x.text ∷ names_of rest
-names-one e x left rest el one =
-    ap names_of el ∙ ap (λ (xs : List Name). map (λ (y : Name). y.text) xs) (function_names-next (external_tree e) (external_trees rest) ∙ ap (λ (xs : List Name). xs ++ function_names (external_trees rest)) one)
+pub definitions-one : (e : External) (d : tree.External) (left rest : List External) → left ≡ e ∷ rest → definitions (external_tree e ∷ []) ≡ d ∷ [] → definitions (external_trees left) ≡ d ∷ definitions (external_trees rest)
+definitions-one e d left rest el one =
+    ap (λ es. definitions (external_trees es)) el ∙ definitions-next (external_tree e) (external_trees rest) ∙ ap (λ ds. ds ++ definitions (external_trees rest)) one
+
+pub length-definitions : (es : List tree.External) → length (definitions es) ≡ length (map (λ (x : Name). x.text) (function_names es))
+length-definitions [] = refl
+length-definitions (Declaration s ∷ rest) = length-definitions rest
+length-definitions (Definition s body ∷ rest) = ap suc (length-definitions rest)
+length-definitions (Objects t os ∷ rest) = length-definitions rest
+
+-- a definition has the name with its number
+pub named : (es : List tree.External) (n : ℕ) (s : tree.Signature) (body : tree.Stmts) → slice_get (definitions es) n ≡ Some (Definition s body) → slice_get (map (λ (x : Name). x.text) (function_names es)) n ≡ Some s.name.text
+named [] n s body e = absurd cc
+named (Declaration q ∷ rest) n s body e = named rest n s body e
+named (Definition q other ∷ rest) zero s body e = let same : q ≡ s = cc in ap (λ (r : tree.Signature). Some r.name.text) same
+named (Definition q other ∷ rest) (suc n) s body e = named rest n s body e
+named (Objects t os ∷ rest) n s body e = named rest n s body e

@@ -1,11 +1,11 @@
 -- The walk over file scope.
 use Rattle.std.proofs.Common.{◌≡◌, ℕ, Bool, true, false, ◌||◌, List, [], ◌∷◌, ◌++◌, length, Option, Some, None, refl, sym, ap, ◌∙◌}
 use Rattle.std.specs.Prelude.{not, is_some}
-use Rattle.cc_syntax.specs.declared.ast.Scalar.{Scalar}
+use Rattle.cc_tokens.specs.declared.scalar.Scalar.{Scalar}
 use Rattle.cc_syntax.specs.Tree as tree
 use Rattle.cc_syntax.specs.Tree.{Parameter, Signature, Object, Single, Array, External, Declaration, Definition, Objects, Stmts, ConstantExpr}
 use Rattle.cc_typing.specs.Bindings.{closed, file_level, file_of, file_with}
-use Rattle.cc_typing.specs.Findings.{Found, after, is_bad_length}
+use Rattle.cc_typing.specs.internal.Findings.{Found, after, is_bad_length}
 use Rattle.cc_typing.specs.Names.{same_name}
 use Rattle.cc_typing.specs.Scope.{Elements, Binding, Visible, in_scope, is_declared, FileScope, has_name, with_declared, with_function, with_object, with_objects, parameter_declared, parameters_declared, body_scope, file_scope_behind}
 use Rattle.cc_typing.specs.Rules.{Around, broken_if, optional_constant_offences, constants_offences, length_offences, object_offences, objects_offences, parameter_offences, parameters_offences, signature_offences, external_offences, externals_offences, statements_offences, called_in_constants, called_in_optional_constant, called_in_object, called_in_objects, called_in_external, called, called_in_statements}
@@ -27,13 +27,13 @@ length-is (Some n) given at = refl
 
 -- ---- objects
 
--- behind some names of a declaration of objects: what is done and what is left make the whole
+-- after some names of a declaration of objects: what is done and what is left make the whole
 pub record Objecting (t : Scalar) (v0 : Visible) (f0 : Found) (all : List Object) (v : Visible) (f : Found) (rest : List Object) : Type 0 where
   pub inner : v.inner ≡ []
   pub scope : (with_objects t rest (file_of v)).bindings ≡ (with_objects t all (file_of v0)).bindings
   pub found : after f (objects_offences t rest (file_of v)) (called_in_objects rest) ≡ after f0 (objects_offences t all (file_of v0)) (called_in_objects all)
 
--- behind an object nothing is said of definitions
+-- after an object nothing is said of definitions
 with_object-file : (t : Scalar) (o : Object) (g : FileScope) → with_object t o g ≡ record { bindings = (with_object t o g).bindings; defined = g.defined }
 with_object-file t (Single x initial) g = refl
 with_object-file t (Array x n values) g = refl
@@ -139,7 +139,7 @@ externals_offences-same (e ∷ es) g h same =
     ap (λ l. l ++ externals_offences es (file_scope_behind e g)) (external_offences-same e g h same)
     ∙ ap (λ l. external_offences e h ++ l) (externals_offences-same es (file_scope_behind e g) (file_scope_behind e h) (behind-same e g h same))
 
--- behind some external declarations: what is done and what is left make the whole
+-- after some external declarations: what is done and what is left make the whole
 pub record Declaring (g0 : FileScope) (f0 : Found) (all : List External) (v : Visible) (names : List (List ℕ)) (f : Found) (rest : List External) : Type 0 where
   pub inner : v.inner ≡ []
   pub found : after f (externals_offences rest (file_with v names)) (called rest) ≡ after f0 (externals_offences all g0) (called all)

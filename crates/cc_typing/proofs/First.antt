@@ -5,7 +5,7 @@ use Rattle.std.proofs.lemmas.Bool.Decides.{nat_tests}
 use Rattle.std.proofs.lemmas.List.Elements.{Contains-append_right}
 use Rattle.cc_typing.specs.Fault.{rule_number}
 use Rattle.cc_typing.specs.Typed.{NotAfter, IsFirst}
-use Rattle.cc_typing.specs.Findings.{is_before, earlier, noted}
+use Rattle.cc_typing.specs.internal.Findings.{is_before, earlier, noted}
 use Rattle.cc_typing.specs.declared.rule.Offence.{Offence}
 
 -- the order of offences, on numbers

@@ -10,9 +10,3 @@ pub mod Counting
 pub mod First
 pub mod Verdict
 pub mod Definitions
-pub mod Emitting
-pub mod ResolvingStatements
-pub mod ResolvingUnits
-pub mod ResolvingPlaces
-pub mod ResolvingExpressions
-pub mod ResolvingActions

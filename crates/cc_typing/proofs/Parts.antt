@@ -3,7 +3,7 @@ use Rattle.std.proofs.Common.{◌≡◌, ℕ, true, false, List, [], ◌∷◌, 
 use Rattle.cc_syntax.specs.Tree.{Name}
 use Rattle.cc_typing.specs.Rules.{undefined_among, broken_if}
 use Rattle.cc_typing.specs.Scope.{has_name}
-use Rattle.cc_typing.specs.Findings.{Found, earlier, noted, after}
+use Rattle.cc_typing.specs.internal.Findings.{Found, earlier, noted, after}
 use Rattle.cc_typing.specs.declared.rule.Offence.{Offence}
 use Rattle.cc_typing.specs.declared.rule.Rule.TheVariants.{Undefined}
 use Rattle.std.specs.Prelude.{not}
@@ -29,11 +29,11 @@ after_nothing f = refl
 pub after_after : (f : Found) (xs ys : List Offence) (cs ds : List Name) → after (after f xs cs) ys ds ≡ after f (xs ++ ys) (cs ++ ds)
 after_after f xs ys cs ds i = record { first = noted-append f.first xs ys i; undefined = noted_calls f.undefined f.defined cs ds i; defined = f.defined }
 
--- a part behind which something is noted
+-- a part after which something is noted
 pub after_noted : (f : Found) (xs ys : List Offence) (cs : List Name) → after (after f xs cs) ys [] ≡ after f (xs ++ ys) cs
 after_noted f xs ys cs i = record { first = noted-append f.first xs ys i; undefined = noted f.undefined (undefined_among f.defined cs); defined = f.defined }
 
--- two parts one behind the other
+-- two parts one after the other
 pub two : (f g h : Found) (xs ys os : List Offence) (cs ds es : List Name) → g ≡ after f xs cs → h ≡ after g ys ds → os ≡ xs ++ ys → es ≡ cs ++ ds → h ≡ after f os es
 two f g h xs ys os cs ds es eg eh eo ee = eh ∙ ap (λ k. after k ys ds) eg ∙ after_after f xs ys cs ds ∙ sym (ap (λ l. after f l (cs ++ ds)) eo) ∙ sym (ap (after f os) ee)
 
@@ -42,7 +42,7 @@ pub next : (f g whole : Found) (xs ys os : List Offence) (cs ds es : List Name) 
 next f g whole xs ys os cs ds es before eo ee eg =
     ap (λ k. after k ys ds) eg ∙ after_after f xs ys cs ds ∙ sym (ap (λ l. after f l (cs ++ ds)) eo) ∙ sym (ap (after f os) ee) ∙ before
 
--- behind a list nothing is left
+-- after a list nothing is left
 pub last : (f whole : Found) (os : List Offence) (es : List Name) → after f os es ≡ whole → os ≡ [] → es ≡ [] → f ≡ whole
 last f whole os es before eo ee = sym (after_nothing f) ∙ sym (ap (λ l. after f l []) eo) ∙ sym (ap (after f os) ee) ∙ before
 

@@ -26,17 +26,17 @@ pub count_of-expressions : (es : List Expression) → count_of (expressions_of e
 count_of-expressions [] = refl
 count_of-expressions (e ∷ es) = let k : count_of (expressions_of es) ≡ length es = count_of-expressions es in let j : 1 + count_of (expressions_of es) ≡ suc (length es) = omega arith in j
 
-pub statement_tree-if : (c : _) (b : _) → statement_tree (statement.If c b) ≡ tree.If (expression_tree c) (statement_tree b.value)
+pub statement_tree-if : (c : _) (b : _) → statement_tree (statement.If c b) ≡ tree.If (expression_tree c.value) (statement_tree b.value)
 statement_tree-if c b = search (rules, statement.the_lemmas)
 
-pub statement_tree-if_else : (c : _) (b : _) (r : _) → statement_tree (statement.IfElse c b r) ≡ tree.IfElse (expression_tree c) (statement_tree b.value) (statement_tree r.value)
+pub statement_tree-if_else : (c : _) (b : _) (r : _) → statement_tree (statement.IfElse c b r) ≡ tree.IfElse (expression_tree c.value) (statement_tree b.value) (statement_tree r.value)
 statement_tree-if_else c b r = search (rules, statement.the_lemmas)
 
-pub statement_tree-while : (c : _) (b : _) → statement_tree (statement.While c b) ≡ tree.While (expression_tree c) (statement_tree b.value)
+pub statement_tree-while : (c : _) (b : _) → statement_tree (statement.While c b) ≡ tree.While (expression_tree c.value) (statement_tree b.value)
 statement_tree-while c b = search (rules, statement.the_lemmas)
 
-pub statement_tree-do_while : (b : _) (c : _) → statement_tree (statement.DoWhile b c) ≡ tree.DoWhile (statement_tree b.value) (expression_tree c)
+pub statement_tree-do_while : (b : _) (c : _) → statement_tree (statement.DoWhile b c) ≡ tree.DoWhile (statement_tree b.value) (expression_tree c.value)
 statement_tree-do_while b c = search (rules, statement.the_lemmas)
 
-pub statement_tree-for : (s : _) (c : _) (a : _) (b : _) → statement_tree (statement.For s c a b) ≡ tree.For (beginning_tree s) (optional_tree c) (optional_action a) (statement_tree b.value)
+pub statement_tree-for : (s : _) (c : _) (a : _) (b : _) → statement_tree (statement.For s c a b) ≡ tree.For (beginning_tree s.value) (optional_tree c) (optional_action a) (statement_tree b.value)
 statement_tree-for s c a b = search (rules, statement.the_lemmas)

@@ -2,17 +2,17 @@
 use Rattle.std.proofs.Common.{◌≡◌, ℕ, inl, inr, true, false, ◌||◌, List, [], ◌∷◌, ◌++◌, length, Some, None, refl, sym, ap, ◌∙◌}
 use Rattle.std.specs.Prelude.{not}
 use Rattle.cc_syntax.specs.Tree.{Name, Source, External, Declaration, Definition, Objects}
-use Rattle.cc_syntax.specs.Place.{place_of}
+use Rattle.cc_tokens.specs.Place.{place_of}
 use Rattle.cc_typing.specs.Checked.{IsChecked}
-use Rattle.cc_typing.specs.Counts.{defined_after}
+use Rattle.cc_typing.specs.internal.Counts.{defined_after}
 use Rattle.cc_typing.specs.Fault.{fault_of}
 use Rattle.cc_typing.specs.Bindings.{file_level, file_with}
-use Rattle.cc_typing.specs.Findings.{Found, noted, after, nothing_found}
+use Rattle.cc_typing.specs.internal.Findings.{Found, noted, after, nothing_found}
 use Rattle.cc_typing.specs.Limits.{excesses}
 use Rattle.cc_typing.specs.Names.{same_name}
 use Rattle.cc_typing.specs.Rules.{offences, defines_main, undefined_among, undefined_calls, called, broken_if, externals_offences}
 use Rattle.cc_typing.specs.Scope.{Visible, has_name, FileScope, first_file_scope, file_scope_behind, file_scope_behind_all}
-use Rattle.cc_typing.specs.Typed.{IsRefusal, all_offences}
+use Rattle.cc_typing.specs.Typed.{IsTypeRefusal, all_offences}
 use Rattle.cc_typing.specs.declared.fault.TypeFault.{TypeFault}
 use Rattle.cc_typing.specs.declared.fault.TypeFault.TheVariants.{NoMain}
 use Rattle.cc_typing.specs.declared.rule.Offence.{Offence}
@@ -27,14 +27,14 @@ both_empty [] ys e = (refl, e)
 both_empty (x ∷ xs) ys e = absurd (let c : ⊥ = cc in c)
 
 module _ (s : Source) where
-  pub refused-first : (o : Offence) (fault : TypeFault) → noted None (all_offences s.externals) ≡ Some o → fault ≡ fault_of o.rule (place_of s.text o.at) → IsRefusal s fault
+  pub refused-first : (o : Offence) (fault : TypeFault) → noted None (all_offences s.externals) ≡ Some o → fault ≡ fault_of o.rule (place_of s.text o.at) → IsTypeRefusal s fault
   refused-first o fault e at = inl (o, IsFirst-noted (all_offences s.externals) o e, at)
 
-  pub refused-main : (fault : TypeFault) → noted None (all_offences s.externals) ≡ None → defines_main s.externals ≡ false → fault ≡ NoMain (place_of s.text (length s.text)) → IsRefusal s fault
+  pub refused-main : (fault : TypeFault) → noted None (all_offences s.externals) ≡ None → defines_main s.externals ≡ false → fault ≡ NoMain (place_of s.text (length s.text)) → IsTypeRefusal s fault
   refused-main fault e m at = inr (inl (noted-none (all_offences s.externals) e, m, at))
 
   pub refused-call : (o : Offence) (fault : TypeFault) → noted None (all_offences s.externals) ≡ None → defines_main s.externals ≡ true → noted None (undefined_calls s.externals) ≡ Some o
-      → fault ≡ fault_of o.rule (place_of s.text o.at) → IsRefusal s fault
+      → fault ≡ fault_of o.rule (place_of s.text o.at) → IsTypeRefusal s fault
   refused-call o fault e m u at = inr (inr (noted-none (all_offences s.externals) e, m, (o, IsFirst-noted (undefined_calls s.externals) o u, at)))
 
   pub checked : noted None (all_offences s.externals) ≡ None → defines_main s.externals ≡ true → noted None (undefined_calls s.externals) ≡ None → IsChecked s
@@ -44,7 +44,7 @@ module _ (s : Source) where
 
 -- ---- the functions that are defined
 
--- the names of the functions that are defined behind some external declarations
+-- the names of the functions that are defined after some external declarations
 abbrev pub all_defined_after : List (List ℕ) → List External → List (List ℕ)
 all_defined_after d [] = d
 all_defined_after d (e ∷ rest) = all_defined_after (defined_after d e) rest
@@ -76,7 +76,7 @@ undefined_among-same [] d d' h = refl
 undefined_among-same (c ∷ cs) d d' h =
     ap (λ b. broken_if (not b) Undefined c.at ++ undefined_among d cs) (h c.text) ∙ ap (λ l. broken_if (not (has_name d' c.text)) Undefined c.at ++ l) (undefined_among-same cs d d' h)
 
--- behind some external declarations: what is done and what is left make the whole
+-- after some external declarations: what is done and what is left make the whole
 pub defined-next : (e : External) (rest left : List External) (d d' whole : List (List ℕ)) → left ≡ e ∷ rest → SameNames (all_defined_after d left) whole → SameNames d' (defined_after d e) → SameNames (all_defined_after d' rest) whole
 defined-next e rest left d d' whole el before ed = λ x.
     all_defined_after-same rest d' (defined_after d e) ed x ∙ sym (ap (λ l. has_name (all_defined_after d l) x) el) ∙ before x

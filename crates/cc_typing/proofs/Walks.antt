@@ -1,13 +1,13 @@
 -- The walk over statements, part by part.
 use Rattle.std.proofs.Common.{◌≡◌, ℕ, ◌+◌, ◌≤◌, Result, Ok, Err, OnOk, List, [], ◌∷◌, ◌++◌, length, length-append, take, drop, Option, Some, None, refl, sym, ap, ◌∙◌, append_assoc, arith}
 use Rattle.std.proofs.Math.Seq.{take-append_seam, drop-append_seam}
-use Rattle.cc_syntax.specs.declared.ast.Scalar.{Scalar}
+use Rattle.cc_tokens.specs.declared.scalar.Scalar.{Scalar}
 use Rattle.cc_syntax.specs.Tree as tree
-use Rattle.cc_syntax.specs.Tree.{Expr, Declared, Start, Action, Stmt, Stmts, next, If, IfElse, While, DoWhile, For, Declares, Performs}
+use Rattle.cc_syntax.specs.Tree.{Expr, Declarator, Beginning, Action, Stmt, Stmts, next, If, IfElse, While, DoWhile, For, Declares, Performs}
 use Rattle.cc_typing.specs.Bindings.{closed}
-use Rattle.cc_typing.specs.Findings.{Found, after, declarator_offences, is_bad_return}
-use Rattle.cc_typing.specs.Scope.{Variable, Binding, Visible, in_scope, opened, declared, is_declared, all_declared, scope_behind, scope_behind_start}
-use Rattle.cc_typing.specs.Rules.{broken_if, Around, within_loop, value_offences, optional_offences, optional_action_offences, declared_offences, start_offences, return_offences, statement_offences, statements_offences, called_in, called_in_optional, called_in_optional_action, called_in_declared, called_in_start, called_in_statement, called_in_statements}
+use Rattle.cc_typing.specs.internal.Findings.{Found, after, declarator_offences, is_bad_return}
+use Rattle.cc_typing.specs.Scope.{Variable, Binding, Visible, in_scope, opened, declared, is_declared, all_declared, scope_behind, scope_behind_beginning}
+use Rattle.cc_typing.specs.Rules.{broken_if, Around, within_loop, value_offences, optional_offences, optional_action_offences, declared_offences, beginning_offences, return_offences, statement_offences, statements_offences, called_in, called_in_optional, called_in_optional_action, called_in_declared, called_in_beginning, called_in_statement, called_in_statements}
 use Rattle.cc_typing.specs.declared.rule.Offence.{Offence}
 use Rattle.cc_typing.specs.declared.rule.Rule.TheVariants.{Redeclared, BadReturn}
 use Rattle.cc_typing.proofs.Parts as parts
@@ -16,7 +16,7 @@ use Rattle.cc_typing.proofs.Parts.{two, three}
 -- ---- scopes
 
 -- what stands in the innermost scope leaves what is around it
-pub all_declared_outer : (t : Scalar) (ds : List Declared) (v : Visible) → (all_declared t ds v).outer ≡ v.outer
+pub all_declared_outer : (t : Scalar) (ds : List Declarator) (v : Visible) → (all_declared t ds v).outer ≡ v.outer
 all_declared_outer t [] v = refl
 all_declared_outer t (d ∷ ds) v = all_declared_outer t ds (declared d.name.text (Variable t) v)
 
@@ -33,11 +33,11 @@ scope_behind_outer (While c s) v = refl
 scope_behind_outer (DoWhile s c) v = refl
 scope_behind_outer (For start c behind s) v = refl
 
-pub scope_behind_start_outer : (s : Start) (v : Visible) → (scope_behind_start s v).outer ≡ v.outer
-scope_behind_start_outer (Declares t ds) v = all_declared_outer t ds v
-scope_behind_start_outer (Performs a) v = refl
+pub scope_behind_beginning_outer : (s : Beginning) (v : Visible) → (scope_behind_beginning s v).outer ≡ v.outer
+scope_behind_beginning_outer (Declares t ds) v = all_declared_outer t ds v
+scope_behind_beginning_outer (Performs a) v = refl
 
--- behind an inner scope the one around it is as it was
+-- after an inner scope the one around it is as it was
 closed_opened : (s v : Visible) → v.outer ≡ in_scope s → closed (length s.inner) v ≡ s
 closed_opened s v e i = record {
   inner = (ap (take (length s.inner)) e ∙ take-append_seam s.inner s.outer) i;
@@ -52,12 +52,12 @@ closed-is s v w around e n ew = ew ∙ ap (λ k. closed k v) n ∙ closed_opened
 
 -- ---- declarations
 
--- behind some names of a declaration: what is done and what is left make the whole
-pub record Declaring (t : Scalar) (v0 : Visible) (f0 : Found) (all : List Declared) (v : Visible) (f : Found) (rest : List Declared) : Type 0 where
+-- after some names of a declaration: what is done and what is left make the whole
+pub record Declaring (t : Scalar) (v0 : Visible) (f0 : Found) (all : List Declarator) (v : Visible) (f : Found) (rest : List Declarator) : Type 0 where
   pub scope : all_declared t rest v ≡ all_declared t all v0
   pub found : after f (declared_offences t rest v) (called_in_declared rest) ≡ after f0 (declared_offences t all v0) (called_in_declared all)
 
-pub Declaring-next : (t : Scalar) (v0 : Visible) (f0 : Found) (all : List Declared) (v : Visible) (f : Found) (d : Declared) (rest : List Declared) (v' : Visible) (f' : Found)
+pub Declaring-next : (t : Scalar) (v0 : Visible) (f0 : Found) (all : List Declarator) (v : Visible) (f : Found) (d : Declarator) (rest : List Declarator) (v' : Visible) (f' : Found)
     → Declaring t v0 f0 all v f (d ∷ rest) → v' ≡ declared d.name.text (Variable t) v → f' ≡ after f (declarator_offences t d v) (called_in_optional d.initial)
     → Declaring t v0 f0 all v' f' rest
 Declaring-next t v0 f0 all v f d rest v' f' before es ef = record {
@@ -124,24 +124,24 @@ module _ (a : Around) (v : Visible) (t : Stmt) (f : Found) where
       two f g h (looped body) (tested c) _ (called_in_statement body) (called_in c) _ (eg ∙ ap (λ u. after f (statement_offences body u (opened v)) (called_in_statement body)) ew) eh
       (ap (λ u. statement_offences u a v) is ∙ ap (λ u. looped u ++ tested c) (sym eb)) (ap called_in_statement is ∙ ap (λ u. called_in_statement u ++ called_in c) (sym eb))
 
-  -- a `for`, where u is the scope that its header opens, and n the scope behind the header's first part
-  pub for-found : (w : Around) → w ≡ within_loop a → (u n : Visible) → u ≡ opened v → (g h k m : Found) (start : Start) (c : Option Expr) (behind : Option Action) (b body : Stmt)
-      → t ≡ For start c behind b → body ≡ b → n ≡ scope_behind_start start u
-      → g ≡ after f (start_offences start u) (called_in_start start) → h ≡ after g (optional_offences (in_scope n) c) (called_in_optional c)
+  -- a `for`, where u is the scope that its header opens, and n the scope after the header's first part
+  pub for-found : (w : Around) → w ≡ within_loop a → (u n : Visible) → u ≡ opened v → (g h k m : Found) (start : Beginning) (c : Option Expr) (behind : Option Action) (b body : Stmt)
+      → t ≡ For start c behind b → body ≡ b → n ≡ scope_behind_beginning start u
+      → g ≡ after f (beginning_offences start u) (called_in_beginning start) → h ≡ after g (optional_offences (in_scope n) c) (called_in_optional c)
       → k ≡ after h (optional_action_offences (in_scope n) behind) (called_in_optional_action behind) → m ≡ after k (statement_offences body w (opened n)) (called_in_statement body)
       → m ≡ after f (statement_offences t a v) (called_in_statement t)
   for-found w ew u n eu g h k m start c behind b body is eb en eg eh ek em =
-      let there : n ≡ scope_behind_start start (opened v) = en ∙ ap (scope_behind_start start) eu in
-      four f g h k m (start_offences start u) (optional_offences (in_scope n) c) (optional_action_offences (in_scope n) behind) (statement_offences body w (opened n)) _
-      (called_in_start start) (called_in_optional c) (called_in_optional_action behind) (called_in_statement body) _ eg eh ek em
+      let there : n ≡ scope_behind_beginning start (opened v) = en ∙ ap (scope_behind_beginning start) eu in
+      four f g h k m (beginning_offences start u) (optional_offences (in_scope n) c) (optional_action_offences (in_scope n) behind) (statement_offences body w (opened n)) _
+      (called_in_beginning start) (called_in_optional c) (called_in_optional_action behind) (called_in_statement body) _ eg eh ek em
       (ap (λ q. statement_offences q a v) is
-      ∙ ap (λ q. start_offences start (opened v) ++ (optional_offences (in_scope q) c ++ (optional_action_offences (in_scope q) behind ++ statement_offences b (within_loop a) (opened q)))) (sym there)
-      ∙ ap (λ q. start_offences start q ++ (optional_offences (in_scope n) c ++ (optional_action_offences (in_scope n) behind ++ statement_offences b (within_loop a) (opened n)))) (sym eu)
-      ∙ ap (λ q. start_offences start u ++ (optional_offences (in_scope n) c ++ (optional_action_offences (in_scope n) behind ++ statement_offences q (within_loop a) (opened n)))) (sym eb)
-      ∙ ap (λ q. start_offences start u ++ (optional_offences (in_scope n) c ++ (optional_action_offences (in_scope n) behind ++ statement_offences body q (opened n)))) (sym ew))
-      (ap called_in_statement is ∙ ap (λ q. called_in_start start ++ (called_in_optional c ++ (called_in_optional_action behind ++ called_in_statement q))) (sym eb))
+      ∙ ap (λ q. beginning_offences start (opened v) ++ (optional_offences (in_scope q) c ++ (optional_action_offences (in_scope q) behind ++ statement_offences b (within_loop a) (opened q)))) (sym there)
+      ∙ ap (λ q. beginning_offences start q ++ (optional_offences (in_scope n) c ++ (optional_action_offences (in_scope n) behind ++ statement_offences b (within_loop a) (opened n)))) (sym eu)
+      ∙ ap (λ q. beginning_offences start u ++ (optional_offences (in_scope n) c ++ (optional_action_offences (in_scope n) behind ++ statement_offences q (within_loop a) (opened n)))) (sym eb)
+      ∙ ap (λ q. beginning_offences start u ++ (optional_offences (in_scope n) c ++ (optional_action_offences (in_scope n) behind ++ statement_offences body q (opened n)))) (sym ew))
+      (ap called_in_statement is ∙ ap (λ q. called_in_beginning start ++ (called_in_optional c ++ (called_in_optional_action behind ++ called_in_statement q))) (sym eb))
 
--- behind some statements of a list: what is done and what is left make the whole
+-- after some statements of a list: what is done and what is left make the whole
 pub record Walking (a : Around) (v0 : Visible) (f0 : Found) (all : Stmts) (v : Visible) (f : Found) (rest : Stmts) : Type 0 where
   pub outer : v.outer ≡ v0.outer
   pub found : after f (statements_offences rest a v) (called_in_statements rest) ≡ after f0 (statements_offences all a v0) (called_in_statements all)

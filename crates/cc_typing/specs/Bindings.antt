@@ -37,7 +37,7 @@ pub record IsTable {S : Type 0} (bs : List Binding) (names : IndexMap (Bor (List
   pub found : (x : Bor (List ℕ)) → get same_key names x ≡ newest (reverse bs) x.now
   pub hidden : AreHidden (reverse bs)
 
--- the number of the newest binding of a name: how many stand behind it
+-- the number of the newest binding of a name: how many stand after it
 abbrev pub number_in : List scope.Binding → List ℕ → Option ℕ
 number_in [] x = None
 number_in (b ∷ behind) x = if same_name b.name x then Some (length behind) else number_in behind x
@@ -55,7 +55,7 @@ entity_found (Some n) = Some (entity_of n.entity)
 abbrev pub scope_of : List scope.Binding → ℕ → Visible
 scope_of all inner = record { inner = take inner all; outer = drop inner all }
 
--- the scope behind an inner one, in a scope that has declared so many names
+-- the scope after an inner one, in a scope that has declared so many names
 abbrev pub closed : ℕ → Visible → Visible
 closed around v = record { inner = take around v.outer; outer = drop around v.outer }
 

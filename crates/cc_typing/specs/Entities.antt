@@ -1,8 +1,8 @@
 -- What the code keeps of names, as the definitions see it.
 use Rattle.std.specs.Prelude.{ℕ, List, [], ◌∷◌, map, Option, Some, None}
 use Rattle.std.specs.Borrow.{Bor}
-use Rattle.cc_syntax.specs.declared.ast.Scalar.TheVariants.{Int}
-use Rattle.cc_syntax.specs.declared.ast.Scalar.{Scalar}
+use Rattle.cc_tokens.specs.declared.scalar.Scalar.TheVariants.{Int}
+use Rattle.cc_tokens.specs.declared.scalar.Scalar.{Scalar}
 use Rattle.cc_syntax.specs.Tree.{Parameter}
 use Rattle.cc_syntax.specs.Erase.{signature_tree}
 use Rattle.cc_typing.specs.Scope as scope

@@ -1,19 +1,26 @@
+-- when two identifiers are the same
 pub mod Names
+-- the types in which operators work, and what they give on words
 pub mod Operators
+-- what names stand for, and which of them are in scope
 pub mod Scope
+-- the type of an expression, and the value of a constant expression
 pub mod Types
+-- the rules of scope and type
 pub mod Rules
+-- the limits
 pub mod Limits
+-- the faults: their numbers and places
 pub mod Fault
+-- which units are typed, and why another one is refused
 pub mod Typed
-pub mod Rows
-pub mod Resolve
-pub mod FormErase
-pub mod Entities
-pub mod Bindings
-pub mod Findings
-pub mod Counts
+-- what a typed unit keeps
 pub mod Checked
-pub mod Resolving
-pub mod Places
-pub mod Emitted
+-- what a definition that is handed out shows
+pub mod Defined
+-- what the names in scope that are handed out stand for
+pub mod Entities
+-- how the names in scope are kept
+pub mod Bindings
+pub mod rows
+pub mod internal

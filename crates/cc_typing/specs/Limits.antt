@@ -1,6 +1,6 @@
 -- The limits that a unit may pass, each at the name that passes it.
 use Rattle.std.specs.Prelude.{ℕ, ◌+◌, List, [], ◌∷◌, ◌++◌, length, take, drop, map, if◌then◌else◌, nat_lt}
-use Rattle.cc_syntax.specs.Tree.{Name, Declared, Start, Declares, Performs, Stmt, Stmts, end, next, Block, Local, Perform, Return, Break, Continue, If, IfElse, While, DoWhile, For, Signature, Object, Single, Array, External, Declaration, Definition, Objects}
+use Rattle.cc_syntax.specs.Tree.{Name, Declarator, Beginning, Declares, Performs, Stmt, Stmts, end, next, Block, Local, Perform, Return, Break, Continue, If, IfElse, While, DoWhile, For, Signature, Object, Single, Array, External, Declaration, Definition, Objects}
 use Rattle.cc_typing.specs.Types.{object_words}
 use Rattle.cc_typing.specs.declared.rule.Offence.{Offence}
 use Rattle.cc_typing.specs.declared.rule.Rule.TheVariants.{TooMany}
@@ -34,12 +34,12 @@ parameter_excesses s = if nat_lt most_parameters (length s.parameters) then too_
 
 -- ---- locals
 
-abbrev pub declared_names : List Declared → List Name
-declared_names ds = map (λ (d : Declared). d.name) ds
+abbrev pub declared_names : List Declarator → List Name
+declared_names ds = map (λ (d : Declarator). d.name) ds
 
-abbrev pub start_names : Start → List Name
-start_names (Declares t ds) = declared_names ds
-start_names (Performs a) = []
+abbrev pub beginning_names : Beginning → List Name
+beginning_names (Declares t ds) = declared_names ds
+beginning_names (Performs a) = []
 
 -- the locals that a statement declares, and a list of statements, in the order of the text
 abbrev mutual
@@ -54,7 +54,7 @@ abbrev mutual
   locals_of (IfElse c s r) = locals_of s ++ locals_of r
   locals_of (While c s) = locals_of s
   locals_of (DoWhile s c) = locals_of s
-  locals_of (For start c behind s) = start_names start ++ locals_of s
+  locals_of (For start c behind s) = beginning_names start ++ locals_of s
 
   pub locals : Stmts → List Name
   locals end = []

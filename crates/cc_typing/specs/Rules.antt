@@ -2,12 +2,12 @@
 -- in the scope where it stands, and no order of checking is in it; what follows an offence is judged as if its type were
 -- int. The numbers in parentheses are clauses of ISO/IEC 9899:1999.
 use Rattle.std.specs.Prelude.{ℕ, ◌+◌, Bool, true, false, ◌==◌, ◌||◌, ◌&&◌, not, List, [], ◌∷◌, ◌++◌, length, Option, Some, None, if◌then◌else◌, is_some, nat_lt, codes}
-use Rattle.cc_syntax.specs.declared.ast.Scalar.{Scalar}
-use Rattle.cc_syntax.specs.declared.ast.Scalar.TheVariants.{Int}
+use Rattle.cc_tokens.specs.declared.scalar.Scalar.{Scalar}
+use Rattle.cc_tokens.specs.declared.scalar.Scalar.TheVariants.{Int}
 use Rattle.cc_syntax.specs.Tree as tree
-use Rattle.cc_syntax.specs.Tree.{Name, Expr, Exprs, none, more, Number, Element, Call, Parenthesised, Unary, Cast, Binary, Conditional, Target, AtVariable, AtElement, Action, Assign, Step, Evaluate, Declared, Start, Declares, Performs, Stmt, Stmts, end, next, Block, Local, Perform, Return, Break, Continue, If, IfElse, While, DoWhile, For, ConstantExpr, Parameter, Signature, Object, Single, Array, External, Declaration, Definition, Objects}
+use Rattle.cc_syntax.specs.Tree.{Name, Expr, Exprs, none, more, Number, Element, Call, Parenthesised, Unary, Cast, Binary, Conditional, Target, AtVariable, AtElement, Action, Assign, Step, Evaluate, Declarator, Beginning, Declares, Performs, Stmt, Stmts, end, next, Block, Local, Perform, Return, Break, Continue, If, IfElse, While, DoWhile, For, ConstantExpr, Parameter, Signature, Object, Single, Array, External, Declaration, Definition, Objects}
 use Rattle.cc_typing.specs.Names.{same_name}
-use Rattle.cc_typing.specs.Scope.{Entity, Variable, Elements, Function, Binding, found, is_declared, Visible, in_scope, opened, declared, scope_behind, scope_behind_start, parameter_declared, FileScope, has_name, first_file_scope, with_function, with_object, file_scope_behind, file_scope_behind_all, function_entity, body_scope, same_entity, same_result}
+use Rattle.cc_typing.specs.Scope.{Entity, Variable, Elements, Function, Binding, found, is_declared, Visible, in_scope, opened, declared, scope_behind, scope_behind_beginning, parameter_declared, FileScope, has_name, first_file_scope, with_function, with_object, file_scope_behind, file_scope_behind_all, function_entity, body_scope, same_entity, same_result}
 use Rattle.cc_typing.specs.Types.{result_type, constant_word, array_length}
 use Rattle.cc_typing.specs.declared.rule.Offence.{Offence}
 use Rattle.cc_typing.specs.declared.rule.Rule.{Rule}
@@ -103,7 +103,7 @@ optional_action_offences bs (Some a) = action_offences bs a
 -- ---- statements
 
 -- locals: a scope declares no name twice (6.7); a name is in scope in its own initialiser (6.2.1)
-abbrev pub declared_offences : Scalar → List Declared → Visible → List Offence
+abbrev pub declared_offences : Scalar → List Declarator → Visible → List Offence
 declared_offences t [] v = []
 declared_offences t (d ∷ rest) v =
     broken_if (is_declared v.inner d.name.text) Redeclared d.name.at
@@ -111,9 +111,9 @@ declared_offences t (d ∷ rest) v =
     ++ declared_offences t rest (declared d.name.text (Variable t) v))
 
 -- the first part of a `for` header
-abbrev pub start_offences : Start → Visible → List Offence
-start_offences (Declares t ds) v = declared_offences t ds v
-start_offences (Performs a) v = optional_action_offences (in_scope v) a
+abbrev pub beginning_offences : Beginning → Visible → List Offence
+beginning_offences (Declares t ds) v = declared_offences t ds v
+beginning_offences (Performs a) v = optional_action_offences (in_scope v) a
 
 -- a return: with a value in a function of type int or unsigned, without one in a void function (6.8.6.4)
 abbrev pub return_offences : Option Scalar → List Binding → ℕ → Option Expr → List Offence
@@ -146,10 +146,10 @@ abbrev mutual
   statement_offences (While c s) a v = value_offences (in_scope v) c ++ statement_offences s (within_loop a) (opened v)
   statement_offences (DoWhile s c) a v = statement_offences s (within_loop a) (opened v) ++ value_offences (in_scope v) c
   statement_offences (For start c behind s) a v =
-      start_offences start (opened v)
-      ++ (optional_offences (in_scope (scope_behind_start start (opened v))) c
-      ++ (optional_action_offences (in_scope (scope_behind_start start (opened v))) behind
-      ++ statement_offences s (within_loop a) (opened (scope_behind_start start (opened v)))))
+      beginning_offences start (opened v)
+      ++ (optional_offences (in_scope (scope_behind_beginning start (opened v))) c
+      ++ (optional_action_offences (in_scope (scope_behind_beginning start (opened v))) behind
+      ++ statement_offences s (within_loop a) (opened (scope_behind_beginning start (opened v)))))
 
   pub statements_offences : Stmts → Around → Visible → List Offence
   statements_offences end a v = []
@@ -176,7 +176,7 @@ length_offences None given at = []
 length_offences (Some n) given at = broken_if (n == 0 || nat_lt n given) WrongCount at
 
 -- one name of a declaration of objects, which file scope has not yet. An array's length stands before its name is in
--- scope, and the values of its list behind that (6.2.1)
+-- scope, and the values of its list after that (6.2.1)
 abbrev pub object_offences : Scalar → Object → FileScope → List Offence
 object_offences t (Single x initial) f =
     broken_if (is_declared f.bindings x.text) Redeclared x.at
@@ -273,13 +273,13 @@ abbrev pub called_in_optional_action : Option Action → List Name
 called_in_optional_action None = []
 called_in_optional_action (Some a) = called_in_action a
 
-abbrev pub called_in_declared : List Declared → List Name
+abbrev pub called_in_declared : List Declarator → List Name
 called_in_declared [] = []
 called_in_declared (d ∷ rest) = called_in_optional d.initial ++ called_in_declared rest
 
-abbrev pub called_in_start : Start → List Name
-called_in_start (Declares t ds) = called_in_declared ds
-called_in_start (Performs a) = called_in_optional_action a
+abbrev pub called_in_beginning : Beginning → List Name
+called_in_beginning (Declares t ds) = called_in_declared ds
+called_in_beginning (Performs a) = called_in_optional_action a
 
 abbrev mutual
   pub called_in_statement : Stmt → List Name
@@ -294,7 +294,7 @@ abbrev mutual
   called_in_statement (While c s) = called_in c ++ called_in_statement s
   called_in_statement (DoWhile s c) = called_in_statement s ++ called_in c
   called_in_statement (For start c behind s) =
-      called_in_start start ++ (called_in_optional c ++ (called_in_optional_action behind ++ called_in_statement s))
+      called_in_beginning start ++ (called_in_optional c ++ (called_in_optional_action behind ++ called_in_statement s))
 
   pub called_in_statements : Stmts → List Name
   called_in_statements end = []

@@ -1,8 +1,8 @@
 -- What names stand for, and which of them are in scope (C99 6.2.1).
 use Rattle.std.specs.Prelude.{ℕ, Bool, true, false, ◌&&◌, ◌||◌, List, [], ◌∷◌, ◌++◌, map, Option, Some, None, if◌then◌else◌, is_some, codes}
-use Rattle.cc_syntax.specs.declared.ast.Scalar.{Scalar}
-use Rattle.cc_syntax.specs.declared.ast.Scalar.TheVariants.{Int, Unsigned}
-use Rattle.cc_syntax.specs.Tree.{Name, Declared, Start, Declares, Performs, Stmt, Local, Parameter, Signature, Object, Single, Array, External, Declaration, Definition, Objects}
+use Rattle.cc_tokens.specs.declared.scalar.Scalar.{Scalar}
+use Rattle.cc_tokens.specs.declared.scalar.Scalar.TheVariants.{Int, Unsigned}
+use Rattle.cc_syntax.specs.Tree.{Name, Declarator, Beginning, Declares, Performs, Stmt, Local, Parameter, Signature, Object, Single, Array, External, Declaration, Definition, Objects}
 use Rattle.cc_typing.specs.Names.{same_name}
 
 -- what a name stands for: an object of one value (a variable, a parameter, a local), an array of elements of one type, or
@@ -39,31 +39,31 @@ in_scope v = v.inner ++ v.outer
 abbrev pub opened : Visible → Visible
 opened v = record { inner = []; outer = in_scope v }
 
--- the scope behind a declarator
+-- the scope after a declarator
 abbrev pub declared : List ℕ → Entity → Visible → Visible
 declared x entity v = record v { inner = record { name = x; entity = entity } ∷ v.inner }
 
--- the scope behind the declaration of some locals
-abbrev pub all_declared : Scalar → List Declared → Visible → Visible
+-- the scope after the declaration of some locals
+abbrev pub all_declared : Scalar → List Declarator → Visible → Visible
 all_declared t [] v = v
 all_declared t (d ∷ rest) v = all_declared t rest (declared d.name.text (Variable t) v)
 
--- the scope behind a statement: a declaration adds its names, and every other statement leaves it
+-- the scope after a statement: a declaration adds its names, and every other statement leaves it
 abbrev pub scope_behind : Stmt → Visible → Visible
 scope_behind (Local t ds) v = all_declared t ds v
 scope_behind s v = v
 
--- the scope behind the first part of a `for` header
-abbrev pub scope_behind_start : Start → Visible → Visible
-scope_behind_start (Declares t ds) v = all_declared t ds v
-scope_behind_start (Performs a) v = v
+-- the scope after the first part of a `for` header
+abbrev pub scope_behind_beginning : Beginning → Visible → Visible
+scope_behind_beginning (Declares t ds) v = all_declared t ds v
+scope_behind_beginning (Performs a) v = v
 
--- the scope behind a parameter, where it has a name
+-- the scope after a parameter, where it has a name
 abbrev pub parameter_declared : Scalar → Option Name → Visible → Visible
 parameter_declared t None v = v
 parameter_declared t (Some x) v = declared x.text (Variable t) v
 
--- the scope behind some parameters
+-- the scope after some parameters
 abbrev pub parameters_declared : List Parameter → Visible → Visible
 parameters_declared [] v = v
 parameters_declared (p ∷ rest) v = parameters_declared rest (parameter_declared p.scalar p.name v)
@@ -107,13 +107,13 @@ abbrev pub with_objects : Scalar → List Object → FileScope → FileScope
 with_objects t [] f = f
 with_objects t (o ∷ rest) f = with_objects t rest (with_object t o f)
 
--- file scope behind an external declaration
+-- file scope after an external declaration
 abbrev pub file_scope_behind : External → FileScope → FileScope
 file_scope_behind (Declaration s) f = with_function s f
 file_scope_behind (Definition s body) f = record (with_function s f) { defined = s.name.text ∷ f.defined }
 file_scope_behind (Objects t os) f = with_objects t os f
 
--- file scope behind some external declarations
+-- file scope after some external declarations
 abbrev pub file_scope_behind_all : List External → FileScope → FileScope
 file_scope_behind_all [] f = f
 file_scope_behind_all (e ∷ rest) f = file_scope_behind_all rest (file_scope_behind e f)

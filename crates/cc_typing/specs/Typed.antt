@@ -1,8 +1,8 @@
 -- Which units are typed, and why another one is refused.
-use Rattle.std.specs.Prelude.{ℕ, ◌≡◌, ◌⊎◌, ◌<◌, ◌≤◌, true, false, List, [], ◌++◌, length, map, Contains}
+use Rattle.std.specs.Prelude.{ℕ, ◌≡◌, ◌⊎◌, ◌<◌, ◌≤◌, true, false, List, [], ◌∷◌, ◌++◌, length, map, Contains}
 use Rattle.std.specs.List.{AllByRecursion}
-use Rattle.cc_syntax.specs.Tree.{Name, External, Source}
-use Rattle.cc_syntax.specs.Place.{place_of}
+use Rattle.cc_syntax.specs.Tree.{Name, External, Declaration, Definition, Objects, Source}
+use Rattle.cc_tokens.specs.Place.{place_of}
 use Rattle.cc_typing.specs.Rules.{offences, defines_main, undefined_calls}
 use Rattle.cc_typing.specs.Limits.{excesses, function_names}
 use Rattle.cc_typing.specs.Fault.{fault_of, rule_number}
@@ -37,8 +37,8 @@ all_offences externals = offences externals ++ excesses externals
 
 -- a unit is refused for the first of its offences; where there is none, for a missing main, at the end of the text; where
 -- main is there, for the first call of a function that is not defined
-abbrev pub IsRefusal : Source → TypeFault → Type 0
-IsRefusal s fault =
+abbrev pub IsTypeRefusal : Source → TypeFault → Type 0
+IsTypeRefusal s fault =
     IsFaultOfFirst s.text (all_offences s.externals) fault
     ⊎ (((all_offences s.externals ≡ []) × (defines_main s.externals ≡ false) × (fault ≡ NoMain (place_of s.text (length s.text))))
     ⊎ ((all_offences s.externals ≡ []) × (defines_main s.externals ≡ true) × IsFaultOfFirst s.text (undefined_calls s.externals) fault))
@@ -46,3 +46,10 @@ IsRefusal s fault =
 -- the names of the functions that a unit defines, in the order of their definitions
 abbrev pub defined_names : Source → List (List ℕ)
 defined_names s = map (λ (x : Name). x.text) (function_names s.externals)
+
+-- the functions that a unit defines, in the same order
+abbrev pub definitions : List External → List External
+definitions [] = []
+definitions (Definition s body ∷ rest) = Definition s body ∷ definitions rest
+definitions (Declaration s ∷ rest) = definitions rest
+definitions (Objects t os ∷ rest) = definitions rest

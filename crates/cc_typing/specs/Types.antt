@@ -1,8 +1,8 @@
 -- The type of an expression (C99 6.5), and the value of a constant expression (C99 6.6).
 use Rattle.std.specs.Prelude.{ℕ, Bool, true, false, ◌&&◌, ◌-◌, List, [], ◌∷◌, ◌++◌, length, map, replicate, Option, Some, None, if◌then◌else◌, option_map, unwrap_or}
 use Rattle.cc_words.specs.Words.{lt_s}
-use Rattle.cc_syntax.specs.declared.ast.Scalar.{Scalar}
-use Rattle.cc_syntax.specs.declared.ast.Scalar.TheVariants.{Int, Unsigned}
+use Rattle.cc_tokens.specs.declared.scalar.Scalar.{Scalar}
+use Rattle.cc_tokens.specs.declared.scalar.Scalar.TheVariants.{Int, Unsigned}
 use Rattle.cc_syntax.specs.Tree as tree
 use Rattle.cc_syntax.specs.Tree.{Name, Expr, Exprs, none, more, Number, Element, Call, Parenthesised, Unary, Cast, Binary, Conditional, Target, AtVariable, AtElement, ConstantExpr, Object, Single, Array}
 use Rattle.cc_typing.specs.Operators.{common_type, working_type, binary_type, unary_type, unary_word, binary_word, decided, is_true}

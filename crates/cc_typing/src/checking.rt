@@ -1,15 +1,15 @@
 // From a parsed unit to a typed one.
 
-ghost use Rattle.std.specs.Prelude.{◌≡◌, ◌⊎◌, ℕ, List, None, IfOk, IfErr, OnOk};
+ghost use Rattle.std.specs.Prelude.{◌≡◌, ◌⊎◌, ◌∷◌, ℕ, List, None, IfOk, IfErr, OnOk, codes};
 ghost use Rattle.cc_syntax.specs.Source.{source};
-ghost use Rattle.cc_syntax.specs.Place.{place_of};
+ghost use Rattle.cc_tokens.specs.Place.{place_of};
 ghost use Rattle.cc_syntax.specs.Erase.{external_tree, external_trees};
-ghost use Rattle.cc_typing.specs.Counts.{defined_after};
+ghost use Rattle.cc_typing.specs.internal.Counts.{defined_after};
 ghost use Rattle.cc_typing.specs.Fault.{fault_of};
-ghost use Rattle.cc_typing.specs.Findings.{noted};
+ghost use Rattle.cc_typing.specs.internal.Findings.{noted};
 ghost use Rattle.cc_typing.specs.Rules.{offences, is_main, defines_main, undefined_calls};
 ghost use Rattle.cc_typing.specs.Scope.{has_name, first_file_scope, file_scope_behind_all};
-ghost use Rattle.cc_typing.specs.Typed.{IsTyped, IsWithinLimits, IsRefusal, all_offences};
+ghost use Rattle.cc_typing.specs.Typed.{IsTyped, IsWithinLimits, IsTypeRefusal, all_offences};
 
 use super::entity::same_result;
 use super::externals::all_externals;
@@ -17,7 +17,6 @@ use super::fault::TypeFault;
 use super::findings::Findings;
 use super::limits::with_excesses;
 use super::names::Names;
-use super::resolver::resolve;
 use super::rule::{Offence, Rule};
 use super::scope::{READ_WORD, Scope, WRITE_WORD};
 use super::typed::TypedUnit;
@@ -30,12 +29,12 @@ const MAIN: &[u8] = b"main";
 ///
 /// Of the faults 11 to 18 and 21 the one at the earliest token is answered, of several there the one with the least
 /// number. Where there is none, a unit without `main` has 19, at the end of the text; and where `main` is there, the first
-/// call of a function that is not defined has 20. 40 comes where memory is refused. The unit is given up on an `Err`.
+/// call of a function that is not defined has 20. 40 comes where memory runs out. The unit is given up on an `Err`.
 pub fn check(alloc: Global, unit: Unit) -> Result<TypedUnit, TypeFault>
-    ensures unit { IfOk result (λ t. t ≡ unit) }
+    ensures answer { IfOk result (λ t. t ≡ unit) }
     ensures typed { OnOk result (IsTyped (source unit).externals) }
     ensures limits { OnOk result (IsWithinLimits (source unit).externals) }
-    ensures refused { IfErr result (λ f. (f ≡ TypeFault.OutOfMemory) ⊎ IsRefusal (source unit) f) }
+    ensures refused { IfErr result (λ f. (f ≡ TypeFault.OutOfMemory) ⊎ IsTypeRefusal (source unit) f) }
 {
     let found = first_offences(alloc, unit.externals())?;
     if let Some(offence) = found.first {
@@ -50,8 +49,7 @@ pub fn check(alloc: Global, unit: Unit) -> Result<TypedUnit, TypeFault>
         let place = place_in(unit.text(), offence.at);
         return Err(fault(offence.rule, place));
     }
-    let form = resolve(alloc, unit.externals())?;
-    Ok(TypedUnit::new(unit, form))
+    Ok(TypedUnit::new(unit))
 }
 
 // The first offence, limits among them, and the first call of a function that is not defined.
@@ -66,12 +64,38 @@ fn first_offences(alloc: Global, externals: &[External]) -> Result<FirstOffences
     ensures undefined { IfOk result (λ r. r.undefined ≡ noted None (undefined_calls (external_trees externals.now))) }
 {
     let mut findings = Findings::new(definitions(alloc, externals)?);
-    let mut scope = Scope::new(alloc)?;
-    all_externals(&mut scope, &mut findings, builtins(alloc)?, externals)?;
-    Ok(FirstOffences {
+    let mut scope = match Scope::new(alloc) {
+        Ok(scope) => scope,
+        Err(error) => {
+            drop(findings);
+            return Err(error);
+        }
+    };
+    let mut defined = match builtins(alloc) {
+        Ok(defined) => defined,
+        Err(error) => {
+            drop(scope);
+            drop(findings);
+            return Err(error);
+        }
+    };
+    let walked = all_externals(&mut scope, &mut findings, &mut defined, externals);
+    drop(defined);
+    drop(scope);
+    let found = FirstOffences {
         first: with_excesses(findings.first(), externals),
         undefined: findings.undefined(),
-    })
+    };
+    drop(findings);
+    walked?;
+    Ok(found)
+}
+
+fn insert_builtins(names: &mut Names<'_>) -> Result<(), AllocError>
+    ensures { OnOk result ((x : List ℕ) → has_name names.new x ≡ has_name (codes "write_word" ∷ codes "read_word" ∷ names.old) x) }
+{
+    names.insert(READ_WORD)?;
+    names.insert(WRITE_WORD)
 }
 
 // The functions that are defined before a text begins.
@@ -79,9 +103,13 @@ fn builtins<'a>(alloc: Global) -> Result<Names<'a>, AllocError>
     ensures { IfOk result (λ r. (x : List ℕ) → has_name r x ≡ has_name first_file_scope.defined x) }
 {
     let mut names = Names::new(alloc);
-    names.insert(READ_WORD)?;
-    names.insert(WRITE_WORD)?;
-    Ok(names)
+    match insert_builtins(&mut names) {
+        Ok(()) => Ok(names),
+        Err(error) => {
+            drop(names);
+            Err(error)
+        }
+    }
 }
 
 fn define<'a>(names: &mut Names<'a>, external: &'a External) -> Result<(), AllocError>
@@ -99,7 +127,13 @@ fn definitions<'a>(alloc: Global, externals: &'a [External]) -> Result<Names<'a>
 {
     let mut names = builtins(alloc)?;
     for external in externals {
-        define(&mut names, external)?;
+        match define(&mut names, external) {
+            Ok(()) => {}
+            Err(error) => {
+                drop(names);
+                return Err(error);
+            }
+        }
     }
     Ok(names)
 }

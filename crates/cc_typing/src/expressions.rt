@@ -1,12 +1,12 @@
 // The rules of expressions and actions (C99 6.5, 6.8.3).
 //
-// The walk goes on behind an offence, since the first in the text need not be the first that is met. The recursion is as
+// The walk goes on after an offence, since the first in the text need not be the first that is met. The recursion is as
 // deep as the tree: at most 512 tokens of a full expression.
 
 ghost use Rattle.std.specs.Prelude.{◌≡◌, ◌==◌, [], not, length};
 ghost use Rattle.cc_syntax.specs.Erase.{expression_tree, expressions_of, optional_tree, target_tree, action_tree, optional_action};
 ghost use Rattle.cc_typing.specs.Entities.{optional_entity};
-ghost use Rattle.cc_typing.specs.Findings.{after};
+ghost use Rattle.cc_typing.specs.internal.Findings.{after};
 ghost use Rattle.cc_typing.specs.declared.rule.Rule.TheVariants.{WrongCount};
 ghost use Rattle.cc_typing.specs.Types.{result_type};
 ghost use Rattle.cc_typing.specs.Rules.{broken_if, variable_offences, array_offences, function_offences, void_offences, expression_offences, argument_offences, value_offences, optional_offences, target_offences, action_offences, optional_action_offences, called_in, called_in_all, called_in_optional, called_in_target, called_in_action, called_in_optional_action};
@@ -151,7 +151,7 @@ fn arguments(scope: &Scope, findings: &mut Findings, trees: &[Expression])
 }
 
 /// A value that may be left out.
-pub fn optional_value(scope: &Scope, findings: &mut Findings, tree: &Option<Expression>)
+pub fn optional_value(scope: &Scope, findings: &mut Findings, tree: &Option<Box<Expression>>)
     ensures { findings.new ≡ after findings.old (optional_offences (in_scope scope.now) (optional_tree tree.now)) (called_in_optional (optional_tree tree.now)) }
 {
     if let Some(tree) = tree {

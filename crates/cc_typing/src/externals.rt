@@ -3,7 +3,7 @@
 ghost use Rattle.std.specs.Prelude.{◌≡◌, ℕ, List, [], length, option_map, OnOk};
 ghost use Rattle.cc_syntax.specs.Erase.{constant_tree, optional_constant, constant_trees, object_tree, object_trees, parameter_tree, parameter_trees, signature_tree, external_tree, external_trees};
 ghost use Rattle.cc_typing.specs.Bindings.{file_level, file_of, file_with};
-ghost use Rattle.cc_typing.specs.Findings.{after, is_bad_length};
+ghost use Rattle.cc_typing.specs.internal.Findings.{after, is_bad_length};
 ghost use Rattle.cc_typing.specs.Rules.{constant_offences, optional_constant_offences, constants_offences, object_offences, objects_offences, parameter_offences, parameters_offences, signature_offences, external_offences, externals_offences, called_in_constant, called_in_optional_constant, called_in_constants, called_in_object, called_in_objects, called_in_external, called};
 ghost use Rattle.cc_typing.specs.Scope.{in_scope, has_name, with_object, with_objects, parameter_declared, parameters_declared, body_scope, file_scope_behind};
 
@@ -132,7 +132,7 @@ fn parameters<'a>(
     Ok(())
 }
 
-// What is said of a function. Behind it, the names of its parameters are in scope.
+// What is said of a function. After it, the names of its parameters are in scope.
 fn signature<'a>(
     scope: &mut Scope<'a>,
     findings: &mut Findings,
@@ -152,7 +152,7 @@ fn signature<'a>(
     parameters(scope, findings, tree.parameters.as_slice())
 }
 
-// An external declaration, behind definitions of some functions.
+// An external declaration, after definitions of some functions.
 fn external<'a>(
     scope: &mut Scope<'a>,
     findings: &mut Findings,
@@ -188,18 +188,18 @@ fn external<'a>(
     Ok(())
 }
 
-/// The external declarations of a unit, behind definitions of some functions.
+/// The external declarations of a unit, after definitions of some functions.
 pub fn all_externals<'a>(
     scope: &mut Scope<'a>,
     findings: &mut Findings,
-    mut defined: Names<'a>,
+    defined: &mut Names<'a>,
     trees: &'a [External],
 ) -> Result<(), AllocError>
     requires { scope.old.inner ≡ [] }
-    ensures { OnOk result (findings.new ≡ after findings.old (externals_offences (external_trees trees.now) (file_with scope.old defined.entry)) (called (external_trees trees.now))) }
+    ensures { OnOk result (findings.new ≡ after findings.old (externals_offences (external_trees trees.now) (file_with scope.old defined.old)) (called (external_trees trees.now))) }
 {
     for tree in trees {
-        external(scope, findings, &mut defined, tree)?;
+        external(scope, findings, defined, tree)?;
     }
     Ok(())
 }

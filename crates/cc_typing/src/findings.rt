@@ -3,7 +3,7 @@
 ghost use Rattle.std.specs.Prelude.{◌≡◌, [], ◌∷◌, ◌≤◌};
 ghost use Rattle.cc_syntax.specs.Erase.{name_tree};
 ghost use Rattle.cc_typing.specs.Fault.{rule_number};
-ghost use Rattle.cc_typing.specs.Findings.{is_before, earlier, after, noted, nothing_found};
+ghost use Rattle.cc_typing.specs.internal.Findings.{is_before, earlier, after, noted, nothing_found};
 ghost use Rattle.cc_typing.specs.Rules.{broken, broken_if};
 
 use super::names::Names;
@@ -53,7 +53,7 @@ pub struct Findings<'a> {
 }
 
 impl<'a> Model for Findings<'a> {
-    ghost use Rattle.cc_typing.specs.Findings.{Found};
+    ghost use Rattle.cc_typing.specs.internal.Findings.{Found};
 
     ghost Value = { Found };
 

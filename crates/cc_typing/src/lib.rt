@@ -4,31 +4,36 @@
 // One walk goes over file scope (`externals`), statements and expressions. It keeps the names in scope (`scope`, on
 // `bindings` and `entity`), the functions that are defined (`names`), where a statement stands (`around`), and the first
 // of what it finds (`findings`). `limits` counts what is limited; `constants` has the values of constant expressions, and
-// `operators` the types in which operators work. `form` has the instructions that a typed unit becomes, and `resolver`
-// writes them, on `emitter`. The crate hands out `check` and these types.
+// `operators` the types in which operators work. Besides `check` and its types the crate hands out what a walk over a typed
+// unit needs again: the names in scope, the types of operators, the words of constants and objects, and how many locals a
+// body declares.
 #![tactic(auto)]
 
 mod around;
 mod bindings;
 mod checking;
 mod constants;
-mod emitter;
 mod entity;
 mod expressions;
 mod externals;
 mod fault;
 mod findings;
-mod form;
 mod limits;
 mod names;
 mod operators;
-mod resolver;
 mod rule;
 mod scope;
 mod statements;
 mod typed;
 
+pub use bindings::{Bindings, Newest};
 pub use checking::check;
+pub use constants::{array_length, constant_word};
+pub use entity::Entity;
 pub use fault::TypeFault;
-pub use form::{BinaryOperation, Entry, Extent, Form, Instruction, UnaryOperation};
-pub use typed::TypedUnit;
+pub use limits::{local_count, object_words};
+pub use operators::{
+    applied_operator, binary_type, common_type, step_operator, unary_type, working_type,
+};
+pub use scope::{READ_WORD, Scope, WRITE_WORD};
+pub use typed::{Definition, TypedUnit};

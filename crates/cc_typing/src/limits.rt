@@ -1,16 +1,17 @@
 // The limits: parameters of a function, locals of a function, functions, and words of all objects.
 
-ghost use Rattle.std.specs.Prelude.{◌≡◌, ◌≤◌, [], ◌∷◌, None};
+ghost use Rattle.std.specs.Prelude.{◌≡◌, ◌≤◌, [], ◌∷◌, None, length, IfOk};
 ghost use Rattle.cc_syntax.specs.Erase.{name_tree, declarator_trees, beginning_tree, statement_tree, statements_of, object_tree, object_trees, signature_tree, external_tree, external_trees};
-ghost use Rattle.cc_typing.specs.Counts.{count_after, defines, excess_of, objects_in, word_count, with_words, words_after};
-ghost use Rattle.cc_typing.specs.Findings.{noted};
-ghost use Rattle.cc_typing.specs.Limits.{too_many, declared_names, start_names, locals_of, locals, function_names, objects, object_name, parameter_excesses, external_excesses, externals_excesses, excesses};
+ghost use Rattle.cc_typing.specs.internal.Counts.{count_after, defines, excess_of, objects_in, word_count, with_words, words_after};
+ghost use Rattle.cc_typing.specs.internal.Findings.{noted};
+ghost use Rattle.cc_typing.specs.Limits.{too_many, declared_names, beginning_names, locals_of, locals, function_names, objects, object_name, parameter_excesses, external_excesses, externals_excesses, excesses};
 ghost use Rattle.cc_typing.specs.Types.{object_words};
 
 use super::constants::array_length;
 use super::findings::earlier;
 use super::rule::{Offence, Rule};
 use cc_syntax::{Beginning, Declarator, External, Identifier, Object, Signature, Statement};
+use std::alloc::AllocError;
 
 const MOST_PARAMETERS: usize = 8;
 
@@ -20,17 +21,17 @@ const MOST_FUNCTIONS: usize = 64;
 
 const MOST_WORDS: usize = 65536;
 
-/// How many names may stand, how many do, up to that, and where the first one past it is.
+// How many names may stand, how many do, up to that, and where the first one past it is.
 #[derive(Clone, Copy)]
-pub struct Count {
-    pub most: usize,
-    pub names: usize,
-    pub past: Option<usize>,
+struct Count {
+    most: usize,
+    names: usize,
+    past: Option<usize>,
 }
 
 impl Count {
-    /// No name yet.
-    pub fn new(most: usize) -> Count
+    // No name yet.
+    fn new(most: usize) -> Count
         ensures { result ≡ record { most = most; names = 0; past = None } }
     {
         Count {
@@ -78,7 +79,7 @@ fn count_declared(count: &mut Count, names: &[Declarator])
 }
 
 fn count_beginning(count: &mut Count, beginning: &Beginning)
-    ensures { count.new ≡ count_after count.old (start_names (beginning_tree beginning.now)) }
+    ensures { count.new ≡ count_after count.old (beginning_names (beginning_tree beginning.now)) }
 {
     match beginning {
         Beginning::Declaration(_, names) => count_declared(count, names.as_slice()),
@@ -111,9 +112,9 @@ fn count_locals_of(count: &mut Count, statement: &Statement)
     }
 }
 
-/// Counts the locals that statements declare.
+// Counts the locals that statements declare.
 #[cycle(locals)]
-pub fn count_locals(count: &mut Count, all: &[Statement])
+fn count_locals(count: &mut Count, all: &[Statement])
     ensures { count.new ≡ count_after count.old (locals (statements_of all.now)) }
 {
     for statement in all {
@@ -121,11 +122,24 @@ pub fn count_locals(count: &mut Count, all: &[Statement])
     }
 }
 
+/// How many locals a function's body declares, in all its blocks together. `AllocError` where that is more than a number can
+/// say, which would not fit memory.
+pub fn local_count(body: &[Statement]) -> Result<usize, AllocError>
+    ensures { IfOk result (λ n. n ≡ length (locals (statements_of body.now))) }
+{
+    let mut count = Count::new(usize::MAX);
+    count_locals(&mut count, body);
+    match count.past {
+        None => Ok(count.names),
+        Some(_) => Err(AllocError),
+    }
+}
+
 // ---- words
 
-/// The words of objects so far, and where the limit on them was passed.
+// The words of objects so far, and where the limit on them was passed.
 #[derive(Drop)]
-pub struct Words {
+struct Words {
     taken: usize,
     past: Option<usize>,
 }

@@ -1,10 +1,8 @@
-// The types in which operators work, and the operations on words that they are there.
+// The types in which operators work.
 
 ghost use Rattle.std.specs.Prelude.{◌≡◌};
 ghost use Rattle.cc_typing.specs.Operators.{common_type, working_type, binary_type, unary_type, applied_operator, step_operator};
-ghost use Rattle.cc_typing.specs.Resolve.{by_type, operation, unary_code, unary_code_of};
 
-use super::form::{BinaryOperation, UnaryOperation};
 use cc_syntax::{AssignmentOperator, BinaryOperator, Scalar, StepOperator, UnaryOperator};
 
 /// The type in which two operands meet (C99 6.3.1.8).
@@ -51,54 +49,6 @@ pub fn unary_type(operator: UnaryOperator, operand: Scalar) -> Scalar
     match operator {
         UnaryOperator::Not => Scalar::Int,
         _ => operand,
-    }
-}
-
-/// A unary operator as an operation on a word; plus leaves its operand.
-pub fn unary_operation(operator: UnaryOperator) -> Option<UnaryOperation>
-    ensures { unary_code operator ≡ unary_code_of result }
-{
-    match operator {
-        UnaryOperator::Plus => None,
-        UnaryOperator::Minus => Some(UnaryOperation::Negate),
-        UnaryOperator::Complement => Some(UnaryOperation::Complement),
-        UnaryOperator::Not => Some(UnaryOperation::IsZero),
-    }
-}
-
-fn by_type(working: Scalar, signed: BinaryOperation, unsigned: BinaryOperation) -> BinaryOperation
-    ensures { result ≡ by_type working signed unsigned }
-{
-    match working {
-        Scalar::Int => signed,
-        Scalar::Unsigned => unsigned,
-    }
-}
-
-/// An operator in the type in which it works, as an operation on words.
-pub fn operation(operator: BinaryOperator, working: Scalar) -> BinaryOperation
-    ensures { result ≡ operation operator working }
-{
-    use BinaryOperation::*;
-    match operator {
-        BinaryOperator::Multiply => Multiply,
-        BinaryOperator::Divide => by_type(working, DivideSigned, DivideUnsigned),
-        BinaryOperator::Remainder => by_type(working, RemainderSigned, RemainderUnsigned),
-        BinaryOperator::Add => Add,
-        BinaryOperator::Subtract => Subtract,
-        BinaryOperator::ShiftLeft => ShiftLeft,
-        BinaryOperator::ShiftRight => by_type(working, ShiftRightSigned, ShiftRightUnsigned),
-        BinaryOperator::Less => by_type(working, LessSigned, LessUnsigned),
-        BinaryOperator::Greater => by_type(working, GreaterSigned, GreaterUnsigned),
-        BinaryOperator::LessOrEqual => by_type(working, LessOrEqualSigned, LessOrEqualUnsigned),
-        BinaryOperator::GreaterOrEqual => {
-            by_type(working, GreaterOrEqualSigned, GreaterOrEqualUnsigned)
-        }
-        BinaryOperator::Equal => Equal,
-        BinaryOperator::NotEqual => NotEqual,
-        BinaryOperator::And | BinaryOperator::LogicalAnd => And,
-        BinaryOperator::Xor => Xor,
-        BinaryOperator::Or | BinaryOperator::LogicalOr => Or,
     }
 }
 

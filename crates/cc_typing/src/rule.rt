@@ -1,7 +1,7 @@
 // The rules and limits that a unit may break, and where one is broken.
 
 /// A rule of scope or type, or a limit.
-#[derive(Clone, Copy, PartialEq, Eq, Debug)]
+#[derive(Clone, Copy)]
 pub enum Rule {
     Unknown,
     Redeclared,
@@ -16,7 +16,7 @@ pub enum Rule {
 }
 
 /// A rule that is broken at the token with an offset in the text.
-#[derive(Clone, Copy, PartialEq, Eq, Debug)]
+#[derive(Clone, Copy)]
 pub struct Offence {
     pub rule: Rule,
     pub at: usize,

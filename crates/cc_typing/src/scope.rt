@@ -34,15 +34,27 @@ pub const WRITE_WORD: &[u8] = b"write_word";
 
 pub const READ_WORD: &[u8] = b"read_word";
 
+fn push_builtins(bindings: &mut Bindings<'_>) -> Result<(), AllocError>
+    requires { bindings.old ≡ [] }
+    ensures { OnOk result (bindings.new ≡ first_file_scope.bindings) }
+{
+    bindings.push(READ_WORD, Entity::ReadWord)?;
+    bindings.push(WRITE_WORD, Entity::WriteWord)
+}
+
 impl<'a> Scope<'a> {
     /// File scope at the start of a text: the builtins.
     pub fn new(alloc: Global) -> Result<Scope<'a>, AllocError>
         ensures { IfOk result (λ s. s ≡ file_level first_file_scope.bindings) }
     {
         let mut bindings = Bindings::new(alloc);
-        bindings.push(READ_WORD, Entity::ReadWord)?;
-        bindings.push(WRITE_WORD, Entity::WriteWord)?;
-        Ok(Scope { bindings, inner: 0 })
+        match push_builtins(&mut bindings) {
+            Ok(()) => Ok(Scope { bindings, inner: 0 }),
+            Err(error) => {
+                drop(bindings);
+                Err(error)
+            }
+        }
     }
 
     /// Begins an inner scope, and answers how many names the one around it had declared, for the `close` that ends it.

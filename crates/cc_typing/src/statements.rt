@@ -5,9 +5,9 @@
 ghost use Rattle.std.specs.Prelude.{◌≡◌, OnOk};
 ghost use Rattle.cc_syntax.specs.Erase.{expression_tree, optional_tree, optional_action, declarator_tree, declarator_trees, beginning_tree, statement_tree, statements_of};
 ghost use Rattle.cc_syntax.specs.Tree as tree;
-ghost use Rattle.cc_typing.specs.Findings.{after, around_of, declarator_offences, is_bad_return};
-ghost use Rattle.cc_typing.specs.Rules.{within_loop, declared_offences, start_offences, return_offences, statement_offences, statements_offences, called_in_optional, called_in_declared, called_in_start, called_in_statement, called_in_statements};
-ghost use Rattle.cc_typing.specs.Scope.{Variable, in_scope, opened, declared, all_declared, scope_behind, scope_behind_start};
+ghost use Rattle.cc_typing.specs.internal.Findings.{after, around_of, declarator_offences, is_bad_return};
+ghost use Rattle.cc_typing.specs.Rules.{within_loop, declared_offences, beginning_offences, return_offences, statement_offences, statements_offences, called_in_optional, called_in_declared, called_in_beginning, called_in_statement, called_in_statements};
+ghost use Rattle.cc_typing.specs.Scope.{Variable, in_scope, opened, declared, all_declared, scope_behind, scope_behind_beginning};
 
 use super::around::Surroundings;
 use super::entity::Entity;
@@ -56,8 +56,8 @@ fn beginning<'a>(
     findings: &mut Findings,
     tree: &'a Beginning,
 ) -> Result<(), AllocError>
-    ensures scope { OnOk result (scope.new ≡ scope_behind_start (beginning_tree tree.now) scope.old) }
-    ensures found { OnOk result (findings.new ≡ after findings.old (start_offences (beginning_tree tree.now) scope.old) (called_in_start (beginning_tree tree.now))) }
+    ensures scope { OnOk result (scope.new ≡ scope_behind_beginning (beginning_tree tree.now) scope.old) }
+    ensures found { OnOk result (findings.new ≡ after findings.old (beginning_offences (beginning_tree tree.now) scope.old) (called_in_beginning (beginning_tree tree.now))) }
 {
     match tree {
         Beginning::Declaration(scalar, names) => {
@@ -70,7 +70,7 @@ fn beginning<'a>(
     }
 }
 
-fn is_bad_return(gives: Option<Scalar>, tree: &Option<Expression>) -> bool
+fn is_bad_return(gives: Option<Scalar>, tree: &Option<Box<Expression>>) -> bool
     ensures { result ≡ is_bad_return gives (optional_tree tree.now) }
 {
     match tree {
@@ -85,7 +85,7 @@ fn returned(
     findings: &mut Findings,
     around: Surroundings,
     at: usize,
-    tree: &Option<Expression>,
+    tree: &Option<Box<Expression>>,
 )
     ensures { findings.new ≡ after findings.old (return_offences around.result (in_scope scope.now) at (optional_tree tree.now)) (called_in_optional (optional_tree tree.now)) }
 {
@@ -110,7 +110,7 @@ fn inner_statement<'a>(
     Ok(())
 }
 
-// A statement. Behind it, what it declares in the innermost scope is in scope.
+// A statement. After it, what it declares in the innermost scope is in scope.
 #[cycle(statements)]
 fn statement<'a>(
     scope: &mut Scope<'a>,
@@ -169,7 +169,7 @@ fn for_statement<'a>(
     findings: &mut Findings,
     around: Surroundings,
     first: &'a Beginning,
-    condition: &Option<Expression>,
+    condition: &Option<Box<Expression>>,
     following: &Option<Action>,
     body: &'a Statement,
 ) -> Result<(), AllocError>

@@ -1,22 +1,21 @@
-// A unit that keeps the rules and limits, with its resolved form.
+// A unit that keeps the rules and limits.
 
 ghost use Rattle.std.specs.Prelude.{◌≡◌, ◌<◌, ◌≤◌, [], ◌∷◌, Some, MatchOption, length, slice_get};
 ghost use Rattle.cc_syntax.specs.Source.{source};
-ghost use Rattle.cc_syntax.specs.Erase.{name_tree, external_tree};
-ghost use Rattle.cc_typing.specs.Counts.{defines};
-ghost use Rattle.cc_typing.specs.Typed.{IsTyped, IsWithinLimits, defined_names};
+ghost use Rattle.cc_syntax.specs.Erase.{external_tree, external_trees};
+ghost use Rattle.cc_syntax.specs.Parse.{SpellsText};
+ghost use Rattle.cc_typing.specs.internal.Counts.{defines};
+ghost use Rattle.cc_typing.specs.Typed.{IsTyped, IsWithinLimits, defined_names, definitions};
 ghost use Rattle.cc_typing.specs.Checked.{IsChecked};
-ghost use Rattle.cc_typing.specs.FormErase.{form_tree, Resolves};
+ghost use Rattle.cc_typing.specs.Defined.{definition_tree};
 
-use super::form::Form;
-use cc_syntax::{External, Identifier, Unit};
+use cc_syntax::{External, Signature, Statement, Unit};
 use std::marker::Model;
 
 /// A unit that breaks no rule of scope or type and passes no limit. Contracts see it as the unit that it was made from.
 #[derive(Drop)]
 pub struct TypedUnit {
     unit: Unit,
-    form: Form,
 }
 
 impl Model for TypedUnit {
@@ -24,7 +23,6 @@ impl Model for TypedUnit {
     ghost use Rattle.cc_syntax.specs.declared.unit.Unit.{Unit};
     ghost use Rattle.cc_syntax.specs.contracts.unit.Unit.{the_row};
     ghost use Rattle.cc_typing.specs.Checked.{IsChecked};
-    ghost use Rattle.cc_typing.specs.FormErase.{form_tree, Resolves};
 
     ghost Value = { Unit };
 
@@ -32,7 +30,14 @@ impl Model for TypedUnit {
 
     ghost view = { λ t. t.unit };
 
-    ghost invariant = { λ t. IsChecked (source t.unit) × Resolves (source t.unit).externals (form_tree t.form) };
+    ghost invariant = { λ t. IsChecked (source t.unit) };
+}
+
+/// A function that a unit defines.
+#[derive(Clone, Copy)]
+pub struct Definition<'a> {
+    pub signature: &'a Signature,
+    pub body: &'a [Statement],
 }
 
 fn definitions_in(external: &External) -> usize
@@ -45,23 +50,25 @@ fn definitions_in(external: &External) -> usize
     }
 }
 
-fn defined_name(external: &External) -> Option<&Identifier>
-    ensures { MatchOption result (defines (external_tree external.now) ≡ []) (λ x. defines (external_tree external.now) ≡ name_tree x.now ∷ []) }
+fn definition_in(external: &External) -> Option<Definition<'_>>
+    ensures { MatchOption result (definitions (external_tree external.now ∷ []) ≡ []) (λ d. definitions (external_tree external.now ∷ []) ≡ definition_tree d ∷ []) }
 {
     match external {
-        External::Definition(signature, _) => Some(&signature.name),
+        External::Definition(signature, body) => Some(Definition {
+            signature,
+            body: body.as_slice(),
+        }),
         External::Declaration(_) | External::Objects(_, _) => None,
     }
 }
 
 impl TypedUnit {
     // The one place where a typed unit is made.
-    pub(crate) fn new(unit: Unit, form: Form) -> TypedUnit
-        requires checked { IsChecked (source unit) }
-        requires form { Resolves (source unit).externals (form_tree form) }
+    pub(crate) fn new(unit: Unit) -> TypedUnit
+        requires { IsChecked (source unit) }
         ensures { result ≡ unit }
     {
-        TypedUnit { unit, form }
+        TypedUnit { unit }
     }
 
     /// The text, byte for byte.
@@ -87,25 +94,34 @@ impl TypedUnit {
         requires { function < length (defined_names (source self.now)) }
         ensures { slice_get (defined_names (source self.now)) function ≡ Some result.now }
     {
+        self.definition(function).signature.name.bytes.as_slice()
+    }
+
+    /// The function with a number. Functions are numbered from 0 in the order of their definitions.
+    pub fn definition(&self, function: usize) -> Definition<'_>
+        requires { function < length (defined_names (source self.now)) }
+        ensures { slice_get (definitions (source self.now).externals) function ≡ Some (definition_tree result) }
+    {
         let mut left = function;
         for external in self.unit.externals() {
-            let Some(name) = defined_name(external) else {
+            let Some(definition) = definition_in(external) else {
                 continue;
             };
             if left == 0 {
-                return name.bytes.as_slice();
+                return definition;
             }
             left -= 1;
         }
         unreachable!()
     }
 
-    /// The unit's resolved form: its instructions, with numbers in place of names.
-    pub fn form(&self) -> &Form
-        ensures form { Resolves (source self.now).externals (form_tree result.now) }
+    /// The external declarations, which the text spells.
+    pub fn externals(&self) -> &[External]
+        ensures tree { external_trees result.now ≡ (source self.now).externals }
+        ensures spelled { ∥ SpellsText (source self.now).text (source self.now).externals ∥₁ }
         ensures typed { IsTyped (source self.now).externals }
         ensures limits { IsWithinLimits (source self.now).externals }
     {
-        &self.form
+        self.unit.externals()
     }
 }

@@ -1,42 +1,46 @@
 -- The form's run from the start of `main` comes to the source's behavior.
-use Rattle.std.proofs.Common.{ℕ, List, ◌-◌, ◌<◌, length, ap, ◌∙◌, subst, arith}
+use Rattle.std.proofs.Common.{◌≡◌, ℕ, List, ◌-◌, ◌<◌, length, ap, ◌∙◌, subst, arith}
 use Rattle.cc_syntax.specs.Source.{source}
-use Rattle.cc_typing.specs.FormErase.{form_tree}
 use Rattle.cc_meaning.specs.Meaning.{source_behavior}
-use Rattle.cc_meaning.specs.FormMeaning.{first_configuration}
-use Rattle.cc_meaning.specs.Ran.{ComesTo}
-use Rattle.cc_meaning.specs.Shows.{Shows}
-use Rattle.cc_meaning.specs.Shown.{stop_shown}
+use Rattle.cc_meaning.specs.Erase.{stop_tree}
+use Rattle.cc_meaning.specs.internal.Form.{resolved}
+use Rattle.cc_meaning.specs.internal.FormErase.{form_tree}
+use Rattle.cc_meaning.specs.internal.FormMeaning.{first_configuration}
+use Rattle.cc_meaning.specs.internal.Ran.{ComesTo}
+use Rattle.cc_meaning.specs.internal.Shows.{Shows}
 use Rattle.cc_meaning.proofs.Running.{main_below, main_comes}
 use Rattle.cc_meaning.proofs.run.interpret.Goals as goal
 
 pub index-main-requires : goal.index-main-requires
 index-main-requires c =
-    let form = form_tree c.form-form.result.now in
-    let f = c.form-form.ensures in
-    let below : form.main < length form.functions = main_below (source c.args.unit.now) form f.typed f.limits f.form in
+    let form = form_tree c.in_ok-form.form in
+    let f = c.externals.ensures in
+    let is : form ≡ resolved (source c.args.unit.now).externals = c.in_ok-form.ensures ∙ ap resolved f.tree in
+    let below : form.main < length form.functions = main_below (source c.args.unit.now) form f.typed f.limits is in
     omega arith
 
 pub run-halt-requires : goal.run-halt-requires
 run-halt-requires c =
-    let form = form_tree c.form-form.result.now in
-    let f = c.form-form.ensures in
+    let form = form_tree c.in_ok-form.form in
+    let f = c.externals.ensures in
     let unit = source c.args.unit.now in
+    let is : form ≡ resolved unit.externals = c.in_ok-form.ensures ∙ ap resolved f.tree in
     let first = first_configuration form c.index-main.result.now c.args.input.now (c.args.steps - 1) in
-    let comes = main_comes unit c.args.input.now c.args.steps form c.index-main.result.now f.typed f.limits f.form (omega arith) c.index-main.ensures in (
+    let comes = main_comes unit c.args.input.now c.args.steps form c.index-main.result.now f.typed f.limits is (omega arith) c.index-main.ensures in (
       unit.externals,
       first,
       source_behavior unit c.args.input.now c.args.steps,
-      subst (λ form'. Shows c.in_ok-machine.machine form' first) f.form c.in_ok-machine.ensures,
-      subst (λ form'. ComesTo form' first (source_behavior unit c.args.input.now c.args.steps)) f.form comes,
+      subst (λ form'. Shows c.in_ok-interpreter.interpreter form' first) is c.in_ok-interpreter.ensures,
+      subst (λ form'. ComesTo form' first (source_behavior unit c.args.input.now c.args.steps)) is comes,
     )
 
 pub returns-in-Stopped : goal.returns-in-Stopped
 returns-in-Stopped c =
-    let form = form_tree c.form-form.result.now in
-    let f = c.form-form.ensures in
+    let form = form_tree c.in_ok-form.form in
+    let f = c.externals.ensures in
     let unit = source c.args.unit.now in
+    let is : form ≡ resolved unit.externals = c.in_ok-form.ensures ∙ ap resolved f.tree in
     let first = first_configuration form c.index-main.result.now c.args.input.now (c.args.steps - 1) in
-    let comes = main_comes unit c.args.input.now c.args.steps form c.index-main.result.now f.typed f.limits f.form (omega arith) c.index-main.ensures in
-    ap (λ (ws : List ℕ). record { stop = stop_shown c.in-Stopped.stop; output = ws }) c.from_vec-in-Stopped.ensures
-    ∙ c.in-Stopped.ensures form first (source_behavior unit c.args.input.now c.args.steps) c.in_ok-machine.ensures comes
+    let comes = main_comes unit c.args.input.now c.args.steps form c.index-main.result.now f.typed f.limits is (omega arith) c.index-main.ensures in
+    ap (λ (ws : List ℕ). record { stop = stop_tree c.in-Stopped.stop; output = ws }) c.from_vec-in-Stopped.ensures
+    ∙ c.in-Stopped.ensures form first (source_behavior unit c.args.input.now c.args.steps) c.in_ok-interpreter.ensures comes

@@ -2,10 +2,9 @@
 -- unit is typed.
 use Rattle.std.proofs.Common.{◌≡◌, ◌∙◌, inr, ap, sym, length, true, false, Some, None}
 use Rattle.cc_syntax.specs.Source.{source}
-use Rattle.cc_syntax.specs.Place.{place_of}
+use Rattle.cc_tokens.specs.Place.{place_of}
 use Rattle.cc_typing.specs.Fault.{fault_of}
-use Rattle.cc_typing.specs.Findings.{noted}
-use Rattle.cc_typing.specs.Resolve.{resolved}
+use Rattle.cc_typing.specs.internal.Findings.{noted}
 use Rattle.cc_typing.specs.Rules.{defines_main, undefined_calls}
 use Rattle.cc_typing.specs.Typed.{all_offences}
 use Rattle.cc_typing.specs.declared.fault.TypeFault.TheVariants.{NoMain}
@@ -42,7 +41,4 @@ new-requires c =
     let none : noted None (all_offences s.externals) ≡ None = sym (c.in_ok-found.ensures.first ∙ ap (λ es. noted None (all_offences es)) c.externals.ensures.tree) ∙ c.in_default.is in
     let main : defines_main s.externals ≡ true = sym (c.defines_main.ensures ∙ ap defines_main c.externals-2.ensures.tree) ∙ c.if-not-defines_main.false in
     let called : noted None (undefined_calls s.externals) ≡ None = sym (c.in_ok-found.ensures.undefined ∙ ap (λ es. noted None (undefined_calls es)) c.externals.ensures.tree) ∙ c.in_default-undefined.is in
-    record {
-      checked = checked s none main called;
-      form = c.in_ok-form.ensures ∙ ap resolved c.externals-3.ensures.tree;
-    }
+    checked s none main called

@@ -14,7 +14,7 @@ pub loop-external-preserved : goal.loop-external-preserved
 loop-external-preserved c =
     let left = drop-item c.args.externals.now c.loop-external.external-index c.external-item.result c.loop-external-test.true c.external-item.is in
     defined-next (external_tree c.external-item.result) (external_trees (drop (c.loop-external.external-index + 1) c.args.externals.now)) (external_trees (drop c.loop-external.external-index c.args.externals.now))
-    c.loop-external.names c.define.new.names _ (ap external_trees left) c.loop-external.invariant c.in_ok-define.ensures
+    c.loop-external.names c.define.new.names _ (ap external_trees left) c.loop-external.invariant c.in-Ok.ensures
 
 pub returns : goal.returns
 returns c = λ x.

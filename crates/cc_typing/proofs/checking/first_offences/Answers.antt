@@ -1,7 +1,7 @@
 -- The walk over file scope begins with the builtins, and knows all definitions.
 use Rattle.std.proofs.Common.{◌∙◌, ap}
 use Rattle.cc_syntax.specs.Erase.{external_trees}
-use Rattle.cc_typing.specs.Findings.{noted}
+use Rattle.cc_typing.specs.internal.Findings.{noted}
 use Rattle.cc_typing.specs.Limits.{excesses}
 use Rattle.cc_typing.proofs.Verdict.{first-are, undefined-are}
 use Rattle.cc_typing.proofs.checking.first_offences.Goals as goal
@@ -10,12 +10,12 @@ pub returns-clause-first : goal.returns-clause-first
 returns-clause-first c =
     let es = external_trees c.args.externals.now in
     c.with_excesses.ensures ∙ ap (λ f. noted f (excesses es)) c.first.ensures
-    ∙ first-are es c.in_ok-scope.scope c.in_ok-builtins.field-0 c.in_ok-definitions.field-0 c.new-findings.result c.all_externals.new.findings c.in_ok-scope.ensures c.new-findings.ensures c.in_ok-all_externals.ensures
-    c.in_ok-builtins.ensures
+    ∙ first-are es c.in-Ok.scope c.in-Ok-builtins.defined c.in_ok-definitions.field-0 c.new-findings.result c.all_externals-walked.new.findings c.in-Ok.ensures c.new-findings.ensures c.in_ok-walked.ensures
+    c.in-Ok-builtins.ensures
 
 pub returns-clause-undefined : goal.returns-clause-undefined
 returns-clause-undefined c =
     let es = external_trees c.args.externals.now in
     c.undefined.ensures
-    ∙ undefined-are es c.in_ok-scope.scope c.in_ok-builtins.field-0 c.in_ok-definitions.field-0 c.new-findings.result c.all_externals.new.findings c.in_ok-scope.ensures c.new-findings.ensures c.in_ok-all_externals.ensures
+    ∙ undefined-are es c.in-Ok.scope c.in-Ok-builtins.defined c.in_ok-definitions.field-0 c.new-findings.result c.all_externals-walked.new.findings c.in-Ok.ensures c.new-findings.ensures c.in_ok-walked.ensures
     c.in_ok-definitions.ensures

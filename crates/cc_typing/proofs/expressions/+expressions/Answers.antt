@@ -1,4 +1,4 @@
--- The parts of an expression, one behind the other.
+-- The parts of an expression, one after the other.
 use Rattle.std.proofs.Common.{◌≡◌, ◌∙◌, ◌+◌, ◌++◌, [], ◌∷◌, ap, sym, drop, length, List}
 use Rattle.std.proofs.Math.ListN.{drop_of_length-le}
 use Rattle.cc_syntax.specs.Erase.{name_tree, expression_tree, expressions_of}
@@ -6,7 +6,7 @@ use Rattle.cc_syntax.specs.declared.ast.Expression.{Expression}
 use Rattle.cc_typing.specs.Rules.{array_offences, function_offences, count_of, void_offences, expression_offences, value_offences, argument_offences, called_in, called_in_all}
 use Rattle.cc_typing.specs.Scope.{found, in_scope}
 use Rattle.cc_typing.proofs.Parts.{next, last, two, three, after_noted}
-use Rattle.cc_typing.specs.Findings.{after}
+use Rattle.cc_typing.specs.internal.Findings.{after}
 use Rattle.cc_typing.proofs.Trees.{expression_tree-call, count_of-expressions}
 use Rattle.cc_typing.proofs.SameTypes.{drop-item}
 use Rattle.cc_typing.proofs.expressions.+expressions.Goals as goal

@@ -1,6 +1,6 @@
 use Rattle.std.proofs.Common.{◌≡◌, drop}
 use Rattle.cc_syntax.specs.Erase.{expressions_of}
-use Rattle.cc_typing.specs.Findings.{after}
+use Rattle.cc_typing.specs.internal.Findings.{after}
 use Rattle.cc_typing.specs.Rules.{argument_offences, called_in_all}
 use Rattle.cc_typing.specs.Scope.{in_scope}
 use Rattle.cc_typing.proofs.expressions.+expressions.Given as goal

@@ -1,6 +1,6 @@
 use Rattle.std.proofs.Common.{◌≡◌, drop}
 use Rattle.cc_syntax.specs.Erase.{constant_trees}
-use Rattle.cc_typing.specs.Findings.{after}
+use Rattle.cc_typing.specs.internal.Findings.{after}
 use Rattle.cc_typing.specs.Rules.{constants_offences, called_in_constants}
 use Rattle.cc_typing.specs.Scope.{in_scope}
 use Rattle.cc_typing.proofs.externals.constants.Given as goal

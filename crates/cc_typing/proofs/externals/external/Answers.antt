@@ -2,7 +2,7 @@
 use Rattle.std.proofs.Common.{◌≡◌, ◌∙◌, false, ap}
 use Rattle.cc_syntax.specs.Erase.{signature_tree, statements_of, object_trees, external_tree}
 use Rattle.cc_typing.specs.Bindings.{file_level, file_of}
-use Rattle.cc_typing.specs.Findings.{after}
+use Rattle.cc_typing.specs.internal.Findings.{after}
 use Rattle.cc_typing.specs.Rules.{objects_offences, statements_offences, called_in_objects, called_in_statements}
 use Rattle.cc_typing.specs.Scope.{has_name, with_objects}
 use Rattle.cc_typing.proofs.FileScopes.{declaration-scope, definition-scope, definition-found, objects-scope, objects-found, objects-defined}

@@ -5,7 +5,7 @@ use Rattle.cc_syntax.specs.Erase.{name_tree, optional_constant, constant_trees, 
 use Rattle.cc_syntax.specs.Tree.{Array}
 use Rattle.cc_syntax.specs.declared.ast.ConstantExpression.{ConstantExpression}
 use Rattle.cc_typing.specs.Bindings.{file_level, file_of}
-use Rattle.cc_typing.specs.Findings.{is_bad_length}
+use Rattle.cc_typing.specs.internal.Findings.{is_bad_length}
 use Rattle.cc_typing.specs.Scope.{Elements, is_declared, in_scope, with_declared}
 use Rattle.cc_typing.specs.Types.{array_length}
 use Rattle.cc_typing.proofs.FileScopes.{array-found, is_some-entity}

@@ -2,8 +2,8 @@
 use Rattle.std.proofs.Common.{◌+◌, ◌++◌, ◌∙◌, ap, sym, drop}
 use Rattle.cc_syntax.specs.Erase.{beginning_tree, statement_tree, statements_of}
 use Rattle.cc_syntax.specs.declared.ast.Statement.{Statement}
-use Rattle.cc_typing.specs.Counts.{count_after}
-use Rattle.cc_typing.specs.Limits.{start_names, locals_of, locals}
+use Rattle.cc_typing.specs.internal.Counts.{count_after}
+use Rattle.cc_typing.specs.Limits.{beginning_names, locals_of, locals}
 use Rattle.cc_typing.proofs.Counting.{count-next, count-two}
 use Rattle.cc_typing.proofs.Trees.{statement_tree-block, statement_tree-if_else, statement_tree-for}
 use Rattle.cc_typing.proofs.SameTypes.{drop-item}
@@ -32,6 +32,7 @@ count_locals_of-returns-in-IfElse t c =
 pub count_locals_of-returns-in-For : goal.count_locals_of-returns-in-For
 count_locals_of-returns-in-For t c =
     let is = ap statement_tree c.in-For.is ∙ statement_tree-for c.in-For.beginning c.in-For.field-1 c.in-For.field-2 c.in-For.body in
-    let names = start_names (beginning_tree c.in-For.beginning) in
-    count-two c.args.count.now c.count_beginning.new.count c.count_locals_of-in-For.new.count names (locals_of (statement_tree c.deref-in-For.result.now)) _ c.count_beginning.ensures c.count_locals_of-in-For.ensures
-    (ap locals_of is ∙ ap (λ (s : Statement). names ++ locals_of (statement_tree s)) (sym c.deref-in-For.ensures))
+    let names = beginning_names (beginning_tree c.deref-in-For.result.now) in
+    count-two c.args.count.now c.count_beginning.new.count c.count_locals_of-in-For.new.count names (locals_of (statement_tree c.deref-in-For-2.result.now)) _ c.count_beginning.ensures c.count_locals_of-in-For.ensures
+    (ap locals_of is ∙ ap (λ b. beginning_names (beginning_tree b) ++ locals_of (statement_tree c.in-For.body.value)) (sym c.deref-in-For.ensures)
+    ∙ ap (λ (s : Statement). names ++ locals_of (statement_tree s)) (sym c.deref-in-For-2.ensures))

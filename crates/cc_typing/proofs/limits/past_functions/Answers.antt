@@ -1,7 +1,7 @@
 -- Declaration by declaration.
 use Rattle.std.proofs.Common.{◌+◌, ◌∙◌, ap, drop}
 use Rattle.cc_syntax.specs.Erase.{external_tree, external_trees}
-use Rattle.cc_typing.specs.Counts.{defines}
+use Rattle.cc_typing.specs.internal.Counts.{defines}
 use Rattle.cc_typing.specs.Limits.{function_names}
 use Rattle.cc_typing.proofs.Counting.{count-next}
 use Rattle.cc_typing.proofs.Definitions.{function_names-next}

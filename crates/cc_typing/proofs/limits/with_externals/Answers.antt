@@ -1,7 +1,7 @@
 -- Declaration by declaration.
 use Rattle.std.proofs.Common.{◌+◌, ◌∙◌, ap, sym, drop}
 use Rattle.cc_syntax.specs.Erase.{external_tree, external_trees}
-use Rattle.cc_typing.specs.Findings.{noted}
+use Rattle.cc_typing.specs.internal.Findings.{noted}
 use Rattle.cc_typing.specs.Limits.{external_excesses, externals_excesses}
 use Rattle.cc_typing.proofs.Parts.{noted-append}
 use Rattle.cc_typing.proofs.SameTypes.{drop-item}

@@ -1,13 +1,13 @@
 -- Each kind of statement in turn, and a list statement by statement.
 use Rattle.std.proofs.Common.{◌≡◌, ◌∙◌, refl, ap, sym, subst}
 use Rattle.cc_syntax.specs.Erase.{expression_tree, optional_tree, optional_action, beginning_tree, statement_tree, statements_of}
-use Rattle.cc_syntax.specs.Tree.{For}
-use Rattle.cc_typing.specs.Findings.{after, around_of}
+use Rattle.cc_syntax.specs.Tree.{If, IfElse, While, DoWhile, For}
+use Rattle.cc_typing.specs.internal.Findings.{after, around_of}
 use Rattle.cc_typing.specs.Scope.{Visible, in_scope, opened}
 use Rattle.cc_typing.specs.Rules.{value_offences, statement_offences, statements_offences, called_in, called_in_statement, called_in_statements}
 use Rattle.cc_typing.proofs.SameTypes.{drop-item}
 use Rattle.cc_typing.proofs.Trees.{statement_tree-block, statement_tree-if, statement_tree-if_else, statement_tree-while, statement_tree-do_while, statement_tree-for}
-use Rattle.cc_typing.proofs.Walks.{on_ok, scope_behind_outer, scope_behind_start_outer, closes, closed-is, Walking, Walking-next, if-found, if_else-found, while-found, do_while-found, for-found}
+use Rattle.cc_typing.proofs.Walks.{on_ok, scope_behind_outer, scope_behind_beginning_outer, closes, closed-is, Walking, Walking-next, if-found, if_else-found, while-found, do_while-found, for-found}
 use Rattle.cc_typing.proofs.statements.+statements.Goals as goal
 
 pub all_statements-loop-tree-preserved : goal.all_statements-loop-tree-preserved
@@ -33,7 +33,7 @@ for_statement-close-requires t c =
     let first = beginning_tree c.args.first.now in
     let outer : c.inner_statement.new.scope.outer ≡ in_scope c.args.scope.now =
     ap (λ (v : Visible). v.outer) c.in_ok-inner_statement.ensures.scope ∙ ap (λ (v : Visible). v.outer) c.in_ok-beginning.ensures.scope
-    ∙ scope_behind_start_outer first c.open-names.new.self ∙ ap (λ (v : Visible). v.outer) c.open-names.ensures.scope in
+    ∙ scope_behind_beginning_outer first c.open-names.new.self ∙ ap (λ (v : Visible). v.outer) c.open-names.ensures.scope in
     closes c.args.scope.now c.inner_statement.new.scope c.open-names.result outer c.open-names.ensures.around
 
 pub for_statement-returns-clause-scope : goal.for_statement-returns-clause-scope
@@ -41,7 +41,7 @@ for_statement-returns-clause-scope t c =
     let first = beginning_tree c.args.first.now in
     let outer : c.inner_statement.new.scope.outer ≡ in_scope c.args.scope.now =
     ap (λ (v : Visible). v.outer) c.in_ok-inner_statement.ensures.scope ∙ ap (λ (v : Visible). v.outer) c.in_ok-beginning.ensures.scope
-    ∙ scope_behind_start_outer first c.open-names.new.self ∙ ap (λ (v : Visible). v.outer) c.open-names.ensures.scope in
+    ∙ scope_behind_beginning_outer first c.open-names.new.self ∙ ap (λ (v : Visible). v.outer) c.open-names.ensures.scope in
     closed-is c.args.scope.now c.inner_statement.new.scope c.close.new.self c.open-names.result outer c.open-names.ensures.around c.close.ensures
 
 pub for_statement-returns-clause-found : goal.for_statement-returns-clause-found
@@ -66,38 +66,39 @@ statement-returns-in-Block-clause-found t c =
 
 pub statement-returns-in-If-clause-found : goal.statement-returns-in-If-clause-found
 statement-returns-in-If-clause-found t c =
-    let is = ap statement_tree c.in-If.is ∙ statement_tree-if c.in-If.condition c.in-If.held in
+    let is = ap statement_tree c.in-If.is ∙ statement_tree-if c.in-If.condition c.in-If.held ∙ ap (λ e. If (expression_tree e) (statement_tree c.in-If.held.value)) (sym c.deref-in-If.ensures) in
     on_ok c.inner_statement.result
-    (λ e. if-found (around_of c.args.around) c.args.scope.now (statement_tree c.args.tree.now) c.args.findings.now c.value.new.findings c.inner_statement.new.findings (expression_tree c.in-If.condition)
-    (statement_tree c.in-If.held.value) (statement_tree c.deref-in-If.result.now) is (ap statement_tree c.deref-in-If.ensures) c.value.ensures e)
+    (λ e. if-found (around_of c.args.around) c.args.scope.now (statement_tree c.args.tree.now) c.args.findings.now c.value.new.findings c.inner_statement.new.findings (expression_tree c.deref-in-If.result.now)
+    (statement_tree c.in-If.held.value) (statement_tree c.deref-in-If-2.result.now) is (ap statement_tree c.deref-in-If-2.ensures) c.value.ensures e)
     c.inner_statement.ensures.found
 
 pub statement-returns-in_ok-inner_statement-in-IfElse-clause-found :
     goal.statement-returns-in_ok-inner_statement-in-IfElse-clause-found
 statement-returns-in_ok-inner_statement-in-IfElse-clause-found t c =
     let a = around_of c.args.around in
-    let is = ap statement_tree c.in-IfElse.is ∙ statement_tree-if_else c.in-IfElse.condition c.in-IfElse.held c.in-IfElse.other in
-    let other = statement_tree c.deref-in-IfElse-2.result.now in
+    let is = ap statement_tree c.in-IfElse.is ∙ statement_tree-if_else c.in-IfElse.condition c.in-IfElse.held c.in-IfElse.other
+    ∙ ap (λ e. IfElse (expression_tree e) (statement_tree c.in-IfElse.held.value) (statement_tree c.in-IfElse.other.value)) (sym c.deref-in-IfElse.ensures) in
+    let other = statement_tree c.deref-in-IfElse-3.result.now in
     on_ok c.inner_statement-in-IfElse-2.result
     (λ e. if_else-found a c.args.scope.now (statement_tree c.args.tree.now) c.args.findings.now c.value-in-IfElse.new.findings c.inner_statement-in-IfElse.new.findings c.inner_statement-in-IfElse-2.new.findings
-    (expression_tree c.in-IfElse.condition) (statement_tree c.in-IfElse.held.value) (statement_tree c.in-IfElse.other.value) (statement_tree c.deref-in-IfElse.result.now) other is
-    (ap statement_tree c.deref-in-IfElse.ensures) (ap statement_tree c.deref-in-IfElse-2.ensures) c.value-in-IfElse.ensures c.in_ok-inner_statement-in-IfElse.ensures.found
+    (expression_tree c.deref-in-IfElse.result.now) (statement_tree c.in-IfElse.held.value) (statement_tree c.in-IfElse.other.value) (statement_tree c.deref-in-IfElse-2.result.now) other is
+    (ap statement_tree c.deref-in-IfElse-2.ensures) (ap statement_tree c.deref-in-IfElse-3.ensures) c.value-in-IfElse.ensures c.in_ok-inner_statement-in-IfElse.ensures.found
     (e ∙ ap (λ v. after c.inner_statement-in-IfElse.new.findings (statement_offences other a (opened v)) (called_in_statement other)) c.in_ok-inner_statement-in-IfElse.ensures.scope))
     c.inner_statement-in-IfElse-2.ensures.found
 
 pub statement-returns-in-While-clause-found : goal.statement-returns-in-While-clause-found
 statement-returns-in-While-clause-found t c =
-    let is = ap statement_tree c.in-While.is ∙ statement_tree-while c.in-While.condition c.in-While.body in
+    let is = ap statement_tree c.in-While.is ∙ statement_tree-while c.in-While.condition c.in-While.body ∙ ap (λ e. While (expression_tree e) (statement_tree c.in-While.body.value)) (sym c.deref-in-While.ensures) in
     on_ok c.inner_statement-in-While.result
     (λ e. while-found (around_of c.args.around) c.args.scope.now (statement_tree c.args.tree.now) c.args.findings.now (around_of c.within_loop.result) c.within_loop.ensures c.value-in-While.new.findings c.inner_statement-in-While.new.findings
-    (expression_tree c.in-While.condition) (statement_tree c.in-While.body.value) (statement_tree c.deref-in-While.result.now) is (ap statement_tree c.deref-in-While.ensures) c.value-in-While.ensures e)
+    (expression_tree c.deref-in-While.result.now) (statement_tree c.in-While.body.value) (statement_tree c.deref-in-While-2.result.now) is (ap statement_tree c.deref-in-While-2.ensures) c.value-in-While.ensures e)
     c.inner_statement-in-While.ensures.found
 
 pub statement-returns-in_ok-inner_statement-in-DoWhile-clause-found :
     goal.statement-returns-in_ok-inner_statement-in-DoWhile-clause-found
 statement-returns-in_ok-inner_statement-in-DoWhile-clause-found t c =
-    let is = ap statement_tree c.in-DoWhile.is ∙ statement_tree-do_while c.in-DoWhile.body c.in-DoWhile.condition in
-    let test = expression_tree c.in-DoWhile.condition in
+    let is = ap statement_tree c.in-DoWhile.is ∙ statement_tree-do_while c.in-DoWhile.body c.in-DoWhile.condition ∙ ap (λ e. DoWhile (statement_tree c.in-DoWhile.body.value) (expression_tree e)) (sym c.deref-in-DoWhile-2.ensures) in
+    let test = expression_tree c.deref-in-DoWhile-2.result.now in
     do_while-found (around_of c.args.around) c.args.scope.now (statement_tree c.args.tree.now) c.args.findings.now (around_of c.within_loop-in-DoWhile.result) c.within_loop-in-DoWhile.ensures
     c.inner_statement-in-DoWhile.new.findings c.value-in-DoWhile.new.findings
     test (statement_tree c.in-DoWhile.body.value) (statement_tree c.deref-in-DoWhile.result.now) is (ap statement_tree c.deref-in-DoWhile.ensures) c.in_ok-inner_statement-in-DoWhile.ensures.found
@@ -108,11 +109,12 @@ statement-returns-in-For-clause-found t c =
     let f = c.args.findings.now in
     let v = c.args.scope.now in
     let a = around_of c.args.around in
-    let first = beginning_tree c.in-For.first in
+    let first = beginning_tree c.deref-in-For.result.now in
     let test = optional_tree c.in-For.condition in
     let next = optional_action c.in-For.following in
-    let is = ap statement_tree c.in-For.is ∙ statement_tree-for c.in-For.first c.in-For.condition c.in-For.following c.in-For.body in
+    let is = ap statement_tree c.in-For.is ∙ statement_tree-for c.in-For.first c.in-For.condition c.in-For.following c.in-For.body
+    ∙ ap (λ b. For (beginning_tree b) test next (statement_tree c.in-For.body.value)) (sym c.deref-in-For.ensures) in
     on_ok c.for_statement.result
-    (λ e. e ∙ ap (λ s. after f (statement_offences (For first test next (statement_tree s)) a v) (called_in_statement (For first test next (statement_tree s)))) c.deref-in-For.ensures
+    (λ e. e ∙ ap (λ s. after f (statement_offences (For first test next (statement_tree s)) a v) (called_in_statement (For first test next (statement_tree s)))) c.deref-in-For-2.ensures
     ∙ sym (ap (λ u. after f (statement_offences u a v) (called_in_statement u)) is))
     c.for_statement.ensures.found

@@ -1,6 +1,6 @@
 -- One offence more.
 use Rattle.std.proofs.Common.{[], ◌∙◌, Some, ap}
-use Rattle.cc_typing.specs.Findings.{Found, after}
+use Rattle.cc_typing.specs.internal.Findings.{Found, after}
 use Rattle.cc_typing.specs.Rules.{broken}
 use Rattle.cc_typing.proofs.Parts.{noted_one}
 use Rattle.cc_typing.proofs.findings.Findings.note.Goals as goal

@@ -1,7 +1,7 @@
 -- One call more.
 use Rattle.std.proofs.Common.{◌≡◌, true, false, [], ◌∷◌, ◌∙◌, Some, sym, ap}
 use Rattle.cc_syntax.specs.Erase.{name_tree}
-use Rattle.cc_typing.specs.Findings.{Found, after}
+use Rattle.cc_typing.specs.internal.Findings.{Found, after}
 use Rattle.cc_typing.specs.Scope.{has_name}
 use Rattle.cc_typing.proofs.Parts.{called_undefined, called_defined}
 use Rattle.cc_typing.proofs.findings.Findings.note_call.Goals as goal

@@ -1,0 +1,36 @@
+-- What the code that writes instructions speaks of.
+use Rattle.std.specs.Prelude.{ℕ, ◌+◌, ◌-◌, List, [], ◌∷◌, length, slice_set, Option, Some, None}
+use Rattle.cc_syntax.specs.Tree.{Target, AtVariable, AtElement}
+use Rattle.cc_syntax.specs.declared.ast.BinaryOperator.{BinaryOperator}
+use Rattle.cc_syntax.specs.declared.ast.BinaryOperator.TheVariants.{LogicalAnd, LogicalOr}
+use Rattle.cc_resolve.specs.Environment.{Environment}
+use Rattle.cc_meaning.specs.internal.Form.{expression_code, store_of, store_element_of}
+use Rattle.cc_resolve.specs.declared.operations.BinaryOperation.{BinaryOperation}
+use Rattle.cc_meaning.specs.declared.form.Instruction.{Instruction}
+use Rattle.cc_meaning.specs.declared.form.Instruction.TheVariants.{Binary, AndThen, OrElse}
+
+-- what skips a right operand of so many instructions, where the operator may not need it
+abbrev pub short_cut : BinaryOperator → ℕ → Option Instruction
+short_cut LogicalAnd n = Some (AndThen n)
+short_cut LogicalOr n = Some (OrElse n)
+short_cut op n = None
+
+-- an instruction, where there is one
+abbrev pub some_code : Option Instruction → List Instruction
+some_code None = []
+some_code (Some i) = i ∷ []
+
+-- the instructions with an operation in the place of the one before which so many stood, where no short cut was written
+abbrev pub operated : Option Instruction → BinaryOperation → ℕ → List Instruction → List Instruction
+operated (Some i) op behind code = code
+operated None op behind code = slice_set code (length code - (behind + 1)) (Binary op)
+
+-- the index of what is written, where it has one
+abbrev pub index_code : Environment → Target → List Instruction
+index_code v (AtVariable x) = []
+index_code v (AtElement x e) = expression_code v e
+
+-- what takes a word into it
+abbrev pub write_of : Option BinaryOperation → Environment → Target → Instruction
+write_of op v (AtVariable x) = store_of op v x.text
+write_of op v (AtElement x e) = store_element_of op v x.text

@@ -1,0 +1,3 @@
+-- Worked examples.
+pub mod Programs
+pub mod Forms

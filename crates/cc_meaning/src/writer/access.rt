@@ -1,0 +1,65 @@
+// The instructions that read and write what a name is, and that call a function.
+
+ghost use Rattle.std.specs.Prelude.{◌≡◌};
+ghost use Rattle.cc_meaning.specs.internal.Form.{load, call_of, store_of, store_element_of};
+
+use crate::form::Instruction;
+use cc_resolve::{BinaryOperation, Environment};
+use cc_typing::{READ_WORD, WRITE_WORD};
+
+/// What pushes the value of a variable.
+pub fn load(names: &Environment<'_>, name: &[u8]) -> Instruction
+    ensures { result ≡ load names.now name.now }
+{
+    match names.local(name) {
+        Some(number) => Instruction::Local(number),
+        None => Instruction::Global(names.object(name).offset),
+    }
+}
+
+/// What takes a word into a variable, or applies an operation to the variable's old value and the word.
+pub fn store(names: &Environment<'_>, applied: Option<BinaryOperation>, name: &[u8]) -> Instruction
+    ensures { result ≡ store_of applied names.now name.now }
+{
+    match names.local(name) {
+        Some(number) => match applied {
+            None => Instruction::SetLocal(number),
+            Some(operation) => Instruction::UpdateLocal(operation, number),
+        },
+        None => {
+            let offset = names.object(name).offset;
+            match applied {
+                None => Instruction::SetGlobal(offset),
+                Some(operation) => Instruction::UpdateGlobal(operation, offset),
+            }
+        }
+    }
+}
+
+/// The same of an array's element, whose index stands below the word.
+pub fn store_element(
+    names: &Environment<'_>,
+    applied: Option<BinaryOperation>,
+    name: &[u8],
+) -> Instruction
+    ensures { result ≡ store_element_of applied names.now name.now }
+{
+    let extent = names.object(name);
+    match applied {
+        None => Instruction::SetElement(extent),
+        Some(operation) => Instruction::UpdateElement(operation, extent),
+    }
+}
+
+/// What calls a function whose arguments are pushed.
+pub fn call_instruction(names: &Environment<'_>, name: &[u8]) -> Instruction
+    ensures { result ≡ call_of names.now name.now }
+{
+    if WRITE_WORD == name {
+        Instruction::Write
+    } else if READ_WORD == name {
+        Instruction::Read
+    } else {
+        Instruction::Call(names.function(name))
+    }
+}

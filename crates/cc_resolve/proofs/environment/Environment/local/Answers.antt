@@ -1,0 +1,13 @@
+-- The locals' numbers depend on their names alone.
+use Rattle.std.proofs.Common.{◌∙◌, Some, None, ap}
+use Rattle.cc_resolve.specs.Environment.{Environment, number_in}
+use Rattle.cc_resolve.proofs.Numbers.{number_in-names}
+use Rattle.cc_resolve.proofs.environment.Environment.local.Goals as goal
+
+pub returns-in-Some : goal.returns-in-Some
+returns-in-Some c =
+    c.in-Some.ensures.number ∙ number_in-names c.self.inside.locals c.args.name.now ∙ ap (λ (v : Environment). number_in v.locals c.args.name.now) c.self.view_is
+
+pub returns-in-None : goal.returns-in-None
+returns-in-None c =
+    c.in-None.ensures.number ∙ number_in-names c.self.inside.locals c.args.name.now ∙ ap (λ (v : Environment). number_in v.locals c.args.name.now) c.self.view_is

@@ -1,0 +1,15 @@
+-- The number of the name's first place, and of another name how many there are.
+use Rattle.std.proofs.Common.{◌∙◌, Some, None, ap}
+use Rattle.cc_resolve.specs.Layout.{Layout, names_before}
+use Rattle.cc_resolve.proofs.Numbers.{names_before-is}
+use Rattle.cc_resolve.proofs.layout.Layout.function.Goals as goal
+
+pub returns-in-Some : goal.returns-in-Some
+returns-in-Some c =
+    names_before-is c.self.inside.functions c.args.name.now (Some c.in-Some.number) c.in-Some.ensures
+    ∙ ap (λ (v : Layout). names_before v.functions c.args.name.now) c.self.view_is
+
+pub returns-in-None : goal.returns-in-None
+returns-in-None c =
+    c.len.ensures ∙ names_before-is c.self.inside.functions c.args.name.now None c.in-None.ensures
+    ∙ ap (λ (v : Layout). names_before v.functions c.args.name.now) c.self.view_is

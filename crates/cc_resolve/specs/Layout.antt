@@ -1,0 +1,48 @@
+-- Where the names of file scope lead: the objects lie one after the other as one list of words, and a word's number is its
+-- offset in that list; the functions are numbered in the order of their definitions.
+use Rattle.std.specs.Prelude.{ℕ, suc, ◌+◌, List, [], ◌∷◌, ◌++◌, map, Option, Some, None, if◌then◌else◌, option_map}
+use Rattle.cc_syntax.specs.Tree.{Name, Object, External}
+use Rattle.cc_typing.specs.Names.{same_name}
+use Rattle.cc_typing.specs.Types.{object_words, initial_words}
+use Rattle.cc_typing.specs.Limits.{objects, object_name, function_names}
+use Rattle.cc_resolve.specs.declared.layout.Extent.{Extent}
+
+-- an object at file scope: its name, and where its words are
+pub record LaidObject : Type 0 where
+  pub name : List ℕ
+  pub extent : Extent
+
+-- the objects, of which the first begins at an offset
+abbrev pub laid_from : ℕ → List Object → List LaidObject
+laid_from at [] = []
+laid_from at (o ∷ rest) =
+    record { name = (object_name o).text; extent = record { offset = at; length = object_words o } } ∷ laid_from (at + object_words o) rest
+
+-- the words of the object of a name
+abbrev pub extent_of : List LaidObject → List ℕ → Extent
+extent_of [] x = record { offset = 0; length = 0 }
+extent_of (p ∷ rest) x = if same_name p.name x then p.extent else extent_of rest x
+
+-- the number of the object of a name, where it is one: how many objects stand before it
+abbrev pub object_number : List LaidObject → List ℕ → Option ℕ
+object_number [] x = None
+object_number (p ∷ rest) x = if same_name p.name x then Some 0 else option_map suc (object_number rest x)
+
+-- how many names stand before a name
+abbrev pub names_before : List (List ℕ) → List ℕ → ℕ
+names_before [] x = 0
+names_before (y ∷ rest) x = if same_name y x then 0 else 1 + names_before rest x
+
+-- what a unit has at file scope: its objects, and the names of its functions in the order of their definitions
+pub record Layout : Type 0 where
+  pub objects : List LaidObject
+  pub functions : List (List ℕ)
+
+-- the same of a unit
+abbrev pub layout_of : List External → Layout
+layout_of externals = record { objects = laid_from 0 (objects externals); functions = map (λ (x : Name). x.text) (function_names externals) }
+
+-- the words of some objects before the run
+abbrev pub all_words : List Object → List ℕ
+all_words [] = []
+all_words (o ∷ rest) = initial_words o ++ all_words rest

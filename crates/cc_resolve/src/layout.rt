@@ -1,0 +1,99 @@
+// Where the names of file scope lead: the objects' words, and the functions' numbers.
+
+ghost use Rattle.std.specs.Prelude.{◌≡◌, [], ◌∷◌, ◌++◌, length, OnOk};
+ghost use Rattle.cc_resolve.specs.Layout.{extent_of, names_before, object_number};
+
+use super::numbering::Numbering;
+use std::alloc::{AllocError, Global};
+use std::marker::Model;
+
+/// Where an object's words are among those of all objects: the number of the first one, and how many there are.
+#[derive(Clone, Copy)]
+pub struct Extent {
+    pub offset: usize,
+    pub length: usize,
+}
+
+const NOWHERE: Extent = Extent {
+    offset: 0,
+    length: 0,
+};
+
+/// The objects of a unit, and the functions in the order of their definitions.
+#[derive(Drop)]
+pub struct Layout<'a> {
+    objects: Numbering<'a>,
+    extents: Vec<Extent>,
+    functions: Numbering<'a>,
+}
+
+impl<'a> Model for Layout<'a> {
+    ghost use Rattle.std.specs.Prelude.{◌≡◌, length};
+    ghost use Rattle.cc_resolve.specs.Layout as layout;
+    ghost use Rattle.cc_resolve.specs.Numberings.{laid_objects};
+
+    ghost Value = { layout.Layout };
+
+    ghost view = { λ p. record { objects = laid_objects p.objects p.extents.items; functions = p.functions } };
+
+    ghost invariant = { λ p. length p.objects ≡ length p.extents.items };
+}
+
+impl<'a> Layout<'a> {
+    /// The layout of a unit without objects and functions.
+    pub(crate) fn new(alloc: Global) -> Layout<'a>
+        ensures { result ≡ record { objects = []; functions = [] } }
+    {
+        Layout {
+            objects: Numbering::new(alloc),
+            extents: Vec::new(alloc),
+            functions: Numbering::new(alloc),
+        }
+    }
+
+    /// Adds an object after the others; of two with one name the first stays.
+    pub(crate) fn add_object(&mut self, name: &'a [u8], extent: Extent) -> Result<(), AllocError>
+        ensures { OnOk result (self.new ≡ record self.old { objects = self.old.objects ++ record { name = name.now; extent = extent } ∷ [] }) }
+    {
+        self.extents.push(extent)?;
+        if self.objects.push(name).is_err() {
+            self.extents.pop();
+            return Err(AllocError);
+        }
+        Ok(())
+    }
+
+    /// Gives a function the next number.
+    pub(crate) fn add_function(&mut self, name: &'a [u8]) -> Result<(), AllocError>
+        ensures { OnOk result (self.new ≡ record self.old { functions = self.old.functions ++ name.now ∷ [] }) }
+    {
+        self.functions.push(name)
+    }
+
+    /// Where the words of an object are; of another name none, at offset 0.
+    pub(crate) fn extent(&self, name: &[u8]) -> Extent
+        ensures { result ≡ extent_of self.now.objects name.now }
+    {
+        match self.objects.find(name) {
+            Some(number) => self.extents[number],
+            None => NOWHERE,
+        }
+    }
+
+    /// The number of the object of a name, where it is one.
+    pub(crate) fn object_number(&self, name: &[u8]) -> Option<usize>
+        ensures { result ≡ object_number self.now.objects name.now }
+    {
+        self.objects.find(name)
+    }
+
+    /// The number of a function; of another name, how many functions there are.
+    pub fn function(&self, name: &[u8]) -> usize
+        ensures { result ≡ names_before self.now.functions name.now }
+    {
+        match self.functions.find(name) {
+            Some(number) => number,
+            None => self.functions.len(),
+        }
+    }
+}

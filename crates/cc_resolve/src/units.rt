@@ -1,0 +1,113 @@
+// The functions and the objects of a unit: where they are, and the names that they bring into scope.
+
+ghost use Rattle.std.specs.Prelude.{◌≡◌, ◌≤◌, [], ◌++◌, length, OnOk, IfOk};
+ghost use Rattle.cc_syntax.specs.Erase.{parameter_trees, signature_tree, external_tree, external_trees};
+ghost use Rattle.cc_syntax.specs.Tree as tree;
+ghost use Rattle.cc_typing.specs.Bindings.{file_level, file_of};
+ghost use Rattle.cc_typing.specs.internal.Counts.{objects_in};
+ghost use Rattle.cc_typing.specs.Limits.{objects};
+ghost use Rattle.cc_typing.specs.Scope.{FileScope, parameters_declared, with_function};
+ghost use Rattle.cc_resolve.specs.Environment.{parameter_names, environment_of};
+ghost use Rattle.cc_resolve.specs.Layout.{Layout, laid_from, layout_of, all_words};
+ghost use Rattle.cc_resolve.specs.internal.Laying.{offset_behind, defined_texts};
+
+use super::environment::Environment;
+use super::layout::Layout;
+use super::objects::add_objects;
+use cc_syntax::{External, Parameter, Signature};
+use cc_typing::Entity;
+use std::alloc::{AllocError, Global};
+
+// Brings the parameters of a function into scope.
+fn declare_parameters<'a>(
+    names: &mut Environment<'a>,
+    trees: &'a [Parameter],
+) -> Result<(), AllocError>
+    ensures { OnOk result (names.new ≡ record names.old {
+      visible = parameters_declared (parameter_trees trees.now) names.old.visible;
+      locals = parameter_names (parameter_trees trees.now) names.old.locals;
+    }) }
+{
+    for tree in trees {
+        names.declare_parameter(tree)?;
+    }
+    Ok(())
+}
+
+/// Brings the name of a function into file scope, where it is new.
+pub fn declare_function<'a>(
+    names: &mut Environment<'a>,
+    tree: &'a Signature,
+) -> Result<(), AllocError>
+    requires { names.old.visible.inner ≡ [] }
+    ensures { OnOk result (names.new ≡ record names.old { visible = file_level (with_function (signature_tree tree.now) (file_of names.old.visible)).bindings }) }
+{
+    names.declare_in_file(tree.name.bytes.as_slice(), Entity::Function(tree))
+}
+
+/// Enters a function's body from file scope: the function's name is in scope, and its parameters are the first locals.
+pub fn enter_function<'a>(
+    names: &mut Environment<'a>,
+    tree: &'a Signature,
+) -> Result<(), AllocError>
+    requires inner { names.old.visible.inner ≡ [] }
+    requires locals { names.old.locals ≡ [] }
+    ensures { OnOk result (names.new ≡ environment_of names.old.layout (signature_tree tree.now) (file_of names.old.visible)) }
+{
+    declare_function(names, tree)?;
+    declare_parameters(names, tree.parameters.as_slice())
+}
+
+/// Leaves a function's body: the function's name stays in file scope, and its parameters and locals go.
+pub fn leave_function(names: &mut Environment<'_>)
+    ensures { (layout : Layout) (s : tree.Signature) (f : FileScope) → names.old ≡ environment_of layout s f
+        → names.new ≡ record { visible = file_level (with_function s f).bindings; locals = []; layout = layout } }
+{
+    names.close(0);
+    names.forget_locals();
+}
+
+// Adds the objects and the function of an external declaration, where the first object begins at an offset, and answers the
+// offset after them.
+fn add_external<'a>(
+    layout: &mut Layout<'a>,
+    words: &mut Vec<u32>,
+    offset: usize,
+    tree: &'a External,
+) -> Result<usize, AllocError>
+    requires { offset ≤ length words.old.items }
+    ensures layout { OnOk result (layout.new ≡ record {
+      objects = layout.old.objects ++ laid_from offset (objects_in (external_tree tree.now));
+      functions = layout.old.functions ++ defined_texts (external_tree tree.now);
+    }) }
+    ensures words { OnOk result (words.new.items ≡ words.old.items ++ all_words (objects_in (external_tree tree.now))) }
+    ensures behind { IfOk result (λ n. n ≡ offset_behind offset (objects_in (external_tree tree.now))) }
+    ensures fits { IfOk result (λ n. n ≤ length words.new.items) }
+{
+    match tree {
+        External::Declaration(_) => Ok(offset),
+        External::Definition(signature, _) => {
+            layout.add_function(signature.name.bytes.as_slice())?;
+            Ok(offset)
+        }
+        External::Objects(_, trees) => add_objects(layout, words, offset, trees.as_slice()),
+    }
+}
+
+/// Where the names of a unit lead; the words of its objects before the run are put into an empty list.
+pub fn lay_out<'a>(
+    alloc: Global,
+    words: &mut Vec<u32>,
+    trees: &'a [External],
+) -> Result<Layout<'a>, AllocError>
+    requires { words.old.items ≡ [] }
+    ensures answer { IfOk result (λ p. p ≡ layout_of (external_trees trees.now)) }
+    ensures words { OnOk result (words.new.items ≡ all_words (objects (external_trees trees.now))) }
+{
+    let mut layout = Layout::new(alloc);
+    let mut offset = 0;
+    for tree in trees {
+        offset = add_external(&mut layout, words, offset, tree)?;
+    }
+    Ok(layout)
+}

@@ -1,9 +1,0 @@
-use Rattle.std.proofs.Common.{drop}
-use Rattle.cc_syntax.specs.Erase.{external_trees}
-use Rattle.cc_typing.specs.Resolve.{places_of, unit_functions}
-use Rattle.cc_typing.proofs.ResolvingUnits.{Resolving}
-use Rattle.cc_typing.proofs.resolver.units.resolve.Given as goal
-
-abbrev pub invariant-loop-tree : goal.invariant-loop-tree
-invariant-loop-tree l =
-    Resolving (places_of (external_trees l.trees)) (unit_functions (external_trees l.trees)) l.names l.code.items l.functions.items (external_trees (drop l.tree-index l.trees))
