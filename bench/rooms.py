@@ -148,7 +148,7 @@ class Repository:
                         owner = whole or bool(set(re.findall(r"\w+", block[1])) & handed)
                     elif line.startswith("}"):
                         owner = True
-                    begins = PUBLIC.match(line) or of_trait and re.match(r"^    fn (\w+)", line)
+                    begins = PUBLIC.match(line) or (of_trait or modules is None) and re.match(r"^\s*fn (\w+)", line)
                     if begins or re.match(r"^\s*(pub\(\w+\) )?fn ", line):
                         is_free = not line.startswith(" ")
                         is_public = begins and (whole or begins[1] in handed if is_free else owner)
