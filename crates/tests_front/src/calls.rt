@@ -100,7 +100,7 @@ fn the_tree_of_a_text(rt: HostRuntime) -> Result<(), Fail> {
     let [Statement::Return(18, Some(value))] = body.as_slice() else {
         return Err(Fail::new("the statements"));
     };
-    let Expression::Unary(UnaryOperator::Minus, operand) = value else {
+    let Expression::Unary(UnaryOperator::Minus, operand) = &**value else {
         return Err(Fail::new("the value"));
     };
     let Expression::Name(used) = &**operand else {

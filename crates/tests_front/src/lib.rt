@@ -8,6 +8,8 @@ mod calls;
 #[cfg(test)]
 mod grammar;
 #[cfg(test)]
+mod names;
+#[cfg(test)]
 mod texts;
 #[cfg(test)]
 mod tokens;

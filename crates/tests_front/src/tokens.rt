@@ -1,18 +1,37 @@
 // The tokens of a text.
 
 use super::vectors::{VECTORS_1, VECTORS_2, VECTORS_3, VECTORS_4, VECTORS_5, Vector};
-use cc_syntax::{Place, Token, tokens};
+use cc_syntax::{Place, Token, TokenKind, tokens};
 use std::alloc::Global;
 use std::process::Abort;
 use std::test::Fail;
 
-/// The tokens as text, as `tokens 1; 0 4 Keyword(Auto)`, or the fault, as `fault BadByte 1 4`.
+/// A token's kind, where a keyword or a punctuator is the one that these bytes spell.
+fn kind_shown(alloc: Global, kind: TokenKind, bytes: &[u8]) -> Result<String, Fail> {
+    match kind {
+        TokenKind::Identifier => Ok(String::from_str(alloc, "Identifier")?),
+        TokenKind::Keyword(word) if word.bytes() == bytes => {
+            Ok(String::from_str(alloc, "Keyword")?)
+        }
+        TokenKind::Punctuator(mark) if mark.bytes() == bytes => {
+            Ok(String::from_str(alloc, "Punctuator")?)
+        }
+        TokenKind::Number(scalar, word) => Ok(format!(in alloc; "Number({scalar:?}, {word})")?),
+        TokenKind::Keyword(_) | TokenKind::Punctuator(_) => {
+            Ok(String::from_str(alloc, "another")?)
+        }
+    }
+}
+
+/// The tokens as text, as `tokens 1; 0 4 Keyword`, or the fault, as `fault BadByte 1 4`.
 fn shown(alloc: Global, text: &[u8]) -> Result<String, Fail> {
     match tokens(alloc, text) {
         Ok(found) => {
             let mut line = format!(in alloc; "tokens {}", found.len())?;
             for Token { kind, from, to } in &found {
-                let one = format!(in alloc; "; {from} {to} {kind:?}")?;
+                let bytes = text.get(*from..*to).ok_or("a token's bytes")?;
+                let kind = kind_shown(alloc, *kind, bytes)?;
+                let one = format!(in alloc; "; {from} {to} {kind}")?;
                 line.push_str(one.as_str())?;
             }
             Ok(line)
