@@ -5,7 +5,7 @@ use Rattle.cc_syntax.specs.Tree.{Name, Parameter, Object, External, Declaration,
 use Rattle.cc_typing.specs.Bindings.{closed, file_level, file_of}
 use Rattle.cc_typing.specs.internal.Counts.{objects_in}
 use Rattle.cc_typing.specs.Limits.{objects, object_name, function_names}
-use Rattle.cc_typing.specs.Scope.{Binding, Visible, with_object, with_objects, parameter_declared, parameters_declared}
+use Rattle.cc_typing.specs.Scope.{Binding, with_object, with_objects, parameter_declared, parameters_declared}
 use Rattle.cc_typing.specs.Types.{object_words, initial_words}
 use Rattle.cc_typing.proofs.FileScopes.{with_objects-same, parameters_declared-outer}
 use Rattle.cc_resolve.specs.Layout.{LaidObject, Layout, laid_from, all_words}

@@ -1,5 +1,5 @@
 -- The locals' numbers depend on their names alone.
-use Rattle.std.proofs.Common.{◌∙◌, Some, None, ap}
+use Rattle.std.proofs.Common.{◌∙◌, ap}
 use Rattle.cc_resolve.specs.Environment.{Environment, number_in}
 use Rattle.cc_resolve.proofs.Numbers.{number_in-names}
 use Rattle.cc_resolve.proofs.environment.Environment.local.Goals as goal

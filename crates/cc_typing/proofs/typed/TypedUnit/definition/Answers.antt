@@ -1,5 +1,5 @@
 -- There are as many definitions as names of them.
-use Rattle.std.proofs.Common.{◌≡◌, ◌<◌, length, refl, sym, ap, ◌∙◌, arith}
+use Rattle.std.proofs.Common.{◌≡◌, ◌<◌, length, refl, ap, ◌∙◌, arith}
 use Rattle.cc_syntax.specs.Source.{source}
 use Rattle.cc_syntax.specs.Erase.{external_trees}
 use Rattle.cc_syntax.specs.declared.unit.Unit.{Unit}
