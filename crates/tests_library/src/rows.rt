@@ -98,15 +98,21 @@ fn is_added<D: Disk>(alloc: Global, library: &mut Library<D>, name: &[u8]) -> Re
     Ok(library.add(alloc, Name::new(name)?, unit).is_ok())
 }
 
+// The names that a library lists, once units were added under these.
+fn listed(alloc: Global, names: &[&[u8]]) -> Result<Vec<Name>, Fail> {
+    let mut library = opened(alloc, formatted(alloc, 256)?)?;
+    for name in names {
+        if !is_added(alloc, &mut library, name)? {
+            return Err(Fail::from("not added"));
+        }
+    }
+    Ok(library.list(alloc)?)
+}
+
 #[test]
 fn names_come_in_the_order_of_their_bytes(rt: HostRuntime) -> Result<(), Fail> {
-    let alloc = rt.alloc();
-    let mut library = opened(alloc, formatted(alloc, 256)?)?;
-    let names: [&[u8]; 4] = [b"b", b"a", b"ab", b"a_"];
-    for name in &names {
-        assert!(rt; is_added(alloc, &mut library, name)?);
-    }
-    assert!(rt; are_names(&library.list(alloc)?, &[b"a", b"a_", b"ab", b"b"]));
+    let names = listed(rt.alloc(), &[b"b", b"a", b"ab", b"a_"])?;
+    assert!(rt; are_names(&names, &[b"a", b"a_", b"ab", b"b"]));
     Ok(())
 }
 
