@@ -6,7 +6,7 @@ use std::alloc::{AllocError, AllocFailed};
 use thiserror::Error;
 
 /// Why bytes are no name.
-#[derive(Clone, Copy, Debug, PartialEq, Eq, Error)]
+#[derive(Clone, Copy, Debug, Error)]
 pub enum NameFault {
     /// 33: the bytes break the rule of names.
     #[error("BadName")]
@@ -27,7 +27,7 @@ impl NameFault {
 }
 
 /// Why a call of a library was refused.
-#[derive(Clone, Copy, Debug, PartialEq, Eq, Error)]
+#[derive(Clone, Copy, Debug, Error)]
 pub enum LibraryFault {
     /// 31: the name to be added has a unit.
     #[error("Exists")]

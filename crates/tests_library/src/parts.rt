@@ -1,5 +1,5 @@
 // Names, and the bytes of commands.
-use crate::helpers::unit;
+use crate::helpers::{name, unit};
 use cc_library::{Kind, Name, ReadFault, body_of_command, command_body, read_command};
 use std::alloc::Global;
 use std::test::Fail;
@@ -37,16 +37,23 @@ fn is_name(bytes: &[u8]) -> bool {
     }
 }
 
+// The body of Add of `a` with that source.
+fn add_body(alloc: Global) -> Result<Vec<u8>, Fail> {
+    let stored = unit(alloc, b"int main(void){}".as_slice(), 0)?;
+    Ok(command_body(alloc, Kind::Add, &name(b'a')?, Some(&stored))?)
+}
+
+// The body of the command that the bytes are.
+fn spelled_again(alloc: Global, bytes: &[u8]) -> Result<Vec<u8>, Fail> {
+    let command = read_command(alloc, bytes)?;
+    Ok(body_of_command(alloc, &command)?)
+}
+
 #[test]
 fn bodies(rt: HostRuntime) -> Result<(), Fail> {
-    let name = Name::new(b"a".as_slice())?;
-    let stored = unit(rt.alloc(), b"int main(void){}".as_slice(), 0)?;
-    let body = command_body(rt.alloc(), Kind::Add, &name, Some(&stored))?;
-    assert!(rt; body.as_slice() == ADD.as_slice());
-    let body = command_body(rt.alloc(), Kind::Withdraw, &name, None)?;
-    assert!(rt; body.as_slice() == WITHDRAW.as_slice());
-    let again = body_of_command(rt.alloc(), &read_command(rt.alloc(), ADD.as_slice())?)?;
-    assert!(rt; again.as_slice() == ADD.as_slice());
+    assert!(rt; add_body(rt.alloc())?.as_slice() == ADD.as_slice());
+    assert!(rt; spelled_again(rt.alloc(), &ADD)?.as_slice() == ADD.as_slice());
+    assert!(rt; spelled_again(rt.alloc(), &WITHDRAW)?.as_slice() == WITHDRAW.as_slice());
     Ok(())
 }
 

@@ -1,8 +1,8 @@
 // The worked rows of the library.
 use crate::helpers::{
-    Step, commands, crash_leaves, does, formatted, opened, recovers, steps_done, word_unit,
+    Held, Step, commands, does, formatted, opened, recovers, steps_done, word_unit,
 };
-use cc_disk::{FuseDisk, FuseMode, MemoryDisk};
+use cc_disk::{Disk, FuseDisk, FuseMode, MemoryDisk};
 use cc_library::{Library, Name};
 use std::alloc::Global;
 use std::test::Fail;
@@ -11,37 +11,75 @@ use std::test::Fail;
 // its body, then the closed gate.
 const OPENING: u64 = 6;
 
-// Steps on a new library with areas of 128 bytes, and their numbers. Then `a` has the unit of word 3.
-const STEPS: [Step; 4] = [
-    Step::Add(b'a', 1),
-    Step::Add(b'a', 2),
-    Step::Withdraw(b'b'),
-    Step::Replace(b'a', 3),
-];
-
-const NUMBERS: [u32; 4] = [0, 31, 32, 0];
+// Whether these steps on a new library with areas of that many bytes have these numbers, and its disk then holds these units.
+fn are_answered(
+    alloc: Global,
+    area: u32,
+    steps: &[(Step, u32)],
+    wanted: Held,
+) -> Result<bool, Fail> {
+    let mut library = opened(alloc, formatted(alloc, area)?)?;
+    for (step, number) in steps {
+        if does(alloc, &mut library, *step)? != *number {
+            return Ok(false);
+        }
+    }
+    recovers(alloc, library.into_disk(), wanted)
+}
 
 #[test]
 fn changes(rt: HostRuntime) -> Result<(), Fail> {
-    let alloc = rt.alloc();
-    let mut library = opened(alloc, formatted(alloc, 128)?)?;
-    for (step, number) in STEPS.iter().zip(&NUMBERS) {
-        assert!(rt; does(alloc, &mut library, *step)? == *number);
-    }
-    assert!(rt; recovers(alloc, library.into_disk(), (Some(3), None))?);
+    let steps = [
+        (Step::Add(b'a', 1), 0),
+        (Step::Add(b'a', 2), 31),
+        (Step::Withdraw(b'b'), 32),
+        (Step::Replace(b'a', 3), 0),
+    ];
+    assert!(rt; are_answered(rt.alloc(), 128, &steps, (Some(3), None))?);
     Ok(())
 }
 
 #[test]
-fn the_same_through_run(rt: HostRuntime) -> Result<(), Fail> {
-    let alloc = rt.alloc();
+fn a_full_area(rt: HostRuntime) -> Result<(), Fail> {
+    // Two records of 25 bytes and the closed gate leave 13 bytes: one Withdraw of 9 fits, a third unit does not.
+    let steps = [
+        (Step::Add(b'a', 1), 0),
+        (Step::Add(b'b', 2), 0),
+        (Step::Add(b'c', 3), 34),
+        (Step::Replace(b'a', 3), 34),
+        (Step::Withdraw(b'a'), 0),
+        (Step::Withdraw(b'b'), 34),
+    ];
+    assert!(rt; are_answered(rt.alloc(), 64, &steps, (None, Some(2)))?);
+    Ok(())
+}
+
+// The numbers of a run of steps on a new library, where it went to its end.
+fn run_numbers(alloc: Global, steps: &[Step]) -> Result<Vec<u32>, Fail> {
+    let edits = commands(alloc, steps)?;
     let library = opened(alloc, formatted(alloc, 128)?)?;
-    let (library, numbers) = library.run(alloc, commands(alloc, &STEPS)?);
-    assert!(rt; numbers.as_slice() == NUMBERS.as_slice());
-    let Ok(library) = library else {
-        panic!(rt; "the run stopped");
-    };
-    assert!(rt; recovers(alloc, library.into_disk(), (Some(3), None))?);
+    let (left, numbers) = library.run(alloc, edits);
+    match left {
+        Ok(library) => {
+            drop(library);
+            Ok(numbers)
+        }
+        Err(refused) => {
+            drop(refused);
+            Err(Fail::from("the run stopped"))
+        }
+    }
+}
+
+#[test]
+fn the_same_through_run(rt: HostRuntime) -> Result<(), Fail> {
+    let steps = [
+        Step::Add(b'a', 1),
+        Step::Add(b'a', 2),
+        Step::Withdraw(b'b'),
+        Step::Replace(b'a', 3),
+    ];
+    assert!(rt; run_numbers(rt.alloc(), &steps)?.as_slice() == [0, 31, 32, 0].as_slice());
     Ok(())
 }
 
@@ -54,15 +92,27 @@ fn are_names(names: &[Name], wanted: &[&[u8]]) -> bool {
             .all(|(name, bytes)| name.bytes() == *bytes)
 }
 
+// Adds a unit under that name: whether the answer is Ok.
+fn is_added<D: Disk>(alloc: Global, library: &mut Library<D>, name: &[u8]) -> Result<bool, Fail> {
+    let unit = word_unit(alloc, 0)?;
+    Ok(library.add(alloc, Name::new(name)?, unit).is_ok())
+}
+
+// The names that a library lists, once units were added under these.
+fn listed(alloc: Global, names: &[&[u8]]) -> Result<Vec<Name>, Fail> {
+    let mut library = opened(alloc, formatted(alloc, 256)?)?;
+    for name in names {
+        if !is_added(alloc, &mut library, name)? {
+            return Err(Fail::from("not added"));
+        }
+    }
+    Ok(library.list(alloc)?)
+}
+
 #[test]
 fn names_come_in_the_order_of_their_bytes(rt: HostRuntime) -> Result<(), Fail> {
-    let alloc = rt.alloc();
-    let mut library = opened(alloc, formatted(alloc, 256)?)?;
-    let names: [&[u8]; 4] = [b"b", b"a", b"ab", b"a_"];
-    for bytes in &names {
-        library.add(alloc, Name::new(bytes)?, word_unit(alloc, 0)?)?;
-    }
-    assert!(rt; are_names(&library.list(alloc)?, &[b"a", b"a_", b"ab", b"b"]));
+    let names = listed(rt.alloc(), &[b"b", b"a", b"ab", b"a_"])?;
+    assert!(rt; are_names(&names, &[b"a", b"a_", b"ab", b"b"]));
     Ok(())
 }
 
@@ -78,22 +128,26 @@ fn with_a(alloc: Global, passes: u64) -> Result<Library<FuseDisk<MemoryDisk>>, F
     )
 }
 
+// The disk after an Add of `b` whose device calls meet the fuse once so many have passed, and a crash with that choice.
+fn torn(alloc: Global, passes: u64, choice: &[u8]) -> Result<MemoryDisk, Fail> {
+    let mut library = with_a(alloc, OPENING.saturating_add(passes))?;
+    if does(alloc, &mut library, Step::Add(b'b', 2))? != 35 {
+        return Err(Fail::from("the fuse was not met"));
+    }
+    Ok(library.into_disk().into_disk().crash(alloc, choice)?)
+}
+
 #[test]
 fn the_gate_decides(rt: HostRuntime) -> Result<(), Fail> {
     let alloc = rt.alloc();
-    let mut library = with_a(alloc, OPENING + 2)?;
-    assert!(rt; does(alloc, &mut library, Step::Add(b'b', 2))? == 35);
-    let disk = library.into_disk().into_disk();
-    assert!(rt; crash_leaves(alloc, &disk, 0xa5, (Some(1), Some(2)))?);
-    assert!(rt; crash_leaves(alloc, &disk, 0, (Some(1), None))?);
+    assert!(rt; recovers(alloc, torn(alloc, 2, &[0xa5; 144])?, (Some(1), Some(2)))?);
+    assert!(rt; recovers(alloc, torn(alloc, 2, &[0; 144])?, (Some(1), None))?);
     Ok(())
 }
 
 #[test]
 fn a_torn_body_counts_for_nothing(rt: HostRuntime) -> Result<(), Fail> {
     let alloc = rt.alloc();
-    let mut library = with_a(alloc, OPENING)?;
-    assert!(rt; does(alloc, &mut library, Step::Add(b'b', 2))? == 35);
     // The record of `a` ends with byte 40, the gate of the next is byte 41. After it the crash leaves a whole record, Withdraw
     // of `a`, and an open gate.
     let mut choice = [0xa5u8; 144];
@@ -102,26 +156,6 @@ fn a_torn_body_counts_for_nothing(rt: HostRuntime) -> Result<(), Fail> {
             choice[42 + i] = *byte;
         }
     }
-    let disk = library.into_disk().into_disk().crash(alloc, &choice)?;
-    assert!(rt; recovers(alloc, disk, (Some(1), None))?);
-    Ok(())
-}
-
-#[test]
-fn a_full_area(rt: HostRuntime) -> Result<(), Fail> {
-    let alloc = rt.alloc();
-    let mut library = opened(alloc, formatted(alloc, 64)?)?;
-    // Two records of 25 bytes and the closed gate leave 13 bytes: one Withdraw of 9 fits, a third unit does not.
-    for (step, number) in [
-        (Step::Add(b'a', 1), 0),
-        (Step::Add(b'b', 2), 0),
-        (Step::Add(b'c', 3), 34),
-        (Step::Replace(b'a', 3), 34),
-        (Step::Withdraw(b'a'), 0),
-        (Step::Withdraw(b'b'), 34),
-    ] {
-        assert!(rt; does(alloc, &mut library, step)? == number);
-    }
-    assert!(rt; recovers(alloc, library.into_disk(), (None, Some(2)))?);
+    assert!(rt; recovers(alloc, torn(alloc, 0, &choice)?, (Some(1), None))?);
     Ok(())
 }

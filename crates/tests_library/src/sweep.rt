@@ -1,7 +1,5 @@
 // Every point of failure of add, add, replace, withdraw, in each mode, and a crash after it; and the same through `run`.
-use crate::helpers::{
-    Held, Step, commands, crash_leaves, formatted, holds, opened, recovers, steps_done,
-};
+use crate::helpers::{Held, Step, commands, crash_leaves, formatted, opened, refusal, steps_done};
 use cc_disk::{FuseDisk, FuseMode, MemoryDisk};
 use cc_library::Library;
 use std::alloc::Global;
@@ -70,57 +68,59 @@ fn every_failure_and_a_crash(rt: HostRuntime) -> Result<(), Fail> {
     Ok(())
 }
 
-// Whether a run over a fuse that is met once goes on to its end, with one 35 where it was met.
-fn goes_on(alloc: Global, passes: u64) -> Result<bool, Fail> {
-    let library = opened(alloc, fused(alloc, passes, FuseMode::Once)?)?;
-    let (library, numbers) = library.run(alloc, commands(alloc, &STEPS)?);
+// What a run of the steps over a fuse left: its disk, the fault with which it stopped (0: none), how many numbers it gave,
+// and how many of these are 35.
+#[derive(Drop)]
+struct Ran {
+    disk: MemoryDisk,
+    stopped: u32,
+    count: usize,
+    failed: usize,
+}
+
+fn run_over(alloc: Global, passes: u64, mode: FuseMode) -> Result<Ran, Fail> {
+    let edits = commands(alloc, &STEPS)?;
+    let library = opened(alloc, fused(alloc, passes, mode)?)?;
+    let (left, numbers) = library.run(alloc, edits);
+    let count = numbers.len();
     let failed = numbers.iter().filter(|number| **number == 35).count();
-    match library {
-        Ok(library) => {
-            let names = library.list(alloc)?.len();
-            let again = opened(alloc, library.into_disk().into_disk())?;
-            Ok(
-                numbers.len() == 4
-                    && failed == usize::from(passes < CALLS)
-                    && again.list(alloc)?.len() == names,
-            )
-        }
-        Err(_) => Ok(false),
-    }
+    drop(numbers);
+    let (disk, stopped) = match left {
+        Ok(library) => (library.into_disk().into_disk(), 0),
+        Err((fault, disk)) => (disk.into_disk(), fault.number()),
+    };
+    Ok(Ran {
+        disk,
+        stopped,
+        count,
+        failed,
+    })
 }
 
 #[test]
 fn a_run_goes_on_after_one_failure(rt: HostRuntime) -> Result<(), Fail> {
     for passes in 3..CALLS + 1 {
-        assert!(rt; goes_on(rt.alloc(), passes)?, "{passes} calls");
+        let ran = run_over(rt.alloc(), passes, FuseMode::Once)?;
+        let right = ran.stopped == 0 && ran.count == 4 && ran.failed == usize::from(passes < CALLS);
+        assert!(rt;
+            right && refusal(rt.alloc(), ran.disk) == 0,
+            "{passes} calls"
+        );
     }
     Ok(())
-}
-
-// Whether a run over a fuse that fails for good stops with 35 at the step that met it.
-fn stops(alloc: Global, passes: u64) -> Result<bool, Fail> {
-    let library = opened(alloc, fused(alloc, passes, FuseMode::Before)?)?;
-    let (stopped, numbers) = library.run(alloc, commands(alloc, &STEPS)?);
-    let done = numbers.len().saturating_sub(1);
-    match stopped {
-        Ok(_) => Ok(false),
-        Err((fault, disk)) => {
-            let library = opened(alloc, disk.into_disk())?;
-            Ok(
-                fault.number() == 35
-                    && numbers.last().copied() == Some(35)
-                    && done as u64 == (passes - 3) / 4
-                    && (holds(alloc, &library, map_after(done))?
-                        || holds(alloc, &library, map_after(done.saturating_add(1)))?),
-            )
-        }
-    }
 }
 
 #[test]
 fn a_run_stops_where_its_disk_is_not_opened_again(rt: HostRuntime) -> Result<(), Fail> {
     for passes in 3..CALLS {
-        assert!(rt; stops(rt.alloc(), passes)?, "{passes} calls");
+        let ran = run_over(rt.alloc(), passes, FuseMode::Before)?;
+        // The last number is that of the step that met the fuse.
+        let done = ran.count.saturating_sub(1);
+        let right = ran.stopped == 35 && ran.failed == 1 && done as u64 == (passes - 3) / 4;
+        assert!(rt;
+            right && is_right(rt.alloc(), &ran.disk, done)?,
+            "{passes} calls"
+        );
     }
     Ok(())
 }
