@@ -1,4 +1,4 @@
--- In reading order. The state is `Contents` in src/contents.rt, what may happen `Event` in src/event.rt.
+-- In reading order. The state is `Contents`, over `Core`, in src/contents.rt; what may happen is `Event` in src/event.rt.
 -- what contracts see of the core's disk
 pub mod StoreState
 -- what a build does, apart from any code
