@@ -30,7 +30,7 @@ impl Code {
     /// The code of these words, or the words back where they are none or more than 131,072. Takes no memory.
     pub fn new(words: Vec<u32>) -> Result<Self, Vec<u32>>
         ensures fits { IsOk result ↔ ((1 ≤ length words.items) × (length words.items ≤ 131072)) }
-        ensures kept { MatchResult result (λ code. code ≡ words.items) (λ back. back ≡ words) }
+        ensures hands_back { MatchResult result (λ code. code ≡ words.items) (λ back. back ≡ words) }
     {
         if words.is_empty() || words.len() > MOST_CODE {
             return Err(words);
@@ -75,7 +75,7 @@ impl Globals {
     /// The globals of these words, or the words back where they are more than 65,536. Takes no memory.
     pub fn new(words: Vec<u32>) -> Result<Self, Vec<u32>>
         ensures fits { IsOk result ↔ (length words.items ≤ 65536) }
-        ensures kept { MatchResult result (λ globals. globals ≡ words.items) (λ back. back ≡ words) }
+        ensures hands_back { MatchResult result (λ globals. globals ≡ words.items) (λ back. back ≡ words) }
     {
         if words.len() > MOST_GLOBALS {
             return Err(words);
