@@ -1,10 +1,9 @@
 // What `check` refuses, and where. Of several faults the first in the text is answered.
 
-use super::checks;
-use std::test::Fail;
+use super::helpers::checks;
 
 // Texts, and the line that `check` writes for each.
-const TEXTS: [(&str, &str); 28] = [
+static TEXTS: [(&str, &str); 28] = [
     // spelling
     ("", "fault 5 Unexpected at 1:1\n"),
     (
@@ -89,9 +88,8 @@ const TEXTS: [(&str, &str); 28] = [
 ];
 
 #[test]
-fn texts(rt: HostRuntime) -> Result<(), Fail> {
-    for (text, line) in TEXTS {
-        checks(&rt, text, line)?;
+fn texts(rt: HostRuntime) {
+    for (text, line) in TEXTS.iter() {
+        assert!(rt; checks(&rt, text.as_bytes(), line), "for {text}");
     }
-    Ok(())
 }

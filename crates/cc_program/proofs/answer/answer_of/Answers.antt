@@ -3,10 +3,10 @@ use Rattle.std.proofs.Common.{◌≡◌, ℕ, List, refl, sym, subst}
 use Rattle.cc_syntax.specs.Source.{source}
 use Rattle.cc_meaning.specs.Meaning.{source_behavior}
 use Rattle.cc_meaning.specs.Erase.{outcome_tree}
-use Rattle.cclib.specs.Answer.{IsAnswer}
-use Rattle.cclib.specs.declared.command_line.Task.{Task}
-use Rattle.cclib.specs.declared.perform.Answer.TheVariants.{Accepted, Ran}
-use Rattle.cclib.proofs.perform.answer_of.Goals as goal
+use Rattle.cc_program.specs.Answer.{IsAnswer}
+use Rattle.cc_program.specs.declared.command_line.Task.{Task}
+use Rattle.cc_program.specs.declared.answer.Answer.TheVariants.{Accepted, Ran}
+use Rattle.cc_program.proofs.answer.answer_of.Goals as goal
 
 pub returns-in-Check-clause-answer : goal.returns-in-Check-clause-answer
 returns-in-Check-clause-answer c = record {

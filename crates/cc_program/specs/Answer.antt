@@ -7,12 +7,12 @@ use Rattle.cc_typing.specs.declared.fault.TypeFault.{TypeFault}
 use Rattle.cc_typing.specs.declared.fault.TypeFault.TheVariants as type_fault
 use Rattle.cc_meaning.specs.Meaning.{source_behavior}
 use Rattle.cc_meaning.specs.Erase.{outcome_tree}
-use Rattle.cclib.specs.declared.command_line.Task.{Task}
-use Rattle.cclib.specs.declared.command_line.Task.TheVariants.{Check, Interpret}
-use Rattle.cclib.specs.declared.perform.Answer.{Answer}
-use Rattle.cclib.specs.declared.perform.Answer.TheVariants.{Accepted, Ran}
-use Rattle.cclib.specs.declared.fault.Fault.{Fault}
-use Rattle.cclib.specs.declared.fault.Fault.TheVariants.{Syntax, Typing, Meaning, OutOfMemory, Read, Write}
+use Rattle.cc_program.specs.declared.command_line.Task.{Task}
+use Rattle.cc_program.specs.declared.command_line.Task.TheVariants.{Check, Interpret}
+use Rattle.cc_program.specs.declared.answer.Answer.{Answer}
+use Rattle.cc_program.specs.declared.answer.Answer.TheVariants.{Accepted, Ran}
+use Rattle.cc_program.specs.declared.fault.Fault.{Fault}
+use Rattle.cc_program.specs.declared.fault.Fault.TheVariants.{Syntax, Typing, Meaning, OutOfMemory, Read, Write}
 
 -- the text spells the tree, which breaks no rule, defines main and passes no limit
 pub record IsProgram (s : Source) : Type 0 where

@@ -1,7 +1,7 @@
 // Every refusal of the program, with its line.
 
 ghost use Rattle.std.specs.Prelude.{◌≡◌};
-ghost use Rattle.cclib.specs.Fault.{fault_number, fault_place};
+ghost use Rattle.cc_program.specs.Fault.{fault_number, fault_place};
 
 use cc_meaning::MeaningFault;
 use cc_syntax::{Place, SyntaxFault};

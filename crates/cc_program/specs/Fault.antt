@@ -3,8 +3,8 @@ use Rattle.std.specs.Prelude.{ℕ, Option, None}
 use Rattle.cc_tokens.specs.declared.place.Place.{Place}
 use Rattle.cc_tokens.specs.Fault as tokens
 use Rattle.cc_typing.specs.Fault as typing
-use Rattle.cclib.specs.declared.fault.Fault.{Fault}
-use Rattle.cclib.specs.declared.fault.Fault.TheVariants.{Syntax, Typing, Meaning, OutOfMemory, Read, Write}
+use Rattle.cc_program.specs.declared.fault.Fault.{Fault}
+use Rattle.cc_program.specs.declared.fault.Fault.TheVariants.{Syntax, Typing, Meaning, OutOfMemory, Read, Write}
 
 -- the number that a fault is known by
 abbrev pub fault_number : Fault → ℕ

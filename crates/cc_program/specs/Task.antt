@@ -1,7 +1,7 @@
 -- What a task may be.
 use Rattle.std.specs.Prelude.{◌≤◌}
-use Rattle.cclib.specs.declared.command_line.Task.{Task}
-use Rattle.cclib.specs.declared.command_line.Task.TheVariants.{Check, Interpret}
+use Rattle.cc_program.specs.declared.command_line.Task.{Task}
+use Rattle.cc_program.specs.declared.command_line.Task.TheVariants.{Check, Interpret}
 
 -- a run takes at most 1,000,000,000 steps
 abbrev pub IsWithinLimits : Task → Type 0

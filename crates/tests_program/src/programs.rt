@@ -1,12 +1,11 @@
 // Small programs, what they write and how they end.
 
-use super::{checks, expect, interprets};
-use crate::command_line::Task;
-use std::alloc::Global;
-use std::test::Fail;
+use super::helpers::{checks, interprets, writes};
+use cc_program::{Task, perform};
+use std::alloc::{AllocError, Global};
 
 // Small programs, the steps of each run, what it writes on no input and how it ends.
-const PROGRAMS: [(&str, u64, &str); 28] = [
+static PROGRAMS: [(&str, u64, &str); 28] = [
     // the empty main
     ("int main(void){}", 1, "ended 0\n"),
     ("int main(void){}", 0, "going\n"),
@@ -140,60 +139,83 @@ const PROGRAMS: [(&str, u64, &str); 28] = [
 ];
 
 #[test]
-fn programs(rt: HostRuntime) -> Result<(), Fail> {
-    for (text, steps, lines) in PROGRAMS {
-        interprets(&rt, text, steps, lines)?;
+fn programs(rt: HostRuntime) {
+    for (text, steps, lines) in PROGRAMS.iter() {
+        assert!(rt;
+            interprets(&rt, text.as_bytes(), *steps, lines),
+            "for {text}"
+        );
     }
-    Ok(())
+}
+
+// Whether a text writes these lines on these input words, within ten steps.
+fn answers<H: AllocGlobal>(rt: &H, text: &[u8], words: &[u32], lines: &[u8]) -> bool {
+    match Vec::from_slice(rt.alloc(), words) {
+        Ok(words) => writes(rt, Task::Interpret(10, words), text, lines, 0),
+        Err(_) => false,
+    }
 }
 
 #[test]
-fn a_word_of_the_input(rt: HostRuntime) -> Result<(), Fail> {
-    let text = "int main(void){write_word(read_word());write_word(read_word());return 3;}";
-    let task = Task::Interpret(10, vec![in rt.alloc(); 4294967295u32; 1]?);
-    expect(&rt, task, text, "-1\n0\nended 3\n", 0)
+fn a_word_of_the_input(rt: HostRuntime) {
+    let text = b"int main(void){write_word(read_word());write_word(read_word());return 3;}";
+    assert!(rt; answers(&rt, text, &[4294967295], b"-1\n0\nended 3\n"));
+}
+
+// A part of a text, with a number.
+fn push_numbered(text: &mut String, alloc: Global, i: u32, is_sum: bool) -> Result<(), AllocError> {
+    let part = if is_sum {
+        format!(in alloc; "+v{i}")?
+    } else {
+        format!(in alloc; "int v{i}=read_word();")?
+    };
+    text.push_str(&part)
 }
 
 // A function with 24 locals that are read one behind the other.
-fn many_locals(alloc: Global) -> Result<String, Fail> {
-    let mut text = String::new(alloc);
-    text.push_str("int f(int x){return x;}int main(void){")?;
+fn many_locals(alloc: Global) -> Result<String, AllocError> {
+    let mut text = String::from_str(alloc, "int f(int x){return x;}int main(void){")?;
     for i in 1..25u32 {
-        text.push_str(&format!(in alloc; "int v{i}=read_word();")?)?;
+        push_numbered(&mut text, alloc, i, false)?;
     }
-    text.push_str("write_word(f(0));write_word(v1")?;
-    for i in 2..25u32 {
-        text.push_str(&format!(in alloc; "+v{i}")?)?;
+    text.push_str("write_word(f(0));write_word(0")?;
+    for i in 1..25u32 {
+        push_numbered(&mut text, alloc, i, true)?;
     }
     text.push_str(");}")?;
     Ok(text)
 }
 
-#[test]
-fn many_words_of_the_input(rt: HostRuntime) -> Result<(), Fail> {
-    let text = many_locals(rt.alloc())?;
-    let mut words = Vec::new(rt.alloc());
-    for word in 1..25u32 {
-        words.push(word)?;
-    }
-    expect(
-        &rt,
-        Task::Interpret(9, words),
-        &text,
-        "0\n300\nended 0\n",
-        0,
-    )
+static INPUT: [u32; 24] = [
+    1, 2, 3, 4, 5, 6, 7, 8, 9, 10, 11, 12, 13, 14, 15, 16, 17, 18, 19, 20, 21, 22, 23, 24,
+];
+
+// Whether a text writes a fault's line with the status 1.
+fn has_fault<H: AllocGlobal>(rt: &H, text: &[u8]) -> bool {
+    let mut reader = text;
+    let mut written = Vec::new(rt.alloc());
+    let status = perform(rt, Task::Check, &mut reader, &mut written);
+    status == 1 && written.as_slice().starts_with(b"fault ".as_slice())
 }
 
 // A text that ends anywhere is a program or has one fault line.
-#[test]
-fn every_prefix(rt: HostRuntime) -> Result<(), Fail> {
-    let text = many_locals(rt.alloc())?;
-    let bytes = text.as_bytes();
-    for end in 0..bytes.len() {
-        let (status, written) = super::run(&rt, Task::Check, &bytes[..end])?;
-        let is_fault = written.as_slice().starts_with(b"fault ".as_slice());
-        assert!(rt; status == 1 && is_fault, "at {end}");
+fn prefixes_have_faults<H: AllocGlobal>(rt: &H, text: &[u8]) -> bool {
+    for end in 0..text.len() {
+        if !has_fault(rt, &text[..end]) {
+            return false;
+        }
     }
-    checks(&rt, &text, "ok\n")
+    true
+}
+
+#[test]
+fn many_words_of_the_input_and_every_prefix(rt: HostRuntime) {
+    let Ok(text) = many_locals(rt.alloc()) else {
+        panic!(rt; "memory");
+    };
+    let written = answers(&rt, text.as_bytes(), &INPUT, b"0\n300\nended 0\n");
+    let checked = checks(&rt, text.as_bytes(), "ok\n");
+    let faulty = prefixes_have_faults(&rt, text.as_bytes());
+    drop(text);
+    assert!(rt; written && checked && faulty);
 }

@@ -4,7 +4,7 @@ use Rattle.cc_syntax.specs.declared.unit.Unit.{Unit}
 use Rattle.cc_syntax.specs.Source.{source}
 use Rattle.cc_syntax.specs.Parse.{SpellsText}
 use Rattle.cc_typing.specs.Typed.{IsTyped, IsWithinLimits}
-use Rattle.cclib.specs.Answer.{IsProgram}
+use Rattle.cc_program.specs.Answer.{IsProgram}
 
 -- the unit's own text spells its tree
 pub spelled_by : (text : List ℕ) (u : Unit) → (source u).text ≡ text → SpellsText text (source u).externals

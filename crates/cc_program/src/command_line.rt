@@ -1,7 +1,7 @@
 // The command line.
 
 ghost use Rattle.std.specs.Prelude.{◌≤◌, IfOk};
-ghost use Rattle.cclib.specs.Task.{IsWithinLimits};
+ghost use Rattle.cc_program.specs.Task.{IsWithinLimits};
 
 use clap::error::ErrorKind;
 use clap::{Arg, ArgMatches, Command, Error, value_parser};
@@ -12,7 +12,7 @@ use std::convert::AsStr;
 pub const MOST_STEPS: u64 = 1_000_000_000;
 
 /// What the program is asked to do with the text on standard input.
-#[derive(Drop, PartialEq, Eq, Debug)]
+#[derive(Drop)]
 pub enum Task {
     /// Say whether the text is a program of the profile.
     Check,
@@ -20,25 +20,39 @@ pub enum Task {
     Interpret(u64, Vec<u32>),
 }
 
-fn command<'a>(alloc: Global) -> Result<Command<'a>, AllocError> {
-    let check = Command::new(alloc, "check").about("Say `ok`, or the first fault of the program");
+fn interpret_command<'a>(alloc: Global) -> Result<Command<'a>, AllocError> {
     let steps = Arg::new(alloc, "STEPS")
         .required(true)
         .help("The most steps that a run may take: 0 to 1000000000")
         .value_parser(value_parser!(u64).range(0..1_000_000_001));
+    let interpret = Command::new(alloc, "interpret")
+        .about("Print the words that the program writes, and how it ends")
+        .arg(steps)?;
     let words = Arg::new(alloc, "WORD")
         .num_args(0..)
         .help("The input words: 0 to 4294967295 each")
         .value_parser(value_parser!(u32));
-    let interpret = Command::new(alloc, "interpret")
-        .about("Print the words that the program writes, and how it ends")
-        .arg(steps)?
-        .arg(words)?;
+    interpret.arg(words)
+}
+
+// The command with `check` alone.
+fn check_command<'a>(alloc: Global) -> Result<Command<'a>, AllocError> {
+    let check = Command::new(alloc, "check").about("Say `ok`, or the first fault of the program");
     Command::new(alloc, "cclib")
         .about("Reads a C program from standard input")
         .subcommand_required(true)
-        .subcommand(check)?
-        .subcommand(interpret)
+        .subcommand(check)
+}
+
+fn command<'a>(alloc: Global) -> Result<Command<'a>, AllocError> {
+    let whole = check_command(alloc)?;
+    match interpret_command(alloc) {
+        Ok(interpret) => whole.subcommand(interpret),
+        Err(error) => {
+            drop(whole);
+            Err(error)
+        }
+    }
 }
 
 // The error of clap for a word that breaks this rule.
@@ -68,18 +82,38 @@ fn word_in(text: &str) -> Option<u32> {
     text.parse().ok()
 }
 
-fn words_of(alloc: Global, given: &ArgMatches<'_>) -> Result<Vec<u32>, Error> {
+// The input words that the texts stand for, or none where one of them stands for no word.
+fn words_in(alloc: Global, texts: &[&str]) -> Result<Option<Vec<u32>>, AllocError> {
     let mut words = Vec::new(alloc);
-    let Some(texts) = given.get_strs("WORD") else {
-        return Ok(words);
-    };
     for text in texts {
         let Some(word) = word_in(text) else {
-            return Err(refused(alloc, "WORD is a decimal number from 0 to 4294967295")?);
+            return Ok(None);
         };
-        words.push(word).map_err(|_| AllocError)?;
+        words.push(word)?;
     }
-    Ok(words)
+    Ok(Some(words))
+}
+
+fn words_of(alloc: Global, given: &ArgMatches<'_>) -> Result<Vec<u32>, Error> {
+    let Some(texts) = given.get_strs("WORD") else {
+        return Ok(Vec::new(alloc));
+    };
+    match words_in(alloc, texts)? {
+        Some(words) => Ok(words),
+        None => Err(refused(alloc, "WORD is a decimal number from 0 to 4294967295")?),
+    }
+}
+
+fn task_of(alloc: Global, matches: &ArgMatches<'_>) -> Result<Task, Error>
+    ensures { IfOk result IsWithinLimits }
+{
+    match matches.subcommand() {
+        Some(("interpret", given)) => {
+            let steps = steps_of(alloc, given)?;
+            Ok(Task::Interpret(steps, words_of(alloc, given)?))
+        }
+        _ => Ok(Task::Check),
+    }
 }
 
 /// Reads the command line, whose first word is the program's name.
@@ -89,11 +123,7 @@ pub fn line<'a, S: AsStr>(alloc: Global, words: &'a [S]) -> Result<Task, Error>
     ensures { IfOk result IsWithinLimits }
 {
     let matches = command(alloc)?.try_get_matches_from(words)?;
-    match matches.subcommand() {
-        Some(("interpret", given)) => Ok(Task::Interpret(
-            steps_of(alloc, given)?,
-            words_of(alloc, given)?,
-        )),
-        _ => Ok(Task::Check),
-    }
+    let task = task_of(alloc, &matches);
+    drop(matches);
+    task
 }
