@@ -111,3 +111,46 @@ pub fn lay_out<'a>(
     }
     Ok(layout)
 }
+
+// Brings the names of an external declaration into file scope.
+fn declare_external<'a>(
+    names: &mut Environment<'a>,
+    tree: &'a External,
+) -> Result<(), AllocError>
+    requires { names.old.visible.inner ≡ [] }
+    ensures { OnOk result (names.new ≡ record names.old { visible = file_level (file_scope_behind (external_tree tree.now) (file_of names.old.visible)).bindings }) }
+{
+    match tree {
+        External::Declaration(signature) | External::Definition(signature, _) => {
+            declare_function(names, signature)
+        }
+        External::Objects(scalar, trees) => declare_objects(names, *scalar, trees.as_slice()),
+    }
+}
+
+/// The environment in which the body of the function with a number begins. Functions are numbered from 0 in the order of their
+/// definitions.
+pub fn function_environment(
+    alloc: Global,
+    unit: &TypedUnit,
+    function: usize,
+) -> Result<Environment<'_>, AllocError>
+    requires { function < length (defined_names (source unit.now)) }
+    ensures { IfOk result (λ v. slice_get (environments (source unit.now).externals) function ≡ Some v) }
+{
+    let mut words = Vec::new(alloc);
+    let layout = lay_out(alloc, &mut words, unit.externals())?;
+    let mut names = Environment::new(alloc, layout)?;
+    let mut left = function;
+    for tree in unit.externals() {
+        if let External::Definition(signature, _) = tree {
+            if left == 0 {
+                enter_function(&mut names, signature)?;
+                return Ok(names);
+            }
+            left -= 1;
+        }
+        declare_external(&mut names, tree)?;
+    }
+    unreachable!()
+}
