@@ -1,12 +1,10 @@
 -- A call in the tree is the effect of the function that its name leads to, whatever the number that bounds the recursion, and with
 -- more steps it only goes on.
-use Rattle.std.proofs.Common.{◌≡◌, ℕ, zero, suc, ◌+◌, ◌<◌, Bool, true, false, if◌then◌else◌, List, [], ◌∷◌, ◌++◌, length, map, nat_lt, Option, Some, None, slice_get, unwrap_or, option_map, codes, refl, sym, ap, ◌∙◌, subst, arith, append-nil, length-append}
+use Rattle.std.proofs.Common.{◌≡◌, ℕ, zero, suc, ◌+◌, ◌<◌, Bool, true, false, if◌then◌else◌, List, [], ◌∷◌, ◌++◌, length, nat_lt, Option, Some, None, slice_get, codes, refl, sym, ap, ◌∙◌, subst, arith, append-nil, length-append}
 use Rattle.std.proofs.lemmas.List.{nil_from_length}
-use Rattle.std.specs.Cmp.Lexicographic.{same_text}
 use Rattle.cc_syntax.specs.Tree.{External}
 use Rattle.cc_typing.specs.Names.{same_name}
 use Rattle.cc_resolve.specs.Layout.{names_before, layout_of, callee}
-use Rattle.cc_resolve.specs.declared.layout.Callee.{Callee}
 use Rattle.cc_resolve.specs.declared.layout.Callee.TheVariants.{WriteWord, ReadWord, Defined}
 use Rattle.cc_meaning.specs.declared.outcome.Cause.{Cause}
 use Rattle.cc_meaning.specs.declared.outcome.Cause.TheVariants.{Depth}
@@ -17,7 +15,9 @@ use Rattle.cc_meaning.specs.Calls.{shared_of, after_call, called, CallsAreEffect
 use Rattle.cc_meaning.proofs.Lasting.{at, written, Lasts, Under}
 use Rattle.cc_meaning.proofs.Steps.{begun, body_part, calls_steady, run_optional_steady}
 use Rattle.cc_meaning.proofs.Exact.{exact_call, exact_body}
-use Rattle.cc_meaning.proofs.Numbers.{function_names_are, named_number}
+use Rattle.cc_meaning.proofs.Named.{same_name_symm}
+use Rattle.cc_meaning.proofs.Held.{get_below}
+use Rattle.cc_meaning.proofs.Numbers.{as_many_arities, name_of_number}
 
 -- ---- a larger bound changes nothing
 
@@ -115,3 +115,48 @@ later_of n extra (Going output) go h =
     let b = h extra (suc (n + extra)) (omega arith) in (b.0, b.1 ∙ written_effect (go (suc (n + extra)) (n + extra)))
 later_of n extra (Wrong cause output) go h = ap effect_of (h extra (suc (n + extra)) (omega arith))
 
+pub calls_go_on : CallsGoOn
+calls_go_on unit opened f ws = record {
+  grows = λ n h.
+      subst (λ o. Begins h.output o) (written_effect (calls (suc n) (functions unit) opened (name_of_function unit f) ws (state_within n h)))
+      ((calls_steady (functions unit) opened (name_of_function unit f) ws).grows (suc n) (state_within n h));
+  later = λ n extra h.
+      later_of n extra (calls (suc n) (functions unit) opened (name_of_function unit f) ws (state_within n h)) (λ m j. calls m (functions unit) opened (name_of_function unit f) ws (state_within j h))
+      ((calls_steady (functions unit) opened (name_of_function unit f) ws).lasts (suc n) (state_within n h) (omega arith));
+  exact = λ h. exact_call unit opened f ws h;
+}
+
+pub bodies_go_on : BodiesGoOn
+bodies_go_on unit opened f ws = record {
+  grows = λ n h.
+      subst (λ o. Begins h.output o) (written_effect (run_optional (slice_get (functions unit) f) (suc n) (calls (suc n) (functions unit) (opened + 1)) ws (state_within n h)))
+      ((run_optional_steady (λ m. calls m (functions unit) (opened + 1)) (calls_steady (functions unit) (opened + 1)) (slice_get (functions unit) f) ws).grows (suc n) (state_within n h));
+  later = λ n extra h.
+      later_of n extra (run_optional (slice_get (functions unit) f) (suc n) (calls (suc n) (functions unit) (opened + 1)) ws (state_within n h))
+      (λ m j. run_optional (slice_get (functions unit) f) m (calls m (functions unit) (opened + 1)) ws (state_within j h))
+      ((run_optional_steady (λ m. calls m (functions unit) (opened + 1)) (calls_steady (functions unit) (opened + 1)) (slice_get (functions unit) f) ws).lasts (suc n) (state_within n h) (omega arith));
+  exact = λ h. exact_body unit opened f ws h;
+}
+
+-- ---- by what a name leads to
+
+called_by : (unit : List External) (m opened count : ℕ) (x ws : List ℕ) (s : State) (b c : Bool) → same_name (codes "write_word") x ≡ b → same_name (codes "read_word") x ≡ c
+    → IsCalled (arities unit) (if b then WriteWord else (if c then ReadWord else Defined (names_before (layout_of unit).functions x))) count → s.steps < suc m
+    → calls (suc m) (functions unit) opened x ws s ≡ called unit opened (if b then WriteWord else (if c then ReadWord else Defined (names_before (layout_of unit).functions x))) ws s
+called_by unit m opened count x ws s true c p q h lt =
+    ap (λ b. begun b (same_name x (codes "read_word")) (nat_lt opened most_open) (body_part (functions unit) opened x ws) ws m s) (same_name_symm x (codes "write_word") ∙ p)
+called_by unit m opened count x ws s false true p q h lt =
+    ap (λ b. begun b (same_name x (codes "read_word")) (nat_lt opened most_open) (body_part (functions unit) opened x ws) ws m s) (same_name_symm x (codes "write_word") ∙ p)
+    ∙ ap (λ b. begun false b (nat_lt opened most_open) (body_part (functions unit) opened x ws) ws m s) (same_name_symm x (codes "read_word") ∙ q)
+called_by unit m opened count x ws s false false p q h lt =
+    let k : ℕ = names_before (layout_of unit).functions x in
+    let below : k < length (functions unit) = omega (arith, get_below (arities unit) k count h, as_many_arities unit) in
+    ap (λ y. calls (suc m) (functions unit) opened y ws s) (sym (name_of_number unit x below)) ∙ call_is_effect unit (suc m) opened k ws s lt
+
+called_within : (unit : List External) (n opened count : ℕ) (x ws : List ℕ) (s : State) → IsCalled (arities unit) (callee (layout_of unit) x) count → s.steps < n
+    → calls n (functions unit) opened x ws s ≡ called unit opened (callee (layout_of unit) x) ws s
+called_within unit zero opened count x ws s h lt = absurd (omega arith)
+called_within unit (suc m) opened count x ws s h lt = called_by unit m opened count x ws s (same_name (codes "write_word") x) (same_name (codes "read_word") x) refl refl h lt
+
+pub calls_are_effects : CallsAreEffects
+calls_are_effects = called_within

@@ -24,8 +24,12 @@ abbrev pub IsObject : Environment → List ℕ → Type 0
 IsObject v x = (number : ℕ) × (object_number v.layout.objects x ≡ Some number)
 
 -- a variable is a local in scope, or else an object of one word
+abbrev pub IsPlaced : Option ℕ → Environment → List ℕ → Type 0
+IsPlaced None v x = IsObject v x × ((extent_of v.layout.objects x).length ≡ 1)
+IsPlaced (Some number) v x = Unit {0}
+
 abbrev pub IsVariable : Environment → List ℕ → Type 0
-IsVariable v x = elim (number_in v.locals x) [ None ↦ IsObject v x × ((extent_of v.layout.objects x).length ≡ 1) | Some i ↦ Unit {0} ]
+IsVariable v x = IsPlaced (number_in v.locals x) v x
 
 -- so many arguments are those of a builtin, or of a function of the unit, where the functions have so many parameters
 abbrev pub IsCalled : (arities : List ℕ) → Callee → (count : ℕ) → Type 0
