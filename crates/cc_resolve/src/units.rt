@@ -161,7 +161,7 @@ pub fn function_environment(
     match enter_definition(&mut names, trees, function) {
         Ok(()) => Ok(names),
         Err(error) => {
-            drop(names);
+            names.release();
             Err(error)
         }
     }
