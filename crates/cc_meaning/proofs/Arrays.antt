@@ -1,9 +1,9 @@
 -- The name of an array in a unit is that of an object.
-use Rattle.std.proofs.Common.{◌≡◌, ℕ, suc, ◌+◌, Bool, true, false, true≢false, ◌||◌, if◌then◌else◌, List, [], ◌∷◌, ◌++◌, ◌⊎◌, inl, inr, Option, Some, None, option_map, refl, sym, ap, ◌∙◌}
+use Rattle.std.proofs.Common.{◌≡◌, ℕ, suc, ◌+◌, Bool, true, false, true≢false, ◌||◌, if◌then◌else◌, List, [], ◌∷◌, ◌++◌, ◌⊎◌, inl, inr, Some, option_map, refl, sym, ap, ◌∙◌}
 use Rattle.cc_tokens.specs.declared.scalar.Scalar.{Scalar}
 use Rattle.cc_syntax.specs.Tree.{Signature, Object, Single, Array, External, Declaration, Definition, Objects}
 use Rattle.cc_typing.specs.Names.{same_name}
-use Rattle.cc_typing.specs.Scope.{Entity, Variable, Elements, Function, found, is_declared, FileScope, with_declared, function_entity, with_function, with_object, with_objects, file_scope_behind, file_scope_behind_all}
+use Rattle.cc_typing.specs.Scope.{Entity, Variable, Elements, found, is_declared, FileScope, with_declared, function_entity, with_function, with_object, with_objects, file_scope_behind, file_scope_behind_all}
 use Rattle.cc_typing.specs.Types.{object_words}
 use Rattle.cc_typing.specs.Limits.{objects, object_name}
 use Rattle.cc_resolve.specs.Layout.{laid_from, object_number}

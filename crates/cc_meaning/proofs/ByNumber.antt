@@ -2,16 +2,15 @@
 use Rattle.std.proofs.Common.{◌≡◌, ℕ, ◌+◌, ◌-◌, ◌≤◌, List, [], ◌∷◌, length, refl, sym, ap, ◌∙◌, subst, arith}
 use Rattle.cc_syntax.specs.Tree.{External}
 use Rattle.cc_typing.specs.Typed.{IsTyped}
-use Rattle.cc_runs.specs.Behavior as runs
 use Rattle.cc_runs.specs.Behavior.{Begins}
 use Rattle.cc_runs.specs.World.{Answer, Effect, Gives, Unfinished, Failed}
 use Rattle.cc_runs.specs.Meaning.{Meaning, Later, written_by, answered}
-use Rattle.cc_meaning.specs.Meaning.{Global, functions, initial_globals, source_behavior}
+use Rattle.cc_meaning.specs.Meaning.{Global, functions, initial_globals}
 use Rattle.cc_meaning.specs.Function as by_name
 use Rattle.cc_meaning.specs.Function.{Shared, call_function, body_of_function}
 use Rattle.cc_meaning.specs.Calls as calls
 use Rattle.cc_meaning.specs.Calls.{main_of, first_shared, outcome_of_effect}
-use Rattle.cc_meaning.specs.Numbered.{names_of, words_in, world_of, named, shared_in, objects_in, numbered, call_in, body_in, arity_in, IsMeaningOf, TypedUnitsHaveMeanings, CallsAreNumbered, without_cause, with_word, ProgramsAreNumbered}
+use Rattle.cc_meaning.specs.Numbered.{names_of, words_in, world_of, named, shared_in, objects_in, numbered, call_in, body_in, arity_in, TypedUnitsHaveMeanings, CallsAreNumbered, without_cause, with_word, ProgramsAreNumbered}
 use Rattle.cc_meaning.proofs.Named.{typed_units_have_meaning}
 use Rattle.cc_meaning.proofs.Effects.{calls_go_on}
 use Rattle.cc_meaning.proofs.Mains.{programs_call_main}

@@ -9,7 +9,7 @@ use Rattle.cc_resolve.specs.declared.layout.Callee.TheVariants.{WriteWord, ReadW
 use Rattle.cc_meaning.specs.declared.outcome.Cause.{Cause}
 use Rattle.cc_meaning.specs.declared.outcome.Cause.TheVariants.{Depth}
 use Rattle.cc_meaning.specs.Meaning.{Local, State, Run, Gives, Going, Wrong, Flow, then_do, execute_all, spend_of, Calls, Function, functions, bound, result_of, run_optional, read_input, most_open, calls, function_named}
-use Rattle.cc_meaning.specs.Function.{Shared, Effect, Answer, effect_of, state_within, name_of_function, call_function, body_of_function, Begins}
+use Rattle.cc_meaning.specs.Function.{effect_of, state_within, name_of_function, call_function, Begins}
 use Rattle.cc_meaning.specs.Resolved.{arities, IsCalled}
 use Rattle.cc_meaning.specs.Calls.{shared_of, after_call, called, CallsAreEffects, written_by, Later, CallsGoOn, BodiesGoOn}
 use Rattle.cc_meaning.proofs.Lasting.{at, written, Lasts, Under}

@@ -1,7 +1,7 @@
 -- A program's run is the call of main, which a typed unit defines without parameters.
 use Rattle.std.proofs.Common.{◌≡◌, ℕ, suc, ◌<◌, [], length, Some, codes, refl, sym, ap, ◌∙◌, arith}
 use Rattle.cc_meaning.specs.Meaning.{Run, Gives, Going, Wrong, functions, calls, initial_globals, outcome_of}
-use Rattle.cc_meaning.specs.Function.{effect_of, name_of_function}
+use Rattle.cc_meaning.specs.Function.{effect_of}
 use Rattle.cc_meaning.specs.Calls.{main_of, outcome_of_effect, TypedUnitsHaveMain, ProgramsCallMain}
 use Rattle.cc_resolve.specs.Layout.{layout_of}
 use Rattle.cc_meaning.proofs.Numbers.{as_many_names, name_of_number, number_below, function_of_name, arity_of_number}

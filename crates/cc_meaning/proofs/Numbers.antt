@@ -1,5 +1,5 @@
 -- Functions and objects have the numbers of their names.
-use Rattle.std.proofs.Common.{◌≡◌, ℕ, suc, ◌+◌, ◌<◌, Bool, true, false, true≢false, ◌||◌, if◌then◌else◌, List, [], ◌∷◌, length, map, Option, Some, None, slice_get, unwrap_or, option_map, refl, sym, ap, ◌∙◌, arith}
+use Rattle.std.proofs.Common.{◌≡◌, ℕ, suc, ◌+◌, ◌<◌, Bool, true, false, true≢false, ◌||◌, if◌then◌else◌, List, [], ◌∷◌, length, map, Option, Some, slice_get, unwrap_or, option_map, refl, sym, ap, ◌∙◌, arith}
 use Rattle.std.proofs.lemmas.List.{length-map}
 use Rattle.std.proofs.lemmas.Option.{slice_get-map}
 use Rattle.std.specs.Cmp.Lexicographic.{same_text}
@@ -8,7 +8,6 @@ use Rattle.cc_typing.specs.Names.{same_name}
 use Rattle.cc_typing.specs.Scope.{FileScope, has_name, first_file_scope, file_scope_behind}
 use Rattle.cc_typing.specs.Types.{object_words, initial_words}
 use Rattle.cc_typing.specs.Limits.{function_names, objects, object_name}
-use Rattle.cc_typing.specs.Typed.{IsTyped}
 use Rattle.cc_resolve.specs.Layout.{LaidObject, laid_from, extent_of, object_number, names_before, layout_of}
 use Rattle.cc_meaning.specs.Meaning.{Global, Function, functions_from, functions, function_named}
 use Rattle.cc_meaning.specs.Function.{name_of_function}

@@ -1,20 +1,19 @@
 -- In a typed unit each name in the body of a function leads to what the body needs.
-use Rattle.std.proofs.Common.{◌≡◌, ℕ, zero, suc, ◌+◌, ◌<◌, Bool, true, false, if◌then◌else◌, List, [], ◌∷◌, ◌++◌, length, map, inl, inr, Option, Some, None, slice_get, codes, refl, sym, ap, ◌∙◌, subst, arith}
+use Rattle.std.proofs.Common.{◌≡◌, ℕ, zero, suc, ◌<◌, false, if◌then◌else◌, List, [], ◌∷◌, ◌++◌, length, map, inl, inr, Option, Some, None, slice_get, codes, refl, sym, ap, ◌∙◌, subst, arith}
 use Rattle.cc_tokens.specs.declared.scalar.Scalar.{Scalar}
 use Rattle.cc_syntax.specs.Tree as tree
 use Rattle.cc_syntax.specs.Tree.{Name, Expr, Exprs, none, more, Number, Variable, Element, Parenthesised, Unary, Cast, Binary, Conditional, Target, AtVariable, AtElement, Action, Assign, Step, Evaluate, Declarator, Beginning, Declares, Performs, Stmt, Stmts, end, next, Block, Perform, Return, Break, Continue, If, IfElse, While, DoWhile, For, Parameter, Signature, External, Declaration, Definition, Objects}
 use Rattle.cc_typing.specs.Names.{same_name}
 use Rattle.cc_typing.specs.Scope as scope
 use Rattle.cc_typing.specs.Scope.{Entity, found, Visible, in_scope, opened, scope_behind, scope_behind_beginning, FileScope, has_name, first_file_scope, with_objects, file_scope_behind, file_scope_behind_all, body_scope}
-use Rattle.cc_typing.specs.Rules.{broken, broken_if, variable_offences, array_offences, function_offences, count_of, void_offences, expression_offences, argument_offences, value_offences, optional_offences, target_offences, action_offences, optional_action_offences, declared_offences, beginning_offences, return_offences, Around, within_loop, statement_offences, statements_offences, signature_offences, external_offences, externals_offences, undefined_among, called_in, called_in_all, called_in_optional, called_in_target, called_in_action, called_in_optional_action, called_in_declared, called_in_beginning, called_in_statement, called_in_statements, called_in_external, called}
-use Rattle.cc_typing.specs.declared.rule.Rule.{Rule}
+use Rattle.cc_typing.specs.Rules.{broken, broken_if, array_offences, function_offences, count_of, void_offences, expression_offences, argument_offences, value_offences, optional_offences, target_offences, action_offences, optional_action_offences, declared_offences, beginning_offences, return_offences, Around, within_loop, statement_offences, statements_offences, signature_offences, external_offences, externals_offences, undefined_among, called_in, called_in_all, called_in_optional, called_in_target, called_in_action, called_in_optional_action, called_in_declared, called_in_beginning, called_in_statement, called_in_statements, called_in_external, called}
 use Rattle.cc_typing.specs.declared.rule.Rule.TheVariants.{Redeclared, WrongKind, BadAssign, BadReturn}
 use Rattle.cc_typing.specs.Typed.{IsTyped, definitions}
-use Rattle.cc_resolve.specs.Layout.{Layout, extent_of, names_before, layout_of, callee}
+use Rattle.cc_resolve.specs.Layout.{Layout, names_before, layout_of, callee}
 use Rattle.cc_resolve.specs.declared.layout.Callee.TheVariants.{WriteWord, ReadWord, Defined}
-use Rattle.cc_resolve.specs.Environment.{Environment, number_in, types_in, inner, with_local, with_locals, behind, behind_beginning, parameter_names, environment_of, environments_from}
-use Rattle.cc_meaning.specs.Meaning.{Function, text_of, functions_from, functions, function_named}
-use Rattle.cc_meaning.specs.Resolved.{arities, IsObject, IsPlaced, IsVariable, IsCalled, ExprResolved, ExprsResolved, OptionalResolved, TargetResolved, ActionResolved, OptionalActionResolved, DeclaratorsResolved, BeginningResolved, StmtResolved, StmtsResolved, IsResolved, FunctionsAreResolved}
+use Rattle.cc_resolve.specs.Environment.{Environment, types_in, inner, with_local, behind, behind_beginning, parameter_names, environment_of, environments_from}
+use Rattle.cc_meaning.specs.Meaning.{text_of, functions_from, functions}
+use Rattle.cc_meaning.specs.Resolved.{arities, IsPlaced, IsVariable, IsCalled, ExprResolved, ExprsResolved, OptionalResolved, TargetResolved, ActionResolved, OptionalActionResolved, DeclaratorsResolved, BeginningResolved, StmtResolved, StmtsResolved, FunctionsAreResolved}
 use Rattle.cc_meaning.proofs.Offences.{nil_left, nil_right, defined_left, defined_right, is_defined, variable_found, array_found, function_found}
 use Rattle.cc_meaning.proofs.Named.{same_name_symm}
 use Rattle.cc_meaning.proofs.Numbers.{function_of_name, arity_of_number, sized_number}
@@ -198,7 +197,7 @@ module _ (layout : Layout) (defined : List (List ℕ)) (Taken : List ℕ → ℕ
           optional c u b.1 (ap (λ (y : Visible). optional_offences (in_scope y) c) b.0 ∙ nil_left of_c (of_step ++ of_s) e_c) (defined_left defined (called_in_optional c) (called_in_optional_action step ++ called_in_statement s) d_c),
           optional_action step u b.1 (ap (λ (y : Visible). optional_action_offences (in_scope y) step) b.0 ∙ nil_left of_step of_s e_step) (defined_left defined (called_in_optional_action step) (called_in_statement s) d_step),
           stmt s (within_loop a) (inner u) (scoped_inner layout defined Taken u b.1) (ap (λ (y : Visible). statement_offences s (within_loop a) (opened y)) b.0 ∙ nil_right of_step of_s e_step)
-          (defined_right defined (called_in_optional_action step) (called_in_statement s) d_step),
+              (defined_right defined (called_in_optional_action step) (called_in_statement s) d_step),
         )
 
     stmts : (ss : Stmts) (a : Around) (v : Environment) → Here v → statements_offences ss a v.visible ≡ [] → undefined_among defined (called_in_statements ss) ≡ [] → StmtsResolved arities v ss
@@ -207,8 +206,8 @@ module _ (layout : Layout) (defined : List (List ℕ)) (Taken : List ℕ → ℕ
         let b = behind_is layout defined Taken first v h in (
           stmt first a v h (nil_left (statement_offences first a v.visible) (statements_offences rest a (scope_behind first v.visible)) e) (defined_left defined (called_in_statement first) (called_in_statements rest) d),
           stmts rest a (behind first v) b.scoped
-          (ap (λ (y : Visible). statements_offences rest a y) b.visible ∙ nil_right (statement_offences first a v.visible) (statements_offences rest a (scope_behind first v.visible)) e)
-          (defined_right defined (called_in_statement first) (called_in_statements rest) d),
+              (ap (λ (y : Visible). statements_offences rest a y) b.visible ∙ nil_right (statement_offences first a v.visible) (statements_offences rest a (scope_behind first v.visible)) e)
+              (defined_right defined (called_in_statement first) (called_in_statements rest) d),
         )
 
 -- ---- functions

@@ -1,5 +1,5 @@
 -- The functions that a unit defines, one by one, until the one of a number.
-use Rattle.std.proofs.Common.{◌≡◌, ℕ, zero, suc, ◌+◌, ◌-◌, ◌<◌, List, [], ◌∷◌, length, Some, slice_get, Result, Ok, Err, OnOk, refl, sym, ap, ◌∙◌, subst, arith}
+use Rattle.std.proofs.Common.{◌≡◌, ℕ, suc, ◌<◌, List, [], ◌∷◌, length, Some, slice_get, Result, Ok, Err, OnOk, refl, sym, ap, ◌∙◌, subst, arith}
 use Rattle.cc_tokens.specs.declared.scalar.Scalar.{Scalar}
 use Rattle.cc_syntax.specs.Erase.{external_trees}
 use Rattle.cc_syntax.specs.declared.ast.External as declared

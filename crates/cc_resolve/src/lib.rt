@@ -18,6 +18,4 @@ pub use environment::Environment;
 pub use layout::{Callee, Extent, Layout};
 pub use objects::declare_objects;
 pub use operations::{BinaryOperation, UnaryOperation, operation, unary_operation};
-pub use units::{
-    declare_function, enter_function, function_environment, lay_out, leave_function,
-};
+pub use units::{declare_function, enter_function, function_environment, lay_out, leave_function};
