@@ -2,8 +2,8 @@
 
 use super::calls::typed_unit;
 use cc_resolve::{
-    BinaryOperation, Environment, UnaryOperation, declare_statement, enter_function, lay_out,
-    leave_function, operation, unary_operation,
+    BinaryOperation, Callee, Environment, UnaryOperation, declare_statement, function_environment,
+    lay_out, leave_function, operation, unary_operation,
 };
 use cc_syntax::{BinaryOperator, Scalar, Statement, UnaryOperator};
 use cc_typing::{Definition, TypedUnit};
@@ -26,8 +26,11 @@ fn are_numbered(names: &Environment<'_>) -> bool {
     let locals = numbers == [Some(0), Some(1), None] && names.len() == 2;
     let (array, object) = (names.object(b"a"), names.object_number(b"u"));
     let objects = array.offset == 1 && array.length == 2 && object == Some(2);
-    let functions = names.function(b"main") == 0 && names.function(b"f") == 1;
-    locals && objects && functions && matches!(names.variable_type(b"i"), Scalar::Unsigned)
+    let main = matches!(names.callee(b"main"), Callee::Defined(0));
+    let functions = main && matches!(names.callee(b"f"), Callee::Defined(1));
+    let builtins = matches!(names.callee(b"read_word"), Callee::ReadWord);
+    let unsigned = matches!(names.variable_type(b"i"), Scalar::Unsigned);
+    locals && objects && functions && builtins && unsigned
 }
 
 /// The same over the definition of `f`, after which no local is left.
@@ -44,14 +47,12 @@ fn are_resolved(alloc: Global, typed: &TypedUnit) -> Result<bool, AllocError> {
     }
     let f = typed.definition(1);
     let mut words = Vec::new(alloc);
-    let layout = lay_out(alloc, &mut words, typed.externals())?;
+    drop(lay_out(alloc, &mut words, typed.externals())?);
     let has_words = words.as_slice() == [3u32, 1, 2, 0].as_slice();
     drop(words);
-    let mut names = Environment::new(alloc, layout)?;
-    let entered = enter_function(&mut names, f.signature);
+    let mut names = function_environment(alloc, typed, 1)?;
     let is_right = is_right_in(&mut names, f);
     drop(names);
-    entered?;
     Ok(is_right? && has_words)
 }
 
