@@ -1,23 +1,15 @@
 -- Reading a body from left to right: each field is a value and the bytes after it, or there is none.
-use Rattle.std.specs.Prelude.{◌≡◌, ℕ, zero, suc, ◌&&◌, List, [], ◌∷◌, length, take, drop, Option, Some, None, Result, Ok, Err, nat_lt, nat_le, ◌==◌, if◌then◌else◌}
+use Rattle.std.specs.Prelude.{ℕ, zero, suc, ◌&&◌, List, [], ◌∷◌, length, take, drop, Option, Some, None, nat_lt, nat_le, ◌==◌, if◌then◌else◌}
 use Rattle.std.specs.Int.{w32, from_le_bytes}
 use Rattle.cc_link.specs.declared.unit.StoredUnit.{StoredUnit}
 use Rattle.cc_library.specs.declared.command.Command.{Command}
 use Rattle.cc_library.specs.declared.command.Command.TheVariants.{Add, Replace, Withdraw}
-use Rattle.cc_library.specs.declared.reading.ReadFault.{ReadFault}
-use Rattle.cc_library.specs.declared.reading.ReadFault.TheVariants.{NoCommand, OutOfMemory}
 use Rattle.cc_library.specs.Name.{is_name}
 
 infixl 10 ◌>>=◌
 abbrev pub ◌>>=◌ : {A B : Type 0} → Option A → (A → Option B) → Option B
 (Some x) >>= f = f x
 None >>= f = None
-
--- what a function returned, seen by view, is what reading gives; where memory ran out, nothing is said
-abbrev pub Gives : {X Y : Type 0} → (X → Y) → Result X ReadFault → Option Y → Type 0
-Gives view (Ok x) read = read ≡ Some (view x)
-Gives view (Err NoCommand) read = read ≡ None
-Gives view (Err OutOfMemory) read = Unit {0}
 
 -- one byte
 abbrev pub byte_in : List ℕ → Option (ℕ × List ℕ)
