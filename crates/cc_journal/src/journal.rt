@@ -176,6 +176,7 @@ impl<D: Disk> Journal<D> {
         ensures moments { IsTrue D.honest → self.old.closed ≡ false
             → LeavesOnly D.moment D.left_since self.old.disk self.new.disk (HoldsOneOf self.old.area self.old.bodies bodies.items) }
     {
+        // A closed journal makes no device call: what its disk holds is not known before it is opened again.
         if self.closed {
             return Err(JournalFault::Closed);
         }
