@@ -2,6 +2,8 @@
 pub mod Fault
 -- the bytes of a journal, and which records an image holds
 pub mod Format
+-- one commit: which bytes go where, and in which order
+pub mod Commit
 -- what contracts see of a journal, and what its type keeps
 pub mod Journal
 -- which answer a call gives, and when
