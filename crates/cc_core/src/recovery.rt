@@ -24,7 +24,7 @@ fn crash_core(alloc: Global, core: &mut Core, choice: &Sequence<u8>) -> Answer
 {
     core.store.crash(alloc, choice.as_slice())?;
     core.library = UnitMap::new(alloc);
-    core.phase = Phase::Crashed;
+    core.enter(Phase::Crashed);
     Ok(None)
 }
 
@@ -84,6 +84,6 @@ pub(crate) fn recover(alloc: Global, core: &mut Core) -> Answer
     drop_undone(&mut core.order, &library);
     core.library = library;
     core.store.set_used(used);
-    core.phase = Phase::Idle;
+    core.enter(Phase::Idle);
     Ok(None)
 }

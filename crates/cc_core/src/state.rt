@@ -219,7 +219,10 @@ pub fn run_events<B: Build>(
     ensures refused { IfErr result (λ fault. fault ≡ CoreFault.OutOfMemory) }
 {
     for event in events {
-        state.turn(alloc, event)?;
+        if state.turn(alloc, event).is_err() {
+            drop(state);
+            return Err(CoreFault::OutOfMemory);
+        }
     }
     let _ = state.library();
     let _ = state.acked();

@@ -1,5 +1,5 @@
 -- The disk of a crashed state can be opened, and what is found there is what the state says of it.
-use Rattle.std.proofs.Common.{refl}
+use Rattle.std.proofs.Common.{refl, ◌∙◌}
 use Rattle.cc_core.specs.declared.contents.Phase.TheVariants.{Idle}
 use Rattle.cc_core.specs.Step.{Reopens}
 use Rattle.cc_core.proofs.Possible.{reopens, memory_answers}
@@ -16,16 +16,16 @@ returns c =
     let old = c.args.core.now in
     let library = c.in-Ok.library in
     let found = c.in-Ok.ensures.answer in (
-      found_reopens old _ library c.in-Ok.used found.0 found.1 c.drop_undone.new.order c.requires c.in-Crashed.is
+      found_reopens old c.enter.new.self library c.in-Ok.used found.0 found.1 c.drop_undone.new.order c.requires c.in-Crashed.is
           found.2 c.drop_undone.ensures
-          (λ i. record {
+          (c.enter.ensures ∙ (λ i. record {
             library = library;
             order = c.drop_undone.new.order;
             acknowledged = old.acknowledged;
             phase = Idle;
             store = c.set_used.ensures i;
             upcoming = old.upcoming;
-          }),
+          })),
       λ e. absurd (cc),
       λ e. absurd (cc),
       tt,
