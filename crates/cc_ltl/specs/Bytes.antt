@@ -55,7 +55,7 @@ move_bytes (Between to from) = 0 ∷ to ∷ from ∷ []
 move_bytes (Reload to slot) = 1 ∷ to ∷ half_bytes slot
 move_bytes (Spill slot from) = 2 ∷ (half_bytes slot ++ from ∷ [])
 
--- how many bytes an element of an object has
+-- how many bytes an element of an object has: today 4, and nothing else can be said
 abbrev pub width : ℕ
 width = 4
 
@@ -88,7 +88,7 @@ ltl_bytes ltl = word_bytes ltl.slots ++ (word_bytes ltl.entry ++ (word_bytes (le
 -- these bytes spell this function
 pub record Spells (bytes : List ℕ) (ltl : Ltl) : Type 0 where
   pub spelled : bytes ≡ ltl_bytes ltl
-  pub ltl_is : IsLtl ltl
+  pub is_ltl : IsLtl ltl
 
 -- what reading answers: the function that the bytes spell, and Damaged only where they spell none
 abbrev pub ReadAnswers : (bytes : List ℕ) → Result Ltl LtlFault → Type 0

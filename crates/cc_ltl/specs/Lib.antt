@@ -8,3 +8,5 @@ pub mod Bytes
 pub mod Fault
 -- a function as text
 pub mod Listing
+-- what only proofs and private contracts use
+pub mod internal

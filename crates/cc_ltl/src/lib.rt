@@ -6,6 +6,7 @@ mod fault;
 mod location;
 mod ltl;
 mod operation;
+mod reading;
 mod writing;
 
 pub use block::{Block, MOST_MOVES, Moves};
@@ -13,4 +14,5 @@ pub use fault::LtlFault;
 pub use location::{Location, MOST_SLOTS, Register, Slot};
 pub use ltl::Ltl;
 pub use operation::{Move, Operation};
+pub use reading::read_ltl;
 pub use writing::write_ltl;
