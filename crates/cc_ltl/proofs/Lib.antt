@@ -1,2 +1,4 @@
 pub mod Checking
 pub mod Times
+pub mod Fields
+pub mod Spelled

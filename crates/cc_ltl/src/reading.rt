@@ -102,14 +102,14 @@ fn blocks_at(alloc: Global, bytes: &[u8]) -> Result<(Vec<Block>, &[u8]), LtlFaul
 fn block_list_at(alloc: Global, count: u32, bytes: &[u8]) -> Result<(Vec<Block>, &[u8]), LtlFault>
     ensures { Gives (λ x. (x.0.items, x.1.now)) result (times block_in count bytes.now) }
 {
-    let mut blocks = Vec::new(alloc);
+    let mut found = Vec::new(alloc);
     let mut rest = bytes;
     for _ in 0..count {
         let (block, after) = block_at(alloc, rest)?;
-        blocks.push(block)?;
+        found.push(block)?;
         rest = after;
     }
-    Ok((blocks, rest))
+    Ok((found, rest))
 }
 
 #[tactic(auto, unfolding(crate::specs::internal::Reading::block_in))]
