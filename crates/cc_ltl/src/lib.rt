@@ -3,6 +3,8 @@
 
 mod block;
 mod fault;
+mod laws;
+mod listing;
 mod location;
 mod ltl;
 mod operation;
@@ -11,6 +13,7 @@ mod writing;
 
 pub use block::{Block, MOST_MOVES, Moves};
 pub use fault::LtlFault;
+pub use laws::{ltl_is_a_layer, spellings_are_determined};
 pub use location::{Location, MOST_SLOTS, Register, Slot};
 pub use ltl::Ltl;
 pub use operation::{Move, Operation};
