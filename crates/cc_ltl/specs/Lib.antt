@@ -10,3 +10,5 @@ pub mod Fault
 pub mod Listing
 -- what only proofs and private contracts use
 pub mod internal
+-- Worked examples of these, each by computation; no contract rests on them.
+pub mod rows

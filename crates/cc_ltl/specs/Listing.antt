@@ -87,7 +87,7 @@ next_text (Branch from if_nonzero if_zero) = codes " -> " ++ decimal if_nonzero 
 next_text Return = []
 
 -- a block: its label, what it does in order, where it goes
-abbrev pub block_text : Block → List ℕ
+unfoldable pub block_text : Block → List ℕ
 block_text block =
     decimal block.label ++ codes ": " ++ flat_map (λ (m : Move). move_text m ++ codes "; ") block.before ++ operation_text block.operation
     ++ flat_map (λ (m : Move). codes "; " ++ move_text m) block.after ++ next_text block.operation

@@ -96,6 +96,7 @@ impl fmt::Display for Next {
 impl fmt::Display for Block {
     ghost output = { λ b. Some (block_text b) };
 
+    #[tactic(auto, unfolding(crate::specs::Listing::block_text))]
     fn fmt<W: fmt::Write>(&self, f: &mut fmt::Formatter<W>) -> fmt::Result {
         let (label, operation) = (self.label, self.operation);
         write!(f, "{label}: ")?;
