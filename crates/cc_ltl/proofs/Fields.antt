@@ -4,8 +4,8 @@ use Rattle.std.proofs.Common.{◌≡◌, ℕ, zero, suc, ◌+◌, ◌^◌, ◌<�
 use Rattle.std.specs.Prelude.{nat_le, slice_get, option_map}
 use Rattle.std.specs.List.{flat_map, AllByRecursion}
 use Rattle.std.specs.Int.{Width, w16, w32, from_le_bytes, to_le_bytes}
-use Rattle.std.proofs.lemmas.Bool.{eqb-true, ltb-true, ltb-false, lt-ltb, le-ltb, leb-true, le-leb}
-use Rattle.std.proofs.lemmas.List.{append-nil, nil_from_length, take_at, drop_at, take-append-drop, length-append, length-take}
+use Rattle.std.proofs.lemmas.Bool.{eqb-true, ltb-false, lt-ltb, le-ltb, le-leb}
+use Rattle.std.proofs.lemmas.List.{take_at, drop_at, take-append-drop, length-append, length-take}
 use Rattle.std.proofs.lemmas.List.Concat.{flat_map-cons}
 use Rattle.std.proofs.lemmas.Nat.{le_bytes_2, le_bytes_4, from_le_bytes-to_le_bytes_2, from_le_bytes-to_le_bytes_4}
 use Rattle.std.proofs.lemmas.Option.{none-some, same_Some, slice_get-map}
@@ -13,15 +13,9 @@ use Rattle.cc_words.specs.declared.operators.Unary.{Unary as UnaryOperator}
 use Rattle.cc_words.specs.declared.operators.Unary.TheVariants.{Neg, Complement, IsZero}
 use Rattle.cc_words.specs.declared.operators.Binary.{Binary as BinaryOperator}
 use Rattle.cc_words.specs.declared.operators.Binary.TheVariants.{Add, Sub, Mul, DivS, DivU, RemS, RemU, Shl, ShrS, ShrU, And, Or, Xor, Eq, Ne, LtS, LtU, LeS, LeU}
-use Rattle.cc_ltl.specs.declared.operation.Move.{Move}
-use Rattle.cc_ltl.specs.declared.operation.Move.TheVariants.{Between, Reload, Spill}
-use Rattle.cc_ltl.specs.declared.operation.Operation.{Operation}
-use Rattle.cc_ltl.specs.declared.operation.Operation.TheVariants.{Nop, Const, Unary, Binary, Load, Store, Call, Read, Write, Branch, Return}
-use Rattle.cc_ltl.specs.declared.block.Block.{Block}
 use Rattle.cc_ltl.specs.Registers.{IsAllocatable, most_slots}
-use Rattle.cc_ltl.specs.Ltl.{Ltl, IsWord, IsMove, AreMoves, IsOperation, IsBlock, IsLtl}
-use Rattle.cc_ltl.specs.Bytes.{half_bytes, word_bytes, width, unary_number, binary_number, move_bytes, operation_bytes, moves_bytes, block_bytes, ltl_bytes, Spells}
-use Rattle.cc_ltl.specs.internal.Reading.{◌>>=◌, Reader, both, mapped, times, nothing_in, byte_in, half_in, word_in, register_in, slot_in, unary_operators, binary_operators, one_of, unary_in, binary_in, width_in, chosen, between_in, reload_in, spill_in, move_kinds, move_in, moves_in, nop_in, const_in, unary_operation_in, binary_operation_in, access_in, load_in, store_in, call_in, read_in, write_in, branch_in, return_in, operation_kinds, operation_in, block_in, blocks_in, slots_in, parts_in}
+use Rattle.cc_ltl.specs.Bytes.{half_bytes, word_bytes, width, unary_number, binary_number}
+use Rattle.cc_ltl.specs.internal.Reading.{◌>>=◌, Reader, both, mapped, times, nothing_in, byte_in, half_in, word_in, register_in, slot_in, unary_operators, binary_operators, one_of, unary_in, binary_in, width_in, slots_in}
 
 -- ---- tools
 
@@ -83,19 +77,18 @@ pub record IsField {X : Type 0} (read : Reader X) (write : X → List ℕ) (Good
 
 -- ---- fields go together
 
-
 pub both_field : {A B : Type 0} (f : Reader A) (s : A → List ℕ) (P : A → Type 0) (g : Reader B) (t : B → List ℕ) (Q : B → Type 0)
     → IsField f s P → IsField g t Q → IsField (both f g) (λ x. s x.0 ++ t x.1) (λ x. P x.0 × Q x.1)
 both_field {A} {B} f s P g t Q p q = record {
   takes = λ bytes x rest are e.
-    let a = bind_some (f bytes) (λ a. g a.1 >>= λ b. Some ((a.0, b.0), b.1)) (x, rest) e in
-    let b = bind_some (g a.0.1) (λ b. Some ((a.0.0, b.0), b.1)) (x, rest) a.2 in
-    let first = p.takes bytes a.0.0 a.0.1 are a.1 in
-    let second = q.takes a.0.1 b.0.0 b.0.1 first.are b.1 in
-    let made : (A × B) × List ℕ = ((a.0.0, b.0.0), b.0.1) in
-    subst (λ (y : (A × B) × List ℕ). Takes bytes (s y.0.0 ++ t y.0.1) y.1) (same_Some made (x, rest) b.2) (Takes-then bytes (s a.0.0) a.0.1 (t b.0.0) b.0.1 first second);
+      let a = bind_some (f bytes) (λ a. g a.1 >>= λ b. Some ((a.0, b.0), b.1)) (x, rest) e in
+      let b = bind_some (g a.0.1) (λ b. Some ((a.0.0, b.0), b.1)) (x, rest) a.2 in
+      let first = p.takes bytes a.0.0 a.0.1 are a.1 in
+      let second = q.takes a.0.1 b.0.0 b.0.1 first.are b.1 in
+      let made : (A × B) × List ℕ = ((a.0.0, b.0.0), b.0.1) in
+      subst (λ (y : (A × B) × List ℕ). Takes bytes (s y.0.0 ++ t y.0.1) y.1) (same_Some made (x, rest) b.2) (Takes-then bytes (s a.0.0) a.0.1 (t b.0.0) b.0.1 first second);
   again = λ x rest good.
-    ap (both f g) (append_assoc (s x.0) (t x.1) rest) ∙ rw (p.again x.0 (t x.1 ++ rest) good.0, q.again x.1 rest good.1) refl;
+      ap (both f g) (append_assoc (s x.0) (t x.1) rest) ∙ rw (p.again x.0 (t x.1 ++ rest) good.0, q.again x.1 rest good.1) refl;
 }
 
 pub mapped_takes : {A B : Type 0} (f : Reader A) (s : A → List ℕ) (P : A → Type 0) → IsField f s P → (make : A → B) (bytes : List ℕ) (y : B) (rest : List ℕ) → AreBytes bytes
@@ -140,13 +133,13 @@ pub counted_field : {A : Type 0} (count : Reader ℕ) (number : ℕ → List ℕ
     → IsField (counted count f) (λ xs. number (length xs) ++ flat_map s xs) (λ xs. (length xs < limit) × AllByRecursion P xs)
 counted_field {A} count number limit f s P c p = record {
   takes = λ bytes xs rest are e.
-    let n = bind_some (count bytes) (λ n. times f n.0 n.1) (xs, rest) e in
-    let first = c.takes bytes n.0.0 n.0.1 are n.1 in
-    let others = times_take f s P p n.0.0 n.0.1 xs rest first.are n.2 in
-    let all = Takes-then bytes (number n.0.0) n.0.1 (flat_map s xs) rest first others.0 in
-    subst (λ (k : ℕ). Takes bytes (number k ++ flat_map s xs) rest) (sym others.1) all;
+      let n = bind_some (count bytes) (λ n. times f n.0 n.1) (xs, rest) e in
+      let first = c.takes bytes n.0.0 n.0.1 are n.1 in
+      let others = times_take f s P p n.0.0 n.0.1 xs rest first.are n.2 in
+      let all = Takes-then bytes (number n.0.0) n.0.1 (flat_map s xs) rest first others.0 in
+      subst (λ (k : ℕ). Takes bytes (number k ++ flat_map s xs) rest) (sym others.1) all;
   again = λ xs rest good.
-    ap (counted count f) (append_assoc (number (length xs)) (flat_map s xs) rest) ∙ rw (c.again (length xs) (flat_map s xs ++ rest) good.0, times_again f s P p xs rest good.1) refl;
+      ap (counted count f) (append_assoc (number (length xs)) (flat_map s xs) rest) ∙ rw (c.again (length xs) (flat_map s xs ++ rest) good.0, times_again f s P p xs rest good.1) refl;
 }
 
 -- ---- nothing, bytes and numbers
@@ -173,16 +166,16 @@ number_in w k bytes = cond (ltb (length bytes) k) None (Some (from_le_bytes w (t
 number_field : (w : Width) (k limit : ℕ) → IsWide w k limit → IsField (number_in w k) (to_le_bytes w) (λ n. n < limit)
 number_field w k limit wide = record {
   takes = λ bytes n rest are e.
-    let g = unless_some (ltb (length bytes) k) (from_le_bytes w (take k bytes), drop k bytes) (n, rest) e in
-    let long : k ≤ length bytes = ltb-false _ _ g.0 in
-    let n-is : from_le_bytes w (take k bytes) ≡ n = ap (λ (p : ℕ × List ℕ). p.0) g.1 in
-    let rest-is : drop k bytes ≡ rest = ap (λ (p : ℕ × List ℕ). p.1) g.1 in
-    let spelled : to_le_bytes w n ≡ take k bytes = wide.back (take k bytes) n (omega (arith, length-take k bytes)) (take-bytes k bytes are) (sym n-is) in
-    record { parts = rw (spelled, ← rest-is) (sym (take-append-drop k bytes)); are = rw (← rest-is) (drop-bytes k bytes are) };
+      let g = unless_some (ltb (length bytes) k) (from_le_bytes w (take k bytes), drop k bytes) (n, rest) e in
+      let long : k ≤ length bytes = ltb-false _ _ g.0 in
+      let n-is : from_le_bytes w (take k bytes) ≡ n = ap (λ (p : ℕ × List ℕ). p.0) g.1 in
+      let rest-is : drop k bytes ≡ rest = ap (λ (p : ℕ × List ℕ). p.1) g.1 in
+      let spelled : to_le_bytes w n ≡ take k bytes = wide.back (take k bytes) n (omega (arith, length-take k bytes)) (take-bytes k bytes are) (sym n-is) in
+      record { parts = rw (spelled, ← rest-is) (sym (take-append-drop k bytes)); are = rw (← rest-is) (drop-bytes k bytes are) };
   again = λ n rest lt.
-    let len = wide.len n in
-    let long : ltb (length (to_le_bytes w n ++ rest)) k ≡ false = le-ltb _ _ (omega (arith, length-append (to_le_bytes w n) rest)) in
-    rw (long, take_at (to_le_bytes w n) rest k len, drop_at (to_le_bytes w n) rest k len, wide.same n lt) refl;
+      let len = wide.len n in
+      let long : ltb (length (to_le_bytes w n ++ rest)) k ≡ false = le-ltb _ _ (omega (arith, length-append (to_le_bytes w n) rest)) in
+      rw (long, take_at (to_le_bytes w n) rest k len, drop_at (to_le_bytes w n) rest k len, wide.same n lt) refl;
 }
 
 pub half_field : IsField half_in half_bytes (λ n. n < 2 ^ 16)
@@ -205,33 +198,33 @@ pub register_field : IsField register_in (λ r. r ∷ []) IsAllocatable
 unfolding register_in
 register_field = record {
   takes = λ bytes r rest are e.
-    let b = bind_some (byte_in bytes) (λ b. cond (nat_le 7 b.0 && ltb b.0 32) (Some b) None) (r, rest) e in
-    let g = when_some (nat_le 7 b.0.0 && ltb b.0.0 32) (Some b.0) (r, rest) b.2 in
-    byte_takes bytes r rest are (b.1 ∙ g.1);
+      let b = bind_some (byte_in bytes) (λ b. cond (nat_le 7 b.0 && ltb b.0 32) (Some b) None) (r, rest) e in
+      let g = when_some (nat_le 7 b.0.0 && ltb b.0.0 32) (Some b.0) (r, rest) b.2 in
+      byte_takes bytes r rest are (b.1 ∙ g.1);
   again = λ r rest good.
-    rw (le-leb _ _ good.0, lt-ltb _ _ good.1) refl;
+      rw (le-leb _ _ good.0, lt-ltb _ _ good.1) refl;
 }
 
 pub slot_field : (slots : ℕ) → slots ≤ most_slots → IsField slot_in half_bytes (λ i. i < slots)
 unfolding slot_in
 slot_field slots few = record {
   takes = λ bytes i rest are e.
-    let n = bind_some (half_in bytes) (λ n. cond (ltb n.0 most_slots) (Some n) None) (i, rest) e in
-    let g = when_some (ltb n.0.0 most_slots) (Some n.0) (i, rest) n.2 in
-    half_field.takes bytes i rest are (n.1 ∙ g.1);
+      let n = bind_some (half_in bytes) (λ n. cond (ltb n.0 most_slots) (Some n) None) (i, rest) e in
+      let g = when_some (ltb n.0.0 most_slots) (Some n.0) (i, rest) n.2 in
+      half_field.takes bytes i rest are (n.1 ∙ g.1);
   again = λ i rest lt.
-    rw (half_field.again i rest (omega arith), lt-ltb i most_slots (omega arith)) refl;
+      rw (half_field.again i rest (omega arith), lt-ltb i most_slots (omega arith)) refl;
 }
 
 pub slots_field : IsField slots_in word_bytes (λ n. n ≤ most_slots)
 unfolding slots_in
 slots_field = record {
   takes = λ bytes i rest are e.
-    let n = bind_some (word_in bytes) (λ n. cond (nat_le n.0 most_slots) (Some n) None) (i, rest) e in
-    let g = when_some (nat_le n.0.0 most_slots) (Some n.0) (i, rest) n.2 in
-    word_field.takes bytes i rest are (n.1 ∙ g.1);
+      let n = bind_some (word_in bytes) (λ n. cond (nat_le n.0 most_slots) (Some n) None) (i, rest) e in
+      let g = when_some (nat_le n.0.0 most_slots) (Some n.0) (i, rest) n.2 in
+      word_field.takes bytes i rest are (n.1 ∙ g.1);
   again = λ i rest le.
-    rw (word_field.again i rest (omega arith), le-leb i most_slots le) refl;
+      rw (word_field.again i rest (omega arith), le-leb i most_slots le) refl;
 }
 
 -- the numbers from a on
@@ -248,12 +241,12 @@ number_at (suc n) a (suc k) m e = number_at n (suc a) k m e ∙ omega arith
 one_of_field : {A : Type 0} (xs : List A) (number : A → ℕ) (n : ℕ) → map number xs ≡ numbers_from 0 n → ((x : A) → slice_get xs (number x) ≡ Some x) → IsField (one_of xs) (λ x. number x ∷ []) (λ x. Unit {0})
 one_of_field {A} xs number n all at = record {
   takes = λ bytes x rest are e.
-    let b = bind_some (byte_in bytes) (λ b. slice_get xs b.0 >>= λ x. Some (x, b.1)) (x, rest) e in
-    let y = bind_some (slice_get xs b.0.0) (λ x. Some (x, b.0.1)) (x, rest) b.2 in
-    let found : slice_get (numbers_from 0 n) b.0.0 ≡ Some (number y.0) = ap (λ (l : List ℕ). slice_get l b.0.0) (sym all) ∙ slice_get-map number xs b.0.0 ∙ ap (option_map number) y.1 in
-    let is : number y.0 ≡ b.0.0 = number_at n 0 b.0.0 (number y.0) found ∙ omega arith in
-    let t = byte_takes bytes b.0.0 b.0.1 are b.1 in
-    subst (λ (z : A × List ℕ). Takes bytes (number z.0 ∷ []) z.1) (same_Some (y.0, b.0.1) (x, rest) y.2) (rw is t);
+      let b = bind_some (byte_in bytes) (λ b. slice_get xs b.0 >>= λ x. Some (x, b.1)) (x, rest) e in
+      let y = bind_some (slice_get xs b.0.0) (λ x. Some (x, b.0.1)) (x, rest) b.2 in
+      let found : slice_get (numbers_from 0 n) b.0.0 ≡ Some (number y.0) = ap (λ (l : List ℕ). slice_get l b.0.0) (sym all) ∙ slice_get-map number xs b.0.0 ∙ ap (option_map number) y.1 in
+      let is : number y.0 ≡ b.0.0 = number_at n 0 b.0.0 (number y.0) found ∙ omega arith in
+      let t = byte_takes bytes b.0.0 b.0.1 are b.1 in
+      subst (λ (z : A × List ℕ). Takes bytes (number z.0 ∷ []) z.1) (same_Some (y.0, b.0.1) (x, rest) y.2) (rw is t);
   again = λ x rest good. rw (at x) refl;
 }
 
@@ -295,10 +288,10 @@ pub width_field : IsField width_in (λ w. width ∷ []) (λ w. w ≡ width)
 unfolding width_in
 width_field = record {
   takes = λ bytes w rest are e.
-    let b = bind_some (byte_in bytes) (λ b. cond (eqb b.0 width) (Some b) None) (w, rest) e in
-    let g = when_some (eqb b.0.0 width) (Some b.0) (w, rest) b.2 in
-    let is : b.0.0 ≡ width = eqb-true _ _ g.0 in
-    let same : b.0.0 ≡ w = ap (λ (p : ℕ × List ℕ). p.0) (same_Some b.0 (w, rest) g.1) in
-    subst (λ (v : ℕ). Takes bytes (v ∷ []) rest) (sym same ∙ is) (byte_takes bytes w rest are (b.1 ∙ g.1));
+      let b = bind_some (byte_in bytes) (λ b. cond (eqb b.0 width) (Some b) None) (w, rest) e in
+      let g = when_some (eqb b.0.0 width) (Some b.0) (w, rest) b.2 in
+      let is : b.0.0 ≡ width = eqb-true _ _ g.0 in
+      let same : b.0.0 ≡ w = ap (λ (p : ℕ × List ℕ). p.0) (same_Some b.0 (w, rest) g.1) in
+      subst (λ (v : ℕ). Takes bytes (v ∷ []) rest) (sym same ∙ is) (byte_takes bytes w rest are (b.1 ∙ g.1));
   again = λ w rest is. rw is refl;
 }

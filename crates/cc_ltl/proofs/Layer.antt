@@ -1,11 +1,11 @@
 -- The moves of LTL are those of a layer.
-use Rattle.std.proofs.Common.{◌≡◌, ℕ, List, [], ◌∷◌, ◌++◌, Option, Some, None, refl, sym, ap, subst}
+use Rattle.std.proofs.Common.{◌≡◌, ℕ, List, [], Option, Some, None, refl, sym, ap, subst}
 use Rattle.std.specs.Prelude.{option_map}
 use Rattle.std.proofs.lemmas.List.{append-nil}
 use Rattle.std.proofs.lemmas.Option.{none-some, same_Some}
 use Rattle.cc_runs.specs.Behavior.{Begins}
 use Rattle.cc_runs.specs.World.{World, Question, Answer, element, stored}
-use Rattle.cc_runs.specs.Run.{Move as Moving, Goes, Calls, Returns, Fails, tried}
+use Rattle.cc_runs.specs.Run.{Move as Moving, Goes, Calls, tried}
 use Rattle.cc_runs.specs.Cuts.{IsLayer}
 use Rattle.cc_words.specs.Operators.{apply_binary}
 use Rattle.cc_ltl.specs.declared.operation.Move.{Move}
@@ -93,8 +93,8 @@ move_calls arity l c q resume e =
 pub is_layer : (arity : ℕ → ℕ) (l : Ltl) → IsLayer (ltl_move arity l) ltl_output
 is_layer arity l = record {
   grows = λ c d e.
-    let y = tried_goes (block_at l.blocks c.label) (λ (block : Block). operate arity block.operation block.after (moved block.before c.locations) c.world c.words) d e in
-    operate_grows arity y.0.operation y.0.after (moved y.0.before c.locations) c.world c.words d y.2;
+      let y = tried_goes (block_at l.blocks c.label) (λ (block : Block). operate arity block.operation block.after (moved block.before c.locations) c.world c.words) d e in
+      operate_grows arity y.0.operation y.0.after (moved y.0.before c.locations) c.world c.words d y.2;
   hands_over = λ c q resume e. (move_calls arity l c q resume e).0;
   resumes = λ c q resume e. (move_calls arity l c q resume e).1;
 }

@@ -1,5 +1,5 @@
 -- Moves, operations, blocks and whole functions: what is read is what was written, and what was written is read again.
-use Rattle.std.proofs.Common.{◌≡◌, ℕ, ◌+◌, ◌^◌, ◌<◌, ◌≤◌, cond, eqb, List, [], ◌∷◌, ◌++◌, length, Some, None, refl, sym, ap, subst, ◌∙◌, arith, inl, inr}
+use Rattle.std.proofs.Common.{◌≡◌, ℕ, ◌^◌, ◌<◌, ◌≤◌, cond, eqb, List, [], ◌∷◌, ◌++◌, length, Some, None, refl, sym, ap, subst, ◌∙◌, arith, inl, inr}
 use Rattle.std.specs.Prelude.{Err}
 use Rattle.std.specs.List.{flat_map, AllByRecursion}
 use Rattle.std.proofs.lemmas.Bool.{eqb-true}
@@ -62,10 +62,13 @@ slot_and_register slots few = both_field slot_in half_bytes (λ i. i < slots) re
 
 are_move_kinds : AllByRecursion (IsKind move_bytes) move_kinds
 unfolding between_in reload_in spill_in
-are_move_kinds =
-    (is_kind move_bytes 0 (both register_in register_in) (λ x. one x.0 ++ one x.1) _ two_registers (λ x. Between x.0 x.1) (λ a. refl),
-    (is_kind move_bytes 1 (both register_in slot_in) (λ x. one x.0 ++ half_bytes x.1) _ (register_and_slot 0 (omega arith)) (λ x. Reload x.0 x.1) (λ a. refl),
-    (is_kind move_bytes 2 (both slot_in register_in) (λ x. half_bytes x.0 ++ one x.1) _ (slot_and_register 0 (omega arith)) (λ x. Spill x.0 x.1) (λ a. refl), tt)))
+are_move_kinds = (
+  is_kind move_bytes 0 (both register_in register_in) (λ x. one x.0 ++ one x.1) _ two_registers (λ x. Between x.0 x.1) (λ a. refl),
+  (
+    is_kind move_bytes 1 (both register_in slot_in) (λ x. one x.0 ++ half_bytes x.1) _ (register_and_slot 0 (omega arith)) (λ x. Reload x.0 x.1) (λ a. refl),
+    (is_kind move_bytes 2 (both slot_in register_in) (λ x. half_bytes x.0 ++ one x.1) _ (slot_and_register 0 (omega arith)) (λ x. Spill x.0 x.1) (λ a. refl), tt),
+  ),
+)
 
 move_again : (slots : ℕ) → slots ≤ most_slots → (m : Move) (rest : List ℕ) → IsMove slots m → move_in (move_bytes m ++ rest) ≡ Some (m, rest)
 unfolding move_in between_in reload_in spill_in
@@ -107,7 +110,7 @@ binary_fields : IsField (both binary_in (both register_in (both register_in (bot
     (λ x. Unit {0} × (IsAllocatable x.1.0 × (IsAllocatable x.1.1.0 × (IsAllocatable x.1.1.1.0 × IsWord x.1.1.1.1))))
 binary_fields =
     both_field binary_in (λ o. one (binary_number o)) (λ o. Unit {0}) (both register_in (both register_in (both register_in word_in))) (λ x. one x.0 ++ (one x.1.0 ++ (one x.1.1.0 ++ word_bytes x.1.1.1)))
-      (λ x. IsAllocatable x.0 × (IsAllocatable x.1.0 × (IsAllocatable x.1.1.0 × IsWord x.1.1.1))) binary_field three_registers_and_word
+    (λ x. IsAllocatable x.0 × (IsAllocatable x.1.0 × (IsAllocatable x.1.1.0 × IsWord x.1.1.1))) binary_field three_registers_and_word
 
 word_and_registers : IsField (both word_in (both register_in (both register_in word_in))) (λ x. word_bytes x.0 ++ (one x.1.0 ++ (one x.1.1.0 ++ word_bytes x.1.1.1))) (λ x. IsWord x.0 × (IsAllocatable x.1.0 × (IsAllocatable x.1.1.0 × IsWord x.1.1.1)))
 word_and_registers =
@@ -124,22 +127,41 @@ access_field : IsField access_in access_bytes IsAccess
 unfolding access_in
 access_field =
     both_field width_in (λ w. one width) (λ w. w ≡ width) (both word_in (both register_in (both register_in word_in))) (λ x. word_bytes x.0 ++ (one x.1.0 ++ (one x.1.1.0 ++ word_bytes x.1.1.1)))
-      (λ x. IsWord x.0 × (IsAllocatable x.1.0 × (IsAllocatable x.1.1.0 × IsWord x.1.1.1))) width_field word_and_registers
+    (λ x. IsWord x.0 × (IsAllocatable x.1.0 × (IsAllocatable x.1.1.0 × IsWord x.1.1.1))) width_field word_and_registers
 
 are_operation_kinds : AllByRecursion (IsKind operation_bytes) operation_kinds
 unfolding nop_in const_in unary_operation_in binary_operation_in load_in store_in call_in read_in write_in branch_in return_in
-are_operation_kinds =
-    (is_kind operation_bytes 0 word_in word_bytes _ word_field (λ x. Nop x) (λ a. refl),
-    (is_kind operation_bytes 1 _ _ _ register_and_words (λ x. Const x.0 x.1.0 x.1.1) (λ a. refl),
-    (is_kind operation_bytes 2 _ _ _ unary_fields (λ x. Unary x.0 x.1.0 x.1.1.0 x.1.1.1) (λ a. refl),
-    (is_kind operation_bytes 3 _ _ _ binary_fields (λ x. Binary x.0 x.1.0 x.1.1.0 x.1.1.1.0 x.1.1.1.1) (λ a. refl),
-    (is_kind operation_bytes 4 access_in access_bytes _ access_field (λ x. Load x.1.0 x.1.1.0 x.1.1.1.0 x.1.1.1.1) (λ a. refl),
-    (is_kind operation_bytes 5 access_in access_bytes _ access_field (λ x. Store x.1.0 x.1.1.0 x.1.1.1.0 x.1.1.1.1) (λ a. refl),
-    (is_kind operation_bytes 6 _ _ _ two_words (λ x. Call x.0 x.1) (λ a. refl),
-    (is_kind operation_bytes 7 word_in word_bytes _ word_field (λ x. Read x) (λ a. refl),
-    (is_kind operation_bytes 8 word_in word_bytes _ word_field (λ x. Write x) (λ a. refl),
-    (is_kind operation_bytes 9 _ _ _ register_and_words (λ x. Branch x.0 x.1.0 x.1.1) (λ a. refl),
-    (is_kind operation_bytes 10 nothing_in (λ u. []) _ nothing_field (λ x. Return) (λ a. refl), tt)))))))))))
+are_operation_kinds = (
+  is_kind operation_bytes 0 word_in word_bytes _ word_field (λ x. Nop x) (λ a. refl),
+  (
+    is_kind operation_bytes 1 _ _ _ register_and_words (λ x. Const x.0 x.1.0 x.1.1) (λ a. refl),
+    (
+      is_kind operation_bytes 2 _ _ _ unary_fields (λ x. Unary x.0 x.1.0 x.1.1.0 x.1.1.1) (λ a. refl),
+      (
+        is_kind operation_bytes 3 _ _ _ binary_fields (λ x. Binary x.0 x.1.0 x.1.1.0 x.1.1.1.0 x.1.1.1.1) (λ a. refl),
+        (
+          is_kind operation_bytes 4 access_in access_bytes _ access_field (λ x. Load x.1.0 x.1.1.0 x.1.1.1.0 x.1.1.1.1) (λ a. refl),
+          (
+            is_kind operation_bytes 5 access_in access_bytes _ access_field (λ x. Store x.1.0 x.1.1.0 x.1.1.1.0 x.1.1.1.1) (λ a. refl),
+            (
+              is_kind operation_bytes 6 _ _ _ two_words (λ x. Call x.0 x.1) (λ a. refl),
+              (
+                is_kind operation_bytes 7 word_in word_bytes _ word_field (λ x. Read x) (λ a. refl),
+                (
+                  is_kind operation_bytes 8 word_in word_bytes _ word_field (λ x. Write x) (λ a. refl),
+                  (
+                    is_kind operation_bytes 9 _ _ _ register_and_words (λ x. Branch x.0 x.1.0 x.1.1) (λ a. refl),
+                    (is_kind operation_bytes 10 nothing_in (λ u. []) _ nothing_field (λ x. Return) (λ a. refl), tt),
+                  ),
+                ),
+              ),
+            ),
+          ),
+        ),
+      ),
+    ),
+  ),
+)
 
 operation_again : (o : Operation) (rest : List ℕ) → IsOperation o → operation_in (operation_bytes o ++ rest) ≡ Some (o, rest)
 unfolding operation_in nop_in const_in unary_operation_in binary_operation_in load_in store_in call_in read_in write_in branch_in return_in
@@ -166,11 +188,11 @@ remade_field : {A B : Type 0} (f : Reader A) (s : A → List ℕ) (P : A → Typ
     → IsField (mapped make f) spell (λ b. P (back b))
 remade_field {A} {B} f s P p make back same spell spelled = record {
   takes = λ bytes y rest are e.
-    let a = mapped_takes f s P p make bytes y rest are e in
-    subst (λ (z : B). Takes bytes (spell z) rest) a.1 (rw (spelled a.0) a.2);
+      let a = mapped_takes f s P p make bytes y rest are e in
+      subst (λ (z : B). Takes bytes (spell z) rest) a.1 (rw (spelled a.0) a.2);
   again = λ y rest good.
-    let text : spell y ≡ s (back y) = ap spell (sym (same y)) ∙ spelled (back y) in
-    ap (λ (t : List ℕ). mapped make f (t ++ rest)) text ∙ mapped_again f s P p make (back y) rest good ∙ ap (λ (z : B). Some (z, rest)) (same y);
+      let text : spell y ≡ s (back y) = ap spell (sym (same y)) ∙ spelled (back y) in
+      ap (λ (t : List ℕ). mapped make f (t ++ rest)) text ∙ mapped_again f s P p make (back y) rest good ∙ ap (λ (z : B). Some (z, rest)) (same y);
 }
 
 abbrev IsBlockOf : (slots : ℕ) → Block → Type 0
@@ -184,8 +206,8 @@ block_field slots few =
     let later = both_field moves_in moves_bytes (AreMoves slots) (both operation_in moves_in) (λ x. operation_bytes x.0 ++ moves_bytes x.1) (λ x. IsOperation x.0 × AreMoves slots x.1) moves last in
     let all = both_field word_in word_bytes IsWord (both moves_in (both operation_in moves_in)) (λ x. moves_bytes x.0 ++ (operation_bytes x.1.0 ++ moves_bytes x.1.1)) (λ x. AreMoves slots x.0 × (IsOperation x.1.0 × AreMoves slots x.1.1)) word_field later in
     remade_field (both word_in (both moves_in (both operation_in moves_in))) (λ x. word_bytes x.0 ++ (moves_bytes x.1.0 ++ (operation_bytes x.1.1.0 ++ moves_bytes x.1.1.1)))
-      (λ x. IsWord x.0 × (AreMoves slots x.1.0 × (IsOperation x.1.1.0 × AreMoves slots x.1.1.1))) all (λ x. record { label = x.0; before = x.1.0; operation = x.1.1.0; after = x.1.1.1 })
-      (λ b. (b.label, (b.before, (b.operation, b.after)))) (λ b. refl) block_bytes (λ a. refl)
+    (λ x. IsWord x.0 × (AreMoves slots x.1.0 × (IsOperation x.1.1.0 × AreMoves slots x.1.1.1))) all (λ x. record { label = x.0; before = x.1.0; operation = x.1.1.0; after = x.1.1.1 })
+    (λ b. (b.label, (b.before, (b.operation, b.after)))) (λ b. refl) block_bytes (λ a. refl)
 
 abbrev blocks_bytes : List Block → List ℕ
 blocks_bytes blocks = word_bytes (length blocks) ++ flat_map block_bytes blocks
@@ -207,7 +229,7 @@ function_field most few =
     let later = both_field word_in word_bytes IsWord blocks_in blocks_bytes (AreBlocks most) word_field (blocks_field most few) in
     let all = both_field slots_in word_bytes (λ n. n ≤ most_slots) (both word_in blocks_in) (λ x. word_bytes x.0 ++ blocks_bytes x.1) (λ x. IsWord x.0 × AreBlocks most x.1) slots_field later in
     remade_field (both slots_in (both word_in blocks_in)) (λ x. word_bytes x.0 ++ (word_bytes x.1.0 ++ blocks_bytes x.1.1)) (λ x. (x.0 ≤ most_slots) × (IsWord x.1.0 × AreBlocks most x.1.1)) all
-      (λ x. record { slots = x.0; entry = x.1.0; blocks = x.1.1 }) (λ l. (l.slots, (l.entry, l.blocks))) (λ l. refl) ltl_bytes (λ a. refl)
+    (λ x. record { slots = x.0; entry = x.1.0; blocks = x.1.1 }) (λ l. (l.slots, (l.entry, l.blocks))) (λ l. refl) ltl_bytes (λ a. refl)
 
 -- what is read is spelled
 pub parts_take : (bytes : List ℕ) (l : Ltl) → AreBytes bytes → parts_in bytes ≡ Some l → bytes ≡ ltl_bytes l
@@ -231,7 +253,7 @@ parts_again bytes l spells =
     let is = spells.is_ltl in
     let read = mapped (λ x. record { slots = x.0; entry = x.1.0; blocks = x.1.1 }) (both slots_in (both word_in blocks_in)) in
     let whole : read bytes ≡ Some (l, []) =
-      ap read (spells.spelled ∙ sym (append-nil (ltl_bytes l))) ∙ (function_field l.slots is.slots).again l [] (is.slots, (is.entry, (is.count, each_fits l.slots l.blocks is.blocks))) in
+    ap read (spells.spelled ∙ sym (append-nil (ltl_bytes l))) ∙ (function_field l.slots is.slots).again l [] (is.slots, (is.entry, (is.count, each_fits l.slots l.blocks is.blocks))) in
     rw whole refl
 
 -- no bytes spell two functions

@@ -1,10 +1,10 @@
 -- LTL: the code of a function over machine registers and slots, one block for each node of RTL, and what one block does.
-use Rattle.std.specs.Prelude.{◌≡◌, ℕ, zero, suc, ◌+◌, ◌-◌, ◌<◌, ◌≤◌, ◌^◌, Bool, true, false, if◌then◌else◌, ◌==◌, nat_le, IsTrue, List, [], ◌∷◌, length, get_or, Option, Some, None}
+use Rattle.std.specs.Prelude.{◌≡◌, ℕ, zero, suc, ◌-◌, ◌<◌, ◌≤◌, ◌^◌, Bool, true, false, if◌then◌else◌, ◌==◌, nat_le, List, [], ◌∷◌, length, get_or, Option, Some, None}
 use Rattle.std.specs.List.{AllByRecursion}
 use Rattle.cc_words.specs.Operators.{apply_unary, apply_binary}
 use Rattle.cc_runs.specs.World.{World, Answer, element, stored, next_word, after_read, after_write}
 use Rattle.cc_runs.specs.Unknown.{unknown_register, unknown_slot, register_after_call, unknown_word, left_after_entry, left_after_call, left_after_word}
-use Rattle.cc_runs.specs.Run.{Move as Moving, Goes, Calls, Returns, Fails, tried}
+use Rattle.cc_runs.specs.Run.{Move as Moving, Goes, Calls, Returns, tried}
 use Rattle.cc_ltl.specs.Registers.{IsAllocatable, most_slots}
 use Rattle.cc_ltl.specs.declared.location.Location.{Location}
 use Rattle.cc_ltl.specs.declared.location.Location.TheVariants.{Register, Slot}

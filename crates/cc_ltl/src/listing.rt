@@ -49,16 +49,37 @@ impl fmt::Display for Operation {
         match self {
             Operation::Nop { .. } => write!(f, "nop"),
             Operation::Const { to, word, .. } => write!(f, "{to} = {word}"),
-            Operation::Unary { operator, to, from, .. } => {
+            Operation::Unary {
+                operator,
+                to,
+                from,
+                ..
+            } => {
                 let name = unary_name(*operator);
                 write!(f, "{to} = {name} {from}")
             }
-            Operation::Binary { operator, to, left, right, .. } => {
+            Operation::Binary {
+                operator,
+                to,
+                left,
+                right,
+                ..
+            } => {
                 let name = binary_name(*operator);
                 write!(f, "{to} = {name} {left}, {right}")
             }
-            Operation::Load { object, to, index, .. } => write!(f, "{to} = object{object}[{index}]"),
-            Operation::Store { object, index, from, .. } => write!(f, "object{object}[{index}] = {from}"),
+            Operation::Load {
+                object,
+                to,
+                index,
+                ..
+            } => write!(f, "{to} = object{object}[{index}]"),
+            Operation::Store {
+                object,
+                index,
+                from,
+                ..
+            } => write!(f, "object{object}[{index}] = {from}"),
             Operation::Call { function, .. } => write!(f, "call {function}"),
             Operation::Read { .. } => write!(f, "read"),
             Operation::Write { .. } => write!(f, "write"),
@@ -86,7 +107,11 @@ impl fmt::Display for Next {
             | Operation::Call { next, .. }
             | Operation::Read { next }
             | Operation::Write { next } => write!(f, " -> {next}"),
-            Operation::Branch { if_nonzero, if_zero, .. } => write!(f, " -> {if_nonzero}, {if_zero}"),
+            Operation::Branch {
+                if_nonzero,
+                if_zero,
+                ..
+            } => write!(f, " -> {if_nonzero}, {if_zero}"),
             Operation::Return => Ok(()),
         }
     }

@@ -36,7 +36,11 @@ impl Ltl {
         ensures fits { IsOk result ↔ IsLtl (record { slots = slots; entry = entry; blocks = blocks.items }) }
         ensures hands_back { MatchResult result (λ ltl. ltl ≡ record { slots = slots; entry = entry; blocks = blocks.items }) (λ back. back ≡ blocks) }
     {
-        if slots > MOST_SLOTS || blocks.len() > 0xffff_ffff || !ascend(&blocks) || !blocks_fit(slots, &blocks) {
+        if slots > MOST_SLOTS
+            || blocks.len() > 0xffff_ffff
+            || !ascend(&blocks)
+            || !blocks_fit(slots, &blocks)
+        {
             return Err(blocks);
         }
         Ok(Ltl {

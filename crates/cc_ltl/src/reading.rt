@@ -168,29 +168,29 @@ fn move_at(bytes: &[u8]) -> Option<(Move, &[u8])>
     match kind {
         0 => {
             let Some((to, rest)) = register_at(rest) else {
-        return None;
-    };
+                return None;
+            };
             let Some((from, rest)) = register_at(rest) else {
-        return None;
-    };
+                return None;
+            };
             Some((Move::Between { to, from }, rest))
         }
         1 => {
             let Some((to, rest)) = register_at(rest) else {
-        return None;
-    };
+                return None;
+            };
             let Some((slot, rest)) = slot_at(rest) else {
-        return None;
-    };
+                return None;
+            };
             Some((Move::Reload { to, slot }, rest))
         }
         2 => {
             let Some((slot, rest)) = slot_at(rest) else {
-        return None;
-    };
+                return None;
+            };
             let Some((from, rest)) = register_at(rest) else {
-        return None;
-    };
+                return None;
+            };
             Some((Move::Spill { slot, from }, rest))
         }
         _ => None,
@@ -252,7 +252,15 @@ fn unary_operation_at(bytes: &[u8]) -> Option<(Operation, &[u8])>
         return None;
     };
     let (next, rest) = word_at(rest)?;
-    Some((Operation::Unary { operator, to, from, next }, rest))
+    Some((
+        Operation::Unary {
+            operator,
+            to,
+            from,
+            next,
+        },
+        rest,
+    ))
 }
 
 #[tactic(auto, unfolding(crate::specs::internal::Reading::binary_operation_in))]
@@ -272,7 +280,16 @@ fn binary_operation_at(bytes: &[u8]) -> Option<(Operation, &[u8])>
         return None;
     };
     let (next, rest) = word_at(rest)?;
-    Some((Operation::Binary { operator, to, left, right, next }, rest))
+    Some((
+        Operation::Binary {
+            operator,
+            to,
+            left,
+            right,
+            next,
+        },
+        rest,
+    ))
 }
 
 // An object with the width of its elements, two registers, and the next label: the fields of a load and of a store.
@@ -297,7 +314,15 @@ fn access_at(bytes: &[u8]) -> Option<(Access, &[u8])>
         return None;
     };
     let (next, rest) = word_at(rest)?;
-    Some((Access { object, first, second, next }, rest))
+    Some((
+        Access {
+            object,
+            first,
+            second,
+            next,
+        },
+        rest,
+    ))
 }
 
 #[tactic(auto, unfolding(crate::specs::internal::Reading::load_in))]
@@ -307,8 +332,21 @@ fn load_at(bytes: &[u8]) -> Option<(Operation, &[u8])>
     let Some((access, rest)) = access_at(bytes) else {
         return None;
     };
-    let Access { object, first, second, next } = access;
-    Some((Operation::Load { object, to: first, index: second, next }, rest))
+    let Access {
+        object,
+        first,
+        second,
+        next,
+    } = access;
+    Some((
+        Operation::Load {
+            object,
+            to: first,
+            index: second,
+            next,
+        },
+        rest,
+    ))
 }
 
 #[tactic(auto, unfolding(crate::specs::internal::Reading::store_in))]
@@ -318,8 +356,21 @@ fn store_at(bytes: &[u8]) -> Option<(Operation, &[u8])>
     let Some((access, rest)) = access_at(bytes) else {
         return None;
     };
-    let Access { object, first, second, next } = access;
-    Some((Operation::Store { object, index: first, from: second, next }, rest))
+    let Access {
+        object,
+        first,
+        second,
+        next,
+    } = access;
+    Some((
+        Operation::Store {
+            object,
+            index: first,
+            from: second,
+            next,
+        },
+        rest,
+    ))
 }
 
 #[tactic(auto, unfolding(crate::specs::internal::Reading::call_in))]
@@ -356,7 +407,14 @@ fn branch_at(bytes: &[u8]) -> Option<(Operation, &[u8])>
     };
     let (if_nonzero, rest) = word_at(rest)?;
     let (if_zero, rest) = word_at(rest)?;
-    Some((Operation::Branch { from, if_nonzero, if_zero }, rest))
+    Some((
+        Operation::Branch {
+            from,
+            if_nonzero,
+            if_zero,
+        },
+        rest,
+    ))
 }
 
 #[tactic(auto, unfolding(crate::specs::internal::Reading::unary_in))]

@@ -76,17 +76,52 @@ fn put_operation(bytes: &mut Vec<u8>, operation: &Operation) -> Result<(), Alloc
             put(bytes, &[1, to.number()], word)?;
             put_word(bytes, next)
         }
-        Operation::Unary { operator, to, from, next } => {
-            put(bytes, &[2, number_of_unary(operator), to.number(), from.number()], next)
+        Operation::Unary {
+            operator,
+            to,
+            from,
+            next,
+        } => {
+            put(
+                bytes,
+                &[2, number_of_unary(operator), to.number(), from.number()],
+                next,
+            )
         }
-        Operation::Binary { operator, to, left, right, next } => {
-            put(bytes, &[3, number_of_binary(operator), to.number(), left.number(), right.number()], next)
+        Operation::Binary {
+            operator,
+            to,
+            left,
+            right,
+            next,
+        } => {
+            put(
+                bytes,
+                &[
+                    3,
+                    number_of_binary(operator),
+                    to.number(),
+                    left.number(),
+                    right.number(),
+                ],
+                next,
+            )
         }
-        Operation::Load { object, to, index, next } => {
+        Operation::Load {
+            object,
+            to,
+            index,
+            next,
+        } => {
             put(bytes, &[4, WIDTH], object)?;
             put(bytes, &[to.number(), index.number()], next)
         }
-        Operation::Store { object, index, from, next } => {
+        Operation::Store {
+            object,
+            index,
+            from,
+            next,
+        } => {
             put(bytes, &[5, WIDTH], object)?;
             put(bytes, &[index.number(), from.number()], next)
         }
@@ -96,7 +131,11 @@ fn put_operation(bytes: &mut Vec<u8>, operation: &Operation) -> Result<(), Alloc
         }
         Operation::Read { next } => put(bytes, &[7], next),
         Operation::Write { next } => put(bytes, &[8], next),
-        Operation::Branch { from, if_nonzero, if_zero } => {
+        Operation::Branch {
+            from,
+            if_nonzero,
+            if_zero,
+        } => {
             put(bytes, &[9, from.number()], if_nonzero)?;
             put_word(bytes, if_zero)
         }

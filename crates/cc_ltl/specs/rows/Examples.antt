@@ -6,7 +6,7 @@ use Rattle.cc_runs.specs.Behavior.{Outcome, Ended, Wrong}
 use Rattle.cc_runs.specs.World.{World, Question, Answer, Effect, Gives}
 use Rattle.cc_runs.specs.Run.{run}
 use Rattle.cc_ltl.specs.declared.operation.Move.TheVariants.{Between, Reload, Spill}
-use Rattle.cc_ltl.specs.declared.operation.Operation.TheVariants.{Nop, Const, Binary, Call, Write, Branch, Return}
+use Rattle.cc_ltl.specs.declared.operation.Operation.TheVariants.{Nop, Binary, Call, Return}
 use Rattle.cc_ltl.specs.Ltl.{Ltl, ltl_move, ltl_output, ltl_start}
 use Rattle.cc_ltl.specs.Bytes.{ltl_bytes}
 use Rattle.cc_ltl.specs.Listing.{block_text, ltl_text}
@@ -24,10 +24,10 @@ difference = record {
   slots = 3;
   entry = 0;
   blocks =
-    record { label = 0; before = Spill 0 10 ∷ Spill 1 11 ∷ []; operation = Nop 1; after = [] }
-    ∷ record { label = 1; before = Reload 7 0 ∷ Reload 8 1 ∷ []; operation = Binary Sub 7 7 8 2; after = Spill 2 7 ∷ [] }
-    ∷ record { label = 2; before = Reload 10 2 ∷ []; operation = Return; after = [] }
-    ∷ [];
+      record { label = 0; before = Spill 0 10 ∷ Spill 1 11 ∷ []; operation = Nop 1; after = [] }
+      ∷ record { label = 1; before = Reload 7 0 ∷ Reload 8 1 ∷ []; operation = Binary Sub 7 7 8 2; after = Spill 2 7 ∷ [] }
+      ∷ record { label = 2; before = Reload 10 2 ∷ []; operation = Return; after = [] }
+      ∷ [];
 }
 
 difference_text : ltl_text difference ≡ codes "slots 3, entry 0\n0: slot0 = x10; slot1 = x11; nop -> 1\n1: x7 = slot0; x8 = slot1; x7 = sub x7, x8; slot2 = x7 -> 2\n2: x10 = slot2; return\n"
@@ -69,9 +69,9 @@ keeps_in register = record {
   slots = 0;
   entry = 0;
   blocks =
-    record { label = 0; before = Between register 10 ∷ []; operation = Call 0 1; after = [] }
-    ∷ record { label = 1; before = Between 10 register ∷ []; operation = Return; after = [] }
-    ∷ [];
+      record { label = 0; before = Between register 10 ∷ []; operation = Call 0 1; after = [] }
+      ∷ record { label = 1; before = Between 10 register ∷ []; operation = Return; after = [] }
+      ∷ [];
 }
 
 -- x18 survives; x28 holds word 28 of the 32 that come after those of the entry

@@ -9,4 +9,4 @@ use Rattle.cc_ltl.proofs.listing.LtlDisplay.fmt.Given as goal
 abbrev pub invariant-loop-block : goal.invariant-loop-block
 invariant-loop-block g l =
     IsPlainFormatter l.fn.f → HasWritten g.W.Write.write_str_gives l.fn.f
-      (codes "slots " ++ decimal l.self.slots ++ codes ", entry " ++ decimal l.self.entry ++ codes "\n" ++ flat_map (λ (block : Block). block_text block ++ codes "\n") (take l.block-index l.self.blocks)) l.f
+    (codes "slots " ++ decimal l.self.slots ++ codes ", entry " ++ decimal l.self.entry ++ codes "\n" ++ flat_map (λ (block : Block). block_text block ++ codes "\n") (take l.block-index l.self.blocks)) l.f
