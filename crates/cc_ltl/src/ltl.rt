@@ -207,12 +207,12 @@ fn move_fits(slots: u16, each: &Move) -> bool
             let _registers = (to.number(), from.number());
             true
         }
-        Move::Reload { to, slot } => {
-            let _registers = to.number();
-            slot.number() < slots
-        }
-        Move::Spill { slot, from } => {
-            let _registers = from.number();
+        Move::Reload { to: register, slot }
+        | Move::Spill {
+            slot,
+            from: register,
+        } => {
+            let _register = register.number();
             slot.number() < slots
         }
     }

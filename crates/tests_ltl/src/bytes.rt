@@ -73,7 +73,7 @@ fn each_byte_changed(rt: HostRuntime) -> Result<(), Fail> {
     for place in 0..DIFFERENCE.len() {
         for value in 0..=255u8 {
             if is_changed(rt.alloc(), &DIFFERENCE, place, value)? {
-                functions += 1;
+                functions = functions.saturating_add(1);
             }
         }
     }
