@@ -1,0 +1,15 @@
+-- The edges of a graph, kept in both directions.
+use Rattle.std.specs.Prelude.{◌≡◌, ℕ, ◌<◌, List, All, Contains, length, map, Vec}
+use Rattle.std.specs.declared.alloc.Global.{Global}
+use Rattle.cc_flow.specs.Flow.{IsGraph, successors_of}
+
+-- rows as lists
+abbrev pub rows_of : List (Vec ℕ Global) → List (List ℕ)
+rows_of rows = map (λ row. row.items) rows
+
+-- one row a node in each direction; each end of an edge is a node; whoever leads to a node stands in its row of predecessors
+pub record AreEdges (successors predecessors : List (List ℕ)) : Type 0 where
+  pub rows : length predecessors ≡ length successors
+  pub graph : IsGraph successors
+  pub nodes : All (λ row. All (λ p. p < length successors) row) predecessors
+  pub leads : (p s : ℕ) → Contains (successors_of successors p) s → Contains (successors_of predecessors s) p

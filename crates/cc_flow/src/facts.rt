@@ -1,0 +1,50 @@
+//! What may be known at a node, and what a node makes of it.
+
+ghost use Rattle.std.specs.Prelude.{◌≡◌, ℕ, ◌<◌, ◌≤◌, IfOk, IfErr, IsTrue, IsFalse};
+ghost use Rattle.cc_flow.specs.Lattice.{Equivalent, IsLattice};
+
+use std::alloc::{AllocError, Global};
+
+/// What may be known at a node, ordered by how much is said.
+///
+/// `below` is that order, `bottom` its least value, `lub` the join. `room` says how often a value can still rise, and no value rises
+/// more than `height` times from the least.
+pub trait Facts: Drop {
+    ghost below: { Self → Self → Type 0 };
+
+    ghost bottom: { Self };
+
+    ghost lub: { Self → Self → Self };
+
+    ghost room: { Self → ℕ };
+
+    ghost height: { ℕ };
+
+    /// The least value.
+    fn least(alloc: Global) -> Result<Self, AllocError>
+        ensures { IfOk result (λ facts. facts ≡ bottom) };
+
+    /// Joins other facts to these, and answers whether these rose. Without memory they stay as they were.
+    fn join(&mut self, other: &Self) -> Result<bool, AllocError>
+        ensures joined { IfOk result (λ _. Equivalent below self.new (lub self.old other.now)) }
+        ensures unchanged { IfOk result (λ rose. IsFalse rose → self.new ≡ self.old) }
+        ensures rises { IfOk result (λ rose. IsTrue rose → room self.new < room self.old) }
+        ensures leaves { IfErr result (λ _. self.new ≡ self.old) };
+
+    // The order has a least value and least upper bounds.
+    ghost laws: { IsLattice below bottom lub };
+
+    // No value rises more often than that.
+    ghost bounded: { room bottom ≤ height };
+}
+
+/// What each node makes of the facts behind it, which more facts only make more.
+pub trait Transfer<F: Facts> {
+    ghost carries: { Self → ℕ → F → F };
+
+    /// What a node makes of these facts.
+    fn apply(&self, alloc: Global, node: usize, facts: &F) -> Result<F, AllocError>
+        ensures { IfOk result (λ carried. Equivalent F.below carried (carries self.now node facts.now)) };
+
+    ghost monotone: { (t : Self) (node : ℕ) (x y : F) → F.below x y → F.below (carries t node x) (carries t node y) };
+}

@@ -1,0 +1,106 @@
+//! Graphs whose nodes are numbers.
+
+ghost use Rattle.std.specs.Prelude.{◌≡◌, ℕ, ◌<◌, ◌++◌, ◌∷◌, [], All, Contains, length, replicate, slice_set, set, IfOk, IfErr};
+ghost use Rattle.cc_flow.specs.Flow.{successors_of};
+ghost use Rattle.cc_flow.specs.internal.Edges.{rows_of};
+
+use std::alloc::{AllocError, Global};
+use std::marker::Model;
+
+/// A graph: for each node, numbered from 0, the nodes that it leads to. Contracts see it as the list of these rows.
+#[derive(Drop)]
+pub struct Graph {
+    successors: Vec<Vec<usize>>,
+    // For each node at least those that lead to it.
+    predecessors: Vec<Vec<usize>>,
+}
+
+impl Model for Graph {
+    ghost use Rattle.std.specs.Prelude.{List, ℕ};
+    ghost use Rattle.cc_flow.specs.internal.Edges.{AreEdges, rows_of};
+
+    ghost Value = { List (List ℕ) };
+
+    ghost view = { λ g. rows_of g.successors.items };
+
+    ghost invariant = { λ g. AreEdges (rows_of g.successors.items) (rows_of g.predecessors.items) };
+}
+
+impl Graph {
+    /// A graph of so many nodes without an edge.
+    pub fn new(alloc: Global, nodes: usize) -> Result<Graph, AllocError>
+        ensures { IfOk result (λ graph. graph ≡ replicate nodes []) }
+    {
+        Ok(Graph {
+            successors: empty_rows(alloc, nodes)?,
+            predecessors: empty_rows(alloc, nodes)?,
+        })
+    }
+
+    /// How many nodes it has.
+    pub fn len(&self) -> usize
+        ensures { result ≡ length self.now }
+    {
+        self.successors.len()
+    }
+
+    /// Leads one node to another, last in the row of the first. Without memory the graph stays as it was.
+    pub fn add_edge(&mut self, from: usize, to: usize) -> Result<(), AllocError>
+        requires from { from < length self.old }
+        requires to { to < length self.old }
+        ensures added { IfOk result (λ _. self.new ≡ slice_set self.old from (successors_of self.old from ++ to ∷ [])) }
+        ensures leaves { IfErr result (λ _. self.new ≡ self.old) }
+    {
+        push_in(&mut self.predecessors, to, from)?;
+        push_in(&mut self.successors, from, to)?;
+        Ok(())
+    }
+
+    /// The nodes that a node leads to.
+    pub fn successors(&self, node: usize) -> &[usize]
+        requires { node < length self.now }
+        ensures row { result.now ≡ successors_of self.now node }
+        ensures nodes { All (λ s. s < length self.now) result.now }
+    {
+        row_at(self.successors.as_slice(), node)
+    }
+
+    /// The nodes that lead to a node, and perhaps others.
+    pub(crate) fn predecessors(&self, node: usize) -> &[usize]
+        requires { node < length self.now }
+        ensures leads { (p : ℕ) → Contains (successors_of self.now p) node → Contains result.now p }
+        ensures nodes { All (λ p. p < length self.now) result.now }
+    {
+        row_at(self.predecessors.as_slice(), node)
+    }
+}
+
+/// So many empty rows.
+fn empty_rows(alloc: Global, nodes: usize) -> Result<Vec<Vec<usize>>, AllocError>
+    ensures { IfOk result (λ rows. rows_of rows.items ≡ replicate nodes []) }
+{
+    let mut rows = Vec::new(alloc);
+    for made in 0..nodes {
+        let _made = made;
+        rows.push(Vec::new(alloc))?;
+    }
+    Ok(rows)
+}
+
+/// One row.
+fn row_at(rows: &[Vec<usize>], at: usize) -> &[usize]
+    requires { at < length rows.now }
+    ensures { result.now ≡ successors_of (rows_of rows.now) at }
+{
+    rows[at].as_slice()
+}
+
+/// Puts a node last in one row.
+fn push_in(rows: &mut Vec<Vec<usize>>, at: usize, node: usize) -> Result<(), AllocError>
+    requires { at < length rows.old.items }
+    ensures added { IfOk result (λ _. rows_of rows.new.items ≡ set (rows_of rows.old.items) at (successors_of (rows_of rows.old.items) at ++ node ∷ [])) }
+    ensures leaves { IfErr result (λ _. rows_of rows.new.items ≡ rows_of rows.old.items) }
+{
+    rows[at].push(node)?;
+    Ok(())
+}

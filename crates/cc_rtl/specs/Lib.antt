@@ -1,0 +1,4 @@
+-- The language: its syntax as data, and what one node does.
+pub mod Rtl
+-- The RTL that the code keeps.
+pub mod Code

@@ -1,0 +1,85 @@
+//! The nodes of RTL.
+
+use cc_words::{Binary, Unary};
+use smallvec::SmallVec;
+
+/// A node: a pseudo-register `to` that gets a word, the pseudo-registers that it reads, and the label of the node that comes next.
+#[derive(Drop)]
+pub enum Node {
+    /// Does nothing.
+    Nop {
+        next: u32,
+    },
+    Const {
+        to: u32,
+        word: u32,
+        next: u32,
+    },
+    Move {
+        to: u32,
+        from: u32,
+        next: u32,
+    },
+    Unary {
+        operator: Unary,
+        to: u32,
+        from: u32,
+        next: u32,
+    },
+    /// Goes wrong where the operator has no answer.
+    Binary {
+        operator: Binary,
+        to: u32,
+        left: u32,
+        right: u32,
+        next: u32,
+    },
+    /// Takes an element of an object; goes wrong where there is none.
+    Load {
+        object: u32,
+        to: u32,
+        index: u32,
+        next: u32,
+    },
+    /// Sets an element of an object; goes wrong where there is none.
+    Store {
+        object: u32,
+        index: u32,
+        from: u32,
+        next: u32,
+    },
+    /// Calls a function. Its result goes to a pseudo-register or is dropped.
+    Call {
+        function: u32,
+        arguments: SmallVec<u32, 8>,
+        to: Option<u32>,
+        next: u32,
+    },
+    /// Takes the next word of the input, or 0 where none is left.
+    Read {
+        to: u32,
+        next: u32,
+    },
+    /// Puts a word after the output.
+    Write {
+        from: u32,
+        next: u32,
+    },
+    /// Goes on at one label where the word is not 0, at the other where it is.
+    Branch {
+        from: u32,
+        if_nonzero: u32,
+        if_zero: u32,
+    },
+    /// Ends the function with a word.
+    Return {
+        from: u32,
+    },
+}
+
+/// A node with its label.
+#[derive(Drop)]
+pub struct Labelled {
+    pub label: u32,
+    pub node: Node,
+}
