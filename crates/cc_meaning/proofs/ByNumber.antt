@@ -4,13 +4,13 @@ use Rattle.cc_syntax.specs.Tree.{External}
 use Rattle.cc_typing.specs.Typed.{IsTyped}
 use Rattle.cc_runs.specs.Behavior.{Begins}
 use Rattle.cc_runs.specs.World.{Answer, Effect, Gives, Unfinished, Failed}
-use Rattle.cc_runs.specs.Meaning.{Meaning, Later, written_by, answered}
+use Rattle.cc_runs.specs.Meaning.{Meaning, Later, written_by}
 use Rattle.cc_meaning.specs.Meaning.{Global, functions, initial_globals}
 use Rattle.cc_meaning.specs.Function as by_name
 use Rattle.cc_meaning.specs.Function.{Shared, call_function, body_of_function}
 use Rattle.cc_meaning.specs.Calls as calls
 use Rattle.cc_meaning.specs.Calls.{main_of, first_shared, outcome_of_effect}
-use Rattle.cc_meaning.specs.Numbered.{names_of, words_in, world_of, named, shared_in, objects_in, numbered, call_in, body_in, arity_in, TypedUnitsHaveMeanings, CallsAreNumbered, without_cause, with_word, ProgramsAreNumbered}
+use Rattle.cc_meaning.specs.Numbered.{names_of, words_in, world_of, named, shared_in, objects_in, numbered, call_in, body_in, arity_in, TypedUnitsHaveMeanings, CallsAreNumbered, without_cause, outcome_by_number, ProgramsAreNumbered}
 use Rattle.cc_meaning.proofs.Named.{typed_units_have_meaning}
 use Rattle.cc_meaning.proofs.Effects.{calls_go_on}
 use Rattle.cc_meaning.proofs.Mains.{programs_call_main}
@@ -96,7 +96,7 @@ typed_units_have_meanings unit typed = (meaning_in unit typed, record { function
 
 -- ---- programs
 
-plain_outcome : (e : by_name.Effect by_name.Answer) → without_cause (outcome_of_effect e) ≡ with_word (answered (numbered e))
+plain_outcome : (e : by_name.Effect by_name.Answer) → without_cause (outcome_of_effect e) ≡ outcome_by_number (numbered e)
 plain_outcome (by_name.Answers a left) = refl
 plain_outcome (by_name.Unfinished o) = refl
 plain_outcome (by_name.Failed cause o) = refl
@@ -106,4 +106,4 @@ programs_are_numbered source main input n =
     let unit = source.externals in
     let h = first_shared unit input in
     ap without_cause (programs_call_main source main input n) ∙ plain_outcome (call_function unit n 0 (main_of unit) [] h)
-    ∙ ap (λ e. with_word (answered e)) (sym (calls_are_numbered unit n 0 (main_of unit) [] h refl).0)
+    ∙ ap outcome_by_number (sym (calls_are_numbered unit n 0 (main_of unit) [] h refl).0)

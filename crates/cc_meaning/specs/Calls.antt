@@ -35,7 +35,7 @@ abbrev pub CallsAreEffects : Type 0
 CallsAreEffects = (unit : List External) (n opened count : ℕ) (x ws : List ℕ) (s : State) → IsCalled (arities unit) (callee (layout_of unit) x) count → s.steps < n
     → calls n (functions unit) opened x ws s ≡ called unit opened (callee (layout_of unit) x) ws s
 
--- ---- more steps
+-- ---- more steps: what cc_runs says of a meaning by number, here by name and with the causes
 
 -- the output so far
 abbrev pub written_by : Effect Answer → List ℕ

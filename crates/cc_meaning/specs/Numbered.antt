@@ -4,8 +4,7 @@ use Rattle.cc_syntax.specs.Tree.{External, Source}
 use Rattle.cc_typing.specs.Typed.{IsTyped}
 use Rattle.cc_runs.specs.Behavior as runs
 use Rattle.cc_runs.specs.World.{World, Effect, Gives, Unfinished, Failed}
-use Rattle.cc_runs.specs.World as runs_world
-use Rattle.cc_runs.specs.Meaning.{Meaning, answered}
+use Rattle.cc_runs.specs.Meaning.{Meaning}
 use Rattle.cc_meaning.specs.Outcome as outcome
 use Rattle.cc_meaning.specs.Meaning.{Global, functions, initial_globals, source_behavior}
 use Rattle.cc_meaning.specs.Function as by_name
@@ -90,16 +89,13 @@ stop_without_cause (outcome.Wrong cause) = runs.Wrong
 abbrev pub without_cause : outcome.Outcome ℕ → runs.Outcome ℕ
 without_cause o = record { stop = stop_without_cause o.stop; output = o.output }
 
--- an outcome with the word of the answer alone
-abbrev pub stop_of_word : runs.Stop runs_world.Answer → runs.Stop ℕ
-stop_of_word runs.Going = runs.Going
-stop_of_word (runs.Ended a) = runs.Ended a.value
-stop_of_word runs.Wrong = runs.Wrong
-
-abbrev pub with_word : runs.Outcome runs_world.Answer → runs.Outcome ℕ
-with_word o = record { stop = stop_of_word o.stop; output = o.output }
+-- how the call of main comes out, by its word alone
+abbrev pub outcome_by_number : Effect → runs.Outcome ℕ
+outcome_by_number (Gives a left) = record { stop = runs.Ended a.value; output = a.world.output }
+outcome_by_number (Unfinished output) = record { stop = runs.Going; output = output }
+outcome_by_number (Failed output) = record { stop = runs.Wrong; output = output }
 
 -- a program's run is the call of main by its number
 abbrev pub ProgramsAreNumbered : Type 0
 ProgramsAreNumbered = (source : Source) → HasMain source.externals → (input : List ℕ) (n : ℕ)
-    → without_cause (source_behavior source input n) ≡ with_word (answered (call_in source.externals n 0 (main_of source.externals) [] (world_of (first_shared source.externals input))))
+    → without_cause (source_behavior source input n) ≡ outcome_by_number (call_in source.externals n 0 (main_of source.externals) [] (world_of (first_shared source.externals input)))

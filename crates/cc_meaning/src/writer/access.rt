@@ -3,7 +3,7 @@
 ghost use Rattle.std.specs.Prelude.{◌≡◌};
 ghost use Rattle.cc_meaning.specs.internal.Form.{load, call_of, store_of, store_element_of};
 
-use crate::form::Instruction;
+use crate::form::{Instruction, Slot};
 use cc_resolve::{BinaryOperation, Callee, Environment};
 
 /// What pushes the value of a variable.
@@ -23,13 +23,13 @@ pub fn store(names: &Environment<'_>, applied: Option<BinaryOperation>, name: &[
     match names.local(name) {
         Some(number) => match applied {
             None => Instruction::SetLocal(number),
-            Some(operation) => Instruction::UpdateLocal(operation, number),
+            Some(operation) => Instruction::Update(operation, Slot::Local(number)),
         },
         None => {
             let offset = names.object(name).offset;
             match applied {
                 None => Instruction::SetGlobal(offset),
-                Some(operation) => Instruction::UpdateGlobal(operation, offset),
+                Some(operation) => Instruction::Update(operation, Slot::Global(offset)),
             }
         }
     }
@@ -46,7 +46,7 @@ pub fn store_element(
     let extent = names.object(name);
     match applied {
         None => Instruction::SetElement(extent),
-        Some(operation) => Instruction::UpdateElement(operation, extent),
+        Some(operation) => Instruction::Update(operation, Slot::Element(extent)),
     }
 }
 
