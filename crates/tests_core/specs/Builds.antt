@@ -1,4 +1,4 @@
--- A build in which each source has one piece or two, and the first holds the unit.
+-- Two builds: one in which each source has one piece or two, and the first holds the unit; and one that makes nothing.
 use Rattle.std.specs.Prelude.{ℕ, ◌≡◌, Bool, true, false, List, [], ◌∷◌, length, Result, Ok, Err, All, if◌then◌else◌, ◌==◌, refl}
 use Rattle.std.proofs.Common.{sym, ap, subst, ◌∙◌, cond, arith}
 use Rattle.cc_link.specs.declared.unit.StoredUnit.{StoredUnit}
@@ -49,3 +49,16 @@ law source [] unit whole kept is = absurd (cc)
 law source (piece ∷ later) unit whole kept is =
     let same = linked_same source piece.0 unit is in
     (ap (λ (u : StoredUnit). u.source) (sym same) ∙ (whole.named 0 piece refl).0, subst is_right same (kept 0 piece (omega arith)))
+
+-- ---- the build that makes nothing
+
+-- each source is refused with 11
+abbrev pub nothing : Rules Seen
+nothing = record { plan = λ source. Err 11; source_of = λ piece. piece.0.source; part_of = λ piece. piece.1; unit = λ source pieces. Err 11 }
+
+-- any unit is right
+abbrev pub is_anything : StoredUnit → Type 0
+is_anything unit = Unit {0}
+
+pub nothing_law : (source : List ℕ) (pieces : List Seen) (unit : StoredUnit) → AreWhole nothing source pieces → All keeps pieces → nothing.unit source pieces ≡ Ok unit → (unit.source ≡ source) × is_anything unit
+nothing_law source pieces unit whole kept is = absurd (cc)
