@@ -8,7 +8,7 @@ pub mod Commit
 pub mod Journal
 -- which answer a call gives, and when
 pub mod Answers
--- worked rows of `Format`, computed
+-- worked rows of `Format` and `Commit`, computed
 pub mod rows
 -- what only proofs and private contracts use
 pub mod internal

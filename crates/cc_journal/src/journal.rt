@@ -176,8 +176,8 @@ impl<D: Disk> Journal<D> {
         ensures moments { IsTrue D.honest → self.old.closed ≡ false
             → LeavesOnly D.moment D.left_since self.old.disk self.new.disk (HoldsOneOf self.old.area self.old.bodies bodies.items) }
     {
-        // A closed journal makes no device call: what its disk holds is not known before it is opened again.
         if self.closed {
+            // No device call: what the disk holds is not known before it is opened again.
             return Err(JournalFault::Closed);
         }
         let Some(used) = bytes_taken(&bodies, self.area) else {
