@@ -57,7 +57,10 @@ fn functions_are_read_and_written(rt: HostRuntime) -> Result<(), Fail> {
 #[test]
 fn shorter_and_longer_bytes_are_damaged(rt: HostRuntime) -> Result<(), Fail> {
     for length in 0..DIFFERENCE.len() {
-        assert!(rt; !is_function(rt.alloc(), &DIFFERENCE[..length])?, "{length} bytes");
+        assert!(rt;
+            !is_function(rt.alloc(), &DIFFERENCE[..length])?,
+            "{length} bytes"
+        );
     }
     assert!(rt; !is_function(rt.alloc(), &RETURNS[..20])?);
     let mut longer = Vec::from_slice(rt.alloc(), &RETURNS)?;
@@ -110,7 +113,10 @@ fn limits(rt: HostRuntime) -> Result<(), Fail> {
         // a width of 1
         (83, 1, false),
     ] {
-        assert!(rt; is_changed(rt.alloc(), &KINDS, place, value)? == right, "{value} at {place}");
+        assert!(rt;
+            is_changed(rt.alloc(), &KINDS, place, value)? == right,
+            "{value} at {place}"
+        );
     }
     Ok(())
 }
@@ -126,8 +132,18 @@ fn is_with_tail(alloc: Global, tail: &[u8]) -> Result<bool, Fail> {
 fn no_move_stands_behind_a_branch_or_a_return(rt: HostRuntime) -> Result<(), Fail> {
     assert!(rt; is_with_tail(rt.alloc(), b"\x00\x00\x00\x00\x00\x01\x00\x00\x07\x08")?);
     assert!(rt; !is_with_tail(rt.alloc(), b"\x0a\x01\x00\x00\x07\x08")?);
-    assert!(rt; !is_with_tail(rt.alloc(), b"\x09\x07\x00\x00\x00\x00\x00\x00\x00\x00\x01\x00\x00\x07\x08")?);
-    assert!(rt; is_with_tail(rt.alloc(), b"\x09\x07\x00\x00\x00\x00\x00\x00\x00\x00\x00\x00")?);
+    assert!(rt;
+        !is_with_tail(
+            rt.alloc(),
+            b"\x09\x07\x00\x00\x00\x00\x00\x00\x00\x00\x01\x00\x00\x07\x08"
+        )?
+    );
+    assert!(rt;
+        is_with_tail(
+            rt.alloc(),
+            b"\x09\x07\x00\x00\x00\x00\x00\x00\x00\x00\x00\x00"
+        )?
+    );
     Ok(())
 }
 
@@ -142,8 +158,20 @@ fn is_listed(alloc: Global, bytes: &[u8], text: &str) -> Result<bool, Fail> {
 
 #[test]
 fn listings(rt: HostRuntime) -> Result<(), Fail> {
-    assert!(rt; is_listed(rt.alloc(), &DIFFERENCE, "slots 3, entry 0\n0: slot0 = x10; slot1 = x11; nop -> 1\n1: x7 = slot0; x8 = slot1; x7 = sub x7, x8; slot2 = x7; x9 = x7 -> 300\n300: x10 = slot2; return\n")?);
-    assert!(rt; is_listed(rt.alloc(), &KINDS, "slots 1, entry 0\n0: nop -> 1\n1: x7 = 4294967295 -> 2\n2: x8 = complement x7 -> 3\n3: x31 = le_u x8, x7 -> 4\n4: x9 = object2[x31] -> 5\n5: object258[x9] = x8 -> 6\n6: x10 = x9; call 63; slot0 = x10 -> 7\n7: read -> 8\n8: write -> 9\n9: branch x7 -> 0, 4294967295\n4294967295: return\n")?);
+    assert!(rt;
+        is_listed(
+            rt.alloc(),
+            &DIFFERENCE,
+            "slots 3, entry 0\n0: slot0 = x10; slot1 = x11; nop -> 1\n1: x7 = slot0; x8 = slot1; x7 = sub x7, x8; slot2 = x7; x9 = x7 -> 300\n300: x10 = slot2; return\n"
+        )?
+    );
+    assert!(rt;
+        is_listed(
+            rt.alloc(),
+            &KINDS,
+            "slots 1, entry 0\n0: nop -> 1\n1: x7 = 4294967295 -> 2\n2: x8 = complement x7 -> 3\n3: x31 = le_u x8, x7 -> 4\n4: x9 = object2[x31] -> 5\n5: object258[x9] = x8 -> 6\n6: x10 = x9; call 63; slot0 = x10 -> 7\n7: read -> 8\n8: write -> 9\n9: branch x7 -> 0, 4294967295\n4294967295: return\n"
+        )?
+    );
     Ok(())
 }
 

@@ -5,7 +5,14 @@ use std::test::Fail;
 
 #[test]
 fn registers_and_slots(rt: HostRuntime) {
-    for (number, right) in [(0, false), (5, false), (6, false), (7, true), (31, true), (32, false)] {
+    for (number, right) in [
+        (0, false),
+        (5, false),
+        (6, false),
+        (7, true),
+        (31, true),
+        (32, false),
+    ] {
         assert!(rt; Register::new(number).is_some() == right, "x{number}");
     }
     for (number, right) in [(0, true), (494, true), (495, false)] {
@@ -14,14 +21,24 @@ fn registers_and_slots(rt: HostRuntime) {
 }
 
 // A block of this label with these moves before and no move after.
-fn block(alloc: Global, label: u32, before: Vec<Move>, operation: Operation) -> Result<Block, Fail> {
+fn block(
+    alloc: Global,
+    label: u32,
+    before: Vec<Move>,
+    operation: Operation,
+) -> Result<Block, Fail> {
     let Ok(before) = Moves::new(before) else {
         return Err(Fail::from("too many moves"));
     };
     let Ok(after) = Moves::new(Vec::new(alloc)) else {
         return Err(Fail::from("no moves are moves"));
     };
-    Ok(Block { label, before, operation, after })
+    Ok(Block {
+        label,
+        before,
+        operation,
+        after,
+    })
 }
 
 // Two blocks of these labels, in a function with so many slots: the first has x10 from slot 2, the second returns.
@@ -57,7 +74,10 @@ fn functions_from_parts(rt: HostRuntime) -> Result<(), Fail> {
         (3, 2, 1, false),
     ] {
         let made = two_blocks(rt.alloc(), slots, first, second)?;
-        assert!(rt; made.is_some() == right, "{slots} slots, labels {first} and {second}");
+        assert!(rt;
+            made.is_some() == right,
+            "{slots} slots, labels {first} and {second}"
+        );
     }
     Ok(())
 }
