@@ -2,7 +2,8 @@
 pub mod Cminor
 -- the Cminor that the code keeps
 pub mod Code
--- the meaning of a unit by number
-pub mod Numbered
 -- what a pair keeps
 pub mod Pair
+-- the number of the fault
+pub mod Fault
+pub mod internal
