@@ -3,3 +3,5 @@
 pub mod Lowering
 -- a value that code takes
 pub mod Taken
+-- what the lowering owes
+pub mod Laws

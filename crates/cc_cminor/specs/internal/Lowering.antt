@@ -12,7 +12,6 @@ use Rattle.cc_syntax.specs.declared.ast.UnaryOperator.{UnaryOperator}
 use Rattle.cc_syntax.specs.Tree as tree
 use Rattle.cc_syntax.specs.Tree.{Expr, Exprs, none, more, Number, Variable, Element, Parenthesised, Cast, Conditional, Target, AtVariable, AtElement, Action, Assign, Step, Evaluate, Declarator, Beginning, Declares, Performs, Stmt, Stmts, end, next, Perform, Break, Continue, IfElse, While, DoWhile, For}
 use Rattle.cc_typing.specs.Operators.{working_type, applied_operator, step_operator}
-use Rattle.cc_typing.specs.Rules.{count_of}
 use Rattle.cc_typing.specs.Types.{value_type, target_type}
 use Rattle.cc_resolve.specs.Layout.{Layout, object_number, callee}
 use Rattle.cc_resolve.specs.Environment.{Environment, number_in, types_in, inner, with_local, behind, behind_beginning}
@@ -150,6 +149,11 @@ abbrev pub used : Bool → Expression → Statement → ℕ → (Expression → 
 used true e code k f = f e
 used false e code k f = Sequence code (f (Local k))
 
+-- how many arguments a call has
+abbrev pub count : Exprs → ℕ
+count none = 0
+count (more e rest) = suc (count rest)
+
 abbrev pub locals_from : ℕ → ℕ → List Expression
 locals_from k zero = []
 locals_from k (suc n) = Local k ∷ locals_from (suc k) n
@@ -184,7 +188,7 @@ abbrev mutual
   put_expr g v k (Variable x) = Set k (variable_of g v x.text)
   put_expr g v k (Element x e) = used (is_plain e) (plain g v e) (put_expr g v k e) k (λ i. Set k (Load (object_of g x.text) i))
   put_expr g v k (tree.Call f es) =
-      called_on (are_plain es) (all_plain g v es) (in_sequence (put_all g v k es)) k (count_of es) (λ us. invoked (callee g f.text) k us)
+      called_on (are_plain es) (all_plain g v es) (in_sequence (put_all g v k es)) k (count es) (λ us. invoked (callee g f.text) k us)
   put_expr g v k (Parenthesised e) = put_expr g v k e
   put_expr g v k (tree.Unary op e) = used (is_plain e) (plain g v e) (put_expr g v k e) k (λ a. Set k (unary_of op a))
   put_expr g v k (Cast t e) = put_expr g v k e

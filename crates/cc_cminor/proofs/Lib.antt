@@ -1,0 +1,5 @@
+pub mod Paths
+pub mod Known
+pub mod Variables
+pub mod PutExpressions
+pub mod PerformedActions
