@@ -3,3 +3,4 @@ pub mod Known
 pub mod Variables
 pub mod PutExpressions
 pub mod PerformedActions
+pub mod LoweredStatements
