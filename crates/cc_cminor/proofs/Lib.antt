@@ -4,3 +4,4 @@ pub mod Variables
 pub mod PutExpressions
 pub mod PerformedActions
 pub mod LoweredStatements
+pub mod Bodies

@@ -39,8 +39,8 @@ pub record CallIs (effect : ℕ → Question → Effect) (call : meaning.Calls) 
 -- what is known of calls, where fewer than n steps are left
 pub record CallFacts (effect : ℕ → Question → Effect) (g : Layout) (call : meaning.Calls) (n : ℕ) : Type 0 where
   pub exact : Exact effect
-  pub writes : (x ws : List ℕ) (s : State) → callee g x ≡ WriteWord → call x ws s ≡ Gives 0 (record s { output = s.output ++ ws })
-  pub reads : (x ws : List ℕ) (s : State) → callee g x ≡ ReadWord → call x ws s ≡ read_input s.input s
+  pub writes : (x ws : List ℕ) (s : State) → callee g x ≡ WriteWord → s.steps < n → call x ws s ≡ Gives 0 (record s { output = s.output ++ ws })
+  pub reads : (x ws : List ℕ) (s : State) → callee g x ≡ ReadWord → s.steps < n → call x ws s ≡ read_input s.input s
   pub does : (x ws : List ℕ) (f : ℕ) (s : State) → callee g x ≡ Defined f → f < length g.functions → s.steps < n → sizes s.globals ≡ laid_sizes g.objects → CallIs effect call x ws f s
 
 module _ (effect : ℕ → Question → Effect) (g : Layout) where
@@ -212,7 +212,7 @@ module _ (effect : ℕ → Question → Effect) (g : Layout) where
         let w : ℕ = one_of.0 in
         let t : State = record s { output = s.output ++ (w ∷ []) } in
         let X : Statement = Set k (Constant 0) in
-        subst (λ r. Comes effect (Puts k κ ns l) (config (invoked WriteWord k us) κ l (world_at s)) s.steps r) (sym (facts.writes x ws s e))
+        subst (λ r. Comes effect (Puts k κ ns l) (config (invoked WriteWord k us) κ l (world_at s)) s.steps r) (sym (facts.writes x ws s e lt))
         (subst (λ vs. Comes effect (Puts k κ ns l) (config (invoked WriteWord k us) κ l (world_at s)) s.steps (Gives 0 (record s { output = s.output ++ vs }))) (sym one_of.1.0)
         (comes_moved effect (Puts k κ ns l) (config (invoked WriteWord k us) κ l (world_at s)) (config (Write (last_value us)) (Then X κ) l (world_at s)) s.steps (Gives 0 t) refl
         (comes_moved effect (Puts k κ ns l) (config (Write (last_value us)) (Then X κ) l (world_at s)) (config Skip (Then X κ) l (world_at t)) s.steps (Gives 0 t)
@@ -220,7 +220,7 @@ module _ (effect : ℕ → Question → Effect) (g : Layout) where
         (comes_moved effect (Puts k κ ns l) (config Skip (Then X κ) l (world_at t)) (config X κ l (world_at t)) s.steps (Gives 0 t) refl
         (set_gives k 0 (Constant 0) κ ns l t le (record { names = h.names; holds = h.holds; sized = h.sized }) refl)))))
     invoked_comes ReadWord k x us ws κ ns l s e known le lt h ps =
-        subst (λ r. Comes effect (Puts k κ ns l) (config (Read (Some k)) κ l (world_at s)) s.steps r) (sym (facts.reads x ws s e)) (read_comes s.input k κ ns l s refl le h)
+        subst (λ r. Comes effect (Puts k κ ns l) (config (Read (Some k)) κ l (world_at s)) s.steps r) (sym (facts.reads x ws s e lt)) (read_comes s.input k κ ns l s refl le h)
     invoked_comes (Defined f) k x us ws κ ns l s e known le lt h ps =
         subst (λ r. Comes effect (Puts k κ ns l) (config (Call (Some k) f us) κ l (world_at s)) s.steps r) (sym (facts.does x ws f s e known lt h.sized).does)
         (call_comes k f us ws κ ns l s (facts.does x ws f s e known lt h.sized).what le h ps (facts.does x ws f s e known lt h.sized).same (facts.does x ws f s e known lt h.sized).keeps)
