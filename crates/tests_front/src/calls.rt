@@ -1,6 +1,10 @@
 // Each public call of the front's libraries, once on its happy path.
 
-use cc_meaning::{MeaningFault, Stop, Words, functions_have_meaning, interpret, runs_go_on};
+use cc_meaning::{
+    MeaningFault, Stop, Words, calls_are_effects, calls_go_on, calls_keep_objects,
+    functions_are_resolved, functions_have_meaning, interpret, names_have_numbers,
+    programs_call_main, runs_go_on, units_have_meanings,
+};
 use cc_syntax::{
     Expression, External, Keyword, Place, Punctuator, Scalar, Statement, SyntaxFault,
     UnaryOperator, parse, place_at, tokens_are_determined, trees_are_determined,
@@ -154,4 +158,11 @@ fn laws() {
     trees_are_determined();
     functions_have_meaning();
     runs_go_on();
+    calls_are_effects();
+    calls_go_on();
+    calls_keep_objects();
+    names_have_numbers();
+    programs_call_main();
+    functions_are_resolved();
+    units_have_meanings();
 }

@@ -1,7 +1,7 @@
 // Names to numbers: locals, objects and functions, and operators to operations.
 
 use cc_resolve::{
-    BinaryOperation, Environment, UnaryOperation, declare_statement, enter_function, lay_out,
+    BinaryOperation, Callee, UnaryOperation, declare_statement, function_environment, lay_out,
     leave_function, operation, unary_operation,
 };
 use cc_syntax::{BinaryOperator, Scalar, UnaryOperator, parse};
@@ -13,12 +13,11 @@ fn numbers_of_names(rt: HostRuntime) -> Result<(), Fail> {
     let text = b"int g=3,a[2]={1,2};unsigned u;int main(void){}void f(int n){unsigned i;}";
     let typed = check(rt.alloc(), parse(rt.alloc(), text.as_slice())?)?;
     let mut words = Vec::new(rt.alloc());
-    let layout = lay_out(rt.alloc(), &mut words, typed.externals())?;
+    drop(lay_out(rt.alloc(), &mut words, typed.externals())?);
     assert!(rt; words.as_slice() == [3u32, 1, 2, 0].as_slice());
     assert!(rt; typed.functions() == 2);
     let f = typed.definition(1);
-    let mut names = Environment::new(rt.alloc(), layout)?;
-    enter_function(&mut names, f.signature)?;
+    let mut names = function_environment(rt.alloc(), &typed, 1)?;
     for statement in f.body {
         declare_statement(&mut names, statement)?;
     }
@@ -27,7 +26,9 @@ fn numbers_of_names(rt: HostRuntime) -> Result<(), Fail> {
     assert!(rt; matches!(names.variable_type(b"i"), Scalar::Unsigned));
     let (array, objects) = (names.object(b"a"), names.object_number(b"u"));
     assert!(rt; array.offset == 1 && array.length == 2 && objects == Some(2));
-    assert!(rt; names.function(b"main") == 0 && names.function(b"f") == 1);
+    assert!(rt; matches!(names.callee(b"main"), Callee::Defined(0)));
+    assert!(rt; matches!(names.callee(b"f"), Callee::Defined(1)));
+    assert!(rt; matches!(names.callee(b"read_word"), Callee::ReadWord));
     leave_function(&mut names);
     assert!(rt; names.len() == 0 && names.local(b"n").is_none());
     Ok(())

@@ -4,8 +4,7 @@ ghost use Rattle.std.specs.Prelude.{◌≡◌};
 ghost use Rattle.cc_meaning.specs.internal.Form.{load, call_of, store_of, store_element_of};
 
 use crate::form::Instruction;
-use cc_resolve::{BinaryOperation, Environment};
-use cc_typing::{READ_WORD, WRITE_WORD};
+use cc_resolve::{BinaryOperation, Callee, Environment};
 
 /// What pushes the value of a variable.
 pub fn load(names: &Environment<'_>, name: &[u8]) -> Instruction
@@ -55,11 +54,9 @@ pub fn store_element(
 pub fn call_instruction(names: &Environment<'_>, name: &[u8]) -> Instruction
     ensures { result ≡ call_of names.now name.now }
 {
-    if WRITE_WORD == name {
-        Instruction::Write
-    } else if READ_WORD == name {
-        Instruction::Read
-    } else {
-        Instruction::Call(names.function(name))
+    match names.callee(name) {
+        Callee::WriteWord => Instruction::Write,
+        Callee::ReadWord => Instruction::Read,
+        Callee::Defined(function) => Instruction::Call(function),
     }
 }
