@@ -136,7 +136,7 @@ bound_holds (x ∷ xs) (w ∷ ws) ls l e h f =
 module _ (effects : CallsAreEffects) (keep : CallsKeepObjects) (functions_are : FunctionsAreNumbered) (objects_are : ObjectsAreNumbered) (sized : ObjectsAreSized) (by_numbers : CallsAreNumbered) where
   same_many : (unit : List External) → length (arities unit) ≡ length (layout_of unit).functions
   same_many unit =
-      length-map (λ (g : Function). length g.parameters) (functions unit) ∙ sym (length-map (λ (g : Function). g.name) (functions unit)) ∙ ap (λ (xs : List (List ℕ)). length xs) (functions_are unit)
+      length-map (functions unit) (λ (g : Function). length g.parameters) ∙ sym (length-map (functions unit) (λ (g : Function). g.name)) ∙ ap (λ (xs : List (List ℕ)). length xs) (functions_are unit)
 
   same_names : (unit : List External) (gs : List Global) → sizes gs ≡ laid_sizes (layout_of unit).objects → by_number.names_of gs ≡ by_number.names_of (initial_globals unit)
   same_names unit gs e = sym (sized_names gs) ∙ ap (λ zs. map (λ (z : Size). z.name) zs) e ∙ laid_names (layout_of unit).objects ∙ sym (objects_are unit)
@@ -173,7 +173,7 @@ module _ (effects : CallsAreEffects) (keep : CallsKeepObjects) (functions_are : 
       let arity : arity_in unit f ≡ length ps =
       ap (λ o. unwrap_or o 0) (slice_get-map (λ (g : Function). length g.parameters) (functions unit) f ∙ ap (λ o. option_map (λ (g : Function). length g.parameters) o) r.function) in
       let many : length ws ≡ length ps = call.count ∙ ap (λ (a : ℕ → ℕ). a f) is.arity ∙ arity in
-      let many' : length ws ≡ length r.signature.parameters = many ∙ length-map (λ (p : Parameter). text_of p.name) r.signature.parameters in
+      let many' : length ws ≡ length r.signature.parameters = many ∙ length-map r.signature.parameters (λ (p : Parameter). text_of p.name) in
       let fits : Fits g r.environment.locals s (first_variables ws) = record {
         names = bound_names r.signature.parameters ws [] many' ∙ sym r.locals;
         holds = bound_holds ps ws [] (first_variables ws) many tt (λ i. ap (first_variables ws) (let g : 0 + i ≡ i = omega arith in g));

@@ -107,13 +107,12 @@ same_count none = refl
 same_count (more e rest) = let h = same_count rest in omega arith
 
 module _ (a : List ℕ) (g : Layout) (many : length a ≡ length g.functions) where
-  placed_of : (o : Option ℕ) (x : List ℕ) → elim o as (λ _. Type 0) [ None ↦ IsObject g x × ((extent_of g.objects x).length ≡ 1) | Some i ↦ Unit {0} ] → IsPlaced g o x
-  placed_of None x h = h
-  placed_of (Some i) x h = tt
+  placed_of : (o : Option ℕ) (v : Environment) (x : List ℕ) → v.layout ≡ g → resolved.IsPlaced o v x → IsPlaced g o x
+  placed_of None v x e h = (subst (λ (g : Layout). IsObject g x) e h.0, subst (λ (g : Layout). (extent_of g.objects x).length ≡ 1) e h.1)
+  placed_of (Some i) v x e h = tt
 
   variable_of : (v : Environment) (x : List ℕ) → v.layout ≡ g → resolved.IsVariable v x → IsVariable g v x
-  variable_of v x e h =
-      placed_of (number_in v.locals x) x (subst (λ (g : Layout). elim (number_in v.locals x) as (λ _. Type 0) [ None ↦ IsObject g x × ((extent_of g.objects x).length ≡ 1) | Some i ↦ Unit {0} ]) e h)
+  variable_of v x e h = placed_of (number_in v.locals x) v x e h
 
   object_of : (v : Environment) (x : List ℕ) → v.layout ≡ g → resolved.IsObject v x → IsObject g x
   object_of v x e h = subst (λ (g : Layout). IsObject g x) e h
