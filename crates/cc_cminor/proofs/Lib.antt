@@ -5,3 +5,4 @@ pub mod PutExpressions
 pub mod PerformedActions
 pub mod LoweredStatements
 pub mod Bodies
+pub mod Layer

@@ -3,5 +3,3 @@
 pub mod Lowering
 -- a value that code takes
 pub mod Taken
--- what the lowering owes
-pub mod Laws

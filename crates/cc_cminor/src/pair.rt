@@ -51,7 +51,7 @@ impl CminorPair {
 
     /// The unit.
     pub fn unit(&self) -> &Arc<TypedUnit>
-        ensures { arc_value result.now ≡ self.now.unit }
+        ensures answer { arc_value result.now ≡ self.now.unit }
     {
         &self.unit
     }
@@ -78,7 +78,7 @@ impl CminorPair {
 
     /// The unit's owner, for the pair of the next language.
     pub fn into_unit(self) -> Arc<TypedUnit>
-        ensures { arc_value result ≡ self.unit }
+        ensures answer { arc_value result ≡ self.unit }
     {
         let CminorPair {
             unit,
