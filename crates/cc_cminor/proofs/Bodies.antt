@@ -72,9 +72,10 @@ sized_named (p ∷ ps) (x ∷ xs) (w ∷ ws) e f =
     let names : xs ≡ map (λ (p : LaidObject). p.name) ps = cc in
     let size : length w ≡ p.extent.length = cc in
     let rest : map (λ (w : List ℕ). length w) ws ≡ map (λ (p : LaidObject). p.extent.length) ps = cc in
-    let h = sized_named ps xs ws names rest in
-    (ap (λ y. record { name = y; words = length w } ∷ sizes (named xs ws)) name ∙ ap (λ n. record { name = p.name; words = n } ∷ sizes (named xs ws)) size ∙ ap (λ zs. record { name = p.name; words = p.extent.length } ∷ zs) h.0,
-    ap (λ vs. w ∷ vs) h.1)
+    let h = sized_named ps xs ws names rest in (
+      ap (λ y. record { name = y; words = length w } ∷ sizes (named xs ws)) name ∙ ap (λ n. record { name = p.name; words = n } ∷ sizes (named xs ws)) size ∙ ap (λ zs. record { name = p.name; words = p.extent.length } ∷ zs) h.0,
+      ap (λ vs. w ∷ vs) h.1,
+    )
 
 -- ---- the end of a run
 
@@ -86,14 +87,17 @@ ended : (effect : ℕ → Question → Effect) (c d : Config) (n left : ℕ) (a 
 ended effect c d n left a p e o =
     let r = p.way.same 1 0 in
     let w = p.way.done 1 0 in
-    let paid = p.paid in
-    (p.m + 1, p.t + 0, record {
-      moves = p.m + 1;
-      steps = p.t + 0;
-      few = omega arith;
-      few_steps = omega arith;
-      keeps = (r ∙ ap (λ x. act effect x (cminor_output d) 0 (run cminor_move cminor_output effect 0)) e ∙ ap (λ y. record { stop = Ended a; output = y }) o, omega arith);
-    })
+    let paid = p.paid in (
+      p.m + 1,
+      p.t + 0,
+      record {
+        moves = p.m + 1;
+        steps = p.t + 0;
+        few = omega arith;
+        few_steps = omega arith;
+        keeps = (r ∙ ap (λ x. act effect x (cminor_output d) 0 (run cminor_move cminor_output effect 0)) e ∙ ap (λ y. record { stop = Ended a; output = y }) o, omega arith);
+      },
+    )
 
 gave_back : (effect : ℕ → Question → Effect) (g : Layout) (c d : Config) (n w : ℕ) (t : State) → Reaches effect c n t.steps d → GivesBack effect g w t d → Kept effect n (world.Gives (record { value = w; world = world_at t }) t.steps) c
 gave_back effect g c d n w t p q =
@@ -123,7 +127,7 @@ bound_names (p ∷ ps) (w ∷ ws) ls e =
     bound_names ps ws (record { name = text_of p.name; word = w } ∷ ls) (let f : suc (length ws) ≡ suc (length ps) = e in omega arith)
     ∙ ap (λ x. parameter_names ps (x ∷ names_of ls)) (same_text p.name)
 
-bound_holds : (ps : List (List ℕ)) (ws : List ℕ) (ls : List meaning.Local) (l : ℕ → ℕ) → length ws ≡ length ps → Holds ls l → ((i : ℕ) → l (length ls + i) ≡ unwrap_or (slice_get ws i) 0) → Holds (bound ps ws ls) l
+bound_holds : (ps : List (List ℕ)) (ws : List ℕ) (ls : List meaning.Local) (l : ℕ → ℕ) → length ws ≡ length ps → Holds ls l → ((i : ℕ) → l (length ls + i) ≡ get_or ws i 0) → Holds (bound ps ws ls) l
 bound_holds [] ws ls l e h f = h
 bound_holds (x ∷ xs) [] ls l e h f = absurd (let g : 0 ≡ suc (length xs) = e in omega arith)
 bound_holds (x ∷ xs) (w ∷ ws) ls l e h f =

@@ -192,10 +192,10 @@ module _ (effect : ℕ → Question → Effect) (g : Layout) where
         (comes_moved effect (Falling κ v.locals) (config Skip (Then X κ) q.variables (world_at z)) (config X κ q.variables (world_at z)) z.steps (go j z) refl
         (takes (suc k) f κ q.variables z (λ w y. then_do (new_value aop t u (ToElement x.text j) w y) (λ new y. write (ToElement x.text j) new y)) (omega arith) (omega arith) q.fits
         (λ e m y w below fits same is.
-          let here : m k ≡ j = same k (omega arith) ∙ q.is in
-          element_comes v.locals x.text k j (combined aop t u (Load o (Local k)) e) κ m y (new_value aop t u (ToElement x.text j) w y) known.0 here fits
-          (new_by aop t u (ToElement x.text j) (Load o (Local k)) e w m y both
-          (subst (λ p. PlainIs (read_element x.text j y) y p) (sym (element_value g x.text (Local k) j m y known.0 fits.sized (ap (λ a. Some a) here))) (plain_read x.text j y)) is)))))))
+        let here : m k ≡ j = same k (omega arith) ∙ q.is in
+        element_comes v.locals x.text k j (combined aop t u (Load o (Local k)) e) κ m y (new_value aop t u (ToElement x.text j) w y) known.0 here fits
+        (new_by aop t u (ToElement x.text j) (Load o (Local k)) e w m y both
+        (subst (λ p. PlainIs (read_element x.text j y) y p) (sym (element_value g x.text (Local k) j m y known.0 fits.sized (ap (λ a. Some a) here))) (plain_read x.text j y)) is)))))))
 
     pub performed_comes : (a : Action) (v : Environment) (κ : Continuation) (l : ℕ → ℕ) (s : State) → KnownAction g v a → s.steps < n → Fits g v.locals s l
         → Comes effect (Falling κ v.locals) (config (performed g v a) κ l (world_at s)) s.steps (perform a (types_in v) call s)
@@ -253,12 +253,12 @@ module _ (effect : ℕ → Question → Effect) (g : Layout) where
         comes_first effect R (using g v1 (suc i) e (λ y. Set i y)) X κ (put l i 0) (world_at s) s.steps (then_do (evaluate e (types_in v1) call s1) go)
         (using_comes R e v1 (suc i) (λ y. Set i y) μ (put l i 0) s1 go known (omega arith) lt (declared_fits t x v l s h)
         (λ y m u w less fits same is.
-          let z : State = record u { locals = with_local_word x w u.locals } in
-          subst (λ q. Comes effect R (config (Set i y) μ m (world_at u)) u.steps (declare t rest call v1.visible q)) (sym (local_stored v1.locals x w i u m (number_here x v.locals) fits))
-          (comes_moved effect R (config (Set i y) μ m (world_at u)) (config Skip μ (put m i w) (world_at z)) u.steps (declare t rest call v1.visible z)
-          (ap (λ o. tried o (λ x. Goes (config Skip μ (put m i x) (world_at u)))) is)
-          (comes_next effect R X κ (put m i w) (world_at z) u.steps (declare t rest call v1.visible z)
-          (again (put m i w) z (omega arith) (local_fits v1.locals x w i u m (number_here x v.locals) fits))))))
+        let z : State = record u { locals = with_local_word x w u.locals } in
+        subst (λ q. Comes effect R (config (Set i y) μ m (world_at u)) u.steps (declare t rest call v1.visible q)) (sym (local_stored v1.locals x w i u m (number_here x v.locals) fits))
+        (comes_moved effect R (config (Set i y) μ m (world_at u)) (config Skip μ (put m i w) (world_at z)) u.steps (declare t rest call v1.visible z)
+        (ap (λ o. tried o (λ x. Goes (config Skip μ (put m i x) (world_at u)))) is)
+        (comes_next effect R X κ (put m i w) (world_at z) u.steps (declare t rest call v1.visible z)
+        (again (put m i w) z (omega arith) (local_fits v1.locals x w i u m (number_here x v.locals) fits))))))
 
     pub declared_comes : (t : Scalar) (ds : List Declarator) (v : Environment) (κ : Continuation) (l : ℕ → ℕ) (s : State) → KnownDeclared g t ds v → s.steps < n → Fits g v.locals s l
         → Comes effect (Falling κ (with_locals t ds v).locals) (config (in_sequence (declared_code g t ds v)) κ l (world_at s)) s.steps (declare t ds call v.visible s)

@@ -201,8 +201,13 @@ module _ (effect : ℕ → Question → Effect) (g : Layout) where
         let t : State = record s { input = rest } in
         comes_moved effect (Puts k κ ns l) (config (Read (Some k)) κ l (world_at s)) (config Skip κ (put l k w) (world_at t)) s.steps (Gives w t)
         (ap (λ i. Goes (config Skip κ (put l k (first_or_zero i)) (record (world_at s) { input = rest_of i }))) e)
-        (comes_here effect (Puts k κ ns l) (config Skip κ (put l k w) (world_at t)) w t (record { variables = put l k w; at = refl; is = put_here l k w;
-          fits = (let p = fits_put g ns s l k w le h in record { names = p.names; holds = p.holds; sized = p.sized }); same = λ i lt. put_below l k w i lt }))
+        (comes_here effect (Puts k κ ns l) (config Skip κ (put l k w) (world_at t)) w t (record {
+          variables = put l k w;
+          at = refl;
+          is = put_here l k w;
+          fits = (let p = fits_put g ns s l k w le h in record { names = p.names; holds = p.holds; sized = p.sized });
+          same = λ i lt. put_below l k w i lt;
+        }))
 
     invoked_comes : (c : Callee) (k : ℕ) (x : List ℕ) (us : List Expression) (ws : List ℕ) (κ : Continuation) (ns : List (List ℕ)) (l : ℕ → ℕ) (s : State) → callee g x ≡ c → IsCalled g c (length ws)
         → length ns ≤ k → s.steps < n → Fits g ns s l → values us l (world_at s) ≡ Some ws

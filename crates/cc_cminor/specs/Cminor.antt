@@ -1,6 +1,6 @@
 -- Cminor: numbered word variables, expressions without effect, and structured statements. Its syntax as data, and what one move does;
 -- the run of a function is then that of every intermediate language (`Rattle.cc_runs.specs.Run`).
-use Rattle.std.specs.Prelude.{ℕ, zero, suc, ◌==◌, List, [], ◌∷◌, Option, Some, None, if◌then◌else◌, unwrap_or, slice_get}
+use Rattle.std.specs.Prelude.{ℕ, zero, suc, ◌==◌, List, [], ◌∷◌, Option, Some, None, if◌then◌else◌, get_or}
 use Rattle.cc_words.specs.declared.operators.Unary as one
 use Rattle.cc_words.specs.declared.operators.Binary as two
 use Rattle.cc_words.specs.Operators.{apply_unary, apply_binary}
@@ -134,7 +134,7 @@ cminor_output c = c.world.output
 
 -- variable i is argument i; the others are 0
 abbrev pub first_variables : (arguments : List ℕ) → Variables
-first_variables ws i = unwrap_or (slice_get ws i) 0
+first_variables ws i = get_or ws i 0
 
 abbrev pub cminor_start : Statement → (arguments : List ℕ) → World → Config
 cminor_start s ws h = config s Ends (first_variables ws) h

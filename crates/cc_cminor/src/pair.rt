@@ -65,7 +65,7 @@ impl CminorPair {
     }
 
     /// The code. Parameter i is variable i; each call in it has its function's number of arguments; its run keeps up with the
-    /// function, at rate 1, and so follows it.
+    /// function, at rate 1 (each move of the run pays for one step of the source at most, so no loop is dropped), and so follows it.
     pub fn code(&self) -> &Statement
         ensures code { result.now ≡ self.now.statement }
         ensures typed { IsTyped (tree_of self.now) }
