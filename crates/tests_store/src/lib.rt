@@ -1,12 +1,14 @@
 //! Tests of the disk and the journal, from outside: worked rows, every point of failure, and disks that lie.
 //!
 //! `helpers` makes disks and reads them back, `first_bytes` is a disk of any size that is not honest, `disks` tests
-//! `cc_disk`, `rows` has the worked rows of the journal, `sweep` fails the device at each call of appends in turn, `moves`
-//! at each call of a rewrite, `hostile` opens disks that nobody formatted so.
+//! the disks of `cc_disk`, `files` the one on a file, `rows` has the worked rows of the journal, `sweep` fails the device
+//! at each call of appends in turn, `moves` at each call of a rewrite, `hostile` opens disks that nobody formatted so.
 #![tactic(auto)]
 
 #[cfg(test)]
 mod disks;
+#[cfg(test)]
+mod files;
 #[cfg(test)]
 mod first_bytes;
 #[cfg(test)]
