@@ -1,0 +1,4 @@
+pub mod Owing
+pub mod Expressions
+pub mod Statements
+pub mod Whole

@@ -1,0 +1,2 @@
+-- Which nodes stand where for a statement.
+pub mod Translates
