@@ -4,3 +4,8 @@ pub mod Statements
 pub mod Whole
 pub mod Growing
 pub mod Generated
+pub mod Inside
+pub mod Turning
+pub mod Layer
+pub mod Labels
+pub mod Function

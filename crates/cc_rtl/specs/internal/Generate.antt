@@ -180,3 +180,37 @@ parts (Loop a) = suc (parts a)
 parts (Block a) = suc (parts a)
 parts (Exit k) = 1
 parts (Return e) = suc (expressions e)
+
+-- ---- labels along the code
+
+-- a node whose successors have other labels
+abbrev pub renamed : (t : ℕ → ℕ) → rtl.Node → rtl.Node
+renamed t (rtl.Nop n) = rtl.Nop (t n)
+renamed t (rtl.Const to w n) = rtl.Const to w (t n)
+renamed t (rtl.Move to r n) = rtl.Move to r (t n)
+renamed t (rtl.Unary op to r n) = rtl.Unary op to r (t n)
+renamed t (rtl.Binary op to r s n) = rtl.Binary op to r s (t n)
+renamed t (rtl.Load o to r n) = rtl.Load o to r (t n)
+renamed t (rtl.Store o r s n) = rtl.Store o r s (t n)
+renamed t (rtl.Call f rs to n) = rtl.Call f rs to (t n)
+renamed t (rtl.Read to n) = rtl.Read to (t n)
+renamed t (rtl.Write r n) = rtl.Write r (t n)
+renamed t (rtl.Branch r n m) = rtl.Branch r (t n) (t m)
+renamed t (rtl.Return r) = rtl.Return r
+
+-- the places turned round: the last is label 0
+abbrev pub labelled_from : (last label : ℕ) → List rtl.Node → List rtl.Labelled
+labelled_from last label [] = []
+labelled_from last label (n ∷ ns) = record { label = label; node = renamed (λ l. last - l) n } ∷ labelled_from last (suc label) ns
+
+-- the nodes of places, the last of them first
+abbrev pub nodes_back : Places → List rtl.Node
+nodes_back [] = []
+nodes_back (None ∷ g) = nodes_back g
+nodes_back (Some n ∷ g) = nodes_back g ++ n ∷ []
+
+-- the whole function
+abbrev pub generated_rtl : (parameters count : ℕ) → Statement → rtl.Rtl
+generated_rtl parameters count body =
+    let m = made_function count body in
+    record { parameters = parameters; entry = 0; nodes = labelled_from m.entry 0 (nodes_back m.places) }
