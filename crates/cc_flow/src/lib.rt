@@ -8,7 +8,8 @@
 //! It starts at the least value everywhere and raises one node at a time, always the last of those that wait; a node waits again when
 //! facts rise that it reads. Facts only rise, and each value says how often it still can, so this ends; facts never leave any solution
 //! that they lay below, so the end lies below every other. Code that is numbered along its flow is visited from its end to its start,
-//! and a node without a loop behind it once.
+//! and a node without a loop behind it once. What it costs: a visit is one application of the transfer, the joins of the successors'
+//! facts and one join more; a rise wakes those alone that lead to the node, each at the logarithm of how many wait.
 #![tactic(auto)]
 
 mod facts;

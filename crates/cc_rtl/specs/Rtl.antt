@@ -70,7 +70,7 @@ abbrev pub Ascend : List Labelled → Type 0
 Ascend [] = Unit {0}
 Ascend (n ∷ ns) = IsBelowFirst n.label ns × Ascend ns
 
--- a function's labels ascend, each node leads to nodes, and the first is a nop that no node leads to
+-- a function's labels ascend, each node leads to nodes, and the first is a nop that no node leads to; where that nop leads the code begins
 pub record IsRtl (rtl : Rtl) : Type 0 where
   pub few : length rtl.nodes ≤ most_nodes
   pub ascend : Ascend rtl.nodes
