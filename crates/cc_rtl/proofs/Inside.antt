@@ -71,8 +71,9 @@ open_filled (y ∷ g) (suc l) n h e = let r = open_filled g l (λ s. n (ap suc s
 closed_filled : (g h : Places) (x : rtl.Node) (l : ℕ) → ((l : ℕ) → l < length h → place_at h l ≡ None → (l < length (g ++ (None ∷ []))) × (place_at (g ++ (None ∷ [])) l ≡ None))
     → l < length (set h (length g) (Some x)) → place_at (set h (length g) (Some x)) l ≡ None → (l < length g) × (place_at g l ≡ None)
 closed_filled g h x l inside lt e = elim (cases_eq l (length g)) [
-  inl s ↦ absurd (let z : place_at (set h (length g) (Some x)) l ≡ Some x = ap (place_at (set h (length g) (Some x))) s ∙ get_or-set_same h (length g) (Some x) None (subst (λ k. k < length h) s (subst (λ k. l < k) (length-set h (length g) (Some x)) lt)) in cc)
-  | inr n ↦ (let r = inside l (subst (λ k. l < k) (length-set h (length g) (Some x)) lt) (sym (get_or-set_other h (length g) l (Some x) None n) ∙ e) in open_filled g l n r.0 r.1) ]
+  | inl s ↦ absurd (let z : place_at (set h (length g) (Some x)) l ≡ Some x = ap (place_at (set h (length g) (Some x))) s ∙ get_or-set_same h (length g) (Some x) None (subst (λ k. k < length h) s (subst (λ k. l < k) (length-set h (length g) (Some x)) lt)) in cc)
+  | inr n ↦ (let r = inside l (subst (λ k. l < k) (length-set h (length g) (Some x)) lt) (sym (get_or-set_other h (length g) l (Some x) None n) ∙ e) in open_filled g l n r.0 r.1)
+]
 
 pub record Inside (g : Places) (m : Made) : Type 0 where
   pub longer : length g ≤ length m.places

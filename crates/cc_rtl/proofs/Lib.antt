@@ -9,3 +9,4 @@ pub mod Turning
 pub mod Layer
 pub mod Labels
 pub mod Function
+pub mod Kept

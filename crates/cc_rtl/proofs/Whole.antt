@@ -27,14 +27,17 @@ tracks_behind meaning f rate {C} move output start before goes tracks d below ws
     let k = t.2 in
     let effect = call_effect meaning (suc d) in
     let same : run move output effect (suc k.moves) k.steps (before ws h) ≡ run move output effect k.moves k.steps (start ws h) = ap (λ v. act effect v (output (before ws h)) k.steps (run move output effect k.moves)) (goes ws h) in
-    let did : work move effect (suc k.moves) k.steps (before ws h) ≡ suc (work move effect k.moves k.steps (start ws h)) = ap (λ v. work_act effect v k.steps (work move effect k.moves)) (goes ws h) in
-    (suc t.0, t.1, record {
-      moves = suc k.moves;
-      steps = k.steps;
-      few = let a = k.few in omega arith;
-      few_steps = k.few_steps;
-      keeps = subst (λ w. Keeps rate n (meaning.body n d f ws h) w (run move output effect (suc k.moves) k.steps (before ws h))) (sym did) (keeps_more rate n (meaning.body n d f ws h) _ _ _ same k.keeps);
-    })
+    let did : work move effect (suc k.moves) k.steps (before ws h) ≡ suc (work move effect k.moves k.steps (start ws h)) = ap (λ v. work_act effect v k.steps (work move effect k.moves)) (goes ws h) in (
+      suc t.0,
+      t.1,
+      record {
+        moves = suc k.moves;
+        steps = k.steps;
+        few = let a = k.few in omega arith;
+        few_steps = k.few_steps;
+        keeps = subst (λ w. Keeps rate n (meaning.body n d f ws h) w (run move output effect (suc k.moves) k.steps (before ws h))) (sym did) (keeps_more rate n (meaning.body n d f ws h) _ _ _ same k.keeps);
+      },
+    )
 
 -- an argument, or 0
 pub argument_or_zero : (ws : List ℕ) (i : ℕ) → get_or ws i 0 ≡ unwrap_or (slice_get ws i) 0
