@@ -6,6 +6,7 @@ pub mod Orders
 pub mod Held
 pub mod Ending
 pub mod Possible
+pub mod Beginnings
 pub mod Reopening
 pub mod Sound
 pub mod Runs

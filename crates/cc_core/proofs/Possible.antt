@@ -1,7 +1,7 @@
 -- Where what an event asks holds, it has a step: the new state is the one that the step names. And how a handler's answer is
 -- that of the event.
 use Rattle.std.proofs.Common.{◌≡◌, ℕ, ◌+◌, ◌≤◌, refl, sym, subst, ap, ◌∙◌, Option, Some, None, arith, length, List}
-use Rattle.std.specs.Prelude.{slice_get, IsTrue, OnOk, OnErr, IsErr, IsErrAnd, IsErrOf, is_err, true, ◌↔◌, Result, Ok, Err, ◌++◌, ◌∷◌, []}
+use Rattle.std.specs.Prelude.{slice_get, IsTrue, OnOk, OnErr, IsErr, IsErrAnd, IsErrOf, is_err, true, false, ◌↔◌, Result, Ok, Err, ◌++◌, ◌∷◌, []}
 use Rattle.std.specs.FinMap.{get, insert, remove, empty}
 use Rattle.std.proofs.lemmas.List.{length-append, length-take-le}
 use Rattle.cc_journal.specs.Format.{records}
@@ -116,6 +116,11 @@ begun old client (Err refused) = (Some (replies.Refused refused), ticked old, (r
 pub where_refused : {T E X : Type 0} (r : Result T E) → OnErr r X → true ≡ is_err r → X
 where_refused (Ok value) kept err = absurd (cc)
 where_refused (Err fault) kept err = kept
+
+-- and what an Ok says, where there was one
+pub where_done : {T E X : Type 0} (r : Result T E) → OnOk r X → false ≡ is_err r → X
+where_done (Ok value) done err = done
+where_done (Err fault) done err = absurd (cc)
 
 -- where memory ran out, all is as before and the event has a step
 pub memory_answers : {S : Type 0} (step : Option Reply → S → Type 0) (result : Result (Option Reply) CoreFault) (old new : S) → IsErr result → IsErrAnd result (λ fault. fault ≡ faults.OutOfMemory)

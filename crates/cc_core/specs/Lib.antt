@@ -13,5 +13,7 @@ pub mod Job
 pub mod Step
 -- whole runs, and what holds after any of them
 pub mod Run
+-- a worked commit of `Step`, computed
+pub mod rows
 -- what serves proofs and private contracts
 pub mod internal

@@ -9,7 +9,7 @@ use Rattle.cc_library.specs.declared.command.Command.TheVariants as command
 use Rattle.cc_link.specs.declared.unit.StoredUnit.{StoredUnit}
 use Rattle.cc_library.specs.Apply.{Units, AreAccepted, library_of}
 use Rattle.cc_library.specs.Body.{IsCommand, body_of}
-use Rattle.cc_library.specs.Recovered.{Recovers, RecoversAlone, StandFor}
+use Rattle.cc_library.specs.Recovered.{AreSpelled, Recovers, RecoversAlone, StandFor}
 use Rattle.cc_core.specs.declared.command.Numbered.{Numbered}
 use Rattle.cc_core.specs.declared.command.Reply.{Reply}
 use Rattle.cc_core.specs.declared.contents.Contents.{Contents}
@@ -22,6 +22,7 @@ use Rattle.cc_core.specs.declared.event.Event.TheVariants as events
 use Rattle.cc_core.specs.declared.ids.ClientId.{ClientId}
 use Rattle.cc_core.specs.declared.ids.WorkerId.{WorkerId}
 use Rattle.cc_core.specs.declared.job.Job.{Job}
+use Rattle.cc_core.specs.declared.sequence_number.SequenceNumber.{SequenceNumber}
 use Rattle.cc_core.specs.Job.{source_in}
 use Rattle.cc_core.specs.Store.{gate_of}
 use Rattle.cc_core.specs.Rules.{Rules}
@@ -91,6 +92,12 @@ LeavesRecord numbered old new =
 -- a command that goes into the order has a spelling: its name is a name, its unit a unit, as their types keep
 abbrev pub PutsCommand : Core → Core → Type 0
 PutsCommand old new = (numbered : Numbered) → new.order ≡ old.order ++ numbered ∷ [] → IsCommand numbered.command
+
+-- this order has the commands that these records spell, numbered from 0 on, and the next Begin has the number behind them
+pub record IsOrderOf (bodies : List (List ℕ)) (order : List Numbered) (upcoming : SequenceNumber) : Type 0 where
+  pub spelled : AreSpelled bodies (commands order)
+  pub counted : (k : ℕ) (a : Numbered) → slice_get order k ≡ Some a → a.number.value ≡ k
+  pub next : upcoming.value ≡ length order
 
 module _ {P : Type 0} where
   -- a piece that a worker hands in keeps what its type keeps

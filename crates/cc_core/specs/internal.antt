@@ -3,3 +3,5 @@
 pub mod Ready
 -- how a handler answers for its step
 pub mod Answers
+-- what opening a disk finds, and what a run begins with there
+pub mod Opening

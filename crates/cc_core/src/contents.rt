@@ -69,6 +69,17 @@ pub struct Core {
     pub upcoming: SequenceNumber,
 }
 
+impl Core {
+    ghost use Rattle.std.specs.Prelude.{◌≡◌};
+
+    /// Goes on to this phase.
+    pub(crate) fn enter(&mut self, phase: Phase)
+        ensures { self.new ≡ record self.old { phase = phase } }
+    {
+        self.phase = phase;
+    }
+}
+
 /// What a state of the core holds, beside its build.
 #[derive(Drop)]
 pub struct Contents<P> {

@@ -116,7 +116,7 @@ fn fail_core(alloc: Global, core: &mut Core, client: ClientId) -> Answer
         Due::WriteGate => core.store.open_gate(),
         Due::SyncBody | Due::SyncGate | Due::Acknowledge => {}
     }
-    core.phase = Phase::Failed(Some(failed));
+    core.enter(Phase::Failed(Some(failed)));
     Ok(Some(Reply::Refused(Refusal::DiskFault)))
 }
 

@@ -46,20 +46,25 @@ fn plan_job<B: Build>(
         }
         Request::Withdraw(_) => Ok(0),
     };
-    match planned {
-        Ok(count) => Ok(Job {
+    let (refusal, count) = match planned {
+        Ok(count) => (None, count),
+        Err(BuildFault::Refused(number)) => (Some(number), 0),
+        Err(BuildFault::OutOfMemory) => {
+            drop(request);
+            return Err(AllocError);
+        }
+    };
+    match all_waiting(alloc, count) {
+        Ok(pieces) => Ok(Job {
             call,
             request,
-            refusal: None,
-            pieces: all_waiting(alloc, count)?,
+            refusal,
+            pieces,
         }),
-        Err(BuildFault::Refused(number)) => Ok(Job {
-            call,
-            request,
-            refusal: Some(number),
-            pieces: Sequence::new(Vec::new(alloc)),
-        }),
-        Err(BuildFault::OutOfMemory) => Err(AllocError),
+        Err(fault) => {
+            drop(request);
+            Err(fault)
+        }
     }
 }
 
@@ -85,6 +90,7 @@ pub(crate) fn submit<B: Build>(
     ensures { Answers (Submits B.rules client call request contents.old) result contents.old contents.new }
 {
     if !is_up(&contents.core.phase) || contents.jobs.get(client.number).is_some() {
+        drop(request);
         return Err(CoreFault::NotNow);
     }
     let job = plan_job(build, alloc, call, request)?;
@@ -209,12 +215,14 @@ fn make_command<B: Build>(
 {
     match &job.request {
         Request::Add(name, source) => {
+            let name = name.clone()?;
             let unit = build_unit(build, alloc, job, source.as_slice())?;
-            Ok(Command::Add(name.clone()?, unit))
+            Ok(Command::Add(name, unit))
         }
         Request::Replace(name, source) => {
+            let name = name.clone()?;
             let unit = build_unit(build, alloc, job, source.as_slice())?;
-            Ok(Command::Replace(name.clone()?, unit))
+            Ok(Command::Replace(name, unit))
         }
         Request::Withdraw(name) => Ok(Command::Withdraw(name.clone()?)),
     }
@@ -273,9 +281,16 @@ fn decide<B: Build>(
         Err(BuildFault::Refused(number)) => return Ok(Err(Refusal::Build(number))),
         Err(BuildFault::OutOfMemory) => return Err(AllocError),
     };
-    match refusal_of(alloc, core, &command)? {
-        Some(refusal) => Ok(Err(refusal)),
-        None => Ok(Ok(command)),
+    match refusal_of(alloc, core, &command) {
+        Ok(None) => Ok(Ok(command)),
+        Ok(Some(refusal)) => {
+            drop(command);
+            Ok(Err(refusal))
+        }
+        Err(fault) => {
+            drop(command);
+            Err(fault)
+        }
     }
 }
 
@@ -288,8 +303,15 @@ fn put_in_order(core: &mut Core, client: ClientId, command: Command) -> Result<(
         number: core.upcoming.same(),
         command,
     };
-    core.order.push(numbered.again()?)?;
-    core.phase = Phase::Committing(client, numbered, Due::WriteBody);
+    let Ok(again) = numbered.again() else {
+        drop(numbered);
+        return Err(AllocError);
+    };
+    if core.order.push(again).is_err() {
+        drop(numbered);
+        return Err(AllocError);
+    }
+    core.enter(Phase::Committing(client, numbered, Due::WriteBody));
     core.upcoming = core.upcoming.next();
     Ok(())
 }
@@ -354,7 +376,7 @@ fn acknowledge_core(core: &mut Core, client: ClientId) -> Answer
         core.acknowledged.drop_last();
         return Err(CoreFault::OutOfMemory);
     }
-    core.phase = Phase::Idle;
+    core.enter(Phase::Idle);
     Ok(Some(Reply::Done))
 }
 

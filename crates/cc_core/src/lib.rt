@@ -2,7 +2,8 @@
 //! Clients hand in jobs, workers take their pieces, one job at a time commits in four device steps, and its reply is given.
 //! A device step may fail, the disk may crash at any event, and the library is opened again.
 //! `command`: what is asked and kept. `build`: what makes units. `job`, `table`, `store`, `contents`: what a state holds.
-//! `event`, `events`, `device`, `recovery`: what may happen, and the step of each. `state`: the machine and its runs.
+//! `event`, `events`, `device`, `recovery`: what may happen, and the step of each. `opening`: a disk as a beginning.
+//! `state`: the machine and its runs.
 //! It hands out `State`, `run_events`, `Event`, `Build`, and the types of requests, sequence numbers, replies and refusals.
 #![tactic(auto)]
 
@@ -15,6 +16,7 @@ mod events;
 pub mod fault;
 pub mod ids;
 mod job;
+mod opening;
 mod recovery;
 pub mod sequence;
 pub mod sequence_number;

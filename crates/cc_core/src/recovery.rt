@@ -16,7 +16,6 @@ use crate::fault::CoreFault;
 use crate::sequence::Sequence;
 use crate::table::Table;
 use cc_library::{Command, UnitMap};
-use cc_link::StoredUnit;
 use std::alloc::Global;
 
 // The disk crashes; the live map is gone.
@@ -25,7 +24,7 @@ fn crash_core(alloc: Global, core: &mut Core, choice: &Sequence<u8>) -> Answer
 {
     core.store.crash(alloc, choice.as_slice())?;
     core.library = UnitMap::new(alloc);
-    core.phase = Phase::Crashed;
+    core.enter(Phase::Crashed);
     Ok(None)
 }
 
@@ -47,22 +46,13 @@ pub(crate) fn crash<P: Drop>(
     }
 }
 
-// Whether two units are the same: source, code and globals. There are no certificates yet.
-fn are_same(a: &StoredUnit, b: &StoredUnit) -> bool
-    ensures { IsTrue result ↔ (a.now ≡ b.now) }
-{
-    a.source.bytes() == b.source.bytes()
-        && a.image.code.words() == b.image.code.words()
-        && a.image.globals.words() == b.image.globals.words()
-}
-
 // Whether the map is as the command leaves it.
 fn is_in_effect(library: &UnitMap, command: &Command) -> bool
     ensures { IsTrue result ↔ IsInEffect library.now command.now }
 {
     match command {
         Command::Add(name, unit) | Command::Replace(name, unit) => match library.get(name) {
-            Some(there) => are_same(there, unit.stored()),
+            Some(there) => there.is_same(unit.stored()),
             None => false,
         },
         Command::Withdraw(name) => library.get(name).is_none(),
@@ -88,12 +78,12 @@ pub(crate) fn recover(alloc: Global, core: &mut Core) -> Answer
     let Phase::Crashed = core.phase else {
         return Err(CoreFault::NotNow);
     };
-    let Ok((library, used)) = core.store.open(alloc) else {
+    let Ok((library, used)) = core.store.reopen(alloc) else {
         return Err(CoreFault::OutOfMemory);
     };
     drop_undone(&mut core.order, &library);
     core.library = library;
     core.store.set_used(used);
-    core.phase = Phase::Idle;
+    core.enter(Phase::Idle);
     Ok(None)
 }

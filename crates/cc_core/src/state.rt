@@ -1,6 +1,11 @@
-ghost use Rattle.std.specs.Prelude.{◌≡◌, ◌↔◌, ◌≤◌, ◌^◌, ℕ, Option, IfOk, IfErr, OnErr, OnOk, IsErrOf, All, Contains, List};
+ghost use Rattle.std.specs.Prelude.{◌≡◌, ◌≢◌, ◌↔◌, ◌≤◌, ◌^◌, true, ℕ, Option, IfOk, IfErr, OnErr, OnOk, IsErrOf, All, Contains, List};
 ghost use Rattle.std.specs.FinMap.{empty};
-ghost use Rattle.cc_library.specs.Apply.{AreAccepted};
+ghost use Rattle.cc_disk.specs.Model.{bytes_of, IsImage};
+ghost use Rattle.cc_disk.specs.Images.{AddsNone};
+ghost use Rattle.cc_journal.specs.Format.{HoldsRecords};
+ghost use Rattle.cc_library.specs.Answers.{OpenFaults};
+ghost use Rattle.cc_library.specs.Apply.{AreAccepted, Units};
+ghost use Rattle.cc_library.specs.Recovered.{Recovers};
 ghost use Rattle.cc_core.specs.declared.contents.Contents.{Contents};
 ghost use Rattle.cc_core.specs.declared.event.Event.{Event};
 ghost use Rattle.cc_core.specs.declared.command.Numbered.{Numbered};
@@ -9,7 +14,7 @@ ghost use Rattle.cc_core.specs.declared.contents.Core.{Core};
 ghost use Rattle.cc_core.specs.declared.contents.Phase.TheVariants.{Crashed};
 ghost use Rattle.cc_core.specs.declared.ids.ClientId.{ClientId};
 ghost use Rattle.cc_core.specs.Step.{Step, IsImpossible, IsStart, Reopens, StepsCore, commands};
-ghost use Rattle.cc_core.specs.Run.{Turn, Run, EachUnit, EachImageSurvives, EachImageIsRight, PutsCommand, HandsIn, AreRising, IsBeginning, IsOfCrash, PutsSource, Commits, LeavesRecord, live};
+ghost use Rattle.cc_core.specs.Run.{Turn, Run, EachUnit, EachImageSurvives, EachImageIsRight, PutsCommand, HandsIn, AreRising, IsOpened, IsOrderOf, IsBeginning, IsOfCrash, PutsSource, Commits, LeavesRecord, live};
 
 use crate::build::Build;
 use crate::command::{Numbered, Reply};
@@ -17,11 +22,13 @@ use crate::contents::{Contents, Core, Phase};
 use crate::event::Event;
 use crate::events::take_step;
 use crate::fault::CoreFault;
+use crate::opening::{Opened, open};
 use crate::sequence::Sequence;
 use crate::sequence_number::SequenceNumber;
 use crate::store::Store;
 use crate::table::Table;
-use cc_library::UnitMap;
+use cc_disk::MemoryDisk;
+use cc_library::{LibraryFault, UnitMap};
 use std::alloc::{AllocError, Global};
 use std::marker::Model;
 
@@ -60,21 +67,76 @@ impl<B: Build> State<B> {
         ensures refused { IfErr result (λ fault. fault ≡ CoreFault.OutOfMemory) }
     {
         let store = Store::new(alloc, area)?;
-        Ok(State {
-            build,
-            contents: Contents {
-                core: Core {
-                    library: UnitMap::new(alloc),
-                    order: Sequence::new(Vec::new(alloc)),
+        let core = Core {
+            library: UnitMap::new(alloc),
+            order: Sequence::new(Vec::new(alloc)),
+            acknowledged: Sequence::new(Vec::new(alloc)),
+            phase: Phase::Idle,
+            store,
+            upcoming: SequenceNumber::first(),
+        };
+        Ok(State::idle(alloc, build, core))
+    }
+
+    /// The state in which nothing has happened yet, on a disk with a library: of any size, in either area, with units in it.
+    /// The live map is what the disk's bytes recover to, and the order the commands of its records, numbered from 0 on.
+    ///
+    /// That each unit found is right by the build's law is for the caller to know: it is where this build alone wrote the disk.
+    ///
+    /// Refusals, with the disk handed back as it was: 38 `NotALibrary` where there is no right header, 37 `Damaged` where there is
+    /// one and the bytes recover to no library, 40 `OutOfMemory`. 35 never comes, since a disk in memory does not fail.
+    pub fn open(
+        alloc: Global,
+        build: B,
+        disk: MemoryDisk,
+    ) -> Result<State<B>, (LibraryFault, MemoryDisk)>
+        requires right { (units : Units) → Recovers (bytes_of disk.cells) units → EachUnit B.is_right units }
+        ensures answer { IfOk result (λ state. IsOpened B.is_right state) }
+        ensures recovered { IfOk result (λ state. Recovers (bytes_of disk.cells) state.core.library) }
+        ensures order { IfOk result (λ state. (area : ℕ) (bodies : List (List ℕ)) → HoldsRecords (bytes_of disk.cells) area bodies
+            → IsOrderOf bodies state.core.order state.core.upcoming) }
+        ensures bytes { IfOk result (λ state. bytes_of state.core.store.cells ≡ bytes_of disk.cells) }
+        ensures refused { IfErr result (λ e. OpenFaults true (bytes_of disk.cells) 0 0 e.0) }
+        ensures no_failure { IfErr result (λ e. e.0 ≢ LibraryFault.DiskFault) }
+        // The disk has the same bytes, and no crash leaves anything new.
+        ensures hands_back { IfErr result (λ e. bytes_of e.1.cells ≡ bytes_of disk.cells) }
+        ensures adds_none { IfErr result (λ e. AddsNone (IsImage disk.cells) (IsImage e.1.cells)) }
+    {
+        match open(alloc, disk) {
+            Ok(opened) => {
+                let Opened {
+                    store,
+                    library,
+                    order,
+                    upcoming,
+                } = opened;
+                let core = Core {
+                    library,
+                    order,
                     acknowledged: Sequence::new(Vec::new(alloc)),
                     phase: Phase::Idle,
                     store,
-                    upcoming: SequenceNumber::first(),
-                },
+                    upcoming,
+                };
+                Ok(State::idle(alloc, build, core))
+            }
+            Err(refused) => Err(refused),
+        }
+    }
+
+    // A state in which nothing has happened yet, over this core.
+    fn idle(alloc: Global, build: B, core: Core) -> State<B>
+        requires { IsBeginning {P = B.Piece} B.is_right (record { core = core; jobs = empty; workers = empty }) }
+        ensures { result ≡ record { core = core; jobs = empty; workers = empty } }
+    {
+        State {
+            build,
+            contents: Contents {
+                core,
                 jobs: Table::new(alloc),
                 workers: Table::new(alloc),
             },
-        })
+        }
     }
 
     /// Takes the step of an event, and answers the reply where the event gives one: done, or a number.
@@ -157,7 +219,10 @@ pub fn run_events<B: Build>(
     ensures refused { IfErr result (λ fault. fault ≡ CoreFault.OutOfMemory) }
 {
     for event in events {
-        state.turn(alloc, event)?;
+        if state.turn(alloc, event).is_err() {
+            drop(state);
+            return Err(CoreFault::OutOfMemory);
+        }
     }
     let _ = state.library();
     let _ = state.acked();

@@ -1,15 +1,17 @@
-// The core's disk: a journal in the first of its two areas, written one device step at a time.
+// The core's disk: a journal in one of its two areas, written one device step at a time.
 ghost use Rattle.std.specs.Prelude.{◌≡◌, ◌↔◌, ◌+◌, ◌^◌, ◌≤◌, [], ◌∷◌, List, ℕ, IsTrue, length, IfOk, IfErr, OnOk, OnErr};
 ghost use Rattle.cc_disk.specs.Model.{bytes_of, IsImage, written, synced};
 ghost use Rattle.cc_disk.specs.Images.{LeavesAlone};
-ghost use Rattle.cc_journal.specs.Format.{HoldsRecords, IsArea, open_gate, records, room_of};
+ghost use Rattle.cc_journal.specs.Format.{HoldsRecords, IsArea, open_gate, records};
 ghost use Rattle.cc_library.specs.Apply.{Units};
-ghost use Rattle.cc_library.specs.Recovered.{StandFor};
+ghost use Rattle.cc_library.specs.Recovered.{Recovers};
 ghost use Rattle.cc_core.specs.Store.{IsFormatted, gate_of, room_taken, with_cells, crashed_store};
+ghost use Rattle.cc_core.specs.internal.Opening.{IsFound};
 
+use crate::opening::{Found, find};
 use cc_disk::{Disk, MemoryDisk};
-use cc_journal::{Body, Journal, format};
-use cc_library::{LibraryFault, UnitMap, replay};
+use cc_journal::format;
+use cc_library::{LibraryFault, UnitMap};
 use std::alloc::{AllocError, Global};
 use std::marker::Model;
 
@@ -58,6 +60,26 @@ impl Store {
             area,
             used: 0,
         })
+    }
+
+    /// The journal of a disk with records, which take so many bytes of their area. All of the disk is settled from here on.
+    pub(crate) fn of_disk(mut disk: MemoryDisk, used: usize) -> Store
+        requires { (area : ℕ) × (bodies : List (List ℕ)) × HoldsRecords (bytes_of disk.cells) area bodies × (used ≡ length (records bodies)) }
+        ensures bytes { bytes_of result.cells ≡ bytes_of disk.cells }
+        ensures alone { LeavesAlone (bytes_of result.cells) (IsImage result.cells) }
+        ensures header { (area : ℕ) (bodies : List (List ℕ)) (h : HoldsRecords (bytes_of disk.cells) area bodies)
+            → (area ≡ result.area) × (h.area_byte ≡ result.area_byte) }
+        ensures used { result.used ≡ used }
+    {
+        let mut header = [0u8; HEADER];
+        let _ = disk.read_at(0, &mut header);
+        let _ = disk.sync();
+        Store {
+            disk,
+            area_byte: header[0],
+            area: u32::from_le_bytes([header[8], header[9], header[10], header[11]]),
+            used,
+        }
     }
 
     /// Whether a record with this body fits the area.
@@ -131,39 +153,29 @@ impl Store {
     }
 
     /// Opens a copy of the disk, and reads the map that its records stand for and how many bytes they take.
-    /// 40 `OutOfMemory` alone: no other refusal can come of a disk whose bytes hold records that stand for a map.
-    pub(crate) fn open(&self, alloc: Global) -> Result<(UnitMap, usize), LibraryFault>
+    /// 40 `OutOfMemory` alone: no other refusal can come of a disk whose bytes recover to a map.
+    pub(crate) fn reopen(&self, alloc: Global) -> Result<(UnitMap, usize), LibraryFault>
         requires alone { LeavesAlone (bytes_of self.now.cells) (IsImage self.now.cells) }
-        requires holds { (area : ℕ) × (bodies : List (List ℕ)) × (units : Units) × HoldsRecords (bytes_of self.now.cells) area bodies × StandFor bodies units }
-        ensures answer { IfOk result (λ found. (area : ℕ) × (bodies : List (List ℕ)) × HoldsRecords (bytes_of self.now.cells) area bodies
-            × StandFor bodies found.0 × (found.1 ≡ length (records bodies))) }
+        requires recovers { (units : Units) × Recovers (bytes_of self.now.cells) units }
+        ensures answer { IfOk result (λ found. (area : ℕ) × (bodies : List (List ℕ))
+            × IsFound (bytes_of self.now.cells) area bodies found.0 found.1) }
         ensures refused { IfErr result (λ fault. fault ≡ LibraryFault.OutOfMemory) }
     {
         let copy = self.disk.crash(alloc, &[])?;
-        let journal = match Journal::open(alloc, copy) {
-            Ok(journal) => journal,
+        match find(alloc, copy) {
+            Ok(found) => {
+                let Found {
+                    journal,
+                    library,
+                    used,
+                } = found;
+                drop(journal);
+                Ok((library, used))
+            }
             Err((fault, disk)) => {
                 drop(disk);
-                return Err(LibraryFault::from(fault));
+                Err(fault)
             }
-        };
-        let units = match replay(alloc, journal.records()) {
-            Ok(units) => units,
-            Err(fault) => return Err(fault),
-        };
-        let used = bytes_taken(journal.records());
-        Ok((units, used))
+        }
     }
-}
-
-// How many bytes these records take.
-fn bytes_taken(bodies: &[Body]) -> usize
-    requires { room_of bodies.now ≤ 2 ^ 30 }
-    ensures { result ≡ length (records bodies.now) }
-{
-    let mut taken = 0;
-    for body in bodies {
-        taken += body.as_slice().len() + 5;
-    }
-    taken
 }

@@ -1,18 +1,20 @@
-//! Disks that may lose power: the rules that a disk keeps, and two kinds of disk to run a store on.
+//! Disks that may lose power: the rules that a disk keeps, and three kinds of disk to run a store on.
 //!
-//! `disk` has the trait `Disk` and its fault, `cell` one byte of the model, `memory` the disk in memory,
-//! `fuse` the disk that fails on purpose, `history` and `count` what contracts alone remember.
-//! It hands out `Disk`, `DiskFault`, `Cell`, `MemoryDisk`, `FuseDisk` and `FuseMode`.
+//! `disk` has the trait `Disk` and its fault, `cell` one byte of the model, `memory` the disk in memory, `file` the disk
+//! on a file, `fuse` the disk that fails on purpose, `history` and `count` what contracts alone remember.
+//! It hands out `Disk`, `DiskFault`, `Cell`, `MemoryDisk`, `FileDisk`, `FuseDisk` and `FuseMode`.
 #![tactic(auto)]
 
 mod cell;
 mod count;
 mod disk;
+mod file;
 mod fuse;
 mod history;
 mod memory;
 
 pub use cell::Cell;
 pub use disk::{Disk, DiskFault};
+pub use file::FileDisk;
 pub use fuse::{FuseDisk, FuseMode};
 pub use memory::MemoryDisk;

@@ -2,12 +2,13 @@
 -- commit changes the bytes after the gate, and then the gate alone.
 use Rattle.std.proofs.Common.{◌≡◌, ◌≢◌, inl, inr, ⊎_elim, ℕ, ◌+◌, ◌*◌, ◌%◌, ◌<◌, ◌≤◌, List, [], ◌∷◌, ◌++◌, length, get_or, take, drop, sym, ◌∙◌, ap, subst, arith, length-append, append_assoc, take-append-drop}
 use Rattle.std.proofs.lemmas.Bool.{cases_eq}
-use Rattle.std.proofs.lemmas.List.{take_at, drop_at, drop_more, length-take-le, length-drop}
+use Rattle.std.proofs.lemmas.List.{take_at, drop_at, drop_more, length-take-le, length-drop, take-append-le}
 use Rattle.std.specs.Int.{w32, to_le_bytes}
 use Rattle.std.proofs.Math.Nat.{mul-le-mul_right}
 use Rattle.cc_disk.specs.Images.{IsWritten, DiffersWithin}
 use Rattle.cc_journal.specs.Format.{open_gate, header, record_bytes, records, IsArea, HoldsRecords, HoldsOldOrNew}
 use Rattle.cc_journal.specs.Journal.{HoldsFrom}
+use Rattle.cc_journal.specs.Commit.{append_commit, IsCommitted}
 use Rattle.cc_journal.specs.internal.Commit.{IsMidCommit}
 use Rattle.cc_journal.proofs.Records.{length-header, length-four_bytes, records_push, length-records_push, holds_alone}
 
@@ -17,6 +18,39 @@ frame body = to_le_bytes w32 (length body) ++ (body ++ 0 ∷ [])
 
 pub length-frame : (body : List ℕ) → length (frame body) ≡ length body + 5
 length-frame body = omega (arith, length-append (to_le_bytes w32 (length body)) (body ++ 0 ∷ []), length-append body (0 ∷ []), length-four_bytes (length body))
+
+-- ---- two writes
+
+module _ (old new : List ℕ) where
+  -- a write within keeps the length
+  pub length_written : (offset : ℕ) (bytes : List ℕ) → offset + length bytes ≤ length old → IsWritten old offset bytes new → length new ≡ length old
+  length_written offset bytes fits is =
+      ap length is ∙ length-append (take offset old) (bytes ++ drop (offset + length bytes) old)
+      ∙ omega (arith, fits, length-append bytes (drop (offset + length bytes) old), length-take-le offset old (omega (arith, fits)), length-drop (offset + length bytes) old)
+
+  -- it leaves what stands before its range and behind it
+  pub written_differs : (offset : ℕ) (bytes : List ℕ) → offset + length bytes ≤ length old → IsWritten old offset bytes new → DiffersWithin offset (length bytes) old new
+  written_differs offset bytes fits is =
+      let Z = drop (offset + length bytes) old in
+      let long = length-take-le offset old (omega (arith, fits)) in
+      record {
+        before = ap (λ (l : List ℕ). take offset l) is ∙ take_at (take offset old) (bytes ++ Z) offset long;
+        behind = ap (λ (l : List ℕ). drop (offset + length bytes) l) (is ∙ sym (append_assoc (take offset old) bytes Z))
+            ∙ drop_at (take offset old ++ bytes) Z (offset + length bytes) (omega (arith, length-append (take offset old) bytes, long));
+        size = length_written offset bytes fits is;
+      }
+
+  -- a byte that is written right before what was written before it: both are one write
+  pub in_one_write : (staged : List ℕ) (gate byte : ℕ) (bytes : List ℕ) → gate + 1 + length bytes ≤ length old → IsWritten old (gate + 1) bytes staged → IsWritten staged gate (byte ∷ []) new → IsWritten old gate (byte ∷ bytes) new
+  in_one_write staged gate byte bytes fits first second =
+      let Z = drop (gate + 1 + length bytes) old in
+      let long = length-take-le (gate + 1) old (omega (arith, fits)) in
+      let front : take gate staged ≡ take gate old =
+      ap (λ (l : List ℕ). take gate l) first ∙ take-append-le gate (take (gate + 1) old) (bytes ++ Z) (omega (arith, long))
+      ∙ sym (take-append-le gate (take (gate + 1) old) (drop (gate + 1) old) (omega (arith, long))) ∙ ap (λ (l : List ℕ). take gate l) (take-append-drop (gate + 1) old) in
+      let rest : drop (gate + 1) staged ≡ bytes ++ Z = ap (λ (l : List ℕ). drop (gate + 1) l) first ∙ drop_at (take (gate + 1) old) (bytes ++ Z) (gate + 1) long in
+      let tail : Z ≡ drop (gate + length (byte ∷ bytes)) old = ap (λ (n : ℕ). drop n old) (omega arith) in
+      second ∙ (λ i. front i ++ byte ∷ rest i) ∙ ap (λ (l : List ℕ). take gate old ++ byte ∷ (bytes ++ l)) tail
 
 module _ (image : List ℕ) (start area used : ℕ) (bodies : List (List ℕ)) (from : HoldsFrom image start area bodies) (taken : used ≡ length (records bodies)) where
   abbrev h : HoldsRecords image area bodies
@@ -117,7 +151,7 @@ module _ (image : List ℕ) (start area used : ℕ) (bodies : List (List ℕ)) (
           at_most : (b n : ℕ) → n ≡ b % 2 * area → n ≤ area
           at_most b n is = omega (arith, is, mul-le-mul_right {m = b % 2} {n = 1} area (omega arith))
 
-  pub mid_commit : (body other : List ℕ) → used + length body + 6 ≤ area → IsMidCommit image (start + used) (frame body) other → HoldsOldOrNew area bodies body other
+  pub mid_commit : (body other : List ℕ) → used + length body + 6 ≤ area → IsMidCommit (append_commit (start + used) body) image other → HoldsOldOrNew area bodies body other
   mid_commit body other room (inl differs) = inl (holds_alone other area bodies (behind_gate other (length (frame body)) differs))
   mid_commit body other room (inr (written, is, differs)) =
       at_gate body written other room is (length-written (start + used + 1) (frame body) written (omega (arith, in_area (1 + length (frame body)) (omega (arith, room, length-frame body)))) is) differs
@@ -129,3 +163,8 @@ module _ (image : List ℕ) (start area used : ℕ) (bodies : List (List ℕ)) (
       holds_new written body Z
       (length-written (start + used) (open_gate ∷ frame body) written (omega (arith, in_area (1 + length (frame body)) (omega (arith, room, length-frame body)))) is)
       room (is ∙ ap (λ (l : List ℕ). l ++ open_gate ∷ (frame body ++ Z)) take-front)
+
+  -- the commit of an append that was made: one write of the record, its gate open, and a closed gate
+  pub appended : (body new : List ℕ) → used + length body + 6 ≤ area → IsCommitted (append_commit (start + used) body) image new → IsWritten image (start + used) (open_gate ∷ frame body) new
+  appended body new room done =
+      in_one_write image new done.0 (start + used) open_gate (frame body) (omega (arith, in_area (1 + length (frame body)) (omega (arith, room, length-frame body)))) done.1 done.2

@@ -3,5 +3,6 @@ mod Moments
 pub mod Images
 mod Steps
 pub mod Bytes
-mod Scan
+pub mod Scan
+pub mod Rewriting
 mod Kept

@@ -1,6 +1,6 @@
 -- At most one list of records stands in an image. How: a header, and a record, at the front of two equal lists are equal,
 -- since they tell their own lengths; so of two lists of records in front of the same bytes one goes on from the other.
-use Rattle.std.proofs.Common.{◌≡◌, ◌≢◌, ℕ, ◌+◌, ◌*◌, ◌%◌, ◌^◌, ◌<◌, List, [], ◌∷◌, ◌++◌, length, take, drop, refl, sym, ◌∙◌, ap, arith, length-append, append_assoc}
+use Rattle.std.proofs.Common.{◌≡◌, ◌≢◌, ℕ, zero, suc, ◌+◌, ◌*◌, ◌%◌, ◌^◌, ◌<◌, ◌≤◌, List, [], ◌∷◌, ◌++◌, length, get_or, take, drop, refl, sym, ◌∙◌, ap, arith, length-append, append_assoc, drop-cons}
 use Rattle.std.proofs.lemmas.List.{take_at, drop_at}
 use Rattle.std.proofs.lemmas.Nat.{from_le_bytes-to_le_bytes_4}
 use Rattle.std.specs.Int.{w32, to_le_bytes, from_le_bytes}
@@ -50,6 +50,23 @@ records_push bodies body = records-append bodies (body ∷ []) ∙ ap (λ (l : L
 
 pub length-records_push : (bodies : List (List ℕ)) (body : List ℕ) → length (records (bodies ++ body ∷ [])) ≡ length (records bodies) + (length body + 5)
 length-records_push bodies body = ap length (records_push bodies body) ∙ length-append (records bodies) (record_bytes body) ∙ ap (λ (k : ℕ). length (records bodies) + k) (length-record_bytes body)
+
+-- going over records from the front
+pub next_body : (bodies : List (List ℕ)) (i : ℕ) (body : List ℕ) → i < length bodies → body ≡ get_or bodies i body → drop i bodies ≡ body ∷ drop (i + 1) bodies
+next_body bodies i body within is =
+    let k : suc i ≡ i + 1 = omega arith in
+    drop-cons bodies i body within ∙ ap (λ (b : List ℕ). b ∷ drop (suc i) bodies) (sym is) ∙ ap (λ (n : ℕ). body ∷ drop n bodies) k
+
+pub length-records_from : (i : ℕ) (bodies : List (List ℕ)) → length (records (drop i bodies)) ≤ length (records bodies)
+length-records_from zero bodies = omega arith
+length-records_from (suc i) [] = omega arith
+length-records_from (suc i) (body ∷ bodies) = omega (arith, length-records_from i bodies, length-append (record_bytes body) (records bodies))
+
+pub length-records_next : (bodies : List (List ℕ)) (i : ℕ) (body : List ℕ) → i < length bodies → body ≡ get_or bodies i body
+    → length (records (drop i bodies)) ≡ length body + 5 + length (records (drop (i + 1) bodies))
+length-records_next bodies i body within is =
+    ap (λ (l : List (List ℕ)). length (records l)) (next_body bodies i body within is)
+    ∙ length-append (record_bytes body) (records (drop (i + 1) bodies)) ∙ ap (λ (n : ℕ). n + length (records (drop (i + 1) bodies))) (length-record_bytes body)
 
 -- a record tells its own body
 pub record_same : (x y : List ℕ) (rest others : List ℕ) → length x < 2 ^ 32 → length y < 2 ^ 32 → record_bytes x ++ rest ≡ record_bytes y ++ others → (x ≡ y) × (rest ≡ others)

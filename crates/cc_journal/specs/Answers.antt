@@ -15,16 +15,20 @@ FormatAnswers size area before after (Err Damaged) = ⊥
 FormatAnswers size area before after (Err NotALibrary) = ⊥
 FormatAnswers size area before after (Err OutOfMemory) = ⊥
 
--- `append`: 36 exactly where the journal was closed, then 34 exactly where the record does not fit, then 35 exactly where
--- the device failed
+-- a commit that makes these the records: 36 exactly where the journal was closed, then 34 exactly where they do not fit, then 35
+-- exactly where the device failed
+abbrev pub CommitAnswers : {T : Type 0} → (closed : Bool) (area : ℕ) (bodies : List (List ℕ)) (before after : ℕ) → Result T JournalFault → Type 0
+CommitAnswers closed area bodies before after (Ok done) = (closed ≡ false) × (room_of bodies ≤ area) × (after ≡ before)
+CommitAnswers closed area bodies before after (Err Closed) = (closed ≡ true) × (after ≡ before)
+CommitAnswers closed area bodies before after (Err Full) = (closed ≡ false) × (area < room_of bodies) × (after ≡ before)
+CommitAnswers closed area bodies before after (Err DiskFault) = (closed ≡ false) × (room_of bodies ≤ area) × (after ≡ before + 1)
+CommitAnswers closed area bodies before after (Err OutOfMemory) = (closed ≡ false) × (room_of bodies ≤ area) × (after ≡ before)
+CommitAnswers closed area bodies before after (Err Damaged) = ⊥
+CommitAnswers closed area bodies before after (Err NotALibrary) = ⊥
+
+-- `append`: the records with one more
 abbrev pub AppendAnswers : {T : Type 0} → (closed : Bool) (area : ℕ) (bodies : List (List ℕ)) (body : List ℕ) (before after : ℕ) → Result T JournalFault → Type 0
-AppendAnswers closed area bodies body before after (Ok done) = (closed ≡ false) × (room_of (bodies ++ body ∷ []) ≤ area) × (after ≡ before)
-AppendAnswers closed area bodies body before after (Err Closed) = (closed ≡ true) × (after ≡ before)
-AppendAnswers closed area bodies body before after (Err Full) = (closed ≡ false) × (area < room_of (bodies ++ body ∷ [])) × (after ≡ before)
-AppendAnswers closed area bodies body before after (Err DiskFault) = (closed ≡ false) × (room_of (bodies ++ body ∷ []) ≤ area) × (after ≡ before + 1)
-AppendAnswers closed area bodies body before after (Err OutOfMemory) = (closed ≡ false) × (room_of (bodies ++ body ∷ []) ≤ area) × (after ≡ before)
-AppendAnswers closed area bodies body before after (Err Damaged) = ⊥
-AppendAnswers closed area bodies body before after (Err NotALibrary) = ⊥
+AppendAnswers closed area bodies body before after result = CommitAnswers closed area (bodies ++ body ∷ []) before after result
 
 -- `open`: 35 exactly where the device failed; of an honest disk with these bytes 38 only where there is no right header,
 -- 37 only where there is one and no records

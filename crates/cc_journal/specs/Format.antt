@@ -37,6 +37,10 @@ pub record HasHeader (image : List ℕ) (area : ℕ) : Type 0 where
   pub bytes : image ≡ header area_byte area ++ rest
   pub is_area : IsArea (length image) area
 
+-- the image begins with the header of that area byte and of an area of that size
+abbrev pub HasAreaByte : List ℕ → (area_byte area : ℕ) → Type 0
+HasAreaByte image area_byte area = (rest : List ℕ) × (image ≡ header area_byte area ++ rest)
+
 -- The image has a right header, and in the area that the area byte names (A where it is even, B where it is odd) stand
 -- these records and then a closed gate, within the area.
 pub record HoldsRecords (image : List ℕ) (area : ℕ) (bodies : List (List ℕ)) : Type 0 where
@@ -54,6 +58,10 @@ pub record HoldsRecords (image : List ℕ) (area : ℕ) (bodies : List (List ℕ
 pub record HoldsAlone (image : List ℕ) (area : ℕ) (bodies : List (List ℕ)) : Type 0 where
   pub holds : HoldsRecords image area bodies
   pub alone : (size : ℕ) (others : List (List ℕ)) → HoldsRecords image size others → (size ≡ area) × (others ≡ bodies)
+
+-- it holds the one records alone, or the others
+abbrev pub HoldsOneOf : ℕ → (old new : List (List ℕ)) → List ℕ → Type 0
+HoldsOneOf area old new image = HoldsAlone image area old ⊎ HoldsAlone image area new
 
 -- it holds these records alone, or these with one more alone
 abbrev pub HoldsOldOrNew : ℕ → List (List ℕ) → List ℕ → List ℕ → Type 0

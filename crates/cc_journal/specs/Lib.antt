@@ -2,11 +2,13 @@
 pub mod Fault
 -- the bytes of a journal, and which records an image holds
 pub mod Format
+-- one commit: which bytes go where, and in which order
+pub mod Commit
 -- what contracts see of a journal, and what its type keeps
 pub mod Journal
 -- which answer a call gives, and when
 pub mod Answers
--- worked rows of `Format`, computed
+-- worked rows of `Format` and `Commit`, computed
 pub mod rows
 -- what only proofs and private contracts use
 pub mod internal

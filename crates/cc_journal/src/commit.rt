@@ -1,11 +1,18 @@
-// How one record gets onto the disk: four device calls, so that a crash in any of them leaves it whole or not at all.
-ghost use Rattle.std.specs.Prelude.{◌≡◌, ◌+◌, ◌^◌, ◌<◌, ◌≤◌, ◌++◌, [], ◌∷◌, List, ℕ, IsTrue, length, IfOk, OnOk, is_ok, if◌then◌else◌};
+// One commit: how records get onto the disk. Bytes are written where they count for nothing yet, and synced; then one byte
+// is written that puts them in force, and synced. So a crash at any moment leaves the old records or the new ones. An
+// `append` and a `rewrite` differ in which bytes these are alone.
+ghost use Rattle.std.specs.Prelude.{◌≡◌, ◌+◌, ◌*◌, ◌^◌, ◌<◌, ◌≤◌, ◌++◌, [], ◌∷◌, List, ℕ, IsTrue, length, IfOk, OnOk, is_ok, if◌then◌else◌};
+ghost use Rattle.cc_disk.specs.Images.{LeavesAlone, LeavesOnly};
 ghost use Rattle.std.specs.Int.{w32, to_le_bytes};
-ghost use Rattle.cc_disk.specs.Images.{IsWritten, LeavesAlone, LeavesOnly};
+ghost use Rattle.cc_journal.specs.Format.{records, room_of};
+ghost use Rattle.cc_journal.specs.Commit.{append_commit, rewrite_commit, area_begin, other_area, behind_gate, IsCommitted};
 ghost use Rattle.cc_journal.specs.internal.Commit.{IsMidCommit};
 
+use crate::body::Body;
+use crate::reading::HEADER;
 use cc_disk::{Disk, DiskFault};
 use std::alloc::{AllocError, Global};
+use std::marker::Model;
 
 /// The gate of a record that counts. Every other value is a closed gate.
 pub const OPEN: u8 = 0xa5;
@@ -13,35 +20,143 @@ pub const OPEN: u8 = 0xa5;
 /// The closed gate, as it is written.
 pub const CLOSED: u8 = 0;
 
-/// What stands after the gate of a record with this body: the body's length, the body, and the next gate, closed.
-pub fn frame(alloc: Global, body: &[u8]) -> Result<Vec<u8>, AllocError>
-    requires { length body.now < 2 ^ 32 }
-    ensures { IfOk result (λ bytes. bytes.items ≡ to_le_bytes w32 (length body.now) ++ (body.now ++ 0 ∷ [])) }
-{
-    let mut bytes = Vec::with_capacity(alloc, body.len() + 5)?;
-    bytes.extend_from_slice(&(body.len() as u32).to_le_bytes())?;
-    bytes.extend_from_slice(body)?;
-    bytes.push(CLOSED)?;
-    Ok(bytes)
+/// The bytes that one commit writes, and where: those of its first write, and the one byte of its second write, which
+/// decides. A clause sees both with their offsets.
+#[derive(Drop)]
+pub struct Commit {
+    offset: usize,
+    bytes: Vec<u8>,
+    deciding_offset: usize,
+    deciding_byte: u8,
 }
 
-/// Writes these bytes after the gate at that offset, and then opens it.
-pub fn commit<D: Disk>(disk: &mut D, gate: usize, behind: &[u8]) -> Result<(), DiskFault>
-    requires on_disk { gate + 1 + length behind.now ≤ D.size disk.old }
-    requires fits { gate + 1 + length behind.now < 2 ^ 64 }
+impl Model for Commit {
+    ghost use Rattle.cc_journal.specs.Commit as seen;
+
+    ghost Value = { seen.Commit };
+
+    ghost view = { λ c. record { offset = c.offset; bytes = c.bytes.items; deciding_offset = c.deciding_offset; deciding_byte = c.deciding_byte } };
+}
+
+impl Commit {
+    /// The commit that puts a record with this body after the closed gate at that offset: first what stands after the
+    /// record's own gate (its length, its body, and the next gate, closed), then its own gate, open.
+    pub fn append(alloc: Global, gate: usize, body: &[u8]) -> Result<Commit, AllocError>
+        requires short { length body.now < 2 ^ 32 }
+        requires fits { gate + 1 < 2 ^ 64 }
+        ensures { IfOk result (λ c. c ≡ append_commit gate body.now) }
+    {
+        let mut bytes = Vec::with_capacity(alloc, body.len() + 5)?;
+        put_body(&mut bytes, body)?;
+        bytes.push(CLOSED)?;
+        Ok(Commit {
+            offset: gate + 1,
+            bytes,
+            deciding_offset: gate,
+            deciding_byte: OPEN,
+        })
+    }
+
+    /// The commit that makes these the records of a disk whose area byte is that one, with areas of `area` bytes: first all
+    /// records and the closed gate after them, from the begin of the other area on, then the byte of that area, 0 for A and
+    /// 1 for B.
+    pub fn rewrite(
+        alloc: Global,
+        area_byte: u8,
+        area: usize,
+        bodies: &[Body],
+    ) -> Result<Commit, AllocError>
+        requires fits { room_of bodies.now ≤ area }
+        requires small { area ≤ 2 ^ 30 }
+        ensures { IfOk result (λ c. c ≡ rewrite_commit area_byte area bodies.now) }
+    {
+        let other = other_area(area_byte);
+        let mut bytes = Vec::new(alloc);
+        put_records(&mut bytes, bodies)?;
+        bytes.push(CLOSED)?;
+        Ok(Commit {
+            offset: HEADER + other as usize * area,
+            bytes,
+            deciding_offset: 0,
+            deciding_byte: other,
+        })
+    }
+
+    /// The offset of its first write.
+    pub fn offset(&self) -> usize
+        ensures { result ≡ self.now.offset }
+    {
+        self.offset
+    }
+
+    /// The bytes of its first write.
+    pub fn bytes(&self) -> &[u8]
+        ensures { result.now ≡ self.now.bytes }
+    {
+        &self.bytes
+    }
+
+    /// The offset of the byte that decides.
+    pub fn deciding_offset(&self) -> usize
+        ensures { result ≡ self.now.deciding_offset }
+    {
+        self.deciding_offset
+    }
+
+    /// The byte that decides.
+    pub fn deciding_byte(&self) -> u8
+        ensures { result ≡ self.now.deciding_byte }
+    {
+        self.deciding_byte
+    }
+}
+
+/// Makes the commit: four device calls.
+pub fn make<D: Disk>(disk: &mut D, commit: &Commit) -> Result<(), DiskFault>
+    requires first_on_disk { commit.now.offset + length commit.now.bytes ≤ D.size disk.old }
+    requires last_on_disk { commit.now.deciding_offset + 1 ≤ D.size disk.old }
     ensures size { D.size disk.new ≡ D.size disk.old }
     ensures failures { D.failures disk.new ≡ (if is_ok result then D.failures disk.old else D.failures disk.old + 1) }
-    ensures written { OnOk result (IsTrue D.honest → IsWritten (D.seen disk.old) gate (165 ∷ behind.now) (D.seen disk.new)) }
+    ensures committed { OnOk result (IsTrue D.honest → IsCommitted commit.now (D.seen disk.old) (D.seen disk.new)) }
     ensures alone { OnOk result (IsTrue D.honest → LeavesAlone (D.seen disk.new) (D.may_leave disk.new)) }
     ensures moments { IsTrue D.honest → LeavesAlone (D.seen disk.old) (D.may_leave disk.old)
-        → LeavesOnly D.moment D.left_since disk.old disk.new (IsMidCommit (D.seen disk.old) gate behind.now) }
+        → LeavesOnly D.moment D.left_since disk.old disk.new (IsMidCommit commit.now (D.seen disk.old)) }
 {
-    // The record stands first after a closed gate, where a torn write counts for nothing.
-    disk.write_at(gate + 1, behind)?;
-    // It is settled before its gate opens, so that an open gate never stands before a torn record.
+    // The new bytes stand after a closed gate, or in the area that is not in use: a torn write counts for nothing.
+    disk.write_at(commit.offset(), commit.bytes())?;
+    // They are settled before the deciding byte is written, so that it never puts torn records in force.
     disk.sync()?;
-    // One byte decides: the record counts from here on, whole, or does not.
-    disk.write_at(gate, &[OPEN])?;
-    // The open gate is settled before the caller is told.
+    // One byte decides, and torn or not it is the one or the other: the records count from here on, all of them, or none.
+    disk.write_at(commit.deciding_offset(), &[commit.deciding_byte()])?;
+    // The decision is settled before the caller is told.
     disk.sync()
+}
+
+// The byte of the other area.
+fn other_area(area_byte: u8) -> u8
+    ensures other { result ≡ other_area area_byte }
+    ensures small { result ≤ 1 }
+{
+    if area_byte % 2 == 0 { 1 } else { 0 }
+}
+
+// Adds the length of a body, and the body.
+fn put_body(bytes: &mut Vec<u8>, body: &[u8]) -> Result<(), AllocError>
+    requires { length body.now < 2 ^ 32 }
+    ensures { OnOk result (bytes.new.items ≡ bytes.old.items ++ (to_le_bytes w32 (length body.now) ++ body.now)) }
+{
+    bytes.extend_from_slice(&(body.len() as u32).to_le_bytes())?;
+    bytes.extend_from_slice(body)
+}
+
+// Adds the records with these bodies, one after the other.
+fn put_records(bytes: &mut Vec<u8>, bodies: &[Body]) -> Result<(), AllocError>
+    requires { room_of bodies.now ≤ 2 ^ 30 }
+    ensures { OnOk result (bytes.new.items ≡ bytes.old.items ++ records bodies.now) }
+{
+    for body in bodies {
+        bytes.push(OPEN)?;
+        put_body(bytes, body.as_slice())?;
+    }
+    Ok(())
 }

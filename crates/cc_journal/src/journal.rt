@@ -1,14 +1,14 @@
 // The journal and its calls.
-ghost use Rattle.std.specs.Prelude.{◌≡◌, ◌≢◌, ◌⊎◌, ◌+◌, ◌*◌, ◌^◌, ◌<◌, ◌≤◌, ◌++◌, [], ◌∷◌, List, ℕ, true, false, IsTrue, length, IfOk, IfErr, MatchResult, OnOk, OnErr, IsErrOf, vec_len, vec_capacity};
-ghost use Rattle.std.specs.Int.{w32, to_le_bytes};
+ghost use Rattle.std.specs.Prelude.{◌≡◌, ◌≢◌, ◌⊎◌, ◌+◌, ◌*◌, ◌^◌, ◌<◌, ◌≤◌, ◌++◌, [], ◌∷◌, List, ℕ, true, false, IsTrue, IsNone, length, IfOk, IfErr, IfSome, MatchResult, OnOk, OnErr, IsErrOf, vec_len, vec_capacity};
 ghost use Rattle.cc_disk.specs.Images.{IsWritten, LeavesAlone, LeavesOnly, OnlyReads};
-ghost use Rattle.cc_journal.specs.Format.{HoldsAlone, HoldsOldOrNew, HoldsRecords, IsArea, record_bytes, room_of};
-ghost use Rattle.cc_journal.specs.Answers.{AppendAnswers, OpenFaults};
+ghost use Rattle.cc_journal.specs.Format.{HasAreaByte, HoldsAlone, HoldsOldOrNew, HoldsOneOf, HoldsRecords, IsArea, record_bytes, records, room_of};
+ghost use Rattle.cc_journal.specs.Commit.{IsCommitted, append_commit, area_begin, rewrite_commit};
+ghost use Rattle.cc_journal.specs.Answers.{AppendAnswers, CommitAnswers, OpenFaults};
 
 use crate::body::Body;
-use crate::commit::{commit, frame};
+use crate::commit::{Commit, make};
 use crate::fault::JournalFault;
-use crate::reading::{Found, find_records};
+use crate::reading::{Found, HEADER, find_records};
 use cc_disk::Disk;
 use std::alloc::{AllocError, Global};
 use std::marker::Model;
@@ -130,11 +130,66 @@ impl<D: Disk> Journal<D> {
             return Err(JournalFault::Full);
         }
         // All growths come before the first device call.
-        let (kept, behind) = prepare(alloc, &mut self.bodies, body)?;
-        match commit(&mut self.disk, self.start + self.used, &behind) {
+        let gate = self.start + self.used;
+        let (kept, commit) = prepare(alloc, &mut self.bodies, gate, body)?;
+        match make(&mut self.disk, &commit) {
             Ok(()) => {
                 self.used += body.len() + 5;
                 self.bodies.push(kept).unwrap();
+                Ok(())
+            }
+            Err(_) => {
+                self.closed = true;
+                Err(JournalFault::DiskFault)
+            }
+        }
+    }
+
+    /// Makes these the records, in the place of all others. At Ok they are kept: every crash from then on leaves them, and
+    /// no others. They are written into the area that is not in use, which is in use from then on.
+    ///
+    /// Refusals, in this order: 36 where the journal is closed; 34 where the records and their closed gate do not fit an
+    /// area; then 40 where memory ran out, and up to here no device call is made and nothing changes; 35 where the device
+    /// failed in the call, after which the journal is closed, and its disk has the old records or the new ones. Every
+    /// refusal gives the new ones up.
+    pub fn rewrite(&mut self, alloc: Global, bodies: Vec<Body>) -> Result<(), JournalFault>
+        ensures answers { CommitAnswers self.old.closed self.old.area bodies.items (D.failures self.old.disk) (D.failures self.new.disk) result }
+        ensures size { D.size self.new.disk ≡ D.size self.old.disk }
+        ensures area { self.new.area ≡ self.old.area }
+
+        // At Ok these are the records, and every image has them alone.
+        ensures rewritten { OnOk result (self.new.bodies ≡ bodies.items) }
+        ensures open { OnOk result (self.new.closed ≡ false) }
+        ensures kept { OnOk result (IsTrue D.honest
+            → (image : List ℕ) → D.may_leave self.new.disk image → HoldsAlone image self.new.area self.new.bodies) }
+
+        // The bytes of the disk are those of the one commit, by the area byte that it had.
+        ensures bytes { OnOk result (IsTrue D.honest → (area_byte : ℕ) × HasAreaByte (D.seen self.old.disk) area_byte self.old.area
+            × IsCommitted (rewrite_commit area_byte self.old.area bodies.items) (D.seen self.old.disk) (D.seen self.new.disk)) }
+
+        // A refusal leaves the records; without a device call it leaves all, after 35 the journal is closed.
+        ensures leaves { OnErr result (self.new.bodies ≡ self.old.bodies) }
+        ensures untouched { IfErr result (λ e. e ≢ JournalFault.DiskFault → self.new ≡ self.old) }
+        ensures closes { IsErrOf result JournalFault.DiskFault → self.new.closed ≡ true }
+
+        // A crash at any moment of the call leaves the old records, or the new ones.
+        ensures moments { IsTrue D.honest → self.old.closed ≡ false
+            → LeavesOnly D.moment D.left_since self.old.disk self.new.disk (HoldsOneOf self.old.area self.old.bodies bodies.items) }
+    {
+        if self.closed {
+            // No device call: what the disk holds is not known before it is opened again.
+            return Err(JournalFault::Closed);
+        }
+        let Some(used) = bytes_taken(&bodies, self.area) else {
+            return Err(JournalFault::Full);
+        };
+        // All growths come before the first device call.
+        let commit = Commit::rewrite(alloc, side(self.start), self.area, &bodies)?;
+        match make(&mut self.disk, &commit) {
+            Ok(()) => {
+                self.start = commit.offset();
+                self.used = used;
+                self.bodies = bodies;
                 Ok(())
             }
             Err(_) => {
@@ -160,21 +215,48 @@ impl<D: Disk> Journal<D> {
     }
 }
 
-// What an `append` takes of memory: the record to keep, the bytes after its gate, and room for it.
+// What an `append` takes of memory: the record to keep, the bytes to write, and room for the record.
 fn prepare(
     alloc: Global,
     bodies: &mut Vec<Body>,
+    gate: usize,
     body: &[u8],
-) -> Result<(Body, Vec<u8>), AllocError>
-    requires { length body.now < 2 ^ 32 }
+) -> Result<(Body, Commit), AllocError>
+    requires short { length body.now < 2 ^ 32 }
+    requires fits { gate + 1 < 2 ^ 64 }
     ensures kept { IfOk result (λ made. made.0 ≡ body.now) }
-    ensures behind { IfOk result (λ made. made.1.items ≡ to_le_bytes w32 (length body.now) ++ (body.now ++ 0 ∷ [])) }
+    ensures commit { IfOk result (λ made. made.1 ≡ append_commit gate body.now) }
     ensures room { OnOk result (vec_len bodies.new + 1 ≤ vec_capacity bodies.new) }
     ensures same { bodies.new.items ≡ bodies.old.items }
     ensures len { vec_len bodies.new ≡ vec_len bodies.old }
 {
     let kept = Vec::from_slice(alloc, body)?;
-    let behind = frame(alloc, body)?;
+    let commit = Commit::append(alloc, gate, body)?;
     bodies.reserve(1)?;
-    Ok((Body::new(kept), behind))
+    Ok((Body::new(kept), commit))
+}
+
+// The area byte of the area that begins at that offset.
+fn side(start: usize) -> u8
+    ensures first { start ≡ 16 → result ≡ 0 }
+    ensures second { start ≢ 16 → result ≡ 1 }
+{
+    if start == HEADER { 0 } else { 1 }
+}
+
+// How many bytes these records take, where they and their closed gate fit an area of that many bytes.
+fn bytes_taken(bodies: &[Body], area: usize) -> Option<usize>
+    requires { 1 ≤ area }
+    ensures taken { IfSome result (λ used. (used ≡ length (records bodies.now)) × (room_of bodies.now ≤ area)) }
+    ensures full { IsNone result → area < room_of bodies.now }
+{
+    let mut left = area - 1;
+    for body in bodies {
+        let length = body.as_slice().len();
+        if left < 5 || left - 5 < length {
+            return None;
+        }
+        left -= length + 5;
+    }
+    Some(area - 1 - left)
 }

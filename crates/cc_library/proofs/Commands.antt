@@ -8,7 +8,7 @@ use Rattle.cc_library.specs.declared.command.Command.{Command}
 use Rattle.cc_library.specs.declared.command.Command.TheVariants.{Add, Replace, Withdraw}
 use Rattle.cc_library.specs.Name.{is_name}
 use Rattle.cc_library.specs.Body.{AreBelow, IsUnit, IsCommand, Spells, body_of, name_field, unit_fields}
-use Rattle.cc_library.specs.Reading.{◌>>=◌, name_in, unit_in, kind_in, command_in}
+use Rattle.cc_library.specs.internal.Reading.{◌>>=◌, name_in, unit_in, kind_in, command_in}
 use Rattle.cc_library.proofs.Fields.{bind_some, when_some, both_true, Takes, name_fields, unit_field}
 
 -- the kind's byte, the name and the rest of the body of a command

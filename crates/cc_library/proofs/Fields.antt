@@ -13,7 +13,7 @@ use Rattle.cc_link.specs.declared.unit.Certificate.{Certificate}
 use Rattle.cc_link.specs.declared.unit.StoredUnit.{StoredUnit}
 use Rattle.cc_library.specs.Name.{is_name}
 use Rattle.cc_library.specs.Body.{AreBelow, IsUnit, bytes_field, words_field, name_field, unit_fields}
-use Rattle.cc_library.specs.Reading.{◌>>=◌, taken, number_in, words_in, words_field_in, source_in, name_in, unit_in}
+use Rattle.cc_library.specs.internal.Reading.{◌>>=◌, taken, number_in, words_in, words_field_in, source_in, name_in, unit_in}
 
 -- ---- tools
 

@@ -7,3 +7,4 @@ pub mod Changing
 pub mod Refused
 pub mod Opening
 pub mod Running
+pub mod Compacting

@@ -1,9 +1,10 @@
 -- A change that was refused: without a device call every image recovers to the old map still; and what a change leaves that
 -- the journal refused, and whether the library is closed then.
-use Rattle.std.proofs.Common.{◌≡◌, ◌≢◌, ℕ, List, Bool, true, false, IsTrue, sym, ap, subst, ◌∙◌, refl}
+use Rattle.std.proofs.Common.{◌≡◌, ◌≢◌, ℕ, ◌<◌, ◌≤◌, List, [], ◌∷◌, ◌++◌, Bool, true, false, IsTrue, sym, ap, subst, ◌∙◌, refl}
 use Rattle.std.specs.Prelude.{Err}
 use Rattle.cc_disk.specs.Images.{LeavesOnly}
-use Rattle.cc_journal.specs.Format.{HoldsAlone}
+use Rattle.cc_journal.specs.Format.{HoldsAlone, room_of}
+use Rattle.cc_journal.specs.Answers.{CommitAnswers}
 use denote.Enum.Bare.{sameb}
 use Rattle.cc_journal.specs.contracts.fault.JournalFault.{the_type}
 use Rattle.cc_journal.specs.declared.fault.JournalFault.{JournalFault}
@@ -13,10 +14,11 @@ use Rattle.cc_library.specs.declared.command.Command.{Command}
 use Rattle.cc_library.specs.Fault.{fault_of}
 use Rattle.cc_library.specs.Apply.{Units, after}
 use Rattle.cc_library.specs.Body.{body_of}
-use Rattle.cc_library.specs.Recovered.{StandFor, View}
+use Rattle.cc_library.specs.Recovered.{StandFor, RecoversAlone, View}
 use Rattle.cc_library.specs.internal.Steps.{IsOldOrNew}
-use Rattle.cc_library.specs.Answers.{ChangeLeaves}
-use Rattle.cc_library.proofs.Standing.{quiet}
+use Rattle.cc_library.specs.Compact.{compacted}
+use Rattle.cc_library.specs.Answers.{ChangeLeaves, CompactAnswers}
+use Rattle.cc_library.proofs.Standing.{quiet, no_call, holds_recovers}
 
 module _ {D : Type 0} where
   -- what contracts see of a library with this journal and this map
@@ -24,15 +26,38 @@ module _ {D : Type 0} where
   seen_as j units closed = record { disk = j.disk; area = j.area; bodies = j.bodies; units = units; closed = closed }
 
   -- without a device call
+  pub quiet_edit : (made : View D → List (List ℕ)) (result : View D → Units) (honest : Bool) (moment : D → ℕ) (left_since : D → ℕ → List ℕ → Type 0) (may_leave : D → List ℕ → Type 0) (j : journals.View D) (units : Units) (closed : Bool) (old : View D)
+      → seen_as j units closed ≡ old → StandFor j.bodies units → closed ≡ j.closed
+      → (IsTrue honest → j.closed ≡ false → (image : List ℕ) → may_leave j.disk image → HoldsAlone image j.area j.bodies)
+      → (IsTrue honest → (image : List ℕ) → left_since j.disk (moment j.disk) image → may_leave j.disk image) → (d : D) → d ≡ j.disk
+      → IsTrue honest → old.closed ≡ false → LeavesOnly moment left_since old.disk d (IsOldOrNew old.area old.bodies old.units (made old) (result old))
+  quiet_edit made result honest moment left_since may_leave j units closed old is stand same kept only_now d d_is =
+      subst (λ (v : View D). IsTrue honest → v.closed ≡ false → LeavesOnly moment left_since v.disk d (IsOldOrNew v.area v.bodies v.units (made v) (result v))) is
+      (λ h not_closed. let v = seen_as j units closed in
+      subst (λ (e : D). LeavesOnly moment left_since j.disk e (IsOldOrNew j.area j.bodies units (made v) (result v))) (sym d_is)
+      (quiet moment left_since may_leave j.disk j.area j.bodies units (made v) (result v) (kept h (sym same ∙ not_closed)) (only_now h) stand))
+
   pub quiet_change : (honest : Bool) (moment : D → ℕ) (left_since : D → ℕ → List ℕ → Type 0) (may_leave : D → List ℕ → Type 0) (j : journals.View D) (units : Units) (closed : Bool) (old : View D) (command : Command)
       → seen_as j units closed ≡ old → StandFor j.bodies units → closed ≡ j.closed
       → (IsTrue honest → j.closed ≡ false → (image : List ℕ) → may_leave j.disk image → HoldsAlone image j.area j.bodies)
       → (IsTrue honest → (image : List ℕ) → left_since j.disk (moment j.disk) image → may_leave j.disk image) → (d : D) → d ≡ j.disk
-      → IsTrue honest → old.closed ≡ false → LeavesOnly moment left_since old.disk d (IsOldOrNew old.area old.bodies old.units (body_of command) (after old.units command))
+      → IsTrue honest → old.closed ≡ false → LeavesOnly moment left_since old.disk d (IsOldOrNew old.area old.bodies old.units (old.bodies ++ body_of command ∷ []) (after old.units command))
   quiet_change honest moment left_since may_leave j units closed old command is stand same kept only_now d d_is =
-      subst (λ (v : View D). IsTrue honest → v.closed ≡ false → LeavesOnly moment left_since v.disk d (IsOldOrNew v.area v.bodies v.units (body_of command) (after v.units command))) is
-      (λ h not_closed. subst (λ (e : D). LeavesOnly moment left_since j.disk e (IsOldOrNew j.area j.bodies units (body_of command) (after units command))) (sym d_is)
-      (quiet moment left_since may_leave j.disk j.area j.bodies units (body_of command) (after units command) (kept h (sym same ∙ not_closed)) (only_now h) stand))
+      quiet_edit (λ v. v.bodies ++ body_of command ∷ []) (λ v. after v.units command) honest moment left_since may_leave j units closed old is stand same kept only_now d d_is
+
+  -- without a device call, of the map alone
+  pub still_map : (P : List ℕ → Type 0) (honest : Bool) (moment : D → ℕ) (left_since : D → ℕ → List ℕ → Type 0) (may_leave : D → List ℕ → Type 0) (j : journals.View D) (units : Units) (closed : Bool) (old : View D)
+      → seen_as j units closed ≡ old → StandFor j.bodies units → closed ≡ j.closed
+      → (IsTrue honest → j.closed ≡ false → (image : List ℕ) → may_leave j.disk image → HoldsAlone image j.area j.bodies)
+      → (IsTrue honest → (image : List ℕ) → left_since j.disk (moment j.disk) image → may_leave j.disk image) → (d : D) → d ≡ old.disk
+      → ((image : List ℕ) → RecoversAlone image old.units → P image) → IsTrue honest → old.closed ≡ false → LeavesOnly moment left_since old.disk d P
+  still_map P honest moment left_since may_leave j units closed old is stand same kept only_now d d_is f h not_closed =
+      subst (λ (e : D). LeavesOnly moment left_since old.disk e P) (sym d_is) (no_call moment left_since P old.disk (λ image left. f image (recovers image left)))
+    where
+      recovers : (image : List ℕ) → left_since old.disk (moment old.disk) image → RecoversAlone image old.units
+      recovers image =
+          subst (λ (v : View D). v.closed ≡ false → left_since v.disk (moment v.disk) image → RecoversAlone image v.units) is
+          (λ nc left. holds_recovers image j.area j.bodies units (kept h (sym same ∙ nc) image (only_now h image left)) stand) not_closed
 
   still_open : (old new : journals.View D) (is_fault : Bool) → is_fault ≡ false → old.closed ≡ false → new ≡ old → is_fault ≡ new.closed
   still_open old new is_fault e was same = e ∙ sym (ap (λ (j : journals.View D). j.closed) same ∙ was)
@@ -62,3 +87,13 @@ module _ {D : Type 0} where
   leaves_err journal.Damaged command old new units made closed is_fault back untouched bodies area e was = untouched_is old new units made closed is_fault back (untouched (λ p. cc p)) e was
   leaves_err journal.NotALibrary command old new units made closed is_fault back untouched bodies area e was = untouched_is old new units made closed is_fault back (untouched (λ p. cc p)) e was
   leaves_err journal.OutOfMemory command old new units made closed is_fault back untouched bodies area e was = untouched_is old new units made closed is_fault back (untouched (λ p. cc p)) e was
+
+  -- a refusal of the journal's `rewrite` is that of `compact`
+  pub compact_refused : (fault : JournalFault) (j : journals.View D) (units : Units) (closed : Bool) (bodies : List (List ℕ)) (before behind : ℕ) → bodies ≡ compacted units → closed ≡ j.closed
+      → CommitAnswers {T = Unit {0}} j.closed j.area bodies before behind (Err fault) → CompactAnswers {T = Unit {0}} (seen_as j units closed) before behind (Err (fault_of fault))
+  compact_refused journal.Full j units closed bodies before behind is same answers = (same ∙ answers.0, subst (λ (l : List (List ℕ)). j.area < room_of l) is answers.1, answers.2)
+  compact_refused journal.DiskFault j units closed bodies before behind is same answers = (same ∙ answers.0, subst (λ (l : List (List ℕ)). room_of l ≤ j.area) is answers.1, answers.2)
+  compact_refused journal.Closed j units closed bodies before behind is same answers = (same ∙ answers.0, answers.1)
+  compact_refused journal.OutOfMemory j units closed bodies before behind is same answers = (same ∙ answers.0, answers.2)
+  compact_refused journal.Damaged j units closed bodies before behind is same answers = absurd answers
+  compact_refused journal.NotALibrary j units closed bodies before behind is same answers = absurd answers

@@ -1,10 +1,10 @@
 -- What records stand for: one record more at the front or at the back, and that records stand for one map at most. From
 -- this, what images that hold records recover to.
-use Rattle.std.proofs.Common.{◌≡◌, ◌⊎◌, inl, inr, ℕ, List, [], ◌∷◌, ◌++◌, refl, sym, ap, subst, ◌∙◌, arith}
+use Rattle.std.proofs.Common.{◌≡◌, ◌⊎◌, inl, inr, ⊎_elim, ℕ, List, [], ◌∷◌, ◌++◌, refl, sym, ap, subst, ◌∙◌, arith}
 use Rattle.std.specs.Prelude.{IsOk, Err}
 use Rattle.std.specs.FinMap.{empty}
-use Rattle.cc_disk.specs.Images.{LeavesOnly}
-use Rattle.cc_journal.specs.Format.{HoldsAlone, HoldsOldOrNew}
+use Rattle.cc_disk.specs.Images.{LeavesOnly, OnlyReads}
+use Rattle.cc_journal.specs.Format.{HoldsAlone, HoldsOldOrNew, HoldsOneOf}
 use Rattle.cc_library.specs.declared.command.Command.{Command}
 use Rattle.cc_library.specs.declared.fault.LibraryFault.{LibraryFault}
 use Rattle.cc_library.specs.declared.fault.LibraryFault.TheVariants.{Exists, Absent, Full, DiskFault, Closed, Damaged, NotALibrary, OutOfMemory}
@@ -114,14 +114,14 @@ holds_recovers image area bodies units h stand = record {
   alone = λ others r. one_map empty bodies others units (subst (λ (bs : List (List ℕ)). StandFor bs others) (h.alone r.area r.bodies r.holds).1 r.stand) stand;
 }
 
-pub one_of : (image : List ℕ) (area : ℕ) (bodies : List (List ℕ)) (body : List ℕ) (old new : Units) → StandFor bodies old → StandFor (bodies ++ body ∷ []) new → HoldsOldOrNew area bodies body image → IsOldOrNew area bodies old body new image
+pub one_of : (image : List ℕ) (area : ℕ) (bodies : List (List ℕ)) (body : List ℕ) (old new : Units) → StandFor bodies old → StandFor (bodies ++ body ∷ []) new → HoldsOldOrNew area bodies body image → IsOldOrNew area bodies old (bodies ++ body ∷ []) new image
 one_of image area bodies body old new before behind (inl h) = inl (h, holds_recovers image area bodies old h before)
 one_of image area bodies body old new before behind (inr h) = inr (h, holds_recovers image area (bodies ++ body ∷ []) new h behind)
 
 -- of the maps alone
-pub either : (image : List ℕ) (area : ℕ) (bodies : List (List ℕ)) (old : Units) (body : List ℕ) (new : Units) → IsOldOrNew area bodies old body new image → RecoversOneOf old new image
-either image area bodies old body new (inl p) = inl p.1
-either image area bodies old body new (inr p) = inr p.1
+pub either : (image : List ℕ) (area : ℕ) (bodies : List (List ℕ)) (old : Units) (made : List (List ℕ)) (new : Units) → IsOldOrNew area bodies old made new image → RecoversOneOf old new image
+either image area bodies old made new (inl p) = inl p.1
+either image area bodies old made new (inr p) = inr p.1
 
 -- ---- moments
 
@@ -142,21 +142,57 @@ module _ {D : Type 0} (moment : D → ℕ) (left_since : D → ℕ → List ℕ 
   no_call Q disk now = record { later = omega arith; each = now; before = λ t image earlier left. inl left }
 
   -- between two calls, of a library whose every image holds its records alone
-  pub quiet : (may_leave : D → List ℕ → Type 0) (disk : D) (area : ℕ) (bodies : List (List ℕ)) (units : Units) (body : List ℕ) (new : Units)
+  pub quiet : (may_leave : D → List ℕ → Type 0) (disk : D) (area : ℕ) (bodies : List (List ℕ)) (units : Units) (made : List (List ℕ)) (new : Units)
       → ((image : List ℕ) → may_leave disk image → HoldsAlone image area bodies) → ((image : List ℕ) → left_since disk (moment disk) image → may_leave disk image) → StandFor bodies units
-      → LeavesOnly moment left_since disk disk (IsOldOrNew area bodies units body new)
-  quiet may_leave disk area bodies units body new kept only_now stand =
-      no_call (IsOldOrNew area bodies units body new) disk (λ image left. let h = kept image (only_now image left) in inl (h, holds_recovers image area bodies units h stand))
+      → LeavesOnly moment left_since disk disk (IsOldOrNew area bodies units made new)
+  quiet may_leave disk area bodies units made new kept only_now stand =
+      no_call (IsOldOrNew area bodies units made new) disk (λ image left. let h = kept image (only_now image left) in inl (h, holds_recovers image area bodies units h stand))
 
   -- during an `append`
   pub appended : (old new : D) (area : ℕ) (bodies : List (List ℕ)) (body : List ℕ) (units : Units) (command : Command) → StandFor bodies units → Spells body command → IsOk (apply units command)
-      → LeavesOnly moment left_since old new (HoldsOldOrNew area bodies body) → LeavesOnly moment left_since old new (IsOldOrNew area bodies units (body_of command) (after units command))
+      → LeavesOnly moment left_since old new (HoldsOldOrNew area bodies body) → LeavesOnly moment left_since old new (IsOldOrNew area bodies units (bodies ++ body_of command ∷ []) (after units command))
   appended old new area bodies body units command stand spelled ok run =
-      subst (λ (b : List ℕ). LeavesOnly moment left_since old new (IsOldOrNew area bodies units b (after units command))) spelled.spelled
-      (weaker (HoldsOldOrNew area bodies body) (IsOldOrNew area bodies units body (after units command)) old new
+      subst (λ (b : List ℕ). LeavesOnly moment left_since old new (IsOldOrNew area bodies units (bodies ++ b ∷ []) (after units command))) spelled.spelled
+      (weaker (HoldsOldOrNew area bodies body) (IsOldOrNew area bodies units (bodies ++ body ∷ []) (after units command)) old new
       (λ image holds. one_of image area bodies body units (after units command) stand (one_more bodies units body command stand spelled ok) holds) run)
 
+  -- during a `rewrite` by records that stand for the same map
+  pub rewritten : (old new : D) (area : ℕ) (bodies more : List (List ℕ)) (units : Units) → StandFor bodies units → StandFor more units → LeavesOnly moment left_since old new (HoldsOneOf area bodies more)
+      → LeavesOnly moment left_since old new (IsOldOrNew area bodies units more units)
+  rewritten old new area bodies more units before behind run =
+      weaker (HoldsOneOf area bodies more) (IsOldOrNew area bodies units more units) old new (λ image holds. by image holds) run
+    where
+      by : (image : List ℕ) → HoldsOneOf area bodies more image → IsOldOrNew area bodies units more units image
+      by image (inl h) = inl (h, holds_recovers image area bodies units h before)
+      by image (inr h) = inr (h, holds_recovers image area more units h behind)
+
   -- of the maps alone
-  pub maps_alone : (old new : D) (area : ℕ) (bodies : List (List ℕ)) (units : Units) (body : List ℕ) (made : Units) → LeavesOnly moment left_since old new (IsOldOrNew area bodies units body made)
+  pub maps_alone : (old new : D) (area : ℕ) (bodies : List (List ℕ)) (units : Units) (more : List (List ℕ)) (made : Units) → LeavesOnly moment left_since old new (IsOldOrNew area bodies units more made)
       → LeavesOnly moment left_since old new (RecoversOneOf units made)
-  maps_alone old new area bodies units body made run = weaker (IsOldOrNew area bodies units body made) (RecoversOneOf units made) old new (λ image p. either image area bodies units body made p) run
+  maps_alone old new area bodies units more made run = weaker (IsOldOrNew area bodies units more made) (RecoversOneOf units made) old new (λ image p. either image area bodies units more made p) run
+
+  -- of one map
+  pub map_stays : (old new : D) (area : ℕ) (bodies : List (List ℕ)) (units : Units) (more : List (List ℕ)) → LeavesOnly moment left_since old new (IsOldOrNew area bodies units more units)
+      → LeavesOnly moment left_since old new (λ image. RecoversAlone image units)
+  map_stays old new area bodies units more run = weaker (IsOldOrNew area bodies units more units) (λ image. RecoversAlone image units) old new (λ image p. the_one image p) run
+    where
+      the_one : (image : List ℕ) → IsOldOrNew area bodies units more units image → RecoversAlone image units
+      the_one image (inl p) = p.1
+      the_one image (inr p) = p.1
+
+  -- one run of calls after another
+  pub joined : (old mid new : D) (P Q R : List ℕ → Type 0) → LeavesOnly moment left_since old mid P → LeavesOnly moment left_since mid new Q
+      → ((image : List ℕ) → P image → R image) → ((image : List ℕ) → Q image → R image) → LeavesOnly moment left_since old new R
+  joined old mid new P Q R first second f g = record {
+    later = omega (arith, first.later, second.later);
+    each = λ image left. ⊎_elim (λ earlier. f image (first.each image earlier)) (g image) (second.before (moment old) image first.later left);
+    before = λ t image le left. ⊎_elim (λ earlier. weaker_at {P = P} {Q = R} old mid f t image (first.before t image le earlier)) (λ q. inr (g image q)) (second.before t image (omega (arith, le, first.later)) left);
+  }
+
+  -- reads alone after it
+  pub read_on : (seen : D → List ℕ) (may_leave : D → List ℕ → Type 0) (old mid new : D) (P : List ℕ → Type 0) → LeavesOnly moment left_since old mid P → OnlyReads seen may_leave moment left_since mid new → LeavesOnly moment left_since old new P
+  read_on seen may_leave old mid new P first reads = record {
+    later = omega (arith, first.later, reads.later);
+    each = λ image left. first.each image (reads.moments (moment old) image first.later left);
+    before = λ t image le left. first.before t image le (reads.moments t image (omega (arith, le, first.later)) left);
+  }

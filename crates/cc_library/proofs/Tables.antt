@@ -37,7 +37,7 @@ module _ {K X : Type 0} {R : K → K → Ordering} (o : IsTotalOrder R) where
   no_entries = nil_from_length (entries empty) (sym (len-entries empty) ∙ len-empty R X)
 
   -- the entries of a list whose keys rise are the list
-  entries-map : (es : List (K × X)) → IsStrictlySortedBy R (keys_of es) → entries (from_entries {R = R} es) ≡ es
+  pub entries-map : (es : List (K × X)) → IsStrictlySortedBy R (keys_of es) → entries (from_entries {R = R} es) ≡ es
   unfolding IsStrictlySortedBy
   entries-map [] rises = no_entries
   entries-map (e ∷ []) rises = entries-insert o (from_entries []) e.0 e.1 ∙ ap (put R e.0 e.1) no_entries

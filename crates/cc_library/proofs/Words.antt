@@ -3,7 +3,8 @@ use Rattle.std.proofs.Common.{◌≡◌, ℕ, suc, ◌-◌, ◌+◌, ◌≤◌, 
 use Rattle.std.proofs.lemmas.List.{append-nil}
 use Rattle.cc_library.specs.declared.reading.ReadFault.{ReadFault}
 use Rattle.cc_library.specs.declared.reading.ReadFault.TheVariants.{NoCommand, OutOfMemory}
-use Rattle.cc_library.specs.Reading.{◌>>=◌, Gives, number_in, words_in}
+use Rattle.cc_library.specs.internal.Reading.{◌>>=◌, number_in, words_in}
+use Rattle.cc_library.specs.Answers.{Gives}
 use Rattle.std.specs.Prelude.{Err}
 
 -- what was read before, and what is still read

@@ -1,13 +1,22 @@
 -- Which answer a call of a library gives, when, and what it leaves. The failures are those that the disk has counted
 -- before the call and after it.
-use Rattle.std.specs.Prelude.{◌≡◌, ℕ, ◌+◌, ◌<◌, ◌≤◌, Bool, true, false, IsTrue, IsOk, List, ◌∷◌, ◌++◌, [], Result, Ok, Err}
+use Rattle.std.specs.Prelude.{◌≡◌, ℕ, ◌+◌, ◌<◌, ◌≤◌, Bool, true, false, IsTrue, IsOk, List, ◌∷◌, ◌++◌, [], Option, Some, None, Result, Ok, Err}
 use Rattle.cc_journal.specs.Format.{HasHeader, room_of}
 use Rattle.cc_library.specs.declared.command.Command.{Command}
 use Rattle.cc_library.specs.declared.fault.LibraryFault.{LibraryFault}
 use Rattle.cc_library.specs.declared.fault.LibraryFault.TheVariants.{Exists, Absent, Full, DiskFault, Closed, Damaged, NotALibrary, OutOfMemory}
 use Rattle.cc_library.specs.Apply.{Units, apply, after, exists, absent}
+use Rattle.cc_library.specs.declared.reading.ReadFault.{ReadFault}
+use Rattle.cc_library.specs.declared.reading.ReadFault.TheVariants as read
 use Rattle.cc_library.specs.Body.{body_of}
+use Rattle.cc_library.specs.Compact.{compacted}
 use Rattle.cc_library.specs.Recovered.{Recovers, StandFor, View}
+
+-- what a function returned, seen by view, is what there is to read; where memory ran out, nothing is said
+abbrev pub Gives : {X Y : Type 0} → (X → Y) → Result X ReadFault → Option Y → Type 0
+Gives view (Ok x) found = found ≡ Some (view x)
+Gives view (Err read.NoCommand) found = found ≡ None
+Gives view (Err read.OutOfMemory) found = Unit {0}
 
 -- `open`: 35 exactly where the device failed; else, of an honest disk with these bytes, 38 exactly where there is no right
 -- header, and 37 exactly where there is one and nothing is recovered
@@ -67,3 +76,29 @@ module _ {D : Type 0} where
   ChangeLeaves command old new (Err OutOfMemory) = new ≡ old
   ChangeLeaves command old new (Err Damaged) = new ≡ old
   ChangeLeaves command old new (Err NotALibrary) = new ≡ old
+
+  -- when `compact` has which answer: 36 exactly where the library was closed, then 34 exactly where the compacted records do not
+  -- fit, then 35 exactly where the device failed
+  abbrev pub CompactAnswers : {T : Type 0} → View D → (before after : ℕ) → Result T LibraryFault → Type 0
+  CompactAnswers old before after (Ok done) = (old.closed ≡ false) × (room_of (compacted old.units) ≤ old.area) × (after ≡ before)
+  CompactAnswers old before after (Err Closed) = (old.closed ≡ true) × (after ≡ before)
+  CompactAnswers old before after (Err Full) = (old.closed ≡ false) × (old.area < room_of (compacted old.units)) × (after ≡ before)
+  CompactAnswers old before after (Err DiskFault) = (old.closed ≡ false) × (room_of (compacted old.units) ≤ old.area) × (after ≡ before + 1)
+  CompactAnswers old before after (Err OutOfMemory) = (old.closed ≡ false) × (after ≡ before)
+  CompactAnswers old before after (Err Exists) = ⊥
+  CompactAnswers old before after (Err Absent) = ⊥
+  CompactAnswers old before after (Err Damaged) = ⊥
+  CompactAnswers old before after (Err NotALibrary) = ⊥
+
+  -- what it leaves, but for the disk: at Ok the compacted records; after 35 the old ones, closed; after any other refusal
+  -- everything is as before, the disk too; the map is the same always
+  abbrev pub CompactLeaves : {T : Type 0} → (old new : View D) → Result T LibraryFault → Type 0
+  CompactLeaves old new (Ok done) = new ≡ record old { disk = new.disk; bodies = compacted old.units; closed = false }
+  CompactLeaves old new (Err DiskFault) = new ≡ record old { disk = new.disk; closed = true }
+  CompactLeaves old new (Err Closed) = new ≡ old
+  CompactLeaves old new (Err Exists) = new ≡ old
+  CompactLeaves old new (Err Absent) = new ≡ old
+  CompactLeaves old new (Err Full) = new ≡ old
+  CompactLeaves old new (Err OutOfMemory) = new ≡ old
+  CompactLeaves old new (Err Damaged) = new ≡ old
+  CompactLeaves old new (Err NotALibrary) = new ≡ old

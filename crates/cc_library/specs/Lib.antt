@@ -6,10 +6,10 @@ pub mod Name
 pub mod Apply
 -- a command as the body of a record
 pub mod Body
--- reading a body from left to right
-pub mod Reading
 -- the map that records stand for, and what an image recovers to; what contracts see of a library, and what its type keeps
 pub mod Recovered
+-- the shortest journal of a map: one Add per name
+pub mod Compact
 -- which answer a call gives, when, and what it leaves
 pub mod Answers
 -- a run of edits

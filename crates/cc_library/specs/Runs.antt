@@ -1,37 +1,74 @@
 -- A run of edits: each is done in turn, and after each in which the device failed (35) the disk is opened again.
 use Rattle.std.specs.Prelude.{◌≡◌, ◌≢◌, ◌⊎◌, ℕ, Bool, false, IsTrue, List, [], ◌∷◌, ◌++◌, Result, Ok, Err}
 use Rattle.cc_library.specs.declared.command.Command.{Command}
+use Rattle.cc_library.specs.declared.command.Edit.{Edit}
+use Rattle.cc_library.specs.declared.command.Edit.TheVariants.{Change, Compact}
 use Rattle.cc_library.specs.declared.fault.LibraryFault.{LibraryFault}
 use Rattle.cc_library.specs.declared.fault.LibraryFault.TheVariants.{Exists, Absent, Full, DiskFault, Closed, Damaged, NotALibrary, OutOfMemory}
 use Rattle.cc_library.specs.Fault.{fault_number}
-use Rattle.cc_library.specs.Apply.{after}
+use Rattle.cc_library.specs.Apply.{Units, after, after_all}
 use Rattle.cc_library.specs.Body.{body_of}
-use Rattle.cc_library.specs.Recovered.{RecoversOneOf, View}
-use Rattle.cc_library.specs.Answers.{OpenFaults, ChangeAnswers, ChangeLeaves}
+use Rattle.cc_library.specs.Recovered.{RecoversAlone, RecoversOneOf, View}
+use Rattle.cc_library.specs.Compact.{compacted}
+use Rattle.cc_library.specs.Answers.{OpenFaults, ChangeAnswers, ChangeLeaves, CompactAnswers, CompactLeaves}
 
 -- the number of an answer, 0 for Ok
 abbrev pub answer_number : {T : Type 0} → Result T LibraryFault → ℕ
 answer_number (Ok done) = 0
 answer_number (Err fault) = fault_number fault
 
--- the edits that a run did: each with number 0, of those with 35 the ones that the reopening showed, and no others
-abbrev pub AreDone : List Command → List ℕ → List Command → Type 0
+-- the changes that a run did: each with number 0, of those with 35 the ones that the reopening showed, and no others; Compact
+-- changes nothing
+abbrev pub AreDone : List Edit → List ℕ → List Command → Type 0
 AreDone [] [] done = done ≡ []
 AreDone [] (number ∷ numbers) done = ⊥
 AreDone (edit ∷ edits) [] done = ⊥
-AreDone (edit ∷ edits) (number ∷ numbers) done =
-    ((others : List Command) × ((number ≡ 0) ⊎ (number ≡ 35)) × (done ≡ edit ∷ others) × AreDone edits numbers others)
+AreDone (Change command ∷ edits) (number ∷ numbers) done =
+    ((others : List Command) × ((number ≡ 0) ⊎ (number ≡ 35)) × (done ≡ command ∷ others) × AreDone edits numbers others)
     ⊎ ((number ≢ 0) × AreDone edits numbers done)
+AreDone (Compact ∷ edits) (number ∷ numbers) done = AreDone edits numbers done
+
+-- the map after an edit
+abbrev pub after_edit : Units → Edit → Units
+after_edit units (Change command) = after units command
+after_edit units Compact = units
+
+-- The image recovers, alone, to the map after the changes done by the first of the edits, those that the first of the numbers
+-- belong to: by as many as are told here.
+pub record RecoversAmong (units : Units) (edits : List Edit) (numbers : List ℕ) (image : List ℕ) : Type 0 where
+  pub front : List Edit
+  pub behind : List Edit
+  pub earlier : List ℕ
+  pub later : List ℕ
+  pub done : List Command
+  pub edits_are : edits ≡ front ++ behind
+  pub numbers_are : numbers ≡ earlier ++ later
+  pub are_done : AreDone front earlier done
+  pub recovers : RecoversAlone image (after_all units done)
 
 module _ {D : Type 0} where
-  -- the library that a change left is as before, or, where the device failed, it was opened again: of an honest disk it
+  -- when an edit has which answer, and what it leaves
+  abbrev pub EditAnswers : {T : Type 0} → View D → Edit → (before after : ℕ) → Result T LibraryFault → Type 0
+  EditAnswers old (Change command) before after result = ChangeAnswers old command before after result
+  EditAnswers old Compact before after result = CompactAnswers old before after result
+
+  abbrev pub EditLeaves : {T : Type 0} → Edit → (old new : View D) → Result T LibraryFault → Type 0
+  EditLeaves (Change command) old new result = ChangeLeaves command old new result
+  EditLeaves Compact old new result = CompactLeaves old new result
+
+  -- the records after an edit
+  abbrev pub records_after : View D → Edit → List (List ℕ)
+  records_after old (Change command) = old.bodies ++ body_of command ∷ []
+  records_after old Compact = compacted old.units
+
+  -- the library that an edit left is as before, or, where the device failed, it was opened again: of an honest disk it
   -- has the records and the map from before the edit or from after it
-  abbrev pub GoesOn : {T : Type 0} → Bool → (D → ℕ) → View D → Command → Result T LibraryFault → (left new : View D) → Type 0
+  abbrev pub GoesOn : {T : Type 0} → Bool → (D → ℕ) → View D → Edit → Result T LibraryFault → (left new : View D) → Type 0
   GoesOn honest failures old edit (Ok done) left new = new ≡ left
   GoesOn honest failures old edit (Err DiskFault) left new =
       (new.closed ≡ false) × (failures new.disk ≡ failures left.disk)
       × (IsTrue honest → (new.area ≡ old.area)
-      × (((new.bodies ≡ old.bodies) × (new.units ≡ old.units)) ⊎ ((new.bodies ≡ old.bodies ++ body_of edit ∷ []) × (new.units ≡ after old.units edit))))
+      × (((new.bodies ≡ old.bodies) × (new.units ≡ old.units)) ⊎ ((new.bodies ≡ records_after old edit) × (new.units ≡ after_edit old.units edit))))
   GoesOn honest failures old edit (Err Exists) left new = new ≡ left
   GoesOn honest failures old edit (Err Absent) left new = new ≡ left
   GoesOn honest failures old edit (Err Full) left new = new ≡ left
@@ -40,17 +77,17 @@ module _ {D : Type 0} where
   GoesOn honest failures old edit (Err Damaged) left new = new ≡ left
   GoesOn honest failures old edit (Err NotALibrary) left new = new ≡ left
 
-  -- one edit of a run: its number is that of the change's answer
-  pub record IsEdited (honest : Bool) (failures : D → ℕ) (old : View D) (edit : Command) (number : ℕ) (new : View D) : Type 0 where
+  -- one edit of a run: its number is that of its answer
+  pub record IsEdited (honest : Bool) (failures : D → ℕ) (old : View D) (edit : Edit) (number : ℕ) (new : View D) : Type 0 where
     pub answer : Result (Unit {0}) LibraryFault
     pub left : View D
     pub number_is : number ≡ answer_number answer
-    pub answers : ChangeAnswers old edit (failures old.disk) (failures left.disk) answer
-    pub leaves : ChangeLeaves edit old left answer
+    pub answers : EditAnswers old edit (failures old.disk) (failures left.disk) answer
+    pub leaves : EditLeaves edit old left answer
     pub goes_on : GoesOn honest failures old edit answer left new
 
   -- edits done one after the other, with their numbers
-  abbrev pub AreEdited : Bool → (D → ℕ) → View D → List Command → List ℕ → View D → Type 0
+  abbrev pub AreEdited : Bool → (D → ℕ) → View D → List Edit → List ℕ → View D → Type 0
   AreEdited honest failures old [] [] new = new ≡ old
   AreEdited honest failures old [] (number ∷ numbers) new = ⊥
   AreEdited honest failures old (edit ∷ edits) [] new = ⊥
@@ -59,19 +96,19 @@ module _ {D : Type 0} where
 
   -- an edit in which the device failed, and whose disk could not be opened again: of an honest disk because the device
   -- failed once more or memory ran out, and then the disk still has the map from before the edit or from after it
-  pub record IsRefused (honest : Bool) (failures : D → ℕ) (seen : D → List ℕ) (may_leave : D → List ℕ → Type 0) (old : View D) (edit : Command) (fault : LibraryFault) (disk : D) : Type 0 where
+  pub record IsRefused (honest : Bool) (failures : D → ℕ) (seen : D → List ℕ) (may_leave : D → List ℕ → Type 0) (old : View D) (edit : Edit) (fault : LibraryFault) (disk : D) : Type 0 where
     pub left : View D
-    pub answers : ChangeAnswers {T = Unit {0}} old edit (failures old.disk) (failures left.disk) (Err DiskFault)
-    pub leaves : ChangeLeaves {T = Unit {0}} edit old left (Err DiskFault)
+    pub answers : EditAnswers {T = Unit {0}} old edit (failures old.disk) (failures left.disk) (Err DiskFault)
+    pub leaves : EditLeaves {T = Unit {0}} edit old left (Err DiskFault)
     pub refused : OpenFaults honest (seen left.disk) (failures left.disk) (failures disk) fault
     pub cause : IsTrue honest → (fault ≡ DiskFault) ⊎ (fault ≡ OutOfMemory)
-    pub images : IsTrue honest → (image : List ℕ) → may_leave disk image → RecoversOneOf old.units (after old.units edit) image
+    pub images : IsTrue honest → (image : List ℕ) → may_leave disk image → RecoversOneOf old.units (after_edit old.units edit) image
 
   -- a run that stopped: the edits up to one whose disk could not be opened again, with their numbers, the last of them 35
-  pub record Stopped (honest : Bool) (failures : D → ℕ) (seen : D → List ℕ) (may_leave : D → List ℕ → Type 0) (old : View D) (edits : List Command) (numbers : List ℕ) (fault : LibraryFault) (disk : D) : Type 0 where
-    pub front : List Command
-    pub edit : Command
-    pub behind : List Command
+  pub record Stopped (honest : Bool) (failures : D → ℕ) (seen : D → List ℕ) (may_leave : D → List ℕ → Type 0) (old : View D) (edits : List Edit) (numbers : List ℕ) (fault : LibraryFault) (disk : D) : Type 0 where
+    pub front : List Edit
+    pub edit : Edit
+    pub behind : List Edit
     pub earlier : List ℕ
     pub mid : View D
     pub edits_are : edits ≡ front ++ edit ∷ behind

@@ -36,8 +36,12 @@ pub enum Command {
     Withdraw(Name),
 }
 
-/// What `Library::run` does, one after the other: a command.
-pub type Edit = Command;
+/// What `Library::run` does, one after the other: a change of the map, or `Library::compact`.
+#[derive(Drop)]
+pub enum Edit {
+    Change(Command),
+    Compact,
+}
 
 impl Command {
     /// The command once more. A unit is shared.

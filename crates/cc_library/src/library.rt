@@ -1,5 +1,5 @@
 // The library and its calls.
-ghost use Rattle.std.specs.Prelude.{◌≡◌, ◌⊎◌, ◌+◌, [], List, ℕ, false, IsTrue, IfOk, IfErr, OnOk, MatchResult};
+ghost use Rattle.std.specs.Prelude.{◌≡◌, ◌⊎◌, ◌+◌, [], ◌∷◌, ◌++◌, List, ℕ, false, IsTrue, IfOk, IfErr, OnOk, MatchResult};
 ghost use Rattle.std.specs.Option.{option_map};
 ghost use Rattle.std.specs.Arc.{arc_value};
 ghost use Rattle.std.specs.FinMap as map;
@@ -10,9 +10,10 @@ ghost use Rattle.cc_library.specs.declared.command.Command.TheVariants as comman
 ghost use Rattle.cc_library.specs.Apply.{after, after_all, library_of};
 ghost use Rattle.cc_library.specs.Body.{body_of};
 ghost use Rattle.cc_library.specs.Recovered.{Recovers, RecoversAlone, RecoversOneOf, StandFor};
-ghost use Rattle.cc_library.specs.Answers.{OpenFaults, ChangeAnswers, ChangeLeaves};
-ghost use Rattle.cc_library.specs.Runs.{AreDone, AreEdited, HadNoRoom, IsEdited, IsRefused, Stopped};
-ghost use Rattle.cc_library.specs.internal.Steps.{IsOldOrNew};
+ghost use Rattle.cc_library.specs.Compact.{compacted};
+ghost use Rattle.cc_library.specs.Answers.{OpenFaults, ChangeAnswers, ChangeLeaves, CompactAnswers, CompactLeaves};
+ghost use Rattle.cc_library.specs.Runs.{AreDone, AreEdited, EditAnswers, EditLeaves, HadNoRoom, IsEdited, IsRefused, RecoversAmong, Stopped, after_edit, records_after};
+ghost use Rattle.cc_library.specs.internal.Steps.{IsOldOrNew, IsMidEdit};
 
 use crate::body::body_of_command;
 use crate::command::{Command, Edit};
@@ -177,6 +178,28 @@ impl<D: Disk> Library<D> {
         self.change(alloc, Command::Withdraw(name))
     }
 
+    /// Writes the records anew, one Add per name in the order of the names' bytes, into the area that is not in use. So
+    /// the room of records that no longer count is free again. The map stays, at every moment.
+    ///
+    /// Refusals, in this order: 36 where the library is closed, 34 where the new records do not fit, 35 where the device
+    /// failed. 40 where memory ran out, before the first device call. After 35 the library is closed, and its disk has
+    /// the old records or the new ones; every other refusal leaves all as it was.
+    pub fn compact(&mut self, alloc: Global) -> Result<(), LibraryFault>
+        ensures answers { CompactAnswers self.old (D.failures self.old.disk) (D.failures self.new.disk) result }
+        ensures leaves { CompactLeaves self.old self.new result }
+        ensures size { D.size self.new.disk ≡ D.size self.old.disk }
+
+        // A crash at any moment of the call leaves the map.
+        ensures moments { IsTrue D.honest → self.old.closed ≡ false
+            → LeavesOnly D.moment D.left_since self.old.disk self.new.disk (λ image. RecoversAlone image self.old.units) }
+
+        // So whatever it answers, after 35 too, every image recovers to it.
+        ensures images { IsTrue D.honest → self.old.closed ≡ false
+            → (image : List ℕ) → D.may_leave self.new.disk image → RecoversAlone image self.old.units }
+    {
+        self.write_anew(alloc)
+    }
+
     /// The unit of a name, where it has one. It takes no memory.
     pub fn get(&self, name: &Name) -> Option<&Arc<StoredUnit>>
         ensures { option_map (λ unit. arc_value unit.now) result ≡ map.get self.now.units name.now }
@@ -216,7 +239,7 @@ impl<D: Disk> Library<D> {
         // Each number is the reply at that point.
         ensures numbers { IfOk result.0 (λ l. AreEdited D.honest D.failures self edits.items result.1.items l) }
 
-        // The map is the one before, folded over the edits with 0 and those with 35 that the reopening showed.
+        // The map is the one before, folded over the changes with 0 and those with 35 that the reopening showed.
         ensures folded { IfOk result.0 (λ l. IsTrue D.honest
             → (done : List Command) × AreDone edits.items result.1.items done × (l.units ≡ after_all self.units done)) }
 
@@ -227,11 +250,18 @@ impl<D: Disk> Library<D> {
         // While it is not closed, every image recovers to its map.
         ensures kept { IfOk result.0 (λ l. IsTrue D.honest → l.closed ≡ false → (image : List ℕ) → D.may_leave l.disk image → RecoversAlone image l.units) }
 
+        // A crash at any moment of the run leaves the map after the changes done by the edits up to some one.
+        ensures moments { IsTrue D.honest → self.closed ≡ false → MatchResult result.0
+            (λ l. LeavesOnly D.moment D.left_since self.disk l.disk (RecoversAmong self.units edits.items result.1.items))
+            (λ e. LeavesOnly D.moment D.left_since self.disk e.1 (RecoversAmong self.units edits.items result.1.items)) }
+
         // Where it stopped.
         ensures refused { IfErr result.0 (λ e. HadNoRoom self result.1.items e.0 e.1
             ⊎ Stopped D.honest D.failures D.seen D.may_leave self edits.items result.1.items e.0 e.1) }
         ensures size { MatchResult result.0 (λ l. D.size l.disk ≡ D.size self.disk) (λ e. D.size e.1 ≡ D.size self.disk) }
     {
+        // What the journal promises of its images, before the first edit.
+        let _ = self.journal.records();
         let Ok(mut numbers) = Vec::with_capacity(alloc, edits.len()) else {
             return (
                 Err((LibraryFault::OutOfMemory, self.into_disk())),
@@ -257,8 +287,13 @@ impl<D: Disk> Library<D> {
         ensures edited { IfOk result.1 (λ l. IsEdited D.honest D.failures self edit result.0 l) }
         ensures refused { IfErr result.1 (λ e. (result.0 ≡ 35) × IsRefused D.honest D.failures D.seen D.may_leave self edit e.0 e.1) }
         ensures size { MatchResult result.1 (λ l. D.size l.disk ≡ D.size self.disk) (λ e. D.size e.1 ≡ D.size self.disk) }
+        ensures moments { IsTrue D.honest → self.closed ≡ false → MatchResult result.1
+            (λ l. LeavesOnly D.moment D.left_since self.disk l.disk (IsMidEdit self.units edit result.0))
+            (λ e. LeavesOnly D.moment D.left_since self.disk e.1 (IsMidEdit self.units edit result.0)) }
     {
-        match self.change(alloc, edit) {
+        // What the journal promises of its images, for the edits that end before a device call.
+        let _ = self.journal.records();
+        match self.perform(alloc, edit) {
             Ok(()) => (0, Ok(self)),
             Err(fault) => match fault {
                 LibraryFault::DiskFault => match Library::open(alloc, self.into_disk()) {
@@ -270,6 +305,45 @@ impl<D: Disk> Library<D> {
         }
     }
 
+    // One edit.
+    fn perform(&mut self, alloc: Global, edit: Edit) -> Result<(), LibraryFault>
+        ensures answers { EditAnswers self.old edit (D.failures self.old.disk) (D.failures self.new.disk) result }
+        ensures leaves { EditLeaves edit self.old self.new result }
+        ensures size { D.size self.new.disk ≡ D.size self.old.disk }
+        ensures moments { IsTrue D.honest → self.old.closed ≡ false
+            → LeavesOnly D.moment D.left_since self.old.disk self.new.disk
+            (IsOldOrNew self.old.area self.old.bodies self.old.units (records_after self.old edit) (after_edit self.old.units edit)) }
+    {
+        match edit {
+            Edit::Change(command) => self.change(alloc, command),
+            Edit::Compact => self.write_anew(alloc),
+        }
+    }
+
+    // The records once more, one Add per name: all growths are made, then the journal decides.
+    fn write_anew(&mut self, alloc: Global) -> Result<(), LibraryFault>
+        ensures answers { CompactAnswers self.old (D.failures self.old.disk) (D.failures self.new.disk) result }
+        ensures leaves { CompactLeaves self.old self.new result }
+        ensures size { D.size self.new.disk ≡ D.size self.old.disk }
+        ensures moments { IsTrue D.honest → self.old.closed ≡ false
+            → LeavesOnly D.moment D.left_since self.old.disk self.new.disk
+            (IsOldOrNew self.old.area self.old.bodies self.old.units (compacted self.old.units) self.old.units) }
+    {
+        // What the journal promises of its images, for the calls that end before a device call.
+        let _ = self.journal.records();
+        if self.closed {
+            return Err(LibraryFault::Closed);
+        }
+        let bodies = self.units.bodies(alloc)?;
+        match self.journal.rewrite(alloc, bodies) {
+            Ok(()) => Ok(()),
+            Err(fault) => {
+                self.closed = fault == JournalFault::DiskFault;
+                Err(LibraryFault::from(fault))
+            }
+        }
+    }
+
     // One change: the map is asked, all growths are made, then the journal decides.
     fn change(&mut self, alloc: Global, command: Command) -> Result<(), LibraryFault>
         ensures answers { ChangeAnswers self.old command (D.failures self.old.disk) (D.failures self.new.disk) result }
@@ -278,7 +352,7 @@ impl<D: Disk> Library<D> {
         ensures kept { OnOk result (IsTrue D.honest → (image : List ℕ) → D.may_leave self.new.disk image → RecoversAlone image self.new.units) }
         ensures moments { IsTrue D.honest → self.old.closed ≡ false
             → LeavesOnly D.moment D.left_since self.old.disk self.new.disk
-            (IsOldOrNew self.old.area self.old.bodies self.old.units (body_of command) (after self.old.units command)) }
+            (IsOldOrNew self.old.area self.old.bodies self.old.units (self.old.bodies ++ body_of command ∷ []) (after self.old.units command)) }
     {
         // What the journal promises of its images, for the calls that end before a device call.
         let _ = self.journal.records();

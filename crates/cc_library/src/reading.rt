@@ -2,7 +2,8 @@
 ghost use Rattle.std.specs.Prelude.{◌≡◌, ◌≤◌, List, ℕ, length, IfOk};
 ghost use Rattle.cc_library.specs.declared.command.Command.{Command};
 ghost use Rattle.cc_library.specs.Body.{Spells};
-ghost use Rattle.cc_library.specs.Reading.{Gives, byte_in, taken, number_in, words_in, words_field_in, source_in, name_in, unit_in, kind_in, command_in};
+ghost use Rattle.cc_library.specs.internal.Reading.{byte_in, taken, number_in, words_in, words_field_in, source_in, name_in, unit_in, kind_in, command_in};
+ghost use Rattle.cc_library.specs.Answers.{Gives};
 
 use crate::command::Command;
 use crate::name::Name;
@@ -45,14 +46,13 @@ impl<T: Drop> From<AllocFailed<T>> for ReadFault {
 pub fn read_command(alloc: Global, bytes: &[u8]) -> Result<Command, ReadFault>
     // What is read is spelled so.
     ensures answer { IfOk result (λ command. Spells bytes.now command) }
-    // What is spelled so is read, and nothing else is.
+    // What is spelled so is read; nothing is refused as no command that is one.
     ensures only { (command : Command) → Spells bytes.now command → Gives (λ c. c) result (Some command) }
-    ensures answers { Gives (λ command. command) result (command_in bytes.now) }
 {
     command_at(alloc, bytes)
 }
 
-#[tactic(auto, unfolding(crate::specs::Reading::command_in))]
+#[tactic(auto, unfolding(crate::specs::internal::Reading::command_in))]
 fn command_at(alloc: Global, bytes: &[u8]) -> Result<Command, ReadFault>
     ensures { Gives (λ command. command) result (command_in bytes.now) }
 {
@@ -68,7 +68,7 @@ fn command_at(alloc: Global, bytes: &[u8]) -> Result<Command, ReadFault>
     }
 }
 
-#[tactic(auto, unfolding(crate::specs::Reading::kind_in))]
+#[tactic(auto, unfolding(crate::specs::internal::Reading::kind_in))]
 fn kind_at(alloc: Global, kind: u8, name: Name, bytes: &[u8]) -> Result<(Command, &[u8]), ReadFault>
     ensures { Gives (λ x. (x.0, x.1.now)) result (kind_in kind name bytes.now) }
 {
@@ -86,7 +86,7 @@ fn kind_at(alloc: Global, kind: u8, name: Name, bytes: &[u8]) -> Result<(Command
     }
 }
 
-#[tactic(auto, unfolding(crate::specs::Reading::unit_in))]
+#[tactic(auto, unfolding(crate::specs::internal::Reading::unit_in))]
 fn unit_at(alloc: Global, bytes: &[u8]) -> Result<(SharedUnit, &[u8]), ReadFault>
     ensures { Gives (λ x. (x.0, x.1.now)) result (unit_in bytes.now) }
 {
@@ -101,7 +101,7 @@ fn unit_at(alloc: Global, bytes: &[u8]) -> Result<(SharedUnit, &[u8]), ReadFault
     Ok((SharedUnit::new(Arc::new(alloc, unit)?), rest))
 }
 
-#[tactic(auto, unfolding(crate::specs::Reading::source_in))]
+#[tactic(auto, unfolding(crate::specs::internal::Reading::source_in))]
 fn source_at(alloc: Global, bytes: &[u8]) -> Result<(Source, &[u8]), ReadFault>
     ensures { Gives (λ x. (x.0, x.1.now)) result (source_in bytes.now) }
 {
@@ -136,7 +136,7 @@ fn globals_at(alloc: Global, bytes: &[u8]) -> Result<(Globals, &[u8]), ReadFault
     }
 }
 
-#[tactic(auto, unfolding(crate::specs::Reading::name_in))]
+#[tactic(auto, unfolding(crate::specs::internal::Reading::name_in))]
 fn name_at(bytes: &[u8]) -> Result<(Name, &[u8]), ReadFault>
     ensures { Gives (λ x. (x.0, x.1.now)) result (name_in bytes.now) }
 {
@@ -149,7 +149,7 @@ fn name_at(bytes: &[u8]) -> Result<(Name, &[u8]), ReadFault>
 }
 
 // How many words there are, from `least` to `most`, and the words.
-#[tactic(auto, unfolding(crate::specs::Reading::words_field_in))]
+#[tactic(auto, unfolding(crate::specs::internal::Reading::words_field_in))]
 fn words_field_at(
     alloc: Global,
     least: u32,

@@ -6,11 +6,15 @@ ghost use Rattle.std.specs.Ordering.{nat_cmp};
 ghost use Rattle.std.specs.Cmp.Lexicographic.{slice_cmp};
 ghost use Rattle.std.specs.FinMap as map;
 ghost use Rattle.cc_library.specs.Apply.{apply, after, refusal};
+ghost use Rattle.cc_library.specs.Compact.{adds_of};
+ghost use Rattle.cc_library.specs.Recovered.{AreSpelled};
 ghost use Rattle.cc_library.specs.internal.Halves.{begun, finished, undone};
 
-use crate::command::Command;
+use crate::body::command_body;
+use crate::command::{Command, Kind};
 use crate::name::Name;
 use crate::unit::SharedUnit;
+use cc_journal::Body;
 use cc_link::StoredUnit;
 use std::alloc::{AllocError, Global};
 use std::collections::BTreeMap;
@@ -74,6 +78,18 @@ impl UnitMap {
             names.push(name.clone()?)?;
         }
         Ok(names)
+    }
+
+    /// The bodies of one Add per name, in the order of the names' bytes.
+    pub(crate) fn bodies(&self, alloc: Global) -> Result<Vec<Body>, AllocError>
+        ensures { IfOk result (λ bodies. AreSpelled bodies.items (adds_of self.now)) }
+    {
+        let mut bodies = Vec::new(alloc);
+        for (name, unit) in self.units.iter() {
+            let body = command_body(alloc, Kind::Add, name, Some(unit.stored()))?;
+            bodies.push(Body::new(body))?;
+        }
+        Ok(bodies)
     }
 
     /// Which number refuses the command now, 31 or 32, where one does. It takes no memory.

@@ -1,5 +1,5 @@
 // A unit as the library keeps it.
-ghost use Rattle.std.specs.Prelude.{◌≡◌, ◌≤◌, ◌↔◌, length, IsOk, MatchResult};
+ghost use Rattle.std.specs.Prelude.{◌≡◌, ◌≤◌, ◌↔◌, length, IsOk, IsTrue, MatchResult};
 
 use cc_rv32::image::Image;
 use std::marker::Model;
@@ -61,4 +61,15 @@ pub struct StoredUnit {
     pub source: Source,
     pub image: Image,
     pub certificate: Option<Certificate>,
+}
+
+impl StoredUnit {
+    /// Whether two units are the same: their sources, codes and globals are. There are no certificates yet.
+    pub fn is_same(&self, other: &StoredUnit) -> bool
+        ensures { IsTrue result ↔ (self.now ≡ other.now) }
+    {
+        self.source.bytes() == other.source.bytes()
+            && self.image.code.words() == other.image.code.words()
+            && self.image.globals.words() == other.image.globals.words()
+    }
 }

@@ -7,6 +7,7 @@ use Rattle.cc_typing.specs.Operators.{working_type, binary_word}
 use Rattle.cc_resolve.specs.declared.layout.Extent.{Extent}
 use Rattle.cc_resolve.specs.declared.operations.BinaryOperation.{BinaryOperation}
 use Rattle.cc_meaning.specs.declared.form.Instruction.TheVariants as instruction
+use Rattle.cc_meaning.specs.declared.form.Slot.TheVariants as slot
 use Rattle.cc_meaning.specs.internal.Form.{FormTree, store_of, store_element_of, applied}
 use Rattle.cc_resolve.specs.Environment.{Environment, number_in}
 use Rattle.cc_resolve.specs.Layout.{extent_of}
@@ -78,7 +79,7 @@ module _ (form : FormTree) (cs : List Activation) (total : ℕ) where
         sets = λ p w.
             ap (λ (o : Option ℕ). instruction_move form (elim o [ None ↦ instruction.SetGlobal (extent_of v.layout.objects x).offset | Some k ↦ instruction.SetLocal k ]) (conf p vs (w ∷ []) cs s)) e ∙ one p w;
         updates = λ p w o.
-            ap (λ (n : Option ℕ). instruction_move form (elim n [ None ↦ instruction.UpdateGlobal o (extent_of v.layout.objects x).offset | Some k ↦ instruction.UpdateLocal o k ]) (conf p vs (w ∷ []) cs s)) e
+            ap (λ (n : Option ℕ). instruction_move form (elim n [ None ↦ instruction.Update o (slot.Global (extent_of v.layout.objects x).offset) | Some k ↦ instruction.Update o (slot.Local k) ]) (conf p vs (w ∷ []) cs s)) e
             ∙ ap (λ (n : Option ℕ). with_word n (λ k. operated o k w (λ new. only_if (nat_lt i (length vs)) (Goes (conf p (slice_set vs i new) [] cs s))))) here
             ∙ option_same (binary_result o r.word w) (Stops (outcome.Wrong (cause_of_operation o))) _ (λ new. Goes (conf p (slice_set vs i new) [] cs (stored x new s))) (λ new. one p new)
             ∙ ap (λ k. operated o k w (λ new. Goes (conf p (slice_set vs i new) [] cs (stored x new s)))) old;
@@ -107,7 +108,7 @@ module _ (form : FormTree) (cs : List Activation) (total : ℕ) where
         sets = λ p w.
             ap (λ (o : Option ℕ). instruction_move form (elim o [ None ↦ instruction.SetGlobal offset | Some k ↦ instruction.SetLocal k ]) (conf p vs (w ∷ []) cs s)) e ∙ set p w;
         updates = λ p w o.
-            ap (λ (n : Option ℕ). instruction_move form (elim n [ None ↦ instruction.UpdateGlobal o offset | Some k ↦ instruction.UpdateLocal o k ]) (conf p vs (w ∷ []) cs s)) e
+            ap (λ (n : Option ℕ). instruction_move form (elim n [ None ↦ instruction.Update o (slot.Global offset) | Some k ↦ instruction.Update o (slot.Local k) ]) (conf p vs (w ∷ []) cs s)) e
             ∙ ap (λ (n : Option ℕ). with_word n (λ k. operated o k w (λ new. only_if (nat_lt offset (length (all_of s.globals))) (Goes (record (conf p vs [] cs s) { globals = slice_set (all_of s.globals) offset new }))))) here
             ∙ option_same (binary_result o got.0 w) (Stops (outcome.Wrong (cause_of_operation o))) _ (λ new. Goes (conf p vs [] cs (stored x new s))) (λ new. set p new)
             ∙ ap (λ k. operated o k w (λ new. Goes (conf p vs [] cs (stored x new s)))) old;
@@ -174,7 +175,7 @@ module _ (form : FormTree) (cs : List Activation) (total : ℕ) where
   -- the element that an update reads, and what the operator gives
   element_move : (v : Environment) (most : ℕ) (vs : List ℕ) (op : BinaryOperator) (t : Scalar) (x : List ℕ) (i p w old : ℕ) (s : State) (o : Option ℕ) → IsPlain op → binary_word op t old w ≡ o
       → nat_lt i (extent_of v.layout.objects x).length ≡ true → slice_get (all_of s.globals) ((extent_of v.layout.objects x).offset + i) ≡ Some old
-      → instruction_move form (instruction.UpdateElement (operation op t) (extent_of v.layout.objects x)) (conf p vs (w ∷ i ∷ []) cs s)
+      → instruction_move form (instruction.Update (operation op t) (slot.Element (extent_of v.layout.objects x))) (conf p vs (w ∷ i ∷ []) cs s)
       ≡ elim o [
         | None ↦ Stops (outcome.Wrong (cause_of op))
         | Some new ↦ only_if (nat_lt ((extent_of v.layout.objects x).offset + i) (length (all_of s.globals)))
@@ -189,10 +190,10 @@ module _ (form : FormTree) (cs : List Activation) (total : ℕ) where
 
   element_update_by : (v : Environment) (most : ℕ) (vs : List ℕ) (op : BinaryOperator) (t : Scalar) (x : List ℕ) (i p w old : ℕ) (s : State) (o : Option ℕ) → IsPlain op → binary_word op t old w ≡ o
       → nat_lt i (extent_of v.layout.objects x).length ≡ true → Fits v total most vs s → slice_get (all_of s.globals) ((extent_of v.layout.objects x).offset + i) ≡ Some old
-      → slice_get form.code p ≡ Some (instruction.UpdateElement (operation op t) (extent_of v.layout.objects x))
+      → slice_get form.code p ≡ Some (instruction.Update (operation op t) (slot.Element (extent_of v.layout.objects x)))
       → Meets form (conf p vs (w ∷ i ∷ []) cs s) (Acted form cs total (conf p vs (w ∷ i ∷ []) cs s) v most (p + 1)) (then_do (given op o s) (λ new y. write_element x i new y))
   element_update_by v most vs op t x i p w old s None plain is lt h here e =
-      instructed_last form (instruction.UpdateElement (operation op t) (extent_of v.layout.objects x)) p vs (w ∷ i ∷ []) cs s (outcome.Wrong (cause_of op)) e
+      instructed_last form (instruction.Update (operation op t) (slot.Element (extent_of v.layout.objects x))) p vs (w ∷ i ∷ []) cs s (outcome.Wrong (cause_of op)) e
       (element_move v most vs op t x i (p + 1) w old s None plain is lt here)
   element_update_by v most vs op t x i p w old s (Some new) plain is lt h here e =
       let ext : Extent = extent_of v.layout.objects x in
@@ -205,7 +206,7 @@ module _ (form : FormTree) (cs : List Activation) (total : ℕ) where
         falls = refl;
         variables = vs;
         fits = q.fits;
-        leads = instructed form (instruction.UpdateElement (operation op t) ext) p vs (w ∷ i ∷ []) cs s (conf (p + 1) vs [] cs u) e
+        leads = instructed form (instruction.Update (operation op t) (slot.Element ext)) p vs (w ∷ i ∷ []) cs s (conf (p + 1) vs [] cs u) e
             (element_move v most vs op t x i (p + 1) w old s (Some new) plain is lt here
             ∙ ap (λ b. only_if b (Goes (record (conf (p + 1) vs [] cs s) { globals = slice_set (all_of s.globals) (ext.offset + i) new }))) q.below
             ∙ ap (λ gs. Goes (record (conf (p + 1) vs [] cs s) { globals = gs })) q.words);
@@ -234,7 +235,7 @@ module _ (form : FormTree) (cs : List Activation) (total : ℕ) where
         | inr ge ↦
             (let past : slice_get (words_of s.globals x) i ≡ None = get_past (words_of s.globals x) i (let k = f.size in let z = ge.1 in omega arith) in
             meets_same form c (Acted form cs total c v most (p + 1)) (whole (slice_get (words_of s.globals x) i)) (Wrong Index s.output) (ap whole past)
-            (instructed_last form (instruction.UpdateElement (operation op (working_type op t u)) ext) p vs (w ∷ i ∷ []) cs s (outcome.Wrong Index) e
+            (instructed_last form (instruction.Update (operation op (working_type op t u)) (slot.Element ext)) p vs (w ∷ i ∷ []) cs s (outcome.Wrong Index) e
             (ap (λ b. if b then with_word (slice_get (all_of s.globals) (ext.offset + i)) (λ k. operated (operation op (working_type op t u)) k w (λ new. only_if (nat_lt (ext.offset + i) (length (all_of s.globals)))
             (Goes (record (conf (p + 1) vs [] cs s) { globals = slice_set (all_of s.globals) (ext.offset + i) new })))) else Stops (outcome.Wrong Index)) ge.0)))
       ]

@@ -10,7 +10,8 @@ use Rattle.cc_typing.specs.Limits.{locals}
 use Rattle.cc_meaning.specs.declared.form.Entry.{Entry}
 use Rattle.cc_meaning.specs.declared.form.Instruction.{Instruction}
 use Rattle.cc_meaning.specs.declared.form.Instruction.TheVariants as instruction
-use Rattle.cc_meaning.specs.internal.Form.{FormTree, call_of, statements_code, FunctionCode}
+use Rattle.cc_meaning.specs.internal.Form.{FormTree, call_to, call_of, statements_code, FunctionCode}
+use Rattle.cc_resolve.specs.declared.layout.Callee.TheVariants as leads
 use Rattle.cc_resolve.specs.Environment.{Environment, parameter_names}
 use Rattle.cc_resolve.specs.Layout.{Layout, names_before}
 use Rattle.cc_meaning.specs.Outcome as outcome
@@ -168,7 +169,7 @@ module _ (form : FormTree) (layout : Layout) (defined : List (List ℕ)) (fs : L
   write_meets n cs total v f [] p vs ops s most is one e h = absurd (omega arith)
   write_meets n cs total v f (w ∷ []) p vs ops s most is one e h =
       let called : call_of v f ≡ instruction.Write =
-      ap (λ b. if b then instruction.Write else (if same_name (codes "read_word") f then instruction.Read else instruction.Call (names_before v.layout.functions f))) (same_name_symm (codes "write_word") f ∙ is) in
+      ap (λ b. call_to (if b then leads.WriteWord else (if same_name (codes "read_word") f then leads.ReadWord else leads.Defined (names_before v.layout.functions f)))) (same_name_symm (codes "write_word") f ∙ is) in
       record {
         fits = record { names = h.names; laid = h.laid; junk = h.junk; holds = h.holds; room = h.room; steps = h.steps };
         leads = instructed form instruction.Write p vs (w ∷ ops) cs s (conf (p + 1) vs (0 ∷ ops) cs (record s { output = s.output ++ w ∷ [] })) (e ∙ ap Some called) refl;
@@ -191,8 +192,8 @@ module _ (form : FormTree) (layout : Layout) (defined : List (List ℕ)) (fs : L
       → Meets form (conf p vs (reverse ws ++ ops) cs s) (Value form cs total (conf p vs (reverse ws ++ ops) cs s) v most vs (p + 1) ops) (read_input s.input s)
   read_meets cs total v f [] p vs ops s most not_write is none e h =
       let called : call_of v f ≡ instruction.Read =
-      ap (λ b. if b then instruction.Write else (if same_name (codes "read_word") f then instruction.Read else instruction.Call (names_before v.layout.functions f))) (same_name_symm (codes "write_word") f ∙ not_write)
-      ∙ ap (λ b. if b then instruction.Read else instruction.Call (names_before v.layout.functions f)) (same_name_symm (codes "read_word") f ∙ is) in
+      ap (λ b. call_to (if b then leads.WriteWord else (if same_name (codes "read_word") f then leads.ReadWord else leads.Defined (names_before v.layout.functions f)))) (same_name_symm (codes "write_word") f ∙ not_write)
+      ∙ ap (λ b. call_to (if b then leads.ReadWord else leads.Defined (names_before v.layout.functions f))) (same_name_symm (codes "read_word") f ∙ is) in
       read_by cs total v p vs ops s most s.input refl (e ∙ ap Some called) h
   read_meets cs total v f (w ∷ rest) p vs ops s most not_write is none e h = absurd (omega arith)
 
@@ -306,8 +307,8 @@ module _ (form : FormTree) (layout : Layout) (defined : List (List ℕ)) (fs : L
       let c = conf p vs (reverse ws ++ ops) cs s in
       let e = table f has in
       let called : call_of v f ≡ instruction.Call (names_before v.layout.functions f) =
-      ap (λ b. if b then instruction.Write else (if same_name (codes "read_word") f then instruction.Read else instruction.Call (names_before v.layout.functions f))) (same_name_symm (codes "write_word") f ∙ not_write)
-      ∙ ap (λ b. if b then instruction.Read else instruction.Call (names_before v.layout.functions f)) (same_name_symm (codes "read_word") f ∙ other) in
+      ap (λ b. call_to (if b then leads.WriteWord else (if same_name (codes "read_word") f then leads.ReadWord else leads.Defined (names_before v.layout.functions f)))) (same_name_symm (codes "write_word") f ∙ not_write)
+      ∙ ap (λ b. call_to (if b then leads.ReadWord else leads.Defined (names_before v.layout.functions f))) (same_name_symm (codes "read_word") f ∙ other) in
       meets_same form c (Value form cs total c v most vs (p + 1) ops) (calls (suc m) fs (1 + length cs) f ws s) (begun false false (nat_lt (1 + length cs) most_open) (body_part fs (1 + length cs) f ws) ws m s)
       (call_begins fs (1 + length cs) f ws m s not_write other) (spent_by cs total m ih v f ws p vs ops s most s.steps e pl (many e.function e.is) (at ∙ ap Some called) h lt refl)
 

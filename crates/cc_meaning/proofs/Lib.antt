@@ -16,7 +16,14 @@ pub mod Loops
 pub mod Executes
 pub mod Scopes
 pub mod Called
+pub mod Arrays
 pub mod Units
+pub mod Numbers
+pub mod Effects
+pub mod Kept
+pub mod Mains
+pub mod Resolving
+pub mod ByNumber
 pub mod Looped
 pub mod Ending
 pub mod Laying

@@ -15,7 +15,6 @@ use Rattle.cc_meaning.specs.Meaning.{State, Function, functions_from, functions,
 use Rattle.cc_meaning.specs.Function.{Shared, effect_of, state_within, name_of_function, call_function, body_of_function, TypedUnitsHaveMeaning}
 use Rattle.cc_meaning.proofs.Offences.{nil_left, nil_right, not_broken, or_left, or_right}
 use Rattle.cc_meaning.proofs.Steps.{begun, body_part}
-use Rattle.cc_meaning.proofs.Exact.{exact_call, exact_body}
 
 pub name_is_itself : (x : List ℕ) → same_name x x ≡ true
 name_is_itself x = nat_list_eq_equiv.refl x
@@ -123,6 +122,4 @@ typed_units_have_meaning unit typed = record {
   none_left = λ opened f ws h lt. numbered_call unit 0 opened f ws h (numbered unit f typed lt);
   too_deep = λ n f ws h lt. numbered_call unit (suc n) most_open f ws h (numbered unit f typed lt);
   spends = λ n opened f ws h lt less. spends_a_step unit n opened f ws h (numbered unit f typed lt) less;
-  exact_call = λ opened f ws h lt. exact_call unit opened f ws h;
-  exact_body = λ opened f ws h lt. exact_body unit opened f ws h;
 }

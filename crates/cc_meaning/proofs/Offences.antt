@@ -7,7 +7,7 @@ use Rattle.cc_typing.specs.Scope.{Entity, Variable, Elements, Function, has_name
 use Rattle.cc_typing.specs.declared.rule.Offence.{Offence}
 use Rattle.cc_typing.specs.declared.rule.Rule.{Rule}
 use Rattle.cc_typing.specs.declared.rule.Rule.TheVariants.{Unknown, WrongKind, WrongCount, Undefined}
-use Rattle.cc_typing.specs.Rules.{broken_if, variable_offences, function_offences, undefined_among}
+use Rattle.cc_typing.specs.Rules.{broken_if, variable_offences, array_offences, function_offences, undefined_among}
 
 pub nil_left : {A : Type 0} (xs ys : List A) → xs ++ ys ≡ [] → xs ≡ []
 nil_left [] ys e = refl
@@ -57,6 +57,13 @@ variable_found r None at e = absurd (let o : Offence = record { rule = Unknown; 
 variable_found r (Some (Variable t)) at e = (t, refl)
 variable_found r (Some (Elements t)) at e = absurd (let o : Offence = record { rule = r; at = at } in let f : o ∷ [] ≡ [] = e in cc)
 variable_found r (Some (Function q ts)) at e = absurd (let o : Offence = record { rule = r; at = at } in let f : o ∷ [] ≡ [] = e in cc)
+
+-- a name that is indexed is an array
+pub array_found : (o : Option Entity) (at : ℕ) → array_offences o at ≡ [] → (t : Scalar) × (o ≡ Some (Elements t))
+array_found None at e = absurd (let o : Offence = record { rule = Unknown; at = at } in let f : o ∷ [] ≡ [] = e in cc)
+array_found (Some (Variable t)) at e = absurd (let o : Offence = record { rule = WrongKind; at = at } in let f : o ∷ [] ≡ [] = e in cc)
+array_found (Some (Elements t)) at e = (t, refl)
+array_found (Some (Function q ts)) at e = absurd (let o : Offence = record { rule = WrongKind; at = at } in let f : o ∷ [] ≡ [] = e in cc)
 
 -- a name that is called is a function of as many parameters
 pub function_found : (o : Option Entity) (count at : ℕ) → function_offences o count at ≡ [] → (r : Option Scalar) × (ts : List Scalar) × (o ≡ Some (Function r ts)) × (count ≡ length ts)

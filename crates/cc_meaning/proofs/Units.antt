@@ -29,6 +29,7 @@ use Rattle.cc_meaning.proofs.Moves.{Halts, conf, Meets, Stands}
 use Rattle.cc_meaning.proofs.Fits.{Readable, Scoped, scoped_local}
 use Rattle.cc_meaning.proofs.Scopes as scopes
 use Rattle.cc_meaning.proofs.Scopes.{found_same, keeps_externals, signature_takes, variable_size, AllFit, all_fit}
+use Rattle.cc_meaning.proofs.Arrays.{array_object}
 use Rattle.cc_meaning.proofs.Called.{Takes, Writes, Reads, Enters, Defined, Entered, main_meets}
 
 -- ---- what stands in the whole code
@@ -48,6 +49,7 @@ scoped_unnamed : (layout : Layout) (defined : List (List ℕ)) (T : List ℕ →
 scoped_unnamed layout defined T visible names h = record {
   laid = refl;
   variable = λ x t e. unnamed x (same_name [] x) refl (h.variable x t e);
+  element = h.element;
   function = h.function;
 }
   where
@@ -181,7 +183,7 @@ main_named_by s body names more false e d ih = right (same_name s.name.text (cod
     right true b e = refl
     right false b e = e
 
-main_named : (ds : List External) → defines_main ds ≡ true → has_name (names_in ds) (codes "main") ≡ true
+pub main_named : (ds : List External) → defines_main ds ≡ true → has_name (names_in ds) (codes "main") ≡ true
 main_named [] d = absurd (true≢false (sym d))
 main_named (Declaration s ∷ rest) d = main_named rest d
 main_named (Definition s body ∷ rest) d = main_named_by s body (names_in rest) (defines_main rest) (is_main (Definition s body)) refl d (main_named rest)
@@ -201,7 +203,7 @@ objects_laid at (o ∷ rest) h =
 
 -- ---- the functions of a unit beside their instructions
 
-abbrev final_scope : List External → FileScope
+abbrev pub final_scope : List External → FileScope
 final_scope unit = file_scope_behind_all unit first_file_scope
 
 -- what a name takes, by what it stands for at the end of the unit
@@ -236,6 +238,21 @@ no_variables y u e = none (same_name (codes "write_word") y) (same_name (codes "
     none false true e = let z : Some (scope.Function (Some Int) []) ≡ Some (scope.Variable u) = e in cc
     none false false e = let z : None ≡ Some (scope.Variable u) = e in cc
 
+-- nor an array
+no_arrays : (y : List ℕ) (u : Scalar) → found first_file_scope.bindings y ≡ Some (scope.Elements u) → ⊥
+no_arrays y u e = none (same_name (codes "write_word") y) (same_name (codes "read_word") y) e
+  where
+    none : (a b : Bool) → (if a then Some (scope.Function None (Int ∷ [])) else (if b then Some (scope.Function (Some Int) []) else None)) ≡ Some (scope.Elements u) → ⊥
+    none true b e = let z : Some (scope.Function None (Int ∷ [])) ≡ Some (scope.Elements u) = e in cc
+    none false true e = let z : Some (scope.Function (Some Int) []) ≡ Some (scope.Elements u) = e in cc
+    none false false e = let z : None ≡ Some (scope.Elements u) = e in cc
+
+-- main has no parameters
+pub main_parameters : (unit : List External) → IsTyped unit → (g : Function) → function_named (functions unit) (codes "main") ≡ Some g → length g.parameters ≡ 0
+main_parameters unit typed g is =
+    same_count (final_scope unit).bindings (codes "main") (length g.parameters) 0 (function_takes unit first_file_scope (final_scope unit) (codes "main") g typed.0 refl is)
+    (main_takes unit first_file_scope (final_scope unit) typed.0 refl typed.1)
+
 module _ (unit : List External) (typed : IsTyped unit) where
   abbrev layout : Layout
   layout = layout_of unit
@@ -247,7 +264,7 @@ module _ (unit : List External) (typed : IsTyped unit) where
   TakesHere = Takes (names_in unit) (functions unit)
 
   -- the scope of a body
-  body_scoped : (s : Signature) (body : Stmts) (rest : List External) (f : FileScope) → file_scope_behind_all rest (file_scope_behind (Definition s body) f) ≡ final_scope unit
+  pub body_scoped : (s : Signature) (body : Stmts) (rest : List External) (f : FileScope) → file_scope_behind_all rest (file_scope_behind (Definition s body) f) ≡ final_scope unit
       → Scoped layout known TakesHere (environment_of layout s f)
   body_scoped s body rest f whole =
       let outer : List Binding = (with_function s f).bindings in
@@ -257,6 +274,7 @@ module _ (unit : List External) (typed : IsTyped unit) where
       (record {
         laid = refl;
         variable = λ x t e. inr (refl, variable_size unit first_file_scope x t no_variables (stays x (scope.Variable t) e));
+        element = λ x t e. array_object unit first_file_scope x t no_arrays (stays x (scope.Elements t) e);
         function = λ x r ts e has. takes_by unit typed x r ts (same_name x (codes "write_word")) (same_name x (codes "read_word")) refl refl (stays x (scope.Function r ts) e) has;
       })
 
@@ -364,10 +382,7 @@ module _ (unit : List External) (typed : IsTyped unit) where
       (main_meets (resolved unit) layout known (functions unit) table (suc left) (codes "main", e) t 1 refl none (omega arith) (objects_laid 0 (objects unit) (all_fit unit first_file_scope typed.0)))
 
   no_parameters : (e : Entered (resolved unit) layout known (functions unit) (codes "main")) → e.function.parameters ≡ []
-  no_parameters e =
-      nil_from_length e.function.parameters
-      (same_count (final_scope unit).bindings (codes "main") (length e.function.parameters) 0 (function_takes unit first_file_scope (final_scope unit) (codes "main") e.function typed.0 refl e.is)
-      (main_takes unit first_file_scope (final_scope unit) typed.0 refl typed.1))
+  no_parameters e = nil_from_length e.function.parameters (main_parameters unit typed e.function e.is)
 
   -- with no step left, and with one at least
   behaves : (text input : List ℕ) (n : ℕ) (e : Entered (resolved unit) layout known (functions unit) (codes "main"))

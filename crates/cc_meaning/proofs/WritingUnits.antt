@@ -110,15 +110,19 @@ Resolving-first all p v code entries ev ep ec ee =
     }
 
 -- after the last one
-pub form-is : (all : List External) (p : Layout) (v : Environment) (code : List Instruction) (entries : List Entry) (rest : List External) (main : ℕ) (words : List ℕ)
-    → Resolving (layout_of all) (unit_functions all) v code entries rest → rest ≡ [] → p ≡ layout_of all
+pub Resolving-last : (all : List External) (v : Environment) (code : List Instruction) (entries : List Entry) (rest : List External)
+    → Resolving (layout_of all) (unit_functions all) v code entries rest → rest ≡ [] → (code ≡ all_code (unit_functions all)) × (entries ≡ entries_from 0 (unit_functions all))
+Resolving-last all v code entries rest last none =
+    let q = layout_of all in (
+      sym (append-nil code) ∙ sym (ap (λ es. code ++ all_code (functions_code q (file_of v.visible) es)) none) ∙ last.instructions,
+      sym (append-nil entries) ∙ sym (ap (λ es. entries ++ entries_from (length code) (functions_code q (file_of v.visible) es)) none) ∙ last.functions,
+    )
+
+-- the form of a unit
+pub form-is : (all : List External) (p : Layout) (code : List Instruction) (entries : List Entry) (main : ℕ) (words : List ℕ)
+    → code ≡ all_code (unit_functions all) → entries ≡ entries_from 0 (unit_functions all) → p ≡ layout_of all
     → main ≡ names_before p.functions (codes "main") → words ≡ all_words (objects all)
     → record { code = code; functions = entries; main = main; words = words } ≡ resolved all
-form-is all p v code entries rest main words last none ep em ew =
-    let q = layout_of all in
-    let instructions : code ≡ all_code (unit_functions all) =
-    sym (append-nil code) ∙ sym (ap (λ es. code ++ all_code (functions_code q (file_of v.visible) es)) none) ∙ last.instructions in
-    let functions : entries ≡ entries_from 0 (unit_functions all) =
-    sym (append-nil entries) ∙ sym (ap (λ es. entries ++ entries_from (length code) (functions_code q (file_of v.visible) es)) none) ∙ last.functions in
-    let start : main ≡ names_before q.functions (codes "main") = em ∙ ap (λ (r : Layout). names_before r.functions (codes "main")) ep in
+form-is all p code entries main words instructions functions ep em ew =
+    let start : main ≡ names_before (layout_of all).functions (codes "main") = em ∙ ap (λ (r : Layout). names_before r.functions (codes "main")) ep in
     λ i. record { code = instructions i; functions = functions i; main = start i; words = ew i }

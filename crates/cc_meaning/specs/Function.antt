@@ -63,10 +63,6 @@ pub record HasMeaning (unit : List External) : Type 0 where
   -- below that a call of n + 1 steps is the body within n
   pub spends : (n opened f : ℕ) (ws : List ℕ) (h : Shared) → f < length (functions unit) → opened < most_open →
       call_function unit (suc n) opened f ws h ≡ body_of_function unit n opened f ws h
-  pub exact_call : (opened f : ℕ) (ws : List ℕ) (h : Shared) → f < length (functions unit) →
-      IsExact (λ n. call_function unit n opened f ws h)
-  pub exact_body : (opened f : ℕ) (ws : List ℕ) (h : Shared) → f < length (functions unit) →
-      IsExact (λ n. body_of_function unit n opened f ws h)
 
 -- each typed unit has it
 abbrev pub TypedUnitsHaveMeaning : Type 0

@@ -4,6 +4,12 @@ pub mod Outcome
 pub mod Meaning
 -- the meaning of one function
 pub mod Function
+-- what the names in a function's body lead to
+pub mod Resolved
+-- what holds of every call
+pub mod Calls
+-- the same by number, as the passes speak of it
+pub mod Numbered
 -- what the code's answer shows
 pub mod Erase
 -- the number of the fault

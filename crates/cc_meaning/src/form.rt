@@ -5,6 +5,14 @@
 
 use cc_resolve::{BinaryOperation, Extent, UnaryOperation};
 
+/// What is written: a variable of the function, a word of the objects at file scope, or an array's element.
+#[derive(Clone, Copy)]
+pub enum Slot {
+    Local(usize),
+    Global(usize),
+    Element(Extent),
+}
+
 /// One step of an interpreter over a stack of words.
 #[derive(Clone, Copy)]
 pub enum Instruction {
@@ -24,11 +32,8 @@ pub enum Instruction {
     SetGlobal(usize),
     /// Takes a word, and an index below it, and stores the word in the array's element.
     SetElement(Extent),
-    /// Takes a word, and makes of a variable's old value and of it the new one.
-    UpdateLocal(BinaryOperation, usize),
-    UpdateGlobal(BinaryOperation, usize),
-    /// Takes a word, and an index below it, and makes of the element's old value and of the word the new one.
-    UpdateElement(BinaryOperation, Extent),
+    /// Takes a word, and an index below it for an element, and makes of the old value there and of the word the new one.
+    Update(BinaryOperation, Slot),
     Unary(UnaryOperation),
     /// Replaces two words, the left one below the right one, by one.
     Binary(BinaryOperation),

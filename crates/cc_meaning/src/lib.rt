@@ -17,6 +17,10 @@ mod run;
 mod writer;
 
 pub use fault::MeaningFault;
-pub use laws::{functions_have_meaning, runs_go_on};
+pub use laws::{
+    calls_are_effects, calls_go_on, calls_keep_objects, functions_are_resolved,
+    functions_have_meaning, names_have_numbers, programs_call_main, runs_go_on,
+    units_have_meanings,
+};
 pub use outcome::{Cause, Outcome, Stop, Words};
 pub use run::interpret;

@@ -1,11 +1,13 @@
 -- Where the names of file scope lead: the objects lie one after the other as one list of words, and a word's number is its
 -- offset in that list; the functions are numbered in the order of their definitions.
-use Rattle.std.specs.Prelude.{ℕ, suc, ◌+◌, List, [], ◌∷◌, ◌++◌, map, Option, Some, None, if◌then◌else◌, option_map}
+use Rattle.std.specs.Prelude.{ℕ, suc, ◌+◌, List, [], ◌∷◌, ◌++◌, map, Option, Some, None, if◌then◌else◌, option_map, codes}
 use Rattle.cc_syntax.specs.Tree.{Name, Object, External}
 use Rattle.cc_typing.specs.Names.{same_name}
 use Rattle.cc_typing.specs.Types.{object_words, initial_words}
 use Rattle.cc_typing.specs.Limits.{objects, object_name, function_names}
 use Rattle.cc_resolve.specs.declared.layout.Extent.{Extent}
+use Rattle.cc_resolve.specs.declared.layout.Callee.{Callee}
+use Rattle.cc_resolve.specs.declared.layout.Callee.TheVariants.{WriteWord, ReadWord, Defined}
 
 -- an object at file scope: its name, and where its words are
 pub record LaidObject : Type 0 where
@@ -41,6 +43,10 @@ pub record Layout : Type 0 where
 -- the same of a unit
 abbrev pub layout_of : List External → Layout
 layout_of externals = record { objects = laid_from 0 (objects externals); functions = map (λ (x : Name). x.text) (function_names externals) }
+
+-- what a name that is called leads to: a builtin, else the function of its number
+abbrev pub callee : Layout → List ℕ → Callee
+callee p x = if same_name (codes "write_word") x then WriteWord else (if same_name (codes "read_word") x then ReadWord else Defined (names_before p.functions x))
 
 -- the words of some objects before the run
 abbrev pub all_words : List Object → List ℕ

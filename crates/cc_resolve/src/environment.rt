@@ -7,9 +7,9 @@ ghost use Rattle.cc_typing.specs.Entities.{entity_of};
 ghost use Rattle.cc_typing.specs.Bindings.{closed, file_level};
 ghost use Rattle.cc_typing.specs.Types.{variable_type, element_type, result_type, or_int};
 ghost use Rattle.cc_resolve.specs.Environment.{inner, number_in, with_local, types_in};
-ghost use Rattle.cc_resolve.specs.Layout.{extent_of, names_before, object_number};
+ghost use Rattle.cc_resolve.specs.Layout.{callee, extent_of, object_number};
 
-use super::layout::{Extent, Layout};
+use super::layout::{Callee, Extent, Layout};
 use cc_syntax::{Parameter, Scalar};
 use cc_typing::{Bindings, Entity, Scope};
 use std::alloc::{AllocError, Global};
@@ -115,6 +115,9 @@ impl<'a> Environment<'a> {
         }
     }
 
+    /// Gives the memory of the names back: one call for the crates above, which need not prove how each part is dropped.
+    pub fn release(self) {}
+
     /// How many locals are in scope.
     pub fn len(&self) -> usize
         ensures { result ≡ length self.now.locals }
@@ -179,10 +182,11 @@ impl<'a> Environment<'a> {
         self.layout.object_number(name)
     }
 
-    /// The number of a function, in the order of definitions; of another name, how many functions there are.
-    pub fn function(&self, name: &[u8]) -> usize
-        ensures { result ≡ names_before self.now.layout.functions name.now }
+    /// What a name that is called leads to: a builtin, or the number of a function, in the order of definitions; of a name that no
+    /// function has, how many functions there are.
+    pub fn callee(&self, name: &[u8]) -> Callee
+        ensures { result ≡ callee self.now.layout name.now }
     {
-        self.layout.function(name)
+        self.layout.callee(name)
     }
 }

@@ -1,9 +1,10 @@
 // Where the names of file scope lead: the objects' words, and the functions' numbers.
 
 ghost use Rattle.std.specs.Prelude.{◌≡◌, [], ◌∷◌, ◌++◌, length, OnOk};
-ghost use Rattle.cc_resolve.specs.Layout.{extent_of, names_before, object_number};
+ghost use Rattle.cc_resolve.specs.Layout.{callee, extent_of, names_before, object_number};
 
 use super::numbering::Numbering;
+use cc_typing::{READ_WORD, WRITE_WORD};
 use std::alloc::{AllocError, Global};
 use std::marker::Model;
 
@@ -12,6 +13,17 @@ use std::marker::Model;
 pub struct Extent {
     pub offset: usize,
     pub length: usize,
+}
+
+/// What a name that is called leads to.
+#[derive(Clone, Copy)]
+pub enum Callee {
+    /// The builtin `write_word`.
+    WriteWord,
+    /// The builtin `read_word`.
+    ReadWord,
+    /// The function with a number, in the order of definitions; of a name that no function has, how many functions there are.
+    Defined(usize),
 }
 
 const NOWHERE: Extent = Extent {
@@ -94,6 +106,19 @@ impl<'a> Layout<'a> {
         match self.functions.find(name) {
             Some(number) => number,
             None => self.functions.len(),
+        }
+    }
+
+    /// What a name that is called leads to.
+    pub(crate) fn callee(&self, name: &[u8]) -> Callee
+        ensures { result ≡ callee self.now name.now }
+    {
+        if WRITE_WORD == name {
+            Callee::WriteWord
+        } else if READ_WORD == name {
+            Callee::ReadWord
+        } else {
+            Callee::Defined(self.function(name))
         }
     }
 }

@@ -15,7 +15,7 @@ mod units;
 
 pub use declarations::{declare_beginning, declare_locals, declare_statement};
 pub use environment::Environment;
-pub use layout::{Extent, Layout};
+pub use layout::{Callee, Extent, Layout};
 pub use objects::declare_objects;
 pub use operations::{BinaryOperation, UnaryOperation, operation, unary_operation};
-pub use units::{declare_function, enter_function, lay_out, leave_function};
+pub use units::{declare_function, enter_function, function_environment, lay_out, leave_function};

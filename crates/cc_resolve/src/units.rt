@@ -1,21 +1,23 @@
 // The functions and the objects of a unit: where they are, and the names that they bring into scope.
 
-ghost use Rattle.std.specs.Prelude.{◌≡◌, ◌≤◌, [], ◌++◌, length, OnOk, IfOk};
+ghost use Rattle.std.specs.Prelude.{◌≡◌, ◌<◌, ◌≤◌, [], ◌++◌, Some, length, slice_get, OnOk, IfOk};
 ghost use Rattle.cc_syntax.specs.Erase.{parameter_trees, signature_tree, external_tree, external_trees};
+ghost use Rattle.cc_syntax.specs.Source.{source};
 ghost use Rattle.cc_syntax.specs.Tree as tree;
 ghost use Rattle.cc_typing.specs.Bindings.{file_level, file_of};
 ghost use Rattle.cc_typing.specs.internal.Counts.{objects_in};
 ghost use Rattle.cc_typing.specs.Limits.{objects};
-ghost use Rattle.cc_typing.specs.Scope.{FileScope, parameters_declared, with_function};
-ghost use Rattle.cc_resolve.specs.Environment.{parameter_names, environment_of};
+ghost use Rattle.cc_typing.specs.Scope.{FileScope, first_file_scope, parameters_declared, with_function};
+ghost use Rattle.cc_typing.specs.Typed.{defined_names, definitions};
+ghost use Rattle.cc_resolve.specs.Environment.{parameter_names, environment_of, environments};
 ghost use Rattle.cc_resolve.specs.Layout.{Layout, laid_from, layout_of, all_words};
 ghost use Rattle.cc_resolve.specs.internal.Laying.{offset_behind, defined_texts};
 
 use super::environment::Environment;
 use super::layout::Layout;
-use super::objects::add_objects;
+use super::objects::{add_objects, declare_objects};
 use cc_syntax::{External, Parameter, Signature};
-use cc_typing::Entity;
+use cc_typing::{Entity, TypedUnit};
 use std::alloc::{AllocError, Global};
 
 // Brings the parameters of a function into scope.
@@ -110,4 +112,57 @@ pub fn lay_out<'a>(
         offset = add_external(&mut layout, words, offset, tree)?;
     }
     Ok(layout)
+}
+
+// Enters the body of the function with a number, from file scope at the start of a unit.
+fn enter_definition<'a>(
+    names: &mut Environment<'a>,
+    trees: &'a [External],
+    function: usize,
+) -> Result<(), AllocError>
+    requires start { names.old ≡ record { visible = file_level first_file_scope.bindings; locals = []; layout = layout_of (external_trees trees.now) } }
+    requires number { function < length (definitions (external_trees trees.now)) }
+    ensures { OnOk result (slice_get (environments (external_trees trees.now)) function ≡ Some names.new) }
+{
+    let mut left = function;
+    for tree in trees {
+        match tree {
+            External::Declaration(signature) => declare_function(names, signature)?,
+            External::Definition(signature, _) => {
+                if left == 0 {
+                    return enter_function(names, signature);
+                }
+                left -= 1;
+                declare_function(names, signature)?;
+            }
+            External::Objects(scalar, trees) => {
+                declare_objects(names, *scalar, trees.as_slice())?;
+            }
+        }
+    }
+    unreachable!()
+}
+
+/// The environment in which the body of the function with a number begins. Functions are numbered from 0 in the order of their
+/// definitions.
+pub fn function_environment(
+    alloc: Global,
+    unit: &TypedUnit,
+    function: usize,
+) -> Result<Environment<'_>, AllocError>
+    requires { function < length (defined_names (source unit.now)) }
+    ensures { IfOk result (λ v. slice_get (environments (source unit.now).externals) function ≡ Some v) }
+{
+    let trees = unit.externals();
+    let mut words = Vec::new(alloc);
+    let layout = lay_out(alloc, &mut words, trees)?;
+    drop(words);
+    let mut names = Environment::new(alloc, layout)?;
+    match enter_definition(&mut names, trees, function) {
+        Ok(()) => Ok(names),
+        Err(error) => {
+            names.release();
+            Err(error)
+        }
+    }
 }

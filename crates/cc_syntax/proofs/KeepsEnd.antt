@@ -7,7 +7,7 @@ use Rattle.cc_syntax.specs.declared.parser.role.Role.{Role}
 use Rattle.cc_syntax.specs.declared.parser.role.Role.TheVariants as role
 use Rattle.cc_tokens.specs.Token.{Lexeme}
 use Rattle.cc_syntax.specs.Tree.{Name, Expr, Assign, Evaluate, Declarator, Local, Return}
-use Rattle.cc_syntax.specs.Grammar.{Measured, outside, full, begins, identifier, Marks, SpellsExpression, SpellsRow, SpellsDeclared, SpellsInitial}
+use Rattle.cc_syntax.specs.Grammar.{Measured, outside, full, begins, identifier, Marks, SpellsExpression, SpellsRow, SpellsDeclarator, SpellsInitial}
 use Rattle.cc_syntax.specs.internal.Parser.{Inside, Phase, Context, OfBody, Purpose, ToPerform, ToAssign, ToStep, ToReturn, ToTest, ToGoOn, ToInitialise, Position, AsLocal, AsHeader, Open, Waiting, declares, declared, end_in_body}
 use Rattle.cc_syntax.proofs.Forms.{count_after, count_after-append, full_after-append}
 use Rattle.cc_syntax.proofs.ReadsStatement.{CanStand}
@@ -43,8 +43,8 @@ deep before others names behind more p = simp append_assoc
 pub kept-declared : (w : Position) (b : Inside) (t : Scalar) (ds : List Declarator) (v : Name) (i : Option Expr) (initial before mine ts : List Measured) (x : Lexeme) (behind : List Measured) → Marks punctuator.Semicolon x → BodySoFar b.externals b.signature b.finished b.opened before → NamedSoFar w t ds behind b.opened mine → SpellsInitial initial i → behind ++ outside x ∷ [] ≡ outside (identifier v) ∷ initial ++ outside x ∷ [] → ts ++ outside x ∷ [] ≡ before ++ (mine ++ outside x ∷ []) → Kept (declares b w t (ds ++ declared v i ∷ [])) ts x 0
 kept-declared w b t ds v i initial before mine ts x behind h k n s same e =
     let names = n.1 in
-    let row : SpellsRow SpellsDeclared (names ++ outside (identifier v) ∷ initial) (ds ++ declared v i ∷ []) =
-    row-done SpellsDeclared ds (declared v i) names (outside (identifier v) ∷ initial) n.6 (initial, s, refl) in
+    let row : SpellsRow SpellsDeclarator (names ++ outside (identifier v) ∷ initial) (ds ++ declared v i ∷ []) =
+    row-done SpellsDeclarator ds (declared v i) names (outside (identifier v) ∷ initial) n.6 (initial, s, refl) in
     let p = first (position_level w b.opened) 0 n.2 in
     let inner : List Measured = outside n.2 ∷ map outside n.3 ++ ((names ++ outside (identifier v) ∷ initial) ++ outside x ∷ []) in
     let tokens : mine ++ outside x ∷ [] ≡ n.0 ++ begins (position_level w b.opened) inner =
@@ -77,14 +77,14 @@ valued w t ds os mine v sign value n =
 pub next-declared : (w : Position) (t : Scalar) (ds : List Declarator) (os : List Open) (mine : List Measured) (v : Name) (i : Option Expr) (initial : List Measured) (x : Lexeme) → Marks punctuator.Comma x → SpellsInitial initial i → NamedSoFar w t ds (outside (identifier v) ∷ initial) os mine → NamedSoFar w t (ds ++ declared v i ∷ []) [] os (mine ++ outside x ∷ [])
 next-declared w t ds os mine v i initial x h s n =
     let one : List Measured = outside (identifier v) ∷ initial in
-    let row : SpellsRow SpellsDeclared (n.1 ++ one) (ds ++ declared v i ∷ []) = row-done SpellsDeclared ds (declared v i) n.1 one n.6 (initial, s, refl) in
+    let row : SpellsRow SpellsDeclarator (n.1 ++ one) (ds ++ declared v i ∷ []) = row-done SpellsDeclarator ds (declared v i) n.1 one n.6 (initial, s, refl) in
     let names : List Measured = (n.1 ++ one) ++ outside x ∷ [] in
     let p = first (position_level w os) 0 n.2 in
     let grouped : n.1 ++ (one ++ outside x ∷ []) ≡ names ++ [] = sym (append_assoc n.1 one (outside x ∷ [])) ∙ sym (append-nil names) in
     let tokens : mine ++ outside x ∷ [] ≡ n.0 ++ (p ∷ (map outside n.3 ++ (names ++ []))) =
     ap (λ (z : List Measured). z ++ outside x ∷ []) n.7 ∙ deep n.0 (map outside n.3) n.1 one (outside x ∷ []) p
     ∙ ap (λ (z : List Measured). n.0 ++ (p ∷ (map outside n.3 ++ z))) grouped in
-    (n.0, names, n.2, n.3, n.4, n.5, row-comma SpellsDeclared (ds ++ declared v i ∷ []) (n.1 ++ one) x row h, tokens)
+    (n.0, names, n.2, n.3, n.4, n.5, row-comma SpellsDeclarator (ds ++ declared v i ∷ []) (n.1 ++ one) x row h, tokens)
 
 -- the token after a full expression in a body
 pub kept-end : (p : Purpose) (r : Role) (b : Inside) (ws : List Waiting) (n : ℕ) (q : Phase) (e : Expr) (ts : List Measured) (x : Lexeme) → HasRole r x → (h : FullSoFar (OfBody b p) ws n q ts) → SpellsExpression 1 h.xs e → Kept (end_in_body b p n e r) ts x 0

@@ -32,7 +32,7 @@ spelled_refused text (fault.TooDeep p) tree h fits s = absurd (no_break TooDeepA
 spelled_refused text fault.SourceTooLarge tree h fits s = absurd (omega (arith, h, fits))
 spelled_refused text fault.OutOfMemory tree h fits s = refl
 
-same_tree : (text : List ℕ) (a b : List External) → SpellsText text a → SpellsText text b → a ≡ b
+pub same_tree : (text : List ℕ) (a b : List External) → SpellsText text a → SpellsText text b → a ≡ b
 same_tree text a b h k =
     let same = tokens_are_one text k.tokens h.tokens k.are h.are in
     let w : SpellsWithin h.tokens b = subst (λ (ts : List Lexeme). SpellsWithin ts b) same k.spelled in

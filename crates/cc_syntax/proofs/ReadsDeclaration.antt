@@ -10,7 +10,7 @@ use Rattle.cc_syntax.specs.declared.parser.role.Role.TheVariants as role
 use Rattle.cc_tokens.specs.Token.{Lexeme}
 use Rattle.cc_syntax.specs.Tree.{Name, Expr, Declarator, Declares, Local}
 use Rattle.cc_syntax.specs.internal.Roles.{role_of}
-use Rattle.cc_syntax.specs.Grammar.{Measured, outside, full, begins, identifier, Marks, SpellsType, SpellsInitial, SpellsDeclared, SpellsRow, SpellsLocal}
+use Rattle.cc_syntax.specs.Grammar.{Measured, outside, full, begins, identifier, Marks, SpellsType, SpellsInitial, SpellsDeclarator, SpellsRow, SpellsLocal}
 use Rattle.cc_syntax.specs.internal.Parser.{State, InBody, Inside, HasDeclared, Declaring, LocalSign, ForTesting, Position, AsLocal, AsHeader, OfBody, ToInitialise, in_body, settled, declares, declared, end_full, role_step, role_level, name_of, count_of}
 use Rattle.cc_syntax.proofs.ParserRuns.{Runs, token, runs-append}
 use Rattle.cc_syntax.proofs.Forms.{operand, count_after}
@@ -82,14 +82,14 @@ pub record Names (s : State) (b : Inside) (w : Position) (t : Scalar) (ds : List
 names-declaring : (b : Inside) (w : Position) (t : Scalar) (ds : List Declarator) → Names (InBody b (Declaring w t ds)) b w t ds
 names-declaring b w t ds = record { named = λ v. refl; begun = refl }
 
-read_declared : (d : Declarator) (ts : List Measured) (z : Separator) (x : Lexeme) (s : State) (b : Inside) (w : Position) (t : Scalar) (ds : List Declarator) → Names s b w t ds → SpellsDeclared ts d → x.kind ≡ separator z → Runs s (ts ++ outside x ∷ []) (behind z b w t (ds ++ d ∷ []))
+read_declared : (d : Declarator) (ts : List Measured) (z : Separator) (x : Lexeme) (s : State) (b : Inside) (w : Position) (t : Scalar) (ds : List Declarator) → Names s b w t ds → SpellsDeclarator ts d → x.kind ≡ separator z → Runs s (ts ++ outside x ∷ []) (behind z b w t (ds ++ d ∷ []))
 read_declared d ts z x s b w t ds names h k =
     let m = behind z b w t (ds ++ d ∷ []) in
     let initial = read_initial d.initial h.0 z x b w t ds d.name h.1 k in
     subst (λ (ps : List Measured). Runs s (ps ++ outside x ∷ []) m) (sym h.2)
     (token s (InBody b (HasDeclared w t ds d.name)) m (identifier d.name) kind.Identifier 0 0 (h.0 ++ outside x ∷ []) refl (names.named d.name) refl names.begun initial)
 
-read_row : (es : List Declarator) (ts : List Measured) (x : Lexeme) (s : State) (b : Inside) (w : Position) (t : Scalar) (ds : List Declarator) → Names s b w t ds → SpellsRow SpellsDeclared ts es → Marks punctuator.Semicolon x → Runs s (ts ++ outside x ∷ []) (declared_state b w t (ds ++ es))
+read_row : (es : List Declarator) (ts : List Measured) (x : Lexeme) (s : State) (b : Inside) (w : Position) (t : Scalar) (ds : List Declarator) → Names s b w t ds → SpellsRow SpellsDeclarator ts es → Marks punctuator.Semicolon x → Runs s (ts ++ outside x ∷ []) (declared_state b w t (ds ++ es))
 read_row [] ts x s b w t ds names h k = absurd h
 read_row (e ∷ []) ts x s b w t ds names h k = read_declared e ts Last x s b w t ds names h k
 read_row (e ∷ f ∷ es) ts x s b w t ds names h k =

@@ -11,7 +11,7 @@ use Rattle.cc_syntax.specs.declared.parser.role.Role.TheVariants as role
 use Rattle.cc_tokens.specs.Token.{Lexeme}
 use Rattle.cc_syntax.specs.Tree.{Name, Expr, Declarator, Action, Beginning, Declares, Performs, Stmt, Block, Local, Perform, Return, Break, Continue, If, IfElse, While, DoWhile, For, Stmts, end, next}
 use Rattle.cc_syntax.specs.internal.Roles.{role_of}
-use Rattle.cc_syntax.specs.Grammar.{Measured, outside, full, begins, Marks, SpellsExpression, SpellsOptional, SpellsOptionalAction, SpellsStart, SpellsStatement, SpellsStatements, IsStatement, IsClosed}
+use Rattle.cc_syntax.specs.Grammar.{Measured, outside, full, begins, Marks, SpellsExpression, SpellsOptional, SpellsOptionalAction, SpellsBeginning, SpellsStatement, SpellsStatements, IsStatement, IsClosed}
 use Rattle.cc_syntax.specs.internal.Parser.{State, InBody, Inside, Stage, Item, AfterThen, AfterDo, Testing, Ending, Returning, ForOpening, ForStarting, ForTesting, ForStepping, Declaring, LocalSign, AsLocal, AsHeader, Context, OfBody, ToReturn, ToTest, ToGoOn, Test, ForIf, ForWhile, ForDo, AsStatement, AsStart, AsLast, Open, InBlock, InThen, InElse, InWhile, InDo, InFor, Waiting, inside_of, in_body, settled, with_last, full_of, close, tested, declare, action_step, first_step, item_step, role_step, role_level, name_of, count_of}
 use Rattle.cc_syntax.proofs.ParserRuns.{Runs, token, runs-append}
 use Rattle.cc_syntax.proofs.Forms.{operand, operator, count_after}
@@ -117,7 +117,7 @@ read_test e test opening closing b k m open_ close_ h goes counts =
     (read_ended (OfBody b (ToTest k)) 0 test e closing (kind.Punctuator punctuator.CloseParenthesis) m 0 h close_ (λ f z. refl) goes counts)
 
 -- the first part of a `for` header
-read_start : (a : Beginning) (ts : List Measured) (b : Inside) → SpellsStart (suc (suc (suc (length b.opened)))) ts a → Runs (InBody b ForStarting) ts (InBody b (ForTesting a))
+read_start : (a : Beginning) (ts : List Measured) (b : Inside) → SpellsBeginning (suc (suc (suc (length b.opened)))) ts a → Runs (InBody b ForStarting) ts (InBody b (ForTesting a))
 read_start (Declares t ds) ts b h =
     subst (λ (z : List Measured). Runs (InBody b ForStarting) z (InBody b (ForTesting (Declares t ds)))) (sym h.2)
     (read_local t ds h.0 (InBody b ForStarting) b AsHeader (suc (suc (suc (length b.opened)))) (begins-starting b) h.1)

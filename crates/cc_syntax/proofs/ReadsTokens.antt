@@ -35,7 +35,7 @@ all_of : (s : State) (text : List ℕ) (ts : List Token) (k : ℕ) → length ts
 all_of s text ts k i h = subst (λ (z : List Lexeme). Reached s z) (take_all k (lexemes text ts) (omega (arith, length-lexemes text ts, i))) h
 
 -- the state after a whole unit
-unit_state : (s : State) (tree : List External) → tree_of s ≡ Some tree → (s ≡ AtFile tree Between) × IsUnit tree
+pub unit_state : (s : State) (tree : List External) → tree_of s ≡ Some tree → (s ≡ AtFile tree Between) × IsUnit tree
 unit_state (AtFile [] o) tree e = absurd (none-some None tree refl e)
 unit_state (AtFile (d ∷ ds) Between) tree e =
     let same : d ∷ ds ≡ tree = cc in

@@ -7,7 +7,7 @@ use Rattle.cc_tokens.specs.declared.token.Keyword.TheVariants as keyword
 use Rattle.cc_tokens.specs.declared.token.Punctuator.TheVariants as punctuator
 use Rattle.cc_tokens.specs.Token.{Lexeme}
 use Rattle.cc_syntax.specs.Tree.{Expr, Action, Step, Declarator, Beginning, Declares, Performs, Stmt, Local, Perform, Return, If, IfElse, While, DoWhile, For, Stmts, Signature, External}
-use Rattle.cc_syntax.specs.Grammar.{Measured, outside, full, begins, identifier, Marks, IsKeyword, sign_word, assignment_punctuator, step_punctuator, SpellsType, SpellsExpression, SpellsTarget, SpellsAction, SpellsRow, SpellsDeclared, SpellsLocal, SpellsOptional, SpellsOptionalAction, SpellsStart, SpellsStatement, SpellsStatements, IsStatement, IsClosed, SpellsSignature, AreNamed, SpellsExternals}
+use Rattle.cc_syntax.specs.Grammar.{Measured, outside, full, begins, identifier, Marks, IsKeyword, sign_word, assignment_punctuator, step_punctuator, SpellsType, SpellsExpression, SpellsTarget, SpellsAction, SpellsRow, SpellsDeclarator, SpellsLocal, SpellsOptional, SpellsOptionalAction, SpellsBeginning, SpellsStatement, SpellsStatements, IsStatement, IsClosed, SpellsSignature, AreNamed, SpellsExternals}
 use Rattle.cc_syntax.specs.internal.Parser.{Stage, Item, AfterThen, AfterDo, Testing, Ending, Returning, ForOpening, ForStarting, ForTesting, ForStepping, LocalSign, Declaring, HasDeclared, Stepping, StepNamed, Stepped, Purpose, ToPerform, ToAssign, ToStep, ToReturn, ToTest, ToGoOn, ToInitialise, Test, ForIf, ForWhile, ForDo, Position, AsLocal, AsHeader, Spot, AsStatement, AsStart, AsLast, Open, InBlock, InThen, InElse, InWhile, InDo, InFor}
 use Rattle.cc_syntax.proofs.Forms.{count_after}
 use Rattle.cc_syntax.proofs.ReadsAction.{terminator}
@@ -73,7 +73,7 @@ GoingSoFar a os mine =
     → SteppingSoFar a e os (mine ++ (test ++ outside x ∷ []))
 
 abbrev pub StartingSoFar : List Open → List Measured → Type 0
-StartingSoFar os mine = (starting : List Measured) (a : Beginning) → SpellsStart (suc (depth os)) starting a → GoingSoFar a os (mine ++ starting)
+StartingSoFar os mine = (starting : List Measured) (a : Beginning) → SpellsBeginning (suc (depth os)) starting a → GoingSoFar a os (mine ++ starting)
 
 abbrev pub ReturningSoFar : ℕ → List Open → List Measured → Type 0
 ReturningSoFar at os mine =
@@ -113,7 +113,7 @@ DeclarationSoFar w os mine =
 abbrev pub NamedSoFar : Position → Scalar → List Declarator → List Measured → List Open → List Measured → Type 0
 NamedSoFar w t ds behind os mine =
     (before names : List Measured) × (word : Lexeme) × (others : List Lexeme) × DeclarationSoFar w os before × SpellsType (word ∷ others) t
-    × RowSoFar SpellsDeclared names ds × (mine ≡ before ++ (first (position_level w os) 0 word ∷ (map outside others ++ (names ++ behind))))
+    × RowSoFar SpellsDeclarator names ds × (mine ≡ before ++ (first (position_level w os) 0 word ∷ (map outside others ++ (names ++ behind))))
 
 -- the tokens of a statement that has begun and waits for a part
 abbrev pub OpenSoFar : Open → List Open → List Measured → Type 0

@@ -205,13 +205,13 @@ SpellsInitial ts None = ts ≡ []
 SpellsInitial ts (Some e) =
     (sign : Lexeme) × (right : List Lexeme) × Marks punctuator.Assign sign × SpellsExpression 1 right e × (ts ≡ outside sign ∷ full right)
 
-abbrev pub SpellsDeclared : List Measured → Declarator → Type 0
-SpellsDeclared ts d = (initial : List Measured) × SpellsInitial initial d.initial × (ts ≡ outside (identifier d.name) ∷ initial)
+abbrev pub SpellsDeclarator : List Measured → Declarator → Type 0
+SpellsDeclarator ts d = (initial : List Measured) × SpellsInitial initial d.initial × (ts ≡ outside (identifier d.name) ∷ initial)
 
 -- a declaration of locals: a type, one or more names, and a semicolon (C99 6.7)
 abbrev pub SpellsLocal : List Measured → Scalar → List Declarator → Type 0
 SpellsLocal ts t ds =
-    (type : List Lexeme) × (names : List Measured) × (semicolon : Lexeme) × SpellsType type t × SpellsRow SpellsDeclared names ds
+    (type : List Lexeme) × (names : List Measured) × (semicolon : Lexeme) × SpellsType type t × SpellsRow SpellsDeclarator names ds
     × Marks punctuator.Semicolon semicolon × (ts ≡ map outside type ++ (names ++ outside semicolon ∷ []))
 
 -- a full expression, or nothing
@@ -225,9 +225,9 @@ SpellsOptionalAction ts None = ts ≡ []
 SpellsOptionalAction ts (Some a) = (inner : List Lexeme) × SpellsAction inner a × (ts ≡ full inner)
 
 -- the first part of a `for` header, with its semicolon; a declaration there stands at the level (C99 6.8.5.3)
-abbrev pub SpellsStart : ℕ → List Measured → Beginning → Type 0
-SpellsStart level ts (Declares t ds) = (inner : List Measured) × SpellsLocal inner t ds × (ts ≡ begins level inner)
-SpellsStart level ts (Performs a) =
+abbrev pub SpellsBeginning : ℕ → List Measured → Beginning → Type 0
+SpellsBeginning level ts (Declares t ds) = (inner : List Measured) × SpellsLocal inner t ds × (ts ≡ begins level inner)
+SpellsBeginning level ts (Performs a) =
     (inner : List Measured) × (semicolon : Lexeme) × SpellsOptionalAction inner a × Marks punctuator.Semicolon semicolon
     × (ts ≡ inner ++ outside semicolon ∷ [])
 
@@ -290,7 +290,7 @@ abbrev mutual
   SpellsStatement level ts (For a e b s) =
       (word opening semicolon closing : Lexeme) × (starting test last body : List Measured) × IsKeyword keyword.For word
       × Marks punctuator.OpenParenthesis opening × Marks punctuator.Semicolon semicolon × Marks punctuator.CloseParenthesis closing
-      × SpellsStart (suc level) starting a × SpellsOptional test e × SpellsOptionalAction last b
+      × SpellsBeginning (suc level) starting a × SpellsOptional test e × SpellsOptionalAction last b
       × SpellsStatement (suc level) body s × IsStatement s
       × (ts ≡ begins level (outside word ∷ outside opening ∷ starting ++ (test ++ (outside semicolon ∷ last ++ outside closing ∷ body))))
 

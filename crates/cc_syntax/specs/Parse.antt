@@ -1,5 +1,5 @@
 -- What the text as a whole spells, and why it is refused.
-use Rattle.std.specs.Prelude.{◌≡◌, ℕ, ◌≤◌, List, length, slice_get, Option, Some, None}
+use Rattle.std.specs.Prelude.{◌≡◌, ℕ, ◌≤◌, List, length, slice_get, Option, Some, None, Result, Ok, Err}
 use Rattle.cc_tokens.specs.declared.place.Place.{Place}
 use Rattle.cc_tokens.specs.declared.fault.SyntaxFault.{SyntaxFault}
 use Rattle.cc_tokens.specs.declared.fault.SyntaxFault.TheVariants as fault
@@ -39,3 +39,17 @@ abbrev pub IsParseRefusal : List ℕ → SyntaxFault → Type 0
 IsParseRefusal text (fault.Unexpected p) = BreaksAt UnexpectedAt text p
 IsParseRefusal text (fault.TooDeep p) = BreaksAt TooDeepAt text p
 IsParseRefusal text f = IsTokenRefusal text f
+
+-- what `parse` may answer for a text, want of memory set aside: the tree that it spells, or why it has none
+abbrev pub IsParseAnswer : List ℕ → Result (List External) SyntaxFault → Type 0
+IsParseAnswer text (Ok tree) = (length text ≤ 65536) × SpellsText text tree
+IsParseAnswer text (Err fault.OutOfMemory) = ⊥
+IsParseAnswer text (Err f) = IsParseRefusal text f
+
+-- a text has one answer at most: two are the same tree, or the same fault at the same place
+abbrev pub ParseAnswersAreOne : Type 0
+ParseAnswersAreOne = (text : List ℕ) (a b : Result (List External) SyntaxFault) → IsParseAnswer text a → IsParseAnswer text b → a ≡ b
+
+-- and a text has one
+abbrev pub TextsHaveAnswers : Type 0
+TextsHaveAnswers = (text : List ℕ) → (a : Result (List External) SyntaxFault) × IsParseAnswer text a

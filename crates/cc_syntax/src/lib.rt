@@ -17,5 +17,5 @@ pub use cc_tokens::{
     Keyword, Place, Punctuator, Scalar, SyntaxFault, Token, TokenKind, place_at, tokens,
     tokens_are_determined,
 };
-pub use parser::{parse, trees_are_determined};
+pub use parser::{parse, parse_is_determined, trees_are_determined};
 pub use unit::Unit;

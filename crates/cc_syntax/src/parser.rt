@@ -21,7 +21,7 @@ ghost use Rattle.cc_tokens.specs.Token.{lexemes};
 ghost use Rattle.cc_tokens.specs.Tokens.{AreInOrder, IsTokens};
 ghost use Rattle.cc_syntax.specs.Erase.{external_trees};
 ghost use Rattle.cc_syntax.specs.internal.ParserView.{Refuses};
-ghost use Rattle.cc_syntax.specs.Parse.{SpellsText, IsParseRefusal, place_at_token};
+ghost use Rattle.cc_syntax.specs.Parse.{SpellsText, IsParseRefusal, ParseAnswersAreOne, TextsHaveAnswers, place_at_token};
 ghost use Rattle.cc_syntax.specs.Limits.{TreesAreOne, SpelledHaveNoFault};
 ghost use Rattle.cc_syntax.specs.Source.{source, UnitTree, AnswersTree};
 ghost use Rattle.cc_syntax.specs.internal.Answer.{IsParse};
@@ -105,4 +105,11 @@ pub fn parse(alloc: Global, text: &[u8]) -> Result<Unit, SyntaxFault>
 pub fn trees_are_determined()
     ensures one { TreesAreOne }
     ensures no_fault { SpelledHaveNoFault }
+{}
+
+/// What `parse` answers is a function of the text, want of memory set aside: each text has exactly one answer, its tree or
+/// one fault with one number and place.
+pub fn parse_is_determined()
+    ensures one { ParseAnswersAreOne }
+    ensures some { TextsHaveAnswers }
 {}

@@ -9,4 +9,5 @@ pub mod FileScopes
 pub mod Counting
 pub mod First
 pub mod Verdict
+pub mod Determined
 pub mod Definitions

@@ -22,7 +22,7 @@ use Rattle.cc_typing.proofs.FileScopes.{SameFile, with_objects-defined, external
 use Rattle.cc_typing.proofs.Parts.{noted-append}
 
 -- two parts without offences
-both_empty : {A : Type 0} (xs ys : List A) → xs ++ ys ≡ [] → (xs ≡ []) × (ys ≡ [])
+pub both_empty : {A : Type 0} (xs ys : List A) → xs ++ ys ≡ [] → (xs ≡ []) × (ys ≡ [])
 both_empty [] ys e = (refl, e)
 both_empty (x ∷ xs) ys e = absurd (let c : ⊥ = cc in c)
 

@@ -14,6 +14,8 @@ pub mod Limits
 pub mod Fault
 -- which units are typed, and why another one is refused
 pub mod Typed
+-- what a text comes to, from its first byte to its types
+pub mod Verdict
 -- what a typed unit keeps
 pub mod Checked
 -- what a definition that is handed out shows

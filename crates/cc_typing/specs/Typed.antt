@@ -1,5 +1,5 @@
 -- Which units are typed, and why another one is refused.
-use Rattle.std.specs.Prelude.{ℕ, ◌≡◌, ◌⊎◌, ◌<◌, ◌≤◌, true, false, List, [], ◌∷◌, ◌++◌, length, map, Contains}
+use Rattle.std.specs.Prelude.{ℕ, ◌≡◌, ◌⊎◌, ◌<◌, ◌≤◌, true, false, List, [], ◌∷◌, ◌++◌, length, map, Contains, Option, Some, None}
 use Rattle.std.specs.List.{AllByRecursion}
 use Rattle.cc_syntax.specs.Tree.{Name, External, Declaration, Definition, Objects, Source}
 use Rattle.cc_tokens.specs.Place.{place_of}
@@ -42,6 +42,20 @@ IsTypeRefusal s fault =
     IsFaultOfFirst s.text (all_offences s.externals) fault
     ⊎ (((all_offences s.externals ≡ []) × (defines_main s.externals ≡ false) × (fault ≡ NoMain (place_of s.text (length s.text))))
     ⊎ ((all_offences s.externals ≡ []) × (defines_main s.externals ≡ true) × IsFaultOfFirst s.text (undefined_calls s.externals) fault))
+
+-- what `check` may answer for a unit, want of memory set aside: no fault where it is typed within the limits, else why it is
+-- refused
+abbrev pub IsTypeAnswer : Source → Option TypeFault → Type 0
+IsTypeAnswer s None = IsTyped s.externals × IsWithinLimits s.externals
+IsTypeAnswer s (Some fault) = IsTypeRefusal s fault
+
+-- a unit has one answer at most: two are the same fault at the same place, or none
+abbrev pub TypeAnswersAreOne : Type 0
+TypeAnswersAreOne = (s : Source) (a b : Option TypeFault) → IsTypeAnswer s a → IsTypeAnswer s b → a ≡ b
+
+-- and a unit has one
+abbrev pub UnitsHaveTypeAnswers : Type 0
+UnitsHaveTypeAnswers = (s : Source) → (a : Option TypeFault) × IsTypeAnswer s a
 
 -- the names of the functions that a unit defines, in the order of their definitions
 abbrev pub defined_names : Source → List (List ℕ)

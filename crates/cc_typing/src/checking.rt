@@ -9,7 +9,8 @@ ghost use Rattle.cc_typing.specs.Fault.{fault_of};
 ghost use Rattle.cc_typing.specs.internal.Findings.{noted};
 ghost use Rattle.cc_typing.specs.Rules.{offences, is_main, defines_main, undefined_calls};
 ghost use Rattle.cc_typing.specs.Scope.{has_name, first_file_scope, file_scope_behind_all};
-ghost use Rattle.cc_typing.specs.Typed.{IsTyped, IsWithinLimits, IsTypeRefusal, all_offences};
+ghost use Rattle.cc_typing.specs.Typed.{IsTyped, IsWithinLimits, IsTypeRefusal, TypeAnswersAreOne, UnitsHaveTypeAnswers, all_offences};
+ghost use Rattle.cc_typing.specs.Verdict.{VerdictsAreOne, TextsHaveVerdicts};
 
 use super::entity::same_result;
 use super::externals::all_externals;
@@ -20,7 +21,7 @@ use super::names::Names;
 use super::rule::{Offence, Rule};
 use super::scope::{READ_WORD, Scope, WRITE_WORD};
 use super::typed::TypedUnit;
-use cc_syntax::{External, Place, Scalar, Unit, place_at};
+use cc_syntax::{External, Place, Scalar, Unit, parse_is_determined, place_at};
 use std::alloc::{AllocError, Global};
 
 const MAIN: &[u8] = b"main";
@@ -184,4 +185,15 @@ fn place_in(text: &[u8], at: usize) -> Place
     ensures { result ≡ place_of text.now at }
 {
     place_at(text, at.min(text.len()))
+}
+
+/// What `check` answers is a function of the unit, want of memory set aside: each unit is typed within the limits, or has
+/// exactly one fault with one number and place. So what `parse` and then `check` answer is a function of the text.
+pub fn check_is_determined()
+    ensures one { TypeAnswersAreOne }
+    ensures some { UnitsHaveTypeAnswers }
+    ensures one_verdict { VerdictsAreOne }
+    ensures some_verdict { TextsHaveVerdicts }
+{
+    parse_is_determined();
 }

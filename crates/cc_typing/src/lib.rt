@@ -27,7 +27,7 @@ mod statements;
 mod typed;
 
 pub use bindings::{Bindings, Newest};
-pub use checking::check;
+pub use checking::{check, check_is_determined};
 pub use constants::{array_length, constant_word};
 pub use entity::Entity;
 pub use fault::TypeFault;

@@ -1,20 +1,10 @@
-// The program `cclib`: reads a C program from standard input, and checks or interprets it.
-//
-// `command_line` reads the command line into a task, `perform` does a task over any reader and writer, `source` reads
-// the text, `fault` has every refusal with its line. What a text means is the library crates' matter.
+// The program `cclib`: reads a C program from standard input, and checks or interprets it. How a command line is read and a
+// task is done is the matter of `cc_program`.
 #![tactic(auto)]
 
-mod command_line;
-mod fault;
-mod perform;
-mod source;
-#[cfg(test)]
-mod tests;
-
+use cc_program::{Fault, Task, line, perform};
+use clap::Error;
 use clap::error::ErrorKind;
-use command_line::line;
-use fault::Fault;
-use perform::perform;
 use std::alloc::AllocError;
 use std::io::{self, BufWriter};
 use std::process::ExitCode;
@@ -31,23 +21,36 @@ fn main(rt: HostRuntime) -> ExitCode {
     }
 }
 
+// Does a task; the error is want of memory before it began.
+fn start<R: AllocGlobal + Input + Print>(rt: &R, task: Task) -> Result<u8, AllocError> {
+    match BufWriter::new(rt.alloc(), io::writer(rt)) {
+        Ok(mut writer) => Ok(perform(rt, task, &mut rt.reader(), &mut writer)),
+        Err(_) => {
+            drop(task);
+            Err(AllocError)
+        }
+    }
+}
+
+// Says why a command line is refused, or prints the help that it asks for.
+fn refuse<R: Eprint + Print>(rt: &R, error: Error) -> Result<u8, AllocError> {
+    if error.kind() == ErrorKind::OutOfMemory {
+        return Err(AllocError);
+    }
+    let _ = error.print(rt);
+    Ok(if error.exit_code() == 0 { 0 } else { 2 })
+}
+
 // The status; the error is want of memory before the task began.
 fn run<R: AllocGlobal + Env + Input + Print + Eprint>(rt: &R) -> Result<u8, AllocError> {
     let Ok(words) = std::env::args(rt) else {
         return Err(AllocError);
     };
     let words: Vec<String> = words.collect(rt.alloc())?;
-    match line(rt.alloc(), words.as_slice()) {
-        Ok(task) => {
-            let Ok(mut writer) = BufWriter::new(rt.alloc(), io::writer(rt)) else {
-                return Err(AllocError);
-            };
-            Ok(perform(rt, task, &mut rt.reader(), &mut writer))
-        }
-        Err(error) if error.kind() == ErrorKind::OutOfMemory => Err(AllocError),
-        Err(error) => {
-            let _ = error.print(rt);
-            Ok(if error.exit_code() == 0 { 0 } else { 2 })
-        }
+    let asked = line(rt.alloc(), words.as_slice());
+    drop(words);
+    match asked {
+        Ok(task) => start(rt, task),
+        Err(error) => refuse(rt, error),
     }
 }

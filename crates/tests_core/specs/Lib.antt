@@ -1,2 +1,2 @@
--- the build of the tests
-pub mod FewPieces
+-- the builds of the tests
+pub mod Builds

@@ -1,10 +1,19 @@
-//! Tests of the protocol core, over a build of their own in which each source has one piece or two.
-//! `piece`: what a worker makes. `few_pieces`: the build.
-//! `tests`: the worked table, a walk through the refusals, and the calls on names, lists and numbers.
-//! It hands out nothing that another crate uses.
+//! Tests of the protocol core, from outside, over builds of their own in which each source has one piece or two.
+//!
+//! `piece` is what a worker makes, `builds` has the builds, `script` plays events and looks at what they answer.
+//! `commits` has the worked table and what a commit answers, `crashes` crashes at each event, `opened` begins on disks
+//! with units.
 #![tactic(auto)]
 
-pub mod few_pieces;
-pub mod piece;
 #[cfg(test)]
-mod tests;
+mod builds;
+#[cfg(test)]
+mod commits;
+#[cfg(test)]
+mod crashes;
+#[cfg(test)]
+mod opened;
+#[cfg(test)]
+mod piece;
+#[cfg(test)]
+mod script;

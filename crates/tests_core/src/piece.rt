@@ -1,6 +1,6 @@
 ghost use Rattle.std.specs.Prelude.{◌≡◌, ◌↔◌, ◌∷◌, [], ◌≤◌, ◌<◌, length, IfOk, IsTrue};
 ghost use Rattle.std.specs.Arc.{arc_value};
-ghost use Rattle.tests_core.specs.FewPieces.{keeps};
+ghost use Rattle.tests_core.specs.Builds.{keeps};
 
 use cc_library::SharedUnit;
 use cc_link::{Source, StoredUnit};
@@ -17,7 +17,7 @@ pub struct Piece {
 }
 
 impl Model for Piece {
-    ghost use Rattle.tests_core.specs.FewPieces.{Seen, is_right};
+    ghost use Rattle.tests_core.specs.Builds.{Seen, is_right};
 
     ghost Value = { Seen };
 

@@ -1,10 +1,8 @@
 // What `parse` says of texts.
 
-use super::texts::{REFUSED, SPELLED};
+use super::texts::{REFUSED, REPEATED, SPELLED};
 use cc_syntax::{Place, parse};
-use std::alloc::Global;
-use std::process::Abort;
-use std::test::Fail;
+use std::alloc::{AllocError, Global};
 
 /// The number, the line and the column of a text's fault; zeros where it is a unit.
 fn answer(alloc: Global, text: &[u8]) -> (u32, usize, usize) {
@@ -27,79 +25,47 @@ fn texts_that_are_units(rt: HostRuntime) {
 #[test]
 fn texts_that_are_none(rt: HostRuntime) {
     for (index, (text, number, line, column)) in REFUSED.iter().enumerate() {
-        let (found, at, in_line) = answer(rt.alloc(), text);
-        let is_right = found == *number && at == *line && in_line == *column;
+        let is_right = answer(rt.alloc(), text) == (*number, *line, *column);
         assert!(rt; is_right, "text {index}");
     }
 }
 
-/// A text of `before`, `middle` so many times and `behind` has this answer.
-fn repeats(
-    rt: &(impl AllocGlobal + Abort),
-    parts: (&str, &str, &str),
+/// A text of `before`, `middle` so many times, and `behind`.
+fn repeated(
+    alloc: Global,
+    before: &str,
+    middle: &str,
+    behind: &str,
     times: usize,
-    wanted: (u32, usize, usize),
-) -> Result<(), Fail> {
-    let (before, middle, behind) = parts;
-    let mut text = String::new(rt.alloc());
-    text.push_str(before)?;
+) -> Result<Vec<u8>, AllocError> {
+    let mut text = Vec::new(alloc);
+    text.extend_from_slice(before.as_bytes())?;
     for _ in 0..times {
-        text.push_str(middle)?;
+        text.extend_from_slice(middle.as_bytes())?;
     }
-    text.push_str(behind)?;
-    let found = answer(rt.alloc(), text.as_bytes());
-    assert!(rt; found == wanted, "{before}{middle}..{behind}");
-    Ok(())
+    text.extend_from_slice(behind.as_bytes())?;
+    Ok(text)
 }
 
-const UNIT: (u32, usize, usize) = (0, 0, 0);
-
-#[test]
-fn tokens_of_an_action(rt: HostRuntime) -> Result<(), Fail> {
-    repeats(&rt, ("int main(void){-1", "+1", ";}"), 255, UNIT)?;
-    repeats(&rt, ("int main(void){1", "+1", ";}"), 256, (6, 1, 528))?;
-    repeats(&rt, ("int main(void){-1", "+1", "+1;}"), 255, (6, 1, 528))?;
-    repeats(&rt, ("int main(void){-1", "+1", ");}"), 255, (5, 1, 528))?;
-    repeats(&rt, ("int main(void){a=-1", "+1", ";}"), 254, UNIT)?;
-    repeats(&rt, ("int main(void){a=-1", "+1", ";}"), 255, (6, 1, 528))?;
-    repeats(&rt, ("int main(void){++a[-1", "+1", "];}"), 253, UNIT)?;
-    repeats(
-        &rt,
-        ("int main(void){a[-1", "+1", "]++;}"),
-        254,
-        (6, 1, 528),
-    )
+/// The answer for such a text, and none where memory ran out.
+fn answer_for(
+    alloc: Global,
+    before: &str,
+    middle: &str,
+    behind: &str,
+    times: usize,
+) -> Option<(u32, usize, usize)> {
+    match repeated(alloc, before, middle, behind, times) {
+        Ok(text) => Some(answer(alloc, text.as_slice())),
+        Err(_) => None,
+    }
 }
 
 #[test]
-fn tokens_of_other_expressions(rt: HostRuntime) -> Result<(), Fail> {
-    repeats(&rt, ("int main(void){if(-1", "+1", ");}"), 255, UNIT)?;
-    repeats(&rt, ("int a[-1", "+1", "];"), 255, UNIT)?;
-    repeats(&rt, ("int a[-1", "+1", "+1];"), 255, (6, 1, 519))?;
-    repeats(&rt, ("int x[]={-1", "+1", ",2,};"), 255, UNIT)?;
-    repeats(&rt, ("int main(void){f(", "1,", "1);}"), 254, UNIT)?;
-    repeats(&rt, ("int main(void){f(", "1,", "1);}"), 255, (6, 1, 528))
-}
-
-#[test]
-fn levels_of_statements(rt: HostRuntime) -> Result<(), Fail> {
-    repeats(&rt, ("int main(void){", "if(1)", ";}"), 62, UNIT)?;
-    repeats(&rt, ("int main(void){", "if(1)", ";}"), 63, (6, 1, 331))?;
-    repeats(&rt, ("int main(void){", "if(1);else ", ";}"), 62, UNIT)?;
-    repeats(
-        &rt,
-        ("int main(void){", "if(1);else ", ";}"),
-        63,
-        (6, 1, 703),
-    )?;
-    repeats(
-        &rt,
-        ("int main(void){", "{", "for(int i;;);"),
-        62,
-        (6, 1, 82),
-    )?;
-    repeats(&rt, ("int main(void){", "{", "for(i=1;;);"), 62, (6, 1, 88))?;
-    repeats(&rt, ("int main(void){", "do ", ";"), 63, (6, 1, 205))?;
-    repeats(&rt, ("int main(void){", "{", "else"), 63, (5, 1, 79))?;
-    repeats(&rt, ("int main(void){", "{", ""), 64, (6, 1, 79))
+fn repeated_parts(rt: HostRuntime) {
+    for (before, middle, behind, times, number, line, column) in REPEATED.iter() {
+        let found = answer_for(rt.alloc(), before, middle, behind, *times);
+        let is_right = found == Some((*number, *line, *column));
+        assert!(rt; is_right, "{before}{middle}..{behind} {times}");
+    }
 }

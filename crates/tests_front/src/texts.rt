@@ -132,3 +132,45 @@ pub static REFUSED: [Refused; 64] = [
     (b"void f(void){f()+g(h(1),2)[0;}", 5, 1, 27),
     (b"void f(void){((int))1;}", 5, 1, 20),
 ];
+
+/// A text of `before`, `middle` so many times, and `behind`: the three parts, how often, and the number, the line and the
+/// column of its fault, zeros where it is a unit.
+pub type Repeated = (
+    &'static str,
+    &'static str,
+    &'static str,
+    usize,
+    u32,
+    usize,
+    usize,
+);
+
+/// Texts at the limits on the tokens of a full expression and on the levels of statements.
+pub static REPEATED: [Repeated; 23] = [
+    // tokens of an action
+    ("int main(void){-1", "+1", ";}", 255, 0, 0, 0),
+    ("int main(void){1", "+1", ";}", 256, 6, 1, 528),
+    ("int main(void){-1", "+1", "+1;}", 255, 6, 1, 528),
+    ("int main(void){-1", "+1", ");}", 255, 5, 1, 528),
+    ("int main(void){a=-1", "+1", ";}", 254, 0, 0, 0),
+    ("int main(void){a=-1", "+1", ";}", 255, 6, 1, 528),
+    ("int main(void){++a[-1", "+1", "];}", 253, 0, 0, 0),
+    ("int main(void){a[-1", "+1", "]++;}", 254, 6, 1, 528),
+    // tokens of other expressions
+    ("int main(void){if(-1", "+1", ");}", 255, 0, 0, 0),
+    ("int a[-1", "+1", "];", 255, 0, 0, 0),
+    ("int a[-1", "+1", "+1];", 255, 6, 1, 519),
+    ("int x[]={-1", "+1", ",2,};", 255, 0, 0, 0),
+    ("int main(void){f(", "1,", "1);}", 254, 0, 0, 0),
+    ("int main(void){f(", "1,", "1);}", 255, 6, 1, 528),
+    // levels of statements
+    ("int main(void){", "if(1)", ";}", 62, 0, 0, 0),
+    ("int main(void){", "if(1)", ";}", 63, 6, 1, 331),
+    ("int main(void){", "if(1);else ", ";}", 62, 0, 0, 0),
+    ("int main(void){", "if(1);else ", ";}", 63, 6, 1, 703),
+    ("int main(void){", "{", "for(int i;;);", 62, 6, 1, 82),
+    ("int main(void){", "{", "for(i=1;;);", 62, 6, 1, 88),
+    ("int main(void){", "do ", ";", 63, 6, 1, 205),
+    ("int main(void){", "{", "else", 63, 5, 1, 79),
+    ("int main(void){", "{", "", 64, 6, 1, 79),
+];

@@ -1,77 +1,99 @@
 // The tokens of a text.
 
 use super::vectors::{VECTORS_1, VECTORS_2, VECTORS_3, VECTORS_4, VECTORS_5, Vector};
-use cc_syntax::{Place, Token, TokenKind, tokens};
+use cc_syntax::{Place, SyntaxFault, Token, TokenKind, tokens};
 use std::alloc::Global;
+use std::fmt::{self, Write};
 use std::process::Abort;
-use std::test::Fail;
 
-/// A token's kind, where a keyword or a punctuator is the one that these bytes spell.
-fn kind_shown(alloc: Global, kind: TokenKind, bytes: &[u8]) -> Result<String, Fail> {
+/// What is still to be written of a line that is wanted. A piece that it does not begin with is refused.
+#[derive(Drop)]
+struct Wanted<'a> {
+    left: &'a [u8],
+}
+
+impl Write for Wanted<'_> {
+    fn write_str(&mut self, piece: &str) -> fmt::Result {
+        let bytes = piece.as_bytes();
+        if !self.left.starts_with(bytes) {
+            return Err(fmt::Error);
+        }
+        self.left = &self.left[bytes.len()..];
+        Ok(())
+    }
+}
+
+/// The name of a token's kind, where a keyword or a punctuator is the one that these bytes spell.
+fn kind_name(kind: TokenKind, bytes: &[u8]) -> &'static str {
     match kind {
-        TokenKind::Identifier => Ok(String::from_str(alloc, "Identifier")?),
-        TokenKind::Keyword(word) if word.bytes() == bytes => {
-            Ok(String::from_str(alloc, "Keyword")?)
-        }
-        TokenKind::Punctuator(mark) if mark.bytes() == bytes => {
-            Ok(String::from_str(alloc, "Punctuator")?)
-        }
-        TokenKind::Number(scalar, word) => Ok(format!(in alloc; "Number({scalar:?}, {word})")?),
-        TokenKind::Keyword(_) | TokenKind::Punctuator(_) => {
-            Ok(String::from_str(alloc, "another")?)
-        }
-    }
-}
-
-/// The tokens as text, as `tokens 1; 0 4 Keyword`, or the fault, as `fault BadByte 1 4`.
-fn shown(alloc: Global, text: &[u8]) -> Result<String, Fail> {
-    match tokens(alloc, text) {
-        Ok(found) => {
-            let mut line = format!(in alloc; "tokens {}", found.len())?;
-            for Token { kind, from, to } in &found {
-                let bytes = text.get(*from..*to).ok_or("a token's bytes")?;
-                let kind = kind_shown(alloc, *kind, bytes)?;
-                let one = format!(in alloc; "; {from} {to} {kind}")?;
-                line.push_str(one.as_str())?;
-            }
-            Ok(line)
-        }
-        Err(fault) => match fault.place() {
-            Some(Place { line, column }) => Ok(format!(in alloc; "fault {fault} {line} {column}")?),
-            None => Ok(format!(in alloc; "fault {fault}")?),
+        TokenKind::Identifier => "Identifier",
+        TokenKind::Keyword(word) => if word.bytes() == bytes {
+            "Keyword"
+        } else {
+            "another"
         },
+        TokenKind::Punctuator(mark) => if mark.bytes() == bytes {
+            "Punctuator"
+        } else {
+            "another"
+        },
+        TokenKind::Number(_, _) => "Number",
     }
 }
 
-fn all_hold(rt: &(impl AllocGlobal + Abort), vectors: &[Vector]) -> Result<(), Fail> {
-    for (text, line) in vectors {
-        let found = shown(rt.alloc(), text)?;
-        assert!(rt; found.as_str() == *line, "wants {line}");
+/// A token, as `; 0 4 Keyword`, or `; 5 7 Number(Int, 12)`.
+fn show_token(wanted: &mut Wanted<'_>, text: &[u8], token: Token) -> fmt::Result {
+    let Token { kind, from, to } = token;
+    let Some(bytes) = text.get(from..to) else {
+        return Err(fmt::Error);
+    };
+    write!(wanted, "; {from} {to} {}", kind_name(kind, bytes))?;
+    match kind {
+        TokenKind::Number(scalar, word) => write!(wanted, "({scalar:?}, {word})"),
+        _ => Ok(()),
+    }
+}
+
+/// The tokens, as `tokens 1; 0 4 Keyword`.
+fn show_tokens(wanted: &mut Wanted<'_>, text: &[u8], found: &[Token]) -> fmt::Result {
+    write!(wanted, "tokens {}", found.len())?;
+    for token in found {
+        show_token(wanted, text, *token)?;
     }
     Ok(())
 }
 
-#[test]
-fn vectors_one(rt: HostRuntime) -> Result<(), Fail> {
-    all_hold(&rt, VECTORS_1.as_slice())
+/// The fault, as `fault BadByte 1 4`.
+fn show_fault(wanted: &mut Wanted<'_>, fault: &SyntaxFault) -> fmt::Result {
+    match fault.place() {
+        Some(Place { line, column }) => write!(wanted, "fault {fault} {line} {column}"),
+        None => write!(wanted, "fault {fault}"),
+    }
+}
+
+/// Whether the line says what the text's tokens are.
+fn holds(alloc: Global, text: &[u8], line: &str) -> bool {
+    let mut wanted = Wanted {
+        left: line.as_bytes(),
+    };
+    let shown = match tokens(alloc, text) {
+        Ok(found) => show_tokens(&mut wanted, text, found.as_slice()),
+        Err(fault) => show_fault(&mut wanted, &fault),
+    };
+    shown.is_ok() && wanted.left.is_empty()
+}
+
+fn all_hold(rt: &(impl AllocGlobal + Abort), vectors: &[Vector]) {
+    for (text, line) in vectors {
+        assert!(rt; holds(rt.alloc(), text, line), "wants {line}");
+    }
 }
 
 #[test]
-fn vectors_two(rt: HostRuntime) -> Result<(), Fail> {
-    all_hold(&rt, VECTORS_2.as_slice())
-}
-
-#[test]
-fn vectors_three(rt: HostRuntime) -> Result<(), Fail> {
-    all_hold(&rt, VECTORS_3.as_slice())
-}
-
-#[test]
-fn vectors_four(rt: HostRuntime) -> Result<(), Fail> {
-    all_hold(&rt, VECTORS_4.as_slice())
-}
-
-#[test]
-fn vectors_five(rt: HostRuntime) -> Result<(), Fail> {
-    all_hold(&rt, VECTORS_5.as_slice())
+fn vectors(rt: HostRuntime) {
+    all_hold(&rt, VECTORS_1.as_slice());
+    all_hold(&rt, VECTORS_2.as_slice());
+    all_hold(&rt, VECTORS_3.as_slice());
+    all_hold(&rt, VECTORS_4.as_slice());
+    all_hold(&rt, VECTORS_5.as_slice());
 }

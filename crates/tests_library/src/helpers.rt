@@ -1,19 +1,20 @@
 // Units, names and disks, and what a library holds.
 use cc_disk::{Disk, MemoryDisk};
 use cc_journal::format;
-use cc_library::{Command, Library, LibraryFault, Name, SharedUnit};
+use cc_library::{Command, Edit, Library, LibraryFault, Name, SharedUnit};
 use cc_link::{Source, StoredUnit};
 use cc_rv32::image::{Code, Globals, Image};
 use std::alloc::Global;
 use std::sync::Arc;
 use std::test::Fail;
 
-/// What is done to a library: to the name of one letter, and with the unit of one word.
+/// What is done to a library: to the name of one letter, and with the unit of one word; or its journal is compacted.
 #[derive(Clone, Copy)]
 pub enum Step {
     Add(u8, u32),
     Replace(u8, u32),
     Withdraw(u8),
+    Compact,
 }
 
 /// The unit of that source, with this one code word and no globals.
@@ -44,28 +45,30 @@ pub fn name(letter: u8) -> Result<Name, Fail> {
     Ok(Name::new(&[letter])?)
 }
 
-/// The command of a step.
-fn command(alloc: Global, step: Step) -> Result<Command, Fail> {
-    match step {
-        Step::Add(letter, word) => Ok(Command::Add(
+// The edit of a step.
+fn edit(alloc: Global, step: Step) -> Result<Edit, Fail> {
+    let command = match step {
+        Step::Add(letter, word) => Command::Add(
             name(letter)?,
             SharedUnit::new(word_unit(alloc, word)?),
-        )),
-        Step::Replace(letter, word) => Ok(Command::Replace(
+        ),
+        Step::Replace(letter, word) => Command::Replace(
             name(letter)?,
             SharedUnit::new(word_unit(alloc, word)?),
-        )),
-        Step::Withdraw(letter) => Ok(Command::Withdraw(name(letter)?)),
-    }
+        ),
+        Step::Withdraw(letter) => Command::Withdraw(name(letter)?),
+        Step::Compact => return Ok(Edit::Compact),
+    };
+    Ok(Edit::Change(command))
 }
 
-/// The commands of these steps.
-pub fn commands(alloc: Global, steps: &[Step]) -> Result<Vec<Command>, Fail> {
-    let mut commands = Vec::new(alloc);
+/// The edits of these steps.
+pub fn edits(alloc: Global, steps: &[Step]) -> Result<Vec<Edit>, Fail> {
+    let mut edits = Vec::new(alloc);
     for step in steps {
-        commands.push(command(alloc, *step)?)?;
+        edits.push(edit(alloc, *step)?)?;
     }
-    Ok(commands)
+    Ok(edits)
 }
 
 // The number of an answer, 0 for Ok.
@@ -88,6 +91,7 @@ pub fn does<D: Disk>(alloc: Global, library: &mut Library<D>, step: Step) -> Res
             Ok(number(library.replace(alloc, name(letter)?, unit)))
         }
         Step::Withdraw(letter) => Ok(number(library.withdraw(alloc, name(letter)?))),
+        Step::Compact => Ok(number(library.compact(alloc))),
     }
 }
 

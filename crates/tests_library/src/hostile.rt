@@ -73,16 +73,18 @@ fn each_closed_gate_is_an_empty_library(rt: HostRuntime) -> Result<(), Fail> {
     Ok(())
 }
 
-// The bytes of a disk with two records.
-fn two_records(alloc: Global) -> Result<Vec<u8>, Fail> {
+// The bytes of a disk with three records, in area B where the empty library was compacted first.
+fn three_records(alloc: Global, moved: bool) -> Result<Vec<u8>, Fail> {
     let mut library: Library<MemoryDisk> = opened(alloc, formatted(alloc, 64)?)?;
-    if steps_done(
-        alloc,
-        &mut library,
-        &[Step::Add(b'a', 1), Step::Add(b'b', 2)],
-    )? != 2
-    {
-        return Err(Fail::from("not added"));
+    let steps = [
+        Step::Compact,
+        Step::Add(b'a', 1),
+        Step::Add(b'b', 2),
+        Step::Withdraw(b'b'),
+    ];
+    let steps = if moved { &steps } else { &steps[1..] };
+    if steps_done(alloc, &mut library, steps)? != steps.len() {
+        return Err(Fail::from("not done"));
     }
     bytes_of(alloc, &mut library.into_disk())
 }
@@ -90,24 +92,30 @@ fn two_records(alloc: Global) -> Result<Vec<u8>, Fail> {
 #[test]
 fn a_failure_hands_the_disk_back(rt: HostRuntime) -> Result<(), Fail> {
     let alloc = rt.alloc();
-    let fuse = FuseDisk::new(disk_of(alloc, &two_records(alloc)?)?, 0, FuseMode::Once);
+    let fuse = FuseDisk::new(
+        disk_of(alloc, &three_records(alloc, false)?)?,
+        0,
+        FuseMode::Once,
+    );
     let Err((fault, fuse)) = Library::open(alloc, fuse) else {
         panic!(rt; "opened");
     };
-    assert!(rt; fault.number() == 35 && recovers(alloc, fuse, (Some(1), Some(2)))?);
+    assert!(rt; fault.number() == 35 && recovers(alloc, fuse, (Some(1), None))?);
     Ok(())
 }
 
 #[test]
 fn every_prefix_is_refused(rt: HostRuntime) -> Result<(), Fail> {
     let alloc = rt.alloc();
-    let bytes = two_records(alloc)?;
-    assert!(rt; bytes.len() == SIZE && refusal(alloc, disk_of(alloc, &bytes)?) == 0);
-    for length in 0..bytes.len() {
-        assert!(rt;
-            refusal(alloc, disk_of(alloc, &bytes[..length])?) == 38,
-            "{length} bytes"
-        );
+    for moved in [false, true] {
+        let bytes = three_records(alloc, moved)?;
+        assert!(rt; bytes.len() == SIZE && refusal(alloc, disk_of(alloc, &bytes)?) == 0);
+        for length in 0..bytes.len() {
+            assert!(rt;
+                refusal(alloc, disk_of(alloc, &bytes[..length])?) == 38,
+                "{length} bytes"
+            );
+        }
     }
     Ok(())
 }
@@ -124,14 +132,16 @@ fn refusal_with(alloc: Global, bytes: &[u8], offset: usize, byte: u8) -> Result<
 #[test]
 fn every_change_of_a_byte_is_opened_or_refused(rt: HostRuntime) -> Result<(), Fail> {
     let alloc = rt.alloc();
-    let bytes = two_records(alloc)?;
-    for offset in 0..bytes.len() {
-        for byte in 0..=255u8 {
-            let number = refusal_with(alloc, &bytes, offset, byte)?;
-            assert!(rt;
-                number == 0 || number == 37 || number == 38,
-                "byte {offset} is {byte}"
-            );
+    for moved in [false, true] {
+        let bytes = three_records(alloc, moved)?;
+        for offset in 0..bytes.len() {
+            for byte in 0..=255u8 {
+                let number = refusal_with(alloc, &bytes, offset, byte)?;
+                assert!(rt;
+                    number == 0 || number == 37 || number == 38,
+                    "byte {offset} is {byte}, moved {moved}"
+                );
+            }
         }
     }
     Ok(())

@@ -1,6 +1,6 @@
 // The worked rows of the library.
 use crate::helpers::{
-    Held, Step, commands, does, formatted, opened, recovers, steps_done, word_unit,
+    Held, Step, bytes_of, does, edits, formatted, holds, opened, recovers, steps_done, word_unit,
 };
 use cc_disk::{Disk, FuseDisk, FuseMode, MemoryDisk};
 use cc_library::{Library, Name};
@@ -56,7 +56,7 @@ fn a_full_area(rt: HostRuntime) -> Result<(), Fail> {
 
 // The numbers of a run of steps on a new library, where it went to its end.
 fn run_numbers(alloc: Global, steps: &[Step]) -> Result<Vec<u32>, Fail> {
-    let edits = commands(alloc, steps)?;
+    let edits = edits(alloc, steps)?;
     let library = opened(alloc, formatted(alloc, 128)?)?;
     let (left, numbers) = library.run(alloc, edits);
     match left {
@@ -78,8 +78,9 @@ fn the_same_through_run(rt: HostRuntime) -> Result<(), Fail> {
         Step::Add(b'a', 2),
         Step::Withdraw(b'b'),
         Step::Replace(b'a', 3),
+        Step::Compact,
     ];
-    assert!(rt; run_numbers(rt.alloc(), &steps)?.as_slice() == [0, 31, 32, 0].as_slice());
+    assert!(rt; run_numbers(rt.alloc(), &steps)?.as_slice() == [0, 31, 32, 0, 0].as_slice());
     Ok(())
 }
 
@@ -157,5 +158,71 @@ fn a_torn_body_counts_for_nothing(rt: HostRuntime) -> Result<(), Fail> {
         }
     }
     assert!(rt; recovers(alloc, torn(alloc, 0, &choice)?, (Some(1), None))?);
+    Ok(())
+}
+
+// The row of `compact` over a fuse that passes two calls: the area byte is torn.
+#[test]
+fn a_torn_area_byte_keeps_the_map(rt: HostRuntime) -> Result<(), Fail> {
+    let alloc = rt.alloc();
+    let mut library = with_a(alloc, OPENING.saturating_add(2))?;
+    assert!(rt; does(alloc, &mut library, Step::Compact)? == 35);
+    let disk = library.into_disk().into_disk();
+    for byte in 0..=255u8 {
+        let crashed = disk.crash(alloc, &[byte])?;
+        assert!(rt;
+            recovers(alloc, crashed, (Some(1), None))?,
+            "area byte {byte}"
+        );
+    }
+    Ok(())
+}
+
+#[test]
+fn a_closed_library_still_answers_from_its_map(rt: HostRuntime) -> Result<(), Fail> {
+    let alloc = rt.alloc();
+    let mut library = with_a(alloc, OPENING.saturating_add(2))?;
+    assert!(rt; does(alloc, &mut library, Step::Compact)? == 35);
+    for step in [
+        Step::Compact,
+        Step::Add(b'b', 2),
+        Step::Replace(b'a', 2),
+        Step::Withdraw(b'a'),
+    ] {
+        assert!(rt; does(alloc, &mut library, step)? == 36);
+    }
+    assert!(rt; holds(alloc, &library, (Some(1), None))?);
+    // No call but the one that met the fuse reached the device.
+    assert!(rt; library.into_disk().failures() == 1);
+    Ok(())
+}
+
+#[test]
+fn compact_writes_one_add_per_name(rt: HostRuntime) -> Result<(), Fail> {
+    let alloc = rt.alloc();
+    let mut library = opened(alloc, formatted(alloc, 128)?)?;
+    let steps = [
+        Step::Add(b'b', 2),
+        Step::Add(b'a', 1),
+        Step::Withdraw(b'b'),
+        Step::Add(b'b', 4),
+        Step::Compact,
+    ];
+    assert!(rt; steps_done(alloc, &mut library, &steps)? == 5);
+    let bytes = bytes_of(alloc, &mut library.into_disk())?;
+    // Area B begins at 144: an Add of `a` and one of `b`, each of 25 bytes, and a closed gate.
+    for (offset, byte) in [
+        (0usize, 1u8),
+        (144, 0xa5),
+        (149, 1),
+        (150, 1),
+        (152, b'a'),
+        (169, 0xa5),
+        (175, 1),
+        (177, b'b'),
+        (194, 0),
+    ] {
+        assert!(rt; bytes.get(offset).copied() == Some(byte), "byte {offset}");
+    }
     Ok(())
 }

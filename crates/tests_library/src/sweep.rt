@@ -1,17 +1,19 @@
-// Every point of failure of add, add, replace, withdraw, in each mode, and a crash after it; and the same through `run`.
-use crate::helpers::{Held, Step, commands, crash_leaves, formatted, opened, refusal, steps_done};
+// Every point of failure of add, add, replace, compact, withdraw, in each mode, and a crash after it; and the same through
+// `run`.
+use crate::helpers::{Held, Step, crash_leaves, edits, formatted, opened, refusal, steps_done};
 use cc_disk::{FuseDisk, FuseMode, MemoryDisk};
 use cc_library::Library;
 use std::alloc::Global;
 use std::test::Fail;
 
-// Three calls of opening an empty library, four of each change.
-const CALLS: u64 = 19;
+// Three calls of opening an empty library, four of each change and of `compact`.
+const CALLS: u64 = 23;
 
-const STEPS: [Step; 4] = [
+const STEPS: [Step; 5] = [
     Step::Add(b'a', 1),
     Step::Add(b'b', 2),
     Step::Replace(b'a', 3),
+    Step::Compact,
     Step::Withdraw(b'b'),
 ];
 
@@ -21,7 +23,7 @@ fn map_after(done: usize) -> Held {
         0 => (None, None),
         1 => (Some(1), None),
         2 => (Some(1), Some(2)),
-        3 => (Some(3), Some(2)),
+        3 | 4 => (Some(3), Some(2)),
         _ => (Some(3), None),
     }
 }
@@ -61,7 +63,7 @@ fn every_failure_and_a_crash(rt: HostRuntime) -> Result<(), Fail> {
     for passes in 0..CALLS + 1 {
         for mode in [FuseMode::Once, FuseMode::Before, FuseMode::Within] {
             let (disk, done) = changed(alloc, fused(alloc, passes, mode)?)?;
-            let right = (done == 4 || passes < CALLS) && is_right(alloc, &disk, done)?;
+            let right = (done == 5 || passes < CALLS) && is_right(alloc, &disk, done)?;
             assert!(rt; right, "{passes} calls, {mode:?}");
         }
     }
@@ -79,7 +81,7 @@ struct Ran {
 }
 
 fn run_over(alloc: Global, passes: u64, mode: FuseMode) -> Result<Ran, Fail> {
-    let edits = commands(alloc, &STEPS)?;
+    let edits = edits(alloc, &STEPS)?;
     let library = opened(alloc, fused(alloc, passes, mode)?)?;
     let (left, numbers) = library.run(alloc, edits);
     let count = numbers.len();
@@ -101,7 +103,7 @@ fn run_over(alloc: Global, passes: u64, mode: FuseMode) -> Result<Ran, Fail> {
 fn a_run_goes_on_after_one_failure(rt: HostRuntime) -> Result<(), Fail> {
     for passes in 3..CALLS + 1 {
         let ran = run_over(rt.alloc(), passes, FuseMode::Once)?;
-        let right = ran.stopped == 0 && ran.count == 4 && ran.failed == usize::from(passes < CALLS);
+        let right = ran.stopped == 0 && ran.count == 5 && ran.failed == usize::from(passes < CALLS);
         assert!(rt;
             right && refusal(rt.alloc(), ran.disk) == 0,
             "{passes} calls"

@@ -1,124 +1,160 @@
-//! Lists words from outside and compares their lines.
+//! Lists words from outside and compares their lines; decodes and encodes them again.
 use cc_rv32::decode::decode;
 use cc_rv32::encode::encode;
 use cc_rv32::image::{Code, Globals, Image, MOST_CODE};
 use cc_rv32::listing::list;
 use std::alloc::Global;
-use std::process::Abort;
-use std::test::Fail;
 
-// One word of each kind of operand, and one that is no instruction.
-#[test]
-fn lists_each_kind_of_word(rt: HostRuntime) -> Result<(), Fail> {
-    for (word, text) in [
-        (0xfff00093, "addi x1, x0, -1"),
-        (0x0000006f, "jal x0, 0"),
-        (0x002081b3, "add x3, x1, x2"),
-        (0x022081b3, "mul x3, x1, x2"),
-        (0x00812283, "lw x5, 8(x2)"),
-        (0x00000000, ".word"),
-        (0x00512423, "sw x5, 8(x2)"),
-        (0xfe208ee3, "beq x1, x2, -4"),
-        (0x123452b7, "lui x5, 74565"),
-        (0x00c000ef, "jal x1, 12"),
-        (0x05d00893, "addi x17, x0, 93"),
-        (0x00000073, "ecall"),
-    ] {
-        check_line(&rt, rt.alloc(), word, text)?;
+// Words, and their text: one word of each kind of operand and one that is no instruction, and each instruction at least once,
+// with its operands at the ends of their ranges. The words and their text are as GNU as and LLVM's assembler have them.
+static LINES: [(u32, &str); 68] = [
+    // one of each kind
+    (0xfff00093, "addi x1, x0, -1"),
+    (0x0000006f, "jal x0, 0"),
+    (0x002081b3, "add x3, x1, x2"),
+    (0x022081b3, "mul x3, x1, x2"),
+    (0x00812283, "lw x5, 8(x2)"),
+    (0x00000000, ".word"),
+    (0x00512423, "sw x5, 8(x2)"),
+    (0xfe208ee3, "beq x1, x2, -4"),
+    (0x123452b7, "lui x5, 74565"),
+    (0x00c000ef, "jal x1, 12"),
+    (0x05d00893, "addi x17, x0, 93"),
+    (0x00000073, "ecall"),
+    // the ends of operands
+    (0x41ff5f93, "srai x31, x30, 31"),
+    (0x8020f063, "bgeu x1, x2, -4096"),
+    (0x7e20cfe3, "blt x1, x2, 4094"),
+    (0x800000ef, "jal x1, -1048576"),
+    (0x7ffff06f, "jal x0, 1048574"),
+    (0x800280e7, "jalr x1, -2048(x5)"),
+    (0xfffff3b7, "lui x7, 1048575"),
+    (0x00001397, "auipc x7, 1"),
+    (0x7ff44483, "lbu x9, 2047(x8)"),
+    (0xfe941fa3, "sh x9, -1(x8)"),
+    (0x025221b3, "mulhsu x3, x4, x5"),
+    // each instruction
+    (0x41df0fb3, "sub x31, x30, x29"),
+    (0x00629233, "sll x4, x5, x6"),
+    (0x009423b3, "slt x7, x8, x9"),
+    (0x00c5b533, "sltu x10, x11, x12"),
+    (0x00f746b3, "xor x13, x14, x15"),
+    (0x0128d833, "srl x16, x17, x18"),
+    (0x415a59b3, "sra x19, x20, x21"),
+    (0x018beb33, "or x22, x23, x24"),
+    (0x01bd7cb3, "and x25, x26, x27"),
+    (0x03ee9e33, "mulh x28, x29, x30"),
+    (0x02102fb3, "mulhsu x31, x0, x1"),
+    (0x0241b133, "mulhu x2, x3, x4"),
+    (0x027342b3, "div x5, x6, x7"),
+    (0x02a4d433, "divu x8, x9, x10"),
+    (0x02d665b3, "rem x11, x12, x13"),
+    (0x0307f733, "remu x14, x15, x16"),
+    (0x7ff1a113, "slti x2, x3, 2047"),
+    (0x8002b213, "sltiu x4, x5, -2048"),
+    (0x0643c313, "xori x6, x7, 100"),
+    (0x0014e413, "ori x8, x9, 1"),
+    (0x0ff5f513, "andi x10, x11, 255"),
+    (0x00069613, "slli x12, x13, 0"),
+    (0x01f7d713, "srli x14, x15, 31"),
+    (0x4078d813, "srai x16, x17, 7"),
+    (0xfff98903, "lb x18, -1(x19)"),
+    (0x002a9a03, "lh x20, 2(x21)"),
+    (0x800bab03, "lw x22, -2048(x23)"),
+    (0x7ffccc03, "lbu x24, 2047(x25)"),
+    (0x000ddd03, "lhu x26, 0(x27)"),
+    (0xffce8fa3, "sb x28, -1(x29)"),
+    (0x01ef9523, "sh x30, 10(x31)"),
+    (0x80112023, "sw x1, -2048(x2)"),
+    (0x7e419fe3, "bne x3, x4, 4094"),
+    (0x8062c063, "blt x5, x6, -4096"),
+    (0x0083d163, "bge x7, x8, 2"),
+    (0xfea4efe3, "bltu x9, x10, -2"),
+    (0x3ec5f463, "bgeu x11, x12, 1000"),
+    (0xfffff337, "lui x6, 1048575"),
+    (0x00000397, "auipc x7, 0"),
+    (0x80000417, "auipc x8, 524288"),
+    (0x80000fef, "jal x31, -1048576"),
+    (0x7fffff6f, "jal x30, 1048574"),
+    (0x00008067, "jalr x0, 0(x1)"),
+    (0x800100e7, "jalr x1, -2048(x2)"),
+    (0x7ff201e7, "jalr x3, 2047(x4)"),
+];
+
+/// The image of these words, where they are code and globals.
+pub fn image_of(code: Vec<u32>, globals: Vec<u32>) -> Option<Image> {
+    let globals = Globals::new(globals).ok()?;
+    match Code::new(code) {
+        Ok(code) => Some(Image { code, globals }),
+        Err(words) => {
+            drop(globals);
+            drop(words);
+            None
+        }
     }
-    Ok(())
 }
 
-// Each instruction at least once, with its operands at the ends of their ranges; the words and their text as LLVM's
-// assembler prints them.
-#[test]
-fn lists_each_instruction(rt: HostRuntime) -> Result<(), Fail> {
-    for (word, text) in [
-        (0x41df0fb3, "sub x31, x30, x29"),
-        (0x00629233, "sll x4, x5, x6"),
-        (0x009423b3, "slt x7, x8, x9"),
-        (0x00c5b533, "sltu x10, x11, x12"),
-        (0x00f746b3, "xor x13, x14, x15"),
-        (0x0128d833, "srl x16, x17, x18"),
-        (0x415a59b3, "sra x19, x20, x21"),
-        (0x018beb33, "or x22, x23, x24"),
-        (0x01bd7cb3, "and x25, x26, x27"),
-        (0x03ee9e33, "mulh x28, x29, x30"),
-        (0x02102fb3, "mulhsu x31, x0, x1"),
-        (0x0241b133, "mulhu x2, x3, x4"),
-        (0x027342b3, "div x5, x6, x7"),
-        (0x02a4d433, "divu x8, x9, x10"),
-        (0x02d665b3, "rem x11, x12, x13"),
-        (0x0307f733, "remu x14, x15, x16"),
-        (0x7ff1a113, "slti x2, x3, 2047"),
-        (0x8002b213, "sltiu x4, x5, -2048"),
-        (0x0643c313, "xori x6, x7, 100"),
-        (0x0014e413, "ori x8, x9, 1"),
-        (0x0ff5f513, "andi x10, x11, 255"),
-        (0x00069613, "slli x12, x13, 0"),
-        (0x01f7d713, "srli x14, x15, 31"),
-        (0x4078d813, "srai x16, x17, 7"),
-        (0xfff98903, "lb x18, -1(x19)"),
-        (0x002a9a03, "lh x20, 2(x21)"),
-        (0x800bab03, "lw x22, -2048(x23)"),
-        (0x7ffccc03, "lbu x24, 2047(x25)"),
-        (0x000ddd03, "lhu x26, 0(x27)"),
-        (0xffce8fa3, "sb x28, -1(x29)"),
-        (0x01ef9523, "sh x30, 10(x31)"),
-        (0x80112023, "sw x1, -2048(x2)"),
-        (0x7e419fe3, "bne x3, x4, 4094"),
-        (0x8062c063, "blt x5, x6, -4096"),
-        (0x0083d163, "bge x7, x8, 2"),
-        (0xfea4efe3, "bltu x9, x10, -2"),
-        (0x3ec5f463, "bgeu x11, x12, 1000"),
-        (0xfffff337, "lui x6, 1048575"),
-        (0x00000397, "auipc x7, 0"),
-        (0x80000417, "auipc x8, 524288"),
-        (0x80000fef, "jal x31, -1048576"),
-        (0x7fffff6f, "jal x30, 1048574"),
-        (0x00008067, "jalr x0, 0(x1)"),
-        (0x800100e7, "jalr x1, -2048(x2)"),
-        (0x7ff201e7, "jalr x3, 2047(x4)"),
-    ] {
-        check_line(&rt, rt.alloc(), word, text)?;
+/// The listing of these words of code and one word of globals, which it does not show.
+fn listing(alloc: Global, code: Vec<u32>) -> Option<Vec<u8>> {
+    let Ok(globals) = vec![in alloc; 0x00000073u32] else {
+        return None;
+    };
+    let image = image_of(code, globals)?;
+    let listed = list(alloc, &image);
+    drop(image);
+    listed.ok()
+}
+
+/// Whether the listing of these words of code is this text.
+fn lists(alloc: Global, code: &[u32], text: &[u8]) -> bool {
+    let Ok(code) = Vec::from_slice(alloc, code) else {
+        return false;
+    };
+    match listing(alloc, code) {
+        Some(lines) => lines.as_slice() == text,
+        None => false,
     }
-    Ok(())
+}
+
+/// Whether the word's line has this text, and whether it is encoded as it was, where it is an instruction.
+fn is_line(alloc: Global, word: u32, text: &str) -> bool {
+    let again = decode(word).map(encode);
+    let known = if text == ".word" { None } else { Some(word) };
+    let Ok(line) = format!(in alloc; "00010000 {word:08x} {text}\n") else {
+        return false;
+    };
+    again == known && lists(alloc, [word].as_slice(), line.as_bytes())
 }
 
 #[test]
-fn lists_words_in_order_of_address(rt: HostRuntime) -> Result<(), Fail> {
-    let code = vec![in rt.alloc(); 0xfff00093u32, 0]?;
-    let globals = vec![in rt.alloc(); 0x00000073u32]?;
-    let text = list(rt.alloc(), &image_of(code, globals)?)?;
+fn lists_each_word(rt: HostRuntime) {
+    for (word, text) in LINES.iter() {
+        assert!(rt; is_line(rt.alloc(), *word, text), "at {word:08x}");
+    }
+}
+
+#[test]
+fn lists_words_in_order_of_address(rt: HostRuntime) {
+    let code = [0xfff00093u32, 0];
     let lines = "00010000 fff00093 addi x1, x0, -1\n00010004 00000000 .word\n";
-    assert_eq!(rt; text.as_slice(), lines.as_bytes());
-    Ok(())
+    assert!(rt; lists(rt.alloc(), code.as_slice(), lines.as_bytes()));
 }
 
 // The last word of the longest code stands at 0x0008fffc.
-#[test]
-fn lists_the_longest_code(rt: HostRuntime) -> Result<(), Fail> {
-    let code = vec![in rt.alloc(); 0x00000073u32; MOST_CODE]?;
-    let text = list(rt.alloc(), &image_of(code, Vec::new(rt.alloc()))?)?;
+fn lists_the_last(alloc: Global) -> bool {
+    let Ok(code) = vec![in alloc; 0x00000073u32; MOST_CODE] else {
+        return false;
+    };
     let last = "0008fffc 00000073 ecall\n";
-    assert_eq!(rt; text.len(), MOST_CODE * last.len());
-    assert!(rt; text.as_slice().ends_with(last.as_bytes()));
-    Ok(())
+    match listing(alloc, code) {
+        Some(text) => {
+            text.len() == MOST_CODE * last.len() && text.as_slice().ends_with(last.as_bytes())
+        }
+        None => false,
+    }
 }
 
-fn check_line(rt: &impl Abort, alloc: Global, word: u32, text: &str) -> Result<(), Fail> {
-    let again = decode(word).map(encode);
-    let known = if text == ".word" { None } else { Some(word) };
-    assert_eq!(rt; again, known, "at {word:08x}");
-    let code = vec![in alloc; word]?;
-    let listed = list(alloc, &image_of(code, Vec::new(alloc))?)?;
-    let line = format!(in alloc; "00010000 {word:08x} {text}\n")?;
-    assert_eq!(rt; listed.as_slice(), line.as_bytes(), "at {word:08x}");
-    Ok(())
-}
-
-fn image_of(code: Vec<u32>, globals: Vec<u32>) -> Result<Image, Fail> {
-    let code = Code::new(code).ok().ok_or("too much code")?;
-    let globals = Globals::new(globals).ok().ok_or("too many globals")?;
-    Ok(Image { code, globals })
+#[test]
+fn lists_the_longest_code(rt: HostRuntime) {
+    assert!(rt; lists_the_last(rt.alloc()));
 }

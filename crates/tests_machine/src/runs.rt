@@ -1,5 +1,7 @@
+use super::listing_tests::image_of;
 use cc_rv32::encode::encode;
-use cc_rv32::image::{Code, Globals, Image};
+use cc_rv32::fault::MachineFault;
+use cc_rv32::image::Image;
 use cc_rv32::instr::{
     BranchOperation, ImmediateOperation, Instr, LoadOperation, Operation, ShiftOperation,
     StoreOperation,
@@ -8,8 +10,6 @@ use cc_rv32::machine::Machine;
 use cc_rv32::operand::{BranchOffset, Immediate, Register, ShiftCount};
 use cc_rv32::outcome::MachineOutcome;
 use std::alloc::Global;
-use std::process::Abort;
-use std::test::Fail;
 
 const ECALL: u32 = 0x0000_0073;
 
@@ -28,7 +28,7 @@ const TO_X5: u32 = 0x0005_0293;
 const TO_X6: u32 = 0x0005_0313;
 
 // What each operation gives on two words (rv32ui and rv32um).
-const OPERATIONS: [(Operation, u32, u32, u32); 92] = [
+static OPERATIONS: [(Operation, u32, u32, u32); 92] = [
     (Operation::Add, 0x0, 0x0, 0x0),
     (Operation::Add, 0x1, 0x1, 0x2),
     (Operation::Add, 0x7fffffff, 0x1, 0x80000000),
@@ -124,7 +124,7 @@ const OPERATIONS: [(Operation, u32, u32, u32); 92] = [
 ];
 
 // The same with an immediate, as the word that it stands for.
-const IMMEDIATES: [(ImmediateOperation, u32, u32, u32); 9] = [
+static IMMEDIATES: [(ImmediateOperation, u32, u32, u32); 9] = [
     (ImmediateOperation::Addi, 0x7fffffff, 0x7ff, 0x800007fe),
     (ImmediateOperation::Addi, 0x80000000, 0xfffff800, 0x7ffff800),
     (ImmediateOperation::Slti, 0xffffffff, 1, 1),
@@ -137,7 +137,7 @@ const IMMEDIATES: [(ImmediateOperation, u32, u32, u32); 9] = [
 ];
 
 // The same by a count.
-const SHIFTS: [(ShiftOperation, u32, u8, u32); 7] = [
+static SHIFTS: [(ShiftOperation, u32, u8, u32); 7] = [
     (ShiftOperation::Slli, 0x21212121, 0, 0x21212121),
     (ShiftOperation::Slli, 1, 31, 0x80000000),
     (ShiftOperation::Srli, 0x80000000, 31, 1),
@@ -148,7 +148,7 @@ const SHIFTS: [(ShiftOperation, u32, u8, u32); 7] = [
 ];
 
 // What each load gives at an offset from the globals 0ff000ff and f00f0ff0, or a trap.
-const LOADS: [(LoadOperation, u32, Option<u32>); 16] = [
+static LOADS: [(LoadOperation, u32, Option<u32>); 16] = [
     (LoadOperation::Lb, 0, Some(0xffffffff)),
     (LoadOperation::Lb, 1, Some(0)),
     (LoadOperation::Lb, 2, Some(0xfffffff0)),
@@ -168,7 +168,7 @@ const LOADS: [(LoadOperation, u32, Option<u32>); 16] = [
 ];
 
 // What the first global, 0ff000ff, is after 12345678 was stored at an offset, or a trap.
-const STORES: [(StoreOperation, u32, Option<u32>); 8] = [
+static STORES: [(StoreOperation, u32, Option<u32>); 8] = [
     (StoreOperation::Sb, 0, Some(0x0ff00078)),
     (StoreOperation::Sb, 3, Some(0x78f000ff)),
     (StoreOperation::Sh, 0, Some(0x0ff05678)),
@@ -180,7 +180,7 @@ const STORES: [(StoreOperation, u32, Option<u32>); 8] = [
 ];
 
 // Whether each branch is taken.
-const BRANCHES: [(BranchOperation, u32, u32, bool); 15] = [
+static BRANCHES: [(BranchOperation, u32, u32, bool); 15] = [
     (BranchOperation::Beq, 0xffffffff, 0xffffffff, true),
     (BranchOperation::Beq, 0, 1, false),
     (BranchOperation::Bne, 0, 0xffffffff, true),
@@ -199,7 +199,7 @@ const BRANCHES: [(BranchOperation, u32, u32, bool); 15] = [
 ];
 
 // What a program shows; its words and its input; the first word that it writes, and what it comes to.
-const PROGRAMS: [(&str, &[u32], &[u32], Option<u32>, MachineOutcome); 18] = [
+static PROGRAMS: [(&str, &[u32], &[u32], Option<u32>, MachineOutcome); 18] = [
     (
         "the stack's last word: sw x2, -4(x2); lw x10, -4(x2)",
         &[0xfe212e23, 0xffc12503, WRITE, ECALL, EXIT, ECALL],
@@ -335,30 +335,30 @@ const PROGRAMS: [(&str, &[u32], &[u32], Option<u32>, MachineOutcome); 18] = [
 ];
 
 // addi x10, x0, 5; an exit.
-const EXITS: [u32; 3] = [0x00500513, EXIT, ECALL];
+const EXITS: &[u32] = &[0x00500513, EXIT, ECALL];
 
 // The high word of -1 times -1, unsigned, written; an exit with it.
-const PRODUCT: [u32; 7] = [
+const PRODUCT: &[u32] = &[
     0xfff00093, 0x0210b133, 0x00010513, 0x00100893, ECALL, EXIT, ECALL,
 ];
 
 // A program, so many instructions and then so many more, what the machine has come to then, and the first word that it wrote. The
 // last two are a word that is no instruction, and lw x1, 0(x0).
-const PARTS: [(&[u32], u64, u64, MachineOutcome, Option<u32>); 11] = [
-    (&EXITS, 0, 2, MachineOutcome::Going, None),
-    (&EXITS, 2, 1, MachineOutcome::Exited(5), None),
-    (&EXITS, 3, 1, MachineOutcome::Exited(5), None),
-    (&EXITS, 0, 9, MachineOutcome::Exited(5), None),
-    (&PRODUCT, 0, 6, MachineOutcome::Going, Some(4294967294)),
+static PARTS: [(&[u32], u64, u64, MachineOutcome, Option<u32>); 11] = [
+    (EXITS, 0, 2, MachineOutcome::Going, None),
+    (EXITS, 2, 1, MachineOutcome::Exited(5), None),
+    (EXITS, 3, 1, MachineOutcome::Exited(5), None),
+    (EXITS, 0, 9, MachineOutcome::Exited(5), None),
+    (PRODUCT, 0, 6, MachineOutcome::Going, Some(4294967294)),
     (
-        &PRODUCT,
+        PRODUCT,
         6,
         1,
         MachineOutcome::Exited(4294967294),
         Some(4294967294),
     ),
     (
-        &PRODUCT,
+        PRODUCT,
         0,
         7,
         MachineOutcome::Exited(4294967294),
@@ -370,196 +370,244 @@ const PARTS: [(&[u32], u64, u64, MachineOutcome, Option<u32>); 11] = [
     (&[0x00002083], 0, 1, MachineOutcome::Trapped, None),
 ];
 
-const GLOBALS: [u32; 2] = [0x0ff000ff, 0xf00f0ff0];
+static GLOBALS: [u32; 2] = [0x0ff000ff, 0xf00f0ff0];
 
-fn image_of(alloc: Global, code: &[u32], globals: &[u32]) -> Result<Image, Fail> {
-    let code = Code::new(Vec::from_slice(alloc, code)?)
-        .ok()
-        .ok_or("the code's length")?;
-    let globals = Globals::new(Vec::from_slice(alloc, globals)?)
-        .ok()
-        .ok_or("the globals' length")?;
-    Ok(Image { code, globals })
+fn image(alloc: Global, code: &[u32], globals: &[u32]) -> Option<Image> {
+    let (Ok(code), Ok(globals)) = (
+        Vec::from_slice(alloc, code),
+        Vec::from_slice(alloc, globals),
+    ) else {
+        return None;
+    };
+    image_of(code, globals)
 }
 
-// What a program writes first and what it comes to, within a thousand instructions.
-fn first_word(
+// A machine with a program in place.
+fn machine(alloc: Global, code: &[u32], globals: &[u32], input: &[u32]) -> Option<Machine> {
+    let image = image(alloc, code, globals)?;
+    let made = Machine::new(alloc, &image, input);
+    drop(image);
+    made.ok()
+}
+
+// What a machine comes to after so many instructions more, and the first word that it has written.
+fn shown(machine: &mut Machine, steps: u64) -> Result<(MachineOutcome, Option<u32>), MachineFault> {
+    let outcome = machine.run(steps)?;
+    Ok((outcome, machine.output().first().copied()))
+}
+
+// The same after two runs.
+fn shown_twice(
+    machine: &mut Machine,
+    before: u64,
+    steps: u64,
+) -> Result<(MachineOutcome, Option<u32>), MachineFault> {
+    machine.run(before)?;
+    shown(machine, steps)
+}
+
+// Whether a program has come to this, and has written this first, after so many instructions and so many more.
+fn comes_to(
     alloc: Global,
     code: &[u32],
     globals: &[u32],
     input: &[u32],
-) -> Result<(Option<u32>, MachineOutcome), Fail> {
-    let image = image_of(alloc, code, globals)?;
-    let mut machine = Machine::new(alloc, &image, input)?;
-    let outcome = machine.run(1000)?;
-    Ok((machine.output().first().copied(), outcome))
+    parts: (u64, u64),
+    wanted: (MachineOutcome, Option<u32>),
+) -> bool {
+    let Some(mut machine) = machine(alloc, code, globals, input) else {
+        return false;
+    };
+    let found = shown_twice(&mut machine, parts.0, parts.1);
+    drop(machine);
+    matches!(found, Ok((outcome, word)) if outcome == wanted.0 && word == wanted.1)
 }
 
 #[test]
-fn runs_a_part_at_a_time(rt: HostRuntime) -> Result<(), Fail> {
-    for (code, before, steps, outcome, word) in PARTS {
-        let image = image_of(rt.alloc(), code, &[])?;
-        let mut machine = Machine::new(rt.alloc(), &image, &[])?;
-        machine.run(before)?;
-        let came = machine.run(steps)?;
-        let written = machine.output().first().copied();
-        assert!(rt; came == outcome && written == word, "{before} and {steps}");
+fn runs_a_part_at_a_time(rt: HostRuntime) {
+    for (code, before, steps, outcome, word) in PARTS.iter() {
+        let is_right = comes_to(
+            rt.alloc(),
+            code,
+            &[],
+            &[],
+            (*before, *steps),
+            (*outcome, *word),
+        );
+        assert!(rt; is_right, "{before} and {steps}");
     }
-    Ok(())
 }
 
-// The first word that a program writes within a thousand instructions; it traps exactly where it writes none. `word` is the
-// instruction that is tried.
-fn check_word(
-    rt: &impl Abort,
-    alloc: Global,
-    word: u32,
-    code: &[u32],
-    input: &[u32],
-    expected: Option<u32>,
-) -> Result<(), Fail> {
-    let (written, outcome) = first_word(alloc, code, &GLOBALS, input)?;
-    let has_trapped = outcome == MachineOutcome::Trapped;
-    assert!(rt;
-        written == expected && has_trapped == expected.is_none(),
-        "at {word:08x}"
-    );
-    Ok(())
+#[test]
+fn runs_programs(rt: HostRuntime) {
+    for (shows, code, input, word, outcome) in PROGRAMS.iter() {
+        let is_right = comes_to(rt.alloc(), code, &[], input, (0, 1000), (*outcome, *word));
+        assert!(rt; is_right, "{shows}");
+    }
+}
+
+// Whether this is the first word that a program writes within a thousand instructions; it traps exactly where it writes none.
+fn writes(alloc: Global, code: &[u32], input: &[u32], word: Option<u32>) -> bool {
+    let Some(mut machine) = machine(alloc, code, &GLOBALS, input) else {
+        return false;
+    };
+    let found = shown(&mut machine, 1000);
+    drop(machine);
+    match found {
+        Ok((outcome, written)) => {
+            written == word && (outcome == MachineOutcome::Trapped) == word.is_none()
+        }
+        Err(_) => false,
+    }
 }
 
 // The operation on two input words, written.
-#[test]
-fn computes_on_two_registers(rt: HostRuntime) -> Result<(), Fail> {
-    for (operation, left, right, expected) in OPERATIONS {
-        let word = encode(Instr::Op {
-            operation,
-            rd: Register::new(10),
-            rs1: Register::new(5),
-            rs2: Register::new(6),
-        });
-        let code = [
-            READ, ECALL, TO_X5, ECALL, TO_X6, word, WRITE, ECALL, EXIT, ECALL,
-        ];
-        check_word(&rt, rt.alloc(), word, &code, &[left, right], Some(expected))?;
-    }
-    Ok(())
+fn computes(alloc: Global, operation: Operation, left: u32, right: u32, word: u32) -> bool {
+    let tried = encode(Instr::Op {
+        operation,
+        rd: Register::new(10),
+        rs1: Register::new(5),
+        rs2: Register::new(6),
+    });
+    let code = [
+        READ, ECALL, TO_X5, ECALL, TO_X6, tried, WRITE, ECALL, EXIT, ECALL,
+    ];
+    writes(alloc, &code, &[left, right], Some(word))
 }
 
 #[test]
-fn computes_on_immediates(rt: HostRuntime) -> Result<(), Fail> {
-    for (operation, left, immediate, expected) in IMMEDIATES {
-        assert!(rt; Immediate::fits(immediate));
-        let word = encode(Instr::OpImm {
-            operation,
-            rd: Register::new(10),
-            rs1: Register::new(10),
-            immediate: Immediate::new(immediate),
-        });
-        let code = [READ, ECALL, word, WRITE, ECALL, EXIT, ECALL];
-        check_word(&rt, rt.alloc(), word, &code, &[left], Some(expected))?;
+fn computes_on_two_registers(rt: HostRuntime) {
+    for (operation, left, right, word) in OPERATIONS.iter() {
+        let is_right = computes(rt.alloc(), *operation, *left, *right, *word);
+        assert!(rt; is_right, "on {left:08x} and {right:08x}");
     }
-    Ok(())
+}
+
+// The instruction changes x10, which holds the input's word, and it is written.
+fn changes(alloc: Global, instr: Instr, left: u32, word: u32) -> bool {
+    let code = [READ, ECALL, encode(instr), WRITE, ECALL, EXIT, ECALL];
+    writes(alloc, &code, &[left], Some(word))
 }
 
 #[test]
-fn shifts_by_a_count(rt: HostRuntime) -> Result<(), Fail> {
-    for (operation, left, count, expected) in SHIFTS {
-        assert!(rt; count < 32);
-        let word = encode(Instr::Shift {
-            operation,
+fn computes_on_immediates(rt: HostRuntime) {
+    for (operation, left, immediate, word) in IMMEDIATES.iter() {
+        assert!(rt; Immediate::fits(*immediate));
+        let instr = Instr::OpImm {
+            operation: *operation,
             rd: Register::new(10),
             rs1: Register::new(10),
-            count: ShiftCount::new(count),
-        });
-        let code = [READ, ECALL, word, WRITE, ECALL, EXIT, ECALL];
-        check_word(&rt, rt.alloc(), word, &code, &[left], Some(expected))?;
+            immediate: Immediate::new(*immediate),
+        };
+        assert!(rt;
+            changes(rt.alloc(), instr, *left, *word),
+            "on {left:08x} and {immediate:08x}"
+        );
     }
-    Ok(())
+}
+
+#[test]
+fn shifts_by_a_count(rt: HostRuntime) {
+    for (operation, left, count, word) in SHIFTS.iter() {
+        assert!(rt; *count < 32);
+        let instr = Instr::Shift {
+            operation: *operation,
+            rd: Register::new(10),
+            rs1: Register::new(10),
+            count: ShiftCount::new(*count),
+        };
+        assert!(rt;
+            changes(rt.alloc(), instr, *left, *word),
+            "{left:08x} by {count}"
+        );
+    }
 }
 
 // lui x8, 0x200 comes first: the globals' address.
 #[test]
-fn loads(rt: HostRuntime) -> Result<(), Fail> {
-    for (operation, offset, expected) in LOADS {
-        assert!(rt; Immediate::fits(offset));
-        let word = encode(Instr::Load {
-            operation,
+fn loads(rt: HostRuntime) {
+    for (operation, offset, word) in LOADS.iter() {
+        assert!(rt; Immediate::fits(*offset));
+        let tried = encode(Instr::Load {
+            operation: *operation,
             rd: Register::new(10),
             rs1: Register::new(8),
-            offset: Immediate::new(offset),
+            offset: Immediate::new(*offset),
         });
-        let code = [0x00200437, word, WRITE, ECALL, EXIT, ECALL];
-        check_word(&rt, rt.alloc(), word, &code, &[], expected)?;
+        let code = [0x00200437, tried, WRITE, ECALL, EXIT, ECALL];
+        assert!(rt; writes(rt.alloc(), &code, &[], *word), "at {offset}");
     }
-    Ok(())
 }
 
 // lw x10, 0(x8) comes after the store.
 #[test]
-fn stores(rt: HostRuntime) -> Result<(), Fail> {
-    for (operation, offset, expected) in STORES {
-        assert!(rt; Immediate::fits(offset));
-        let word = encode(Instr::Store {
-            operation,
+fn stores(rt: HostRuntime) {
+    for (operation, offset, word) in STORES.iter() {
+        assert!(rt; Immediate::fits(*offset));
+        let tried = encode(Instr::Store {
+            operation: *operation,
             rs1: Register::new(8),
             rs2: Register::new(10),
-            offset: Immediate::new(offset),
+            offset: Immediate::new(*offset),
         });
         let code = [
-            0x00200437, READ, ECALL, word, 0x00042503, WRITE, ECALL, EXIT, ECALL,
+            0x00200437, READ, ECALL, tried, 0x00042503, WRITE, ECALL, EXIT, ECALL,
         ];
-        check_word(&rt, rt.alloc(), word, &code, &[0x12345678], expected)?;
+        assert!(rt;
+            writes(rt.alloc(), &code, &[0x12345678], *word),
+            "at {offset}"
+        );
     }
-    Ok(())
 }
 
 // A taken branch skips a write of 0: addi x17, x0, 1; ecall; then addi x10, x0, 1.
+fn branches_on(
+    alloc: Global,
+    operation: BranchOperation,
+    left: u32,
+    right: u32,
+    taken: bool,
+) -> bool {
+    let tried = encode(Instr::Branch {
+        operation,
+        rs1: Register::new(5),
+        rs2: Register::new(6),
+        offset: BranchOffset::new(12),
+    });
+    let code = [
+        READ, ECALL, TO_X5, ECALL, TO_X6, 0x00000513, tried, WRITE, ECALL, 0x00100513, WRITE,
+        ECALL, EXIT, ECALL,
+    ];
+    writes(alloc, &code, &[left, right], Some(u32::from(taken)))
+}
+
 #[test]
-fn branches(rt: HostRuntime) -> Result<(), Fail> {
-    for (operation, left, right, taken) in BRANCHES {
-        let word = encode(Instr::Branch {
-            operation,
-            rs1: Register::new(5),
-            rs2: Register::new(6),
-            offset: BranchOffset::new(12),
-        });
-        let code = [
-            READ, ECALL, TO_X5, ECALL, TO_X6, 0x00000513, word, WRITE, ECALL, 0x00100513, WRITE,
-            ECALL, EXIT, ECALL,
-        ];
-        check_word(
-            &rt,
-            rt.alloc(),
-            word,
-            &code,
-            &[left, right],
-            Some(u32::from(taken)),
-        )?;
+fn branches(rt: HostRuntime) {
+    for (operation, left, right, taken) in BRANCHES.iter() {
+        let is_right = branches_on(rt.alloc(), *operation, *left, *right, *taken);
+        assert!(rt; is_right, "on {left:08x} and {right:08x}");
     }
-    Ok(())
+}
+
+// What two steps of a program of one word come to.
+fn two_steps(machine: &mut Machine) -> Result<(MachineOutcome, MachineOutcome), MachineFault> {
+    let first = machine.step()?;
+    Ok((first, machine.step()?))
 }
 
 // A jump out of the code is done, and the fetch behind it traps; so does one past the last word.
-#[test]
-fn traps_outside_the_code(rt: HostRuntime) -> Result<(), Fail> {
-    for word in [0x0000_0013, 0x0080_006f, 0x0000_0067] {
-        let image = image_of(rt.alloc(), &[word], &[])?;
-        let mut machine = Machine::new(rt.alloc(), &image, &[])?;
-        let first = machine.step()?;
-        let second = machine.step()?;
-        assert!(rt;
-            first == MachineOutcome::Going && second == MachineOutcome::Trapped,
-            "at {word:08x}"
-        );
-    }
-    Ok(())
+fn leaves_the_code(alloc: Global, word: u32) -> bool {
+    let Some(mut machine) = machine(alloc, &[word], &[], &[]) else {
+        return false;
+    };
+    let found = two_steps(&mut machine);
+    drop(machine);
+    matches!(found, Ok((MachineOutcome::Going, MachineOutcome::Trapped)))
 }
 
 #[test]
-fn runs_programs(rt: HostRuntime) -> Result<(), Fail> {
-    for (shows, code, input, word, outcome) in PROGRAMS {
-        let (written, came) = first_word(rt.alloc(), code, &[], input)?;
-        assert!(rt; written == word && came == outcome, "{shows}");
+fn traps_outside_the_code(rt: HostRuntime) {
+    for word in [0x0000_0013, 0x0080_006f, 0x0000_0067] {
+        assert!(rt; leaves_the_code(rt.alloc(), word), "at {word:08x}");
     }
-    Ok(())
 }

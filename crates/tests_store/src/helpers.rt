@@ -1,6 +1,6 @@
 // Disks made of bytes, and what they hold.
 use cc_disk::{Disk, MemoryDisk};
-use cc_journal::{Body, Journal, format};
+use cc_journal::{Body, Journal, JournalFault, format};
 use std::alloc::Global;
 use std::test::Fail;
 
@@ -107,4 +107,19 @@ pub fn refusal<D: Disk + Drop>(alloc: Global, disk: D) -> u32 {
         Ok(_) => 0,
         Err((fault, _)) => fault.number(),
     }
+}
+
+/// The number of an answer, 0 for Ok.
+pub fn number(answer: Result<(), JournalFault>) -> u32 {
+    match answer {
+        Ok(()) => 0,
+        Err(fault) => fault.number(),
+    }
+}
+
+/// One record with this body.
+pub fn one_body(alloc: Global, bytes: &[u8]) -> Result<Vec<Body>, Fail> {
+    let mut bodies = Vec::new(alloc);
+    bodies.push(Body::new(Vec::from_slice(alloc, bytes)?))?;
+    Ok(bodies)
 }

@@ -1,7 +1,11 @@
 // The worked rows of the journal.
 use crate::first_bytes::FirstBytes;
-use crate::helpers::{ROW, SIZE, bytes_of, formatted, holds, opened, part};
-use cc_journal::format;
+use crate::helpers::{
+    ROW, SIZE, bytes_of, formatted, has_bytes, holds, number, one_body, opened, part,
+};
+use cc_disk::MemoryDisk;
+use cc_journal::{Journal, format};
+use std::alloc::Global;
 use std::test::Fail;
 
 #[test]
@@ -58,5 +62,52 @@ fn the_header_of_the_largest_area(rt: HostRuntime) -> Result<(), Fail> {
     let mut large = FirstBytes::new(2_147_483_664);
     format(&mut large, 1_073_741_824)?;
     assert!(rt; large.kept()[..12] == [0, 0x43, 0x43, 0x4c, 0x49, 0x42, 0x30, 0x31, 0, 0, 0, 0x40]);
+    Ok(())
+}
+
+// A journal of areas of 64 bytes whose area A a record of 58 bytes fills, once an empty record was put in its place.
+fn moved(alloc: Global) -> Result<Journal<MemoryDisk>, Fail> {
+    let mut journal = opened(alloc, formatted(alloc)?)?;
+    journal.append(alloc, &[7; 58])?;
+    journal.rewrite(alloc, one_body(alloc, &[])?)?;
+    Ok(journal)
+}
+
+#[test]
+fn a_rewrite_goes_to_the_other_area(rt: HostRuntime) -> Result<(), Fail> {
+    let alloc = rt.alloc();
+    let bytes = bytes_of(alloc, &mut moved(alloc)?.into_disk())?;
+    assert!(rt; part(&bytes, 0, 1) == [1].as_slice());
+    assert!(rt; part(&bytes, 80, 86) == [0xa5, 0, 0, 0, 0, 0].as_slice());
+    // What stands in area A counts for nothing from then on.
+    assert!(rt; holds(alloc, moved(alloc)?.into_disk(), &[&[]]));
+    Ok(())
+}
+
+#[test]
+fn the_other_area_has_its_own_room(rt: HostRuntime) -> Result<(), Fail> {
+    let alloc = rt.alloc();
+    let before = bytes_of(alloc, &mut moved(alloc)?.into_disk())?;
+    let mut journal = moved(alloc)?;
+    assert!(rt; number(journal.append(alloc, &[1; 54])) == 34);
+    assert!(rt; has_bytes(alloc, &mut journal.into_disk(), &before)?);
+    let mut journal = moved(alloc)?;
+    assert!(rt; number(journal.append(alloc, &[1; 53])) == 0);
+    assert!(rt; number(journal.rewrite(alloc, Vec::new(alloc))) == 0);
+    let bytes = bytes_of(alloc, &mut journal.into_disk())?;
+    assert!(rt; part(&bytes, 0, 1) == [0].as_slice() && part(&bytes, 16, 17) == [0].as_slice());
+    Ok(())
+}
+
+#[test]
+fn a_rewrite_that_does_not_fit(rt: HostRuntime) -> Result<(), Fail> {
+    let alloc = rt.alloc();
+    let before = bytes_of(alloc, &mut moved(alloc)?.into_disk())?;
+    let mut journal = moved(alloc)?;
+    let bodies = one_body(alloc, &[1; 59])?;
+    assert!(rt; number(journal.rewrite(alloc, bodies)) == 34);
+    assert!(rt; has_bytes(alloc, &mut journal.into_disk(), &before)?);
+    let bodies = one_body(alloc, &[1; 58])?;
+    assert!(rt; number(moved(alloc)?.rewrite(alloc, bodies)) == 0);
     Ok(())
 }

@@ -1,5 +1,5 @@
 -- What the steps of replaying and of a change come to.
-use Rattle.std.specs.Prelude.{◌≡◌, ◌⊎◌, ℕ, IsOk, List, [], ◌∷◌, ◌++◌, Result, Ok, Err}
+use Rattle.std.specs.Prelude.{◌≡◌, ◌⊎◌, ℕ, IsOk, List, Result, Ok, Err}
 use Rattle.cc_journal.specs.Format.{HoldsAlone}
 use Rattle.cc_library.specs.declared.command.Command.{Command}
 use Rattle.cc_library.specs.declared.fault.LibraryFault.{LibraryFault}
@@ -7,6 +7,8 @@ use Rattle.cc_library.specs.declared.fault.LibraryFault.TheVariants.{Exists, Abs
 use Rattle.cc_library.specs.Apply.{Units, apply, after}
 use Rattle.cc_library.specs.Body.{Spells}
 use Rattle.cc_library.specs.Recovered.{RecoversAlone}
+use Rattle.cc_library.specs.declared.command.Edit.{Edit}
+use Rattle.cc_library.specs.Runs.{after_edit}
 
 -- one record more: 37 exactly where its body is that of no command that the map accepts
 abbrev pub ReplaysBody : Units → List ℕ → Result Units LibraryFault → Type 0
@@ -20,7 +22,11 @@ ReplaysBody old body (Err Absent) = ⊥
 ReplaysBody old body (Err Full) = ⊥
 ReplaysBody old body (Err Closed) = ⊥
 
--- it has these records and recovers to this map alone, or these with one more and that map
-abbrev pub IsOldOrNew : ℕ → List (List ℕ) → Units → List ℕ → Units → List ℕ → Type 0
-IsOldOrNew area bodies old body new image =
-    (HoldsAlone image area bodies × RecoversAlone image old) ⊎ (HoldsAlone image area (bodies ++ body ∷ []) × RecoversAlone image new)
+-- it has the one records and recovers to the one map alone, or has the others and recovers to the other map
+abbrev pub IsOldOrNew : ℕ → List (List ℕ) → Units → List (List ℕ) → Units → List ℕ → Type 0
+IsOldOrNew area bodies old made new image =
+    (HoldsAlone image area bodies × RecoversAlone image old) ⊎ (HoldsAlone image area made × RecoversAlone image new)
+
+-- in the middle of an edit of this number: the map before it, or where it was done the one after it
+abbrev pub IsMidEdit : Units → Edit → ℕ → List ℕ → Type 0
+IsMidEdit units edit number image = RecoversAlone image units ⊎ (((number ≡ 0) ⊎ (number ≡ 35)) × RecoversAlone image (after_edit units edit))

@@ -3,9 +3,8 @@
 ghost use Rattle.std.specs.Prelude.{◌≡◌};
 ghost use Rattle.cc_meaning.specs.internal.Form.{load, call_of, store_of, store_element_of};
 
-use crate::form::Instruction;
-use cc_resolve::{BinaryOperation, Environment};
-use cc_typing::{READ_WORD, WRITE_WORD};
+use crate::form::{Instruction, Slot};
+use cc_resolve::{BinaryOperation, Callee, Environment};
 
 /// What pushes the value of a variable.
 pub fn load(names: &Environment<'_>, name: &[u8]) -> Instruction
@@ -24,13 +23,13 @@ pub fn store(names: &Environment<'_>, applied: Option<BinaryOperation>, name: &[
     match names.local(name) {
         Some(number) => match applied {
             None => Instruction::SetLocal(number),
-            Some(operation) => Instruction::UpdateLocal(operation, number),
+            Some(operation) => Instruction::Update(operation, Slot::Local(number)),
         },
         None => {
             let offset = names.object(name).offset;
             match applied {
                 None => Instruction::SetGlobal(offset),
-                Some(operation) => Instruction::UpdateGlobal(operation, offset),
+                Some(operation) => Instruction::Update(operation, Slot::Global(offset)),
             }
         }
     }
@@ -47,7 +46,7 @@ pub fn store_element(
     let extent = names.object(name);
     match applied {
         None => Instruction::SetElement(extent),
-        Some(operation) => Instruction::UpdateElement(operation, extent),
+        Some(operation) => Instruction::Update(operation, Slot::Element(extent)),
     }
 }
 
@@ -55,11 +54,9 @@ pub fn store_element(
 pub fn call_instruction(names: &Environment<'_>, name: &[u8]) -> Instruction
     ensures { result ≡ call_of names.now name.now }
 {
-    if WRITE_WORD == name {
-        Instruction::Write
-    } else if READ_WORD == name {
-        Instruction::Read
-    } else {
-        Instruction::Call(names.function(name))
+    match names.callee(name) {
+        Callee::WriteWord => Instruction::Write,
+        Callee::ReadWord => Instruction::Read,
+        Callee::Defined(function) => Instruction::Call(function),
     }
 }

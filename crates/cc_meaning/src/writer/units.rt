@@ -4,8 +4,9 @@ ghost use Rattle.std.specs.Prelude.{◌≡◌, ◌≤◌, [], ◌∷◌, ◌++�
 ghost use Rattle.cc_syntax.specs.Erase.{signature_tree, statements_of, external_tree, external_trees};
 ghost use Rattle.cc_typing.specs.Bindings.{file_level, file_of};
 ghost use Rattle.cc_meaning.specs.internal.FormErase.{form_tree, Resolves};
-ghost use Rattle.cc_meaning.specs.internal.Form.{function_code, functions_code, all_code, entries_from};
-ghost use Rattle.cc_typing.specs.Scope.{with_function, file_scope_behind};
+ghost use Rattle.cc_meaning.specs.internal.Form.{function_code, functions_code, all_code, entries_from, unit_functions};
+ghost use Rattle.cc_resolve.specs.Layout.{layout_of};
+ghost use Rattle.cc_typing.specs.Scope.{first_file_scope, with_function, file_scope_behind};
 
 use super::statements::{Exits, statements};
 use crate::emitter::Emitter;
@@ -76,6 +77,26 @@ fn resolve_external<'a>(
     }
 }
 
+// Puts the instructions and the entries of a unit's functions after none, from file scope at the start of the unit.
+fn resolve_externals<'a>(
+    alloc: Global,
+    names: &mut Environment<'a>,
+    code: &mut Vec<Instruction>,
+    entries: &mut Vec<Entry>,
+    trees: &'a [External],
+) -> Result<(), AllocError>
+    requires start { names.old ≡ record { visible = file_level first_file_scope.bindings; locals = []; layout = layout_of (external_trees trees.now) } }
+    requires code { code.old.items ≡ [] }
+    requires entries { entries.old.items ≡ [] }
+    ensures code { OnOk result (code.new.items ≡ all_code (unit_functions (external_trees trees.now))) }
+    ensures entries { OnOk result (entries.new.items ≡ entries_from 0 (unit_functions (external_trees trees.now))) }
+{
+    for tree in trees {
+        resolve_external(alloc, names, code, entries, tree)?;
+    }
+    Ok(())
+}
+
 /// The resolved form of a unit.
 pub fn resolve(alloc: Global, trees: &[External]) -> Result<Form, AllocError>
     ensures { IfOk result (λ f. Resolves (external_trees trees.now) (form_tree f)) }
@@ -86,9 +107,9 @@ pub fn resolve(alloc: Global, trees: &[External]) -> Result<Form, AllocError>
     let mut names = Environment::new(alloc, layout)?;
     let mut code = Vec::new(alloc);
     let mut functions = Vec::new(alloc);
-    for tree in trees {
-        resolve_external(alloc, &mut names, &mut code, &mut functions, tree)?;
-    }
+    let resolved = resolve_externals(alloc, &mut names, &mut code, &mut functions, trees);
+    names.release();
+    resolved?;
     Ok(Form {
         code,
         functions,

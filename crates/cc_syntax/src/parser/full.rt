@@ -4,8 +4,9 @@ ghost use Rattle.std.specs.Prelude.{◌≡◌, ◌≤◌, suc, [], ◌∷◌, �
 ghost use Rattle.std.specs.Option.{option_map};
 ghost use Rattle.cc_syntax.specs.Grammar.{precedence};
 ghost use Rattle.cc_syntax.specs.Erase.{name_tree, expression_tree, expressions_of, declarator_trees, optional_tree, external_trees, target_tree, object_tree, constant_tree, object_trees, constant_trees, optional_constant};
-ghost use Rattle.cc_syntax.specs.internal.Parser.{name_of, reduced, full_of, goes_on, begins_full, end_in_body, end_in_object, end_full, close, operate, ask, open_name, target_of, assign, step_target, operator_step, cast, call_of_none, operand_step, cast_step, cast_sign_step, full_step, first_step, declared, separated, end_list_value, Operand, Arguments, ToInitialise};
+ghost use Rattle.cc_syntax.specs.internal.Parser.{name_of, reduced, full_of, goes_on, begins_full, end_in_body, end_in_object, end_full, close, operate, ask, open_name, target_of, assign, step_target, operator_step, cast, call_of_none, operand_step, cast_step, cast_sign_step, full_step, first_step, declared, separated, end_list_value, Operand, Operator, Arguments, ToInitialise};
 ghost use Rattle.cc_syntax.specs.internal.ParserView.{waiting_view, waiting_views, context_view, full_view, phase_view, state_view, body_view, position_view, purpose_view, naming_view, part_view, Gives};
+ghost use Rattle.cc_syntax.specs.Tree.{Array};
 ghost use Rattle.cc_tokens.specs.Token.{lexeme};
 
 use crate::ast::{
@@ -113,7 +114,11 @@ pub fn end_object(
             externals.push(External::Objects(scalar, objects))?;
             Ok(State::File(externals, Outer::Between))
         }
-        _ => Err(Stop::Unexpected),
+        _ => {
+            drop(externals);
+            drop(objects);
+            Err(Stop::Unexpected)
+        }
     }
 }
 
@@ -130,16 +135,21 @@ fn end_initialiser(
 ) -> Result<State, Stop>
     ensures { Gives state_view result (end_in_body (body_view body.value) (ToInitialise (position_view position) scalar (declarator_trees declarators.items) (name_tree name)) 0 (expression_tree initial.value) role) }
 {
+    let declarators = match with_declarator(declarators, name, Some(initial)) {
+        Ok(declarators) => declarators,
+        Err(_) => {
+            drop(body);
+            return Err(Stop::Memory);
+        }
+    };
     match role {
-        Role::Comma => {
-            let declarators = with_declarator(declarators, name, Some(initial))?;
-            Ok(State::Body(body, Stage::Declaring(position, scalar, declarators)))
+        Role::Comma => Ok(State::Body(body, Stage::Declaring(position, scalar, declarators))),
+        Role::Semicolon => end_declaration(alloc, body, position, scalar, declarators),
+        _ => {
+            drop(body);
+            drop(declarators);
+            Err(Stop::Unexpected)
         }
-        Role::Semicolon => {
-            let declarators = with_declarator(declarators, name, Some(initial))?;
-            end_declaration(alloc, body, position, scalar, declarators)
-        }
-        _ => Err(Stop::Unexpected),
     }
 }
 
@@ -182,7 +192,11 @@ fn end_body_part(
                 body,
                 Statement::Return(at, Some(expression)),
             ),
-            _ => Err(Stop::Unexpected),
+            _ => {
+                drop(body);
+                drop(expression);
+                Err(Stop::Unexpected)
+            }
         },
         Purpose::Test(test) => match role {
             Role::CloseParenthesis => end_test(alloc, body, test, expression),
@@ -195,7 +209,12 @@ fn end_body_part(
         },
         Purpose::Continue(start) => match role {
             Role::Semicolon => Ok(State::Body(body, Stage::ForStepping(start, Some(expression)))),
-            _ => Err(Stop::Unexpected),
+            _ => {
+                drop(body);
+                drop(start);
+                drop(expression);
+                Err(Stop::Unexpected)
+            }
         },
         Purpose::Initialise(position, scalar, declarators, name) => end_initialiser(
             alloc,
@@ -210,6 +229,33 @@ fn end_body_part(
     }
 }
 
+/// The values with one more at the end.
+fn with_value(
+    mut values: Vec<ConstantExpression>,
+    value: ConstantExpression,
+) -> Result<Vec<ConstantExpression>, AllocError>
+    ensures { IfOk result (λ vs. constant_trees vs.items ≡ constant_trees values.items ++ constant_tree value ∷ []) }
+{
+    values.push(value)?;
+    Ok(values)
+}
+
+/// What is complete of a declaration of objects, with its last name as an array.
+pub fn with_array(
+    naming: Naming,
+    size: Option<ConstantExpression>,
+    values: Vec<ConstantExpression>,
+) -> Result<Vec<Object>, AllocError>
+    ensures { IfOk result (λ os. object_trees os.items ≡ object_trees naming.objects.items ++ Array (name_tree naming.name) (optional_constant size) (constant_trees values.items) ∷ []) }
+{
+    let Naming {
+        scalar: _,
+        objects,
+        name,
+    } = naming;
+    with_one(objects, Object::Array(name, size, values))
+}
+
 /// The token after a value of an array's list.
 fn end_value(
     externals: Vec<External>,
@@ -221,23 +267,32 @@ fn end_value(
 ) -> Result<State, Stop>
     ensures { Gives state_view result (end_list_value (external_trees externals.items) (naming_view naming) (optional_constant size) (constant_trees values.items) (constant_tree value) role) }
 {
-    let mut values = values;
+    let scalar = naming.scalar;
+    let values = match with_value(values, value) {
+        Ok(values) => values,
+        Err(_) => {
+            drop(externals);
+            drop(naming);
+            drop(size);
+            return Err(Stop::Memory);
+        }
+    };
     match role {
-        Role::Comma => {
-            values.push(value)?;
-            Ok(State::File(externals, Outer::Valuing(naming, size, values)))
+        Role::Comma => Ok(State::File(externals, Outer::Valuing(naming, size, values))),
+        Role::CloseBrace => match with_array(naming, size, values) {
+            Ok(objects) => Ok(State::File(externals, Outer::Listed(scalar, objects))),
+            Err(_) => {
+                drop(externals);
+                Err(Stop::Memory)
+            }
+        },
+        _ => {
+            drop(externals);
+            drop(naming);
+            drop(size);
+            drop(values);
+            Err(Stop::Unexpected)
         }
-        Role::CloseBrace => {
-            values.push(value)?;
-            let Naming {
-                scalar,
-                objects,
-                name,
-            } = naming;
-            let objects = with_one(objects, Object::Array(name, size, values))?;
-            Ok(State::File(externals, Outer::Listed(scalar, objects)))
-        }
-        _ => Err(Stop::Unexpected),
     }
 }
 
@@ -257,7 +312,12 @@ fn end_object_part(
                 let size = Some(ConstantExpression { at, expression });
                 Ok(State::File(externals, Outer::Sized(naming, size)))
             }
-            _ => Err(Stop::Unexpected),
+            _ => {
+                drop(externals);
+                drop(naming);
+                drop(expression);
+                Err(Stop::Unexpected)
+            }
         },
         Part::Single(at) => {
             let Naming {
@@ -309,17 +369,43 @@ fn close_argument(
     requires { full.count ≤ 512 }
     ensures { Gives state_view result (close (full_view full) role (expression_tree argument.value, Arguments (name_tree name) (expressions_of arguments.items) ∷ waiting_views full.waiting.items)) }
 {
+    let arguments = match with_argument_of(arguments, argument) {
+        Ok(arguments) => arguments,
+        Err(_) => {
+            drop(full);
+            drop(name);
+            return Err(Stop::Memory);
+        }
+    };
     match role {
-        Role::CloseParenthesis => {
-            let arguments = with_argument_of(arguments, argument)?;
-            let call = boxed(alloc, call_of(name, arguments))?;
-            Ok(with_token(full, Phase::Operator(call)))
+        Role::CloseParenthesis => match boxed(alloc, call_of(name, arguments)) {
+            Ok(call) => Ok(with_token(full, Phase::Operator(call))),
+            Err(_) => {
+                drop(full);
+                Err(Stop::Memory)
+            }
+        },
+        Role::Comma => with_waiting(full, Waiting::Arguments(name, arguments)),
+        _ => {
+            drop(full);
+            drop(name);
+            drop(arguments);
+            Err(Stop::Unexpected)
         }
-        Role::Comma => {
-            let arguments = with_argument_of(arguments, argument)?;
-            with_waiting(full, Waiting::Arguments(name, arguments))
+    }
+}
+
+/// A full expression in which a closing token has made a whole operand.
+fn close_boxed(alloc: Global, full: Full, whole: Expression) -> Result<State, Stop>
+    requires { full.count ≤ 512 }
+    ensures { Gives state_view result (goes_on (full_view full) (waiting_views full.waiting.items) (Operator (expression_tree whole))) }
+{
+    match boxed(alloc, whole) {
+        Ok(whole) => Ok(with_token(full, Phase::Operator(whole))),
+        Err(_) => {
+            drop(full);
+            Err(Stop::Memory)
         }
-        _ => Err(Stop::Unexpected),
     }
 }
 
@@ -337,24 +423,36 @@ fn close_waiting(
     match opening {
         Waiting::Parenthesis => match role {
             Role::CloseParenthesis => {
-                let whole = boxed(alloc, Expression::Parenthesised(expression))?;
-                Ok(with_token(full, Phase::Operator(whole)))
+                close_boxed(alloc, full, Expression::Parenthesised(expression))
             }
-            _ => Err(Stop::Unexpected),
+            _ => {
+                drop(full);
+                drop(expression);
+                Err(Stop::Unexpected)
+            }
         },
         Waiting::Index(name) => match role {
             Role::CloseBracket => {
-                let whole = boxed(alloc, Expression::Element(name, expression))?;
-                Ok(with_token(full, Phase::Operator(whole)))
+                close_boxed(alloc, full, Expression::Element(name, expression))
             }
-            _ => Err(Stop::Unexpected),
+            _ => {
+                drop(full);
+                drop(name);
+                drop(expression);
+                Err(Stop::Unexpected)
+            }
         },
         Waiting::Arguments(name, arguments) => {
             close_argument(alloc, full, name, arguments, expression, role)
         }
         Waiting::Then(test) => match role {
             Role::Colon => with_waiting(full, Waiting::Otherwise(test, expression)),
-            _ => Err(Stop::Unexpected),
+            _ => {
+                drop(full);
+                drop(test);
+                drop(expression);
+                Err(Stop::Unexpected)
+            }
         },
         other => {
             drop(full);
@@ -445,7 +543,11 @@ fn step_assignment(
         waiting,
         count,
     } = full;
-    if !waiting.is_empty() {
+    let is_first = waiting.is_empty();
+    drop(waiting);
+    if !is_first {
+        drop(context);
+        drop(operand);
         return Err(Stop::Unexpected);
     }
     match Box::into_inner(context) {
@@ -486,7 +588,11 @@ fn step_step(full: Full, operand: Box<Expression>, operator: StepOperator) -> Re
         waiting,
         count,
     } = full;
-    if !waiting.is_empty() {
+    let is_first = waiting.is_empty();
+    drop(waiting);
+    if !is_first {
+        drop(context);
+        drop(operand);
         return Err(Stop::Unexpected);
     }
     match Box::into_inner(context) {

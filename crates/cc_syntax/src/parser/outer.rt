@@ -10,7 +10,7 @@ ghost use Rattle.cc_tokens.specs.Token.{lexeme};
 use crate::ast::{
     AssignmentOperator, ConstantExpression, External, Identifier, Object, Parameter, Signature,
 };
-use crate::parser::full::{begin_full, end_object, identifier, step_first, with_one};
+use crate::parser::full::{begin_full, end_object, identifier, step_first, with_array, with_one};
 use crate::parser::role::Role;
 use crate::parser::state::{Body, Context, Naming, Outer, Part, Stage, State};
 use crate::parser::stop::Stop;
@@ -86,8 +86,13 @@ fn step_object(externals: Vec<External>, naming: Naming, role: Role) -> Result<S
                 objects,
                 name,
             } = naming;
-            let objects = with_one(objects, Object::Single(name, None))?;
-            end_object(externals, scalar, objects, role)
+            match with_one(objects, Object::Single(name, None)) {
+                Ok(objects) => end_object(externals, scalar, objects, role),
+                Err(_) => {
+                    drop(externals);
+                    Err(Stop::Memory)
+                }
+            }
         }
     }
 }
@@ -109,6 +114,7 @@ fn step_named(
                 name,
                 parameters: Vec::new(alloc),
             };
+            let signature = Box::new(alloc, signature)?;
             Ok(State::File(externals, Outer::Parameters(signature)))
         }
         _ => match result_type {
@@ -126,8 +132,12 @@ fn step_named(
 }
 
 /// The first token of a parameter.
-fn step_parameter(externals: Vec<External>, signature: Signature, role: Role) -> Result<State, Stop>
-    ensures { Gives state_view result (parameter_step (external_trees externals.items) (signature_tree signature) role) }
+fn step_parameter(
+    externals: Vec<External>,
+    signature: Box<Signature>,
+    role: Role,
+) -> Result<State, Stop>
+    ensures { Gives state_view result (parameter_step (external_trees externals.items) (signature_tree signature.value) role) }
 {
     match role {
         Role::Int => Ok(State::File(externals, Outer::ParameterTyped(signature, Scalar::Int))),
@@ -141,10 +151,10 @@ fn step_parameter(externals: Vec<External>, signature: Signature, role: Role) ->
 /// A token after the opening parenthesis of a function's parameters.
 fn step_parameters(
     externals: Vec<External>,
-    signature: Signature,
+    signature: Box<Signature>,
     role: Role,
 ) -> Result<State, Stop>
-    ensures { Gives state_view result (parameters_step (external_trees externals.items) (signature_tree signature) role) }
+    ensures { Gives state_view result (parameters_step (external_trees externals.items) (signature_tree signature.value) role) }
 {
     match role {
         Role::Void => Ok(State::File(externals, Outer::OnlyVoid(signature))),
@@ -154,8 +164,12 @@ fn step_parameters(
 }
 
 /// The closing parenthesis after `void`.
-fn step_only_void(externals: Vec<External>, signature: Signature, role: Role) -> Result<State, Stop>
-    ensures { Gives state_view result (only_void_step (external_trees externals.items) (signature_tree signature) role) }
+fn step_only_void(
+    externals: Vec<External>,
+    signature: Box<Signature>,
+    role: Role,
+) -> Result<State, Stop>
+    ensures { Gives state_view result (only_void_step (external_trees externals.items) (signature_tree signature.value) role) }
 {
     match role {
         Role::CloseParenthesis => Ok(State::File(externals, Outer::Headed(signature))),
@@ -166,10 +180,10 @@ fn step_only_void(externals: Vec<External>, signature: Signature, role: Role) ->
 /// A token after a parameter.
 fn step_parameter_named(
     externals: Vec<External>,
-    signature: Signature,
+    signature: Box<Signature>,
     role: Role,
 ) -> Result<State, Stop>
-    ensures { Gives state_view result (parameter_named_step (external_trees externals.items) (signature_tree signature) role) }
+    ensures { Gives state_view result (parameter_named_step (external_trees externals.items) (signature_tree signature.value) role) }
 {
     match role {
         Role::Comma => Ok(State::File(externals, Outer::ParameterNext(signature))),
@@ -180,22 +194,43 @@ fn step_parameter_named(
 
 /// What is said of a function, with one parameter more.
 fn with_parameter_of(
-    signature: Signature,
+    signature: Box<Signature>,
     scalar: Scalar,
     name: Option<Identifier>,
-) -> Result<Signature, AllocError>
-    ensures { IfOk result (λ f. signature_tree f ≡ with_parameter (signature_tree signature) scalar (option_map name_tree name)) }
+) -> Result<Box<Signature>, AllocError>
+    ensures { IfOk result (λ f. signature_tree f.value ≡ with_parameter (signature_tree signature.value) scalar (option_map name_tree name)) }
 {
     let mut signature = signature;
     signature.parameters.push(Parameter { scalar, name })?;
     Ok(signature)
 }
 
+/// What is said of a function, with a parameter more whose name a token is.
+fn named_parameter(
+    alloc: Global,
+    signature: Box<Signature>,
+    scalar: Scalar,
+    text: &[u8],
+    token: Token,
+) -> Result<Box<Signature>, AllocError>
+    requires order { token.from ≤ token.to }
+    requires within { token.to ≤ length text.now }
+    ensures { IfOk result (λ f. signature_tree f.value ≡ with_parameter (signature_tree signature.value) scalar (Some (name_of (lexeme text.now token)))) }
+{
+    match identifier(alloc, text, token) {
+        Ok(name) => with_parameter_of(signature, scalar, Some(name)),
+        Err(error) => {
+            drop(signature);
+            Err(error)
+        }
+    }
+}
+
 /// A token after a parameter's type.
 fn step_parameter_typed(
     alloc: Global,
     externals: Vec<External>,
-    signature: Signature,
+    signature: Box<Signature>,
     scalar: Scalar,
     role: Role,
     text: &[u8],
@@ -203,18 +238,23 @@ fn step_parameter_typed(
 ) -> Result<State, Stop>
     requires order { token.from ≤ token.to }
     requires within { token.to ≤ length text.now }
-    ensures { Gives state_view result (parameter_typed_step (external_trees externals.items) (signature_tree signature) scalar role (name_of (lexeme text.now token))) }
+    ensures { Gives state_view result (parameter_typed_step (external_trees externals.items) (signature_tree signature.value) scalar role (name_of (lexeme text.now token))) }
 {
     match role {
-        Role::Identifier => {
-            let name = identifier(alloc, text, token)?;
-            let signature = with_parameter_of(signature, scalar, Some(name))?;
-            Ok(State::File(externals, Outer::ParameterNamed(signature)))
-        }
-        _ => {
-            let signature = with_parameter_of(signature, scalar, None)?;
-            step_parameter_named(externals, signature, role)
-        }
+        Role::Identifier => match named_parameter(alloc, signature, scalar, text, token) {
+            Ok(signature) => Ok(State::File(externals, Outer::ParameterNamed(signature))),
+            Err(_) => {
+                drop(externals);
+                Err(Stop::Memory)
+            }
+        },
+        _ => match with_parameter_of(signature, scalar, None) {
+            Ok(signature) => step_parameter_named(externals, signature, role),
+            Err(_) => {
+                drop(externals);
+                Err(Stop::Memory)
+            }
+        },
     }
 }
 
@@ -222,7 +262,7 @@ fn step_parameter_typed(
 fn step_parameter_sign(
     alloc: Global,
     externals: Vec<External>,
-    signature: Signature,
+    signature: Box<Signature>,
     scalar: Scalar,
     role: Role,
     text: &[u8],
@@ -230,7 +270,7 @@ fn step_parameter_sign(
 ) -> Result<State, Stop>
     requires order { token.from ≤ token.to }
     requires within { token.to ≤ length text.now }
-    ensures { Gives state_view result (parameter_sign_step (external_trees externals.items) (signature_tree signature) scalar role (name_of (lexeme text.now token))) }
+    ensures { Gives state_view result (parameter_sign_step (external_trees externals.items) (signature_tree signature.value) scalar role (name_of (lexeme text.now token))) }
 {
     match role {
         Role::Int => Ok(State::File(externals, Outer::ParameterTyped(signature, scalar))),
@@ -249,30 +289,36 @@ fn are_named(parameters: &[Parameter]) -> bool
 fn step_headed(
     alloc: Global,
     externals: Vec<External>,
-    signature: Signature,
+    signature: Box<Signature>,
     role: Role,
 ) -> Result<State, Stop>
-    ensures { Gives state_view result (headed_step (external_trees externals.items) (signature_tree signature) role) }
+    ensures { Gives state_view result (headed_step (external_trees externals.items) (signature_tree signature.value) role) }
 {
     let mut externals = externals;
     match role {
         Role::Semicolon => {
-            externals.push(External::Declaration(signature))?;
+            externals.push(External::Declaration(Box::into_inner(signature)))?;
             Ok(State::File(externals, Outer::Between))
         }
         Role::OpenBrace => {
             if !are_named(signature.parameters.as_slice()) {
+                drop(externals);
+                drop(signature);
                 return Err(Stop::Unexpected);
             }
             let body = Body {
                 externals,
-                signature,
+                signature: Box::into_inner(signature),
                 finished: Vec::new(alloc),
                 open: Vec::new(alloc),
             };
             Ok(State::Body(Box::new(alloc, body)?, Stage::Item))
         }
-        _ => Err(Stop::Unexpected),
+        _ => {
+            drop(externals);
+            drop(signature);
+            Err(Stop::Unexpected)
+        }
     }
 }
 
@@ -300,7 +346,11 @@ fn step_object_next(
             };
             Ok(State::File(externals, Outer::ObjectNamed(naming)))
         }
-        _ => Err(Stop::Unexpected),
+        _ => {
+            drop(externals);
+            drop(objects);
+            Err(Stop::Unexpected)
+        }
     }
 }
 
@@ -341,13 +391,14 @@ fn step_sized(
             Ok(State::File(externals, Outer::Listing(naming, size)))
         }
         _ => {
-            let Naming {
-                scalar,
-                objects,
-                name,
-            } = naming;
-            let array = Object::Array(name, size, Vec::new(alloc));
-            end_object(externals, scalar, with_one(objects, array)?, role)
+            let scalar = naming.scalar;
+            match with_array(naming, size, Vec::new(alloc)) {
+                Ok(objects) => end_object(externals, scalar, objects, role),
+                Err(_) => {
+                    drop(externals);
+                    Err(Stop::Memory)
+                }
+            }
         }
     }
 }
@@ -367,7 +418,12 @@ fn step_listing(
             let values = Vec::new(alloc);
             Ok(State::File(externals, Outer::Valuing(naming, size, values)))
         }
-        _ => Err(Stop::Unexpected),
+        _ => {
+            drop(externals);
+            drop(naming);
+            drop(size);
+            Err(Stop::Unexpected)
+        }
     }
 }
 
@@ -381,15 +437,20 @@ fn end_list_of(
     ensures { Gives state_view result (end_list (external_trees externals.items) (naming_view naming) (optional_constant size) (constant_trees values.items)) }
 {
     if values.is_empty() {
+        drop(externals);
+        drop(naming);
+        drop(size);
+        drop(values);
         return Err(Stop::Unexpected);
     }
-    let Naming {
-        scalar,
-        objects,
-        name,
-    } = naming;
-    let objects = with_one(objects, Object::Array(name, size, values))?;
-    Ok(State::File(externals, Outer::Listed(scalar, objects)))
+    let scalar = naming.scalar;
+    match with_array(naming, size, values) {
+        Ok(objects) => Ok(State::File(externals, Outer::Listed(scalar, objects))),
+        Err(_) => {
+            drop(externals);
+            Err(Stop::Memory)
+        }
+    }
 }
 
 /// The first token of a value of an array's list, or the end of the list.

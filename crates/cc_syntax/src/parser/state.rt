@@ -175,19 +175,19 @@ pub enum Outer {
     /// What stands after the first name.
     Named(Option<Scalar>, Identifier),
     /// `void`, a parameter or `)`, after `(`.
-    Parameters(Signature),
+    Parameters(Box<Signature>),
     /// `)`, after `void`.
-    OnlyVoid(Signature),
+    OnlyVoid(Box<Signature>),
     /// A parameter, after a comma.
-    ParameterNext(Signature),
+    ParameterNext(Box<Signature>),
     /// `int`, a name, a comma or `)`, after `signed` or `unsigned`.
-    ParameterSign(Signature, Scalar),
+    ParameterSign(Box<Signature>, Scalar),
     /// A name, a comma or `)`, after a parameter's type.
-    ParameterTyped(Signature, Scalar),
+    ParameterTyped(Box<Signature>, Scalar),
     /// A comma or `)`, after a parameter.
-    ParameterNamed(Signature),
+    ParameterNamed(Box<Signature>),
     /// A semicolon or a body.
-    Headed(Signature),
+    Headed(Box<Signature>),
     /// A name, after a comma.
     ObjectNext(Scalar, Vec<Object>),
     /// `[`, `=`, a comma or a semicolon, after an object's name.

@@ -1,36 +1,36 @@
 -- The disk of a crashed state can be opened, and what is found there is what the state says of it.
-use Rattle.std.proofs.Common.{refl}
+use Rattle.std.proofs.Common.{refl, ◌∙◌}
 use Rattle.cc_core.specs.declared.contents.Phase.TheVariants.{Idle}
 use Rattle.cc_core.specs.Step.{Reopens}
 use Rattle.cc_core.proofs.Possible.{reopens, memory_answers}
-use Rattle.cc_core.proofs.Reopening.{recoverable_of, found_reopens}
+use Rattle.cc_core.proofs.Reopening.{recoverable_of, recovers_of, found_reopens}
 use Rattle.cc_core.proofs.recovery.recover.Goals as goal
 
-pub open-requires-clause-holds : goal.open-requires-clause-holds
-open-requires-clause-holds c =
+pub reopen-requires-clause-recovers : goal.reopen-requires-clause-recovers
+reopen-requires-clause-recovers c =
     let r = recoverable_of c.args.core.now c.requires c.in-Crashed.is in
-    (c.args.core.now.store.area, r.bodies, r.library, r.holds.holds, r.stand)
+    (r.library, recovers_of c.args.core.now.store c.args.core.now.order r)
 
 pub returns : goal.returns
 returns c =
     let old = c.args.core.now in
     let library = c.in-Ok.library in
     let found = c.in-Ok.ensures.answer in (
-      found_reopens old _ library c.in-Ok.used found.0 found.1 c.drop_undone.new.order c.requires c.in-Crashed.is
-          (record { holds = found.2; stand = found.3; used_is = found.4 }) c.drop_undone.ensures
-          (λ i. record {
+      found_reopens old c.enter.new.self library c.in-Ok.used found.0 found.1 c.drop_undone.new.order c.requires c.in-Crashed.is
+          found.2 c.drop_undone.ensures
+          (c.enter.ensures ∙ (λ i. record {
             library = library;
             order = c.drop_undone.new.order;
             acknowledged = old.acknowledged;
             phase = Idle;
             store = c.set_used.ensures i;
             upcoming = old.upcoming;
-          }),
+          })),
       λ e. absurd (cc),
       λ e. absurd (cc),
       tt,
     )
 
-pub returns-in_default-open : goal.returns-in_default-open
-returns-in_default-open c =
+pub returns-in_default-reopen : goal.returns-in_default-reopen
+returns-in_default-reopen c =
     memory_answers (Reopens c.args.core.now) _ c.args.core.now c.args.core.now refl refl (reopens c.args.core.now c.in-Crashed.is (recoverable_of c.args.core.now c.requires c.in-Crashed.is)) refl

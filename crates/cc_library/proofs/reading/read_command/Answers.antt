@@ -4,7 +4,8 @@ use Rattle.std.specs.Prelude.{Result, Ok, Err, IfOk}
 use Rattle.cc_library.specs.declared.command.Command.{Command}
 use Rattle.cc_library.specs.declared.reading.ReadFault.{ReadFault}
 use Rattle.cc_library.specs.Body.{Spells}
-use Rattle.cc_library.specs.Reading.{Gives, command_in}
+use Rattle.cc_library.specs.internal.Reading.{command_in}
+use Rattle.cc_library.specs.Answers.{Gives}
 use Rattle.cc_library.proofs.Fields.{from_index}
 use Rattle.cc_library.proofs.Commands.{command_takes, spelled_is_read}
 use Rattle.cc_library.proofs.reading.read_command.Goals as goal

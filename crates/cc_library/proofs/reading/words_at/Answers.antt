@@ -1,7 +1,7 @@
 -- Each turn reads one word more; the fault of a turn is the fault of the whole.
 use Rattle.std.proofs.Common.{◌+◌, ◌∷◌, [], ap, ◌∙◌, length, length-append}
 use Rattle.std.proofs.lemmas.Result.{err_from_is_err_and}
-use Rattle.cc_library.specs.Reading.{words_in}
+use Rattle.cc_library.specs.internal.Reading.{words_in}
 use Rattle.cc_library.proofs.Words.{goes_on, ends, is_done}
 use Rattle.cc_library.proofs.reading.words_at.Goals as goal
 

@@ -1,5 +1,5 @@
 use Rattle.std.proofs.Common.{◌≡◌, ◌-◌, length}
-use Rattle.cc_library.specs.Reading.{words_in}
+use Rattle.cc_library.specs.internal.Reading.{words_in}
 use Rattle.cc_library.proofs.Words.{with_front}
 use Rattle.cc_library.proofs.reading.words_at.Given as goal
 

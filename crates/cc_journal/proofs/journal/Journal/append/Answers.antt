@@ -1,12 +1,10 @@
-use Rattle.std.proofs.Common.{◌≡◌, ◌+◌, ◌<◌, ◌≤◌, ℕ, List, [], ◌∷◌, ◌++◌, length, false, IsTrue, refl, sym, ap, ◌∙◌, subst, arith, append_assoc}
-use Rattle.std.specs.Int.{w32, to_le_bytes}
+use Rattle.std.proofs.Common.{◌≡◌, ◌+◌, ◌<◌, ◌≤◌, ℕ, [], ◌∷◌, ◌++◌, false, IsTrue, refl, subst, arith}
 use Rattle.std.proofs.lemmas.Result.{err_from_is_err_and}
 use Rattle.std.proofs.lemmas.Grind.{common_steps}
 use Rattle.cc_disk.specs.Images.{IsWritten, LeavesOnly}
 use Rattle.cc_journal.specs.Format.{HoldsOldOrNew, record_bytes, room_of}
 use Rattle.cc_journal.specs.Journal.{View}
-use Rattle.cc_journal.proofs.Images.{frame}
-use Rattle.cc_journal.proofs.Kept.{kept_alone, room_push, still, in_commit, kept_more}
+use Rattle.cc_journal.proofs.Kept.{kept_alone, room_push, still, in_commit, appended_bytes, kept_more}
 use Rattle.cc_journal.proofs.journal.Journal.append.Goals as goal
 
 -- without a device call
@@ -49,16 +47,15 @@ returns-in-Err-clause-answers g c =
     let i = c.self.inside in
     let body = c.args.body.now in
     let room = room_push i.bodies.items body i.used c.self.invariant.taken in
-    subst (λ (v : View g.row.D.Denot). (v.closed ≡ false) × (room_of (v.bodies ++ body ∷ []) ≤ v.area) × (g.D.Disk.failures c.commit.new.disk ≡ g.D.Disk.failures v.disk + 1)) c.self.view_is
+    subst (λ (v : View g.row.D.Denot). (v.closed ≡ false) × (room_of (v.bodies ++ body ∷ []) ≤ v.area) × (g.D.Disk.failures c.make.new.disk ≡ g.D.Disk.failures v.disk + 1)) c.self.view_is
     (c.if-self.false, omega (arith, room), c.in-Err.ensures.failures)
 
 pub returns-in-Err-clause-moments : goal.returns-in-Err-clause-moments
 returns-in-Err-clause-moments g c =
     let D = g.D.Disk in
     let i = c.self.inside in
-    let is : c.deref.result.now ≡ frame c.args.body.now = c.deref.ensures.value ∙ c.in_ok-kept.ensures.behind in
-    subst (λ (v : View g.row.D.Denot). IsTrue D.honest → v.closed ≡ false → LeavesOnly D.moment D.left_since v.disk c.commit.new.disk (HoldsOldOrNew v.area v.bodies c.args.body.now)) c.self.view_is
-    (λ h not_closed. in_commit D.honest D.size D.seen D.may_leave D.moment D.left_since i.disk i.start i.area i.used i.bodies.items i.closed c.self.invariant c.args.body.now c.commit.new.disk c.deref.result.now is (omega arith) h not_closed (c.in-Err.ensures.moments h))
+    subst (λ (v : View g.row.D.Denot). IsTrue D.honest → v.closed ≡ false → LeavesOnly D.moment D.left_since v.disk c.make.new.disk (HoldsOldOrNew v.area v.bodies c.args.body.now)) c.self.view_is
+    (λ h not_closed. in_commit D.honest D.size D.seen D.may_leave D.moment D.left_since i.disk i.start i.area i.used i.bodies.items i.closed c.self.invariant c.args.body.now c.make.new.disk c.in_ok-kept.commit c.in_ok-kept.ensures.commit (omega arith) h not_closed (c.in-Err.ensures.moments h))
 
 -- the record was added
 
@@ -67,40 +64,39 @@ returns-in-Ok-clause-answers g c =
     let i = c.self.inside in
     let body = c.args.body.now in
     let room = room_push i.bodies.items body i.used c.self.invariant.taken in
-    subst (λ (v : View g.row.D.Denot). (v.closed ≡ false) × (room_of (v.bodies ++ body ∷ []) ≤ v.area) × (g.D.Disk.failures c.commit.new.disk ≡ g.D.Disk.failures v.disk)) c.self.view_is
+    subst (λ (v : View g.row.D.Denot). (v.closed ≡ false) × (room_of (v.bodies ++ body ∷ []) ≤ v.area) × (g.D.Disk.failures c.make.new.disk ≡ g.D.Disk.failures v.disk)) c.self.view_is
     (c.if-self.false, omega (arith, room), c.in-Ok.ensures.failures)
 
 pub returns-in-Ok-clause-moments : goal.returns-in-Ok-clause-moments
 returns-in-Ok-clause-moments g c =
     let D = g.D.Disk in
     let i = c.self.inside in
-    let is : c.deref.result.now ≡ frame c.args.body.now = c.deref.ensures.value ∙ c.in_ok-kept.ensures.behind in
-    subst (λ (v : View g.row.D.Denot). IsTrue D.honest → v.closed ≡ false → LeavesOnly D.moment D.left_since v.disk c.commit.new.disk (HoldsOldOrNew v.area v.bodies c.args.body.now)) c.self.view_is
-    (λ h not_closed. in_commit D.honest D.size D.seen D.may_leave D.moment D.left_since i.disk i.start i.area i.used i.bodies.items i.closed c.self.invariant c.args.body.now c.commit.new.disk c.deref.result.now is (omega arith) h not_closed (c.in-Ok.ensures.moments h))
+    subst (λ (v : View g.row.D.Denot). IsTrue D.honest → v.closed ≡ false → LeavesOnly D.moment D.left_since v.disk c.make.new.disk (HoldsOldOrNew v.area v.bodies c.args.body.now)) c.self.view_is
+    (λ h not_closed. in_commit D.honest D.size D.seen D.may_leave D.moment D.left_since i.disk i.start i.area i.used i.bodies.items i.closed c.self.invariant c.args.body.now c.make.new.disk c.in_ok-kept.commit c.in_ok-kept.ensures.commit (omega arith) h not_closed (c.in-Ok.ensures.moments h))
 
 pub invariant_of-self-in-Ok-1 : goal.invariant_of-self-in-Ok-1
 invariant_of-self-in-Ok-1 g c =
     let D = g.D.Disk in
     let i = c.self.inside in
-    let is : c.deref.result.now ≡ frame c.args.body.now = c.deref.ensures.value ∙ c.in_ok-kept.ensures.behind in
     let pushed : c.push.new.self.items ≡ i.bodies.items ++ c.args.body.now ∷ [] = grind (arith, common_steps) in
-    kept_more D.honest D.size D.seen D.may_leave D.moment D.left_since i.disk i.start i.area i.used i.bodies.items i.closed c.self.invariant c.args.body.now c.commit.new.disk c.deref.result.now c.push.new.self.items is pushed (omega arith) c.commit.ensures.size c.if-self.false c.in-Ok.ensures.written c.in-Ok.ensures.alone
+    kept_more D.honest D.size D.seen D.may_leave D.moment D.left_since i.disk i.start i.area i.used i.bodies.items i.closed c.self.invariant c.args.body.now c.make.new.disk c.in_ok-kept.commit c.push.new.self.items c.in_ok-kept.ensures.commit pushed (omega arith) c.make.ensures.size c.if-self.false c.in-Ok.ensures.committed c.in-Ok.ensures.alone
 
 pub returns-in-Ok-clause-kept : goal.returns-in-Ok-clause-kept
 returns-in-Ok-clause-kept g c =
     let D = g.D.Disk in
     let i = c.self.inside in
-    let is : c.deref.result.now ≡ frame c.args.body.now = c.deref.ensures.value ∙ c.in_ok-kept.ensures.behind in
     let pushed : c.push.new.self.items ≡ i.bodies.items ++ c.args.body.now ∷ [] = grind (arith, common_steps) in
-    let kept = kept_more D.honest D.size D.seen D.may_leave D.moment D.left_since i.disk i.start i.area i.used i.bodies.items i.closed c.self.invariant c.args.body.now c.commit.new.disk c.deref.result.now c.push.new.self.items is pushed (omega arith) c.commit.ensures.size c.if-self.false c.in-Ok.ensures.written c.in-Ok.ensures.alone in
-    λ h image now. kept_alone _ _ _ (D.may_leave c.commit.new.disk) _ _ _ _ _ kept h c.if-self.false image now
+    let kept = kept_more D.honest D.size D.seen D.may_leave D.moment D.left_since i.disk i.start i.area i.used i.bodies.items i.closed c.self.invariant c.args.body.now c.make.new.disk c.in_ok-kept.commit c.push.new.self.items c.in_ok-kept.ensures.commit pushed (omega arith) c.make.ensures.size c.if-self.false c.in-Ok.ensures.committed c.in-Ok.ensures.alone in
+    λ h image now. kept_alone _ _ _ (D.may_leave c.make.new.disk) _ _ _ _ _ kept h c.if-self.false image now
 
 pub returns-in-Ok-clause-bytes : goal.returns-in-Ok-clause-bytes
 returns-in-Ok-clause-bytes g c =
     let D = g.D.Disk in
     let i = c.self.inside in
     let body = c.args.body.now in
-    let is : 0xa5 ∷ c.deref.result.now ≡ record_bytes body ++ 0 ∷ [] =
-    ap (λ (l : List ℕ). 0xa5 ∷ l) (c.deref.ensures.value ∙ c.in_ok-kept.ensures.behind ∙ sym (append_assoc (to_le_bytes w32 (length body)) body (0 ∷ []))) in
-    subst (λ (v : View g.row.D.Denot). IsTrue D.honest → (offset : ℕ) × IsWritten (D.seen v.disk) offset (record_bytes body ++ 0 ∷ []) (D.seen c.commit.new.disk)) c.self.view_is
-    (λ h. (i.start + i.used, subst (λ (l : List ℕ). IsWritten (D.seen i.disk) (i.start + i.used) l (D.seen c.commit.new.disk)) is (c.in-Ok.ensures.written h)))
+    subst (λ (v : View g.row.D.Denot). IsTrue D.honest → (offset : ℕ) × IsWritten (D.seen v.disk) offset (record_bytes body ++ 0 ∷ []) (D.seen c.make.new.disk)) c.self.view_is
+    (λ h. (
+      i.start + i.used,
+      appended_bytes D.honest D.size D.seen D.may_leave D.moment D.left_since i.disk i.start i.area i.used i.bodies.items i.closed c.self.invariant body
+          c.make.new.disk c.in_ok-kept.commit c.in_ok-kept.ensures.commit (omega arith) h c.if-self.false (c.in-Ok.ensures.committed h),
+    ))

@@ -1,5 +1,5 @@
 -- Without a device call every image recovers to the old map; during the `append` to the old one or to the one after it.
-use Rattle.std.proofs.Common.{◌≡◌, List, ℕ, false, refl, IsTrue, sym, ◌∙◌, ap, subst}
+use Rattle.std.proofs.Common.{◌≡◌, List, [], ◌∷◌, ◌++◌, ℕ, false, refl, IsTrue, sym, ◌∙◌, ap, subst}
 use Rattle.std.specs.Prelude.{IsOk, Err}
 use Rattle.cc_disk.specs.Images.{LeavesOnly}
 use Rattle.cc_library.specs.declared.fault.LibraryFault.{LibraryFault}
@@ -72,7 +72,7 @@ returns-in-Ok-clause-moments g c =
     let i = c.self.inside in
     let ok : IsOk (apply i.units c.args.command) = is_accepted (apply i.units c.args.command) (sym c.refusal.ensures ∙ c.in-None.is) in
     let spelled : Spells c.deref.result.now c.args.command = subst (λ (b : List ℕ). Spells b c.args.command) (sym c.deref.ensures.value) c.in_ok-body.ensures in
-    subst (λ (v : View g.row.D.Denot). IsTrue D.honest → v.closed ≡ false → LeavesOnly D.moment D.left_since v.disk c.append.new.self.disk (IsOldOrNew v.area v.bodies v.units (body_of c.args.command) (after v.units c.args.command))) c.self.view_is
+    subst (λ (v : View g.row.D.Denot). IsTrue D.honest → v.closed ≡ false → LeavesOnly D.moment D.left_since v.disk c.append.new.self.disk (IsOldOrNew v.area v.bodies v.units (v.bodies ++ body_of c.args.command ∷ []) (after v.units c.args.command))) c.self.view_is
     (λ h not_closed. appended D.moment D.left_since i.journal.disk c.append.new.self.disk i.journal.area i.journal.bodies c.deref.result.now i.units c.args.command c.self.invariant.stand spelled ok
     (c.append.ensures.moments h (sym c.self.invariant.same ∙ not_closed)))
 
@@ -94,7 +94,7 @@ returns-clause-moments g c =
     let i = c.self.inside in
     let ok : IsOk (apply i.units c.args.command) = is_accepted (apply i.units c.args.command) (sym c.refusal.ensures ∙ c.in-None.is) in
     let spelled : Spells c.deref.result.now c.args.command = subst (λ (b : List ℕ). Spells b c.args.command) (sym c.deref.ensures.value) c.in_ok-body.ensures in
-    subst (λ (v : View g.row.D.Denot). IsTrue D.honest → v.closed ≡ false → LeavesOnly D.moment D.left_since v.disk c.append.new.self.disk (IsOldOrNew v.area v.bodies v.units (body_of c.args.command) (after v.units c.args.command))) c.self.view_is
+    subst (λ (v : View g.row.D.Denot). IsTrue D.honest → v.closed ≡ false → LeavesOnly D.moment D.left_since v.disk c.append.new.self.disk (IsOldOrNew v.area v.bodies v.units (v.bodies ++ body_of c.args.command ∷ []) (after v.units c.args.command))) c.self.view_is
     (λ h not_closed. appended D.moment D.left_since i.journal.disk c.append.new.self.disk i.journal.area i.journal.bodies c.deref.result.now i.units c.args.command c.self.invariant.stand spelled ok
     (c.append.ensures.moments h (sym c.self.invariant.same ∙ not_closed)))
 

@@ -1,6 +1,7 @@
--- So far the edits that were taken are done, and there is room for the numbers of all.
-use Rattle.std.proofs.Common.{◌≡◌, ◌≤◌, ◌++◌, length, vec_capacity}
-use Rattle.cc_library.specs.Runs.{AreEdited}
+-- So far the edits that were taken are done, each moment left the map after some of them, and there is room for all numbers.
+use Rattle.std.proofs.Common.{◌≡◌, ◌≤◌, ◌++◌, false, IsTrue, length, vec_capacity}
+use Rattle.cc_disk.specs.Images.{LeavesOnly}
+use Rattle.cc_library.specs.Runs.{AreEdited, RecoversAmong}
 use Rattle.cc_library.proofs.library.Library.run.Given as goal
 
 abbrev pub invariant-loop-edit : goal.invariant-loop-edit
@@ -10,4 +11,7 @@ invariant-loop-edit g l = record {
   edits : l.yielded ++ l.edit-iterator.rest.items ≡ l.fn.edits.items;
   room : length l.fn.edits.items ≤ vec_capacity l.numbers;
   count : length l.numbers.items ≡ length l.yielded;
+  stays : l.fn.self.closed ≡ false → l.library.closed ≡ false;
+  moments : IsTrue g.D.Disk.honest → l.fn.self.closed ≡ false
+      → LeavesOnly g.D.Disk.moment g.D.Disk.left_since l.fn.self.disk l.library.disk (RecoversAmong l.fn.self.units l.yielded l.numbers.items);
 }

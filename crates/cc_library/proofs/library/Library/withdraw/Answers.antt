@@ -1,4 +1,5 @@
 -- The change tells the records of each image as well; here the maps are enough.
+use Rattle.std.proofs.Common.{[], ◌∷◌, ◌++◌}
 use Rattle.cc_library.specs.declared.command.Command.TheVariants.{Withdraw}
 use Rattle.cc_library.specs.Apply.{after}
 use Rattle.cc_library.specs.Body.{body_of}
@@ -12,7 +13,7 @@ returns-clause-moments g c =
     let D = g.D.Disk in
     let old = c.args.self.now in
     let new = c.change.new.self in
-    λ h not_closed. maps_alone D.moment D.left_since old.disk new.disk old.area old.bodies old.units (body_of (Withdraw c.args.name)) (after old.units (Withdraw c.args.name)) (c.change.ensures.moments h not_closed)
+    λ h not_closed. maps_alone D.moment D.left_since old.disk new.disk old.area old.bodies old.units (old.bodies ++ body_of (Withdraw c.args.name) ∷ []) (after old.units (Withdraw c.args.name)) (c.change.ensures.moments h not_closed)
 
 pub returns-clause-images : goal.returns-clause-images
 returns-clause-images g c =
@@ -21,5 +22,5 @@ returns-clause-images g c =
     let new = c.change.new.self in
     let made = after old.units (Withdraw c.args.name) in
     λ h not_closed. of_now D.may_leave D.moment D.left_since old.disk new.disk (RecoversOneOf old.units made)
-    (maps_alone D.moment D.left_since old.disk new.disk old.area old.bodies old.units (body_of (Withdraw c.args.name)) made (c.change.ensures.moments h not_closed))
+    (maps_alone D.moment D.left_since old.disk new.disk old.area old.bodies old.units (old.bodies ++ body_of (Withdraw c.args.name) ∷ []) made (c.change.ensures.moments h not_closed))
     (λ t image le now. g.met.D.Disk.counts_now new.disk t image h le now)

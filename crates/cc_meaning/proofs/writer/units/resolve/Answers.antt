@@ -1,28 +1,9 @@
--- One external declaration after the other.
-use Rattle.std.proofs.Common.{subst, ap, arith}
-use Rattle.std.proofs.lemmas.List.{drop_all}
-use Rattle.cc_syntax.specs.Erase.{external_tree, external_trees}
-use Rattle.cc_resolve.specs.Layout.{layout_of}
-use Rattle.cc_meaning.specs.internal.Form.{unit_functions}
-use Rattle.cc_typing.proofs.SameTypes.{drop-item}
-use Rattle.cc_meaning.proofs.WritingUnits.{Resolving, Resolving-first, Resolving-next, form-is}
+-- The form of the unit.
+use Rattle.cc_syntax.specs.Erase.{external_trees}
+use Rattle.cc_meaning.proofs.WritingUnits.{form-is}
 use Rattle.cc_meaning.proofs.writer.units.resolve.Goals as goal
-
-pub loop-tree-init : goal.loop-tree-init
-loop-tree-init c =
-    Resolving-first (external_trees c.args.trees.now) c.in_ok-layout.layout c.in_ok-names.names c.new-code.result.items c.new-functions.result.items
-    c.in_ok-names.ensures c.in_ok-layout.ensures.answer c.new-code.ensures.items c.new-functions.ensures.items
-
-pub loop-tree-preserved : goal.loop-tree-preserved
-loop-tree-preserved c =
-    let all = external_trees c.args.trees.now in
-    let left = drop-item c.args.trees.now c.loop-tree.tree-index c.tree-item.result c.loop-tree-test.true c.tree-item.is in
-    let before = subst (λ es. Resolving (layout_of all) (unit_functions all) c.loop-tree.names c.loop-tree.code.items c.loop-tree.functions.items (external_trees es)) left c.loop-tree.invariant in
-    Resolving-next _ _ _ _ _ (external_tree c.tree-item.result) _ _ _ _ before c.in_ok-resolve_external.ensures.names c.in_ok-resolve_external.ensures.code c.in_ok-resolve_external.ensures.entries
 
 pub returns : goal.returns
 returns c =
-    let all = external_trees c.args.trees.now in
-    let left = ap external_trees (drop_all c.loop-tree.tree-index c.args.trees.now (omega (arith, c.loop-tree-test.false))) in
-    form-is all c.in_ok-layout.layout c.loop-tree.names c.loop-tree.code.items c.loop-tree.functions.items _ c.function-main.result c.lay_out.new.words.items
-    c.loop-tree.invariant left c.in_ok-layout.ensures.answer c.function-main.ensures c.in_ok-layout.ensures.words
+    form-is (external_trees c.args.trees.now) c.in_ok-layout.layout c.resolve_externals-resolved.new.code.items c.resolve_externals-resolved.new.entries.items c.function-main.result c.lay_out.new.words.items
+    c.in_ok-resolved.ensures.code c.in_ok-resolved.ensures.entries c.in_ok-layout.ensures.answer c.function-main.ensures c.in_ok-layout.ensures.words

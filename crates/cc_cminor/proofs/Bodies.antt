@@ -1,0 +1,202 @@
+-- The code of a function keeps up with its body, from what the meaning hands out.
+use Rattle.std.proofs.Common.{◌≡◌, ℕ, suc, ◌+◌, ◌<◌, Bool, true, false, List, [], ◌∷◌, length, map, option_map, Option, Some, None, unwrap_or, get_or, slice_get, refl, sym, ap, ◌∙◌, subst, arith}
+use Rattle.std.proofs.lemmas.List.{length-map}
+use Rattle.std.proofs.lemmas.Option.{slice_get-get_or, slice_get-map}
+use Rattle.cc_syntax.specs.Tree.{External, Name, Parameter}
+use Rattle.cc_resolve.specs.Layout.{Layout, LaidObject, layout_of, callee}
+use Rattle.cc_resolve.specs.Environment.{Environment, parameter_names}
+use Rattle.cc_resolve.specs.declared.layout.Callee.{Callee}
+use Rattle.cc_resolve.specs.declared.layout.Callee.TheVariants.{WriteWord, ReadWord, Defined}
+use Rattle.cc_meaning.specs.Meaning as meaning
+use Rattle.cc_meaning.specs.Meaning.{Global, State, Run, Gives, Flow, Falls, Breaks, Continues, Returns, then_do, execute_all, Function, functions, calls, bound, result_of, run_optional, initial_globals, text_of}
+use Rattle.cc_meaning.specs.Function.{Shared, effect_of, state_within, call_function}
+use Rattle.cc_meaning.specs.Resolved as resolved
+use Rattle.cc_meaning.specs.Resolved.{arities, IsResolved}
+use Rattle.cc_meaning.specs.Calls.{Size, sizes, shared_of, called, CallsAreEffects, CallsKeepObjects, FunctionsAreNumbered, ObjectsAreNumbered, ObjectsAreSized}
+use Rattle.cc_meaning.specs.Numbered as by_number
+use Rattle.cc_meaning.specs.Numbered.{words_in, world_of, named, shared_in, numbered, call_in, body_in, arity_in, IsMeaningOf, CallsAreNumbered}
+use Rattle.cc_typing.specs.Typed.{IsTyped}
+use Rattle.cc_runs.specs.Behavior.{Ended}
+use Rattle.cc_runs.specs.World as world
+use Rattle.cc_runs.specs.World.{World, Question, Answer, Effect}
+use Rattle.cc_runs.specs.Run.{tried, Returns as Ret, run, act}
+use Rattle.cc_runs.specs.Meaning.{Meaning, most_open, IsCall, call_effect}
+use Rattle.cc_runs.specs.Tracks.{Keeping}
+use Rattle.cc_cminor.specs.Cminor.{Ends, Config, config, cminor_move, cminor_output, first_variables}
+use Rattle.cc_cminor.specs.Pair.{KeepsUp}
+use Rattle.cc_cminor.specs.internal.Lowering.{body_code}
+use Rattle.cc_cminor.proofs.Paths.{world_at, Reaches, Comes}
+use Rattle.cc_cminor.proofs.Known.{AllKnownIn, all_known_in}
+use Rattle.cc_cminor.proofs.Variables.{names_of, Holds, laid_sizes, Fits}
+use Rattle.cc_cminor.proofs.PutExpressions.{CallIs, CallFacts}
+use Rattle.cc_cminor.proofs.LoweredStatements.{GivesBack, Loosely, all_comes}
+
+-- ---- objects and functions by number
+
+sized_names : (gs : List Global) → map (λ (z : Size). z.name) (sizes gs) ≡ by_number.names_of gs
+sized_names [] = refl
+sized_names (g ∷ gs) = ap (λ rest. g.name ∷ rest) (sized_names gs)
+
+laid_names : (ps : List LaidObject) → map (λ (z : Size). z.name) (laid_sizes ps) ≡ map (λ (p : LaidObject). p.name) ps
+laid_names [] = refl
+laid_names (p ∷ ps) = ap (λ rest. p.name ∷ rest) (laid_names ps)
+
+first_name : List (List ℕ) → List ℕ
+first_name [] = []
+first_name (x ∷ xs) = x
+
+other_names : List (List ℕ) → List (List ℕ)
+other_names [] = []
+other_names (x ∷ xs) = xs
+
+first_number : List ℕ → ℕ
+first_number [] = 0
+first_number (n ∷ ns) = n
+
+other_numbers : List ℕ → List ℕ
+other_numbers [] = []
+other_numbers (n ∷ ns) = ns
+
+-- objects of a world with the names of the layout
+sized_named : (ps : List LaidObject) (xs ws : List (List ℕ)) → xs ≡ map (λ (p : LaidObject). p.name) ps → map (λ (w : List ℕ). length w) ws ≡ map (λ (p : LaidObject). p.extent.length) ps
+    → (sizes (named xs ws) ≡ laid_sizes ps) × (words_in (named xs ws) ≡ ws)
+sized_named [] [] [] e f = (refl, refl)
+sized_named [] [] (w ∷ ws) e f = absurd (let q : ◌≡◌ {A = List ℕ} (length w ∷ map (λ (w : List ℕ). length w) ws) [] = f in cc)
+sized_named [] (x ∷ xs) ws e f = absurd (let q : ◌≡◌ {A = List (List ℕ)} (x ∷ xs) [] = e in cc)
+sized_named (p ∷ ps) [] ws e f = absurd (let q : ◌≡◌ {A = List (List ℕ)} [] (p.name ∷ map (λ (p : LaidObject). p.name) ps) = e in cc)
+sized_named (p ∷ ps) (x ∷ xs) [] e f = absurd (let q : ◌≡◌ {A = List ℕ} [] (p.extent.length ∷ map (λ (p : LaidObject). p.extent.length) ps) = f in cc)
+sized_named (p ∷ ps) (x ∷ xs) (w ∷ ws) e f =
+    let q : ◌≡◌ {A = List (List ℕ)} (x ∷ xs) (p.name ∷ map (λ (p : LaidObject). p.name) ps) = e in
+    let r : ◌≡◌ {A = List ℕ} (length w ∷ map (λ (w : List ℕ). length w) ws) (p.extent.length ∷ map (λ (p : LaidObject). p.extent.length) ps) = f in
+    let name : x ≡ p.name = cc in
+    let names : xs ≡ map (λ (p : LaidObject). p.name) ps = cc in
+    let size : length w ≡ p.extent.length = cc in
+    let rest : map (λ (w : List ℕ). length w) ws ≡ map (λ (p : LaidObject). p.extent.length) ps = cc in
+    let h = sized_named ps xs ws names rest in (
+      ap (λ y. record { name = y; words = length w } ∷ sizes (named xs ws)) name ∙ ap (λ n. record { name = p.name; words = n } ∷ sizes (named xs ws)) size ∙ ap (λ zs. record { name = p.name; words = p.extent.length } ∷ zs) h.0,
+      ap (λ vs. w ∷ vs) h.1,
+    )
+
+-- ---- the end of a run
+
+-- some cut keeps what is owed
+abbrev pub Kept : (ℕ → Question → Effect) → ℕ → Effect → Config → Type 0
+Kept effect n source c = (most : ℕ) × (most_steps : ℕ) × Keeping cminor_move cminor_output effect 1 n source c most most_steps
+
+ended : (effect : ℕ → Question → Effect) (c d : Config) (n left : ℕ) (a : Answer) → Reaches effect c n left d → cminor_move d ≡ Ret a → cminor_output d ≡ a.world.output → Kept effect n (world.Gives a left) c
+ended effect c d n left a p e o =
+    let r = p.way.same 1 0 in
+    let w = p.way.done 1 0 in
+    let paid = p.paid in (
+      p.m + 1,
+      p.t + 0,
+      record {
+        moves = p.m + 1;
+        steps = p.t + 0;
+        few = omega arith;
+        few_steps = omega arith;
+        keeps = (r ∙ ap (λ x. act effect x (cminor_output d) 0 (run cminor_move cminor_output effect 0)) e ∙ ap (λ y. record { stop = Ended a; output = y }) o, omega arith);
+      },
+    )
+
+gave_back : (effect : ℕ → Question → Effect) (g : Layout) (c d : Config) (n w : ℕ) (t : State) → Reaches effect c n t.steps d → GivesBack effect g w t d → Kept effect n (world.Gives (record { value = w; world = world_at t }) t.steps) c
+gave_back effect g c d n w t p q =
+    ended effect c d n t.steps (record { value = w; world = world_at t }) p
+    (ap cminor_move q.at ∙ ap (λ o. tried o (λ y. Ret (record { value = y; world = world_at t }))) q.is) (ap cminor_output q.at)
+
+keeping_of : (effect : ℕ → Question → Effect) (g : Layout) (ns : List (List ℕ)) (c : Config) (n : ℕ) (r : Run Flow) → Comes effect (Loosely effect g false Ends ns) c n r
+    → Kept effect n (numbered (effect_of (then_do r (λ flow t. Gives (result_of flow) (record t { locals = [] }))))) c
+keeping_of effect g ns c n (Gives Falls t) h =
+    ended effect c h.to n t.steps (record { value = 0; world = world_at t }) h.reaches (ap cminor_move h.is.stops.at) (ap cminor_output h.is.stops.at)
+keeping_of effect g ns c n (Gives Breaks t) h = gave_back effect g c h.to n 0 t h.reaches h.is
+keeping_of effect g ns c n (Gives Continues t) h = gave_back effect g c h.to n 0 t h.reaches h.is
+keeping_of effect g ns c n (Gives (Returns w) t) h = gave_back effect g c h.to n w t h.reaches h.is
+keeping_of effect g ns c n (meaning.Going o) h = (h.k, h.j, record { moves = h.k; steps = h.j; few = omega arith; few_steps = omega arith; keeps = (h.same, (let e = h.enough in omega arith)) })
+keeping_of effect g ns c n (meaning.Wrong cause o) h = (0, 0, record { moves = 0; steps = 0; few = omega arith; few_steps = omega arith; keeps = tt })
+
+-- ---- entry
+
+same_text : (o : Option Name) → text_of o ≡ elim o as (λ _. List ℕ) [ None ↦ [] | Some x ↦ x.text ]
+same_text None = refl
+same_text (Some x) = refl
+
+bound_names : (ps : List Parameter) (ws : List ℕ) (ls : List meaning.Local) → length ws ≡ length ps → names_of (bound (map (λ (p : Parameter). text_of p.name) ps) ws ls) ≡ parameter_names ps (names_of ls)
+bound_names [] ws ls e = refl
+bound_names (p ∷ ps) [] ls e = absurd (let f : 0 ≡ suc (length ps) = e in omega arith)
+bound_names (p ∷ ps) (w ∷ ws) ls e =
+    bound_names ps ws (record { name = text_of p.name; word = w } ∷ ls) (let f : suc (length ws) ≡ suc (length ps) = e in omega arith)
+    ∙ ap (λ x. parameter_names ps (x ∷ names_of ls)) (same_text p.name)
+
+bound_holds : (ps : List (List ℕ)) (ws : List ℕ) (ls : List meaning.Local) (l : ℕ → ℕ) → length ws ≡ length ps → Holds ls l → ((i : ℕ) → l (length ls + i) ≡ get_or ws i 0) → Holds (bound ps ws ls) l
+bound_holds [] ws ls l e h f = h
+bound_holds (x ∷ xs) [] ls l e h f = absurd (let g : 0 ≡ suc (length xs) = e in omega arith)
+bound_holds (x ∷ xs) (w ∷ ws) ls l e h f =
+    bound_holds xs ws (record { name = x; word = w } ∷ ls) l (let g : suc (length ws) ≡ suc (length xs) = e in omega arith)
+    (ap l (let g : length ls ≡ length ls + 0 = omega arith in g) ∙ f 0, h)
+    (λ i. ap l (let g : suc (length ls) + i ≡ length ls + suc i = omega arith in g) ∙ f (suc i))
+
+-- ---- the whole
+
+module _ (effects : CallsAreEffects) (keep : CallsKeepObjects) (functions_are : FunctionsAreNumbered) (objects_are : ObjectsAreNumbered) (sized : ObjectsAreSized) (by_numbers : CallsAreNumbered) where
+  same_many : (unit : List External) → length (arities unit) ≡ length (layout_of unit).functions
+  same_many unit =
+      length-map (functions unit) (λ (g : Function). length g.parameters) ∙ sym (length-map (functions unit) (λ (g : Function). g.name)) ∙ ap (λ (xs : List (List ℕ)). length xs) (functions_are unit)
+
+  same_names : (unit : List External) (gs : List Global) → sizes gs ≡ laid_sizes (layout_of unit).objects → by_number.names_of gs ≡ by_number.names_of (initial_globals unit)
+  same_names unit gs e = sym (sized_names gs) ∙ ap (λ zs. map (λ (z : Size). z.name) zs) e ∙ laid_names (layout_of unit).objects ∙ sym (objects_are unit)
+
+  call_facts : (unit : List External) (m : Meaning) (is : IsMeaningOf unit m) (opened n : ℕ) → CallFacts (call_effect m opened) (layout_of unit) (calls n (functions unit) opened) n
+  call_facts unit m is opened n = record {
+    exact = λ q j left a e. m.exact opened q.function q.arguments q.world j left a e;
+    writes = λ x ws s e lt.
+        effects unit n opened 1 x ws s (subst (λ c. resolved.IsCalled (arities unit) c 1) (sym e) refl) lt ∙ ap (λ c. called unit opened c ws s) e;
+    reads = λ x ws s e lt.
+        effects unit n opened 0 x ws s (subst (λ c. resolved.IsCalled (arities unit) c 0) (sym e) refl) lt ∙ ap (λ c. called unit opened c ws s) e;
+    does = λ x ws f s e below lt sizes_are.
+        let many = same_many unit in
+        let arity : slice_get (arities unit) f ≡ Some (get_or (arities unit) f 0) = slice_get-get_or (arities unit) f 0 (omega arith) in
+        record {
+          what = call_function unit s.steps opened f ws (shared_of s);
+          does = effects unit n opened (get_or (arities unit) f 0) x ws s (subst (λ c. resolved.IsCalled (arities unit) c (get_or (arities unit) f 0)) (sym e) arity) lt ∙ ap (λ c. called unit opened c ws s) e;
+          same = ap (λ (call : ℕ → ℕ → ℕ → List ℕ → World → Effect). call s.steps opened f ws (world_at s)) is.call ∙ (by_numbers unit s.steps opened f ws (shared_of s) (same_names unit s.globals sizes_are)).0;
+          keeps = keep unit s.steps opened f ws (shared_of s);
+        };
+  }
+
+  pub lowered_keeps_up : (unit : List External) → IsTyped unit → (f : ℕ) (r : IsResolved unit f) → KeepsUp unit f (body_code (layout_of unit) r.environment r.body)
+  lowered_keeps_up unit typed f r = λ m is opened below ws h call n.
+      let g : Layout = layout_of unit in
+      let ps : List (List ℕ) = map (λ (p : Parameter). text_of p.name) r.signature.parameters in
+      let function : Function = record { name = r.signature.name.text; parameters = ps; body = r.body; visible = r.environment.visible } in
+      let effect : ℕ → Question → Effect = call_effect m (opened + 1) in
+      let H : Shared = shared_in unit h in
+      let all : (sizes H.globals ≡ laid_sizes g.objects) × (words_in H.globals ≡ h.globals) =
+      sized_named g.objects (by_number.names_of (initial_globals unit)) h.globals (objects_are unit)
+      (call.world.sizes ∙ is.objects ∙ objects_words (initial_globals unit) ∙ sized unit typed) in
+      let s : State = record (state_within n H) { locals = bound ps ws [] } in
+      let arity : arity_in unit f ≡ length ps =
+      ap (λ o. unwrap_or o 0) (slice_get-map (λ (g : Function). length g.parameters) (functions unit) f ∙ ap (λ o. option_map (λ (g : Function). length g.parameters) o) r.function) in
+      let many : length ws ≡ length ps = call.count ∙ ap (λ (a : ℕ → ℕ). a f) is.arity ∙ arity in
+      let many' : length ws ≡ length r.signature.parameters = many ∙ length-map r.signature.parameters (λ (p : Parameter). text_of p.name) in
+      let fits : Fits g r.environment.locals s (first_variables ws) = record {
+        names = bound_names r.signature.parameters ws [] many' ∙ sym r.locals;
+        holds = bound_holds ps ws [] (first_variables ws) many tt (λ i. ap (first_variables ws) (let g : 0 + i ≡ i = omega arith in g));
+        sized = all.0;
+      } in
+      let known : AllKnownIn g r.environment r.body = all_known_in (arities unit) g (same_many unit) r.body r.environment r.layout r.resolved in
+      let c : Config = config (body_code g r.environment r.body) Ends (first_variables ws) (world_at s) in
+      let kept : Kept effect n (body_in unit n opened f ws h) c =
+      subst (λ o. Kept effect n (numbered (effect_of (run_optional o (suc n) (calls (suc n) (functions unit) (opened + 1)) ws (state_within n H)))) c) (sym r.function)
+      (keeping_of effect g r.environment.locals c n (execute_all function.body (suc n) (calls (suc n) (functions unit) (opened + 1)) function.visible s)
+      (all_comes effect g (calls (suc n) (functions unit) (opened + 1)) (suc n) (call_facts unit m is (opened + 1) (suc n)) r.body false r.environment Ends (first_variables ws) s known (omega arith) fits)) in
+      let start : c ≡ config (body_code g r.environment r.body) Ends (first_variables ws) h =
+      ap (λ gs. config (body_code g r.environment r.body) Ends (first_variables ws) (record { globals = gs; input = h.input; output = h.output })) all.1 in
+      let one : opened + 1 ≡ suc opened = omega arith in
+      let body : body_in unit n opened f ws h ≡ m.body n opened f ws h = sym (ap (λ (b : ℕ → ℕ → ℕ → List ℕ → World → Effect). b n opened f ws h) is.body) in
+      subst (λ k. Kept (call_effect m k) n (m.body n opened f ws h) (config (body_code g r.environment r.body) Ends (first_variables ws) h)) one
+      (subst (λ e. Kept effect n e (config (body_code g r.environment r.body) Ends (first_variables ws) h)) body
+      (subst (λ c. Kept effect n (body_in unit n opened f ws h) c) start kept))
+    where
+      objects_words : (gs : List Global) → map (λ (ws : List ℕ). length ws) (words_in gs) ≡ map (λ (g : Global). length g.words) gs
+      objects_words [] = refl
+      objects_words (g ∷ gs) = ap (λ ns. length g.words ∷ ns) (objects_words gs)

@@ -1,0 +1,63 @@
+-- What a pair of Cminor keeps: the Cminor of one function of a typed unit.
+use Rattle.std.specs.Prelude.{◌≡◌, ℕ, suc, ◌<◌, List, length, Some, slice_get}
+use Rattle.cc_syntax.specs.Tree.{External}
+use Rattle.cc_syntax.specs.Source.{source}
+use Rattle.cc_syntax.specs.declared.unit.Unit as parsed
+use Rattle.cc_typing.specs.Typed.{IsTyped}
+use Rattle.cc_meaning.specs.Meaning.{functions}
+use Rattle.cc_meaning.specs.Resolved.{arities}
+use Rattle.cc_meaning.specs.Numbered.{IsMeaningOf}
+use Rattle.cc_runs.specs.Behavior.{Follows}
+use Rattle.cc_runs.specs.World.{World}
+use Rattle.cc_runs.specs.Run.{run}
+use Rattle.cc_runs.specs.Meaning.{Meaning, most_open, IsCall, call_effect, answered}
+use Rattle.cc_runs.specs.Tracks.{Tracks}
+use Rattle.cc_cminor.specs.Cminor.{Expression, Statement, Skip, Set, Store, Call, Read, Write, Sequence, If, Loop, Block, Exit, Return, cminor_move, cminor_output, cminor_start}
+use Rattle.cc_cminor.specs.declared.code.Statement as code
+use Rattle.cc_cminor.specs.Code.{statement_of}
+
+-- a pair as contracts see it: the unit, the function's number in the order of definitions, and its Cminor
+pub record Pair : Type 0 where
+  pub unit : parsed.Unit
+  pub function : ℕ
+  pub statement : code.Statement
+
+-- the unit's tree
+abbrev pub tree_of : Pair → List External
+tree_of p = (source p.unit).externals
+
+-- the function's Cminor
+abbrev pub code_of : Pair → Statement
+code_of p = statement_of p.statement
+
+-- each call is of a function of the unit, with as many arguments as that has parameters
+abbrev pub AreCalls : List External → Statement → Type 0
+AreCalls unit Skip = Unit {0}
+AreCalls unit (Set x e) = Unit {0}
+AreCalls unit (Store o i e) = Unit {0}
+AreCalls unit (Call to f es) = slice_get (arities unit) f ≡ Some (length es)
+AreCalls unit (Read to) = Unit {0}
+AreCalls unit (Write e) = Unit {0}
+AreCalls unit (Sequence a b) = AreCalls unit a × AreCalls unit b
+AreCalls unit (If e a b) = AreCalls unit a × AreCalls unit b
+AreCalls unit (Loop a) = AreCalls unit a
+AreCalls unit (Block a) = AreCalls unit a
+AreCalls unit (Exit k) = Unit {0}
+AreCalls unit (Return e) = Unit {0}
+
+-- the code's run keeps up with the function, at rate 1: each move pays for one step of the source
+abbrev pub KeepsUp : List External → (function : ℕ) → Statement → Type 0
+KeepsUp unit f s = (meaning : Meaning) → IsMeaningOf unit meaning → Tracks meaning f 1 cminor_move cminor_output (cminor_start s)
+
+-- so at each number of open calls the code's run follows the function's body
+abbrev pub FollowsFunction : List External → (function : ℕ) → Statement → Type 0
+FollowsFunction unit f s =
+    (meaning : Meaning) → IsMeaningOf unit meaning → (opened : ℕ) → opened < most_open → (ws : List ℕ) (h : World) → IsCall meaning f ws h
+    → Follows (λ n. answered (meaning.body n opened f ws h)) (λ (b : ℕ × ℕ). run cminor_move cminor_output (call_effect meaning (suc opened)) b.0 b.1 (cminor_start s ws h))
+
+-- what a pair's type keeps
+pub record IsPair (p : Pair) : Type 0 where
+  pub typed : IsTyped (tree_of p)
+  pub function : p.function < length (functions (tree_of p))
+  pub calls : AreCalls (tree_of p) (code_of p)
+  pub keeps_up : KeepsUp (tree_of p) p.function (code_of p)

@@ -1,0 +1,91 @@
+//! The Cminor of one function of a unit, with the fact that its run keeps up with the function.
+
+ghost use Rattle.std.specs.Prelude.{◌≡◌, ◌<◌, length};
+ghost use Rattle.std.specs.Arc.{arc_value};
+ghost use Rattle.cc_meaning.specs.Meaning.{functions};
+ghost use Rattle.cc_typing.specs.Typed.{IsTyped};
+ghost use Rattle.cc_cminor.specs.Pair.{Pair, tree_of, code_of, AreCalls, KeepsUp, FollowsFunction, IsPair};
+
+use super::code::Statement;
+use cc_typing::TypedUnit;
+use std::marker::Model;
+use std::sync::Arc;
+
+/// The Cminor of one function of a typed unit. Contracts see the unit, the function's number and the code; that the code's run
+/// follows the function's meaning belongs to the type, so nobody holds a pair of which it is not true.
+#[derive(Drop)]
+pub struct CminorPair {
+    unit: Arc<TypedUnit>,
+    function: usize,
+    code: Box<Statement>,
+}
+
+impl Model for CminorPair {
+    ghost use Rattle.std.specs.Arc.{arc_value};
+    ghost use Rattle.std.specs.Coded.{codes};
+    ghost use Rattle.cc_syntax.specs.contracts.unit.Unit as parsed;
+    ghost use Rattle.cc_cminor.specs.contracts.code.Statement as written;
+    ghost use Rattle.cc_cminor.specs.Pair.{Pair, IsPair};
+
+    ghost Value = { Pair };
+
+    ghost coded = { Prim.hlevel (codes, parsed.the_row.coded, written.the_row.coded) };
+
+    ghost view = { λ p. record { unit = arc_value p.unit; function = p.function; statement = p.code.value } };
+
+    ghost invariant = { λ p. IsPair (record { unit = arc_value p.unit; function = p.function; statement = p.code.value }) };
+}
+
+impl CminorPair {
+    // The one place where a pair is made.
+    pub(crate) fn new(unit: Arc<TypedUnit>, function: usize, code: Box<Statement>) -> CminorPair
+        requires { IsPair (record { unit = arc_value unit; function = function; statement = code.value }) }
+        ensures { result ≡ record { unit = arc_value unit; function = function; statement = code.value } }
+    {
+        CminorPair {
+            unit,
+            function,
+            code,
+        }
+    }
+
+    /// The unit.
+    pub fn unit(&self) -> &Arc<TypedUnit>
+        ensures answer { arc_value result.now ≡ self.now.unit }
+    {
+        &self.unit
+    }
+
+    /// The function's number, in the order of definitions.
+    pub fn function(&self) -> usize
+        ensures answer { result ≡ self.now.function }
+        ensures of_unit { self.now.function < length (functions (tree_of self.now)) }
+    {
+        self.function
+    }
+
+    /// The code. Parameter i is variable i; each call in it has its function's number of arguments; its run keeps up with the
+    /// function, at rate 1 (each move of the run pays for one step of the source at most, so no loop is dropped), and so follows it.
+    pub fn code(&self) -> &Statement
+        ensures code { result.now ≡ self.now.statement }
+        ensures typed { IsTyped (tree_of self.now) }
+        ensures calls { AreCalls (tree_of self.now) (code_of self.now) }
+        ensures keeps_up { KeepsUp (tree_of self.now) self.now.function (code_of self.now) }
+        ensures follows { FollowsFunction (tree_of self.now) self.now.function (code_of self.now) }
+    {
+        &self.code
+    }
+
+    /// The unit's owner, for the pair of the next language.
+    pub fn into_unit(self) -> Arc<TypedUnit>
+        ensures answer { arc_value result ≡ self.unit }
+    {
+        let CminorPair {
+            unit,
+            function: _,
+            code,
+        } = self;
+        drop(code);
+        unit
+    }
+}

@@ -1,0 +1,80 @@
+-- One commit on a new disk, computed: each state is the one that its step names. Then what a crash leaves of the disk in the
+-- middle of the gate's write: behind the gate the record, and before it none.
+use Rattle.std.specs.Prelude.{◌≡◌, [], ◌∷◌, ◌++◌, drop, map, replicate, Some, None, Ok, refl}
+use Rattle.std.specs.FinMap.{empty}
+use Rattle.cc_disk.specs.Model.{bytes_of, settled}
+use Rattle.cc_journal.specs.Format.{header, records}
+use Rattle.cc_library.specs.declared.command.Command.{Command}
+use Rattle.cc_library.specs.declared.command.Command.TheVariants as command
+use Rattle.cc_library.specs.Apply.{after}
+use Rattle.cc_library.specs.Body.{body_of}
+use Rattle.cc_core.specs.declared.command.Numbered.{Numbered}
+use Rattle.cc_core.specs.declared.command.Reply.TheVariants as replies
+use Rattle.cc_core.specs.declared.contents.Core.{Core}
+use Rattle.cc_core.specs.declared.contents.Due.TheVariants as due
+use Rattle.cc_core.specs.declared.contents.Phase.TheVariants.{Idle, Committing}
+use Rattle.cc_core.specs.declared.ids.ClientId.{ClientId}
+use Rattle.cc_core.specs.Store.{crashed_store, stepped}
+use Rattle.cc_core.specs.Step.{Begun, Advances, Acknowledges, numbered_now, ticked}
+
+-- client 2 adds `a` with the source `two`, and an image of one code word
+abbrev client : ClientId
+client = record { number = 2 }
+
+abbrev adds : Command
+adds = command.Add (0x61 ∷ []) (record { source = 0x74 ∷ 0x77 ∷ 0x6f ∷ []; image = record { code = 19 ∷ []; globals = [] }; certificate = None })
+
+-- on a new disk with areas of 64 bytes
+abbrev start : Core
+start = record {
+  library = empty;
+  order = [];
+  acknowledged = [];
+  phase = Idle;
+  store = record { cells = map settled (header 0 64 ++ replicate 128 0); area_byte = 0; area = 64; used = 0 };
+  upcoming = record { value = 0 };
+}
+
+abbrev first : Numbered
+first = numbered_now start adds
+
+abbrev begun : Core
+begun = record (ticked start) { order = first ∷ []; phase = Committing client first due.WriteBody }
+
+abbrev body_written : Core
+body_written = record begun { store = stepped due.WriteBody adds begun.store; phase = Committing client first due.SyncBody }
+
+abbrev body_settled : Core
+body_settled = record body_written { store = stepped due.SyncBody adds body_written.store; phase = Committing client first due.WriteGate }
+
+abbrev gate_written : Core
+gate_written = record body_settled { store = stepped due.WriteGate adds body_settled.store; phase = Committing client first due.SyncGate }
+
+abbrev gate_settled : Core
+gate_settled = record gate_written { store = stepped due.SyncGate adds gate_written.store; phase = Committing client first due.Acknowledge }
+
+abbrev done : Core
+done = record gate_settled { library = after gate_settled.library adds; acknowledged = first ∷ []; phase = Idle }
+
+-- the beginning, the four device steps, and the reply
+pub one_commit : Begun start client (Ok adds) None begun × Advances due.WriteBody begun None body_written × Advances due.SyncBody body_written None body_settled
+    × Advances due.WriteGate body_settled None gate_written × Advances due.SyncGate gate_written None gate_settled × Acknowledges client gate_settled (Some replies.Done) done
+one_commit = (
+  (refl, refl),
+  record { client = client; numbered = first; committing = refl; silent = refl; new_is = refl },
+  record { client = client; numbered = first; committing = refl; silent = refl; new_is = refl },
+  record { client = client; numbered = first; committing = refl; silent = refl; new_is = refl },
+  record { client = client; numbered = first; committing = refl; silent = refl; new_is = refl },
+  record { numbered = first; committing = refl; done = refl; new_is = refl },
+)
+
+-- the record takes 28 bytes, and a closed gate stands behind it
+pub on_disk : (bytes_of done.store.cells ≡ header 0 64 ++ (records (body_of adds ∷ []) ++ (0 ∷ replicate 99 0))) × (done.store.used ≡ 28)
+on_disk = (refl, refl)
+
+-- a crash within the write of the gate that leaves it open, and one that leaves it closed
+pub behind_the_gate : bytes_of (crashed_store (replicate 144 0xa5) gate_written.store).cells ≡ header 0 64 ++ (records (body_of adds ∷ []) ++ (0 ∷ replicate 99 0))
+behind_the_gate = refl
+
+pub before_the_gate : bytes_of (crashed_store (replicate 144 0) gate_written.store).cells ≡ header 0 64 ++ (0 ∷ (drop 1 (records (body_of adds ∷ [])) ++ replicate 100 0))
+before_the_gate = refl

@@ -1,0 +1,223 @@
+// The disk on a file.
+ghost use Rattle.std.specs.Prelude.{true, false, ◌≡◌, ◌+◌, [], ⊤, length, IfOk, OnOk, OnErr, is_ok, if◌then◌else◌};
+ghost use Rattle.std.proofs.lemmas.Bool.{false≢true};
+
+use crate::count::FailureCount;
+use crate::disk::{Disk, DiskFault};
+use std::fs::{self, OpenOptions};
+use std::io;
+use std::os::fd::AsRawFd;
+use std::os::unix::fs::FileExt;
+use std::path::Path;
+
+/// A disk on a file of the operating system, whose length is the disk's size.
+///
+/// Its kind is not honest: no contract can say what a file holds. That it keeps the rules of a disk rests on premises
+/// about the system, which `docs/DISK.md` names. Each call of the disk makes one system call at most, and answers 35 where
+/// that call is refused or does less than was asked. After a sync that failed every later call answers 35: the system may
+/// have given up the pages that it could not write, and a later sync would not tell.
+///
+/// While it lives no other process has the file open as a disk.
+#[derive(Drop)]
+pub struct FileDisk {
+    file: fs::File,
+    size: usize,
+    failed: FailureCount,
+    // Whether a sync failed.
+    lost: bool,
+}
+
+impl FileDisk {
+    /// A new file of `size` zeros, in the place of an old one. Its room is taken, and it and its name are synced.
+    ///
+    /// 35 where the system refuses, or another process has the file open as a disk, which is as before then.
+    pub fn create(rt: &HostRuntime, path: &str, size: usize) -> Result<FileDisk, DiskFault>
+        ensures size { IfOk result (λ disk. disk.size ≡ size) }
+        ensures failed { IfOk result (λ disk. disk.failed ≡ 0) }
+        ensures sound { IfOk result (λ disk. disk.lost ≡ false) }
+    {
+        let file = OpenOptions::new()
+            .read(true)
+            .write(true)
+            .create(true)
+            .open(rt, path)?;
+        // The lock comes first: a file that is in use is not changed.
+        lock(&file)?;
+        file.set_len(0)?;
+        put_zeros(&file, size)?;
+        // The zeros are on the medium, so that no later write needs room.
+        file.sync_all()?;
+        sync_folder(rt, path)?;
+        Ok(FileDisk::over(file, size))
+    }
+
+    /// The disk on an old file, whose length is its size. What earlier processes left in the system's memory is synced,
+    /// and then read from the medium: after a sync of theirs that failed the two may differ.
+    ///
+    /// 35 where the system refuses, or another process has the file open as a disk.
+    pub fn open(rt: &HostRuntime, path: &str) -> Result<FileDisk, DiskFault>
+        ensures failed { IfOk result (λ disk. disk.failed ≡ 0) }
+        ensures sound { IfOk result (λ disk. disk.lost ≡ false) }
+    {
+        let file = OpenOptions::new().read(true).write(true).open(rt, path)?;
+        lock(&file)?;
+        file.sync_all()?;
+        drop_pages(&file)?;
+        let size = file.metadata()?.len() as usize;
+        Ok(FileDisk::over(file, size))
+    }
+
+    // The disk on an open file of that length.
+    fn over(file: fs::File, size: usize) -> FileDisk
+        ensures size { result.size ≡ size }
+        ensures failed { result.failed ≡ 0 }
+        ensures sound { result.lost ≡ false }
+    {
+        FileDisk {
+            file,
+            size,
+            failed: FailureCount::new(),
+            lost: false,
+        }
+    }
+
+    // The answer of a call that was done or not, counted.
+    fn told(&mut self, done: bool) -> Result<(), DiskFault>
+        ensures answer { is_ok result ≡ done }
+        ensures failed { self.new.failed ≡ (if done then self.old.failed else self.old.failed + 1) }
+        ensures size { self.new.size ≡ self.old.size }
+        ensures lost { self.new.lost ≡ self.old.lost }
+    {
+        if done {
+            Ok(())
+        } else {
+            self.failed.add_one();
+            Err(DiskFault::DeviceFailed)
+        }
+    }
+}
+
+impl From<io::Error> for DiskFault {
+    ghost use Rattle.cc_disk.specs.declared.disk.DiskFault.TheVariants.{DeviceFailed};
+
+    ghost from_gives = { λ _ fault. fault ≡ DeviceFailed };
+
+    fn from(_: io::Error) -> DiskFault {
+        DiskFault::DeviceFailed
+    }
+}
+
+// Takes the file for this process.
+fn lock(file: &fs::File) -> Result<(), DiskFault> {
+    if file.try_lock().is_err() {
+        return Err(DiskFault::DeviceFailed);
+    }
+    Ok(())
+}
+
+// Whether so many bytes from that offset on were written: one system call, and less than all is a failure.
+fn is_written(file: &fs::File, offset: usize, bytes: &[u8]) -> bool {
+    match file.write_at(bytes, offset as u64) {
+        Ok(count) => count == bytes.len(),
+        Err(_) => false,
+    }
+}
+
+// Whether the buffer was filled from that offset on, in the same way.
+fn is_read(file: &fs::File, offset: usize, buffer: &mut [u8]) -> bool {
+    match file.read_at(buffer, offset as u64) {
+        Ok(count) => count == buffer.len(),
+        Err(_) => false,
+    }
+}
+
+// Writes so many zeros from the file's start on.
+fn put_zeros(file: &fs::File, size: usize) -> Result<(), DiskFault> {
+    let zeros = [0u8; 4096];
+    let mut done = 0;
+    while done < size {
+        let count = if size - done < 4096 {
+            size - done
+        } else {
+            4096
+        };
+        if !is_written(file, done, &zeros[..count]) {
+            return Err(DiskFault::DeviceFailed);
+        }
+        done += count;
+    }
+    Ok(())
+}
+
+// Settles the file's name: a new file's entry in its folder is lost in a power cut before that.
+fn sync_folder(rt: &HostRuntime, path: &str) -> Result<(), DiskFault> {
+    let folder = match Path::new(path).parent() {
+        Some(folder) if !folder.as_str().is_empty() => folder.as_str(),
+        _ => ".",
+    };
+    fs::File::open(rt, folder)?.sync_all()?;
+    Ok(())
+}
+
+// Makes the next reads come from the medium.
+fn drop_pages(file: &fs::File) -> Result<(), DiskFault> {
+    if libc::posix_fadvise(file.as_raw_fd(), 0, 0, libc::POSIX_FADV_DONTNEED) != 0 {
+        return Err(DiskFault::DeviceFailed);
+    }
+    Ok(())
+}
+
+impl Disk for FileDisk {
+    ghost size = { λ disk. disk.size };
+
+    ghost failures = { λ disk. disk.failed };
+
+    ghost honest = { false };
+
+    ghost seen = { λ _. [] };
+
+    ghost may_leave = { λ _ _. ⊤ };
+
+    ghost moment = { λ _. 0 };
+
+    ghost left_since = { λ _ _ _. ⊤ };
+
+    // After a sync that failed every call fails.
+    ghost reads = { λ old offset buffer ok after new. (new.lost ≡ old.lost) × (old.lost ≡ true → ok ≡ false) };
+
+    ghost writes = { λ old offset bytes ok new. (new.lost ≡ old.lost) × (old.lost ≡ true → ok ≡ false) };
+
+    ghost syncs = { λ old ok new. (old.lost ≡ true → ok ≡ false) × (ok ≡ false → new.lost ≡ true) };
+
+    fn size(&self) -> usize {
+        self.size
+    }
+
+    fn read_at(&mut self, offset: usize, buffer: &mut [u8]) -> Result<(), DiskFault> {
+        let done = !self.lost && is_read(&self.file, offset, buffer);
+        self.told(done)
+    }
+
+    fn write_at(&mut self, offset: usize, bytes: &[u8]) -> Result<(), DiskFault> {
+        let done = !self.lost && is_written(&self.file, offset, bytes);
+        self.told(done)
+    }
+
+    fn sync(&mut self) -> Result<(), DiskFault> {
+        let done = !self.lost && self.file.sync_data().is_ok();
+        self.lost = !done;
+        self.told(done)
+    }
+
+    fn failures(&self) -> u64 {
+        self.failed.shown()
+    }
+
+    ghost has_size = { λ disk h. absurd (false≢true h) };
+
+    ghost seen_is_image = { λ disk h. absurd (false≢true h) };
+
+    ghost counts_now = { λ disk t image h le now. absurd (false≢true h) };
+
+    ghost only_now = { λ disk image h left. absurd (false≢true h) };
+}

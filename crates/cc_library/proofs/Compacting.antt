@@ -1,0 +1,99 @@
+-- One Add per name stands for the map. How: from the map of the entries before them, the Adds of the next entries lead to the map
+-- of all; each is accepted, since a name of rising entries is not among those before it.
+use Rattle.std.proofs.Common.{◌≡◌, ℕ, List, [], ◌∷◌, ◌++◌, Bool, true, false, ◌&&◌, refl, sym, ap, subst, ◌∙◌, append_assoc, cond, Some, None}
+use Rattle.std.specs.Prelude.{T, IsOk, Ok, Err, if◌then◌else◌, is_some, Result}
+use Rattle.std.proofs.lemmas.List.{append-nil}
+use Rattle.std.specs.declared.cmp.Ordering.{Ordering}
+use Rattle.std.specs.declared.cmp.Ordering.TheVariants.{Less, Equal, Greater}
+use Rattle.std.specs.Ordering.{nat_cmp, is_lt, is_eq, eq_by_cmp, ordering_reverse}
+use Rattle.std.specs.Cmp.Lexicographic.{slice_cmp, nat_list_cmp_total}
+use Rattle.std.specs.FinMap as map
+use Rattle.std.specs.FinMap.Entries.{find, is_sorted, below_all}
+use Rattle.cc_link.specs.declared.unit.StoredUnit.{StoredUnit}
+use Rattle.cc_library.specs.declared.command.Command.{Command}
+use Rattle.cc_library.specs.declared.command.Command.TheVariants.{Add}
+use Rattle.cc_library.specs.Apply.{Units, apply, after, after_all, kept, exists, AreAccepted}
+use Rattle.cc_library.specs.Body.{Spells}
+use Rattle.cc_library.specs.Recovered.{AreSpelled, StandFor}
+use Rattle.cc_library.specs.Compact.{adds, adds_of, bodies_of}
+
+abbrev R : List ℕ → List ℕ → Ordering
+R = slice_cmp nat_cmp
+
+abbrev Entry : Type 0
+Entry = List ℕ × StoredUnit
+
+first : (a b : Bool) → T (a && b) → T a
+first true b p = tt
+first false b p = absurd p
+
+second : (a b : Bool) → T (a && b) → T b
+second true b p = p
+second false b p = absurd p
+
+less : (o : Ordering) → T (is_lt o) → o ≡ Less
+less Less p = refl
+less Equal p = absurd p
+less Greater p = absurd p
+
+below_there : (x : List ℕ) (front rest : List Entry) (e : Entry) → T (below_all R x (front ++ e ∷ rest)) → R x e.0 ≡ Less
+below_there x [] rest e h = less (R x e.0) (first (is_lt (R x e.0)) (below_all R x rest) h)
+below_there x (f ∷ front) rest e h = below_there x front rest e (second (is_lt (R x f.0)) (below_all R x (front ++ e ∷ rest)) h)
+
+-- a name of rising entries is not among those before it
+not_before : (front rest : List Entry) (e : Entry) → T (is_sorted R (front ++ e ∷ rest)) → find R e.0 front ≡ None
+not_before [] rest e sorted = refl
+not_before (f ∷ front) rest e sorted =
+    let below = below_there f.0 front rest e (first (below_all R f.0 (front ++ e ∷ rest)) (is_sorted R (front ++ e ∷ rest)) sorted) in
+    let greater : R e.0 f.0 ≡ Greater = nat_list_cmp_total.antisymm e.0 f.0 ∙ ap ordering_reverse below in
+    let other : eq_by_cmp R e.0 f.0 ≡ false = ap is_eq greater in
+    ap (λ (b : Bool). cond b (Some f.1) (find R e.0 front)) other ∙ not_before front rest e (second (below_all R f.0 (front ++ e ∷ rest)) (is_sorted R (front ++ e ∷ rest)) sorted)
+
+added : (units : Units) (e : Entry) → map.contains_key units e.0 ≡ false → apply units (Add e.0 e.1) ≡ Ok (map.insert units e.0 e.1)
+added units e none = ap (λ (b : Bool). if b then Err exists else Ok (map.insert units e.0 e.1)) none
+
+is_ok_by : (answer : Result Units ℕ) (made : Units) → answer ≡ Ok made → IsOk answer
+is_ok_by answer made e = subst (λ (r : Result Units ℕ). IsOk r) (sym e) refl
+
+leads : (front es : List Entry) → T (is_sorted R (front ++ es)) → AreAccepted (map.from_entries front) (adds es) × (after_all (map.from_entries front) (adds es) ≡ map.from_entries (front ++ es))
+leads front [] sorted = (tt, ap (λ (l : List Entry). map.from_entries l) (sym (append-nil front)))
+leads front (e ∷ es) sorted =
+    let units : Units = map.from_entries front in
+    let none = not_before front es e sorted in
+    let absent : map.contains_key units e.0 ≡ false = ap is_some (map.get-from_entries nat_list_cmp_total front e.0 ∙ none) in
+    let step = added units e absent in
+    let on : after units (Add e.0 e.1) ≡ map.from_entries (front ++ e ∷ []) =
+    ap (λ (r : Result Units ℕ). kept units r) step ∙ sym (map.from_entries_push nat_list_cmp_total (map.slice_cmp-IsAntisymmetric map.nat_cmp-IsAntisymmetric) front e.0 e.1 none) in
+    let parts : (front ++ e ∷ []) ++ es ≡ front ++ e ∷ es = append_assoc front (e ∷ []) es in
+    let rest = leads (front ++ e ∷ []) es (subst (λ (l : List Entry). T (is_sorted R l)) (sym parts) sorted) in (
+      (is_ok_by (apply units (Add e.0 e.1)) (map.insert units e.0 e.1) step, subst (λ (m : Units). AreAccepted m (adds es)) (sym on) rest.0),
+      ap (λ (m : Units). after_all m (adds es)) on ∙ rest.1 ∙ ap (λ (l : List Entry). map.from_entries l) parts,
+    )
+
+-- a map is that of its entries
+whole : (units : Units) → units ≡ map.from_entries (map.entries units)
+whole units = map.same_map nat_list_cmp_total (map.slice_cmp-IsAntisymmetric map.nat_cmp-IsAntisymmetric) units (map.from_entries (map.entries units))
+    (λ q. map.get-entries units q ∙ sym (map.get-from_entries nat_list_cmp_total (map.entries units) q))
+
+-- bodies of one Add per name stand for the map
+pub adds_stand : (units : Units) (bodies : List (List ℕ)) → AreSpelled bodies (adds_of units) → StandFor bodies units
+adds_stand units bodies spelled =
+    let all = leads [] (map.entries units) (map.entries_sorted units) in
+    record { commands = adds_of units; spelled = spelled; accepted = all.0; map_is = whole units ∙ sym all.1 }
+
+-- they are the bodies of these commands
+pub spelled_bodies : (bodies : List (List ℕ)) (commands : List Command) → AreSpelled bodies commands → bodies ≡ bodies_of commands
+spelled_bodies [] [] spelled = refl
+spelled_bodies [] (command ∷ commands) spelled = absurd spelled
+spelled_bodies (body ∷ bodies) [] spelled = absurd spelled
+spelled_bodies (body ∷ bodies) (command ∷ commands) spelled =
+    let here = spelled.0.spelled in
+    let there = spelled_bodies bodies commands spelled.1 in
+    λ i. here i ∷ there i
+
+-- one more
+pub spelled_push : (bodies : List (List ℕ)) (es : List Entry) (body : List ℕ) (e : Entry) → AreSpelled bodies (adds es) → Spells body (Add e.0 e.1) → AreSpelled (bodies ++ body ∷ []) (adds (es ++ e ∷ []))
+spelled_push [] [] body e spelled one = (one, tt)
+spelled_push [] (f ∷ es) body e spelled one = absurd spelled
+spelled_push (b ∷ bodies) [] body e spelled one = absurd spelled
+spelled_push (b ∷ bodies) (f ∷ es) body e spelled one = (spelled.0, spelled_push bodies es body e spelled.1 one)

@@ -1,0 +1,78 @@
+-- Without a device call every image recovers to the map still; during the `rewrite` it holds the old records or the new ones, and
+-- both stand for the map.
+use Rattle.std.proofs.Common.{◌≡◌, ◌≤◌, ℕ, List, false, IsTrue, sym, ◌∙◌, ap, subst}
+use Rattle.std.specs.Prelude.{Ok, Err}
+use Rattle.cc_disk.specs.Images.{LeavesOnly}
+use Rattle.cc_journal.specs.Format.{room_of}
+use Rattle.cc_library.specs.declared.fault.LibraryFault.{LibraryFault}
+use Rattle.cc_library.specs.Fault.{fault_of}
+use Rattle.cc_library.specs.Compact.{compacted}
+use Rattle.cc_library.specs.Answers.{CompactAnswers, CompactLeaves}
+use Rattle.cc_library.specs.Recovered.{StandFor, View}
+use Rattle.cc_library.specs.internal.Steps.{IsOldOrNew}
+use Rattle.cc_library.proofs.Compacting.{adds_stand, spelled_bodies}
+use Rattle.cc_library.proofs.Standing.{rewritten}
+use Rattle.cc_library.proofs.Refused.{seen_as, quiet_edit, compact_refused}
+use Rattle.cc_library.proofs.library.Library.write_anew.Goals as goal
+
+pub returns-in_err-bodies-clause-moments : goal.returns-in_err-bodies-clause-moments
+returns-in_err-bodies-clause-moments g c =
+    let D = g.D.Disk in
+    let i = c.self.inside in
+    quiet_edit (λ v. compacted v.units) (λ v. v.units) D.honest D.moment D.left_since D.may_leave i.journal i.units i.closed c.args.self.now c.self.view_is c.self.invariant.stand c.self.invariant.same c.records.ensures.kept
+    (λ h image left. g.met.D.Disk.only_now i.journal.disk image h left) c.args.self.now.disk (sym (ap (λ (v : View g.row.D.Denot). v.disk) c.self.view_is))
+
+pub invariant_of-self : goal.invariant_of-self
+invariant_of-self g c =
+    let i = c.self.inside in
+    record {
+      stand = subst (λ (l : List (List ℕ)). StandFor l i.units) (sym c.in-Ok.ensures.rewritten) (adds_stand i.units c.in_ok-bodies.bodies.items c.in_ok-bodies.ensures);
+      same = c.if-self.false ∙ sym c.in-Ok.ensures.open;
+    }
+
+pub returns-in-Ok-clause-answers : goal.returns-in-Ok-clause-answers
+returns-in-Ok-clause-answers g c =
+    let D = g.D.Disk in
+    let i = c.self.inside in
+    let is : c.in_ok-bodies.bodies.items ≡ compacted i.units = spelled_bodies _ _ c.in_ok-bodies.ensures in
+    subst (λ (v : View g.row.D.Denot). (v.closed ≡ false) × (room_of (compacted v.units) ≤ v.area) × (D.failures c.rewrite.new.self.disk ≡ D.failures v.disk)) c.self.view_is
+    (c.if-self.false, subst (λ (l : List (List ℕ)). room_of l ≤ i.journal.area) is c.in-Ok.ensures.answers.1, c.in-Ok.ensures.answers.2)
+
+pub returns-in-Ok-clause-leaves : goal.returns-in-Ok-clause-leaves
+returns-in-Ok-clause-leaves g c =
+    let i = c.self.inside in
+    let new : View g.row.D.Denot = seen_as c.rewrite.new.self i.units i.closed in
+    let bodies : c.rewrite.new.self.bodies ≡ compacted i.units = c.in-Ok.ensures.rewritten ∙ spelled_bodies _ _ c.in_ok-bodies.ensures in
+    subst (λ (v : View g.row.D.Denot). CompactLeaves {T = Unit {0}} v new (Ok tt)) c.self.view_is
+    (λ k. record { disk = c.rewrite.new.self.disk; area = c.rewrite.ensures.area k; bodies = bodies k; units = i.units; closed = c.if-self.false k })
+
+pub returns-in-Ok-clause-moments : goal.returns-in-Ok-clause-moments
+returns-in-Ok-clause-moments g c =
+    let D = g.D.Disk in
+    let i = c.self.inside in
+    let items = c.in_ok-bodies.bodies.items in
+    let is : items ≡ compacted i.units = spelled_bodies _ _ c.in_ok-bodies.ensures in
+    subst (λ (v : View g.row.D.Denot). IsTrue D.honest → v.closed ≡ false → LeavesOnly D.moment D.left_since v.disk c.rewrite.new.self.disk (IsOldOrNew v.area v.bodies v.units (compacted v.units) v.units)) c.self.view_is
+    (λ h not_closed. subst (λ (l : List (List ℕ)). LeavesOnly D.moment D.left_since i.journal.disk c.rewrite.new.self.disk (IsOldOrNew i.journal.area i.journal.bodies i.units l i.units)) is
+    (rewritten D.moment D.left_since i.journal.disk c.rewrite.new.self.disk i.journal.area i.journal.bodies items i.units c.self.invariant.stand (adds_stand i.units items c.in_ok-bodies.ensures)
+    (c.in-Ok.ensures.moments h (sym c.self.invariant.same ∙ not_closed))))
+
+pub returns-in-Err-clause-answers : goal.returns-in-Err-clause-answers
+returns-in-Err-clause-answers g c =
+    let D = g.D.Disk in
+    let i = c.self.inside in
+    let is : c.in_ok-bodies.bodies.items ≡ compacted i.units = spelled_bodies _ _ c.in_ok-bodies.ensures in
+    subst (λ (f : LibraryFault). CompactAnswers {T = Unit {0}} c.args.self.now (D.failures c.args.self.now.disk) (D.failures c.rewrite.new.self.disk) (Err f)) (sym c.from.ensures)
+    (subst (λ (v : View g.row.D.Denot). CompactAnswers {T = Unit {0}} v (D.failures v.disk) (D.failures c.rewrite.new.self.disk) (Err (fault_of c.in-Err.fault))) c.self.view_is
+    (compact_refused c.in-Err.fault i.journal i.units i.closed c.in_ok-bodies.bodies.items (D.failures i.journal.disk) (D.failures c.rewrite.new.self.disk) is c.self.invariant.same c.in-Err.ensures.answers))
+
+pub returns-in-Err-clause-moments : goal.returns-in-Err-clause-moments
+returns-in-Err-clause-moments g c =
+    let D = g.D.Disk in
+    let i = c.self.inside in
+    let items = c.in_ok-bodies.bodies.items in
+    let is : items ≡ compacted i.units = spelled_bodies _ _ c.in_ok-bodies.ensures in
+    subst (λ (v : View g.row.D.Denot). IsTrue D.honest → v.closed ≡ false → LeavesOnly D.moment D.left_since v.disk c.rewrite.new.self.disk (IsOldOrNew v.area v.bodies v.units (compacted v.units) v.units)) c.self.view_is
+    (λ h not_closed. subst (λ (l : List (List ℕ)). LeavesOnly D.moment D.left_since i.journal.disk c.rewrite.new.self.disk (IsOldOrNew i.journal.area i.journal.bodies i.units l i.units)) is
+    (rewritten D.moment D.left_since i.journal.disk c.rewrite.new.self.disk i.journal.area i.journal.bodies items i.units c.self.invariant.stand (adds_stand i.units items c.in_ok-bodies.ensures)
+    (c.in-Err.ensures.moments h (sym c.self.invariant.same ∙ not_closed))))

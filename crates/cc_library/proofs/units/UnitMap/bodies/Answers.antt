@@ -1,0 +1,31 @@
+-- The entries of the tree are the entries of the finite map, and each turn takes one over.
+use Rattle.std.proofs.Common.{◌≡◌, ℕ, List, ap, sym, ◌∙◌, subst, append_assoc, ◌++◌, ◌∷◌, []}
+use Rattle.std.specs.Cmp.Lexicographic.{nat_list_cmp_total}
+use Rattle.std.specs.FinMap as map
+use Rattle.cc_link.specs.declared.unit.StoredUnit.{StoredUnit}
+use Rattle.cc_library.specs.declared.command.Command.TheVariants.{Add}
+use Rattle.cc_library.specs.Body.{Spells}
+use Rattle.cc_library.specs.Compact.{adds}
+use Rattle.cc_library.specs.Recovered.{AreSpelled}
+use Rattle.cc_library.proofs.Tables.{entries-map}
+use Rattle.cc_library.proofs.Compacting.{spelled_push}
+use Rattle.cc_library.proofs.units.UnitMap.bodies.Goals as goal
+
+pub loop-name-init : goal.loop-name-init
+loop-name-init c = (
+  [],
+  c.into_iter-name-iterator.ensures.into_iter_gives ∙ c.iter-name-items.ensures.rest ∙ sym (entries-map nat_list_cmp_total c.self.inside.units.entries c.iter-name-items.ensures.ordered) ∙ ap map.entries c.self.view_is,
+  subst (λ (l : List (List ℕ)). AreSpelled l []) (sym c.new-bodies.ensures.items) tt,
+)
+
+pub loop-name-preserved : goal.loop-name-preserved
+loop-name-preserved c =
+    let inv = c.loop-name.invariant in
+    let e : List ℕ × StoredUnit = (c.in-Some.name.now, c.in-Some.unit.now) in
+    let unit : c.deref.result.now ≡ c.in-Some.unit.now = c.deref.ensures ∙ c.stored.ensures in
+    let one : Spells c.new.result (Add c.in-Some.name.now c.in-Some.unit.now) =
+    subst (λ (u : StoredUnit). Spells c.new.result (Add c.in-Some.name.now u)) unit (record { spelled = c.new.ensures ∙ c.in_ok-body.ensures.spelled; command_is = (c.in_ok-body.ensures.name, c.in_ok-body.ensures.unit) }) in (
+      inv.0 ++ e ∷ [],
+      append_assoc inv.0 (e ∷ []) c.next.new.self ∙ ap (λ it. inv.0 ++ it) (sym c.in-Some.ensures.steps) ∙ inv.1,
+      subst (λ (l : List (List ℕ)). AreSpelled l (adds (inv.0 ++ e ∷ []))) (sym c.in_ok-push.ensures.items) (spelled_push c.loop-name.bodies.items inv.0 c.new.result e inv.2 one),
+    )

@@ -1,0 +1,26 @@
+-- The shortest journal of a map: one Add per name, in the order of the names' bytes.
+use Rattle.std.specs.Prelude.{ℕ, List, [], ◌∷◌}
+use Rattle.std.specs.FinMap.{entries}
+use Rattle.cc_link.specs.declared.unit.StoredUnit.{StoredUnit}
+use Rattle.cc_library.specs.declared.command.Command.{Command}
+use Rattle.cc_library.specs.declared.command.Command.TheVariants.{Add}
+use Rattle.cc_library.specs.Apply.{Units}
+use Rattle.cc_library.specs.Body.{body_of}
+
+-- an Add of each of these names and units
+abbrev pub adds : List (List ℕ × StoredUnit) → List Command
+adds [] = []
+adds (entry ∷ others) = Add entry.0 entry.1 ∷ adds others
+
+-- one Add per name; the entries of a map stand in the order of their names
+abbrev pub adds_of : Units → List Command
+adds_of units = adds (entries units)
+
+-- the bodies of these commands
+abbrev pub bodies_of : List Command → List (List ℕ)
+bodies_of [] = []
+bodies_of (command ∷ commands) = body_of command ∷ bodies_of commands
+
+-- the bodies of a compacted journal
+abbrev pub compacted : Units → List (List ℕ)
+compacted units = bodies_of (adds_of units)

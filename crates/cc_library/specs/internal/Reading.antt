@@ -1,0 +1,76 @@
+-- Reading a body from left to right: each field is a value and the bytes after it, or there is none.
+use Rattle.std.specs.Prelude.{ℕ, zero, suc, ◌&&◌, List, [], ◌∷◌, length, take, drop, Option, Some, None, nat_lt, nat_le, ◌==◌, if◌then◌else◌}
+use Rattle.std.specs.Int.{w32, from_le_bytes}
+use Rattle.cc_link.specs.declared.unit.StoredUnit.{StoredUnit}
+use Rattle.cc_library.specs.declared.command.Command.{Command}
+use Rattle.cc_library.specs.declared.command.Command.TheVariants.{Add, Replace, Withdraw}
+use Rattle.cc_library.specs.Name.{is_name}
+
+infixl 10 ◌>>=◌
+abbrev pub ◌>>=◌ : {A B : Type 0} → Option A → (A → Option B) → Option B
+(Some x) >>= f = f x
+None >>= f = None
+
+-- one byte
+abbrev pub byte_in : List ℕ → Option (ℕ × List ℕ)
+byte_in [] = None
+byte_in (byte ∷ rest) = Some (byte, rest)
+
+-- so many bytes
+abbrev pub taken : ℕ → List ℕ → Option (List ℕ × List ℕ)
+taken n bytes = if nat_lt (length bytes) n then None else Some (take n bytes, drop n bytes)
+
+-- a number of four bytes
+abbrev pub number_in : List ℕ → Option (ℕ × List ℕ)
+number_in bytes = if nat_lt (length bytes) 4 then None else Some (from_le_bytes w32 (take 4 bytes), drop 4 bytes)
+
+-- so many words
+unfoldable pub words_in : ℕ → List ℕ → Option (List ℕ × List ℕ)
+words_in zero bytes = Some ([], bytes)
+words_in (suc n) bytes = do
+  first ← number_in bytes
+  others ← words_in n first.1
+  Some (first.0 ∷ others.0, others.1)
+
+-- a length of at least `least` and at most `most`, and so many words
+unfoldable pub words_field_in : ℕ → ℕ → List ℕ → Option (List ℕ × List ℕ)
+words_field_in least most bytes = do
+  n ← number_in bytes
+  if nat_le least n.0 && nat_le n.0 most then words_in n.0 n.1 else None
+
+-- a length of at most 65,536, and so many bytes
+unfoldable pub source_in : List ℕ → Option (List ℕ × List ℕ)
+source_in bytes = do
+  n ← number_in bytes
+  if nat_le n.0 65536 then taken n.0 n.1 else None
+
+-- a length as one byte, and so many bytes, which are a name
+unfoldable pub name_in : List ℕ → Option (List ℕ × List ℕ)
+name_in bytes = do
+  n ← byte_in bytes
+  name ← taken n.0 n.1
+  if is_name name.0 then Some name else None
+
+-- a unit without certificate
+unfoldable pub unit_in : List ℕ → Option (StoredUnit × List ℕ)
+unit_in bytes = do
+  source ← source_in bytes
+  code ← words_field_in 1 131072 source.1
+  globals ← words_field_in 0 65536 code.1
+  Some (record { source = source.0; image = record { code = code.0; globals = globals.0 }; certificate = None }, globals.1)
+
+-- the command of this kind and name
+unfoldable pub kind_in : ℕ → List ℕ → List ℕ → Option (Command × List ℕ)
+kind_in kind name bytes =
+    if kind == 1 then (unit_in bytes >>= λ unit. Some (Add name unit.0, unit.1))
+    else (if kind == 2 then (unit_in bytes >>= λ unit. Some (Replace name unit.0, unit.1))
+    else (if kind == 3 then Some (Withdraw name, bytes) else None))
+
+-- the command of all of these bytes
+unfoldable pub command_in : List ℕ → Option Command
+command_in bytes = do
+  version ← byte_in bytes
+  kind ← byte_in version.1
+  name ← name_in kind.1
+  command ← kind_in kind.0 name.0 name.1
+  if (version.0 == 1) && (length command.1 == 0) then Some command.0 else None

@@ -1,0 +1,16 @@
+-- Testing a list from its front: what is left of it has the property exactly where the whole has.
+use Rattle.std.proofs.Common.{◌↔◌, ℕ, List, drop}
+use Rattle.std.specs.List.{AllByRecursion}
+use Rattle.cc_ltl.specs.declared.block.Block.{Block}
+use Rattle.cc_ltl.specs.Ltl.{IsBelowFirst, Ascend}
+
+-- each element has it
+abbrev pub SameForRest : {A : Type 0} → (A → Type 0) → List A → ℕ → Type 0
+SameForRest P xs i = AllByRecursion P (drop i xs) ↔ AllByRecursion P xs
+
+-- the labels ascend after a last one
+abbrev AscendAfter : ℕ → List Block → Type 0
+AscendAfter label blocks = IsBelowFirst label blocks × Ascend blocks
+
+abbrev pub SameAfter : (first last : ℕ) → List Block → ℕ → Type 0
+SameAfter first last blocks i = AscendAfter last (drop i blocks) ↔ AscendAfter first blocks

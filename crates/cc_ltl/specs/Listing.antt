@@ -1,0 +1,98 @@
+-- A function as text: its slots and its entry, and a line for each block.
+use Rattle.std.specs.Prelude.{ℕ, List, [], ◌++◌, codes}
+use Rattle.std.specs.List.{flat_map}
+use Rattle.std.specs.Fmt.{decimal}
+use Rattle.cc_words.specs.declared.operators.Unary.{Unary as UnaryOperator}
+use Rattle.cc_words.specs.declared.operators.Unary.TheVariants.{Neg, Complement, IsZero}
+use Rattle.cc_words.specs.declared.operators.Binary.{Binary as BinaryOperator}
+use Rattle.cc_words.specs.declared.operators.Binary.TheVariants.{Add, Sub, Mul, DivS, DivU, RemS, RemU, Shl, ShrS, ShrU, And, Or, Xor, Eq, Ne, LtS, LtU, LeS, LeU}
+use Rattle.cc_ltl.specs.declared.operation.Move.{Move}
+use Rattle.cc_ltl.specs.declared.operation.Move.TheVariants.{Between, Reload, Spill}
+use Rattle.cc_ltl.specs.declared.operation.Operation.{Operation}
+use Rattle.cc_ltl.specs.declared.operation.Operation.TheVariants.{Nop, Const, Unary, Binary, Load, Store, Call, Read, Write, Branch, Return}
+use Rattle.cc_ltl.specs.declared.block.Block.{Block}
+use Rattle.cc_ltl.specs.Ltl.{Ltl}
+
+abbrev pub register_text : ℕ → List ℕ
+register_text r = codes "x" ++ decimal r
+
+abbrev pub slot_text : ℕ → List ℕ
+slot_text i = codes "slot" ++ decimal i
+
+abbrev pub unary_text : UnaryOperator → List ℕ
+unary_text Neg = codes "neg"
+unary_text Complement = codes "complement"
+unary_text IsZero = codes "is_zero"
+
+abbrev pub binary_text : BinaryOperator → List ℕ
+binary_text Add = codes "add"
+binary_text Sub = codes "sub"
+binary_text Mul = codes "mul"
+binary_text DivS = codes "div_s"
+binary_text DivU = codes "div_u"
+binary_text RemS = codes "rem_s"
+binary_text RemU = codes "rem_u"
+binary_text Shl = codes "shl"
+binary_text ShrS = codes "shr_s"
+binary_text ShrU = codes "shr_u"
+binary_text And = codes "and"
+binary_text Or = codes "or"
+binary_text Xor = codes "xor"
+binary_text Eq = codes "eq"
+binary_text Ne = codes "ne"
+binary_text LtS = codes "lt_s"
+binary_text LtU = codes "lt_u"
+binary_text LeS = codes "le_s"
+binary_text LeU = codes "le_u"
+
+-- what gets a word, and what it gets
+abbrev pub assigned : (to from : List ℕ) → List ℕ
+assigned to from = to ++ codes " = " ++ from
+
+abbrev pub move_text : Move → List ℕ
+move_text (Between to from) = assigned (register_text to) (register_text from)
+move_text (Reload to slot) = assigned (register_text to) (slot_text slot)
+move_text (Spill slot from) = assigned (slot_text slot) (register_text from)
+
+-- an element of an object
+abbrev pub element_text : (object index : ℕ) → List ℕ
+element_text object index = codes "object" ++ decimal object ++ codes "[" ++ register_text index ++ codes "]"
+
+-- an operation without the blocks that come next
+abbrev pub operation_text : Operation → List ℕ
+operation_text (Nop next) = codes "nop"
+operation_text (Const to word next) = assigned (register_text to) (decimal word)
+operation_text (Unary operator to from next) = assigned (register_text to) (unary_text operator ++ codes " " ++ register_text from)
+operation_text (Binary operator to left right next) = assigned (register_text to) (binary_text operator ++ codes " " ++ register_text left ++ codes ", " ++ register_text right)
+operation_text (Load object to index next) = assigned (register_text to) (element_text object index)
+operation_text (Store object index from next) = assigned (element_text object index) (register_text from)
+operation_text (Call function next) = codes "call " ++ decimal function
+operation_text (Read next) = codes "read"
+operation_text (Write next) = codes "write"
+operation_text (Branch from if_nonzero if_zero) = codes "branch " ++ register_text from
+operation_text Return = codes "return"
+
+-- the blocks that come next: of a branch the one for a word that is not zero, and the one for zero
+abbrev pub next_text : Operation → List ℕ
+next_text (Nop next) = codes " -> " ++ decimal next
+next_text (Const to word next) = codes " -> " ++ decimal next
+next_text (Unary operator to from next) = codes " -> " ++ decimal next
+next_text (Binary operator to left right next) = codes " -> " ++ decimal next
+next_text (Load object to index next) = codes " -> " ++ decimal next
+next_text (Store object index from next) = codes " -> " ++ decimal next
+next_text (Call function next) = codes " -> " ++ decimal next
+next_text (Read next) = codes " -> " ++ decimal next
+next_text (Write next) = codes " -> " ++ decimal next
+next_text (Branch from if_nonzero if_zero) = codes " -> " ++ decimal if_nonzero ++ codes ", " ++ decimal if_zero
+next_text Return = []
+
+-- a block: its label, what it does in order, where it goes
+unfoldable pub block_text : Block → List ℕ
+block_text block =
+    decimal block.label ++ codes ": " ++ flat_map (λ (m : Move). move_text m ++ codes "; ") block.before ++ operation_text block.operation
+    ++ flat_map (λ (m : Move). codes "; " ++ move_text m) block.after ++ next_text block.operation
+
+-- the listing of a function
+abbrev pub ltl_text : Ltl → List ℕ
+ltl_text ltl =
+    codes "slots " ++ decimal ltl.slots ++ codes ", entry " ++ decimal ltl.entry ++ codes "\n" ++ flat_map (λ (block : Block). block_text block ++ codes "\n") ltl.blocks

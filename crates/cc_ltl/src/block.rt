@@ -1,0 +1,56 @@
+//! A block: moves, one operation, moves.
+
+ghost use Rattle.std.specs.Prelude.{◌≡◌, ◌<◌, ◌^◌, ◌↔◌, length, IsOk, MatchResult};
+
+use crate::operation::{Move, Operation};
+use std::marker::Model;
+
+/// The most moves that stand before an operation, or behind one.
+pub const MOST_MOVES: usize = 65_535;
+
+/// Moves, made one after the other: at most 65,535. A clause sees their list.
+#[derive(Drop)]
+pub struct Moves {
+    moves: Vec<Move>,
+}
+
+impl Model for Moves {
+    ghost use Rattle.std.specs.Prelude.{List, length, ◌<◌, ◌^◌};
+    ghost use Rattle.cc_ltl.specs.declared.operation.Move.{Move};
+
+    ghost Value = { List Move };
+
+    ghost view = { λ m. m.moves.items };
+
+    ghost invariant = { λ m. length m.moves.items < 2 ^ 16 };
+}
+
+impl Moves {
+    /// These moves, or the moves back where they are more than 65,535. Takes no memory.
+    pub fn new(moves: Vec<Move>) -> Result<Self, Vec<Move>>
+        ensures fits { IsOk result ↔ (length moves.items < 2 ^ 16) }
+        ensures hands_back { MatchResult result (λ made. made ≡ moves.items) (λ back. back ≡ moves) }
+    {
+        if moves.len() > MOST_MOVES {
+            return Err(moves);
+        }
+        Ok(Moves { moves })
+    }
+
+    /// The moves, the first of them first.
+    pub fn moves(&self) -> &[Move]
+        ensures moves { result.now ≡ self.now }
+        ensures few { length self.now < 2 ^ 16 }
+    {
+        self.moves.as_slice()
+    }
+}
+
+/// One step of a function: the moves before, the operation, the moves after.
+#[derive(Drop)]
+pub struct Block {
+    pub label: u32,
+    pub before: Moves,
+    pub operation: Operation,
+    pub after: Moves,
+}

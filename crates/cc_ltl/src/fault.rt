@@ -1,0 +1,51 @@
+//! Why bytes are no function.
+
+ghost use Rattle.std.specs.Prelude.{◌≡◌};
+
+use std::alloc::{AllocError, AllocFailed};
+use thiserror::Error;
+
+/// Why bytes are no function of LTL.
+#[derive(Clone, Copy, Debug, Error)]
+pub enum LtlFault {
+    /// 37: the bytes are not exactly one function.
+    #[error("Damaged")]
+    Damaged,
+    /// 40: memory ran out.
+    #[error("OutOfMemory")]
+    OutOfMemory,
+}
+
+impl LtlFault {
+    ghost use Rattle.cc_ltl.specs.Fault.{fault_number};
+
+    /// The fault's number.
+    pub fn number(&self) -> u32
+        ensures { result ≡ fault_number self.now }
+    {
+        match self {
+            LtlFault::Damaged => 37,
+            LtlFault::OutOfMemory => 40,
+        }
+    }
+}
+
+impl From<AllocError> for LtlFault {
+    ghost use Rattle.cc_ltl.specs.declared.fault.LtlFault.TheVariants.{OutOfMemory};
+
+    ghost from_gives = { λ _ fault. fault ≡ OutOfMemory };
+
+    fn from(_: AllocError) -> LtlFault {
+        LtlFault::OutOfMemory
+    }
+}
+
+impl<T: Drop> From<AllocFailed<T>> for LtlFault {
+    ghost use Rattle.cc_ltl.specs.declared.fault.LtlFault.TheVariants.{OutOfMemory};
+
+    ghost from_gives = { λ _ fault. fault ≡ OutOfMemory };
+
+    fn from(_: AllocFailed<T>) -> LtlFault {
+        LtlFault::OutOfMemory
+    }
+}

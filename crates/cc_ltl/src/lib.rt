@@ -1,0 +1,25 @@
+//! LTL: the code of a function over machine registers and slots. A block stands for one node of RTL: moves, one operation on
+//! registers, moves. Its functions come from nobody that is trusted, an allocator or bytes; whether one does what the RTL does is
+//! the validator's matter.
+//! `location` is where a word can be, `operation` and `block` what a block does, `ltl` the functions, `writing` and `reading` their
+//! bytes, `listing` their text, `laws` what holds of the definitions. What a block does is defined in `specs/Ltl.antt`.
+#![tactic(auto)]
+
+mod block;
+mod fault;
+mod laws;
+mod listing;
+mod location;
+mod ltl;
+mod operation;
+mod reading;
+mod writing;
+
+pub use block::{Block, MOST_MOVES, Moves};
+pub use fault::LtlFault;
+pub use laws::{ltl_is_a_layer, spellings_are_determined};
+pub use location::{Location, MOST_SLOTS, Register, Slot};
+pub use ltl::Ltl;
+pub use operation::{Move, Operation};
+pub use reading::read_ltl;
+pub use writing::write_ltl;

@@ -1,0 +1,188 @@
+//! A function as text: its slots and its entry, and a line for each block.
+
+ghost use Rattle.std.specs.Prelude.{◌≡◌, Some};
+ghost use Rattle.cc_ltl.specs.Listing.{register_text, slot_text, unary_text, binary_text, move_text, operation_text, next_text, block_text, ltl_text};
+
+use crate::block::Block;
+use crate::location::{Register, Slot};
+use crate::ltl::Ltl;
+use crate::operation::{Move, Operation};
+use cc_words::{Binary, Unary};
+use std::fmt;
+
+impl fmt::Display for Register {
+    ghost output = { λ r. Some (register_text r) };
+
+    fn fmt<W: fmt::Write>(&self, f: &mut fmt::Formatter<W>) -> fmt::Result {
+        let number = self.number();
+        write!(f, "x{number}")
+    }
+}
+
+impl fmt::Display for Slot {
+    ghost output = { λ s. Some (slot_text s) };
+
+    fn fmt<W: fmt::Write>(&self, f: &mut fmt::Formatter<W>) -> fmt::Result {
+        let number = self.number();
+        write!(f, "slot{number}")
+    }
+}
+
+/// The target, and what it gets: `x8 = slot0`.
+impl fmt::Display for Move {
+    ghost output = { λ m. Some (move_text m) };
+
+    fn fmt<W: fmt::Write>(&self, f: &mut fmt::Formatter<W>) -> fmt::Result {
+        match self {
+            Move::Between { to, from } => write!(f, "{to} = {from}"),
+            Move::Reload { to, slot } => write!(f, "{to} = {slot}"),
+            Move::Spill { slot, from } => write!(f, "{slot} = {from}"),
+        }
+    }
+}
+
+/// The operation without the blocks that come next: `x7 = sub x8, x9`, `x7 = object0[x8]`, `branch x7`.
+impl fmt::Display for Operation {
+    ghost output = { λ o. Some (operation_text o) };
+
+    fn fmt<W: fmt::Write>(&self, f: &mut fmt::Formatter<W>) -> fmt::Result {
+        match self {
+            Operation::Nop { .. } => write!(f, "nop"),
+            Operation::Const { to, word, .. } => write!(f, "{to} = {word}"),
+            Operation::Unary {
+                operator,
+                to,
+                from,
+                ..
+            } => {
+                let name = unary_name(*operator);
+                write!(f, "{to} = {name} {from}")
+            }
+            Operation::Binary {
+                operator,
+                to,
+                left,
+                right,
+                ..
+            } => {
+                let name = binary_name(*operator);
+                write!(f, "{to} = {name} {left}, {right}")
+            }
+            Operation::Load {
+                object,
+                to,
+                index,
+                ..
+            } => write!(f, "{to} = object{object}[{index}]"),
+            Operation::Store {
+                object,
+                index,
+                from,
+                ..
+            } => write!(f, "object{object}[{index}] = {from}"),
+            Operation::Call { function, .. } => write!(f, "call {function}"),
+            Operation::Read { .. } => write!(f, "read"),
+            Operation::Write { .. } => write!(f, "write"),
+            Operation::Branch { from, .. } => write!(f, "branch {from}"),
+            Operation::Return => write!(f, "return"),
+        }
+    }
+}
+
+// The blocks that come next.
+#[derive(Clone, Copy)]
+struct Next(Operation);
+
+impl fmt::Display for Next {
+    ghost output = { λ n. Some (next_text n.0) };
+
+    fn fmt<W: fmt::Write>(&self, f: &mut fmt::Formatter<W>) -> fmt::Result {
+        match &self.0 {
+            Operation::Nop { next }
+            | Operation::Const { next, .. }
+            | Operation::Unary { next, .. }
+            | Operation::Binary { next, .. }
+            | Operation::Load { next, .. }
+            | Operation::Store { next, .. }
+            | Operation::Call { next, .. }
+            | Operation::Read { next }
+            | Operation::Write { next } => write!(f, " -> {next}"),
+            Operation::Branch {
+                if_nonzero,
+                if_zero,
+                ..
+            } => write!(f, " -> {if_nonzero}, {if_zero}"),
+            Operation::Return => Ok(()),
+        }
+    }
+}
+
+/// The label, the moves and the operation in their order, the blocks that come next: `3: x7 = slot0; x7 = neg x7; slot1 = x7 -> 4`.
+impl fmt::Display for Block {
+    ghost output = { λ b. Some (block_text b) };
+
+    #[tactic(auto, unfolding(crate::specs::Listing::block_text))]
+    fn fmt<W: fmt::Write>(&self, f: &mut fmt::Formatter<W>) -> fmt::Result {
+        let (label, operation) = (self.label, self.operation);
+        write!(f, "{label}: ")?;
+        for before in self.before.moves() {
+            write!(f, "{before}; ")?;
+        }
+        write!(f, "{operation}")?;
+        for after in self.after.moves() {
+            write!(f, "; {after}")?;
+        }
+        let next = Next(operation);
+        write!(f, "{next}")
+    }
+}
+
+/// The listing: a line with the number of slots and the entry, and a line for each block.
+impl fmt::Display for Ltl {
+    ghost output = { λ l. Some (ltl_text l) };
+
+    fn fmt<W: fmt::Write>(&self, f: &mut fmt::Formatter<W>) -> fmt::Result {
+        let (slots, entry) = (self.slots(), self.entry());
+        write!(f, "slots {slots}, entry {entry}\n")?;
+        for block in self.blocks() {
+            write!(f, "{block}\n")?;
+        }
+        Ok(())
+    }
+}
+
+fn unary_name(operator: Unary) -> &'static str
+    ensures { result.now ≡ unary_text operator }
+{
+    match operator {
+        Unary::Neg => "neg",
+        Unary::Complement => "complement",
+        Unary::IsZero => "is_zero",
+    }
+}
+
+fn binary_name(operator: Binary) -> &'static str
+    ensures { result.now ≡ binary_text operator }
+{
+    match operator {
+        Binary::Add => "add",
+        Binary::Sub => "sub",
+        Binary::Mul => "mul",
+        Binary::DivS => "div_s",
+        Binary::DivU => "div_u",
+        Binary::RemS => "rem_s",
+        Binary::RemU => "rem_u",
+        Binary::Shl => "shl",
+        Binary::ShrS => "shr_s",
+        Binary::ShrU => "shr_u",
+        Binary::And => "and",
+        Binary::Or => "or",
+        Binary::Xor => "xor",
+        Binary::Eq => "eq",
+        Binary::Ne => "ne",
+        Binary::LtS => "lt_s",
+        Binary::LtU => "lt_u",
+        Binary::LeS => "le_s",
+        Binary::LeU => "le_u",
+    }
+}

@@ -1,0 +1,67 @@
+//! What a block does: moves between locations, and one operation on registers.
+
+use crate::location::{Register, Slot};
+use cc_words::{Binary, Unary};
+
+/// A word goes from one location to another. No word goes from slot to slot.
+#[derive(Clone, Copy)]
+pub enum Move {
+    Between { to: Register, from: Register },
+    Reload { to: Register, slot: Slot },
+    Spill { slot: Slot, from: Register },
+}
+
+/// The operation of a block, and the label of the block that comes next. A call takes its arguments in `x10` and up and gives its
+/// result in `x10`; a read gives its word there, a write and a return take theirs there.
+#[derive(Clone, Copy)]
+pub enum Operation {
+    Nop {
+        next: u32,
+    },
+    Const {
+        to: Register,
+        word: u32,
+        next: u32,
+    },
+    Unary {
+        operator: Unary,
+        to: Register,
+        from: Register,
+        next: u32,
+    },
+    Binary {
+        operator: Binary,
+        to: Register,
+        left: Register,
+        right: Register,
+        next: u32,
+    },
+    Load {
+        object: u32,
+        to: Register,
+        index: Register,
+        next: u32,
+    },
+    Store {
+        object: u32,
+        index: Register,
+        from: Register,
+        next: u32,
+    },
+    Call {
+        function: u32,
+        next: u32,
+    },
+    Read {
+        next: u32,
+    },
+    Write {
+        next: u32,
+    },
+    Branch {
+        from: Register,
+        if_nonzero: u32,
+        if_zero: u32,
+    },
+    Return,
+}

@@ -1,0 +1,86 @@
+// Two builds: one whose units have to be right, and one of which anything is.
+ghost use Rattle.tests_core.specs.Builds.{rules, keeps, is_right, law, nothing, is_anything, nothing_law};
+
+use crate::piece::Piece;
+use cc_core::build::Build;
+use cc_core::fault::BuildFault;
+use cc_link::StoredUnit;
+use std::alloc::Global;
+use std::sync::Arc;
+
+/// The build in which a source that begins with `2` has two pieces, and each other one. A source that begins with `#` is
+/// refused with 11, its pieces with 25 where it begins with `!`. Its units have one code word, the length of the source.
+#[derive(Drop)]
+pub struct FewPieces {}
+
+impl Build for FewPieces {
+    type Piece = Piece;
+
+    ghost rules = { rules };
+
+    ghost keeps = { keeps };
+
+    ghost is_right = { is_right };
+
+    fn plan(&self, _alloc: Global, source: &[u8]) -> Result<u32, BuildFault> {
+        match source {
+            [b'#', ..] => Err(BuildFault::Refused(11)),
+            [b'2', ..] => Ok(2),
+            _ => Ok(1),
+        }
+    }
+
+    fn names(&self, piece: &Piece, source: &[u8], part: u32) -> bool {
+        piece.is_of(source, part)
+    }
+
+    fn unit(
+        &self,
+        _alloc: Global,
+        source: &[u8],
+        pieces: &[&Piece],
+    ) -> Result<Arc<StoredUnit>, BuildFault> {
+        let [piece, ..] = pieces else {
+            return Err(BuildFault::Refused(26));
+        };
+        if let [b'!', ..] = source {
+            return Err(BuildFault::Refused(25));
+        }
+        Ok(Arc::try_clone(piece.unit())?)
+    }
+
+    ghost law = { law };
+}
+
+/// The build that makes nothing: each source is refused with 11. Any unit is right by it, so it opens any library.
+#[derive(Drop)]
+pub struct Nothing {}
+
+impl Build for Nothing {
+    type Piece = Piece;
+
+    ghost rules = { nothing };
+
+    ghost keeps = { keeps };
+
+    ghost is_right = { is_anything };
+
+    fn plan(&self, _alloc: Global, _source: &[u8]) -> Result<u32, BuildFault> {
+        Err(BuildFault::Refused(11))
+    }
+
+    fn names(&self, piece: &Piece, source: &[u8], part: u32) -> bool {
+        piece.is_of(source, part)
+    }
+
+    fn unit(
+        &self,
+        _alloc: Global,
+        _source: &[u8],
+        _pieces: &[&Piece],
+    ) -> Result<Arc<StoredUnit>, BuildFault> {
+        Err(BuildFault::Refused(11))
+    }
+
+    ghost law = { nothing_law };
+}

@@ -1,0 +1,233 @@
+// What a commit answers, and what it leaves.
+use crate::script::Line::{
+    Ack, Add, Begin, Done, Refuse, Replace, SyncBody, SyncGate, Take, Withdraw, WriteBody,
+    WriteGate,
+};
+use crate::script::{Line, ONE, TWO, fresh, leaves, run};
+use cc_core::fault::{BuildFault, CoreFault};
+use cc_core::sequence::Sequence;
+use std::test::Fail;
+
+// A source that the build refuses, one whose pieces it refuses, and one of two pieces.
+const BAD: [u8; 3] = [b'#', b'x', b'x'];
+
+const UNLINKED: [u8; 3] = [b'!', b'x', b'x'];
+
+const LONG: [u8; 3] = [b'2', b'x', b'x'];
+
+// The worked table's first line: two clients add `a`, with sources of their own.
+const TWO_CLIENTS: [Line; 7] = [
+    Add(1, b'a', ONE),
+    Add(2, b'a', TWO),
+    Take(1, 1, 0),
+    Take(2, 2, 0),
+    Done(2, TWO, 0),
+    Begin(2),
+    Done(1, ONE, 0),
+];
+
+// Its other lines, with the four device events before the reply.
+const ONE_OF_TWO: [(Line, u32); 8] = [
+    (Begin(1), 29),
+    (WriteBody, 0),
+    (SyncBody, 0),
+    (WriteGate, 0),
+    (SyncGate, 0),
+    (Ack(2), 1),
+    (Begin(1), 31),
+    (Add(1, b'a', ONE), 0),
+];
+
+#[test]
+fn two_clients_add_one_name(rt: HostRuntime) -> Result<(), Fail> {
+    let alloc = rt.alloc();
+    assert!(rt; leaves(alloc, run(alloc, &TWO_CLIENTS)?, &[], (None, None, None, 0))?);
+    assert!(rt;
+        leaves(
+            alloc,
+            run(alloc, &TWO_CLIENTS)?,
+            &ONE_OF_TWO,
+            (Some(TWO), None, None, 1)
+        )?
+    );
+    Ok(())
+}
+
+// Begin's numbers: the source's, the piece's, the build's for the pieces, and then the map's. Then a unit comes, a new one in its
+// place, and then none.
+const CHANGED: [(Line, u32); 42] = [
+    (Add(7, b'a', BAD), 0),
+    (Begin(7), 11),
+    (Add(7, b'a', ONE), 0),
+    (Take(3, 7, 0), 0),
+    (Refuse(3, 24), 0),
+    (Begin(7), 24),
+    (Add(7, b'a', UNLINKED), 0),
+    (Take(3, 7, 0), 0),
+    (Done(3, UNLINKED, 0), 0),
+    (Begin(7), 25),
+    (Withdraw(7, b'a'), 0),
+    (Begin(7), 32),
+    (Replace(7, b'a', ONE), 0),
+    (Take(3, 7, 0), 0),
+    (Done(3, ONE, 0), 0),
+    (Begin(7), 32),
+    (Withdraw(7, b'a'), 0),
+    (Add(1, b'a', ONE), 0),
+    (Take(3, 1, 0), 0),
+    (Done(3, ONE, 0), 0),
+    (Begin(1), 0),
+    (Ack(1), 29),
+    (WriteBody, 0),
+    (SyncBody, 0),
+    (WriteGate, 0),
+    (SyncGate, 0),
+    (Ack(1), 1),
+    (Replace(1, b'a', TWO), 0),
+    (Take(3, 1, 0), 0),
+    (Done(3, TWO, 0), 0),
+    (Begin(1), 0),
+    (WriteBody, 0),
+    (SyncBody, 0),
+    (WriteGate, 0),
+    (SyncGate, 0),
+    (Ack(1), 1),
+    (Begin(7), 0),
+    (WriteBody, 0),
+    (SyncBody, 0),
+    (WriteGate, 0),
+    (SyncGate, 0),
+    (Ack(7), 1),
+];
+
+#[test]
+fn refused_and_changed(rt: HostRuntime) -> Result<(), Fail> {
+    let alloc = rt.alloc();
+    assert!(rt; leaves(alloc, fresh(alloc, 200)?, &CHANGED, (None, None, None, 3))?);
+    Ok(())
+}
+
+// Events that are not possible: before a piece is made, while a worker has one, and while another client's commit goes on.
+const NOT_NOW: [(Line, u32); 19] = [
+    (Ack(1), 29),
+    (Begin(1), 29),
+    (Take(1, 1, 0), 29),
+    (Add(1, b'a', ONE), 0),
+    (Add(2, b'b', TWO), 0),
+    (Add(1, b'c', ONE), 29),
+    (Begin(1), 29),
+    (Take(1, 1, 1), 29),
+    (Take(1, 1, 0), 0),
+    (Take(1, 2, 0), 29),
+    (Take(2, 1, 0), 29),
+    (Done(1, TWO, 0), 29),
+    (Done(2, ONE, 0), 29),
+    (Refuse(2, 24), 29),
+    (Done(1, ONE, 0), 0),
+    (Begin(1), 0),
+    (Ack(2), 29),
+    (Begin(1), 29),
+    (SyncBody, 29),
+];
+
+#[test]
+fn not_now(rt: HostRuntime) -> Result<(), Fail> {
+    let alloc = rt.alloc();
+    assert!(rt; leaves(alloc, fresh(alloc, 200)?, &NOT_NOW, (None, None, None, 0))?);
+    Ok(())
+}
+
+// Two pieces come out of order, and one of them is refused; then both are, and the number of the least comes; then both are made.
+const TWO_PIECES: [(Line, u32); 25] = [
+    (Add(1, b'a', LONG), 0),
+    (Take(1, 1, 1), 0),
+    (Take(2, 1, 0), 0),
+    (Done(1, LONG, 0), 29),
+    (Done(1, LONG, 1), 0),
+    (Refuse(2, 22), 0),
+    (Begin(1), 22),
+    (Add(1, b'a', LONG), 0),
+    (Take(1, 1, 1), 0),
+    (Take(2, 1, 0), 0),
+    (Refuse(1, 24), 0),
+    (Begin(1), 29),
+    (Refuse(2, 22), 0),
+    (Begin(1), 22),
+    (Add(1, b'a', LONG), 0),
+    (Take(1, 1, 1), 0),
+    (Take(2, 1, 0), 0),
+    (Done(1, LONG, 1), 0),
+    (Done(2, LONG, 0), 0),
+    (Begin(1), 0),
+    (WriteBody, 0),
+    (SyncBody, 0),
+    (WriteGate, 0),
+    (SyncGate, 0),
+    (Ack(1), 1),
+];
+
+#[test]
+fn two_pieces(rt: HostRuntime) -> Result<(), Fail> {
+    let alloc = rt.alloc();
+    assert!(rt;
+        leaves(
+            alloc,
+            fresh(alloc, 200)?,
+            &TWO_PIECES,
+            (Some(LONG), None, None, 1)
+        )?
+    );
+    Ok(())
+}
+
+// The record of a name of one byte and a source of three takes 28 bytes: gate, length, 4 bytes up to the name, 7 of the source,
+// 8 of the one code word, 4 of no globals. An area of 64 bytes has room for two and their closed gate, and not for three.
+const FULL: [(Line, u32); 22] = [
+    (Add(1, b'a', ONE), 0),
+    (Take(3, 1, 0), 0),
+    (Done(3, ONE, 0), 0),
+    (Begin(1), 0),
+    (WriteBody, 0),
+    (SyncBody, 0),
+    (WriteGate, 0),
+    (SyncGate, 0),
+    (Ack(1), 1),
+    (Add(2, b'b', TWO), 0),
+    (Take(3, 2, 0), 0),
+    (Done(3, TWO, 0), 0),
+    (Begin(2), 0),
+    (WriteBody, 0),
+    (SyncBody, 0),
+    (WriteGate, 0),
+    (SyncGate, 0),
+    (Ack(2), 1),
+    (Add(7, b'c', ONE), 0),
+    (Take(3, 7, 0), 0),
+    (Done(3, ONE, 0), 0),
+    (Begin(7), 34),
+];
+
+#[test]
+fn full_area(rt: HostRuntime) -> Result<(), Fail> {
+    let alloc = rt.alloc();
+    assert!(rt;
+        leaves(
+            alloc,
+            fresh(alloc, 64)?,
+            &FULL,
+            (Some(ONE), Some(TWO), None, 2)
+        )?
+    );
+    Ok(())
+}
+
+// Lists give back what they were made of; numbers are those of the faults.
+#[test]
+fn lists_and_numbers(rt: HostRuntime) -> Result<(), Fail> {
+    assert!(rt; CoreFault::OutOfMemory.number() == 40 && BuildFault::OutOfMemory.number() == 40);
+    assert!(rt; BuildFault::Refused(22).number() == 22);
+    let list = Sequence::new(Vec::from_slice(rt.alloc(), &TWO)?);
+    assert!(rt; list.get(1).copied() == Some(b'w') && list.get(3).is_none());
+    assert!(rt; list.into_vec().as_slice() == TWO.as_slice());
+    Ok(())
+}

@@ -1,0 +1,136 @@
+// Crashes at each event of a commit, and what is recovered.
+use crate::builds::FewPieces;
+use crate::script::Line::{
+    Ack, Add, Begin, Crash, Done, Fails, Recover, SyncBody, SyncGate, Take, WriteBody, WriteGate,
+};
+use crate::script::{Line, ONE, TWO, fresh, leaves, run};
+use cc_core::state::crash_law;
+use std::alloc::Global;
+use std::test::Fail;
+
+// The eight events of one commit, from its job to its last device event.
+const COMMIT: [Line; 8] = [
+    Add(1, b'a', ONE),
+    Take(1, 1, 0),
+    Done(1, ONE, 0),
+    Begin(1),
+    WriteBody,
+    SyncBody,
+    WriteGate,
+    SyncGate,
+];
+
+// A crash after so many events of the commit and one event more, whether the unit is there after the recovery, and how many
+// commands were acknowledged.
+type Row = (usize, Line, u8, bool, usize);
+
+// Whether what is recovered is that.
+fn recovers(alloc: Global, row: Row) -> Result<bool, Fail> {
+    let (done, last, byte, there, acknowledged) = row;
+    let mut lines = Vec::new(alloc);
+    for line in COMMIT.iter().take(done) {
+        lines.push(*line)?;
+    }
+    lines.extend_from_slice(&[last, Crash(byte), Recover])?;
+    let wanted = if there { Some(ONE) } else { None };
+    leaves(
+        alloc,
+        run(alloc, &lines)?,
+        &[],
+        (wanted, None, None, acknowledged),
+    )
+}
+
+const CRASHES: [Row; 12] = [
+    // Whatever is left of the body alone counts for nothing.
+    (4, WriteBody, 0x00, false, 0),
+    (4, WriteBody, 0xa5, false, 0),
+    (4, WriteBody, 0xff, false, 0),
+    // Within the gate's write the unit is there where the gate was left open.
+    (6, WriteGate, 0x00, false, 0),
+    (6, WriteGate, 0xa5, true, 0),
+    // After the reply it is there.
+    (8, Ack(1), 0x00, true, 1),
+    (8, Ack(1), 0xa5, true, 1),
+    (8, Ack(1), 0xff, true, 1),
+    // Each device event fails in its turn.
+    (4, Fails, 0xa5, false, 0),
+    (5, Fails, 0xa5, false, 0),
+    (6, Fails, 0xa5, true, 0),
+    (7, Fails, 0xa5, true, 0),
+];
+
+#[test]
+fn a_crash_at_each_event(rt: HostRuntime) -> Result<(), Fail> {
+    for row in &CRASHES {
+        assert!(rt; recovers(rt.alloc(), *row)?);
+    }
+    Ok(())
+}
+
+// From a crash until the recovery nothing else is possible; a failed step answers 35 and every later commit 36, until a
+// recovery; then commits are possible again, and two records are recovered after two crashes in a row. The first crash leaves
+// the first record's gate open.
+const FAILED: [(Line, u32); 32] = [
+    (Crash(0xa5), 0),
+    (Add(4, b'b', TWO), 29),
+    (Take(3, 7, 0), 29),
+    (Begin(1), 29),
+    (SyncGate, 29),
+    (Recover, 0),
+    (Recover, 29),
+    (Add(2, b'b', TWO), 0),
+    (Take(3, 2, 0), 0),
+    (Done(3, TWO, 0), 0),
+    (Begin(2), 0),
+    (Fails, 35),
+    (WriteBody, 29),
+    (Add(2, b'b', ONE), 0),
+    (Take(3, 2, 0), 0),
+    (Done(3, ONE, 0), 0),
+    (Begin(2), 36),
+    (Crash(0xff), 0),
+    (Crash(0x00), 0),
+    (Recover, 0),
+    (Add(2, b'b', ONE), 0),
+    (Take(3, 2, 0), 0),
+    (Done(3, ONE, 0), 0),
+    (Begin(2), 0),
+    (WriteBody, 0),
+    (SyncBody, 0),
+    (WriteGate, 0),
+    (SyncGate, 0),
+    (Ack(2), 1),
+    (Crash(0xa5), 0),
+    (Crash(0x00), 0),
+    (Recover, 0),
+];
+
+#[test]
+fn until_the_recovery(rt: HostRuntime) -> Result<(), Fail> {
+    let alloc = rt.alloc();
+    assert!(rt;
+        leaves(
+            alloc,
+            run(alloc, &COMMIT[..7])?,
+            &FAILED,
+            (Some(ONE), Some(ONE), None, 1)
+        )?
+    );
+    Ok(())
+}
+
+// No record is recovered from a new disk.
+#[test]
+fn an_empty_recovery(rt: HostRuntime) -> Result<(), Fail> {
+    let alloc = rt.alloc();
+    let lines = [(Crash(0xa5), 0), (Recover, 0)];
+    assert!(rt; leaves(alloc, fresh(alloc, 200)?, &lines, (None, None, None, 0))?);
+    Ok(())
+}
+
+// The crash theorem holds of this build too.
+#[test]
+fn whatever_a_crash_leaves() {
+    crash_law::<FewPieces>();
+}

@@ -1,0 +1,248 @@
+// Runs that begin on disks with units.
+ghost use Rattle.std.specs.Prelude.{List, ℕ, IfOk};
+ghost use Rattle.cc_disk.specs.Model.{bytes_of, IsImage};
+ghost use Rattle.cc_library.specs.Apply.{Units};
+ghost use Rattle.cc_library.specs.Recovered.{Recovers, RecoversAlone};
+ghost use Rattle.cc_core.specs.Run.{EachUnit};
+ghost use Rattle.tests_core.specs.Builds.{is_right};
+
+use crate::builds::{FewPieces, Nothing};
+use crate::piece::compiled;
+use crate::script::Line::{
+    Ack, Add, Begin, Crash, Done, Recover, SyncBody, SyncGate, Take, Withdraw, WriteBody, WriteGate,
+};
+use crate::script::{Line, ONE, TWO, event, leaves, name_of, number_of};
+use cc_core::state::State;
+use cc_disk::{Disk, MemoryDisk};
+use cc_journal::format;
+use cc_library::Library;
+use std::alloc::Global;
+use std::sync::Arc;
+use std::test::Fail;
+
+// The library with one unit more, which is right for its source.
+fn with_unit(
+    alloc: Global,
+    mut library: Library<MemoryDisk>,
+    letter: u8,
+    source: [u8; 3],
+) -> Result<Library<MemoryDisk>, Fail>
+    requires { EachUnit is_right library.units }
+    ensures right { IfOk result (λ l. EachUnit is_right l.units) }
+    ensures kept { IfOk result (λ l. (image : List ℕ) → IsImage l.disk.cells image → RecoversAlone image l.units) }
+{
+    let name = name_of(letter)?;
+    let piece = compiled(alloc, &source, 0)?;
+    let unit = Arc::try_clone(piece.unit())?;
+    match library.add(alloc, name, unit) {
+        Ok(()) => Ok(library),
+        Err(fault) => Err(Fail::from(fault)),
+    }
+}
+
+// A disk of 300 bytes with areas of 120, and two units on it.
+fn two_units(alloc: Global) -> Result<MemoryDisk, Fail>
+    ensures { IfOk result (λ disk. (units : Units) → Recovers (bytes_of disk.cells) units → EachUnit is_right units) }
+{
+    let mut disk = MemoryDisk::new(alloc, 300)?;
+    format(&mut disk, 120)?;
+    let library = match Library::open(alloc, disk) {
+        Ok(library) => library,
+        Err((fault, _)) => return Err(Fail::from(fault)),
+    };
+    let library = with_unit(alloc, library, b'a', ONE)?;
+    let library = with_unit(alloc, library, b'b', TWO)?;
+    Ok(library.into_disk())
+}
+
+// The state on that disk.
+fn opened(alloc: Global) -> Result<State<FewPieces>, Fail> {
+    match State::open(alloc, FewPieces {}, two_units(alloc)?) {
+        Ok(state) => Ok(state),
+        Err((fault, _)) => Err(Fail::from(fault)),
+    }
+}
+
+// The disk's names are there, a third unit is committed, and a crash comes after it.
+const ACKNOWLEDGED: [(Line, u32); 15] = [
+    (Add(1, b'a', TWO), 0),
+    (Take(1, 1, 0), 0),
+    (Done(1, TWO, 0), 0),
+    (Begin(1), 31),
+    (Add(1, b'c', ONE), 0),
+    (Take(1, 1, 0), 0),
+    (Done(1, ONE, 0), 0),
+    (Begin(1), 0),
+    (WriteBody, 0),
+    (SyncBody, 0),
+    (WriteGate, 0),
+    (SyncGate, 0),
+    (Ack(1), 1),
+    (Crash(0x00), 0),
+    (Recover, 0),
+];
+
+// A crash within the write of the gate leaves it open, and then it is settled.
+const TORN: [(Line, u32); 16] = [
+    (Add(1, b'a', TWO), 0),
+    (Take(1, 1, 0), 0),
+    (Done(1, TWO, 0), 0),
+    (Begin(1), 31),
+    (Add(1, b'c', ONE), 0),
+    (Take(1, 1, 0), 0),
+    (Done(1, ONE, 0), 0),
+    (Begin(1), 0),
+    (WriteBody, 0),
+    (SyncBody, 0),
+    (WriteGate, 0),
+    (Crash(0xa5), 0),
+    (Recover, 0),
+    (Begin(1), 29),
+    (Crash(0x00), 0),
+    (Recover, 0),
+];
+
+// A crash leaves it closed.
+const LOST: [(Line, u32); 13] = [
+    (Add(1, b'a', TWO), 0),
+    (Take(1, 1, 0), 0),
+    (Done(1, TWO, 0), 0),
+    (Begin(1), 31),
+    (Add(1, b'c', ONE), 0),
+    (Take(1, 1, 0), 0),
+    (Done(1, ONE, 0), 0),
+    (Begin(1), 0),
+    (WriteBody, 0),
+    (SyncBody, 0),
+    (WriteGate, 0),
+    (Crash(0x00), 0),
+    (Recover, 0),
+];
+
+#[test]
+fn a_third_unit(rt: HostRuntime) -> Result<(), Fail> {
+    let alloc = rt.alloc();
+    assert!(rt; leaves(alloc, opened(alloc)?, &[], (Some(ONE), Some(TWO), None, 0))?);
+    assert!(rt;
+        leaves(
+            alloc,
+            opened(alloc)?,
+            &ACKNOWLEDGED,
+            (Some(ONE), Some(TWO), Some(ONE), 1)
+        )?
+    );
+    assert!(rt;
+        leaves(
+            alloc,
+            opened(alloc)?,
+            &TORN,
+            (Some(ONE), Some(TWO), Some(ONE), 0)
+        )?
+    );
+    assert!(rt;
+        leaves(
+            alloc,
+            opened(alloc)?,
+            &LOST,
+            (Some(ONE), Some(TWO), None, 0)
+        )?
+    );
+    Ok(())
+}
+
+// A header with areas of 64 bytes, of which the second is in use.
+const SECOND: [u8; 16] = [
+    0x03, 0x43, 0x43, 0x4c, 0x49, 0x42, 0x30, 0x31, 0x40, 0x00, 0x00, 0x00, 0x00, 0x00, 0x00, 0x00,
+];
+
+// A record that adds `a` with the source `int main(void){}`, one code word 0, and no globals.
+const RECORD: [u8; 41] = [
+    0xa5, 0x24, 0x00, 0x00, 0x00, 0x01, 0x01, 0x01, 0x61, 0x10, 0x00, 0x00, 0x00, 0x69, 0x6e, 0x74,
+    0x20, 0x6d, 0x61, 0x69, 0x6e, 0x28, 0x76, 0x6f, 0x69, 0x64, 0x29, 0x7b, 0x7d, 0x01, 0x00, 0x00,
+    0x00, 0x00, 0x00, 0x00, 0x00, 0x00, 0x00, 0x00, 0x00,
+];
+
+// A disk of 150 bytes with these from the offsets 0 and 80 on, which were written and not synced.
+fn raw(alloc: Global, header: &[u8; 16], record: &[u8; 41]) -> Result<MemoryDisk, Fail> {
+    let mut disk = MemoryDisk::new(alloc, 150)?;
+    disk.write_at(0, header)?;
+    disk.write_at(80, record)?;
+    Ok(disk)
+}
+
+// The unit in the second area is withdrawn.
+const WITHDRAWN: [(Line, u32); 11] = [
+    (Withdraw(1, b'a'), 0),
+    (Begin(1), 0),
+    (WriteBody, 0),
+    (SyncBody, 0),
+    (WriteGate, 0),
+    (SyncGate, 0),
+    (Ack(1), 1),
+    (Crash(0xa5), 0),
+    (Recover, 0),
+    (Withdraw(1, b'a'), 0),
+    (Begin(1), 32),
+];
+
+// Whether the state has that unit, these events answer so, and leave none.
+fn withdraws(alloc: Global, state: &mut State<Nothing>) -> Result<bool, Fail> {
+    let name = name_of(b'a')?;
+    if state.library().get(&name).is_none() {
+        return Ok(false);
+    }
+    for (line, number) in &WITHDRAWN {
+        let event = event(alloc, *line)?;
+        if number_of(state.step(alloc, event)) != *number {
+            return Ok(false);
+        }
+    }
+    Ok(state.library().get(&name).is_none() && state.acked().len() == 1)
+}
+
+// Whether all that is so of a disk with these bytes.
+fn is_withdrawn(alloc: Global, header: &[u8; 16], record: &[u8; 41]) -> Result<bool, Fail> {
+    match State::open(alloc, Nothing {}, raw(alloc, header, record)?) {
+        Ok(mut state) => {
+            let answer = withdraws(alloc, &mut state);
+            drop(state);
+            answer
+        }
+        Err((fault, _)) => Err(Fail::from(fault)),
+    }
+}
+
+#[test]
+fn the_second_area(rt: HostRuntime) -> Result<(), Fail> {
+    assert!(rt; is_withdrawn(rt.alloc(), &SECOND, &RECORD)?);
+    Ok(())
+}
+
+// Why a disk with these bytes is not opened, 0 where it is; it is handed back with its size.
+fn refusal(alloc: Global, header: &[u8; 16], record: &[u8; 41]) -> Result<u32, Fail> {
+    match State::open(alloc, Nothing {}, raw(alloc, header, record)?) {
+        Ok(state) => {
+            drop(state);
+            Ok(0)
+        }
+        Err((fault, disk)) => Ok(if disk.size() == 150 {
+            fault.number()
+        } else {
+            0
+        }),
+    }
+}
+
+#[test]
+fn not_a_library(rt: HostRuntime) -> Result<(), Fail> {
+    assert!(rt; refusal(rt.alloc(), &[0; 16], &RECORD)? == 38);
+    // The length of the record is past its area.
+    let mut long = RECORD;
+    long[1] = 0x3b;
+    assert!(rt; refusal(rt.alloc(), &SECOND, &long)? == 37);
+    // Its kind is to replace a unit, and there is none.
+    let mut replaces = RECORD;
+    replaces[6] = 0x02;
+    assert!(rt; refusal(rt.alloc(), &SECOND, &replaces)? == 37);
+    Ok(())
+}

@@ -1,0 +1,189 @@
+// Functions as bytes, written by hand from the tables of docs/FORMATS.md, and their listings.
+use cc_ltl::{LtlFault, read_ltl, write_ltl};
+use std::alloc::Global;
+use std::test::Fail;
+
+// One block with label 0 that returns, no slots, entry 0.
+static RETURNS: [u8; 21] =
+    *b"\x00\x00\x00\x00\x00\x00\x00\x00\x01\x00\x00\x00\x00\x00\x00\x00\x00\x00\x0a\x00\x00";
+
+// Three slots, three blocks: two parameters are put into slots, their difference is taken, and returned.
+static DIFFERENCE: [u8; 78] =
+    *b"\x03\x00\x00\x00\x00\x00\x00\x00\x03\x00\x00\x00\x00\x00\x00\x00\x02\x00\x02\x00\x00\x0a\x02\x01\x00\x0b\x00\x01\x00\x00\x00\x00\x00\x01\x00\x00\x00\x02\x00\x01\x07\x00\x00\x01\x08\x01\x00\x03\x01\x07\x07\x08\x2c\x01\x00\x00\x02\x00\x02\x02\x00\x07\x00\x09\x07\x2c\x01\x00\x00\x01\x00\x01\x0a\x02\x00\x0a\x00\x00";
+
+// A block for each operation.
+static KINDS: [u8; 193] =
+    *b"\x01\x00\x00\x00\x00\x00\x00\x00\x0b\x00\x00\x00\x00\x00\x00\x00\x00\x00\x00\x01\x00\x00\x00\x00\x00\x01\x00\x00\x00\x00\x00\x01\x07\xff\xff\xff\xff\x02\x00\x00\x00\x00\x00\x02\x00\x00\x00\x00\x00\x02\x01\x08\x07\x03\x00\x00\x00\x00\x00\x03\x00\x00\x00\x00\x00\x03\x12\x1f\x08\x07\x04\x00\x00\x00\x00\x00\x04\x00\x00\x00\x00\x00\x04\x04\x02\x00\x00\x00\x09\x1f\x05\x00\x00\x00\x00\x00\x05\x00\x00\x00\x00\x00\x05\x04\x02\x01\x00\x00\x09\x08\x06\x00\x00\x00\x00\x00\x06\x00\x00\x00\x01\x00\x00\x0a\x09\x06\x3f\x00\x00\x00\x07\x00\x00\x00\x01\x00\x02\x00\x00\x0a\x07\x00\x00\x00\x00\x00\x07\x08\x00\x00\x00\x00\x00\x08\x00\x00\x00\x00\x00\x08\x09\x00\x00\x00\x00\x00\x09\x00\x00\x00\x00\x00\x09\x07\x00\x00\x00\x00\xff\xff\xff\xff\x00\x00\xff\xff\xff\xff\x00\x00\x0a\x00\x00";
+
+// Whether the bytes are a function; then its own bytes are these.
+fn is_function(alloc: Global, bytes: &[u8]) -> Result<bool, Fail> {
+    match read_ltl(alloc, bytes) {
+        Ok(ltl) => {
+            let again = write_ltl(alloc, &ltl)?;
+            if again.as_slice() == bytes {
+                Ok(true)
+            } else {
+                Err(Fail::from("the function has other bytes"))
+            }
+        }
+        Err(fault) => {
+            if fault.number() == 37 {
+                Ok(false)
+            } else {
+                Err(Fail::from("memory ran out"))
+            }
+        }
+    }
+}
+
+// Whether bytes with one of them changed are a function.
+fn is_changed(alloc: Global, bytes: &[u8], place: usize, value: u8) -> Result<bool, Fail> {
+    let mut changed = Vec::from_slice(alloc, bytes)?;
+    match changed.get_mut(place) {
+        Some(byte) => *byte = value,
+        None => return Err(Fail::from("no such byte")),
+    }
+    is_function(alloc, changed.as_slice())
+}
+
+#[test]
+fn functions_are_read_and_written(rt: HostRuntime) -> Result<(), Fail> {
+    assert!(rt; is_function(rt.alloc(), &RETURNS)?);
+    assert!(rt; is_function(rt.alloc(), &DIFFERENCE)?);
+    assert!(rt; is_function(rt.alloc(), &KINDS)?);
+    Ok(())
+}
+
+#[test]
+fn shorter_and_longer_bytes_are_damaged(rt: HostRuntime) -> Result<(), Fail> {
+    for length in 0..DIFFERENCE.len() {
+        assert!(rt;
+            !is_function(rt.alloc(), &DIFFERENCE[..length])?,
+            "{length} bytes"
+        );
+    }
+    assert!(rt; !is_function(rt.alloc(), &RETURNS[..20])?);
+    let mut longer = Vec::from_slice(rt.alloc(), &RETURNS)?;
+    longer.push(0)?;
+    assert!(rt; !is_function(rt.alloc(), longer.as_slice())?);
+    Ok(())
+}
+
+// Each byte of the three blocks in turn, and each value: another function, or none.
+#[test]
+fn each_byte_changed(rt: HostRuntime) -> Result<(), Fail> {
+    let mut functions = 0u32;
+    for place in 0..DIFFERENCE.len() {
+        for value in 0..=255u8 {
+            if is_changed(rt.alloc(), &DIFFERENCE, place, value)? {
+                functions = functions.saturating_add(1);
+            }
+        }
+    }
+    assert!(rt; functions > 78, "{functions} functions");
+    Ok(())
+}
+
+// A byte of the function with each operation, and whether a function is left.
+#[test]
+fn limits(rt: HostRuntime) -> Result<(), Fail> {
+    for (place, value, right) in [
+        // 257 and 513 slots
+        (1, 1, true),
+        (1, 2, false),
+        // an operation, an operator of one word and of two words, a move: each the last that there is, and one more
+        (18, 8, true),
+        (18, 11, false),
+        (50, 2, true),
+        (50, 3, false),
+        (66, 18, true),
+        (66, 19, false),
+        (122, 3, false),
+        // a register beyond each end
+        (32, 7, true),
+        (32, 6, false),
+        (32, 5, false),
+        (32, 31, true),
+        (32, 32, false),
+        // the slot that is their number
+        (137, 1, false),
+        // the label before and the one after
+        (25, 0, false),
+        (25, 2, false),
+        // a width of 1
+        (83, 1, false),
+    ] {
+        assert!(rt;
+            is_changed(rt.alloc(), &KINDS, place, value)? == right,
+            "{value} at {place}"
+        );
+    }
+    Ok(())
+}
+
+// The bytes of a function up to its block's operation, and what comes then.
+fn is_with_tail(alloc: Global, tail: &[u8]) -> Result<bool, Fail> {
+    let mut bytes = Vec::from_slice(alloc, &RETURNS[..18])?;
+    bytes.extend_from_slice(tail)?;
+    is_function(alloc, bytes.as_slice())
+}
+
+#[test]
+fn no_move_stands_behind_a_branch_or_a_return(rt: HostRuntime) -> Result<(), Fail> {
+    assert!(rt; is_with_tail(rt.alloc(), b"\x00\x00\x00\x00\x00\x01\x00\x00\x07\x08")?);
+    assert!(rt; !is_with_tail(rt.alloc(), b"\x0a\x01\x00\x00\x07\x08")?);
+    assert!(rt;
+        !is_with_tail(
+            rt.alloc(),
+            b"\x09\x07\x00\x00\x00\x00\x00\x00\x00\x00\x01\x00\x00\x07\x08"
+        )?
+    );
+    assert!(rt;
+        is_with_tail(
+            rt.alloc(),
+            b"\x09\x07\x00\x00\x00\x00\x00\x00\x00\x00\x00\x00"
+        )?
+    );
+    Ok(())
+}
+
+// What a function prints.
+fn is_listed(alloc: Global, bytes: &[u8], text: &str) -> Result<bool, Fail> {
+    let Ok(ltl) = read_ltl(alloc, bytes) else {
+        return Err(Fail::from("the bytes are no function"));
+    };
+    let listing = ltl.to_string(alloc)?;
+    Ok(listing.as_str() == text)
+}
+
+#[test]
+fn listings(rt: HostRuntime) -> Result<(), Fail> {
+    assert!(rt;
+        is_listed(
+            rt.alloc(),
+            &DIFFERENCE,
+            "slots 3, entry 0\n0: slot0 = x10; slot1 = x11; nop -> 1\n1: x7 = slot0; x8 = slot1; x7 = sub x7, x8; slot2 = x7; x9 = x7 -> 300\n300: x10 = slot2; return\n"
+        )?
+    );
+    assert!(rt;
+        is_listed(
+            rt.alloc(),
+            &KINDS,
+            "slots 1, entry 0\n0: nop -> 1\n1: x7 = 4294967295 -> 2\n2: x8 = complement x7 -> 3\n3: x31 = le_u x8, x7 -> 4\n4: x9 = object2[x31] -> 5\n5: object258[x9] = x8 -> 6\n6: x10 = x9; call 63; slot0 = x10 -> 7\n7: read -> 8\n8: write -> 9\n9: branch x7 -> 0, 4294967295\n4294967295: return\n"
+        )?
+    );
+    Ok(())
+}
+
+#[test]
+fn faults(rt: HostRuntime) -> Result<(), Fail> {
+    for (fault, number, name) in [
+        (LtlFault::Damaged, 37, "Damaged"),
+        (LtlFault::OutOfMemory, 40, "OutOfMemory"),
+    ] {
+        assert!(rt; fault.number() == number);
+        let shown = fault.to_string(rt.alloc())?;
+        assert!(rt; shown.as_str() == name);
+    }
+    Ok(())
+}

@@ -1,0 +1,56 @@
+// Readers and writers that fail.
+
+use cc_program::{Task, perform};
+use std::io::{self, ErrorKind, Read, Write};
+
+/// Gives `l` at its first read, and fails from then on.
+struct FailsSecond {
+    reads: u8,
+}
+
+impl Read for FailsSecond {
+    fn read(&mut self, buf: &mut [u8]) -> io::Result<usize> {
+        if self.reads == 0 && !buf.is_empty() {
+            self.reads = 1;
+            buf[0] = b'l';
+            return Ok(1);
+        }
+        Err(io::Error::from(ErrorKind::BrokenPipe))
+    }
+}
+
+/// Refuses every write.
+struct Refuses;
+
+impl Write for Refuses {
+    fn write(&mut self, _buf: &[u8]) -> io::Result<usize> {
+        Err(io::Error::from(ErrorKind::BrokenPipe))
+    }
+
+    fn flush(&mut self) -> io::Result<()> {
+        Ok(())
+    }
+}
+
+fn says_that_a_read_failed<H: AllocGlobal>(rt: &H) -> bool {
+    let mut reader = FailsSecond { reads: 0 };
+    let mut written = Vec::new(rt.alloc());
+    let status = perform(rt, Task::Check, &mut reader, &mut written);
+    let FailsSecond { reads: _ } = reader;
+    status == 1 && written.as_slice() == b"fault 53 ReadFault\n".as_slice()
+}
+
+#[test]
+fn a_read_that_fails(rt: HostRuntime) {
+    assert!(rt; says_that_a_read_failed(&rt));
+}
+
+#[test]
+fn a_write_that_fails(rt: HostRuntime) {
+    let mut reader = b"int main(void){}".as_slice();
+    let mut writer = Refuses;
+    let task = Task::Interpret(1, Vec::new(rt.alloc()));
+    let status = perform(&rt, task, &mut reader, &mut writer);
+    let Refuses = writer;
+    assert!(rt; status == 1);
+}

@@ -1,0 +1,56 @@
+// What a task writes for a text, and texts made of parts.
+
+use cc_program::{Task, perform};
+use std::alloc::{AllocError, Global};
+
+/// Whether a task writes these lines for a text, with this status.
+pub fn writes<H: AllocGlobal>(rt: &H, task: Task, text: &[u8], lines: &[u8], status: u8) -> bool {
+    let mut reader = text;
+    let mut written = Vec::new(rt.alloc());
+    let found = perform(rt, task, &mut reader, &mut written);
+    found == status && written.as_slice() == lines
+}
+
+/// Whether a run of a text within so many steps on no input writes these lines.
+pub fn interprets<H: AllocGlobal>(rt: &H, text: &[u8], steps: u64, lines: &str) -> bool {
+    let task = Task::Interpret(steps, Vec::new(rt.alloc()));
+    writes(rt, task, text, lines.as_bytes(), 0)
+}
+
+/// Whether `check` answers a text with this line.
+pub fn checks<H: AllocGlobal>(rt: &H, text: &[u8], line: &str) -> bool {
+    writes(
+        rt,
+        Task::Check,
+        text,
+        line.as_bytes(),
+        u8::from(line != "ok\n"),
+    )
+}
+
+/// A part of a text, and how often it stands there.
+pub type Part<'a> = (&'a str, usize);
+
+fn append(text: &mut Vec<u8>, part: &str, times: usize) -> Result<(), AllocError> {
+    for _ in 0..times {
+        text.extend_from_slice(part.as_bytes())?;
+    }
+    Ok(())
+}
+
+/// The text of these parts.
+pub fn text_of(alloc: Global, parts: &[Part<'_>]) -> Result<Vec<u8>, AllocError> {
+    let mut text = Vec::new(alloc);
+    for (part, times) in parts {
+        append(&mut text, part, *times)?;
+    }
+    Ok(text)
+}
+
+/// Whether `check` answers the text of these parts with this line.
+pub fn checks_parts<H: AllocGlobal>(rt: &H, parts: &[Part<'_>], line: &str) -> bool {
+    match text_of(rt.alloc(), parts) {
+        Ok(text) => checks(rt, text.as_slice(), line),
+        Err(_) => false,
+    }
+}

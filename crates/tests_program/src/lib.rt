@@ -1,0 +1,18 @@
+// Tests of the program's work: texts at their limits, texts that are refused, small programs, command lines, and readers and
+// writers that fail, over readers and writers in memory. Expected lines come from the language's rules, worked by hand.
+#![tactic(auto)]
+
+#[cfg(test)]
+mod faulty;
+#[cfg(test)]
+mod helpers;
+#[cfg(test)]
+mod hostile;
+#[cfg(test)]
+mod limits;
+#[cfg(test)]
+mod programs;
+#[cfg(test)]
+mod refusals;
+#[cfg(test)]
+mod words;

@@ -1,0 +1,89 @@
+// Every point of failure of a `rewrite`, in each mode and out of each area, and a crash after it.
+use crate::helpers::{formatted, holds, number, one_body, opened};
+use cc_disk::{Disk, FuseDisk, FuseMode, MemoryDisk};
+use std::alloc::Global;
+use std::test::Fail;
+
+// The calls of opening a journal with one record: a sync, the header, its gate, its length, its body, the closed gate.
+const OPENING: u64 = 6;
+
+const OLD: [u8; 3] = [1, 2, 3];
+
+// A body that is itself an open gate and a whole record.
+const NEW: [u8; 7] = [0xa5, 1, 0, 0, 0, 9, 0];
+
+// A disk with the old record, in area B where it was moved.
+fn with_old(alloc: Global, moved: bool) -> Result<MemoryDisk, Fail> {
+    let mut journal = opened(alloc, formatted(alloc)?)?;
+    journal.append(alloc, &OLD)?;
+    if moved {
+        journal.rewrite(alloc, one_body(alloc, &OLD)?)?;
+    }
+    Ok(journal.into_disk())
+}
+
+// The disk after a rewrite whose device calls meet the fuse once so many have passed: whether it was done, and whether
+// later calls answer 36 and make no device call.
+fn rewritten(
+    alloc: Global,
+    moved: bool,
+    passes: u64,
+    mode: FuseMode,
+) -> Result<(MemoryDisk, bool, bool), Fail> {
+    let fuse = FuseDisk::new(
+        with_old(alloc, moved)?,
+        OPENING.saturating_add(passes),
+        mode,
+    );
+    let mut journal = opened(alloc, fuse)?;
+    let answer = number(journal.rewrite(alloc, one_body(alloc, &NEW)?));
+    if answer == 0 {
+        return Ok((journal.into_disk().into_disk(), true, true));
+    }
+    let later = number(journal.append(alloc, &OLD)) == 36
+        && number(journal.rewrite(alloc, Vec::new(alloc))) == 36;
+    let fuse = journal.into_disk();
+    let quiet = answer == 35 && later && fuse.failures() == 1;
+    Ok((fuse.into_disk(), false, quiet))
+}
+
+// Whether each crash leaves the old record or the new one, and the new one where the rewrite was done.
+fn is_right(alloc: Global, disk: &MemoryDisk, done: bool) -> Result<bool, Fail> {
+    for byte in [0x00u8, 0xa5, 0xff] {
+        let new = holds(alloc, disk.crash(alloc, &[byte; 144])?, &[&NEW]);
+        let old = holds(alloc, disk.crash(alloc, &[byte; 144])?, &[&OLD]);
+        if !new && (done || !old) {
+            return Ok(false);
+        }
+    }
+    Ok(true)
+}
+
+#[test]
+fn every_failure_of_a_rewrite(rt: HostRuntime) -> Result<(), Fail> {
+    let alloc = rt.alloc();
+    for moved in [false, true] {
+        for passes in 0..5u64 {
+            for mode in [FuseMode::Once, FuseMode::Before, FuseMode::Within] {
+                let (disk, done, quiet) = rewritten(alloc, moved, passes, mode)?;
+                let right = quiet && done == (passes == 4) && is_right(alloc, &disk, done)?;
+                assert!(rt; right, "{passes} calls, {mode:?}, moved {moved}");
+            }
+        }
+    }
+    Ok(())
+}
+
+#[test]
+fn each_value_of_a_torn_area_byte(rt: HostRuntime) -> Result<(), Fail> {
+    let alloc = rt.alloc();
+    let (disk, _, _) = rewritten(alloc, false, 2, FuseMode::Within)?;
+    for byte in 0..=255u8 {
+        let wanted: &[u8] = if byte % 2 == 0 { &OLD } else { &NEW };
+        assert!(rt;
+            holds(alloc, disk.crash(alloc, &[byte])?, &[wanted]),
+            "area byte {byte}"
+        );
+    }
+    Ok(())
+}
