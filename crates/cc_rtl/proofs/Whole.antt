@@ -7,7 +7,7 @@ use Rattle.cc_runs.specs.Run.{Move, Goes, run, work, act, work_act, tried}
 use Rattle.cc_runs.specs.Meaning.{Meaning, call_effect}
 use Rattle.cc_runs.specs.Tracks.{Keeps, Keeping, Tracks}
 use Rattle.cc_runs.proofs.Simulating.{tracks_on, coarser}
-use Rattle.cc_cminor.specs.Cminor.{Statement, cminor_move, cminor_output, cminor_start, first_variables}
+use Rattle.cc_cminor.specs.Cminor.{Statement, cminor_move, cminor_output, cminor_start}
 use Rattle.cc_rtl.specs.Rtl as rtl
 use Rattle.cc_rtl.specs.Rtl.{at, node_move, rtl_output}
 use Rattle.cc_rtl.specs.internal.Translates.{Graph, graph_move, IsCodeOf}
@@ -39,12 +39,6 @@ tracks_behind meaning f rate {C} move output start before goes tracks d below ws
       },
     )
 
--- an argument, or 0
-pub argument_or_zero : (ws : List ℕ) (i : ℕ) → get_or ws i 0 ≡ unwrap_or (slice_get ws i) 0
-argument_or_zero [] i = refl
-argument_or_zero (w ∷ ws) zero = refl
-argument_or_zero (w ∷ ws) (suc i) = argument_or_zero ws i
-
 module _ (nodes : Graph) (count : ℕ) (body : Statement) (entry : ℕ) (is : IsCodeOf nodes count body entry) where
   -- the rate grows by this, and one
   abbrev most : ℕ
@@ -57,4 +51,4 @@ module _ (nodes : Graph) (count : ℕ) (body : Statement) (entry : ℕ) (is : Is
       (λ ws h. ap (λ x. tried x (λ node. node_move node (λ r. get_or ws r 0) h)) is.nop)
       (tracks_on meaning f rate cminor_move cminor_output (graph_move nodes) rtl_output (Related nodes count most) measure most most (generated nodes count most)
       (cminor_start body) (λ ws h. at is.first (λ r. get_or ws r 0) h)
-      (λ ws h c. record { exit = is.exit; exits = []; code = is.translates; next = is.finishes; holds = λ x lt. argument_or_zero ws x; world = refl; low = omega arith; turns = tt }) tracks)
+      (λ ws h c. record { exit = is.exit; exits = []; code = is.translates; next = is.finishes; holds = λ x lt. refl; world = refl; low = omega arith; turns = tt }) tracks)
