@@ -1,0 +1,12 @@
+pub mod Owing
+pub mod Expressions
+pub mod Statements
+pub mod Whole
+pub mod Growing
+pub mod Generated
+pub mod Inside
+pub mod Turning
+pub mod Layer
+pub mod Labels
+pub mod Function
+pub mod Kept

@@ -2,3 +2,5 @@
 pub mod Rtl
 -- The RTL that the code keeps.
 pub mod Code
+-- What the proofs speak of.
+pub mod internal

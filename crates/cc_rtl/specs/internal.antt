@@ -1,0 +1,4 @@
+-- Which nodes stand where for a statement.
+pub mod Translates
+-- The generator as a function.
+pub mod Generate
