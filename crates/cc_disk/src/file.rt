@@ -6,7 +6,6 @@ use crate::count::FailureCount;
 use crate::disk::{Disk, DiskFault};
 use std::fs::{self, OpenOptions};
 use std::io;
-use std::os::fd::AsRawFd;
 use std::os::unix::fs::FileExt;
 use std::path::Path;
 
@@ -51,8 +50,7 @@ impl FileDisk {
         Ok(FileDisk::over(file, size))
     }
 
-    /// The disk on an old file, whose length is its size. What earlier processes left in the system's memory is synced,
-    /// and then read from the medium: after a sync of theirs that failed the two may differ.
+    /// The disk on an old file, whose length is its size. What earlier processes left in the system's memory is synced first.
     ///
     /// 35 where the system refuses, or another process has the file open as a disk.
     pub fn open(rt: &HostRuntime, path: &str) -> Result<FileDisk, DiskFault>
@@ -62,7 +60,6 @@ impl FileDisk {
         let file = OpenOptions::new().read(true).write(true).open(rt, path)?;
         lock(&file)?;
         file.sync_all()?;
-        drop_pages(&file)?;
         let size = file.metadata()?.len() as usize;
         Ok(FileDisk::over(file, size))
     }
@@ -156,14 +153,6 @@ fn sync_folder(rt: &HostRuntime, path: &str) -> Result<(), DiskFault> {
         _ => ".",
     };
     fs::File::open(rt, folder)?.sync_all()?;
-    Ok(())
-}
-
-// Makes the next reads come from the medium.
-fn drop_pages(file: &fs::File) -> Result<(), DiskFault> {
-    if libc::posix_fadvise(file.as_raw_fd(), 0, 0, libc::POSIX_FADV_DONTNEED) != 0 {
-        return Err(DiskFault::DeviceFailed);
-    }
     Ok(())
 }
 
