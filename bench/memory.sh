@@ -10,26 +10,7 @@ program=$top/crates/cclib/out/cclib
 work=$(mktemp -d)
 trap 'rm -rf "$work"' EXIT
 
-cat > "$work/refuse.c" <<'C'
-#define _GNU_SOURCE
-#include <dlfcn.h>
-#include <errno.h>
-#include <stdlib.h>
-#include <unistd.h>
-static long count, number = -1;
-static int refuse(void) {
-    if (number < 0) { char *text = getenv("REFUSED"); number = text ? atol(text) : 0; }
-    return ++count == number;
-}
-#define NEXT(type, name, ...) static type (*next)(__VA_ARGS__); if (!next) next = dlsym(RTLD_NEXT, name)
-void *malloc(size_t n) { NEXT(void *, "malloc", size_t); return refuse() ? 0 : next(n); }
-void *realloc(void *p, size_t n) { NEXT(void *, "realloc", void *, size_t); return refuse() ? 0 : next(p, n); }
-void *aligned_alloc(size_t a, size_t n) { NEXT(void *, "aligned_alloc", size_t, size_t); return refuse() ? 0 : next(a, n); }
-int posix_memalign(void **p, size_t a, size_t n) { NEXT(int, "posix_memalign", void **, size_t, size_t); return refuse() ? ENOMEM : next(p, a, n); }
-/* Tells by its own status that the run ended before the allocation. */
-__attribute__((destructor)) static void tell(void) { if (number > 0 && count < number) write(3, "all\n", 4); }
-C
-gcc -shared -fPIC -O1 -o "$work/refuse.so" "$work/refuse.c" -ldl
+gcc -shared -fPIC -O1 -o "$work/refuse.so" "$top/bench/refuse.c" -ldl
 
 total=0
 refused=0
@@ -61,7 +42,6 @@ printf 'int main(void){%s%s}' "$(printf '{%.0s' $(seq 63))" "$(printf '}%.0s' $(
 : > "$work/nothing.c"
 printf '/*' > "$work/unclosed.c"
 for file in "$top"/bench/memory.c "$top"/examples/*.c "$work"/*.c; do
-    case $file in *refuse.c) continue ;; esac
     sweep "$file" check
     sweep "$file" interpret 100000 3 4294967295 4 0
 done

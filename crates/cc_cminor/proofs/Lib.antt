@@ -6,3 +6,15 @@ pub mod PerformedActions
 pub mod LoweredStatements
 pub mod Bodies
 pub mod Layer
+pub mod LoweredCalls
+pub mod Tokens
+pub mod Counts
+pub mod Longest
+pub mod Limits
+pub mod Fits
+pub mod Pairs
+pub mod Codes
+pub mod Closing
+pub mod Taking
+pub mod Trees
+pub mod Listing

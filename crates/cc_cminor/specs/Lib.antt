@@ -2,8 +2,12 @@
 pub mod Cminor
 -- the Cminor that the code keeps
 pub mod Code
+-- the numbers that code names
+pub mod Numbers
 -- what a pair keeps
 pub mod Pair
+-- how many statements and expressions code has, against the tokens of the definition
+pub mod Size
 -- the number of the fault
 pub mod Fault
 pub mod internal

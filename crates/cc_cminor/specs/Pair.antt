@@ -15,6 +15,7 @@ use Rattle.cc_runs.specs.Tracks.{Tracks}
 use Rattle.cc_cminor.specs.Cminor.{Expression, Statement, Skip, Set, Store, Call, Read, Write, Sequence, If, Loop, Block, Exit, Return, cminor_move, cminor_output, cminor_start}
 use Rattle.cc_cminor.specs.declared.code.Statement as code
 use Rattle.cc_cminor.specs.Code.{statement_of}
+use Rattle.cc_cminor.specs.Numbers.{StatementFits}
 
 -- a pair as contracts see it: the unit, the function's number in the order of definitions, and its Cminor
 pub record Pair : Type 0 where
@@ -60,4 +61,5 @@ pub record IsPair (p : Pair) : Type 0 where
   pub typed : IsTyped (tree_of p)
   pub function : p.function < length (functions (tree_of p))
   pub calls : AreCalls (tree_of p) (code_of p)
+  pub numbers : StatementFits (code_of p)
   pub keeps_up : KeepsUp (tree_of p) p.function (code_of p)

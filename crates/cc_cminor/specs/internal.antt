@@ -1,5 +1,7 @@
 -- What only private contracts and proofs speak of.
 -- how a body becomes Cminor
 pub mod Lowering
+-- the code of a function that is resolved
+pub mod Lowered
 -- a value that code takes
 pub mod Taken

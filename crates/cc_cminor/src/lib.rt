@@ -1,14 +1,26 @@
-//! Cminor: numbered word variables, expressions without effect, and structured statements; the first of the compiler's languages after C.
+//! From C to Cminor: numbered word variables, expressions without effect, and structured statements; the first of the compiler's
+//! languages after C.
 //!
-//! `code` has the syntax, `display` its text, `pair` the type that keeps that a function's Cminor does what the function does. How a
-//! body becomes Cminor is a definition of `specs/internal`, which the lemmas of `proofs/Bodies` prove to keep up with the function.
+//! `code` has the syntax, `display` its text, `pair` the type that keeps that a function's Cminor does what the function does.
+//! `lower` makes it: `statements` on `actions` on `expressions` write the code, with `taken` (values that code takes), `access`,
+//! `operators` and `boxes` below. How a body becomes Cminor is a definition of `specs/internal`, of which the lemmas of `proofs`
+//! show that it keeps up with the function (`Bodies`), how large it is (`Counts`) and which numbers it names (`Fits`).
 #![tactic(auto)]
 
+mod access;
+mod actions;
+mod boxes;
 mod code;
 mod display;
+mod expressions;
 mod fault;
+mod lower;
+mod operators;
 mod pair;
+mod statements;
+mod taken;
 
 pub use code::{Expression, Statement};
 pub use fault::CminorFault;
+pub use lower::to_cminor;
 pub use pair::CminorPair;

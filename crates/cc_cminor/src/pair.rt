@@ -4,6 +4,7 @@ ghost use Rattle.std.specs.Prelude.{◌≡◌, ◌<◌, length};
 ghost use Rattle.std.specs.Arc.{arc_value};
 ghost use Rattle.cc_meaning.specs.Meaning.{functions};
 ghost use Rattle.cc_typing.specs.Typed.{IsTyped};
+ghost use Rattle.cc_cminor.specs.Numbers.{StatementFits};
 ghost use Rattle.cc_cminor.specs.Pair.{Pair, tree_of, code_of, AreCalls, KeepsUp, FollowsFunction, IsPair};
 
 use super::code::Statement;
@@ -64,12 +65,14 @@ impl CminorPair {
         self.function
     }
 
-    /// The code. Parameter i is variable i; each call in it has its function's number of arguments; its run keeps up with the
-    /// function, at rate 1 (each move of the run pays for one step of the source at most, so no loop is dropped), and so follows it.
+    /// The code. Parameter i is variable i; each call in it has its function's number of arguments; variables are below 1,024,
+    /// objects below 65,536, functions below 64; its run keeps up with the function, at rate 1 (each move of the run pays for one
+    /// step of the source at most, so no loop is dropped), and so follows it.
     pub fn code(&self) -> &Statement
         ensures code { result.now ≡ self.now.statement }
         ensures typed { IsTyped (tree_of self.now) }
         ensures calls { AreCalls (tree_of self.now) (code_of self.now) }
+        ensures numbers { StatementFits (code_of self.now) }
         ensures keeps_up { KeepsUp (tree_of self.now) self.now.function (code_of self.now) }
         ensures follows { FollowsFunction (tree_of self.now) self.now.function (code_of self.now) }
     {

@@ -7,6 +7,8 @@ use Rattle.std.proofs.lemmas.Bool.{cases_eq}
 use Rattle.std.proofs.lemmas.List.{append-nil, take_all, take_at, length-append}
 use Rattle.cc_disk.specs.Model.{bytes_of, IsImage}
 use Rattle.cc_disk.specs.Images.{LeavesAlone}
+use Rattle.cc_journal.specs.Commit.{Commit, rewrite_commit}
+use Rattle.cc_journal.specs.Format.{HoldsRecords, HoldsOneOf, room_of}
 use Rattle.cc_journal.proofs.Records.{holds_alone}
 use Rattle.cc_library.specs.Apply.{Units, apply, library_of}
 use Rattle.cc_library.specs.Body.{IsCommand, body_of}
@@ -15,14 +17,18 @@ use Rattle.cc_link.specs.declared.unit.StoredUnit.{StoredUnit}
 use Rattle.cc_library.proofs.Standing.{one_more, one_map, holds_recovers}
 use Rattle.cc_core.specs.declared.command.Numbered.{Numbered}
 use Rattle.cc_core.specs.declared.contents.Due.{Due}
+use Rattle.cc_core.specs.declared.contents.RewriteDue.{RewriteDue}
+use Rattle.cc_core.specs.declared.contents.RewriteDue.TheVariants.{SyncAll, WriteArea, SyncArea}
 use Rattle.cc_core.specs.declared.contents.Phase.{Phase}
-use Rattle.cc_core.specs.declared.contents.Phase.TheVariants.{Idle, Committing, Failed, Crashed}
+use Rattle.cc_core.specs.declared.contents.Phase.TheVariants.{Idle, Committing, Rewriting, Failed, Crashed}
 use Rattle.cc_core.specs.StoreState.{StoreState}
-use Rattle.cc_core.specs.Step.{IsLongest, commands}
+use Rattle.cc_core.specs.Store.{rewrite_stepped}
+use Rattle.cc_core.specs.Step.{IsLongest, commands, phase_after}
 use Rattle.cc_core.specs.Run.{EachUnit, Survives}
 use Rattle.cc_core.specs.internal.Ready.{HasRoom}
 use Rattle.cc_core.proofs.Orders.{library-push}
-use Rattle.cc_core.proofs.Held.{HoldsIn, HoldsInOneOf, IsAtRest, InCommit, commit_images}
+use Rattle.cc_core.proofs.Held.{HoldsInOneOf, IsAtRest, InCommit, commit_images}
+use Rattle.cc_core.proofs.Rewrites.{InRewrite, rewrite_images, all_synced, byte_written, rewrite_ends}
 
 -- ---- what the disk holds, by phase
 
@@ -35,9 +41,9 @@ pub record LacksLast (bodies : List (List ℕ)) (order acknowledged : List Numbe
   pub stand : StandFor bodies (library_of (commands front))
 
 -- the image holds records that stand for the order, or for the order without its last command
-pub record Ends (byte area : ℕ) (order acknowledged : List Numbered) (image : List ℕ) : Type 0 where
+pub record Ends (area : ℕ) (order acknowledged : List Numbered) (image : List ℕ) : Type 0 where
   pub bodies : List (List ℕ)
-  pub held : HoldsIn byte area bodies image
+  pub held : HoldsRecords image area bodies
   pub known : StandFor bodies (library_of (commands order)) ⊎ LacksLast bodies order acknowledged
 
 -- in no commit: the disk is at rest, and holds the order
@@ -58,18 +64,29 @@ pub record HoldsFlight (numbered : Numbered) (due : Due) (store : StoreState) (o
   pub room : HasRoom due store numbered.command
   pub on_disk : InCommit due store bodies (body_of numbered.command)
 
+-- in a rewrite: the disk is where the due step says, and both the old records and the new ones stand for the order
+pub record HoldsRewrite (commit : Commit) (due : RewriteDue) (store : StoreState) (order : List Numbered) : Type 0 where
+  pub bodies : List (List ℕ)
+  pub more : List (List ℕ)
+  pub stand : StandFor bodies (library_of (commands order))
+  pub stand_anew : StandFor more (library_of (commands order))
+  pub is : commit ≡ rewrite_commit store.area_byte store.area more
+  pub room : room_of more ≤ store.area
+  pub on_disk : InRewrite due store bodies more
+
 -- after a failed step: each image ends so
 abbrev pub HoldsEnds : StoreState → List Numbered → List Numbered → Type 0
-HoldsEnds store order acknowledged = (image : List ℕ) → IsImage store.cells image → Ends store.area_byte store.area order acknowledged image
+HoldsEnds store order acknowledged = (image : List ℕ) → IsImage store.cells image → Ends store.area order acknowledged image
 
 -- after a crash: there is one image, and it ends so
 pub record HoldsCrash (store : StoreState) (order acknowledged : List Numbered) : Type 0 where
   pub alone : LeavesAlone (bytes_of store.cells) (IsImage store.cells)
-  pub ends : Ends store.area_byte store.area order acknowledged (bytes_of store.cells)
+  pub ends : Ends store.area order acknowledged (bytes_of store.cells)
 
 abbrev pub IsKept : Phase → StoreState → List Numbered → List Numbered → Type 0
 IsKept Idle store order acknowledged = HoldsOrder store order
 IsKept (Committing client numbered due) store order acknowledged = HoldsFlight numbered due store order acknowledged
+IsKept (Rewriting commit due) store order acknowledged = HoldsRewrite commit due store order
 IsKept (Failed failed) store order acknowledged = HoldsEnds store order acknowledged
 IsKept Crashed store order acknowledged = HoldsCrash store order acknowledged
 
@@ -83,23 +100,58 @@ stand_more bodies front numbered order is stand spelled taken =
 -- what an image with the old records, or with one more, comes to
 pub ends_of : (numbered : Numbered) (store : StoreState) (order acknowledged : List Numbered) (bodies : List (List ℕ)) (front : List Numbered) → order ≡ front ++ numbered ∷ [] → All (Contains front) acknowledged
     → IsOk (apply (library_of (commands front)) numbered.command) → StandFor bodies (library_of (commands front)) → IsCommand numbered.command
-    → (image : List ℕ) → HoldsInOneOf store.area_byte store.area bodies (body_of numbered.command) image → Ends store.area_byte store.area order acknowledged image
+    → (image : List ℕ) → HoldsInOneOf store.area_byte store.area bodies (body_of numbered.command) image → Ends store.area order acknowledged image
 ends_of numbered store order acknowledged bodies front is acked taken stand spelled image (inl old) =
-    record { bodies = bodies; held = old; known = inr (record { front = front; last = numbered; is = is; acked = acked; stand = stand }) }
+    record { bodies = bodies; held = old.holds; known = inr (record { front = front; last = numbered; is = is; acked = acked; stand = stand }) }
 ends_of numbered store order acknowledged bodies front is acked taken stand spelled image (inr new) =
-    record { bodies = bodies ++ body_of numbered.command ∷ []; held = new; known = inl (stand_more bodies front numbered order is stand spelled taken) }
+    record { bodies = bodies ++ body_of numbered.command ∷ []; held = new.holds; known = inl (stand_more bodies front numbered order is stand spelled taken) }
+
+-- what an image with the old records or with the new ones of a rewrite comes to
+pub ends_either : (area : ℕ) (order acknowledged : List Numbered) (bodies more : List (List ℕ)) → StandFor bodies (library_of (commands order)) → StandFor more (library_of (commands order))
+    → (image : List ℕ) → HoldsOneOf area bodies more image → Ends area order acknowledged image
+ends_either area order acknowledged bodies more stand stand_anew image (inl old) = record { bodies = bodies; held = old.holds; known = inl stand }
+ends_either area order acknowledged bodies more stand stand_anew image (inr new) = record { bodies = more; held = new.holds; known = inl stand_anew }
 
 -- whatever the phase, each image ends so
-pub each_ends : (phase : Phase) (store : StoreState) (order acknowledged : List Numbered) → IsKept phase store order acknowledged → (image : List ℕ) → IsImage store.cells image → Ends store.area_byte store.area order acknowledged image
-each_ends Idle store order acknowledged k image now = record { bodies = k.bodies; held = k.rest.images image now; known = inl k.stand }
+pub each_ends : (phase : Phase) (store : StoreState) (order acknowledged : List Numbered) → IsKept phase store order acknowledged → (image : List ℕ) → IsImage store.cells image → Ends store.area order acknowledged image
+each_ends Idle store order acknowledged k image now = record { bodies = k.bodies; held = (k.rest.images image now).holds; known = inl k.stand }
 each_ends (Committing client numbered due) store order acknowledged k image now =
     ends_of numbered store order acknowledged k.bodies k.front k.is k.acked k.taken k.stand k.spelled image (commit_images due store k.bodies (body_of numbered.command) k.on_disk image now)
+each_ends (Rewriting commit due) store order acknowledged k image now =
+    ends_either store.area order acknowledged k.bodies k.more k.stand k.stand_anew image (rewrite_images due store k.bodies k.more k.room k.on_disk image now)
 each_ends (Failed failed) store order acknowledged k image now = k image now
-each_ends Crashed store order acknowledged k image now = subst (Ends store.area_byte store.area order acknowledged) (sym (k.alone image now)) k.ends
+each_ends Crashed store order acknowledged k image now = subst (Ends store.area order acknowledged) (sym (k.alone image now)) k.ends
+
+-- each further step of a rewrite is kept
+pub rewrite_kept : (commit : Commit) (due : RewriteDue) (store : StoreState) (order acknowledged : List Numbered) → HoldsRewrite commit due store order
+    → IsKept (phase_after commit due) (rewrite_stepped due commit store) order acknowledged
+rewrite_kept commit SyncAll store order acknowledged h = record {
+  bodies = h.bodies;
+  more = h.more;
+  stand = h.stand;
+  stand_anew = h.stand_anew;
+  is = h.is;
+  room = h.room;
+  on_disk = all_synced store h.bodies h.more commit h.on_disk;
+}
+rewrite_kept commit WriteArea store order acknowledged h = record {
+  bodies = h.bodies;
+  more = h.more;
+  stand = h.stand;
+  stand_anew = h.stand_anew;
+  is = h.is;
+  room = h.room;
+  on_disk = subst (λ (c : Commit). InRewrite SyncArea (rewrite_stepped WriteArea c store) h.bodies h.more) (sym h.is) (byte_written store h.bodies h.more h.room h.on_disk);
+}
+rewrite_kept commit SyncArea store order acknowledged h = record {
+  bodies = h.more;
+  rest = subst (λ (c : Commit). IsAtRest (rewrite_stepped SyncArea c store) h.more) (sym h.is) (rewrite_ends store h.bodies h.more h.on_disk);
+  stand = h.stand_anew;
+}
 
 -- so it survives
-pub ends_survives : (byte area : ℕ) (order acknowledged : List Numbered) (image : List ℕ) → All (Contains order) acknowledged → Ends byte area order acknowledged image → Survives image order acknowledged
-ends_survives byte area order acknowledged image acked e = at e.known
+pub ends_survives : (area : ℕ) (order acknowledged : List Numbered) (image : List ℕ) → All (Contains order) acknowledged → Ends area order acknowledged image → Survives image order acknowledged
+ends_survives area order acknowledged image acked e = at e.known
   where
     at : StandFor e.bodies (library_of (commands order)) ⊎ LacksLast e.bodies order acknowledged → Survives image order acknowledged
     at (inl stand) = record {
@@ -108,7 +160,7 @@ ends_survives byte area order acknowledged image acked e = at e.known
       in_order = sym (append-nil order);
       few = omega arith;
       acked = acked;
-      recovers = holds_recovers image area e.bodies (library_of (commands order)) (holds_alone image area e.bodies e.held.holds) stand;
+      recovers = holds_recovers image area e.bodies (library_of (commands order)) (holds_alone image area e.bodies e.held) stand;
     }
     at (inr lacks) = record {
       kept = lacks.front;
@@ -116,19 +168,44 @@ ends_survives byte area order acknowledged image acked e = at e.known
       in_order = lacks.is;
       few = omega arith;
       acked = lacks.acked;
-      recovers = holds_recovers image area e.bodies (library_of (commands lacks.front)) (holds_alone image area e.bodies e.held.holds) lacks.stand;
+      recovers = holds_recovers image area e.bodies (library_of (commands lacks.front)) (holds_alone image area e.bodies e.held) lacks.stand;
     }
 
 -- so what it recovers to is right, where the order's library is, and that of the order without its last command
-pub ends_right : (is_right : StoredUnit → Type 0) (byte area : ℕ) (order acknowledged : List Numbered) (image : List ℕ) → Ends byte area order acknowledged image → EachUnit is_right (library_of (commands order))
+pub ends_right : (is_right : StoredUnit → Type 0) (area : ℕ) (order acknowledged : List Numbered) (image : List ℕ) → Ends area order acknowledged image → EachUnit is_right (library_of (commands order))
     → ((front : List Numbered) (last : Numbered) → order ≡ front ++ last ∷ [] → EachUnit is_right (library_of (commands front))) → (library : Units) → Recovers image library → EachUnit is_right library
-ends_right is_right byte area order acknowledged image e whole before library recovered = at e.known
+ends_right is_right area order acknowledged image e whole before library recovered = at e.known
   where
     at : StandFor e.bodies (library_of (commands order)) ⊎ LacksLast e.bodies order acknowledged → EachUnit is_right library
-    at (inl stand) = subst (EachUnit is_right) (sym ((holds_recovers image area e.bodies (library_of (commands order)) (holds_alone image area e.bodies e.held.holds) stand).alone library recovered)) whole
+    at (inl stand) = subst (EachUnit is_right) (sym ((holds_recovers image area e.bodies (library_of (commands order)) (holds_alone image area e.bodies e.held) stand).alone library recovered)) whole
     at (inr lacks) =
-        subst (EachUnit is_right) (sym ((holds_recovers image area e.bodies (library_of (commands lacks.front)) (holds_alone image area e.bodies e.held.holds) lacks.stand).alone library recovered))
+        subst (EachUnit is_right) (sym ((holds_recovers image area e.bodies (library_of (commands lacks.front)) (holds_alone image area e.bodies e.held) lacks.stand).alone library recovered))
         (before lacks.front lacks.last lacks.is)
+
+-- where both records stand for one library, what it recovers to is right
+pub one_right : (is_right : StoredUnit → Type 0) (area : ℕ) (bodies more : List (List ℕ)) (units : Units) → StandFor bodies units → StandFor more units → EachUnit is_right units
+    → (image : List ℕ) → HoldsOneOf area bodies more image → (library : Units) → Recovers image library → EachUnit is_right library
+one_right is_right area bodies more units stand stand_anew each image (inl old) library recovered = subst (EachUnit is_right) (sym ((holds_recovers image area bodies units old stand).alone library recovered)) each
+one_right is_right area bodies more units stand stand_anew each image (inr new) library recovered = subst (EachUnit is_right) (sym ((holds_recovers image area more units new stand_anew).alone library recovered)) each
+
+-- no command is under way: the disk holds the whole order
+abbrev pub IsWhole : Phase → Type 0
+IsWhole Idle = Unit {0}
+IsWhole (Committing client numbered due) = ⊥
+IsWhole (Rewriting commit due) = Unit {0}
+IsWhole (Failed failed) = ⊥
+IsWhole Crashed = ⊥
+
+-- so each image recovers to its library
+pub each_right : (is_right : StoredUnit → Type 0) (phase : Phase) (store : StoreState) (order acknowledged : List Numbered) → IsWhole phase → IsKept phase store order acknowledged
+    → EachUnit is_right (library_of (commands order)) → (image : List ℕ) (library : Units) → IsImage store.cells image → Recovers image library → EachUnit is_right library
+each_right is_right Idle store order acknowledged w k each image library now =
+    one_right is_right store.area k.bodies k.bodies (library_of (commands order)) k.stand k.stand each image (inl (holds_alone image store.area k.bodies (k.rest.images image now).holds)) library
+each_right is_right (Committing client numbered due) store order acknowledged w k each image library now = absurd w
+each_right is_right (Rewriting commit due) store order acknowledged w k each image library now =
+    one_right is_right store.area k.bodies k.more (library_of (commands order)) k.stand k.stand_anew each image (rewrite_images due store k.bodies k.more k.room k.on_disk image now) library
+each_right is_right (Failed failed) store order acknowledged w k each image library now = absurd w
+each_right is_right Crashed store order acknowledged w k each image library now = absurd w
 
 -- ---- the recovery
 

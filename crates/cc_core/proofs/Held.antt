@@ -9,6 +9,7 @@ use Rattle.cc_disk.specs.internal.Laws.{bytes_are_image}
 use Rattle.cc_disk.specs.Images.{IsWritten, DiffersWithin, LeavesAlone}
 use Rattle.cc_disk.proofs.Cells.{length-image, written_images, bytes_of-written, synced_alone, bytes_of-synced, synced_adds_none}
 use Rattle.cc_journal.specs.Format.{header, open_gate, record_bytes, records, HoldsRecords}
+use Rattle.cc_journal.specs.Commit.{area_begin}
 use Rattle.cc_journal.specs.Journal.{HoldsFrom}
 use Rattle.cc_journal.proofs.Records.{length-records_push, length-record_bytes}
 use Rattle.cc_journal.proofs.Images.{frame, length-frame, behind_gate, at_gate, committed, length-written}
@@ -17,7 +18,7 @@ use Rattle.cc_library.specs.Body.{body_of}
 use Rattle.cc_core.specs.declared.contents.Due.{Due}
 use Rattle.cc_core.specs.declared.contents.Due.TheVariants.{WriteBody, SyncBody, WriteGate, SyncGate, Acknowledge}
 use Rattle.cc_core.specs.StoreState.{StoreState}
-use Rattle.cc_core.specs.Store.{begin_of, gate_of, stepped, due_after, FailsTo}
+use Rattle.cc_core.specs.Store.{gate_of, stepped, due_after, FailsTo}
 use Rattle.cc_core.specs.internal.Ready.{HasRoom}
 
 -- these records stand in the area of the image that this area byte names
@@ -35,10 +36,10 @@ part_most zero n lt = omega arith
 part_most (suc zero) n lt = omega arith
 part_most (suc (suc b)) n lt = absurd (omega arith)
 
-pub begin_most : (byte area : ℕ) → begin_of byte area ≤ 16 + area
+pub begin_most : (byte area : ℕ) → area_begin byte area ≤ 16 + area
 begin_most byte area = let le = part_most (byte % 2) area (mod_below byte 2 (omega arith)) in omega arith
 
-pub begin_least : (byte area : ℕ) → 16 ≤ begin_of byte area
+pub begin_least : (byte area : ℕ) → 16 ≤ area_begin byte area
 begin_least byte area = omega arith
 
 first_of : List ℕ → ℕ
@@ -49,15 +50,27 @@ first_of-header : (b c area : ℕ) → header b area ≡ header c area → b ≡
 unfolding first_of
 first_of-header b c area same = ap first_of same
 
-begins_behind : (b byte area n : ℕ) → b ≡ byte → n ≡ b % 2 * area → begin_of byte area ≡ 16 + n
+pub begins_behind : (b byte area n : ℕ) → b ≡ byte → n ≡ b % 2 * area → area_begin byte area ≡ 16 + n
 begins_behind b byte area n same is = ap (λ (k : ℕ). 16 + k) (ap (λ (k : ℕ). k % 2 * area) (sym same) ∙ sym is)
 
-pub holds_from : (byte area : ℕ) (bodies : List (List ℕ)) (image : List ℕ) → HoldsIn byte area bodies image → HoldsFrom image (begin_of byte area) area bodies
-holds_from byte area bodies image a =
+-- the area byte of records that stand so
+pub byte_of : (byte area : ℕ) (bodies : List (List ℕ)) (image : List ℕ) (a : HoldsIn byte area bodies image) → a.holds.area_byte ≡ byte
+byte_of byte area bodies image a =
     let h = a.holds in
     let front : header h.area_byte area ≡ header byte area =
     sym (take_at (header h.area_byte area) (h.other ++ (records bodies ++ h.gate ∷ h.behind)) 16 refl) ∙ sym (ap (λ (l : List ℕ). take 16 l) h.bytes) ∙ a.header_is in
-    record { holds = h; begins = begins_behind h.area_byte byte area (length h.other) (first_of-header h.area_byte byte area front) h.offset }
+    first_of-header h.area_byte byte area front
+
+-- the records of an image stand in the area that its header names
+pub holds_in : (area : ℕ) (bodies : List (List ℕ)) (image : List ℕ) (h : HoldsRecords image area bodies) → HoldsIn h.area_byte area bodies image
+holds_in area bodies image h = record {
+  holds = h;
+  header_is = ap (λ (l : List ℕ). take 16 l) h.bytes ∙ take_at (header h.area_byte area) (h.other ++ (records bodies ++ h.gate ∷ h.behind)) 16 refl;
+}
+
+abbrev pub holds_from : (byte area : ℕ) (bodies : List (List ℕ)) (image : List ℕ) → HoldsIn byte area bodies image → HoldsFrom image (area_begin byte area) area bodies
+holds_from byte area bodies image a =
+    record { holds = a.holds; begins = begins_behind a.holds.area_byte byte area (length a.holds.other) (byte_of byte area bodies image a) a.holds.offset }
 
 -- the bytes in front of a range that differs
 same_header : (place n : ℕ) (old new : List ℕ) (front : List ℕ) → 16 ≤ place → DiffersWithin place n old new → take 16 old ≡ front → take 16 new ≡ front
@@ -65,7 +78,7 @@ same_header place n old new front le differs is =
     sym (take-take 16 place new le) ∙ ap (λ (l : List ℕ). take 16 l) differs.before ∙ take-take 16 place old le ∙ is
 
 -- the bytes in front of a range that was written
-written_header : (place : ℕ) (bytes old new front : List ℕ) → 16 ≤ place → place ≤ length old → IsWritten old place bytes new → take 16 old ≡ front → take 16 new ≡ front
+pub written_header : (place : ℕ) (bytes old new front : List ℕ) → 16 ≤ place → place ≤ length old → IsWritten old place bytes new → take 16 old ≡ front → take 16 new ≡ front
 written_header place bytes old new front le within is same =
     ap (λ (l : List ℕ). take 16 l) is
     ∙ take-append-le 16 (take place old) (bytes ++ drop (place + length bytes) old) (omega (arith, le, length-take-le place old within))
@@ -84,21 +97,21 @@ two_writes old g x xs written new within first second =
 
 module _ (byte area used : ℕ) (bodies : List (List ℕ)) (taken : used ≡ length (records bodies)) where
   -- whatever stands behind the closed gate, the old records are held
-  behind_held : (n : ℕ) (old image : List ℕ) → HoldsIn byte area bodies old → DiffersWithin (begin_of byte area + used + 1) n old image → HoldsIn byte area bodies image
+  behind_held : (n : ℕ) (old image : List ℕ) → HoldsIn byte area bodies old → DiffersWithin (area_begin byte area + used + 1) n old image → HoldsIn byte area bodies image
   behind_held n old image a differs =
       let least = begin_least byte area in
       record {
-        holds = behind_gate old (begin_of byte area) area used bodies (holds_from byte area bodies old a) taken image n differs;
-        header_is = same_header (begin_of byte area + used + 1) n old image (header byte area) (omega (arith, least)) differs a.header_is;
+        holds = behind_gate old (area_begin byte area) area used bodies (holds_from byte area bodies old a) taken image n differs;
+        header_is = same_header (area_begin byte area + used + 1) n old image (header byte area) (omega (arith, least)) differs a.header_is;
       }
 
   -- with a body written behind the gate, whatever the gate is, the old records or these and the new one are held
-  at_gate_held : (body old written image : List ℕ) → HoldsIn byte area bodies old → used + length body + 6 ≤ area → IsWritten old (begin_of byte area + used + 1) (frame body) written → length written ≡ length old
-      → DiffersWithin (begin_of byte area + used) 1 written image → HoldsInOneOf byte area bodies body image
+  at_gate_held : (body old written image : List ℕ) → HoldsIn byte area bodies old → used + length body + 6 ≤ area → IsWritten old (area_begin byte area + used + 1) (frame body) written → length written ≡ length old
+      → DiffersWithin (area_begin byte area + used) 1 written image → HoldsInOneOf byte area bodies body image
   at_gate_held body old written image a room is long differs =
       let least = begin_least byte area in
       let most = begin_most byte area in
-      let begin = begin_of byte area in
+      let begin = area_begin byte area in
       let within : begin + used + 1 ≤ length old = omega (arith, room, most, a.holds.is_area.room) in
       let head : take 16 image ≡ header byte area =
       same_header (begin + used) 1 written image (header byte area) (omega (arith, least)) differs (written_header (begin + used + 1) (frame body) old written (header byte area) (omega (arith, least)) within is a.header_is) in
@@ -108,12 +121,12 @@ module _ (byte area used : ℕ) (bodies : List (List ℕ)) (taken : used ≡ len
       (at_gate old begin area used bodies (holds_from byte area bodies old a) taken body written image room is long differs)
 
   -- and with the gate open the new one is
-  opened_held : (body old written new : List ℕ) → HoldsIn byte area bodies old → used + length body + 6 ≤ area → IsWritten old (begin_of byte area + used + 1) (frame body) written
-      → IsWritten written (begin_of byte area + used) (open_gate ∷ []) new → HoldsIn byte area (bodies ++ body ∷ []) new
+  opened_held : (body old written new : List ℕ) → HoldsIn byte area bodies old → used + length body + 6 ≤ area → IsWritten old (area_begin byte area + used + 1) (frame body) written
+      → IsWritten written (area_begin byte area + used) (open_gate ∷ []) new → HoldsIn byte area (bodies ++ body ∷ []) new
   opened_held body old written new a room first second =
       let least = begin_least byte area in
       let most = begin_most byte area in
-      let begin = begin_of byte area in
+      let begin = area_begin byte area in
       let within : begin + used + 1 ≤ length old = omega (arith, room, most, a.holds.is_area.room) in
       let both = two_writes old (begin + used) open_gate (frame body) written new within first second in
       record {
@@ -164,11 +177,11 @@ commit_images WriteGate store bodies body c image now = inl (c.body_written.rest
 commit_images SyncGate store bodies body c image now = c.images image now
 commit_images Acknowledge store bodies body c image now = inr (c.images image now)
 
-length-bytes_of : (cells : List Cell) → length (bytes_of cells) ≡ length cells
+pub length-bytes_of : (cells : List Cell) → length (bytes_of cells) ≡ length cells
 length-bytes_of cells = length-map cells (λ (c : Cell). c.byte)
 
 -- the size of a disk that holds records
-size_of : (store : StoreState) (bodies : List (List ℕ)) → HoldsIn store.area_byte store.area bodies (bytes_of store.cells) → 16 + 2 * store.area ≤ length store.cells
+pub size_of : (store : StoreState) (bodies : List (List ℕ)) → HoldsIn store.area_byte store.area bodies (bytes_of store.cells) → 16 + 2 * store.area ≤ length store.cells
 size_of store bodies a = omega (arith, a.holds.is_area.room, length-bytes_of store.cells)
 
 -- the bytes behind the gate are written, whatever they are
@@ -201,7 +214,7 @@ commit_goes_on WriteBody store bodies command room c =
       rest = record { taken = c.taken; images = body_images store bodies (frame body) c (omega (arith, room.0, length-frame body)) };
       before = bytes_of store.cells;
       held = held;
-      long = length-written (bytes_of store.cells) (begin_of store.area_byte store.area) store.area store.used bodies (holds_from store.area_byte store.area bodies (bytes_of store.cells) held) c.taken (gate_of store + 1) (frame body) _
+      long = length-written (bytes_of store.cells) (area_begin store.area_byte store.area) store.area store.used bodies (holds_from store.area_byte store.area bodies (bytes_of store.cells) held) c.taken (gate_of store + 1) (frame body) _
           (omega (arith, room.0, length-frame body, size, length-bytes_of store.cells, begin_most store.area_byte store.area)) is;
       seen = is;
     }

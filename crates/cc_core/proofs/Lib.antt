@@ -4,6 +4,8 @@ pub mod Lists
 pub mod Whole
 pub mod Orders
 pub mod Held
+pub mod Compacted
+pub mod Rewrites
 pub mod Ending
 pub mod Possible
 pub mod Beginnings

@@ -1,14 +1,16 @@
 -- Where what an event asks holds, it has a step: the new state is the one that the step names. And how a handler's answer is
 -- that of the event.
-use Rattle.std.proofs.Common.{◌≡◌, ℕ, ◌+◌, ◌≤◌, refl, sym, subst, ap, ◌∙◌, Option, Some, None, arith, length, List}
+use Rattle.std.proofs.Common.{◌≡◌, ◌⊎◌, inl, inr, ℕ, ◌+◌, ◌≤◌, refl, sym, subst, ap, ◌∙◌, Option, Some, None, arith, length, List}
 use Rattle.std.specs.Prelude.{slice_get, IsTrue, OnOk, OnErr, IsErr, IsErrAnd, IsErrOf, is_err, true, false, ◌↔◌, Result, Ok, Err, ◌++◌, ◌∷◌, []}
 use Rattle.std.specs.FinMap.{get, insert, remove, empty}
 use Rattle.std.proofs.lemmas.List.{length-append, length-take-le}
-use Rattle.cc_journal.specs.Format.{records}
+use Rattle.cc_journal.specs.Commit.{Commit, behind_gate}
+use Rattle.cc_journal.specs.Format.{records, room_of}
 use Rattle.cc_disk.specs.Model.{written}
 use Rattle.cc_library.specs.declared.command.Command.{Command}
 use Rattle.cc_library.specs.Apply.{after}
 use Rattle.cc_library.specs.Body.{body_of}
+use Rattle.cc_library.specs.Compact.{compacted}
 use Rattle.cc_core.specs.declared.command.Request.{Request}
 use Rattle.cc_core.specs.declared.command.Numbered.{Numbered}
 use Rattle.cc_core.specs.declared.command.Reply.{Reply}
@@ -19,8 +21,10 @@ use Rattle.cc_core.specs.declared.contents.Contents.{Contents}
 use Rattle.cc_core.specs.declared.contents.Core.{Core}
 use Rattle.cc_core.specs.declared.contents.Due.{Due}
 use Rattle.cc_core.specs.declared.contents.Due.TheVariants as due
+use Rattle.cc_core.specs.declared.contents.RewriteDue.{RewriteDue}
+use Rattle.cc_core.specs.declared.contents.RewriteDue.TheVariants as left
 use Rattle.cc_core.specs.declared.contents.Phase.{Phase}
-use Rattle.cc_core.specs.declared.contents.Phase.TheVariants.{Idle, Committing, Failed, Crashed}
+use Rattle.cc_core.specs.declared.contents.Phase.TheVariants.{Idle, Committing, Rewriting, Failed, Crashed}
 use Rattle.cc_core.specs.declared.event.Event.{Event}
 use Rattle.cc_core.specs.declared.event.Event.TheVariants as event
 use Rattle.cc_core.specs.declared.fault.CoreFault.{CoreFault}
@@ -34,8 +38,8 @@ use Rattle.cc_core.specs.declared.ids.WorkerId.{WorkerId}
 use Rattle.cc_core.specs.Rules.{Rules}
 use Rattle.cc_core.specs.Job.{job_of, with_piece, all_there, verdict}
 use Rattle.cc_core.specs.StoreState.{StoreState}
-use Rattle.cc_core.specs.Store.{stepped, due_after, FailsTo, crashed_store, behind_gate, gate_of, with_cells}
-use Rattle.cc_core.specs.Step.{Step, IsImpossible, IsUp, IsFree, Submits, Takes, Begins, Begun, Advances, Fails, Acknowledges, Crashes, Reopens, StepsCore, EndsJob, EndsAll, FailsJob, jobs_begun, ticked, numbered_now}
+use Rattle.cc_core.specs.Store.{stepped, due_after, FailsTo, first_written, rewrite_of, RewriteFailsTo, crashed_store, gate_of, with_cells}
+use Rattle.cc_core.specs.Step.{Step, IsImpossible, IsUp, IsFree, Submits, Takes, Begins, Begun, Advances, Fails, Acknowledges, RewritesAll, RewriteFails, Crashes, Reopens, StepsCore, EndsJob, EndsAll, FailsJob, FailsStep, jobs_begun, ticked, numbered_now}
 use Rattle.cc_core.specs.Run.{PutsCommand}
 use Rattle.cc_core.specs.internal.Answers.{Answers}
 use Rattle.cc_core.specs.internal.Ready.{IsRecoverable}
@@ -83,6 +87,15 @@ acknowledges old client numbered committing = (
   record { numbered = numbered; committing = committing; done = refl; new_is = refl },
 )
 
+pub rewrites_all : (old : Core) → old.phase ≡ Idle → room_of (compacted old.library) ≤ old.store.area → (reply : Option Reply) × (new : Core) × RewritesAll old reply new
+rewrites_all old idle fits =
+    let c = rewrite_of old.store old.library in
+    (None, record old { store = first_written c old.store; phase = Rewriting c left.SyncAll }, record { idle = idle; fits = fits; silent = refl; new_is = refl })
+
+pub rewrite_fails : (old : Core) (commit : Commit) (due : RewriteDue) (store : StoreState) → old.phase ≡ Rewriting commit due → RewriteFailsTo due commit old.store store
+    → (new : Core) → new ≡ record old { store = store; phase = Failed None } → RewriteFails old None new
+rewrite_fails old commit due store rewriting failed new is = record { commit = commit; due = due; store = store; rewriting = rewriting; failed = failed; silent = refl; new_is = is }
+
 pub crashes : (choice : List ℕ) (old : Core) → (reply : Option Reply) × (new : Core) × Crashes choice old reply new
 crashes choice old = (None, record old { library = empty; phase = Crashed; store = crashed_store choice old.store }, record { silent = refl; new_is = refl })
 
@@ -90,7 +103,7 @@ pub reopens : (old : Core) → old.phase ≡ Crashed → IsRecoverable old.store
 reopens old crashed r =
     let kept = some_front r.library old.order in (
       None,
-      record old { library = r.library; order = kept.0; phase = Idle; store = record old.store { used = length (records r.bodies) } },
+      record old { library = r.library; order = kept.0; phase = Idle; store = record old.store { area_byte = r.holds.holds.area_byte; used = length (records r.bodies) } },
       record {
         crashed = crashed;
         bodies = r.bodies;
@@ -133,6 +146,40 @@ not_longer old new le numbered is = absurd (omega (arith, le, ap length is, leng
 
 same_order : (old new : Core) → new.order ≡ old.order → PutsCommand old new
 same_order old new is = not_longer old new (omega (arith, ap length is))
+
+committing_apart : {a : ClientId} {n : Numbered} {d : Due} {c : Commit} {e : RewriteDue} → Committing a n d ≡ Rewriting c e → ⊥
+committing_apart is = absurd (cc)
+
+-- of two steps, of which the second is impossible, the first one's answer is that of both
+pub answers_first : {S : Type 0} (A B : Option Reply → S → Type 0) (result : Result (Option Reply) CoreFault) (old new : S) → ((reply : Option Reply) (after : S) → B reply after → ⊥)
+    → Answers A result old new → Answers (λ reply after. A reply after ⊎ B reply after) result old new
+answers_first A B (Ok reply) old new none a = (
+  inl a.0,
+  λ e other after s. elim s [ inl first ↦ a.1 e other after first | inr second ↦ none other after second ],
+  λ e. let s = a.2 e in (s.0, s.1, inl s.2),
+  tt,
+)
+answers_first A B (Err fault) old new none a = (
+  tt,
+  λ e other after s. elim s [ inl first ↦ a.1 e other after first | inr second ↦ none other after second ],
+  λ e. let s = a.2 e in (s.0, s.1, inl s.2),
+  a.3,
+)
+
+pub answers_second : {S : Type 0} (A B : Option Reply → S → Type 0) (result : Result (Option Reply) CoreFault) (old new : S) → ((reply : Option Reply) (after : S) → A reply after → ⊥)
+    → Answers B result old new → Answers (λ reply after. A reply after ⊎ B reply after) result old new
+answers_second A B (Ok reply) old new none a = (
+  inr a.0,
+  λ e other after s. elim s [ inl first ↦ none other after first | inr second ↦ a.1 e other after second ],
+  λ e. let s = a.2 e in (s.0, s.1, inr s.2),
+  tt,
+)
+answers_second A B (Err fault) old new none a = (
+  tt,
+  λ e other after s. elim s [ inl first ↦ none other after first | inr second ↦ a.1 e other after second ],
+  λ e. let s = a.2 e in (s.0, s.1, inr s.2),
+  a.3,
+)
 
 -- ---- steps of clients and workers
 
@@ -207,6 +254,19 @@ module _ {P : Type 0} where
       client_of : {a b : ClientId} {m n : Numbered} {d e : Due} → Committing a m d ≡ Committing b n e → a ≡ b
       client_of is = cc
 
+  -- in a rewrite no commit can fail, and out of one no rewrite
+  pub in_rewrite : (old : Contents P) (commit : Commit) (due : RewriteDue) → old.core.phase ≡ Rewriting commit due → (result : Result (Option Reply) CoreFault) (core : Core)
+      → Answers (RewriteFails old.core) result old.core core → Answers (FailsStep old) result old (record old { core = core })
+  in_rewrite old commit due rewriting result core a =
+      let new : Contents P = record old { core = core } in
+      answers_second (FailsJob old) (StepsCore RewriteFails old) result old new (λ reply after job. committing_apart (sym job.1.core_step.committing ∙ rewriting))
+      (core_answers RewriteFails old new result a refl refl)
+
+  pub out_of_rewrite : (old new : Contents P) → ((commit : Commit) (due : RewriteDue) → old.core.phase ≡ Rewriting commit due → ⊥) → (result : Result (Option Reply) CoreFault)
+      → Answers (FailsJob old) result old new → Answers (FailsStep old) result old new
+  out_of_rewrite old new none result a =
+      answers_first (FailsJob old) (StepsCore RewriteFails old) result old new (λ reply after step. none step.core_step.commit step.core_step.due step.core_step.rewriting) a
+
   -- an answer that is a step, or 29 where there is none, or 40 where there is one, is 29 exactly where there is none
   pub exact : (rules : Rules P) (old : Contents P) (event : Event P) (result : Result (Option Reply) CoreFault) (new : Contents P)
       → Answers (Step rules old event) result old new → IsErrOf result faults.NotNow ↔ IsImpossible rules old event
@@ -226,6 +286,10 @@ module _ {P : Type 0} where
   IsNoBegin event.SyncBody = Unit {0}
   IsNoBegin event.WriteGate = Unit {0}
   IsNoBegin event.SyncGate = Unit {0}
+  IsNoBegin event.RewriteAll = Unit {0}
+  IsNoBegin event.SyncAll = Unit {0}
+  IsNoBegin event.WriteArea = Unit {0}
+  IsNoBegin event.SyncArea = Unit {0}
   IsNoBegin event.Fail = Unit {0}
   IsNoBegin (event.Ack client) = Unit {0}
   IsNoBegin (event.Crash choice) = Unit {0}
@@ -245,7 +309,12 @@ module _ {P : Type 0} where
   step_puts_none rules old event.SyncBody reply new plain step = same_order old.core new.core (ap (λ (s : Core). s.order) step.core_step.new_is)
   step_puts_none rules old event.WriteGate reply new plain step = same_order old.core new.core (ap (λ (s : Core). s.order) step.core_step.new_is)
   step_puts_none rules old event.SyncGate reply new plain step = same_order old.core new.core (ap (λ (s : Core). s.order) step.core_step.new_is)
-  step_puts_none rules old event.Fail reply new plain step = same_order old.core new.core (ap (λ (s : Core). s.order) step.1.core_step.new_is)
+  step_puts_none rules old event.RewriteAll reply new plain step = same_order old.core new.core (ap (λ (s : Core). s.order) step.core_step.new_is)
+  step_puts_none rules old event.SyncAll reply new plain step = same_order old.core new.core (ap (λ (s : Core). s.order) step.core_step.new_is)
+  step_puts_none rules old event.WriteArea reply new plain step = same_order old.core new.core (ap (λ (s : Core). s.order) step.core_step.new_is)
+  step_puts_none rules old event.SyncArea reply new plain step = same_order old.core new.core (ap (λ (s : Core). s.order) step.core_step.new_is)
+  step_puts_none rules old event.Fail reply new plain (inl step) = same_order old.core new.core (ap (λ (s : Core). s.order) step.1.core_step.new_is)
+  step_puts_none rules old event.Fail reply new plain (inr step) = same_order old.core new.core (ap (λ (s : Core). s.order) step.core_step.new_is)
   step_puts_none rules old (event.Ack client) reply new plain step = same_order old.core new.core (ap (λ (s : Core). s.order) step.core_step.new_is)
   step_puts_none rules old (event.Crash choice) reply new plain step = same_order old.core new.core (ap (λ (s : Core). s.order) step.core_step.new_is)
   step_puts_none rules old event.Recover reply new plain step =

@@ -1,7 +1,7 @@
 -- What holds of the contents after any events. One record says it, each step keeps it, and so does a run.
 -- How: beside the order and the jobs it says, by phase, what the disk's images hold; a device step goes on from one part of the
 -- commit to the next, a crash leaves one of the images, and a recovery reads it.
-use Rattle.std.proofs.Common.{◌≡◌, ◌⊎◌, inl, inr, ℕ, zero, suc, ◌+◌, ◌<◌, ◌≤◌, ◌^◌, List, [], ◌∷◌, ◌++◌, length, take, drop, Option, Some, None, Result, Ok, Err, refl, sym, ap, subst, ◌∙◌, arith, All, Contains}
+use Rattle.std.proofs.Common.{◌≡◌, ◌⊎◌, inl, inr, ℕ, zero, suc, ◌+◌, ◌*◌, ◌<◌, ◌≤◌, ◌^◌, List, [], ◌∷◌, ◌++◌, length, take, drop, Option, Some, None, Result, Ok, Err, refl, sym, ap, subst, ◌∙◌, arith, All, Contains}
 use Rattle.std.specs.Prelude.{IsOk, slice_get, replicate}
 use Rattle.std.specs.Ordering.{nat_cmp}
 use Rattle.std.specs.Cmp.{nat_cmp_total}
@@ -15,14 +15,16 @@ use Rattle.cc_disk.specs.Images.{IsWritten}
 use Rattle.cc_disk.proofs.Cells.{bytes_of-written, bytes_of-synced}
 use Rattle.std.specs.Int.{w32, to_le_bytes}
 use Rattle.cc_disk.specs.internal.Laws.{bytes_are_image}
-use Rattle.cc_journal.specs.Format.{header, open_gate, record_bytes, records, HoldsRecords}
+use Rattle.cc_journal.specs.Commit.{Commit, IsCommitted}
+use Rattle.cc_journal.specs.Format.{header, open_gate, record_bytes, records, room_of, HoldsRecords, HoldsOneOf}
 use Rattle.cc_journal.proofs.Images.{frame}
 use Rattle.cc_journal.proofs.Records.{holds_alone, holds_same}
 use Rattle.cc_journal.proofs.Bytes.{empty_holds}
 use Rattle.cc_link.specs.declared.unit.StoredUnit.{StoredUnit}
 use Rattle.cc_library.specs.declared.command.Command.{Command}
-use Rattle.cc_library.specs.Apply.{apply, after, library_of, AreAccepted}
+use Rattle.cc_library.specs.Apply.{Units, apply, after, library_of, AreAccepted}
 use Rattle.cc_library.specs.Body.{IsCommand, body_of}
+use Rattle.cc_library.specs.Compact.{compacted}
 use Rattle.cc_library.specs.Recovered.{StandFor, Recovers}
 use Rattle.cc_library.proofs.Standing.{holds_recovers}
 use Rattle.cc_core.specs.declared.command.Request.{Request}
@@ -40,24 +42,28 @@ use Rattle.cc_core.specs.declared.ids.ClientId.{ClientId}
 use Rattle.cc_core.specs.declared.ids.PartIndex.{PartIndex}
 use Rattle.cc_core.specs.declared.contents.Due.{Due}
 use Rattle.cc_core.specs.declared.contents.Due.TheVariants as due
+use Rattle.cc_core.specs.declared.contents.RewriteDue.{RewriteDue}
+use Rattle.cc_core.specs.declared.contents.RewriteDue.TheVariants as left
 use Rattle.cc_core.specs.declared.contents.Phase.{Phase}
-use Rattle.cc_core.specs.declared.contents.Phase.TheVariants.{Idle, Committing, Failed, Crashed}
+use Rattle.cc_core.specs.declared.contents.Phase.TheVariants.{Idle, Committing, Rewriting, Failed, Crashed}
 use Rattle.cc_core.specs.declared.event.Event.{Event}
 use Rattle.cc_core.specs.declared.event.Event.TheVariants as event
 use Rattle.cc_core.specs.Rules.{Rules}
 use Rattle.cc_core.specs.Job.{planned, job_of, source_in, with_piece, closed, verdict}
 use Rattle.cc_core.specs.StoreState.{StoreState}
-use Rattle.cc_core.specs.Store.{IsFormatted, gate_of, stepped, due_after, crashed_store}
-use Rattle.cc_core.specs.Step.{Step, Begins, Begun, Advances, Fails, Acknowledges, Crashes, Reopens, StepsCore, IsUp, IsFree, IsStart, jobs_begun, ticked, numbered_now, commands}
-use Rattle.cc_core.specs.Run.{EachUnit, AreRising, live, EachImageSurvives, EachImageIsRight, PutsCommand, HandsIn, Turn, Run, IsBeginning, IsOpened, IsOfCrash, PutsSource, Commits, LeavesRecord, Reached}
-use Rattle.cc_core.specs.internal.Ready.{IsFitting, IsRecoverable, IsReady, IsReadyIn}
+use Rattle.cc_core.specs.Store.{IsFormatted, gate_of, stepped, due_after, first_written, rewrite_of, rewrite_stepped, RewriteFailsTo, crashed_store}
+use Rattle.cc_core.specs.Step.{Step, Begins, Begun, Advances, Fails, Acknowledges, RewritesAll, RewriteAdvances, RewriteFails, phase_after, Crashes, Reopens, StepsCore, IsUp, IsFree, IsStart, jobs_begun, ticked, numbered_now, commands}
+use Rattle.cc_core.specs.Run.{EachUnit, AreRising, live, EachImageSurvives, EachImageIsRight, PutsCommand, HandsIn, Turn, Run, IsBeginning, IsOpened, IsOfCrash, PutsSource, Commits, LeavesRecord, Rewrites, LeavesCompacted, Reached}
+use Rattle.cc_core.specs.internal.Ready.{IsFitting, IsRewrite, IsRecoverable, IsReady, IsReadyIn}
 use Rattle.cc_core.proofs.Lists.{slice_get-set, slice_get-push, slice_get-last, Contains-slice_get, All-slice_get, take-push}
 use Rattle.cc_core.proofs.Whole.{IsRightCommand, IsNamed, IsLawful, verdict_right, verdict_source, verdict_taken}
 use Rattle.cc_core.proofs.Orders.{found-insert, found-remove, no_push, EachUnit-empty, EachUnit-after, library-push, AreAccepted-push, AreAccepted-before, but_last-push}
-use Rattle.cc_core.proofs.Held.{HoldsIn, commit_goes_on, room_goes_on, failed_images, crashed_image, crashed_alone, begin_most, two_writes}
-use Rattle.cc_core.proofs.Possible.{reopens}
+use Rattle.cc_core.proofs.Compacted.{compacted_fits, compacted_stands}
+use Rattle.cc_core.proofs.Rewrites.{whole, length-whole, first_within, rewrite_begins, rewrite_failed_images, done_held}
+use Rattle.cc_core.proofs.Held.{HoldsIn, holds_in, length-bytes_of, commit_goes_on, room_goes_on, failed_images, crashed_image, crashed_alone, begin_most, two_writes}
+use Rattle.cc_core.proofs.Possible.{reopens, rewrites_all}
 use Rattle.cc_core.proofs.Reopening.{recoverable_of}
-use Rattle.cc_core.proofs.Ending.{LacksLast, HoldsOrder, HoldsFlight, HoldsCrash, IsKept, stand_more, HoldsEnds, ends_of, each_ends, ends_survives, ends_right, kept_acked}
+use Rattle.cc_core.proofs.Ending.{LacksLast, HoldsOrder, HoldsFlight, HoldsRewrite, HoldsCrash, IsKept, stand_more, HoldsEnds, ends_of, ends_either, rewrite_kept, IsWhole, each_right, one_right, each_ends, ends_survives, ends_right, kept_acked}
 
 -- each sequence number is below this one
 abbrev pub AreBelow : ℕ → List Numbered → Type 0
@@ -100,7 +106,7 @@ formatted_holds area store order f none =
 -- the area of a disk that is kept is within its limits
 area_most : (phase : Phase) (store : StoreState) (order acknowledged : List Numbered) → IsKept phase store order acknowledged → store.area ≤ 2 ^ 30
 area_most phase store order acknowledged k =
-    (each_ends phase store order acknowledged k (bytes_of store.cells) (bytes_are_image store.cells)).held.holds.is_area.most
+    (each_ends phase store order acknowledged k (bytes_of store.cells) (bytes_are_image store.cells)).held.is_area.most
 
 -- what stands at an index of the front stands there in the whole
 slice_get-front : {X : Type 0} (xs ys : List X) (k : ℕ) (x : X) → slice_get xs k ≡ Some x → slice_get (xs ++ ys) k ≡ Some x
@@ -120,7 +126,7 @@ recoverable store order acknowledged all h = at h.ends.known
       alone = h.alone;
       bodies = h.ends.bodies;
       library = library_of (commands order);
-      holds = holds_alone (bytes_of store.cells) store.area h.ends.bodies h.ends.held.holds;
+      holds = holds_alone (bytes_of store.cells) store.area h.ends.bodies h.ends.held;
       stand = whole;
       accepted = all;
       known = inl refl;
@@ -129,7 +135,7 @@ recoverable store order acknowledged all h = at h.ends.known
       alone = h.alone;
       bodies = h.ends.bodies;
       library = library_of (commands lacks.front);
-      holds = holds_alone (bytes_of store.cells) store.area h.ends.bodies h.ends.held.holds;
+      holds = holds_alone (bytes_of store.cells) store.area h.ends.bodies h.ends.held;
       stand = lacks.stand;
       accepted = all;
       known = inr (lacks.front, lacks.last, lacks.is, refl);
@@ -157,6 +163,15 @@ failed_not_committing failed client numbered due is = absurd (cc)
 crashed_not_committing : (client : ClientId) (numbered : Numbered) (due : Due) → Crashed ≡ Committing client numbered due → ⊥
 crashed_not_committing client numbered due is = absurd (cc)
 
+rewriting_not_committing : (commit : Commit) (rest : RewriteDue) (client : ClientId) (numbered : Numbered) (due : Due) → Rewriting commit rest ≡ Committing client numbered due → ⊥
+rewriting_not_committing commit rest client numbered due is = absurd (cc)
+
+rewriting_not_crashed : (commit : Commit) (rest : RewriteDue) → Rewriting commit rest ≡ Crashed → ⊥
+rewriting_not_crashed commit rest is = absurd (cc)
+
+commit_is : {a b : Commit} {d e : RewriteDue} → Rewriting a d ≡ Rewriting b e → a ≡ b
+commit_is is = cc
+
 idle_not_crashed : Idle ≡ Crashed → ⊥
 idle_not_crashed is = absurd (cc)
 
@@ -166,6 +181,27 @@ failed_not_crashed failed is = absurd (cc)
 begun_not_crashed : (s : Core) (client : ClientId) (v : Result Command Refusal) (reply : Option Reply) (new : Core) → IsFree s.phase → Begun s client v reply new → new.phase ≡ Crashed → ⊥
 begun_not_crashed s client (Err refused) reply new free begun crashed = subst IsFree (sym (ap (λ (c : Core). c.phase) begun.1) ∙ crashed) free
 begun_not_crashed s client (Ok command) reply new free begun crashed = absurd (crashed_not_committing client (numbered_now s command) due.WriteBody (sym crashed ∙ ap (λ (c : Core). c.phase) begun.1))
+
+-- behind a step of a rewrite it goes on, or nothing is under way
+after_not_committing : (commit : Commit) (rest : RewriteDue) (client : ClientId) (numbered : Numbered) (due : Due) → phase_after commit rest ≡ Committing client numbered due → ⊥
+after_not_committing commit left.SyncAll client numbered due is = rewriting_not_committing commit left.WriteArea client numbered due is
+after_not_committing commit left.WriteArea client numbered due is = rewriting_not_committing commit left.SyncArea client numbered due is
+after_not_committing commit left.SyncArea client numbered due is = idle_not_committing client numbered due is
+
+after_not_crashed : (commit : Commit) (rest : RewriteDue) → phase_after commit rest ≡ Crashed → ⊥
+after_not_crashed commit left.SyncAll is = rewriting_not_crashed commit left.WriteArea is
+after_not_crashed commit left.WriteArea is = rewriting_not_crashed commit left.SyncArea is
+after_not_crashed commit left.SyncArea is = idle_not_crashed is
+
+after_whole : (commit : Commit) (rest : RewriteDue) → IsWhole (phase_after commit rest)
+after_whole commit left.SyncAll = tt
+after_whole commit left.WriteArea = tt
+after_whole commit left.SyncArea = tt
+
+live_after : (commit : Commit) (rest : RewriteDue) (order : List Numbered) → library_of (commands order) ≡ live (phase_after commit rest) order
+live_after commit left.SyncAll order = refl
+live_after commit left.WriteArea order = refl
+live_after commit left.SyncArea order = refl
 
 nothing_held : {X : Type 0} (m : FinMap nat_cmp X) (k : ℕ) (x : X) → m ≡ empty → get m k ≡ Some x → ⊥
 nothing_held m k x is found = let none = sym (get-empty nat_cmp k) ∙ ap (λ n. get n k) (sym is) ∙ found in absurd (cc)
@@ -250,7 +286,7 @@ module _ {P : Type 0} (rules : Rules P) (keeps : P → Type 0) where
         replay = st.library ∙ sym (λ i. live (st.phase i) (st.order i));
         accepted = subst (λ (l : List Numbered). AreAccepted empty (commands l)) (sym st.order) tt;
         units = subst (EachUnit is_right) (sym st.library) (EachUnit-empty is_right);
-        right = λ image library now. ends_right is_right s.core.store.area_byte s.core.store.area s.core.order s.core.acknowledged image
+        right = λ image library now. ends_right is_right s.core.store.area s.core.order s.core.acknowledged image
             (each_ends Idle s.core.store s.core.order s.core.acknowledged (formatted_holds area s.core.store s.core.order st.formatted st.order) image now)
             (subst (λ (l : List Numbered). EachUnit is_right (library_of (commands l))) (sym st.order) (EachUnit-empty is_right))
             (λ front last is. absurd (no_push front last (sym st.order ∙ is))) library;
@@ -304,6 +340,7 @@ module _ {P : Type 0} (rules : Rules P) (keeps : P → Type 0) where
     idle_of : (phase : Phase) → IsFree phase → closed phase ≡ None → phase ≡ Idle
     idle_of Idle free open' = refl
     idle_of (Committing client numbered due) free open' = absurd free
+    idle_of (Rewriting commit due) free open' = absurd free
     idle_of (Failed failed) free open' = absurd (cc)
     idle_of Crashed free open' = absurd free
 
@@ -389,7 +426,7 @@ module _ {P : Type 0} (rules : Rules P) (keeps : P → Type 0) where
           replay = sound.replay ∙ ap (λ phase. live phase s.order) step.committing;
           accepted = sound.accepted;
           units = sound.units;
-          right = λ image library now. ends_right is_right (stepped due step.numbered.command s.store).area_byte (stepped due step.numbered.command s.store).area s.order s.acknowledged image
+          right = λ image library now. ends_right is_right (stepped due step.numbered.command s.store).area s.order s.acknowledged image
               (each_ends (Committing step.client step.numbered (due_after due)) (stepped due step.numbered.command s.store) s.order s.acknowledged disk image now)
               (whole_right s step.client step.numbered due sound step.committing) (front_right s step.client step.numbered due sound step.committing) library;
           flying = λ who which now is. subst (λ (n : Numbered). IsRightCommand is_right n.command) (numbered_of is) (sound.flying step.client step.numbered due step.committing);
@@ -411,7 +448,7 @@ module _ {P : Type 0} (rules : Rules P) (keeps : P → Type 0) where
           replay = sound.replay ∙ ap (λ phase. live phase s.order) step.committing;
           accepted = sound.accepted;
           units = sound.units;
-          right = λ image library now. ends_right is_right step.store.area_byte step.store.area s.order s.acknowledged image (disk image now)
+          right = λ image library now. ends_right is_right step.store.area s.order s.acknowledged image (disk image now)
               (whole_right s client step.numbered step.due sound step.committing) (front_right s client step.numbered step.due sound step.committing) library;
           flying = λ who which now is. absurd (failed_not_committing (Some step.numbered) who which now is);
           acked = sound.acked;
@@ -446,6 +483,83 @@ module _ {P : Type 0} (rules : Rules P) (keeps : P → Type 0) where
         } in
         subst (IsSoundCore is_right) (sym step.new_is) there
 
+    -- the live map while a rewrite is under way
+    whole_order : (s : Core) (commit : Commit) (due : RewriteDue) → IsSoundCore is_right s → s.phase ≡ Rewriting commit due → s.library ≡ library_of (commands s.order)
+    whole_order s commit due sound rewriting = sound.replay ∙ ap (λ phase. live phase s.order) rewriting
+
+    rewrites_sound : (s : Core) (reply : Option Reply) (new : Core) → IsSoundCore is_right s → RewritesAll s reply new → IsSoundCore is_right new
+    rewrites_sound s reply new sound step =
+        let h : HoldsOrder s.store s.order = subst (λ phase. IsKept phase s.store s.order s.acknowledged) step.idle sound.disk in
+        let library : s.library ≡ library_of (commands s.order) = sound.replay ∙ ap (λ phase. live phase s.order) step.idle in
+        let more = compacted s.library in
+        let c = rewrite_of s.store s.library in
+        let store = first_written c s.store in
+        let disk : HoldsRewrite c left.SyncAll store s.order = record {
+          bodies = h.bodies;
+          more = more;
+          stand = h.stand;
+          stand_anew = subst (StandFor more) library (compacted_stands h.bodies s.library (subst (StandFor h.bodies) (sym library) h.stand));
+          is = refl;
+          room = step.fits;
+          on_disk = rewrite_begins s.store h.bodies more h.rest step.fits;
+        } in
+        let there : IsSoundCore is_right (record s { store = store; phase = Rewriting c left.SyncAll }) = record {
+          replay = library;
+          accepted = sound.accepted;
+          units = sound.units;
+          right = λ image units now. each_right is_right (Rewriting c left.SyncAll) store s.order s.acknowledged tt disk (subst (EachUnit is_right) library sound.units) image units now;
+          flying = λ who which now is. absurd (rewriting_not_committing c left.SyncAll who which now is);
+          acked = sound.acked;
+          rising = sound.rising;
+          rising_acked = sound.rising_acked;
+          below = sound.below;
+          disk = disk;
+        } in
+        subst (IsSoundCore is_right) (sym step.new_is) there
+
+    rewrite_advanced_sound : (due : RewriteDue) (s : Core) (reply : Option Reply) (new : Core) → IsSoundCore is_right s → RewriteAdvances due s reply new → IsSoundCore is_right new
+    rewrite_advanced_sound due s reply new sound step =
+        let c = step.commit in
+        let h : HoldsRewrite c due s.store s.order = subst (λ phase. IsKept phase s.store s.order s.acknowledged) step.rewriting sound.disk in
+        let library = whole_order s c due sound step.rewriting in
+        let phase = phase_after c due in
+        let store = rewrite_stepped due c s.store in
+        let disk : IsKept phase store s.order s.acknowledged = rewrite_kept c due s.store s.order s.acknowledged h in
+        let there : IsSoundCore is_right (record s { store = store; phase = phase }) = record {
+          replay = library ∙ live_after c due s.order;
+          accepted = sound.accepted;
+          units = sound.units;
+          right = λ image units now. each_right is_right phase store s.order s.acknowledged (after_whole c due) disk (subst (EachUnit is_right) library sound.units) image units now;
+          flying = λ who which now is. absurd (after_not_committing c due who which now is);
+          acked = sound.acked;
+          rising = sound.rising;
+          rising_acked = sound.rising_acked;
+          below = sound.below;
+          disk = disk;
+        } in
+        subst (IsSoundCore is_right) (sym step.new_is) there
+
+    rewrite_failed_sound : (s : Core) (reply : Option Reply) (new : Core) → IsSoundCore is_right s → RewriteFails s reply new → IsSoundCore is_right new
+    rewrite_failed_sound s reply new sound step =
+        let h : HoldsRewrite step.commit step.due s.store s.order = subst (λ phase. IsKept phase s.store s.order s.acknowledged) step.rewriting sound.disk in
+        let library = whole_order s step.commit step.due sound step.rewriting in
+        let images : (image : List ℕ) → IsImage step.store.cells image → HoldsOneOf step.store.area h.bodies h.more image =
+        rewrite_failed_images step.due s.store step.store h.bodies h.more h.room h.on_disk (subst (λ (c : Commit). RewriteFailsTo step.due c s.store step.store) h.is step.failed) in
+        let there : IsSoundCore is_right (record s { store = step.store; phase = Failed None }) = record {
+          replay = library;
+          accepted = sound.accepted;
+          units = sound.units;
+          right = λ image units now recovered.
+              one_right is_right step.store.area h.bodies h.more (library_of (commands s.order)) h.stand h.stand_anew (subst (EachUnit is_right) library sound.units) image (images image now) units recovered;
+          flying = λ who which now is. absurd (failed_not_committing None who which now is);
+          acked = sound.acked;
+          rising = sound.rising;
+          rising_acked = sound.rising_acked;
+          below = sound.below;
+          disk = λ image now. ends_either step.store.area s.order s.acknowledged h.bodies h.more h.stand h.stand_anew image (images image now);
+        } in
+        subst (IsSoundCore is_right) (sym step.new_is) there
+
     crashed_sound : (choice : List ℕ) (s : Core) (reply : Option Reply) (new : Core) → IsSoundCore is_right s → Crashes choice s reply new → IsSoundCore is_right new
     crashed_sound choice s reply new sound step =
         let there : IsSoundCore is_right (record s { library = empty; phase = Crashed; store = crashed_store choice s.store }) = record {
@@ -472,9 +586,10 @@ module _ {P : Type 0} (rules : Rules P) (keeps : P → Type 0) where
         let kept = step.kept in
         let rest = drop step.longest.count s.order in
         let whole : s.order ≡ kept ++ rest = sym (take-append-drop step.longest.count s.order) ∙ ap (λ (l : List Numbered). l ++ rest) (sym step.longest.front) in
-        let same : step.bodies ≡ e.bodies = (holds_same (bytes_of s.store.cells) s.store.area s.store.area e.bodies step.bodies e.held.holds step.holds).1 in
-        let held : HoldsIn s.store.area_byte s.store.area step.bodies (bytes_of s.store.cells) = record { holds = step.holds; header_is = e.held.header_is } in
-        let there : IsSoundCore is_right (record s { library = step.library; order = kept; phase = Idle; store = record s.store { used = length (records step.bodies) } }) = record {
+        let same : step.bodies ≡ e.bodies = (holds_same (bytes_of s.store.cells) s.store.area s.store.area e.bodies step.bodies e.held step.holds).1 in
+        let byte = step.holds.area_byte in
+        let held : HoldsIn byte s.store.area step.bodies (bytes_of s.store.cells) = holds_in s.store.area step.bodies (bytes_of s.store.cells) step.holds in
+        let there : IsSoundCore is_right (record s { library = step.library; order = kept; phase = Idle; store = record s.store { area_byte = byte; used = length (records step.bodies) } }) = record {
           replay = sym step.longest.leads;
           accepted = AreAccepted-before kept rest (subst (λ (l : List Numbered). AreAccepted empty (commands l)) whole sound.accepted);
           units = sound.right (bytes_of s.store.cells) step.library (bytes_are_image s.store.cells) (record { area = s.store.area; bodies = step.bodies; holds = step.holds; stand = step.stand });
@@ -486,7 +601,7 @@ module _ {P : Type 0} (rules : Rules P) (keeps : P → Type 0) where
           below = λ k a is. sound.below k a (in_whole kept rest s.order whole k a is);
           disk = record {
             bodies = step.bodies;
-            rest = record { taken = refl; images = λ image now. subst (HoldsIn s.store.area_byte s.store.area step.bodies) (sym (h.alone image now)) held };
+            rest = record { taken = refl; images = λ image now. subst (HoldsIn byte s.store.area step.bodies) (sym (h.alone image now)) held };
             stand = subst (StandFor step.bodies) (sym step.longest.leads) step.stand;
           };
         } in
@@ -544,8 +659,18 @@ module _ {P : Type 0} (rules : Rules P) (keeps : P → Type 0) where
         record { core = advanced_sound due.WriteGate old.core reply new.core sound.core step.core_step; named = subst AllNamed (sym step.jobs) sound.named; quiet = λ crashed. absurd (crashed_not_committing _ _ _ (sym crashed ∙ ap (λ (c : Core). c.phase) step.core_step.new_is)) }
     step_IsSound old event.SyncGate reply new sound step puts hands =
         record { core = advanced_sound due.SyncGate old.core reply new.core sound.core step.core_step; named = subst AllNamed (sym step.jobs) sound.named; quiet = λ crashed. absurd (crashed_not_committing _ _ _ (sym crashed ∙ ap (λ (c : Core). c.phase) step.core_step.new_is)) }
-    step_IsSound old event.Fail reply new sound step puts hands =
+    step_IsSound old event.RewriteAll reply new sound step puts hands =
+        record { core = rewrites_sound old.core reply new.core sound.core step.core_step; named = subst AllNamed (sym step.jobs) sound.named; quiet = λ crashed. absurd (rewriting_not_crashed _ _ (sym (ap (λ (c : Core). c.phase) step.core_step.new_is) ∙ crashed)) }
+    step_IsSound old event.SyncAll reply new sound step puts hands =
+        record { core = rewrite_advanced_sound left.SyncAll old.core reply new.core sound.core step.core_step; named = subst AllNamed (sym step.jobs) sound.named; quiet = λ crashed. absurd (after_not_crashed step.core_step.commit left.SyncAll (sym (ap (λ (c : Core). c.phase) step.core_step.new_is) ∙ crashed)) }
+    step_IsSound old event.WriteArea reply new sound step puts hands =
+        record { core = rewrite_advanced_sound left.WriteArea old.core reply new.core sound.core step.core_step; named = subst AllNamed (sym step.jobs) sound.named; quiet = λ crashed. absurd (after_not_crashed step.core_step.commit left.WriteArea (sym (ap (λ (c : Core). c.phase) step.core_step.new_is) ∙ crashed)) }
+    step_IsSound old event.SyncArea reply new sound step puts hands =
+        record { core = rewrite_advanced_sound left.SyncArea old.core reply new.core sound.core step.core_step; named = subst AllNamed (sym step.jobs) sound.named; quiet = λ crashed. absurd (after_not_crashed step.core_step.commit left.SyncArea (sym (ap (λ (c : Core). c.phase) step.core_step.new_is) ∙ crashed)) }
+    step_IsSound old event.Fail reply new sound (inl step) puts hands =
         record { core = failed_sound step.0 old.core reply new.core sound.core step.1.core_step; named = subst AllNamed (sym step.1.jobs) (AllNamed-remove old.jobs step.0.number sound.named); quiet = λ crashed. absurd (failed_not_crashed _ (sym (ap (λ (c : Core). c.phase) step.1.core_step.new_is) ∙ crashed)) }
+    step_IsSound old event.Fail reply new sound (inr step) puts hands =
+        record { core = rewrite_failed_sound old.core reply new.core sound.core step.core_step; named = subst AllNamed (sym step.jobs) sound.named; quiet = λ crashed. absurd (failed_not_crashed None (sym (ap (λ (c : Core). c.phase) step.core_step.new_is) ∙ crashed)) }
     step_IsSound old (event.Ack client) reply new sound step puts hands =
         record { core = acked_sound client old.core reply new.core sound.core step.core_step; named = subst AllNamed (sym step.jobs) (AllNamed-remove old.jobs client.number sound.named); quiet = λ crashed. absurd (idle_not_crashed (sym (ap (λ (c : Core). c.phase) step.core_step.new_is) ∙ crashed)) }
     step_IsSound old (event.Crash choice) reply new sound step puts hands =
@@ -574,16 +699,32 @@ module _ {P : Type 0} (rules : Rules P) (keeps : P → Type 0) where
     -- ---- what follows
 
     pub sound_survives : (s : Core) → IsSoundCore is_right s → EachImageSurvives s
-    sound_survives s sound image now = ends_survives s.store.area_byte s.store.area s.order s.acknowledged image sound.acked (each_ends s.phase s.store s.order s.acknowledged sound.disk image now)
+    sound_survives s sound image now = ends_survives s.store.area s.order s.acknowledged image sound.acked (each_ends s.phase s.store s.order s.acknowledged sound.disk image now)
 
-    ready_in : (phase : Phase) (store : StoreState) (order acknowledged : List Numbered) → AreAccepted empty (commands order) → IsKept phase store order acknowledged → IsReadyIn phase store order
-    ready_in Idle store order acknowledged all k = tt
-    ready_in (Committing client numbered due) store order acknowledged all k = k.room
-    ready_in (Failed failed) store order acknowledged all k = tt
-    ready_in Crashed store order acknowledged all k = recoverable store order acknowledged all k
+    -- in a rewrite both writes lie on the disk
+    rewrite_ready : (commit : Commit) (due : RewriteDue) (store : StoreState) (order acknowledged : List Numbered) → HoldsRewrite commit due store order → IsRewrite commit store
+    rewrite_ready commit due store order acknowledged k =
+        let held = (each_ends (Rewriting commit due) store order acknowledged k (bytes_of store.cells) (bytes_are_image store.cells)).held in
+        let size : 16 + 2 * store.area ≤ length store.cells = omega (arith, held.is_area.room, length-bytes_of store.cells) in
+        subst (λ (c : Commit). IsRewrite c store) (sym k.is) (record {
+          within = record { first = first_within store k.more size k.room; second = omega (arith, size) };
+          some = omega (arith, length-whole k.more);
+          room = omega (arith, length-whole k.more, k.room);
+        })
+
+    ready_in : (phase : Phase) (library : Units) (store : StoreState) (order acknowledged : List Numbered) → library ≡ live phase order → AreAccepted empty (commands order) → IsKept phase store order acknowledged
+        → IsReadyIn phase library store order
+    ready_in Idle library store order acknowledged replay all k =
+        let fits : room_of k.bodies ≤ store.area = (k.rest.images (bytes_of store.cells) (bytes_are_image store.cells)).holds.fits in
+        let shorter = compacted_fits k.bodies (library_of (commands order)) k.stand in
+        subst (λ (units : Units). room_of (compacted units) ≤ store.area) (sym replay) (omega (arith, shorter, fits))
+    ready_in (Committing client numbered due) library store order acknowledged replay all k = k.room
+    ready_in (Rewriting commit due) library store order acknowledged replay all k = rewrite_ready commit due store order acknowledged k
+    ready_in (Failed failed) library store order acknowledged replay all k = tt
+    ready_in Crashed library store order acknowledged replay all k = recoverable store order acknowledged all k
 
     pub sound_ready : (s : Core) → IsSoundCore is_right s → IsReady s
-    sound_ready s sound = ready_in s.phase s.store s.order s.acknowledged sound.accepted sound.disk
+    sound_ready s sound = ready_in s.phase s.library s.store s.order s.acknowledged sound.replay sound.accepted sound.disk
 
     -- after a crash the recovery is possible
     pub recovery_is_possible : (s : Contents P) → IsSound is_right s → s.core.phase ≡ Crashed → (reply : Option Reply) × (new : Contents P) × StepsCore Reopens s reply new
@@ -593,6 +734,9 @@ module _ {P : Type 0} (rules : Rules P) (keeps : P → Type 0) where
 
     crashed_no_commit : (s : Core) (client : ClientId) (numbered : Numbered) (due : Due) → s.phase ≡ Crashed → s.phase ≡ Committing client numbered due → ⊥
     crashed_no_commit s client numbered due crashed committing = crashed_not_committing client numbered due (sym crashed ∙ committing)
+
+    crashed_no_rewrite : (s : Core) (commit : Commit) (due : RewriteDue) → s.phase ≡ Crashed → s.phase ≡ Rewriting commit due → ⊥
+    crashed_no_rewrite s commit due crashed rewriting = rewriting_not_crashed commit due (sym rewriting ∙ crashed)
 
     -- and nothing else but another crash
     pub of_crash : (s : Contents P) (e : Event P) (reply : Option Reply) (new : Contents P) → IsSound is_right s → s.core.phase ≡ Crashed → Step rules s e reply new → IsOfCrash e
@@ -605,7 +749,12 @@ module _ {P : Type 0} (rules : Rules P) (keeps : P → Type 0) where
     of_crash s event.SyncBody reply new sound crashed step = absurd (crashed_no_commit s.core _ _ _ crashed step.core_step.committing)
     of_crash s event.WriteGate reply new sound crashed step = absurd (crashed_no_commit s.core _ _ _ crashed step.core_step.committing)
     of_crash s event.SyncGate reply new sound crashed step = absurd (crashed_no_commit s.core _ _ _ crashed step.core_step.committing)
-    of_crash s event.Fail reply new sound crashed step = absurd (crashed_no_commit s.core _ _ _ crashed step.1.core_step.committing)
+    of_crash s event.RewriteAll reply new sound crashed step = absurd (idle_not_crashed (sym step.core_step.idle ∙ crashed))
+    of_crash s event.SyncAll reply new sound crashed step = absurd (crashed_no_rewrite s.core _ _ crashed step.core_step.rewriting)
+    of_crash s event.WriteArea reply new sound crashed step = absurd (crashed_no_rewrite s.core _ _ crashed step.core_step.rewriting)
+    of_crash s event.SyncArea reply new sound crashed step = absurd (crashed_no_rewrite s.core _ _ crashed step.core_step.rewriting)
+    of_crash s event.Fail reply new sound crashed (inl step) = absurd (crashed_no_commit s.core _ _ _ crashed step.1.core_step.committing)
+    of_crash s event.Fail reply new sound crashed (inr step) = absurd (crashed_no_rewrite s.core _ _ crashed step.core_step.rewriting)
     of_crash s (event.Ack client) reply new sound crashed step = absurd (crashed_no_commit s.core _ _ _ crashed step.core_step.committing)
     of_crash s (event.Crash choice) reply new sound crashed step = inl (choice, refl)
     of_crash s event.Recover reply new sound crashed step = inr refl
@@ -650,3 +799,35 @@ module _ {P : Type 0} (rules : Rules P) (keeps : P → Type 0) where
         let spelled : open_gate ∷ bytes ≡ record_bytes (body_of numbered.command) ++ 0 ∷ [] =
         ap (λ (n : Numbered). open_gate ∷ frame (body_of n.command)) same ∙ ap (λ (l : List ℕ). open_gate ∷ l) (sym (append_assoc (to_le_bytes w32 (length (body_of numbered.command))) (body_of numbered.command) (0 ∷ []))) in
         subst (λ (l : List ℕ). IsWritten B (gate_of s.store) l (bytes_of new.store.cells)) spelled one
+
+    -- between two commits a rewrite is possible
+    pub rewrite_is_possible : (s : Contents P) → IsSound is_right s → s.core.phase ≡ Idle → (reply : Option Reply) × (new : Contents P) × StepsCore RewritesAll s reply new
+    rewrite_is_possible s sound idle =
+        let fits = subst (λ (phase : Phase). IsReadyIn phase s.core.library s.core.store s.core.order) idle (sound_ready s.core sound.core) in
+        let some = rewrites_all s.core idle fits in
+        (some.0, record s { core = some.1 }, record { core_step = some.2; jobs = refl; workers = refl })
+
+    -- its four device steps leave one Add per name
+    pub rewrites_leave : (s new : Core) → IsSoundCore is_right s → Rewrites s new → LeavesCompacted s new
+    rewrites_leave s new sound r =
+        let h : HoldsOrder s.store s.order = subst (λ phase. IsKept phase s.store s.order s.acknowledged) r.writes_all.idle sound.disk in
+        let c = rewrite_of s.store s.library in
+        let B = bytes_of s.store.cells in
+        let seen : Core → List ℕ = λ k. bytes_of k.store.cells in
+        let first_is : r.syncs_all.commit ≡ c = commit_is (sym r.syncs_all.rewriting ∙ ap (λ (k : Core). k.phase) r.writes_all.new_is) in
+        let next_is : r.writes_area.commit ≡ c = commit_is (sym r.writes_area.rewriting ∙ ap (λ (k : Core). k.phase) r.syncs_all.new_is) ∙ first_is in
+        let first : IsWritten B c.offset c.bytes (seen r.area_written) = ap seen r.writes_all.new_is ∙ bytes_of-written s.store.cells c.offset c.bytes in
+        let second : seen r.area_settled ≡ seen r.area_written = ap seen r.syncs_all.new_is ∙ bytes_of-synced r.area_written.store.cells in
+        let write : Commit → Type 0 = λ k. IsWritten (seen r.area_settled) k.deciding_offset (k.deciding_byte ∷ []) (seen r.byte_written) in
+        let third : write c = subst write next_is (ap seen r.writes_area.new_is ∙ bytes_of-written r.area_settled.store.cells r.writes_area.commit.deciding_offset (r.writes_area.commit.deciding_byte ∷ [])) in
+        let fourth : seen new ≡ seen r.byte_written = ap seen r.syncs_area.new_is ∙ bytes_of-synced r.byte_written.store.cells in
+        let done : IsCommitted c B (seen new) = (
+          seen r.area_written,
+          first,
+          subst (λ (l : List ℕ). IsWritten l c.deciding_offset (c.deciding_byte ∷ []) (seen new)) second
+              (subst (λ (l : List ℕ). IsWritten (seen r.area_settled) c.deciding_offset (c.deciding_byte ∷ []) l) (sym fourth) third),
+        ) in
+        let there = done_held s.store.area_byte s.store.area h.bodies (compacted s.library) B (h.rest.images B (bytes_are_image s.store.cells)) r.writes_all.fits (seen new) done in
+        let area : Core → ℕ = λ k. k.store.area in
+        let same : s.store.area ≡ new.store.area = sym (ap area r.syncs_area.new_is ∙ ap area r.writes_area.new_is ∙ ap area r.syncs_all.new_is ∙ ap area r.writes_all.new_is) in
+        record { bytes = done; holds = subst (λ (n : ℕ). HoldsRecords (seen new) n (compacted s.library)) same there.holds }

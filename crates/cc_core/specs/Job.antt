@@ -16,7 +16,7 @@ use Rattle.cc_core.specs.declared.job.Progress.{Progress}
 use Rattle.cc_core.specs.declared.job.Progress.TheVariants.{Waiting, Taken, Made, Refused}
 use Rattle.cc_core.specs.Rules.{Rules}
 use Rattle.cc_core.specs.declared.contents.Phase.{Phase}
-use Rattle.cc_core.specs.declared.contents.Phase.TheVariants.{Idle, Committing, Failed, Crashed}
+use Rattle.cc_core.specs.declared.contents.Phase.TheVariants.{Idle, Committing, Rewriting, Failed, Crashed}
 use Rattle.cc_library.specs.Apply.{Units}
 use Rattle.cc_library.specs.Body.{body_of}
 use Rattle.cc_core.specs.StoreState.{StoreState}
@@ -42,6 +42,7 @@ with_unit make (Err number) = Err number
 abbrev pub closed : Phase → Option Refusal
 closed Idle = None
 closed (Committing client numbered due) = None
+closed (Rewriting commit due) = None
 closed (Failed failed) = Some refusal.Closed
 closed Crashed = None
 

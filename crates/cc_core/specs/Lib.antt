@@ -5,7 +5,7 @@ pub mod StoreState
 pub mod Rules
 -- the numbers of the faults
 pub mod Fault
--- the disk of a commit: its start, its four device steps and their failure, and a crash
+-- the disk: its start, the four device steps of a command and of a rewrite, their failure, and a crash
 pub mod Store
 -- a client's job: how it begins, and what comes of it
 pub mod Job
@@ -13,7 +13,7 @@ pub mod Job
 pub mod Step
 -- whole runs, and what holds after any of them
 pub mod Run
--- a worked commit of `Step`, computed
+-- a worked commit and a worked rewrite, computed
 pub mod rows
 -- what serves proofs and private contracts
 pub mod internal

@@ -3,20 +3,23 @@ use Rattle.std.specs.Prelude.{ℕ, ◌≡◌, ◌-◌, ◌<◌, ◌≤◌, ◌�
 use Rattle.std.specs.FinMap.{get, empty}
 use Rattle.cc_disk.specs.Model.{IsImage, bytes_of}
 use Rattle.cc_disk.specs.Images.{LeavesAlone, IsWritten}
+use Rattle.cc_journal.specs.Commit.{IsCommitted}
 use Rattle.cc_journal.specs.Format.{HoldsRecords, records, record_bytes}
 use Rattle.cc_library.specs.declared.command.Command.{Command}
 use Rattle.cc_library.specs.declared.command.Command.TheVariants as command
 use Rattle.cc_link.specs.declared.unit.StoredUnit.{StoredUnit}
 use Rattle.cc_library.specs.Apply.{Units, AreAccepted, library_of}
 use Rattle.cc_library.specs.Body.{IsCommand, body_of}
+use Rattle.cc_library.specs.Compact.{compacted}
 use Rattle.cc_library.specs.Recovered.{AreSpelled, Recovers, RecoversAlone, StandFor}
 use Rattle.cc_core.specs.declared.command.Numbered.{Numbered}
 use Rattle.cc_core.specs.declared.command.Reply.{Reply}
 use Rattle.cc_core.specs.declared.contents.Contents.{Contents}
 use Rattle.cc_core.specs.declared.contents.Core.{Core}
 use Rattle.cc_core.specs.declared.contents.Due.TheVariants as dues
+use Rattle.cc_core.specs.declared.contents.RewriteDue.TheVariants as left
 use Rattle.cc_core.specs.declared.contents.Phase.{Phase}
-use Rattle.cc_core.specs.declared.contents.Phase.TheVariants.{Idle, Committing, Failed, Crashed}
+use Rattle.cc_core.specs.declared.contents.Phase.TheVariants.{Idle, Committing, Rewriting, Failed, Crashed}
 use Rattle.cc_core.specs.declared.event.Event.{Event}
 use Rattle.cc_core.specs.declared.event.Event.TheVariants as events
 use Rattle.cc_core.specs.declared.ids.ClientId.{ClientId}
@@ -24,9 +27,9 @@ use Rattle.cc_core.specs.declared.ids.WorkerId.{WorkerId}
 use Rattle.cc_core.specs.declared.job.Job.{Job}
 use Rattle.cc_core.specs.declared.sequence_number.SequenceNumber.{SequenceNumber}
 use Rattle.cc_core.specs.Job.{source_in}
-use Rattle.cc_core.specs.Store.{gate_of}
+use Rattle.cc_core.specs.Store.{gate_of, rewrite_of}
 use Rattle.cc_core.specs.Rules.{Rules}
-use Rattle.cc_core.specs.Step.{Step, IsImpossible, IsStart, Advances, Begins, commands}
+use Rattle.cc_core.specs.Step.{Step, IsImpossible, IsStart, Advances, RewritesAll, RewriteAdvances, Begins, commands}
 
 -- each unit of the library has this property
 abbrev pub EachUnit : (StoredUnit → Type 0) → Units → Type 0
@@ -45,6 +48,7 @@ but_last order = take (length order - 1) order
 abbrev pub live : Phase → List Numbered → Units
 live Idle order = library_of (commands order)
 live (Committing client last due) order = library_of (commands (but_last order))
+live (Rewriting commit due) order = library_of (commands order)
 live (Failed (Some last)) order = library_of (commands (but_last order))
 live (Failed None) order = library_of (commands order)
 live Crashed order = empty
@@ -88,6 +92,21 @@ pub record Commits (client : ClientId) (numbered : Numbered) (old new : Core) : 
 abbrev pub LeavesRecord : Numbered → Core → Core → Type 0
 LeavesRecord numbered old new =
     IsWritten (bytes_of old.store.cells) (gate_of old.store) (record_bytes (body_of numbered.command) ++ 0 ∷ []) (bytes_of new.store.cells)
+
+-- the four device steps of a rewrite, one after the other
+pub record Rewrites (old new : Core) : Type 0 where
+  pub area_written : Core
+  pub area_settled : Core
+  pub byte_written : Core
+  pub writes_all : RewritesAll old None area_written
+  pub syncs_all : RewriteAdvances left.SyncAll area_written None area_settled
+  pub writes_area : RewriteAdvances left.WriteArea area_settled None byte_written
+  pub syncs_area : RewriteAdvances left.SyncArea byte_written None new
+
+-- they leave the bytes of the journal's one commit, by the area byte that there was, and the records are one Add per name then
+pub record LeavesCompacted (old new : Core) : Type 0 where
+  pub bytes : IsCommitted (rewrite_of old.store old.library) (bytes_of old.store.cells) (bytes_of new.store.cells)
+  pub holds : HoldsRecords (bytes_of new.store.cells) new.store.area (compacted old.library)
 
 -- a command that goes into the order has a spelling: its name is a name, its unit a unit, as their types keep
 abbrev pub PutsCommand : Core → Core → Type 0

@@ -1,11 +1,13 @@
 -- The protocol core, one step at a time: from an old state an event may give this reply, or none, and go on to the new state.
-use Rattle.std.specs.Prelude.{ℕ, ◌≡◌, ◌+◌, ◌<◌, ◌≤◌, IsTrue, List, [], ◌∷◌, ◌++◌, length, map, take, slice_get, Option, Some, None, Result, Ok, Err}
+use Rattle.std.specs.Prelude.{ℕ, ◌≡◌, ◌+◌, ◌<◌, ◌≤◌, ◌⊎◌, IsTrue, List, [], ◌∷◌, ◌++◌, length, map, take, slice_get, Option, Some, None, Result, Ok, Err}
 use Rattle.std.specs.Ordering.{nat_cmp}
 use Rattle.std.specs.FinMap.{FinMap, get, insert, remove, empty}
 use Rattle.cc_disk.specs.Model.{bytes_of}
-use Rattle.cc_journal.specs.Format.{HoldsRecords, records}
+use Rattle.cc_journal.specs.Commit.{Commit}
+use Rattle.cc_journal.specs.Format.{HoldsRecords, records, room_of}
 use Rattle.cc_library.specs.declared.command.Command.{Command}
 use Rattle.cc_library.specs.Apply.{Units, after, library_of}
+use Rattle.cc_library.specs.Compact.{compacted}
 use Rattle.cc_library.specs.Recovered.{StandFor}
 use Rattle.cc_core.specs.declared.command.Request.{Request}
 use Rattle.cc_core.specs.declared.command.Numbered.{Numbered}
@@ -24,26 +26,30 @@ use Rattle.cc_core.specs.declared.contents.Contents.{Contents}
 use Rattle.cc_core.specs.declared.contents.Core.{Core}
 use Rattle.cc_core.specs.declared.contents.Due.{Due}
 use Rattle.cc_core.specs.declared.contents.Due.TheVariants as due
+use Rattle.cc_core.specs.declared.contents.RewriteDue.{RewriteDue}
+use Rattle.cc_core.specs.declared.contents.RewriteDue.TheVariants as left
 use Rattle.cc_core.specs.declared.contents.Phase.{Phase}
-use Rattle.cc_core.specs.declared.contents.Phase.TheVariants.{Idle, Committing, Failed, Crashed}
+use Rattle.cc_core.specs.declared.contents.Phase.TheVariants.{Idle, Committing, Rewriting, Failed, Crashed}
 use Rattle.cc_core.specs.declared.event.Event.{Event}
 use Rattle.cc_core.specs.declared.event.Event.TheVariants as event
 use Rattle.cc_core.specs.Rules.{Rules}
 use Rattle.cc_core.specs.Job.{job_of, source_in, with_piece, all_there, verdict}
 use Rattle.cc_core.specs.StoreState.{StoreState}
-use Rattle.cc_core.specs.Store.{IsFormatted, stepped, due_after, FailsTo, crashed_store}
+use Rattle.cc_core.specs.Store.{IsFormatted, stepped, due_after, FailsTo, first_written, rewrite_of, rewrite_stepped, RewriteFailsTo, crashed_store}
 
 -- from a crash until the recovery nothing else happens
 abbrev pub IsUp : Phase → Type 0
 IsUp Idle = Unit {0}
 IsUp (Committing client numbered due) = Unit {0}
+IsUp (Rewriting commit due) = Unit {0}
 IsUp (Failed failed) = Unit {0}
 IsUp Crashed = ⊥
 
--- a commit may begin where no other is under way; after a failed step it is refused
+-- a commit may begin where no other and no rewrite is under way; after a failed step it is refused
 abbrev pub IsFree : Phase → Type 0
 IsFree Idle = Unit {0}
 IsFree (Committing client numbered due) = ⊥
+IsFree (Rewriting commit due) = ⊥
 IsFree (Failed failed) = Unit {0}
 IsFree Crashed = ⊥
 
@@ -104,12 +110,52 @@ pub record Acknowledges (client : ClientId) (old : Core) (reply : Option Reply) 
     phase = Idle;
   }
 
+-- ---- a rewrite, over the core alone
+
+-- Between two commits, where the shortest journal of the live map fits an area, the first write of a rewrite is done: its
+-- records and their closed gate are written into the area that is not in use. Nothing is due before it, so one that fails or is
+-- torn needs no case: it is this step, and then the failure of the sync or a crash, since its range is unsettled.
+pub record RewritesAll (old : Core) (reply : Option Reply) (new : Core) : Type 0 where
+  pub idle : old.phase ≡ Idle
+  pub fits : room_of (compacted old.library) ≤ old.store.area
+  pub silent : reply ≡ None
+  pub new_is : new ≡ record old {
+    store = first_written (rewrite_of old.store old.library) old.store;
+    phase = Rewriting (rewrite_of old.store old.library) left.SyncAll;
+  }
+
+-- the phase after a step of a rewrite: the next one is due, and after the last one none
+abbrev pub phase_after : Commit → RewriteDue → Phase
+phase_after commit left.SyncAll = Rewriting commit left.WriteArea
+phase_after commit left.WriteArea = Rewriting commit left.SyncArea
+phase_after commit left.SyncArea = Idle
+
+-- the device step of a rewrite that is due is done; map and order stay
+pub record RewriteAdvances (due : RewriteDue) (old : Core) (reply : Option Reply) (new : Core) : Type 0 where
+  pub commit : Commit
+  pub rewriting : old.phase ≡ Rewriting commit due
+  pub silent : reply ≡ None
+  pub new_is : new ≡ record old { store = rewrite_stepped due commit old.store; phase = phase_after commit due }
+
+-- it fails: there is no job in commit that could end, so there is no reply, and no device step is made any more
+pub record RewriteFails (old : Core) (reply : Option Reply) (new : Core) : Type 0 where
+  pub commit : Commit
+  pub due : RewriteDue
+  pub store : StoreState
+  pub rewriting : old.phase ≡ Rewriting commit due
+  pub failed : RewriteFailsTo due commit old.store store
+  pub silent : reply ≡ None
+  pub new_is : new ≡ record old { store = store; phase = Failed None }
+
+-- ---- a crash, over the core alone
+
 -- the disk crashes, at any time; the live map is gone
 pub record Crashes (choice : List ℕ) (old : Core) (reply : Option Reply) (new : Core) : Type 0 where
   pub silent : reply ≡ None
   pub new_is : new ≡ record old { library = empty; phase = Crashed; store = crashed_store choice old.store }
 
--- the library is opened: the live map is what the disk's records stand for, and the order its longest front that leads there
+-- the library is opened: the live map is what the disk's records stand for, in the area that its area byte names, and the order
+-- its longest front that leads there
 pub record Reopens (old : Core) (reply : Option Reply) (new : Core) : Type 0 where
   pub crashed : old.phase ≡ Crashed
   pub bodies : List (List ℕ)
@@ -123,7 +169,7 @@ pub record Reopens (old : Core) (reply : Option Reply) (new : Core) : Type 0 whe
     library = library;
     order = kept;
     phase = Idle;
-    store = record old.store { used = length (records bodies) };
+    store = record old.store { area_byte = holds.area_byte; used = length (records bodies) };
   }
 
 -- ---- the core beside jobs and workers
@@ -212,9 +258,13 @@ module _ {P : Type 0} where
     pub jobs : new.jobs ≡ remove old.jobs client.number
     pub workers : new.workers ≡ old.workers
 
-  -- the device step that is due fails, and the job in commit ends
+  -- the device step of a commit that is due fails, and the job in commit ends
   abbrev pub FailsJob : Contents P → Option Reply → Contents P → Type 0
   FailsJob old reply new = (client : ClientId) × EndsJob client (Fails client) old reply new
+
+  -- the device step that is due fails, in a commit or in a rewrite
+  abbrev pub FailsStep : Contents P → Option Reply → Contents P → Type 0
+  FailsStep old reply new = FailsJob old reply new ⊎ StepsCore RewriteFails old reply new
 
   -- a step of the core that ends all jobs and all work
   pub record EndsAll (step : Core → Option Reply → Core → Type 0) (old : Contents P) (reply : Option Reply) (new : Contents P) : Type 0 where
@@ -233,7 +283,11 @@ module _ {P : Type 0} where
   Step rules old event.SyncBody reply new = StepsCore (Advances due.SyncBody) old reply new
   Step rules old event.WriteGate reply new = StepsCore (Advances due.WriteGate) old reply new
   Step rules old event.SyncGate reply new = StepsCore (Advances due.SyncGate) old reply new
-  Step rules old event.Fail reply new = FailsJob old reply new
+  Step rules old event.RewriteAll reply new = StepsCore RewritesAll old reply new
+  Step rules old event.SyncAll reply new = StepsCore (RewriteAdvances left.SyncAll) old reply new
+  Step rules old event.WriteArea reply new = StepsCore (RewriteAdvances left.WriteArea) old reply new
+  Step rules old event.SyncArea reply new = StepsCore (RewriteAdvances left.SyncArea) old reply new
+  Step rules old event.Fail reply new = FailsStep old reply new
   Step rules old (event.Ack client) reply new = EndsJob client (Acknowledges client) old reply new
   Step rules old (event.Crash choice) reply new = EndsAll (Crashes choice) old reply new
   Step rules old event.Recover reply new = StepsCore Reopens old reply new

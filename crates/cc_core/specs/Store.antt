@@ -1,15 +1,21 @@
--- The disk of the core: a journal in one of its areas, written step by step.
-use Rattle.std.specs.Prelude.{◌≡◌, ℕ, ◌+◌, ◌*◌, ◌%◌, List, [], ◌∷◌, ◌++◌, length}
-use Rattle.std.specs.Int.{w32, to_le_bytes}
+-- The disk of the core: a journal in one of its areas, written step by step. The steps of a command and those of a rewrite are
+-- those of one commit of the journal each: a first write, where its bytes count for nothing yet, a sync, the write of the one
+-- byte that decides, and a sync.
+use Rattle.std.specs.Prelude.{◌≡◌, ℕ, ◌+◌, ◌-◌, ◌*◌, List, [], ◌∷◌, ◌++◌, length}
 use Rattle.cc_disk.specs.declared.cell.Cell.{Cell}
 use Rattle.cc_disk.specs.Model.{bytes_of, IsImage, written, synced, crashed}
 use Rattle.cc_disk.specs.Images.{LeavesAlone}
-use Rattle.cc_journal.specs.Format.{header, open_gate, IsArea}
+use Rattle.cc_journal.specs.Format.{header, IsArea}
+use Rattle.cc_journal.specs.Commit.{Commit, append_commit, area_begin, rewrite_commit}
 use Rattle.cc_library.specs.declared.command.Command.{Command}
+use Rattle.cc_library.specs.Apply.{Units}
 use Rattle.cc_library.specs.Body.{body_of}
+use Rattle.cc_library.specs.Compact.{compacted}
 use Rattle.cc_core.specs.StoreState.{StoreState}
 use Rattle.cc_core.specs.declared.contents.Due.{Due}
 use Rattle.cc_core.specs.declared.contents.Due.TheVariants.{WriteBody, SyncBody, WriteGate, SyncGate, Acknowledge}
+use Rattle.cc_core.specs.declared.contents.RewriteDue.{RewriteDue}
+use Rattle.cc_core.specs.declared.contents.RewriteDue.TheVariants.{SyncAll, WriteArea, SyncArea}
 
 -- a formatted disk: a header with area byte 0, a closed gate, and every byte settled
 pub record IsFormatted (area : ℕ) (store : StoreState) : Type 0 where
@@ -22,18 +28,9 @@ pub record IsFormatted (area : ℕ) (store : StoreState) : Type 0 where
   pub first_area : store.area_byte ≡ 0
   pub unused : store.used ≡ 0
 
--- the offset at which the area that this byte names begins
-abbrev pub begin_of : (area_byte area : ℕ) → ℕ
-begin_of area_byte area = 16 + area_byte % 2 * area
-
 -- the offset of the closed gate behind the last record
 abbrev pub gate_of : StoreState → ℕ
-gate_of store = begin_of store.area_byte store.area + store.used
-
--- what stands behind the gate of a record with this body: the body's length as four bytes, the lowest first, the body, and
--- the next gate, closed
-abbrev pub behind_gate : List ℕ → List ℕ
-behind_gate body = to_le_bytes w32 (length body) ++ (body ++ 0 ∷ [])
+gate_of store = area_begin store.area_byte store.area + store.used
 
 -- how many bytes of the area the records and their closed gate take with one more record of this body
 abbrev pub room_taken : StoreState → List ℕ → ℕ
@@ -43,12 +40,40 @@ room_taken store body = store.used + (length body + 6)
 abbrev pub with_cells : StoreState → List Cell → StoreState
 with_cells store cells = record store { cells = cells }
 
+-- ---- the steps of a journal's commit
+
+-- the first write of a commit: its bytes, from its offset on
+abbrev pub first_written : Commit → StoreState → StoreState
+first_written commit store = with_cells store (written store.cells commit.offset commit.bytes)
+
+-- the second: the byte that decides
+abbrev pub decided : Commit → StoreState → StoreState
+decided commit store = with_cells store (written store.cells commit.deciding_offset (commit.deciding_byte ∷ []))
+
+-- a sync settles every byte
+abbrev pub settled_all : StoreState → StoreState
+settled_all store = with_cells store (synced store.cells)
+
+-- a first write that fails leaves any bytes, unsettled, in its range
+abbrev pub FirstFails : Commit → StoreState → StoreState → Type 0
+FirstFails commit old new = (bytes : List ℕ) × (length bytes ≡ length commit.bytes) × (new ≡ with_cells old (written old.cells commit.offset bytes))
+
+-- a second that fails leaves any byte there, unsettled
+abbrev pub DecidingFails : Commit → StoreState → StoreState → Type 0
+DecidingFails commit old new = (byte : ℕ) × (new ≡ with_cells old (written old.cells commit.deciding_offset (byte ∷ [])))
+
+-- ---- of a command
+
+-- the commit that puts the record of a command behind the last one
+abbrev pub append_of : StoreState → Command → Commit
+append_of store command = append_commit (gate_of store) (body_of command)
+
 -- the disk after the step that was due: the body and the next gate, closed, are written in one write; they are synced; the
 -- record's own gate is written open; it is synced, and the record is one of the journal's
 abbrev pub stepped : Due → Command → StoreState → StoreState
-stepped WriteBody command store = with_cells store (written store.cells (gate_of store + 1) (behind_gate (body_of command)))
-stepped SyncBody command store = with_cells store (synced store.cells)
-stepped WriteGate command store = with_cells store (written store.cells (gate_of store) (open_gate ∷ []))
+stepped WriteBody command store = first_written (append_of store command) store
+stepped SyncBody command store = settled_all store
+stepped WriteGate command store = decided (append_of store command) store
 stepped SyncGate command store = record store { cells = synced store.cells; used = store.used + (length (body_of command) + 5) }
 stepped Acknowledge command store = store
 
@@ -63,12 +88,33 @@ due_after Acknowledge = Acknowledge
 -- the step that was due fails: a write leaves any bytes, unsettled, in its range; a sync changes nothing; a reply is no step
 -- of the device
 abbrev pub FailsTo : Due → Command → StoreState → StoreState → Type 0
-FailsTo WriteBody command old new = (bytes : List ℕ) × (length bytes ≡ length (behind_gate (body_of command))) × (new ≡ with_cells old (written old.cells (gate_of old + 1) bytes))
+FailsTo WriteBody command old new = FirstFails (append_of old command) old new
 FailsTo SyncBody command old new = new ≡ old
-FailsTo WriteGate command old new = (byte : ℕ) × (new ≡ with_cells old (written old.cells (gate_of old) (byte ∷ [])))
+FailsTo WriteGate command old new = DecidingFails (append_of old command) old new
 FailsTo SyncGate command old new = new ≡ old
 FailsTo Acknowledge command old new = ⊥
 
--- the disk after a crash that leaves this choice at the unsettled offsets
+-- ---- of a rewrite
+
+-- the commit that writes the shortest journal of a map into the area that is not in use
+abbrev pub rewrite_of : StoreState → Units → Commit
+rewrite_of store library = rewrite_commit store.area_byte store.area (compacted library)
+
+-- the disk after the step of a rewrite that was due: the new area is synced; the area byte is written; it is synced, and that
+-- area is in use, with the records that were written there: all but the closed gate behind them
+abbrev pub rewrite_stepped : RewriteDue → Commit → StoreState → StoreState
+rewrite_stepped SyncAll commit store = settled_all store
+rewrite_stepped WriteArea commit store = decided commit store
+rewrite_stepped SyncArea commit store = record store { cells = synced store.cells; area_byte = commit.deciding_byte; used = length commit.bytes - 1 }
+
+-- that step fails
+abbrev pub RewriteFailsTo : RewriteDue → Commit → StoreState → StoreState → Type 0
+RewriteFailsTo SyncAll commit old new = new ≡ old
+RewriteFailsTo WriteArea commit old new = DecidingFails commit old new
+RewriteFailsTo SyncArea commit old new = new ≡ old
+
+-- ---- a crash
+
+-- the disk after a crash that leaves this choice at the unsettled offsets; which area is in use is read when it is opened
 abbrev pub crashed_store : List ℕ → StoreState → StoreState
 crashed_store choice store = with_cells store (crashed store.cells choice)

@@ -1,1 +1,2 @@
 pub mod OneCommit
+pub mod OneRewrite

@@ -5,6 +5,7 @@ use crate::sequence::Sequence;
 use crate::sequence_number::SequenceNumber;
 use crate::store::Store;
 use crate::table::Table;
+use cc_journal::Commit;
 use cc_library::UnitMap;
 
 /// What is due in a commit: a device step, or the reply.
@@ -22,14 +23,27 @@ pub enum Due {
     Acknowledge,
 }
 
-/// Whether a command is in commit, and whether the disk is usable.
+/// What is due in a rewrite, whose first write is done: one of its other device steps.
+#[derive(Drop)]
+pub enum RewriteDue {
+    /// The sync that settles the new area.
+    SyncAll,
+    /// The write of the area byte.
+    WriteArea,
+    /// The sync that settles it.
+    SyncArea,
+}
+
+/// Whether a command is in commit or a rewrite under way, and whether the disk is usable.
 #[derive(Drop)]
 pub enum Phase {
-    /// None is.
+    /// Nothing is, and it is.
     Idle,
     /// This client's is, and this is due.
     Committing(ClientId, Numbered, Due),
-    /// A device step of this command, where it was one's, has failed: no more are made until the library is opened again.
+    /// The records are written anew by this commit of the journal, and this is due.
+    Rewriting(Commit, RewriteDue),
+    /// A device step, of this command where it was one's, has failed: no more are made until the library is opened again.
     Failed(Option<Numbered>),
     /// The disk has crashed: the library has to be opened.
     Crashed,
@@ -38,9 +52,11 @@ pub enum Phase {
 impl Phase {
     ghost use Rattle.std.specs.Prelude.{◌≡◌, ℕ};
     ghost use Rattle.cc_core.specs.declared.command.Numbered.{Numbered};
+    ghost use Rattle.cc_journal.specs.Commit as journal;
     ghost use Rattle.cc_core.specs.declared.contents.Due.{Due};
+    ghost use Rattle.cc_core.specs.declared.contents.RewriteDue.{RewriteDue};
     ghost use Rattle.cc_core.specs.declared.ids.ClientId.{ClientId};
-    ghost use Rattle.cc_core.specs.declared.contents.Phase.TheVariants.{Committing};
+    ghost use Rattle.cc_core.specs.declared.contents.Phase.TheVariants.{Committing, Rewriting};
 
     /// In a commit, this is due next.
     pub(crate) fn go_on(&mut self, next: Due)
@@ -48,6 +64,15 @@ impl Phase {
             → self.old ≡ Committing client numbered due → self.new ≡ Committing client numbered next }
     {
         if let Phase::Committing(_, _, due) = self {
+            *due = next;
+        }
+    }
+
+    /// In a rewrite, this is due next.
+    pub(crate) fn rewrite_on(&mut self, next: RewriteDue)
+        ensures { (commit : journal.Commit) (due : RewriteDue) → self.old ≡ Rewriting commit due → self.new ≡ Rewriting commit next }
+    {
+        if let Phase::Rewriting(_, due) = self {
             *due = next;
         }
     }

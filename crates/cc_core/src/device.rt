@@ -1,32 +1,32 @@
-// The device steps of a commit, and their failure.
-ghost use Rattle.std.specs.Prelude.{◌≡◌, ℕ, List, Option, Some, IfOk, OnErr, IsErrOf, length, ◌<◌, ◌^◌};
+// The device steps of a command's commit, and their failure.
+ghost use Rattle.std.specs.Prelude.{◌≡◌, ◌≤◌, ◌^◌, ℕ, List, Option, Some, IfOk, OnErr, IsErrOf, length};
 ghost use Rattle.cc_library.specs.Body.{body_of};
 ghost use Rattle.cc_core.specs.declared.command.Reply.{Reply};
 ghost use Rattle.cc_core.specs.declared.contents.Contents.{Contents};
 ghost use Rattle.cc_core.specs.declared.contents.Due.TheVariants as due;
-ghost use Rattle.cc_core.specs.Store.{behind_gate};
+ghost use Rattle.cc_core.specs.Store.{append_of};
 ghost use Rattle.cc_core.specs.internal.Answers.{Answers};
 ghost use Rattle.cc_core.specs.Step.{Advances, Fails, FailsJob};
-ghost use Rattle.cc_core.specs.internal.Ready.{IsReady};
+ghost use Rattle.cc_core.specs.internal.Ready.{IsReady, IsFitting, IsWithin};
 
 use crate::command::Reply;
 use crate::contents::{Contents, Core, Due, Phase};
 use crate::events::Answer;
 use crate::fault::{CoreFault, Refusal};
 use crate::ids::ClientId;
-use cc_library::body_of_command;
+use crate::store::Store;
+use cc_journal::Commit;
+use cc_library::{Command, body_of_command};
 use std::alloc::{AllocError, Global};
 
-// What stands behind the gate of a record with this body: its length, the body, and the next gate, closed.
-fn frame(alloc: Global, body: &[u8]) -> Result<Vec<u8>, AllocError>
-    requires { length body.now < 2 ^ 32 }
-    ensures { IfOk result (λ bytes. bytes.items ≡ behind_gate body.now) }
+// The commit that puts the record of a command behind the last one.
+fn append_of(alloc: Global, store: &Store, command: &Command) -> Result<Commit, AllocError>
+    requires { IsFitting store.now command.now }
+    ensures commit { IfOk result (λ commit. commit ≡ append_of store.now command.now) }
+    ensures within { IfOk result (λ commit. IsWithin commit store.now) }
 {
-    let mut bytes = Vec::new(alloc);
-    bytes.extend_from_slice(&(body.len() as u32).to_le_bytes())?;
-    bytes.extend_from_slice(body)?;
-    bytes.push(0)?;
-    Ok(bytes)
+    let body = body_of_command(alloc, command)?;
+    store.append(alloc, &body)
 }
 
 // The body's write is done. The bytes are made before the device is called.
@@ -40,9 +40,8 @@ pub(crate) fn write_body(alloc: Global, core: &mut Core) -> Answer
     let Due::WriteBody = due else {
         return Err(CoreFault::NotNow);
     };
-    let body = body_of_command(alloc, &numbered.command)?;
-    let behind = frame(alloc, &body)?;
-    core.store.write_body(&behind);
+    let commit = append_of(alloc, &core.store, &numbered.command)?;
+    core.store.write_first(&commit);
     core.phase.go_on(Due::SyncBody);
     Ok(None)
 }
@@ -61,14 +60,18 @@ pub(crate) fn sync_body(core: &mut Core) -> Answer
 }
 
 // The write that opens the gate is done.
-pub(crate) fn write_gate(core: &mut Core) -> Answer
+pub(crate) fn write_gate(alloc: Global, core: &mut Core) -> Answer
     requires { IsReady core.old }
     ensures { Answers (Advances due.WriteGate core.old) result core.old core.new }
 {
-    let Phase::Committing(_, _, Due::WriteGate) = &core.phase else {
+    let Phase::Committing(_, numbered, due) = &core.phase else {
         return Err(CoreFault::NotNow);
     };
-    core.store.open_gate();
+    let Due::WriteGate = due else {
+        return Err(CoreFault::NotNow);
+    };
+    let commit = append_of(alloc, &core.store, &numbered.command)?;
+    core.store.decide(&commit);
     core.phase.go_on(Due::SyncGate);
     Ok(None)
 }
@@ -92,7 +95,7 @@ pub(crate) fn sync_gate(alloc: Global, core: &mut Core) -> Answer
     Ok(None)
 }
 
-// The device step that is due fails. A write has reached the disk then, in whole, unsettled.
+// The device step of a commit that is due fails. A write has reached the disk then, in whole, unsettled.
 fn fail_core(alloc: Global, core: &mut Core, client: ClientId) -> Answer
     requires { IsReady core.old }
     ensures { Answers (Fails client core.old) result core.old core.new }
@@ -109,19 +112,21 @@ fn fail_core(alloc: Global, core: &mut Core, client: ClientId) -> Answer
     let failed = numbered.again()?;
     match due {
         Due::WriteBody => {
-            let body = body_of_command(alloc, &numbered.command)?;
-            let behind = frame(alloc, &body)?;
-            core.store.write_body(&behind);
+            let commit = append_of(alloc, &core.store, &numbered.command)?;
+            core.store.write_first(&commit);
         }
-        Due::WriteGate => core.store.open_gate(),
+        Due::WriteGate => {
+            let commit = append_of(alloc, &core.store, &numbered.command)?;
+            core.store.decide(&commit);
+        }
         Due::SyncBody | Due::SyncGate | Due::Acknowledge => {}
     }
     core.enter(Phase::Failed(Some(failed)));
     Ok(Some(Reply::Refused(Refusal::DiskFault)))
 }
 
-// The device step that is due fails, and the job in commit ends.
-pub(crate) fn fail<P: Drop>(alloc: Global, contents: &mut Contents<P>) -> Answer
+// The device step of a commit that is due fails, and the job in commit ends.
+pub(crate) fn fail_job<P: Drop>(alloc: Global, contents: &mut Contents<P>) -> Answer
     requires { IsReady contents.old.core }
     ensures { Answers (FailsJob contents.old) result contents.old contents.new }
 {

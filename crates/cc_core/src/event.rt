@@ -23,7 +23,16 @@ pub enum Event<P> {
     WriteGate,
     /// The fourth: it is synced.
     SyncGate,
-    /// The device step that is due fails.
+    /// Between two commits the records are written anew, one Add per name. The first device step of this rewrite: they are
+    /// written into the area that is not in use, and a closed gate behind them.
+    RewriteAll,
+    /// The second: they are synced.
+    SyncAll,
+    /// The third: the area byte is written.
+    WriteArea,
+    /// The fourth: it is synced.
+    SyncArea,
+    /// The device step of a commit or of a rewrite that is due fails.
     Fail,
     /// The reply is given to the client whose command is in commit, when all four steps are done.
     Ack(ClientId),

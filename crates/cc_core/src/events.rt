@@ -16,7 +16,7 @@ ghost use Rattle.cc_core.specs.Step.{Step, Submits, Takes, Finishes, Refuses, Be
 use crate::build::Build;
 use crate::command::{Numbered, Reply, Request};
 use crate::contents::{Contents, Core, Due, Phase};
-use crate::device::{fail, sync_body, sync_gate, write_body, write_gate};
+use crate::device::{sync_body, sync_gate, write_body, write_gate};
 use crate::event::Event;
 use crate::fault::{BuildFault, CoreFault, Refusal};
 use crate::ids::{CallId, ClientId, PartIndex, WorkerId};
@@ -24,6 +24,7 @@ use crate::job::{
     Job, Progress, Work, all_made, all_waiting, are_all_there, least_refused, set_progress,
 };
 use crate::recovery::{crash, recover};
+use crate::rewriting::{fail, rewrite_all, sync_all, sync_area, write_area};
 use crate::sequence::Sequence;
 use cc_library::{Command, SharedUnit, UnitMap, body_of_command};
 use std::alloc::{AllocError, Global};
@@ -73,7 +74,8 @@ fn is_up(phase: &Phase) -> bool
     ensures { IsTrue result ↔ IsUp phase.now }
 {
     match phase {
-        Phase::Idle | Phase::Committing(_, _, _) | Phase::Failed(_) => true,
+        Phase::Idle | Phase::Committing(_, _, _) | Phase::Rewriting(_, _) | Phase::Failed(_) =>
+            true,
         Phase::Crashed => false,
     }
 }
@@ -322,7 +324,7 @@ fn is_free(phase: &Phase) -> bool
 {
     match phase {
         Phase::Idle | Phase::Failed(_) => true,
-        Phase::Committing(_, _, _) | Phase::Crashed => false,
+        Phase::Committing(_, _, _) | Phase::Rewriting(_, _) | Phase::Crashed => false,
     }
 }
 
@@ -416,8 +418,12 @@ pub(crate) fn take_step<B: Build>(
         Event::Begin(client) => begin(build, alloc, contents, client),
         Event::WriteBody => write_body(alloc, &mut contents.core),
         Event::SyncBody => sync_body(&mut contents.core),
-        Event::WriteGate => write_gate(&mut contents.core),
+        Event::WriteGate => write_gate(alloc, &mut contents.core),
         Event::SyncGate => sync_gate(alloc, &mut contents.core),
+        Event::RewriteAll => rewrite_all(alloc, &mut contents.core),
+        Event::SyncAll => sync_all(&mut contents.core),
+        Event::WriteArea => write_area(&mut contents.core),
+        Event::SyncArea => sync_area(&mut contents.core),
         Event::Fail => fail(alloc, contents),
         Event::Ack(client) => acknowledge(contents, client),
         Event::Crash(choice) => crash(alloc, contents, &choice),

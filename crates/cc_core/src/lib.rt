@@ -1,8 +1,9 @@
 //! The protocol core: a pure machine over events that says what a service may do with its library and its disk.
 //! Clients hand in jobs, workers take their pieces, one job at a time commits in four device steps, and its reply is given.
+//! Between two commits the records may be written anew, in four device steps too.
 //! A device step may fail, the disk may crash at any event, and the library is opened again.
 //! `command`: what is asked and kept. `build`: what makes units. `job`, `table`, `store`, `contents`: what a state holds.
-//! `event`, `events`, `device`, `recovery`: what may happen, and the step of each. `opening`: a disk as a beginning.
+//! `event`, `events`, `device`, `rewriting`, `recovery`: what may happen, and the step of each. `opening`: a disk as a beginning.
 //! `state`: the machine and its runs.
 //! It hands out `State`, `run_events`, `Event`, `Build`, and the types of requests, sequence numbers, replies and refusals.
 #![tactic(auto)]
@@ -18,6 +19,7 @@ pub mod ids;
 mod job;
 mod opening;
 mod recovery;
+mod rewriting;
 pub mod sequence;
 pub mod sequence_number;
 pub mod state;

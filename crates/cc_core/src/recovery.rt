@@ -78,12 +78,12 @@ pub(crate) fn recover(alloc: Global, core: &mut Core) -> Answer
     let Phase::Crashed = core.phase else {
         return Err(CoreFault::NotNow);
     };
-    let Ok((library, used)) = core.store.reopen(alloc) else {
+    let Ok((library, area_byte, used)) = core.store.reopen(alloc) else {
         return Err(CoreFault::OutOfMemory);
     };
     drop_undone(&mut core.order, &library);
     core.library = library;
-    core.store.set_used(used);
+    core.store.take_area(area_byte, used);
     core.enter(Phase::Idle);
     Ok(None)
 }

@@ -11,10 +11,10 @@ ghost use Rattle.cc_core.specs.declared.event.Event.{Event};
 ghost use Rattle.cc_core.specs.declared.command.Numbered.{Numbered};
 ghost use Rattle.cc_core.specs.declared.command.Reply.{Reply};
 ghost use Rattle.cc_core.specs.declared.contents.Core.{Core};
-ghost use Rattle.cc_core.specs.declared.contents.Phase.TheVariants.{Crashed};
+ghost use Rattle.cc_core.specs.declared.contents.Phase.TheVariants.{Idle, Crashed};
 ghost use Rattle.cc_core.specs.declared.ids.ClientId.{ClientId};
-ghost use Rattle.cc_core.specs.Step.{Step, IsImpossible, IsStart, Reopens, StepsCore, commands};
-ghost use Rattle.cc_core.specs.Run.{Turn, Run, EachUnit, EachImageSurvives, EachImageIsRight, PutsCommand, HandsIn, AreRising, IsOpened, IsOrderOf, IsBeginning, IsOfCrash, PutsSource, Commits, LeavesRecord, live};
+ghost use Rattle.cc_core.specs.Step.{Step, IsImpossible, IsStart, RewritesAll, Reopens, StepsCore, commands};
+ghost use Rattle.cc_core.specs.Run.{Turn, Run, EachUnit, EachImageSurvives, EachImageIsRight, PutsCommand, HandsIn, AreRising, IsOpened, IsOrderOf, IsBeginning, IsOfCrash, PutsSource, Commits, LeavesRecord, Rewrites, LeavesCompacted, live};
 
 use crate::build::Build;
 use crate::command::{Numbered, Reply};
@@ -33,7 +33,7 @@ use std::alloc::{AllocError, Global};
 use std::marker::Model;
 
 /// The protocol core over a build and a disk in memory. Contracts see its contents, and its type keeps that some list of
-/// events leads to them from a start.
+/// events leads to them from a beginning: a new disk, or one that was opened with a library on it.
 #[derive(Drop)]
 pub struct State<B: Build> {
     build: B,
@@ -231,7 +231,8 @@ pub fn run_events<B: Build>(
 
 /// Whatever the events, from a fresh disk or an opened one: whatever a crash leaves of the disk survives so, its units are right,
 /// and the live map is what the order gives. In a crashed state the recovery is possible, and nothing else but another crash; a
-/// command that begins has the source that was handed in; and a commit leaves exactly the bytes of its record.
+/// command that begins has the source that was handed in; and a commit leaves exactly the bytes of its record. Between two commits
+/// a rewrite is always possible, since it never takes more room than the records do, and it leaves one Add per name.
 pub fn crash_law<B: Build>()
     ensures survives { (first new : Contents B.Piece) (events : List (Event B.Piece))
         → IsBeginning B.is_right first → Run B.rules B.keeps first events new → EachImageSurvives new.core }
@@ -249,4 +250,9 @@ pub fn crash_law<B: Build>()
         → IsBeginning B.is_right first → Run B.rules B.keeps first events new → PutsSource B.rules client new after }
     ensures leaves_record { (first new : Contents B.Piece) (events : List (Event B.Piece)) (client : ClientId) (numbered : Numbered) (after : Core)
         → IsBeginning B.is_right first → Run B.rules B.keeps first events new → Commits client numbered new.core after → LeavesRecord numbered new.core after }
+    ensures rewrites { (first new : Contents B.Piece) (events : List (Event B.Piece))
+        → IsBeginning B.is_right first → Run B.rules B.keeps first events new → new.core.phase ≡ Idle
+        → (reply : Option Reply) × (after : Contents B.Piece) × StepsCore RewritesAll new reply after }
+    ensures leaves_compacted { (first new : Contents B.Piece) (events : List (Event B.Piece)) (after : Core)
+        → IsBeginning B.is_right first → Run B.rules B.keeps first events new → Rewrites new.core after → LeavesCompacted new.core after }
 {}

@@ -1,25 +1,24 @@
-// The core's disk: a journal in one of its two areas, written one device step at a time.
+// The core's disk: a journal in one of its two areas, written one device step at a time, by the journal's own commits.
 ghost use Rattle.std.specs.Prelude.{◌≡◌, ◌↔◌, ◌+◌, ◌^◌, ◌≤◌, [], ◌∷◌, List, ℕ, IsTrue, length, IfOk, IfErr, OnOk, OnErr};
-ghost use Rattle.cc_disk.specs.Model.{bytes_of, IsImage, written, synced};
+ghost use Rattle.cc_disk.specs.Model.{bytes_of, IsImage, synced};
 ghost use Rattle.cc_disk.specs.Images.{LeavesAlone};
-ghost use Rattle.cc_journal.specs.Format.{HoldsRecords, IsArea, open_gate, records};
+ghost use Rattle.cc_journal.specs.Commit.{append_commit, rewrite_commit};
+ghost use Rattle.cc_journal.specs.Format.{HoldsRecords, IsArea, records, room_of};
 ghost use Rattle.cc_library.specs.Apply.{Units};
 ghost use Rattle.cc_library.specs.Recovered.{Recovers};
-ghost use Rattle.cc_core.specs.Store.{IsFormatted, gate_of, room_taken, with_cells, crashed_store};
+ghost use Rattle.cc_core.specs.Store.{IsFormatted, gate_of, room_taken, first_written, decided, settled_all, crashed_store};
 ghost use Rattle.cc_core.specs.internal.Opening.{IsFound};
+ghost use Rattle.cc_core.specs.internal.Ready.{IsWithin};
 
 use crate::opening::{Found, find};
 use cc_disk::{Disk, MemoryDisk};
-use cc_journal::format;
+use cc_journal::{Body, Commit, format};
 use cc_library::{LibraryFault, UnitMap};
 use std::alloc::{AllocError, Global};
 use std::marker::Model;
 
 /// The bytes in front of the first area.
 const HEADER: usize = 16;
-
-/// The gate of a record that counts.
-const OPEN: u8 = 0xa5;
 
 /// A journal on a disk in memory, of which contracts see the cells, the area byte, the size of an area in bytes, and how many
 /// bytes of the area that the byte names its records take.
@@ -102,26 +101,46 @@ impl Store {
         begin + self.used
     }
 
-    /// Writes what stands behind the gate of the next record.
-    pub(crate) fn write_body(&mut self, behind: &[u8])
-        requires { self.old.used + length behind.now + 1 ≤ self.old.area }
-        ensures { self.new ≡ with_cells self.old (written self.old.cells (gate_of self.old + 1) behind.now) }
+    /// The commit that puts a record with this body behind the last one.
+    pub(crate) fn append(&self, alloc: Global, body: &[u8]) -> Result<Commit, AllocError>
+        requires { room_taken self.now body.now ≤ self.now.area }
+        ensures commit { IfOk result (λ commit. commit ≡ append_commit (gate_of self.now) body.now) }
+        ensures within { IfOk result (λ commit. IsWithin commit self.now) }
     {
-        let offset = self.gate() + 1;
-        let _ = self.disk.write_at(offset, behind);
+        // What the type keeps of the disk's size.
+        let _ = &self.disk;
+        Commit::append(alloc, self.gate(), body)
     }
 
-    /// Opens the gate of the next record.
-    pub(crate) fn open_gate(&mut self)
-        ensures { self.new ≡ with_cells self.old (written self.old.cells (gate_of self.old) (open_gate ∷ [])) }
+    /// The commit that writes records with these bodies into the area that is not in use.
+    pub(crate) fn rewrite(&self, alloc: Global, bodies: &[Body]) -> Result<Commit, AllocError>
+        requires { room_of bodies.now ≤ self.now.area }
+        ensures commit { IfOk result (λ commit. commit ≡ rewrite_commit self.now.area_byte self.now.area bodies.now) }
+        ensures within { IfOk result (λ commit. IsWithin commit self.now) }
     {
-        let offset = self.gate();
-        let _ = self.disk.write_at(offset, &[OPEN]);
+        Commit::rewrite(alloc, self.area_byte, self.area as usize, bodies)
+    }
+
+    /// Makes the first write of a commit.
+    pub(crate) fn write_first(&mut self, commit: &Commit)
+        requires { IsWithin commit.now self.old }
+        ensures { self.new ≡ first_written commit.now self.old }
+    {
+        let _ = self.disk.write_at(commit.offset(), commit.bytes());
+    }
+
+    /// Writes the byte of a commit that decides.
+    pub(crate) fn decide(&mut self, commit: &Commit)
+        requires { IsWithin commit.now self.old }
+        ensures { self.new ≡ decided commit.now self.old }
+    {
+        let byte = commit.deciding_byte();
+        let _ = self.disk.write_at(commit.deciding_offset(), &[byte]);
     }
 
     /// Settles every byte.
     pub(crate) fn sync(&mut self)
-        ensures { self.new ≡ with_cells self.old (synced self.old.cells) }
+        ensures { self.new ≡ settled_all self.old }
     {
         let _ = self.disk.sync();
     }
@@ -131,6 +150,15 @@ impl Store {
         requires { used + 1 ≤ self.old.area }
         ensures { self.new ≡ record self.old { used = used } }
     {
+        self.used = used;
+    }
+
+    /// Takes this area, and counts so many of its bytes as taken by records.
+    pub(crate) fn take_area(&mut self, area_byte: u8, used: usize)
+        requires { used + 1 ≤ self.old.area }
+        ensures { self.new ≡ record self.old { area_byte = area_byte; used = used } }
+    {
+        self.area_byte = area_byte;
         self.used = used;
     }
 
@@ -152,13 +180,13 @@ impl Store {
         Ok(())
     }
 
-    /// Opens a copy of the disk, and reads the map that its records stand for and how many bytes they take.
+    /// Opens a copy of the disk, and reads the map that its records stand for, the area byte, and how many bytes they take.
     /// 40 `OutOfMemory` alone: no other refusal can come of a disk whose bytes recover to a map.
-    pub(crate) fn reopen(&self, alloc: Global) -> Result<(UnitMap, usize), LibraryFault>
+    pub(crate) fn reopen(&self, alloc: Global) -> Result<(UnitMap, u8, usize), LibraryFault>
         requires alone { LeavesAlone (bytes_of self.now.cells) (IsImage self.now.cells) }
         requires recovers { (units : Units) × Recovers (bytes_of self.now.cells) units }
         ensures answer { IfOk result (λ found. (area : ℕ) × (bodies : List (List ℕ))
-            × IsFound (bytes_of self.now.cells) area bodies found.0 found.1) }
+            × (is_found : IsFound (bytes_of self.now.cells) area bodies found.0 found.2) × (is_found.holds.area_byte ≡ found.1)) }
         ensures refused { IfErr result (λ fault. fault ≡ LibraryFault.OutOfMemory) }
     {
         let copy = self.disk.crash(alloc, &[])?;
@@ -169,8 +197,10 @@ impl Store {
                     library,
                     used,
                 } = found;
-                drop(journal);
-                Ok((library, used))
+                let read = Store::of_disk(journal.into_disk(), used);
+                let area_byte = read.area_byte;
+                drop(read);
+                Ok((library, area_byte, used))
             }
             Err((fault, disk)) => {
                 drop(disk);

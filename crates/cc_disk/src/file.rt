@@ -1,5 +1,5 @@
 // The disk on a file.
-ghost use Rattle.std.specs.Prelude.{true, false, ◌≡◌, ◌+◌, [], ⊤, length, IfOk, OnOk, OnErr, is_ok, if◌then◌else◌};
+ghost use Rattle.std.specs.Prelude.{true, false, ◌≡◌, ◌+◌, ◌↔◌, [], ⊤, length, IfOk, IsOkAnd, IsTrue, OnOk, OnErr, is_ok, if◌then◌else◌};
 ghost use Rattle.std.proofs.lemmas.Bool.{false≢true};
 
 use crate::count::FailureCount;
@@ -112,20 +112,25 @@ fn lock(file: &fs::File) -> Result<(), DiskFault> {
     Ok(())
 }
 
-// Whether so many bytes from that offset on were written: one system call, and less than all is a failure.
-fn is_written(file: &fs::File, offset: usize, bytes: &[u8]) -> bool {
-    match file.write_at(bytes, offset as u64) {
-        Ok(count) => count == bytes.len(),
+// Whether a system call moved as many bytes as were asked for: fewer are a failure too.
+fn is_whole(answer: io::Result<usize>, wanted: usize) -> bool
+    ensures { IsTrue result ↔ IsOkAnd answer (λ count. count ≡ wanted) }
+{
+    match answer {
+        Ok(count) => count == wanted,
         Err(_) => false,
     }
 }
 
+// Whether so many bytes from that offset on were written, by one system call.
+fn is_written(file: &fs::File, offset: usize, bytes: &[u8]) -> bool {
+    is_whole(file.write_at(bytes, offset as u64), bytes.len())
+}
+
 // Whether the buffer was filled from that offset on, in the same way.
 fn is_read(file: &fs::File, offset: usize, buffer: &mut [u8]) -> bool {
-    match file.read_at(buffer, offset as u64) {
-        Ok(count) => count == buffer.len(),
-        Err(_) => false,
-    }
+    let answer = file.read_at(buffer, offset as u64);
+    is_whole(answer, buffer.len())
 }
 
 // Writes so many zeros from the file's start on.

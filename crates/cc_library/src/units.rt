@@ -81,7 +81,7 @@ impl UnitMap {
     }
 
     /// The bodies of one Add per name, in the order of the names' bytes.
-    pub(crate) fn bodies(&self, alloc: Global) -> Result<Vec<Body>, AllocError>
+    pub fn bodies(&self, alloc: Global) -> Result<Vec<Body>, AllocError>
         ensures { IfOk result (λ bodies. AreSpelled bodies.items (adds_of self.now)) }
     {
         let mut bodies = Vec::new(alloc);

@@ -7,8 +7,8 @@ use Rattle.cc_typing.specs.declared.fault.TypeFault.{TypeFault}
 use Rattle.cc_typing.specs.declared.fault.TypeFault.TheVariants as type_fault
 use Rattle.cc_meaning.specs.Meaning.{source_behavior}
 use Rattle.cc_meaning.specs.Erase.{outcome_tree}
-use Rattle.cc_program.specs.declared.command_line.Task.{Task}
-use Rattle.cc_program.specs.declared.command_line.Task.TheVariants.{Check, Interpret}
+use Rattle.cc_command_line.specs.declared.command_line.Task.{Task}
+use Rattle.cc_command_line.specs.declared.command_line.Task.TheVariants.{Check, Interpret}
 use Rattle.cc_program.specs.declared.answer.Answer.{Answer}
 use Rattle.cc_program.specs.declared.answer.Answer.TheVariants.{Accepted, Ran}
 use Rattle.cc_program.specs.declared.fault.Fault.{Fault}

@@ -1,5 +1,3 @@
--- What a task may be.
-pub mod Task
 -- What the program answers of a text, and why it answers nothing.
 pub mod Answer
 -- The numbers and the places of the faults.

@@ -4,8 +4,8 @@ ghost use Rattle.std.specs.Prelude.{IfOk, IfErr};
 ghost use Rattle.cc_syntax.specs.Source.{source};
 ghost use Rattle.cc_program.specs.Answer.{IsProgram, Answers, IsRefused};
 
-use super::command_line::Task;
 use super::fault::Fault;
+use cc_command_line::Task;
 use cc_meaning::{Outcome, interpret};
 use cc_syntax::parse;
 use cc_typing::{TypedUnit, check};

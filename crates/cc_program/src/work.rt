@@ -3,9 +3,9 @@
 ghost use Rattle.std.specs.Prelude.{◌≤◌};
 
 use super::answer::{Answer, answer_for};
-use super::command_line::Task;
 use super::fault::Fault;
 use super::source::read_source;
+use cc_command_line::Task;
 use cc_meaning::{Cause, Outcome, Stop};
 use std::alloc::Global;
 use std::io::{self, Read, Write};

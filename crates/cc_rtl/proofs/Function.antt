@@ -1,6 +1,6 @@
 -- The whole function: the code that is generated keeps up with Cminor's, has so many nodes, and each node leads to nodes but not to the
 -- entry.
-use Rattle.std.proofs.Common.{◌≡◌, ◌≢◌, ℕ, zero, suc, ◌+◌, ◌-◌, ◌<◌, ◌≤◌, List, [], ◌∷◌, ◌++◌, length, get_or, refl, sym, ap, ◌∙◌, subst, arith, length-append, Option, Some, None}
+use Rattle.std.proofs.Common.{◌≡◌, ℕ, zero, suc, ◌+◌, ◌-◌, ◌<◌, [], ◌∷◌, length, ◌∙◌, subst, arith, length-append, Some, None}
 use Rattle.cc_runs.specs.Meaning.{Meaning}
 use Rattle.cc_runs.specs.Tracks.{Tracks}
 use Rattle.cc_runs.proofs.Simulating.{coarser}
@@ -8,7 +8,7 @@ use Rattle.cc_cminor.specs.Cminor.{Statement, cminor_move, cminor_output, cminor
 use Rattle.cc_rtl.specs.Rtl as rtl
 use Rattle.cc_rtl.specs.Rtl.{rtl_move, rtl_output, rtl_start}
 use Rattle.cc_rtl.specs.internal.Translates.{IsCodeOf}
-use Rattle.cc_rtl.specs.internal.Generate.{Places, place_at, pushed, made, made_function, IsFormed, function_nodes, generated_rtl, nodes_back, labelled_from}
+use Rattle.cc_rtl.specs.internal.Generate.{Places, place_at, made, made_function, IsFormed, generated_rtl}
 use Rattle.cc_rtl.proofs.Statements.{size}
 use Rattle.cc_rtl.proofs.Generated.{function_right}
 use Rattle.cc_rtl.proofs.Inside.{function_filled}
@@ -16,17 +16,17 @@ use Rattle.cc_rtl.proofs.Labels.{AreFilled, filled_all, turned_node}
 use Rattle.cc_rtl.proofs.Turning.{code_turns}
 use Rattle.cc_rtl.proofs.Whole.{rtl_tracks}
 
-module _ (parameters count : ℕ) (body : Statement) (formed : IsFormed count 0 body) where
-  abbrev places : Places
+module _ (parameters count : ℕ) (body : Statement) (formed : IsFormed count body) where
+  abbrev pub places : Places
   places = (made_function count body).places
 
-  abbrev last : ℕ
+  abbrev pub last : ℕ
   last = (made_function count body).entry
 
-  long : length places ≡ suc last
+  pub long : length places ≡ suc last
   long = length-append (made count body 1 [] _).places (_ ∷ []) ∙ (let e : last + 1 ≡ suc last = omega arith in e)
 
-  filled : AreFilled places
+  pub filled : AreFilled places
   filled = filled_all places (function_filled count body)
 
   place_within : (g : Places) (l : ℕ) (n : rtl.Node) → place_at g l ≡ Some n → l < length g

@@ -4,7 +4,8 @@ use Rattle.std.proofs.Math.Seq.{get_or-append_seam}
 use Rattle.cc_cminor.specs.Cminor.{Expression, Constant, Local, Unary, Binary, Load, Statement, Skip, Set, Store, Call, Read, Write, Sequence, If, Loop, Block, Exit, Return}
 use Rattle.cc_rtl.specs.Rtl as rtl
 use Rattle.cc_rtl.specs.internal.Translates.{Graph, Held, Into, Operand, Operands, Leads, Takes, Translates, IsCodeOf}
-use Rattle.cc_rtl.specs.internal.Generate.{Places, place_at, Made, pushed, variable_of, held_in, taken_by, operand_by, register, taken, made_into, operand, registers, operands, closed, made, made_function, Uses, AllUse, IsFormed, kept_by, into_nodes, operand_nodes, operands_nodes, statement_nodes, function_nodes}
+use Rattle.cc_rtl.specs.internal.Generate.{Places, place_at, Made, pushed, held_in, taken_by, operand_by, register, taken, made_into, operand, registers, operands, closed, made, made_function, Uses, AllUse, IsFormed}
+use Rattle.cc_rtl.specs.Size.{variable_of, kept_by, into_nodes, operand_nodes, operands_nodes, statement_nodes, function_nodes}
 use Rattle.cc_rtl.proofs.Growing.{Extends, held_grows, into_grows, operands_grow, translates_grows, finishes_grows}
 
 pub node_kept : (g rest : Places) → Extends (place_at g) (place_at (g ++ rest))
@@ -29,10 +30,10 @@ append_none : (g : Places) → g ≡ g ++ []
 append_none [] = refl
 append_none (x ∷ g) = ap (λ r. x ∷ r) (append_none g)
 
-leads : (exits : List ℕ) (k d : ℕ) → k < length exits → Leads exits k (get_or exits k d)
-leads [] k d lt = absurd (omega arith)
-leads (x ∷ exits) zero d lt = refl
-leads (x ∷ exits) (suc k) d lt = leads exits k d (omega arith)
+leads : (exits : List ℕ) (k d : ℕ) → Leads exits k (get_or exits k d)
+leads [] k d = tt
+leads (x ∷ exits) zero d = refl
+leads (x ∷ exits) (suc k) d = leads exits k d
 
 -- what was there is still there, few nodes are new, and of the nodes and the entry the claim holds
 pub record Right (g : Places) (m : Made) (most : ℕ) (Claim : Graph → ℕ → Type 0) : Type 0 where
@@ -171,7 +172,7 @@ module _ (count : ℕ) where
         claim = (body.entry, ap (λ z. place_at z (length g)) is ∙ node_here g n x.rest, translates_grows _ _ more count a body.entry (length g) exits x.claim);
       }
 
-  pub made_right : (s : Statement) (exit : ℕ) (exits : List ℕ) (g : Places) → IsFormed count (length exits) s → Right g (made count s exit exits g) (statement_nodes s) (Here s exit exits)
+  pub made_right : (s : Statement) (exit : ℕ) (exits : List ℕ) (g : Places) → IsFormed count s → Right g (made count s exit exits g) (statement_nodes s) (Here s exit exits)
   made_right Skip exit exits g formed = record { rest = []; front = append_none g; few = omega arith; claim = refl }
   made_right (Set x e) exit exits g (low, uses) =
       weaker g _ (into_nodes e) _ (λ f entry. Into f count e count x entry exit) (Here (Set x e) exit exits) (makes e count x exit g uses (omega arith)) (omega arith) (λ into. (low, into))
@@ -207,14 +208,14 @@ module _ (count : ℕ) where
       (λ more (code_b, code_a) (free', k, held, stands). (register e count, free', k, m.entry, n.entry, held, stands, translates_grows _ _ more count a m.entry exit exits code_a, translates_grows _ _ more count b n.entry exit exits code_b))
   made_right (Loop a) exit exits g formed = closed_right a exit exits g (made count a (length g) exits (g ++ (None ∷ []))) (statement_nodes a) (made_right a (length g) exits (g ++ (None ∷ [])) formed)
   made_right (Block a) exit exits g formed = weaker g _ (statement_nodes a) _ (Here a exit (exit ∷ exits)) (Here (Block a) exit exits) (made_right a exit (exit ∷ exits) g formed) (omega arith) (λ code. code)
-  made_right (Exit k) exit exits g formed = record { rest = []; front = append_none g; few = omega arith; claim = leads exits k exit formed }
+  made_right (Exit k) exit exits g formed = record { rest = []; front = append_none g; few = omega arith; claim = leads exits k exit }
   made_right (Return e) exit exits g uses =
       let n = rtl.Return (register e count) in
       weaker g _ (suc (operand_nodes e)) _ (OneHeld e count (register e count) n) (Here (Return e) exit exits) (one_operand e n g uses) (omega arith)
       (λ (free', m, held, stands). (register e count, free', m, held, stands))
 
   -- the whole function: its code, of three nodes more than it has statements and operand_nodes at most
-  pub function_right : (body : Statement) → IsFormed count 0 body → IsCodeOf (place_at (made_function count body).places) count body (made_function count body).entry × (length (made_function count body).places ≡ function_nodes body)
+  pub function_right : (body : Statement) → IsFormed count body → IsCodeOf (place_at (made_function count body).places) count body (made_function count body).entry × (length (made_function count body).places ≡ function_nodes body)
   function_right body formed =
       let ends : Places = Some (rtl.Return count) ∷ Some (rtl.Const count 0 0) ∷ [] in
       let b = made count body 1 [] ends in

@@ -1,13 +1,16 @@
--- RTL is a layer: outputs grow, a call hands over the output so far and goes on from the answer's.
-use Rattle.std.proofs.Common.{◌≡◌, ℕ, List, [], ◌∷◌, ◌++◌, Option, Some, None, option_map, refl, sym, ap, ◌∙◌, subst}
+-- RTL is a layer: outputs grow, a call hands over the output so far and goes on from the answer's. So what keeps up follows.
+use Rattle.std.proofs.Common.{◌≡◌, ℕ, List, [], ◌∷◌, Option, Some, None, option_map, refl, subst}
 use Rattle.cc_words.specs.Operators.{apply_binary}
 use Rattle.cc_runs.specs.Behavior.{Begins}
-use Rattle.cc_runs.specs.World.{World, Question, Answer, element, stored}
+use Rattle.cc_runs.specs.World.{World, Answer, element}
 use Rattle.cc_runs.specs.Run.{Move, Goes, Calls, Returns, Fails, tried}
 use Rattle.cc_runs.specs.Cuts.{IsLayer}
 use Rattle.cc_runs.proofs.Behaving.{begins_refl}
+use Rattle.cc_runs.proofs.Following.{tracks_follow}
+use Rattle.cc_syntax.specs.Tree.{External}
 use Rattle.cc_rtl.specs.Rtl as rtl
-use Rattle.cc_rtl.specs.Rtl.{Configuration, Registers, node_move, rtl_output}
+use Rattle.cc_rtl.specs.Rtl.{Configuration, Registers, Rtl, node_at, node_move, rtl_output, rtl_start}
+use Rattle.cc_rtl.specs.Pair.{KeepsUp, FollowsFunction}
 use Rattle.cc_rtl.specs.internal.Translates.{Graph, graph_move}
 
 -- what a move keeps of the output so far
@@ -48,3 +51,8 @@ rtl_layer nodes = record {
   where
     at_label : (c : Configuration) → Layered (rtl_output c) (graph_move nodes c)
     at_label c = tried_case (rtl_output c) (nodes c.label) _ (λ n. layered n c.registers c.world)
+
+-- what keeps up follows, at whatever rate
+pub follows_of : (unit : List External) (f : ℕ) (r : Rtl) → KeepsUp unit f r → FollowsFunction unit f r
+follows_of unit f r (rate, keeps) meaning is opened below ws h call =
+    tracks_follow meaning (graph_move (node_at r.nodes)) rtl_output (rtl_layer (node_at r.nodes)) f rate (rtl_start r) (keeps meaning is) opened below ws h call

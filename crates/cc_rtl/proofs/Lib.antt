@@ -10,3 +10,8 @@ pub mod Layer
 pub mod Labels
 pub mod Function
 pub mod Kept
+pub mod Called
+pub mod Sizes
+pub mod Parameters
+pub mod Making
+pub mod Pairs

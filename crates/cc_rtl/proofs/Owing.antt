@@ -1,6 +1,5 @@
 -- A simulation from what is owed at each configuration, by cases on the old language's move: no case of another kind is to be refused.
 use Rattle.std.proofs.Common.{◌≡◌, ℕ, ◌<◌, ◌≤◌, List, refl, subst, ◌⊎◌, Option, Some, None}
-use Rattle.cc_runs.specs.World.{Answer}
 use Rattle.cc_runs.specs.Run.{Move, Goes, Calls, Returns, Fails, tried}
 use Rattle.cc_runs.specs.internal.Simulation.{Advances, Asks, Ending, Simulation}
 

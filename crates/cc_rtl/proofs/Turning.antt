@@ -6,7 +6,7 @@ use Rattle.cc_rtl.specs.internal.Translates.{Graph, Held, Into, Operand, Operand
 use Rattle.cc_rtl.specs.internal.Generate.{renamed}
 
 leads_turns : (t : ℕ → ℕ) (xs : List ℕ) (k l : ℕ) → Leads xs k l → Leads (map t xs) k (t l)
-leads_turns t [] k l h = absurd h
+leads_turns t [] k l h = h
 leads_turns t (x ∷ xs) zero l h = ap t h
 leads_turns t (x ∷ xs) (suc k) l h = leads_turns t xs k l h
 

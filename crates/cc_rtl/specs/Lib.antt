@@ -2,5 +2,11 @@
 pub mod Rtl
 -- The RTL that the code keeps.
 pub mod Code
+-- What a pair keeps: the RTL of one function of a unit.
+pub mod Pair
+-- How many nodes a function takes.
+pub mod Size
+-- The number of a fault.
+pub mod Fault
 -- What the proofs speak of.
 pub mod internal

@@ -5,7 +5,7 @@ use Rattle.cc_words.specs.declared.operators.Unary as one
 use Rattle.cc_words.specs.declared.operators.Binary as two
 use Rattle.cc_words.specs.Operators.{apply_unary, apply_binary}
 use Rattle.cc_runs.specs.World.{World, Answer, element, stored, next_word, after_read, after_write}
-use Rattle.cc_runs.specs.Run.{Move as Moving, Goes, Calls, Returns, Fails, tried}
+use Rattle.cc_runs.specs.Run.{Move as Moving, Goes, Calls, Returns, tried}
 
 -- ---- syntax
 

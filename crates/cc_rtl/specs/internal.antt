@@ -2,3 +2,7 @@
 pub mod Translates
 -- The generator as a function.
 pub mod Generate
+-- What the contracts of the generator's code speak of.
+pub mod Generating
+-- How many registers the variables take.
+pub mod Variables

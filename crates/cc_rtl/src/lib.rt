@@ -1,11 +1,23 @@
 //! RTL: the code of a function as a graph of labelled nodes over pseudo-registers.
 //!
-//! `node` has the syntax, `rtl` the type of a function, `display` its text.
+//! `node` has the syntax, `rtl` the type of a function, `display` its text, `pair` the type that keeps that a function's RTL does what
+//! the function does. `generate` makes the nodes of a function from its Cminor.
 #![tactic(auto)]
 
 mod display;
+mod fault;
+mod generate;
+mod laws;
 mod node;
+mod pair;
 mod rtl;
+mod size;
+mod translate;
+mod variables;
 
+pub use fault::RtlFault;
+pub use laws::rtl_is_a_layer;
 pub use node::{Labelled, Node};
+pub use pair::RtlPair;
 pub use rtl::Rtl;
+pub use translate::to_rtl;

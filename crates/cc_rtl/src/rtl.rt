@@ -29,6 +29,18 @@ impl Model for Rtl {
 }
 
 impl Rtl {
+    // The one place where a function is made.
+    pub(crate) fn new(parameters: u32, entry: u32, nodes: Vec<Labelled>) -> Rtl
+        requires { IsRtl (record { parameters = parameters; entry = entry; nodes = labelled_of nodes.items }) }
+        ensures { result ≡ record { parameters = parameters; entry = entry; nodes = labelled_of nodes.items } }
+    {
+        Rtl {
+            parameters,
+            entry,
+            nodes,
+        }
+    }
+
     /// How many parameters it has.
     pub fn parameters(&self) -> u32
         ensures { result ≡ self.now.parameters }

@@ -1,8 +1,9 @@
-// The program `cclib`: reads a C program from standard input, and checks or interprets it. How a command line is read and a
-// task is done is the matter of `cc_program`.
+// The program `cclib`: reads a C program from standard input, and checks or interprets it. How a command line is read is the
+// matter of `cc_command_line`, how a task is done that of `cc_program`.
 #![tactic(auto)]
 
-use cc_program::{Fault, Task, line, perform};
+use cc_command_line::{Task, line};
+use cc_program::{Fault, perform};
 use clap::Error;
 use clap::error::ErrorKind;
 use std::alloc::AllocError;

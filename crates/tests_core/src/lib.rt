@@ -2,7 +2,7 @@
 //!
 //! `piece` is what a worker makes, `builds` has the builds, `script` plays events and looks at what they answer.
 //! `commits` has the worked table and what a commit answers, `crashes` crashes at each event, `opened` begins on disks
-//! with units.
+//! with units, `rewrites` writes the records anew.
 #![tactic(auto)]
 
 #[cfg(test)]
@@ -15,5 +15,7 @@ mod crashes;
 mod opened;
 #[cfg(test)]
 mod piece;
+#[cfg(test)]
+mod rewrites;
 #[cfg(test)]
 mod script;

@@ -45,6 +45,14 @@ pub fn name(letter: u8) -> Result<Name, Fail> {
     Ok(Name::new(&[letter])?)
 }
 
+/// The next byte of numbers that look random, the same in each run.
+pub fn next_byte(state: &mut u64) -> u8 {
+    *state = state
+        .wrapping_mul(6_364_136_223_846_793_005)
+        .wrapping_add(1_442_695_040_888_963_407);
+    state.to_be_bytes()[0]
+}
+
 // The edit of a step.
 fn edit(alloc: Global, step: Step) -> Result<Edit, Fail> {
     let command = match step {
@@ -171,14 +179,14 @@ pub fn recovers<D: Disk + Drop>(alloc: Global, disk: D, wanted: Held) -> Result<
     holds(alloc, &opened(alloc, disk)?, wanted)
 }
 
-/// Whether a crash that leaves this byte where it may leaves a library that holds these units.
+/// Whether a crash with that choice leaves a library that holds these units.
 pub fn crash_leaves(
     alloc: Global,
     disk: &MemoryDisk,
-    byte: u8,
+    choice: &[u8],
     wanted: Held,
 ) -> Result<bool, Fail> {
-    recovers(alloc, disk.crash(alloc, &[byte; 272])?, wanted)
+    recovers(alloc, disk.crash(alloc, choice)?, wanted)
 }
 
 /// The number of the fault with which the disk is refused, or 0.

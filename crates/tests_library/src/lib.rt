@@ -1,7 +1,8 @@
 //! Tests of the library, from outside: its parts, worked rows, every point of failure, and disks that lie.
 //!
 //! `helpers` makes units, names and disks, `parts` tests names and the bytes of commands, `rows` has the worked rows,
-//! `sweep` fails the device at each call in turn, `hostile` opens disks that nobody formatted so.
+//! `sweep` fails the device at each call in turn, `hostile` opens disks that nobody formatted so, `random` disks with random
+//! records and bytes, `memory` refuses growths.
 #![tactic(auto)]
 
 #[cfg(test)]
@@ -9,7 +10,11 @@ mod helpers;
 #[cfg(test)]
 mod hostile;
 #[cfg(test)]
+mod memory;
+#[cfg(test)]
 mod parts;
+#[cfg(test)]
+mod random;
 #[cfg(test)]
 mod rows;
 #[cfg(test)]

@@ -1,6 +1,8 @@
 // Every point of failure of add, add, replace, compact, withdraw, in each mode, and a crash after it; and the same through
 // `run`.
-use crate::helpers::{Held, Step, crash_leaves, edits, formatted, opened, refusal, steps_done};
+use crate::helpers::{
+    Held, Step, crash_leaves, edits, formatted, next_byte, opened, refusal, steps_done,
+};
 use cc_disk::{FuseDisk, FuseMode, MemoryDisk};
 use cc_library::Library;
 use std::alloc::Global;
@@ -45,11 +47,28 @@ fn changed(alloc: Global, disk: FuseDisk<MemoryDisk>) -> Result<(MemoryDisk, usi
     }
 }
 
+// What a crash leaves where it may: one byte everywhere, or bytes that look random.
+fn choice(number: u64) -> [u8; 272] {
+    let mut choice = match number {
+        0 => [0; 272],
+        1 => [0xa5; 272],
+        _ => [0xff; 272],
+    };
+    let mut state = number;
+    if number > 2 {
+        for byte in choice.iter_mut() {
+            *byte = next_byte(&mut state);
+        }
+    }
+    choice
+}
+
 // Whether each crash leaves the map after what was done, or with one step more.
 fn is_right(alloc: Global, disk: &MemoryDisk, done: usize) -> Result<bool, Fail> {
-    for byte in [0x00u8, 0xa5, 0xff] {
-        let old = crash_leaves(alloc, disk, byte, map_after(done))?;
-        let new = crash_leaves(alloc, disk, byte, map_after(done.saturating_add(1)))?;
+    for number in 0..9u64 {
+        let bytes = choice(number);
+        let old = crash_leaves(alloc, disk, &bytes, map_after(done))?;
+        let new = crash_leaves(alloc, disk, &bytes, map_after(done.saturating_add(1)))?;
         if !old && !new {
             return Ok(false);
         }

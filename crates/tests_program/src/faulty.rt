@@ -1,6 +1,7 @@
 // Readers and writers that fail.
 
-use cc_program::{Task, perform};
+use cc_command_line::Task;
+use cc_program::perform;
 use std::io::{self, ErrorKind, Read, Write};
 
 /// Gives `l` at its first read, and fails from then on.

@@ -1,6 +1,7 @@
 // What a task writes for a text, and texts made of parts.
 
-use cc_program::{Task, perform};
+use cc_command_line::Task;
+use cc_program::perform;
 use std::alloc::{AllocError, Global};
 
 /// Whether a task writes these lines for a text, with this status.

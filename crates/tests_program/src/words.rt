@@ -1,6 +1,6 @@
 // The command line.
 
-use cc_program::{Task, line};
+use cc_command_line::{Task, line};
 use std::alloc::Global;
 
 fn asks_to_check(alloc: Global, words: &'static [&'static str]) -> bool {

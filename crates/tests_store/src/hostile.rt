@@ -1,6 +1,6 @@
 // Disks that nobody formatted so.
 use crate::helpers::{bytes_of, holds, opened, part, refusal, row_disk};
-use cc_disk::{FuseDisk, FuseMode};
+use cc_disk::{Disk, FuseDisk, FuseMode};
 use cc_journal::Journal;
 use std::alloc::Global;
 use std::test::Fail;
@@ -71,6 +71,19 @@ fn each_value_of_the_area_byte(rt: HostRuntime) -> Result<(), Fail> {
             "area byte {area_byte}"
         );
     }
+    Ok(())
+}
+
+// Opening settles what was written before, as it is, without a sync.
+#[test]
+fn opening_settles_what_was_written(rt: HostRuntime) -> Result<(), Fail> {
+    let alloc = rt.alloc();
+    let mut disk = row_disk(alloc, &[])?;
+    let bytes = bytes_of(alloc, &mut disk)?;
+    assert!(rt; bytes.len() <= disk.size());
+    disk.write_at(0, &bytes)?;
+    let disk = opened(alloc, disk)?.into_disk();
+    assert!(rt; holds(alloc, disk.crash(alloc, &[])?, &[&[1, 3, 1, 0x61]]));
     Ok(())
 }
 

@@ -1,8 +1,9 @@
 //! Tests of the disk and the journal, from outside: worked rows, every point of failure, and disks that lie.
 //!
-//! `helpers` makes disks and reads them back, `first_bytes` is a disk of any size that is not honest, `disks` tests
-//! the disks of `cc_disk`, `files` the one on a file, `rows` has the worked rows of the journal, `sweep` fails the device
-//! at each call of appends in turn, `moves` at each call of a rewrite, `hostile` opens disks that nobody formatted so.
+//! `helpers` makes disks and reads them back, `sparse` is a disk of any size that is not honest, `disks` tests the disks of
+//! `cc_disk`, `files` the one on a file, `rows` has the worked rows of the journal, `largest` the largest area, `sweep` fails
+//! the device at each call of appends in turn, `moves` at each call of a rewrite, `hostile` opens disks that nobody formatted
+//! so, `random` disks of random bytes.
 #![tactic(auto)]
 
 #[cfg(test)]
@@ -10,14 +11,18 @@ mod disks;
 #[cfg(test)]
 mod files;
 #[cfg(test)]
-mod first_bytes;
-#[cfg(test)]
 mod helpers;
 #[cfg(test)]
 mod hostile;
 #[cfg(test)]
+mod largest;
+#[cfg(test)]
 mod moves;
 #[cfg(test)]
+mod random;
+#[cfg(test)]
 mod rows;
+#[cfg(test)]
+mod sparse;
 #[cfg(test)]
 mod sweep;

@@ -1,10 +1,9 @@
 // The worked rows of the journal.
-use crate::first_bytes::FirstBytes;
 use crate::helpers::{
-    ROW, SIZE, bytes_of, formatted, has_bytes, holds, number, one_body, opened, part,
+    ROW, SIZE, are_bodies, bytes_of, formatted, has_bytes, holds, number, one_body, opened, part,
 };
 use cc_disk::MemoryDisk;
-use cc_journal::{Journal, format};
+use cc_journal::Journal;
 use std::alloc::Global;
 use std::test::Fail;
 
@@ -31,40 +30,6 @@ fn the_journal_goes_on_after_it_was_opened_again(rt: HostRuntime) -> Result<(), 
     Ok(())
 }
 
-// The number of the fault with which `format` refuses an area on a disk of that size, or 0.
-fn format_number(size: usize, area: u32) -> u32 {
-    match format(&mut FirstBytes::new(size), area) {
-        Ok(()) => 0,
-        Err(fault) => fault.number(),
-    }
-}
-
-#[test]
-fn the_limits_of_an_area(rt: HostRuntime) {
-    for (size, area, number) in [
-        (144usize, 63u32, 34),
-        (144, 64, 0),
-        (144, 65, 34),
-        (143, 64, 34),
-        (2_147_483_664, 1_073_741_824, 0),
-        (2_147_483_663, 1_073_741_824, 34),
-        (8_589_934_592, 1_073_741_825, 34),
-    ] {
-        assert!(rt;
-            format_number(size, area) == number,
-            "{size} bytes, areas of {area}"
-        );
-    }
-}
-
-#[test]
-fn the_header_of_the_largest_area(rt: HostRuntime) -> Result<(), Fail> {
-    let mut large = FirstBytes::new(2_147_483_664);
-    format(&mut large, 1_073_741_824)?;
-    assert!(rt; large.kept()[..12] == [0, 0x43, 0x43, 0x4c, 0x49, 0x42, 0x30, 0x31, 0, 0, 0, 0x40]);
-    Ok(())
-}
-
 // A journal of areas of 64 bytes whose area A a record of 58 bytes fills, once an empty record was put in its place.
 fn moved(alloc: Global) -> Result<Journal<MemoryDisk>, Fail> {
     let mut journal = opened(alloc, formatted(alloc)?)?;
@@ -76,7 +41,9 @@ fn moved(alloc: Global) -> Result<Journal<MemoryDisk>, Fail> {
 #[test]
 fn a_rewrite_goes_to_the_other_area(rt: HostRuntime) -> Result<(), Fail> {
     let alloc = rt.alloc();
-    let bytes = bytes_of(alloc, &mut moved(alloc)?.into_disk())?;
+    let journal = moved(alloc)?;
+    assert!(rt; are_bodies(journal.records(), &[&[]]));
+    let bytes = bytes_of(alloc, &mut journal.into_disk())?;
     assert!(rt; part(&bytes, 0, 1) == [1].as_slice());
     assert!(rt; part(&bytes, 80, 86) == [0xa5, 0, 0, 0, 0, 0].as_slice());
     // What stands in area A counts for nothing from then on.

@@ -241,10 +241,12 @@ initialised g v i None = []
 initialised g v i (Some e) = using g v (suc i) e (λ x. Set i x) ∷ []
 
 -- each local is set to 0, then to its initialiser, in whose scope it is
+abbrev pub declarator_code : Layout → Scalar → Declarator → Environment → List Statement
+declarator_code g t d v = Set (free v) (Constant 0) ∷ initialised g (with_local t d.name.text v) (free v) d.initial
+
 abbrev pub declared_code : Layout → Scalar → List Declarator → Environment → List Statement
 declared_code g t [] v = []
-declared_code g t (d ∷ rest) v =
-    Set (free v) (Constant 0) ∷ (initialised g (with_local t d.name.text v) (free v) d.initial ++ declared_code g t rest (with_local t d.name.text v))
+declared_code g t (d ∷ rest) v = declarator_code g t d v ++ declared_code g t rest (with_local t d.name.text v)
 
 abbrev pub started : Layout → Beginning → Environment → Statement
 started g (Declares t ds) v = in_sequence (declared_code g t ds v)
@@ -286,6 +288,11 @@ abbrev mutual
   pub all_lowered : Layout → Bool → Environment → Stmts → List Statement
   all_lowered g b v end = []
   all_lowered g b v (next first rest) = lowered g b v first ∷ all_lowered g b (behind first v) rest
+
+-- where a statement stands behind a list
+abbrev pub behind_all : Stmts → Environment → Environment
+behind_all end v = v
+behind_all (next first rest) v = behind_all rest (behind first v)
 
 -- the body of a function, from the environment in which it begins
 abbrev pub body_code : Layout → Environment → Stmts → Statement

@@ -1,20 +1,22 @@
 -- What a step needs of the state, which every state that is reached has.
-use Rattle.std.specs.Prelude.{◌≡◌, ◌⊎◌, ℕ, ◌≤◌, ◌^◌, List, [], ◌∷◌, ◌++◌, Some, None}
+use Rattle.std.specs.Prelude.{◌≡◌, ◌⊎◌, ℕ, ◌≤◌, ◌+◌, ◌^◌, List, [], ◌∷◌, ◌++◌, length, Some, None}
 use Rattle.std.specs.FinMap.{get, empty}
 use Rattle.cc_disk.specs.Model.{bytes_of, IsImage}
 use Rattle.cc_disk.specs.Images.{LeavesAlone}
-use Rattle.cc_journal.specs.Format.{HoldsAlone}
+use Rattle.cc_journal.specs.Commit.{Commit}
+use Rattle.cc_journal.specs.Format.{HoldsAlone, room_of}
 use Rattle.cc_library.specs.declared.command.Command.{Command}
 use Rattle.cc_library.specs.declared.command.Command.TheVariants.{Add, Replace, Withdraw}
 use Rattle.cc_library.specs.Apply.{Units, AreAccepted, library_of}
 use Rattle.cc_library.specs.Body.{body_of}
+use Rattle.cc_library.specs.Compact.{compacted}
 use Rattle.cc_library.specs.Recovered.{StandFor}
 use Rattle.cc_core.specs.declared.command.Numbered.{Numbered}
 use Rattle.cc_core.specs.declared.contents.Core.{Core}
 use Rattle.cc_core.specs.declared.contents.Due.{Due}
 use Rattle.cc_core.specs.declared.contents.Due.TheVariants.{WriteBody, SyncBody, WriteGate, SyncGate, Acknowledge}
 use Rattle.cc_core.specs.declared.contents.Phase.{Phase}
-use Rattle.cc_core.specs.declared.contents.Phase.TheVariants.{Idle, Committing, Failed, Crashed}
+use Rattle.cc_core.specs.declared.contents.Phase.TheVariants.{Idle, Committing, Rewriting, Failed, Crashed}
 use Rattle.cc_core.specs.Step.{commands}
 use Rattle.cc_core.specs.StoreState.{StoreState}
 use Rattle.cc_core.specs.Store.{room_taken}
@@ -47,16 +49,28 @@ pub record IsRecoverable (store : StoreState) (order : List Numbered) : Type 0 w
   pub accepted : AreAccepted empty (commands order)
   pub known : IsOfOrder library order
 
+-- both writes of a commit lie on the disk
+pub record IsWithin (commit : Commit) (store : StoreState) : Type 0 where
+  pub first : commit.offset + length commit.bytes ≤ length store.cells
+  pub second : commit.deciding_offset + 1 ≤ length store.cells
+
+-- a rewrite's do, it writes a closed gate at least, and all fits an area
+pub record IsRewrite (commit : Commit) (store : StoreState) : Type 0 where
+  pub within : IsWithin commit store
+  pub some : 1 ≤ length commit.bytes
+  pub room : length commit.bytes ≤ store.area
+
 -- what the phase needs of the rest
-abbrev pub IsReadyIn : Phase → StoreState → List Numbered → Type 0
-IsReadyIn Idle store order = Unit {0}
-IsReadyIn (Committing client numbered due) store order = HasRoom due store numbered.command
-IsReadyIn (Failed failed) store order = Unit {0}
-IsReadyIn Crashed store order = IsRecoverable store order
+abbrev pub IsReadyIn : Phase → Units → StoreState → List Numbered → Type 0
+IsReadyIn Idle library store order = room_of (compacted library) ≤ store.area
+IsReadyIn (Committing client numbered due) library store order = HasRoom due store numbered.command
+IsReadyIn (Rewriting commit due) library store order = IsRewrite commit store
+IsReadyIn (Failed failed) library store order = Unit {0}
+IsReadyIn Crashed library store order = IsRecoverable store order
 
 -- what a step needs
 abbrev pub IsReady : Core → Type 0
-IsReady s = IsReadyIn s.phase s.store s.order
+IsReady s = IsReadyIn s.phase s.library s.store s.order
 
 -- the library is as the command leaves it
 abbrev pub IsInEffect : Units → Command → Type 0

@@ -18,14 +18,14 @@ use Rattle.cc_core.specs.Store.{crashed_store, stepped}
 use Rattle.cc_core.specs.Step.{Begun, Advances, Acknowledges, numbered_now, ticked}
 
 -- client 2 adds `a` with the source `two`, and an image of one code word
-abbrev client : ClientId
+abbrev pub client : ClientId
 client = record { number = 2 }
 
-abbrev adds : Command
+abbrev pub adds : Command
 adds = command.Add (0x61 ∷ []) (record { source = 0x74 ∷ 0x77 ∷ 0x6f ∷ []; image = record { code = 19 ∷ []; globals = [] }; certificate = None })
 
 -- on a new disk with areas of 64 bytes
-abbrev start : Core
+abbrev pub start : Core
 start = record {
   library = empty;
   order = [];
@@ -35,25 +35,25 @@ start = record {
   upcoming = record { value = 0 };
 }
 
-abbrev first : Numbered
+abbrev pub first : Numbered
 first = numbered_now start adds
 
-abbrev begun : Core
+abbrev pub begun : Core
 begun = record (ticked start) { order = first ∷ []; phase = Committing client first due.WriteBody }
 
-abbrev body_written : Core
+abbrev pub body_written : Core
 body_written = record begun { store = stepped due.WriteBody adds begun.store; phase = Committing client first due.SyncBody }
 
-abbrev body_settled : Core
+abbrev pub body_settled : Core
 body_settled = record body_written { store = stepped due.SyncBody adds body_written.store; phase = Committing client first due.WriteGate }
 
-abbrev gate_written : Core
+abbrev pub gate_written : Core
 gate_written = record body_settled { store = stepped due.WriteGate adds body_settled.store; phase = Committing client first due.SyncGate }
 
-abbrev gate_settled : Core
+abbrev pub gate_settled : Core
 gate_settled = record gate_written { store = stepped due.SyncGate adds gate_written.store; phase = Committing client first due.Acknowledge }
 
-abbrev done : Core
+abbrev pub done : Core
 done = record gate_settled { library = after gate_settled.library adds; acknowledged = first ∷ []; phase = Idle }
 
 -- the beginning, the four device steps, and the reply

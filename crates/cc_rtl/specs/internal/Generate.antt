@@ -1,8 +1,9 @@
 -- The generator as a function: nodes are made from the end of the code to its beginning, so that the label to go on at is known. A node's
 -- place in the list is its label until the whole is turned round (`turned`): then labels ascend along the code.
-use Rattle.std.specs.Prelude.{ℕ, zero, suc, ◌+◌, ◌-◌, ◌<◌, List, [], ◌∷◌, ◌++◌, length, get_or, set, Option, Some, None}
+use Rattle.std.specs.Prelude.{ℕ, suc, ◌-◌, ◌<◌, List, [], ◌∷◌, ◌++◌, length, get_or, set, Option, Some, None}
 use Rattle.cc_cminor.specs.Cminor.{Expression, Constant, Local, Unary, Binary, Load, Statement, Skip, Set, Store, Call, Read, Write, Sequence, If, Loop, Block, Exit, Return}
 use Rattle.cc_rtl.specs.Rtl as rtl
+use Rattle.cc_rtl.specs.Size.{variable_of}
 
 -- a label that is kept for a loop's head has no node yet
 abbrev pub Places : Type 0
@@ -18,13 +19,6 @@ pub record Made : Type 0 where
 
 abbrev pub pushed : rtl.Node → Places → Made
 pushed n g = record { entry = length g; places = g ++ (Some n ∷ []) }
-
-abbrev pub variable_of : Expression → Option ℕ
-variable_of (Constant w) = None
-variable_of (Local x) = Some x
-variable_of (Unary op a) = None
-variable_of (Binary op a b) = None
-variable_of (Load o a) = None
 
 abbrev pub held_in : Option ℕ → (free : ℕ) → ℕ
 held_in None free = free
@@ -91,7 +85,7 @@ made_function count body =
     let b = made count body 1 [] (Some (rtl.Return count) ∷ Some (rtl.Const count 0 0) ∷ []) in
     pushed (rtl.Nop b.entry) b.places
 
--- what Cminor's own rules give: variables below the count, and exits that leave blocks that are open
+-- the variables of the code lie below the count
 abbrev pub Uses : (count : ℕ) → Expression → Type 0
 Uses count (Constant w) = Unit {0}
 Uses count (Local x) = x < count
@@ -103,83 +97,19 @@ abbrev pub AllUse : (count : ℕ) → List Expression → Type 0
 AllUse count [] = Unit {0}
 AllUse count (e ∷ es) = Uses count e × AllUse count es
 
-abbrev pub IsFormed : (count depth : ℕ) → Statement → Type 0
-IsFormed count depth Skip = Unit {0}
-IsFormed count depth (Set x e) = (x < count) × Uses count e
-IsFormed count depth (Store o i e) = Uses count i × Uses count e
-IsFormed count depth (Call to f es) = AllUse count es
-IsFormed count depth (Read to) = Unit {0}
-IsFormed count depth (Write e) = Uses count e
-IsFormed count depth (Sequence a b) = IsFormed count depth a × IsFormed count depth b
-IsFormed count depth (If e a b) = Uses count e × IsFormed count depth a × IsFormed count depth b
-IsFormed count depth (Loop a) = IsFormed count depth a
-IsFormed count depth (Block a) = IsFormed count (suc depth) a
-IsFormed count depth (Exit k) = k < depth
-IsFormed count depth (Return e) = Uses count e
-
--- how many nodes an operand takes: none where it is a variable
-abbrev pub kept_by : Option ℕ → (nodes : ℕ) → ℕ
-kept_by None n = n
-kept_by (Some x) n = 0
-
--- how many nodes put an expression into a register
-abbrev pub into_nodes : Expression → ℕ
-into_nodes (Constant w) = 1
-into_nodes (Local x) = 1
-into_nodes (Unary op a) = suc (kept_by (variable_of a) (into_nodes a))
-into_nodes (Binary op a b) = suc (kept_by (variable_of a) (into_nodes a) + kept_by (variable_of b) (into_nodes b))
-into_nodes (Load o a) = suc (kept_by (variable_of a) (into_nodes a))
-
-abbrev pub operand_nodes : Expression → ℕ
-operand_nodes e = kept_by (variable_of e) (into_nodes e)
-
-abbrev pub operands_nodes : List Expression → ℕ
-operands_nodes [] = 0
-operands_nodes (e ∷ es) = operand_nodes e + operands_nodes es
-
-abbrev pub statement_nodes : Statement → ℕ
-statement_nodes Skip = 0
-statement_nodes (Set x e) = into_nodes e
-statement_nodes (Store o i e) = suc (operand_nodes i + operand_nodes e)
-statement_nodes (Call to f es) = suc (operands_nodes es)
-statement_nodes (Read to) = 1
-statement_nodes (Write e) = suc (operand_nodes e)
-statement_nodes (Sequence a b) = statement_nodes a + statement_nodes b
-statement_nodes (If e a b) = suc (operand_nodes e + (statement_nodes a + statement_nodes b))
-statement_nodes (Loop a) = suc (statement_nodes a)
-statement_nodes (Block a) = statement_nodes a
-statement_nodes (Exit k) = 0
-statement_nodes (Return e) = suc (operand_nodes e)
-
--- the nodes of a function: its entry's nop, its body, and a constant and a return behind it
-abbrev pub function_nodes : Statement → ℕ
-function_nodes body = statement_nodes body + 3
-
--- how many statements and expressions there are
-abbrev pub expressions : Expression → ℕ
-expressions (Constant w) = 1
-expressions (Local x) = 1
-expressions (Unary op a) = suc (expressions a)
-expressions (Binary op a b) = suc (expressions a + expressions b)
-expressions (Load o a) = suc (expressions a)
-
-abbrev pub all_expressions : List Expression → ℕ
-all_expressions [] = 0
-all_expressions (e ∷ es) = expressions e + all_expressions es
-
-abbrev pub parts : Statement → ℕ
-parts Skip = 1
-parts (Set x e) = suc (expressions e)
-parts (Store o i e) = suc (expressions i + expressions e)
-parts (Call to f es) = suc (all_expressions es)
-parts (Read to) = 1
-parts (Write e) = suc (expressions e)
-parts (Sequence a b) = suc (parts a + parts b)
-parts (If e a b) = suc (expressions e + (parts a + parts b))
-parts (Loop a) = suc (parts a)
-parts (Block a) = suc (parts a)
-parts (Exit k) = 1
-parts (Return e) = suc (expressions e)
+abbrev pub IsFormed : (count : ℕ) → Statement → Type 0
+IsFormed count Skip = Unit {0}
+IsFormed count (Set x e) = (x < count) × Uses count e
+IsFormed count (Store o i e) = Uses count i × Uses count e
+IsFormed count (Call to f es) = AllUse count es
+IsFormed count (Read to) = Unit {0}
+IsFormed count (Write e) = Uses count e
+IsFormed count (Sequence a b) = IsFormed count a × IsFormed count b
+IsFormed count (If e a b) = Uses count e × IsFormed count a × IsFormed count b
+IsFormed count (Loop a) = IsFormed count a
+IsFormed count (Block a) = IsFormed count a
+IsFormed count (Exit k) = Unit {0}
+IsFormed count (Return e) = Uses count e
 
 -- ---- labels along the code
 

@@ -11,9 +11,9 @@ Graph = ℕ → Option rtl.Node
 abbrev pub graph_move : Graph → rtl.Configuration → Move rtl.Configuration
 graph_move nodes c = tried (nodes c.label) (λ node. rtl.node_move node c.registers c.world)
 
--- the label behind the block that `Exit k` leaves
+-- The label behind the block that `Exit k` leaves. With no such block the run goes wrong, so any label will do.
 abbrev pub Leads : List ℕ → (k label : ℕ) → Type 0
-Leads [] k label = ⊥
+Leads [] k label = Unit {0}
 Leads (x ∷ xs) zero label = x ≡ label
 Leads (x ∷ xs) (suc k) label = Leads xs k label
 

@@ -5,16 +5,9 @@ use Rattle.cc_core.specs.Step.{Advances}
 use Rattle.cc_core.proofs.Possible.{advances, committing_is, memory_answers}
 use Rattle.cc_core.proofs.device.write_body.Goals as goal
 
-pub returns-in_err-body : goal.returns-in_err-body
-returns-in_err-body c =
+pub returns-in_err-commit : goal.returns-in_err-commit
+returns-in_err-commit c =
     let at = c.in-Committing in
     let committing = committing_is c.args.core.now.phase at.field-0 at.field-0 at.numbered at.due due.WriteBody at.is c.in-WriteBody.is refl in
     let e = c.from_residual.ensures in
     memory_answers (Advances due.WriteBody c.args.core.now) c.from_residual.result c.args.core.now c.args.core.now e.0 e.1 (advances due.WriteBody c.args.core.now at.field-0 at.numbered committing) refl
-
-pub returns-in_err-behind : goal.returns-in_err-behind
-returns-in_err-behind c =
-    let at = c.in-Committing in
-    let committing = committing_is c.args.core.now.phase at.field-0 at.field-0 at.numbered at.due due.WriteBody at.is c.in-WriteBody.is refl in
-    let e = c.from_residual-in_err-behind.ensures in
-    memory_answers (Advances due.WriteBody c.args.core.now) c.from_residual-in_err-behind.result c.args.core.now c.args.core.now e.0 e.1 (advances due.WriteBody c.args.core.now at.field-0 at.numbered committing) refl

@@ -1,9 +1,10 @@
 -- Each arm answers as its handler does; `begin` alone puts a command in the order, and `finish` alone hands in a piece.
 use Rattle.std.proofs.Common.{refl, sym, subst}
 use Rattle.cc_core.specs.declared.contents.Due.TheVariants as due
+use Rattle.cc_core.specs.declared.contents.RewriteDue.TheVariants as left
 use Rattle.cc_core.specs.declared.event.Event.TheVariants as event
 use Rattle.cc_core.specs.internal.Answers.{Answers}
-use Rattle.cc_core.specs.Step.{Step, Advances, Reopens}
+use Rattle.cc_core.specs.Step.{Step, Advances, RewritesAll, RewriteAdvances, Reopens}
 use Rattle.cc_core.proofs.Possible.{core_answers, puts_none}
 use Rattle.cc_core.proofs.events.take_step.Goals as goal
 
@@ -66,6 +67,34 @@ returns-in-SyncGate-clause-answers g c =
 
 pub returns-in-SyncGate-clause-puts : goal.returns-in-SyncGate-clause-puts
 returns-in-SyncGate-clause-puts g c = puts_none g.B.Build.rules c.args.contents.now event.SyncGate c.sync_gate.result (record c.args.contents.now { core = c.sync_gate.new.core }) tt (core_answers (Advances due.SyncGate) c.args.contents.now (record c.args.contents.now { core = c.sync_gate.new.core }) c.sync_gate.result c.sync_gate.ensures refl refl)
+
+pub returns-in-RewriteAll-clause-answers : goal.returns-in-RewriteAll-clause-answers
+returns-in-RewriteAll-clause-answers g c =
+    subst (λ e. Answers (Step g.B.Build.rules c.args.contents.now e) c.rewrite_all.result c.args.contents.now (record c.args.contents.now { core = c.rewrite_all.new.core })) (sym c.in-RewriteAll.is) (core_answers RewritesAll c.args.contents.now (record c.args.contents.now { core = c.rewrite_all.new.core }) c.rewrite_all.result c.rewrite_all.ensures refl refl)
+
+pub returns-in-RewriteAll-clause-puts : goal.returns-in-RewriteAll-clause-puts
+returns-in-RewriteAll-clause-puts g c = puts_none g.B.Build.rules c.args.contents.now event.RewriteAll c.rewrite_all.result (record c.args.contents.now { core = c.rewrite_all.new.core }) tt (core_answers RewritesAll c.args.contents.now (record c.args.contents.now { core = c.rewrite_all.new.core }) c.rewrite_all.result c.rewrite_all.ensures refl refl)
+
+pub returns-in-SyncAll-clause-answers : goal.returns-in-SyncAll-clause-answers
+returns-in-SyncAll-clause-answers g c =
+    subst (λ e. Answers (Step g.B.Build.rules c.args.contents.now e) c.sync_all.result c.args.contents.now (record c.args.contents.now { core = c.sync_all.new.core })) (sym c.in-SyncAll.is) (core_answers (RewriteAdvances left.SyncAll) c.args.contents.now (record c.args.contents.now { core = c.sync_all.new.core }) c.sync_all.result c.sync_all.ensures refl refl)
+
+pub returns-in-SyncAll-clause-puts : goal.returns-in-SyncAll-clause-puts
+returns-in-SyncAll-clause-puts g c = puts_none g.B.Build.rules c.args.contents.now event.SyncAll c.sync_all.result (record c.args.contents.now { core = c.sync_all.new.core }) tt (core_answers (RewriteAdvances left.SyncAll) c.args.contents.now (record c.args.contents.now { core = c.sync_all.new.core }) c.sync_all.result c.sync_all.ensures refl refl)
+
+pub returns-in-WriteArea-clause-answers : goal.returns-in-WriteArea-clause-answers
+returns-in-WriteArea-clause-answers g c =
+    subst (λ e. Answers (Step g.B.Build.rules c.args.contents.now e) c.write_area.result c.args.contents.now (record c.args.contents.now { core = c.write_area.new.core })) (sym c.in-WriteArea.is) (core_answers (RewriteAdvances left.WriteArea) c.args.contents.now (record c.args.contents.now { core = c.write_area.new.core }) c.write_area.result c.write_area.ensures refl refl)
+
+pub returns-in-WriteArea-clause-puts : goal.returns-in-WriteArea-clause-puts
+returns-in-WriteArea-clause-puts g c = puts_none g.B.Build.rules c.args.contents.now event.WriteArea c.write_area.result (record c.args.contents.now { core = c.write_area.new.core }) tt (core_answers (RewriteAdvances left.WriteArea) c.args.contents.now (record c.args.contents.now { core = c.write_area.new.core }) c.write_area.result c.write_area.ensures refl refl)
+
+pub returns-in-SyncArea-clause-answers : goal.returns-in-SyncArea-clause-answers
+returns-in-SyncArea-clause-answers g c =
+    subst (λ e. Answers (Step g.B.Build.rules c.args.contents.now e) c.sync_area.result c.args.contents.now (record c.args.contents.now { core = c.sync_area.new.core })) (sym c.in-SyncArea.is) (core_answers (RewriteAdvances left.SyncArea) c.args.contents.now (record c.args.contents.now { core = c.sync_area.new.core }) c.sync_area.result c.sync_area.ensures refl refl)
+
+pub returns-in-SyncArea-clause-puts : goal.returns-in-SyncArea-clause-puts
+returns-in-SyncArea-clause-puts g c = puts_none g.B.Build.rules c.args.contents.now event.SyncArea c.sync_area.result (record c.args.contents.now { core = c.sync_area.new.core }) tt (core_answers (RewriteAdvances left.SyncArea) c.args.contents.now (record c.args.contents.now { core = c.sync_area.new.core }) c.sync_area.result c.sync_area.ensures refl refl)
 
 pub returns-in-Fail-clause-answers : goal.returns-in-Fail-clause-answers
 returns-in-Fail-clause-answers g c =

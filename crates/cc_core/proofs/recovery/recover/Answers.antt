@@ -17,13 +17,13 @@ returns c =
     let library = c.in-Ok.library in
     let found = c.in-Ok.ensures.answer in (
       found_reopens old c.enter.new.self library c.in-Ok.used found.0 found.1 c.drop_undone.new.order c.requires c.in-Crashed.is
-          found.2 c.drop_undone.ensures
+          found.2 c.in-Ok.area_byte found.3 c.drop_undone.ensures
           (c.enter.ensures ∙ (λ i. record {
             library = library;
             order = c.drop_undone.new.order;
             acknowledged = old.acknowledged;
             phase = Idle;
-            store = c.set_used.ensures i;
+            store = c.take_area.ensures i;
             upcoming = old.upcoming;
           })),
       λ e. absurd (cc),

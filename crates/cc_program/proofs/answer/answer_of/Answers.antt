@@ -4,7 +4,7 @@ use Rattle.cc_syntax.specs.Source.{source}
 use Rattle.cc_meaning.specs.Meaning.{source_behavior}
 use Rattle.cc_meaning.specs.Erase.{outcome_tree}
 use Rattle.cc_program.specs.Answer.{IsAnswer}
-use Rattle.cc_program.specs.declared.command_line.Task.{Task}
+use Rattle.cc_command_line.specs.declared.command_line.Task.{Task}
 use Rattle.cc_program.specs.declared.answer.Answer.TheVariants.{Accepted, Ran}
 use Rattle.cc_program.proofs.answer.answer_of.Goals as goal
 

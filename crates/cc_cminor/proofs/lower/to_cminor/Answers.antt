@@ -1,0 +1,13 @@
+-- The owner that is kept is of the unit that was handed in.
+use Rattle.std.proofs.Common.{◌≡◌, subst}
+use Rattle.std.specs.Arc.{arc_value}
+use Rattle.cc_syntax.specs.Source.{source}
+use Rattle.cc_syntax.specs.declared.unit.Unit as parsed
+use Rattle.cc_cminor.specs.Code.{statement_of}
+use Rattle.cc_cminor.specs.internal.Lowered.{IsLowered}
+use Rattle.cc_cminor.proofs.lower.to_cminor.Goals as goal
+
+pub paired-requires-clause-code : goal.paired-requires-clause-code
+paired-requires-clause-code c =
+    let same : ◌≡◌ {A = parsed.Unit} c.deref.result.now (arc_value c.in-Ok.unit) = let d = c.deref.ensures in let e = c.in-Ok.ensures in cc in
+    subst (λ (u : parsed.Unit). IsLowered (source u).externals c.args.function (statement_of c.in_ok-code.code.value)) same c.in_ok-code.ensures

@@ -1,0 +1,11 @@
+-- The code of a function that is resolved.
+use Rattle.std.specs.Prelude.{◌≡◌, ℕ, List}
+use Rattle.cc_syntax.specs.Tree.{External}
+use Rattle.cc_resolve.specs.Layout.{layout_of}
+use Rattle.cc_meaning.specs.Resolved.{IsResolved}
+use Rattle.cc_cminor.specs.Cminor.{Statement}
+use Rattle.cc_cminor.specs.internal.Lowering.{body_code}
+
+-- the code of function f is that of its body, from the environment in which the body begins
+abbrev pub IsLowered : List External → (f : ℕ) → Statement → Type 0
+IsLowered unit f s = (r : IsResolved unit f) → s ≡ body_code (layout_of unit) r.environment r.body

@@ -1,0 +1,252 @@
+// Expressions: the value that code takes, in one walk over the tree.
+//
+// The statements that put a value into variable k use those above it alone. Whether arguments are plain is asked at their call, and
+// nowhere else, so each part of an expression is asked once. The recursion is as deep as the tree: at most 512 tokens of a full
+// expression.
+
+ghost use Rattle.std.specs.Prelude.{◌≡◌, true, IfOk};
+ghost use Rattle.cc_syntax.specs.Tree as tree;
+ghost use Rattle.cc_syntax.specs.Erase.{expression_tree, expressions_of, name_tree, optional_tree};
+ghost use Rattle.cc_typing.specs.Types.{value_type};
+ghost use Rattle.cc_resolve.specs.Environment.{types_in};
+ghost use Rattle.cc_cminor.specs.Cminor as cminor;
+ghost use Rattle.cc_cminor.specs.Code as code;
+ghost use Rattle.cc_cminor.specs.Code.{expression_of, statement_of, in_sequence};
+ghost use Rattle.cc_cminor.specs.internal.Lowering.{is_plain, are_plain, all_plain, put_expr, put_all, locals_from, last_value, invoked};
+ghost use Rattle.cc_cminor.specs.internal.Taken.{taken_of, taken, taken_or};
+
+use super::access::{element, variable};
+use super::boxes::{above, both, boxed_expression, boxed_statement, constant, sequence, set};
+use super::code::{Expression, Statement};
+use super::taken::{
+    Taken, alone, conditionally, converted, is_strict, joined, operated, put_in, right_from,
+    waiting, word,
+};
+use cc_resolve::{Callee, Environment};
+use cc_syntax::{Expression as Tree, Identifier, Scalar};
+use std::alloc::{AllocError, Global};
+
+// ---- plain expressions
+
+fn is_plain(tree: &Tree) -> bool
+    ensures { result ≡ is_plain (expression_tree tree.now) }
+{
+    match tree {
+        Tree::Number(_, _) | Tree::Name(_) => true,
+        Tree::Call(_, _) | Tree::Conditional(_, _, _) => false,
+        Tree::Element(_, operand)
+        | Tree::Parenthesised(operand)
+        | Tree::Unary(_, operand)
+        | Tree::Cast(_, operand) => is_plain(operand),
+        Tree::Binary(operator, left, right) => {
+            is_strict(*operator) && is_plain(left) && is_plain(right)
+        }
+    }
+}
+
+fn are_plain(trees: &[Tree]) -> bool
+    ensures { result ≡ are_plain (expressions_of trees.now) }
+{
+    for tree in trees {
+        if !is_plain(tree) {
+            return false;
+        }
+    }
+    true
+}
+
+// ---- calls
+
+// So many variables from `k` on.
+fn locals_from(alloc: Global, k: usize, count: usize) -> Result<Vec<Expression>, AllocError>
+    ensures { IfOk result (λ v. code.expressions_of v.items ≡ locals_from k count) }
+{
+    let mut all = Vec::new(alloc);
+    for variable in k..above(k, count)? {
+        all.push(Expression::Local(variable))?;
+    }
+    Ok(all)
+}
+
+// The last argument, which is the only one of a call that has one.
+fn last(alloc: Global, mut arguments: Vec<Expression>) -> Result<Box<Expression>, AllocError>
+    ensures { IfOk result (λ e. expression_of e.value ≡ last_value (code.expressions_of arguments.items)) }
+{
+    let argument = arguments.pop();
+    drop(arguments);
+    match argument {
+        Some(argument) => boxed_expression(alloc, argument),
+        None => constant(alloc, 0),
+    }
+}
+
+// What writes a word; a call of it has the value 0.
+fn write(alloc: Global, k: usize, word: Box<Expression>) -> Result<Box<Statement>, AllocError>
+    ensures { IfOk result (λ s. statement_of s.value ≡ cminor.Sequence (cminor.Write (expression_of word.value)) (cminor.Set k (cminor.Constant 0))) }
+{
+    let write = boxed_statement(alloc, Statement::Write(word))?;
+    let zero = constant(alloc, 0)?;
+    let zero = set(alloc, k, zero)?;
+    both(alloc, write, zero)
+}
+
+// A call on arguments, its result in variable `k`.
+fn invoke(
+    alloc: Global,
+    callee: Callee,
+    k: usize,
+    arguments: Vec<Expression>,
+) -> Result<Box<Statement>, AllocError>
+    ensures { IfOk result (λ s. statement_of s.value ≡ invoked callee k (code.expressions_of arguments.items)) }
+{
+    match callee {
+        Callee::WriteWord => {
+            let word = last(alloc, arguments)?;
+            write(alloc, k, word)
+        }
+        Callee::ReadWord => {
+            drop(arguments);
+            boxed_statement(alloc, Statement::Read(Some(k)))
+        }
+        Callee::Defined(function) => {
+            boxed_statement(alloc, Statement::Call(Some(k), function, arguments))
+        }
+    }
+}
+
+// Plain arguments.
+#[cycle(values)]
+fn all_plain(
+    alloc: Global,
+    names: &Environment<'_>,
+    k: usize,
+    trees: &[Tree],
+) -> Result<Vec<Expression>, AllocError>
+    requires { are_plain (expressions_of trees.now) ≡ true }
+    ensures { IfOk result (λ v. code.expressions_of v.items ≡ all_plain names.now.layout names.now (expressions_of trees.now)) }
+{
+    let mut all = Vec::new(alloc);
+    for tree in trees {
+        let taken = value(alloc, names, k, tree)?;
+        all.push(Box::into_inner(alone(taken)))?;
+    }
+    Ok(all)
+}
+
+// The values of arguments in the variables from `k` on.
+#[cycle(values)]
+fn put_all(
+    alloc: Global,
+    names: &Environment<'_>,
+    k: usize,
+    trees: &[Tree],
+) -> Result<Box<Statement>, AllocError>
+    ensures { IfOk result (λ s. statement_of s.value ≡ in_sequence (put_all names.now.layout names.now k (expressions_of trees.now))) }
+{
+    let mut all = Vec::new(alloc);
+    let mut variable = k;
+    for tree in trees {
+        let code = put(alloc, names, variable, tree)?;
+        all.push(Box::into_inner(code))?;
+        variable = above(variable, 1)?;
+    }
+    sequence(alloc, all)
+}
+
+#[cycle(values)]
+fn call(
+    alloc: Global,
+    names: &Environment<'_>,
+    k: usize,
+    name: &Identifier,
+    trees: &[Tree],
+) -> Result<Box<Statement>, AllocError>
+    ensures { IfOk result (λ s. statement_of s.value ≡ put_expr names.now.layout names.now k (tree.Call (name_tree name.now) (expressions_of trees.now))) }
+{
+    let callee = names.callee(name.bytes.as_slice());
+    if are_plain(trees) {
+        let arguments = all_plain(alloc, names, k, trees)?;
+        return invoke(alloc, callee, k, arguments);
+    }
+    let code = put_all(alloc, names, k, trees)?;
+    let arguments = locals_from(alloc, k, trees.len())?;
+    let call = invoke(alloc, callee, k, arguments)?;
+    both(alloc, code, call)
+}
+
+// ---- values
+
+/// The value of an expression, which waits in variable `k` where there is code in front of it.
+#[cycle(values)]
+pub fn value(
+    alloc: Global,
+    names: &Environment<'_>,
+    k: usize,
+    tree: &Tree,
+) -> Result<Taken, AllocError>
+    ensures scalar { IfOk result (λ u. u.scalar ≡ value_type (types_in names.now) (expression_tree tree.now)) }
+    ensures value { IfOk result (λ u. taken_of u.before u.expression ≡ taken names.now.layout names.now k (expression_tree tree.now)) }
+{
+    match tree {
+        Tree::Number(scalar, number) => word(alloc, *scalar, *number),
+        Tree::Name(name) => variable(alloc, names, name.bytes.as_slice()),
+        Tree::Element(name, index) => {
+            let index = value(alloc, names, k, index)?;
+            element(alloc, names, k, name.bytes.as_slice(), index)
+        }
+        Tree::Call(name, trees) => {
+            let code = call(alloc, names, k, name, trees.as_slice())?;
+            waiting(alloc, k, names.call_type(name.bytes.as_slice()), code)
+        }
+        Tree::Parenthesised(inner) => value(alloc, names, k, inner),
+        Tree::Unary(operator, operand) => {
+            let operand = value(alloc, names, k, operand)?;
+            operated(alloc, k, *operator, operand)
+        }
+        Tree::Cast(scalar, operand) => {
+            let operand = value(alloc, names, k, operand)?;
+            Ok(converted(*scalar, operand))
+        }
+        Tree::Binary(operator, left, right) => {
+            let left = value(alloc, names, k, left)?;
+            let right = value(alloc, names, right_from(*operator, k)?, right)?;
+            joined(alloc, k, *operator, left, right)
+        }
+        Tree::Conditional(test, then, otherwise) => {
+            let test = value(alloc, names, k, test)?;
+            let then = value(alloc, names, k, then)?;
+            let otherwise = value(alloc, names, k, otherwise)?;
+            conditionally(alloc, k, test, then, otherwise)
+        }
+    }
+}
+
+/// What puts the value of an expression into variable `k`.
+#[cycle(values)]
+pub fn put(
+    alloc: Global,
+    names: &Environment<'_>,
+    k: usize,
+    tree: &Tree,
+) -> Result<Box<Statement>, AllocError>
+    ensures { IfOk result (λ s. statement_of s.value ≡ put_expr names.now.layout names.now k (expression_tree tree.now)) }
+{
+    let taken = value(alloc, names, k, tree)?;
+    put_in(alloc, k, taken)
+}
+
+/// The value of an expression that may be left out, and the word without it.
+pub fn value_or(
+    alloc: Global,
+    names: &Environment<'_>,
+    k: usize,
+    default: u32,
+    tree: &Option<Box<Tree>>,
+) -> Result<Taken, AllocError>
+    ensures { IfOk result (λ u. taken_of u.before u.expression ≡ taken_or names.now.layout names.now k default (optional_tree tree.now)) }
+{
+    match tree {
+        Some(tree) => value(alloc, names, k, tree),
+        None => word(alloc, Scalar::Int, default),
+    }
+}

@@ -1,0 +1,76 @@
+// From a function of a typed unit to its Cminor.
+//
+// The code is that of the function's body, from the environment in which the body begins. That such code keeps up with the function,
+// and calls each function with its number of arguments, follows from what the meaning hands out of each typed unit.
+
+ghost use Rattle.std.specs.Prelude.{◌≡◌, ◌<◌, length, IfOk};
+ghost use Rattle.std.specs.Arc.{arc_value};
+ghost use Rattle.cc_syntax.specs.Source.{source};
+ghost use Rattle.cc_typing.specs.Typed.{defined_names};
+ghost use Rattle.cc_cminor.specs.Code.{statement_of};
+ghost use Rattle.cc_cminor.specs.Pair.{tree_of, code_of};
+ghost use Rattle.cc_cminor.specs.Size.{AtMostTwelveAToken};
+ghost use Rattle.cc_cminor.specs.internal.Lowered.{IsLowered};
+
+use super::code::Statement;
+use super::fault::CminorFault;
+use super::pair::CminorPair;
+use super::statements::body;
+use cc_meaning::{
+    calls_are_effects, calls_keep_objects, functions_are_resolved, names_have_numbers,
+    units_have_meanings,
+};
+use cc_resolve::function_environment;
+use cc_typing::TypedUnit;
+use std::alloc::{AllocError, Global};
+use std::sync::Arc;
+
+// The code of a function.
+fn lowered(alloc: Global, unit: &TypedUnit, function: usize) -> Result<Box<Statement>, AllocError>
+    requires { function < length (defined_names (source unit.now)) }
+    ensures { IfOk result (λ s. IsLowered (source unit.now).externals function (statement_of s.value)) }
+{
+    let definition = unit.definition(function);
+    let mut names = function_environment(alloc, unit, function)?;
+    let code = body(alloc, &mut names, definition.body);
+    names.release();
+    code
+}
+
+// The pair of such code: what its type keeps are laws of the meaning, at this unit.
+fn paired(unit: Arc<TypedUnit>, function: usize, code: Box<Statement>) -> CminorPair
+    requires function { function < length (defined_names (source (arc_value unit))) }
+    requires code { IsLowered (source (arc_value unit)).externals function (statement_of code.value) }
+    ensures answer { result ≡ record { unit = arc_value unit; function = function; statement = code.value } }
+    ensures small { AtMostTwelveAToken (source (arc_value unit)).externals function (statement_of code.value) }
+{
+    let _typed = unit.externals();
+    calls_are_effects();
+    calls_keep_objects();
+    names_have_numbers();
+    functions_are_resolved();
+    units_have_meanings();
+    CminorPair::new(unit, function, code)
+}
+
+/// The Cminor of the function with a number. Functions are numbered from 0 in the order of their definitions. The pair's type keeps
+/// that the code's run follows the meaning of the function.
+///
+/// `CminorFault::OutOfMemory` (40) alone, where memory runs out.
+pub fn to_cminor(
+    alloc: Global,
+    unit: &Arc<TypedUnit>,
+    function: usize,
+) -> Result<CminorPair, CminorFault>
+    requires { function < length (defined_names (source (arc_value unit.now))) }
+    ensures unit { IfOk result (λ p. p.unit ≡ arc_value unit.now) }
+    ensures function { IfOk result (λ p. p.function ≡ function) }
+    ensures small { IfOk result (λ p. AtMostTwelveAToken (tree_of p) p.function (code_of p)) }
+{
+    let code = lowered(alloc, unit, function)?;
+    let Ok(unit) = Arc::try_clone(unit) else {
+        drop(code);
+        return Err(CminorFault::OutOfMemory);
+    };
+    Ok(paired(unit, function, code))
+}

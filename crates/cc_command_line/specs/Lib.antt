@@ -1,0 +1,2 @@
+-- What a task may be.
+pub mod Task

@@ -1,0 +1,103 @@
+// The device steps of a rewrite, and their failure. What they write is one commit of the journal, made before the first of them.
+ghost use Rattle.std.specs.Prelude.{◌≡◌, ◌⊎◌, Option, IfOk, OnErr, IsErrOf};
+ghost use Rattle.cc_core.specs.declared.command.Reply.{Reply};
+ghost use Rattle.cc_core.specs.declared.contents.Contents.{Contents};
+ghost use Rattle.cc_core.specs.declared.contents.RewriteDue.TheVariants as left;
+ghost use Rattle.cc_core.specs.internal.Answers.{Answers};
+ghost use Rattle.cc_core.specs.Step.{RewritesAll, RewriteAdvances, RewriteFails, FailsStep};
+ghost use Rattle.cc_core.specs.internal.Ready.{IsReady};
+
+use crate::contents::{Contents, Core, Phase, RewriteDue};
+use crate::device::fail_job;
+use crate::events::Answer;
+use crate::fault::CoreFault;
+use std::alloc::Global;
+
+// The first write is done: one Add per name, and the closed gate, into the area that is not in use. They always fit, since they
+// never take more room than the records that stand for the map.
+pub(crate) fn rewrite_all(alloc: Global, core: &mut Core) -> Answer
+    requires { IsReady core.old }
+    ensures { Answers (RewritesAll core.old) result core.old core.new }
+{
+    let Phase::Idle = &core.phase else {
+        return Err(CoreFault::NotNow);
+    };
+    let bodies = core.library.bodies(alloc)?;
+    let commit = core.store.rewrite(alloc, &bodies)?;
+    core.store.write_first(&commit);
+    core.enter(Phase::Rewriting(commit, RewriteDue::SyncAll));
+    Ok(None)
+}
+
+// The sync after it is done.
+pub(crate) fn sync_all(core: &mut Core) -> Answer
+    ensures { Answers (RewriteAdvances left.SyncAll core.old) result core.old core.new }
+{
+    let Phase::Rewriting(_, RewriteDue::SyncAll) = &core.phase else {
+        return Err(CoreFault::NotNow);
+    };
+    core.store.sync();
+    core.phase.rewrite_on(RewriteDue::WriteArea);
+    Ok(None)
+}
+
+// The write of the area byte is done.
+pub(crate) fn write_area(core: &mut Core) -> Answer
+    requires { IsReady core.old }
+    ensures { Answers (RewriteAdvances left.WriteArea core.old) result core.old core.new }
+{
+    let Phase::Rewriting(commit, due) = &core.phase else {
+        return Err(CoreFault::NotNow);
+    };
+    let RewriteDue::WriteArea = due else {
+        return Err(CoreFault::NotNow);
+    };
+    core.store.decide(commit);
+    core.phase.rewrite_on(RewriteDue::SyncArea);
+    Ok(None)
+}
+
+// The sync after it is done: the other area is in use, and its records are the journal's.
+pub(crate) fn sync_area(core: &mut Core) -> Answer
+    requires { IsReady core.old }
+    ensures { Answers (RewriteAdvances left.SyncArea core.old) result core.old core.new }
+{
+    let Phase::Rewriting(commit, due) = &core.phase else {
+        return Err(CoreFault::NotNow);
+    };
+    let RewriteDue::SyncArea = due else {
+        return Err(CoreFault::NotNow);
+    };
+    let area_byte = commit.deciding_byte();
+    let used = commit.bytes().len() - 1;
+    core.store.sync();
+    core.store.take_area(area_byte, used);
+    core.enter(Phase::Idle);
+    Ok(None)
+}
+
+// The device step of a rewrite that is due fails. A write has reached the disk then, in whole, unsettled.
+fn fail_rewrite(core: &mut Core) -> Answer
+    requires { IsReady core.old }
+    ensures { Answers (RewriteFails core.old) result core.old core.new }
+{
+    let Phase::Rewriting(commit, due) = &core.phase else {
+        return Err(CoreFault::NotNow);
+    };
+    if let RewriteDue::WriteArea = due {
+        core.store.decide(commit);
+    }
+    core.enter(Phase::Failed(None));
+    Ok(None)
+}
+
+// The device step that is due fails, in a commit or in a rewrite.
+pub(crate) fn fail<P: Drop>(alloc: Global, contents: &mut Contents<P>) -> Answer
+    requires { IsReady contents.old.core }
+    ensures { Answers (FailsStep contents.old) result contents.old contents.new }
+{
+    match &contents.core.phase {
+        Phase::Rewriting(_, _) => fail_rewrite(&mut contents.core),
+        _ => fail_job(alloc, contents),
+    }
+}

@@ -1,0 +1,103 @@
+-- Linear: the code of a function as one list of moves and operations over machine registers and slots, with labels, jumps and branches,
+-- and what one item does.
+use Rattle.std.specs.Prelude.{◌≢◌, ℕ, ◌<◌, ◌≤◌, ◌==◌, if◌then◌else◌, List, [], ◌∷◌, Contains}
+use Rattle.std.specs.List.{AllByRecursion, AllPairs}
+use Rattle.cc_words.specs.Operators.{apply_unary, apply_binary}
+use Rattle.cc_runs.specs.World.{World, Answer, element, stored, next_word, after_read, after_write}
+use Rattle.cc_runs.specs.Unknown.{unknown_word, left_after_entry, left_after_call, left_after_word}
+use Rattle.cc_runs.specs.Run.{Move as Moving, Goes, Calls, Returns, Fails, tried}
+use Rattle.cc_ltl.specs.declared.location.Location.TheVariants.{Register}
+use Rattle.cc_ltl.specs.Registers.{IsAllocatable, most_slots}
+use Rattle.cc_ltl.specs.Ltl.{IsWord, IsMove, Locations, put, target, source, first_argument, result_location, destroyed_location, words_from, after_call, at_entry}
+use Rattle.cc_linear.specs.declared.item.Item.{Item}
+use Rattle.cc_linear.specs.declared.item.Item.TheVariants.{Label, Jump, IfNonzero, IfZero, Copy, Const, Unary, Binary, Load, Store, Call, Read, Write, Return}
+
+-- ---- which functions there are
+
+-- the labels that stand in a list
+abbrev pub labels : List Item → List ℕ
+labels [] = []
+labels (Label label ∷ items) = label ∷ labels items
+labels (item ∷ items) = labels items
+
+-- an item of a function with so many slots, in a unit with so many functions: jumps and branches lead to labels of the list
+abbrev pub IsItem : (slots functions : ℕ) → (labels : List ℕ) → Item → Type 0
+IsItem slots functions labels (Label label) = Unit {0}
+IsItem slots functions labels (Jump to) = Contains labels to
+IsItem slots functions labels (IfNonzero from to) = IsAllocatable from × Contains labels to
+IsItem slots functions labels (IfZero from to) = IsAllocatable from × Contains labels to
+IsItem slots functions labels (Copy m) = IsMove slots m
+IsItem slots functions labels (Const to word) = IsAllocatable to × IsWord word
+IsItem slots functions labels (Unary operator to from) = IsAllocatable to × IsAllocatable from
+IsItem slots functions labels (Binary operator to left right) = IsAllocatable to × IsAllocatable left × IsAllocatable right
+IsItem slots functions labels (Load object to index) = IsWord object × IsAllocatable to × IsAllocatable index
+IsItem slots functions labels (Store object index from) = IsWord object × IsAllocatable index × IsAllocatable from
+IsItem slots functions labels (Call function) = function < functions
+IsItem slots functions labels Read = Unit {0}
+IsItem slots functions labels Write = Unit {0}
+IsItem slots functions labels Return = Unit {0}
+
+-- no label stands twice
+pub record IsLinear (slots functions : ℕ) (items : List Item) : Type 0 where
+  pub few : slots ≤ most_slots
+  pub distinct : AllPairs (λ (a b : ℕ). a ≢ b) (labels items)
+  pub fit : AllByRecursion (IsItem slots functions (labels items)) items
+
+-- ---- what one item does
+
+-- where a run is: the items from the next one on, the words of the locations, what is shared, and the words that unknown locations
+-- will hold
+pub record Configuration : Type 0 where
+  pub items : List Item
+  pub locations : Locations
+  pub world : World
+  pub words : List ℕ
+
+abbrev pub at_items : List Item → Locations → World → (words : List ℕ) → Configuration
+at_items items at world words = record { items = items; locations = at; world = world; words = words }
+
+-- the place of a label: the items from its first one on, and none where it does not stand
+abbrev pub place : List Item → (label : ℕ) → List Item
+place [] label = []
+place (Label other ∷ items) label = if other == label then Label other ∷ items else place items label
+place (item ∷ items) label = place items label
+
+-- after a call's answer: what the call destroys is unknown, and its value is the result
+abbrev pub answered : List Item → Locations → (words : List ℕ) → Answer → Configuration
+answered items at words a = at_items items (put result_location a.value (after_call words at)) a.world (left_after_call words)
+
+-- The next item, in the whole code; `arity` says how many parameters each function has. A label is no move: what is done there is what
+-- the item after it does. Behind the last item a run goes wrong, as where a jump leads to no place.
+abbrev pub does : (arity : ℕ → ℕ) → (code : List Item) → List Item → Locations → World → (words : List ℕ) → Moving Configuration
+does arity code [] at world words = Fails
+does arity code (Label label ∷ items) at world words = does arity code items at world words
+does arity code (Jump to ∷ items) at world words = Goes (at_items (place code to) at world words)
+does arity code (IfNonzero from to ∷ items) at world words = Goes (at_items (if at (Register from) == 0 then items else place code to) at world words)
+does arity code (IfZero from to ∷ items) at world words = Goes (at_items (if at (Register from) == 0 then place code to else items) at world words)
+does arity code (Copy m ∷ items) at world words = Goes (at_items items (put (target m) (at (source m)) at) world words)
+does arity code (Const to word ∷ items) at world words = Goes (at_items items (put (Register to) word at) world words)
+does arity code (Unary operator to from ∷ items) at world words = Goes (at_items items (put (Register to) (apply_unary operator (at (Register from))) at) world words)
+does arity code (Binary operator to left right ∷ items) at world words =
+    tried (apply_binary operator (at (Register left)) (at (Register right))) (λ word. Goes (at_items items (put (Register to) word at) world words))
+does arity code (Load object to index ∷ items) at world words =
+    tried (element world object (at (Register index))) (λ word. Goes (at_items items (put (Register to) word at) world words))
+does arity code (Store object index from ∷ items) at world words =
+    tried (stored world object (at (Register index)) (at (Register from))) (λ changed. Goes (at_items items at changed words))
+does arity code (Call function ∷ items) at world words =
+    Calls (record { function = function; arguments = words_from first_argument (arity function) at; world = world }) (answered items at words)
+does arity code (Read ∷ items) at world words =
+    Goes (at_items items (put result_location (next_word world) (put destroyed_location (unknown_word words) at)) (after_read world) (left_after_word words))
+does arity code (Write ∷ items) at world words =
+    Goes (at_items items (put destroyed_location (unknown_word words) at) (after_write (at result_location) world) (left_after_word words))
+does arity code (Return ∷ items) at world words = Returns (record { value = at result_location; world = world })
+
+abbrev pub linear_move : (arity : ℕ → ℕ) → List Item → Configuration → Moving Configuration
+linear_move arity code c = does arity code c.items c.locations c.world c.words
+
+-- what is written so far
+abbrev pub linear_output : Configuration → List ℕ
+linear_output c = c.world.output
+
+-- where the run of a function with so many slots begins
+abbrev pub linear_start : (slots : ℕ) → List Item → (words arguments : List ℕ) → World → Configuration
+linear_start slots code words arguments world = at_items code (at_entry slots words arguments) world (left_after_entry slots words)

@@ -1,0 +1,44 @@
+-- What a pair of Linear keeps: the Linear of one function of a typed unit.
+use Rattle.std.specs.Prelude.{ℕ, suc, ◌<◌, List, length}
+use Rattle.cc_syntax.specs.Tree.{External}
+use Rattle.cc_syntax.specs.Source.{source}
+use Rattle.cc_syntax.specs.declared.unit.Unit as parsed
+use Rattle.cc_typing.specs.Typed.{IsTyped}
+use Rattle.cc_meaning.specs.Meaning.{functions}
+use Rattle.cc_meaning.specs.Numbered.{IsMeaningOf}
+use Rattle.cc_runs.specs.Behavior.{FollowsForAll}
+use Rattle.cc_runs.specs.World.{World}
+use Rattle.cc_runs.specs.Run.{run}
+use Rattle.cc_runs.specs.Meaning.{Meaning, most_open, IsCall, call_effect, answered}
+use Rattle.cc_runs.specs.Tracks.{TracksForAll}
+use Rattle.cc_linear.specs.declared.item.Item.{Item}
+use Rattle.cc_linear.specs.Linear.{IsLinear, linear_move, linear_output, linear_start}
+
+-- a pair as contracts see it: the unit, the function's number in the order of definitions, how many slots it has, and its items
+pub record Pair : Type 0 where
+  pub unit : parsed.Unit
+  pub function : ℕ
+  pub slots : ℕ
+  pub code : List Item
+
+-- the unit's tree
+abbrev pub tree_of : Pair → List External
+tree_of p = (source p.unit).externals
+
+-- at some rate the run keeps up with the function, for all lists of unknown words
+abbrev pub KeepsUp : List External → (function slots : ℕ) → List Item → Type 0
+KeepsUp unit f slots code =
+    (rate : ℕ) × ((meaning : Meaning) → IsMeaningOf unit meaning → TracksForAll meaning f rate (linear_move meaning.arity code) linear_output (linear_start slots code))
+
+-- so at each number of open calls the run follows the function's body, for all lists of unknown words
+abbrev pub FollowsFunction : List External → (function slots : ℕ) → List Item → Type 0
+FollowsFunction unit f slots code =
+    (meaning : Meaning) → IsMeaningOf unit meaning → (opened : ℕ) → opened < most_open → (ws : List ℕ) (h : World) → IsCall meaning f ws h
+    → FollowsForAll (λ n. answered (meaning.body n opened f ws h)) (λ words (b : ℕ × ℕ). run (linear_move meaning.arity code) linear_output (call_effect meaning (suc opened)) b.0 b.1 (linear_start slots code words ws h))
+
+-- what a pair's type keeps
+pub record IsPair (p : Pair) : Type 0 where
+  pub typed : IsTyped (tree_of p)
+  pub function : p.function < length (functions (tree_of p))
+  pub linear : IsLinear p.slots (length (functions (tree_of p))) p.code
+  pub keeps_up : KeepsUp (tree_of p) p.function p.slots p.code

@@ -1,0 +1,107 @@
+-- When a list of items lays out a function's blocks, in whatever order.
+use Rattle.std.specs.Prelude.{◌≡◌, ℕ, ◌<◌, ◌≤◌, ◌⊎◌, List, [], ◌∷◌, Some}
+use Rattle.cc_ltl.specs.declared.operation.Move.{Move}
+use Rattle.cc_ltl.specs.declared.operation.Operation.{Operation}
+use Rattle.cc_ltl.specs.declared.operation.Operation.TheVariants.{Nop, Const, Unary, Binary, Load, Store, Call, Read, Write, Branch, Return}
+use Rattle.cc_ltl.specs.declared.block.Block.{Block}
+use Rattle.cc_ltl.specs.Ltl.{Ltl, block_at}
+use Rattle.cc_linear.specs.declared.item.Item.{Item}
+use Rattle.cc_linear.specs.declared.item.Item.TheVariants as item
+use Rattle.cc_linear.specs.declared.item.Item.TheVariants.{Label, Jump, IfNonzero, IfZero, Copy}
+use Rattle.cc_linear.specs.Linear.{place}
+
+abbrev pub moves_then : List Move → List Item → List Item
+moves_then [] items = items
+moves_then (m ∷ ms) items = Copy m ∷ moves_then ms items
+
+-- an operation with one successor, without it
+abbrev pub operation_then : Operation → List Item → List Item
+operation_then (Nop n) items = items
+operation_then (Const to word n) items = item.Const to word ∷ items
+operation_then (Unary operator to from n) items = item.Unary operator to from ∷ items
+operation_then (Binary operator to left right n) items = item.Binary operator to left right ∷ items
+operation_then (Load object to index n) items = item.Load object to index ∷ items
+operation_then (Store object index from n) items = item.Store object index from ∷ items
+operation_then (Call function n) items = item.Call function ∷ items
+operation_then (Read n) items = item.Read ∷ items
+operation_then (Write n) items = item.Write ∷ items
+operation_then (Branch from taken other) items = items
+operation_then Return items = item.Return ∷ items
+
+-- the list goes on at this label: it stands next, or a jump leads there
+abbrev pub GoesOnAt : List Item → List Item → ℕ → Type 0
+GoesOnAt code items l = (place code l ≡ items) ⊎ ((behind : List Item) × (items ≡ Jump l ∷ behind))
+
+-- the label stands in the list
+abbrev pub StandsIn : List Item → ℕ → Type 0
+StandsIn code l = (behind : List Item) × (place code l ≡ Label l ∷ behind)
+
+abbrev pub next : Operation → ℕ
+next (Nop n) = n
+next (Const to word n) = n
+next (Unary operator to from n) = n
+next (Binary operator to left right n) = n
+next (Load object to index n) = n
+next (Store object index from n) = n
+next (Call function n) = n
+next (Read n) = n
+next (Write n) = n
+next (Branch from taken other) = taken
+next Return = 0
+
+abbrev pub IsNop : Operation → Type 0
+IsNop (Nop n) = Unit {0}
+IsNop _ = ⊥
+
+-- A block with one successor stands at its label: its moves and operation, then the list goes on where its successor ends.
+-- An empty nop stands there only as a jump, so that an endless cycle of such is not lost.
+pub record Straight (code : List Item) (end : ℕ → ℕ) (l : ℕ) (block : Block) : Type 0 where
+  pub tail : List Item
+  pub items : place code l ≡ Label l ∷ moves_then block.before (operation_then block.operation (moves_then block.after tail))
+  pub on : GoesOnAt code tail (end (next block.operation))
+  pub stands : StandsIn code (end (next block.operation))
+  pub jumps : IsNop block.operation → block.before ≡ [] → block.after ≡ [] → (behind : List Item) × (tail ≡ Jump (end (next block.operation)) ∷ behind)
+
+-- a branch on the register being nonzero or zero, and the other way follows
+abbrev pub BranchesTo : List Item → (ℕ → ℕ) → ℕ → List Move → (from taken other : ℕ) → List Item → Type 0
+BranchesTo code end l before from taken other tail =
+    ((place code l ≡ Label l ∷ moves_then before (IfNonzero from (end taken) ∷ tail)) × GoesOnAt code tail (end other))
+    ⊎ ((place code l ≡ Label l ∷ moves_then before (IfZero from (end other) ∷ tail)) × GoesOnAt code tail (end taken))
+
+pub record Branches (code : List Item) (end : ℕ → ℕ) (l : ℕ) (block : Block) (from taken other : ℕ) : Type 0 where
+  pub tail : List Item
+  pub branches : BranchesTo code end l block.before from taken other tail
+  pub after : block.after ≡ []
+  pub taken_stands : StandsIn code (end taken)
+  pub other_stands : StandsIn code (end other)
+
+pub record Leaves (code : List Item) (l : ℕ) (block : Block) : Type 0 where
+  pub tail : List Item
+  pub items : place code l ≡ Label l ∷ moves_then block.before (item.Return ∷ tail)
+
+abbrev pub Stands : List Item → (ℕ → ℕ) → ℕ → Block → Operation → Type 0
+Stands code end l block (Branch from taken other) = Branches code end l block from taken other
+Stands code end l block Return = Leaves code l block
+Stands code end l block _ = Straight code end l block
+
+-- what leads from l on to n: they end alike, and n is nearer to the end
+abbrev pub Nearer : (end far : ℕ → ℕ) → ℕ → ℕ → Type 0
+Nearer end far l n = (end n ≡ end l) × (far n < far l)
+
+-- an empty block may be passed over; a branch too, where both its ways end alike
+abbrev pub Passes : (end far : ℕ → ℕ) → ℕ → Operation → Type 0
+Passes end far l (Nop n) = Nearer end far l n
+Passes end far l (Branch from taken other) = Nearer end far l taken × Nearer end far l other
+Passes end far l _ = ⊥
+
+pub record IsPassed (end far : ℕ → ℕ) (l : ℕ) (block : Block) : Type 0 where
+  pub before : block.before ≡ []
+  pub after : block.after ≡ []
+  pub passes : Passes end far l block.operation
+
+-- end: where each label's chain of empty blocks leads; far: how far that is
+pub record Lays (ltl : Ltl) (code : List Item) (end far : ℕ → ℕ) (most : ℕ) : Type 0 where
+  pub low : (l : ℕ) → far l ≤ most
+  pub entry : GoesOnAt code code (end ltl.entry)
+  pub entry_stands : StandsIn code (end ltl.entry)
+  pub each : (l : ℕ) (block : Block) → block_at ltl.blocks l ≡ Some block → StandsIn code (end l) → IsPassed end far l block ⊎ ((end l ≡ l) × Stands code end l block block.operation)

@@ -1,0 +1,63 @@
+//! The items of Linear: moves, operations on registers, labels, jumps and branches.
+
+use cc_ltl::{Move, Register};
+use cc_words::{Binary, Unary};
+
+/// One item of a function's list. A label is no move of the run: what is done at it is what the next item does. A call takes its
+/// arguments in `x10` and up and gives its result in `x10`; a read gives its word there, a write and a return take theirs there.
+#[derive(Clone, Copy)]
+pub enum Item {
+    /// A place, where jumps and branches lead to.
+    Label {
+        label: u32,
+    },
+    /// On at a label.
+    Jump {
+        to: u32,
+    },
+    /// On at a label where the register is not 0, else at the next item.
+    IfNonzero {
+        from: Register,
+        to: u32,
+    },
+    /// On at a label where the register is 0, else at the next item.
+    IfZero {
+        from: Register,
+        to: u32,
+    },
+    /// A word goes from one location to another.
+    Copy {
+        between: Move,
+    },
+    Const {
+        to: Register,
+        word: u32,
+    },
+    Unary {
+        operator: Unary,
+        to: Register,
+        from: Register,
+    },
+    Binary {
+        operator: Binary,
+        to: Register,
+        left: Register,
+        right: Register,
+    },
+    Load {
+        object: u32,
+        to: Register,
+        index: Register,
+    },
+    Store {
+        object: u32,
+        index: Register,
+        from: Register,
+    },
+    Call {
+        function: u32,
+    },
+    Read,
+    Write,
+    Return,
+}

@@ -1,0 +1,107 @@
+//! The Linear of one function of a unit, with the fact that its run keeps up with the function.
+
+ghost use Rattle.std.specs.Prelude.{◌≡◌, ◌<◌, length};
+ghost use Rattle.std.specs.Arc.{arc_value};
+ghost use Rattle.cc_meaning.specs.Meaning.{functions};
+ghost use Rattle.cc_typing.specs.Typed.{IsTyped};
+ghost use Rattle.cc_linear.specs.Linear.{IsLinear};
+ghost use Rattle.cc_linear.specs.Pair.{Pair, tree_of, KeepsUp, FollowsFunction, IsPair};
+
+use crate::item::Item;
+use cc_typing::TypedUnit;
+use std::marker::Model;
+use std::sync::Arc;
+
+/// The Linear of one function of a typed unit. Contracts see the unit, the function's number, how many slots it has and its items; that
+/// its run follows the function's meaning, whatever words nobody knows, belongs to the type, so nobody holds a pair of which it is not
+/// true.
+#[derive(Drop)]
+pub struct LinearPair {
+    unit: Arc<TypedUnit>,
+    function: usize,
+    slots: u16,
+    code: Vec<Item>,
+}
+
+impl Model for LinearPair {
+    ghost use Rattle.std.specs.Arc.{arc_value};
+    ghost use Rattle.std.specs.Coded.{codes};
+    ghost use Rattle.cc_syntax.specs.contracts.unit.Unit as parsed;
+    ghost use Rattle.cc_linear.specs.Pair.{Pair, IsPair};
+
+    ghost Value = { Pair };
+
+    ghost coded = { Prim.hlevel (codes, parsed.the_row.coded) };
+
+    ghost view = { λ p. record { unit = arc_value p.unit; function = p.function; slots = p.slots; code = p.code.items } };
+
+    ghost invariant = { λ p. IsPair (record { unit = arc_value p.unit; function = p.function; slots = p.slots; code = p.code.items }) };
+}
+
+impl LinearPair {
+    // The one place where a pair is made.
+    pub(crate) fn new(
+        unit: Arc<TypedUnit>,
+        function: usize,
+        slots: u16,
+        code: Vec<Item>,
+    ) -> LinearPair
+        requires { IsPair (record { unit = arc_value unit; function = function; slots = slots; code = code.items }) }
+        ensures { result ≡ record { unit = arc_value unit; function = function; slots = slots; code = code.items } }
+    {
+        LinearPair {
+            unit,
+            function,
+            slots,
+            code,
+        }
+    }
+
+    /// The unit.
+    pub fn unit(&self) -> &Arc<TypedUnit>
+        ensures answer { arc_value result.now ≡ self.now.unit }
+    {
+        &self.unit
+    }
+
+    /// The function's number, in the order of definitions.
+    pub fn function(&self) -> usize
+        ensures answer { result ≡ self.now.function }
+        ensures of_unit { self.now.function < length (functions (tree_of self.now)) }
+    {
+        self.function
+    }
+
+    /// How many slots its frame has: at most 495.
+    pub fn slots(&self) -> u16
+        ensures answer { result ≡ self.now.slots }
+    {
+        self.slots
+    }
+
+    /// The items. No label stands twice, and each that a jump or a branch leads to stands; each call is of a function of the unit. The
+    /// run keeps up with the function, and so follows it, for every list of words that locations may hold of which nobody knows.
+    pub fn code(&self) -> &[Item]
+        ensures code { result.now ≡ self.now.code }
+        ensures typed { IsTyped (tree_of self.now) }
+        ensures linear { IsLinear self.now.slots (length (functions (tree_of self.now))) self.now.code }
+        ensures keeps_up { KeepsUp (tree_of self.now) self.now.function self.now.slots self.now.code }
+        ensures follows { FollowsFunction (tree_of self.now) self.now.function self.now.slots self.now.code }
+    {
+        self.code.as_slice()
+    }
+
+    /// The unit's owner.
+    pub fn into_unit(self) -> Arc<TypedUnit>
+        ensures answer { arc_value result ≡ self.unit }
+    {
+        let LinearPair {
+            unit,
+            function: _,
+            slots: _,
+            code,
+        } = self;
+        drop(code);
+        unit
+    }
+}

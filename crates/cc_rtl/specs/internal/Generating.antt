@@ -1,0 +1,27 @@
+-- What the contracts of the generator's code speak of: the places as the code keeps them.
+use Rattle.std.specs.Prelude.{ℕ, List, Option, option_map, map}
+use Rattle.cc_cminor.specs.Cminor.{Expression, Constant, Local, Unary, Binary, Load, Statement}
+use Rattle.cc_rtl.specs.Rtl as rtl
+use Rattle.cc_rtl.specs.Code.{node_of}
+use Rattle.cc_rtl.specs.declared.node.Node as declared
+use Rattle.cc_rtl.specs.internal.Generate.{Places, Made, register, taken, made_function, nodes_back, labelled_from}
+
+-- the places
+abbrev pub places_of : List (Option declared.Node) → Places
+places_of items = map (option_map node_of) items
+
+-- code that begins at a label, and the places behind it
+abbrev pub made_at : (entry : ℕ) → Places → Made
+made_at entry places = record { entry = entry; places = places }
+
+-- the node that puts the value of an expression into a register, once its operands are held
+abbrev pub last_node : Expression → (free to exit : ℕ) → rtl.Node
+last_node (Constant w) free to exit = rtl.Const to w exit
+last_node (Local x) free to exit = rtl.Move to x exit
+last_node (Unary op a) free to exit = rtl.Unary op to (register a free) exit
+last_node (Binary op a b) free to exit = rtl.Binary op to (register a free) (register b (taken a free)) exit
+last_node (Load o a) free to exit = rtl.Load o to (register a free) exit
+
+-- the nodes of a function, whatever its parameters
+abbrev pub generated_nodes : (count : ℕ) → Statement → List rtl.Labelled
+generated_nodes count body = let m = made_function count body in labelled_from m.entry 0 (nodes_back m.places)

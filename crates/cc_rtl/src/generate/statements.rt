@@ -1,0 +1,202 @@
+// The nodes of statements, from the last node to the first.
+//
+// The recursion is as deep as the tree; the statements of a list are gone through by a loop.
+
+ghost use Rattle.std.specs.Prelude.{◌≡◌, ◌+◌, ◌<◌, ◌≤◌, List, [], ◌∷◌, length, reverse, get_or, IfOk, OnOk};
+ghost use Rattle.cc_cminor.specs.Cminor.{Call, Store};
+ghost use Rattle.cc_cminor.specs.Code.{expression_of, expressions_of, statement_of, statements_of, in_sequence};
+ghost use Rattle.cc_cminor.specs.Numbers.{most_variables, ResultFits, ExpressionFits, StatementFits};
+ghost use Rattle.cc_rtl.specs.Rtl.{most_nodes};
+ghost use Rattle.cc_rtl.specs.Code.{node_of};
+ghost use Rattle.cc_rtl.specs.Size.{operand_nodes, statement_nodes};
+ghost use Rattle.cc_rtl.specs.internal.Generate.{pushed, operand, made};
+ghost use Rattle.cc_rtl.specs.internal.Generating.{made_at};
+
+use super::expressions::{hold, into, operand, operands, register, taken};
+use super::graph::Graph;
+use crate::node::Node;
+use cc_cminor::{Expression, Statement};
+use smallvec::SmallVec;
+use std::alloc::{AllocError, Global};
+
+// The register that a result goes to, where it goes to one.
+fn result_register(to: Option<usize>) -> Option<u32>
+    requires { ResultFits to }
+    ensures { result ≡ to }
+{
+    match to {
+        Some(x) => Some(x as u32),
+        None => None,
+    }
+}
+
+// The label behind the block that an exit leaves; any label where there is no such block.
+fn label_behind(exits: &[u32], blocks: usize, exit: u32) -> u32
+    ensures { result ≡ get_or (reverse exits.now) blocks exit }
+{
+    if blocks < exits.len() {
+        exits[exits.len() - 1 - blocks]
+    } else {
+        exit
+    }
+}
+
+// A node that reads an operand, and before it the nodes that hold the operand's value.
+fn with_operand(
+    graph: &mut Graph,
+    node: Node,
+    e: &Expression,
+    count: u32,
+) -> Result<u32, AllocError>
+    requires room { length graph.old + 1 + operand_nodes (expression_of e.now) ≤ most_nodes }
+    requires numbers { ExpressionFits (expression_of e.now) }
+    requires count { count ≤ most_variables }
+    ensures made { IfOk result (λ entry. made_at entry graph.new ≡ operand (expression_of e.now) count (pushed (node_of node) graph.old)) }
+    ensures longer { OnOk result (length graph.new ≡ length graph.old + 1 + operand_nodes (expression_of e.now)) }
+{
+    let next = graph.put(node)?;
+    operand(graph, e, count, next)
+}
+
+// The nodes of a store.
+fn store(
+    graph: &mut Graph,
+    object: usize,
+    index: &Expression,
+    value: &Expression,
+    count: u32,
+    exit: u32,
+) -> Result<u32, AllocError>
+    requires room { length graph.old + statement_nodes (Store object (expression_of index.now) (expression_of value.now)) ≤ most_nodes }
+    requires numbers { StatementFits (Store object (expression_of index.now) (expression_of value.now)) }
+    requires count { count ≤ most_variables }
+    ensures made { IfOk result (λ entry. made_at entry graph.new ≡ made count (Store object (expression_of index.now) (expression_of value.now)) exit [] graph.old) }
+    ensures longer { OnOk result (length graph.new ≡ length graph.old + statement_nodes (Store object (expression_of index.now) (expression_of value.now))) }
+{
+    let behind = taken(index, count);
+    let next = graph.put(Node::Store {
+        object: object as u32,
+        index: register(index, count),
+        from: register(value, behind),
+        next: exit,
+    })?;
+    let next = operand(graph, value, behind, next)?;
+    operand(graph, index, count, next)
+}
+
+// The nodes of a call.
+fn call(
+    alloc: Global,
+    graph: &mut Graph,
+    to: Option<usize>,
+    function: usize,
+    arguments: &[Expression],
+    count: u32,
+    exit: u32,
+) -> Result<u32, AllocError>
+    requires room { length graph.old + statement_nodes (Call to function (expressions_of arguments.now)) ≤ most_nodes }
+    requires numbers { StatementFits (Call to function (expressions_of arguments.now)) }
+    requires count { count ≤ most_variables }
+    ensures made { IfOk result (λ entry. made_at entry graph.new ≡ made count (Call to function (expressions_of arguments.now)) exit [] graph.old) }
+    ensures longer { OnOk result (length graph.new ≡ length graph.old + statement_nodes (Call to function (expressions_of arguments.now))) }
+{
+    let mut held = SmallVec::new(alloc);
+    hold(&mut held, arguments, count)?;
+    let next = graph.put(Node::Call {
+        function: function as u32,
+        arguments: held,
+        to: result_register(to),
+        next: exit,
+    })?;
+    operands(graph, arguments, count, next)
+}
+
+/// The nodes of a statement that goes on at `exit`: where they begin. `exits` are the labels behind the open blocks, the innermost last;
+/// they are as before where all went well.
+#[cycle(code)]
+pub fn statement(
+    alloc: Global,
+    graph: &mut Graph,
+    exits: &mut Vec<u32>,
+    count: u32,
+    s: &Statement,
+    exit: u32,
+) -> Result<u32, AllocError>
+    requires room { length graph.old + statement_nodes (statement_of s.now) ≤ most_nodes }
+    requires numbers { StatementFits (statement_of s.now) }
+    requires count { count ≤ most_variables }
+    ensures made { IfOk result (λ entry. made_at entry graph.new ≡ made count (statement_of s.now) exit (reverse exits.old.items) graph.old) }
+    ensures longer { OnOk result (length graph.new ≡ length graph.old + statement_nodes (statement_of s.now)) }
+    ensures exits { OnOk result (exits.new.items ≡ exits.old.items) }
+{
+    match s {
+        Statement::Skip => Ok(exit),
+        Statement::Set(x, e) => into(graph, e, count, *x as u32, exit),
+        Statement::Store(object, index, value) => {
+            store(graph, *object, index, value, count, exit)
+        }
+        Statement::Call(to, function, arguments) => {
+            call(alloc, graph, *to, *function, arguments, count, exit)
+        }
+        Statement::Read(to) => graph.put(Node::Read {
+            to: result_register(*to).unwrap_or(count),
+            next: exit,
+        }),
+        Statement::Write(e) => {
+            let from = register(e, count);
+            with_operand(graph, Node::Write { from, next: exit }, e, count)
+        }
+        Statement::Sequence(all) => sequence(alloc, graph, exits, count, all, exit),
+        Statement::If(e, a, b) => {
+            let if_zero = statement(alloc, graph, exits, count, b, exit)?;
+            let if_nonzero = statement(alloc, graph, exits, count, a, exit)?;
+            let branch = Node::Branch {
+                from: register(e, count),
+                if_nonzero,
+                if_zero,
+            };
+            with_operand(graph, branch, e, count)
+        }
+        Statement::Loop(a) => {
+            let head = graph.open()?;
+            let first = statement(alloc, graph, exits, count, a, head)?;
+            graph.close(head, first);
+            Ok(head)
+        }
+        Statement::Block(a) => {
+            exits.push(exit)?;
+            let entry = statement(alloc, graph, exits, count, a, exit)?;
+            exits.pop();
+            Ok(entry)
+        }
+        Statement::Exit(blocks) => Ok(label_behind(exits, *blocks, exit)),
+        Statement::Return(e) => {
+            let from = register(e, count);
+            with_operand(graph, Node::Return { from }, e, count)
+        }
+    }
+}
+
+// The nodes of statements that stand one after the other.
+#[cycle(code)]
+fn sequence(
+    alloc: Global,
+    graph: &mut Graph,
+    exits: &mut Vec<u32>,
+    count: u32,
+    all: &[Statement],
+    exit: u32,
+) -> Result<u32, AllocError>
+    requires room { length graph.old + statement_nodes (in_sequence (statements_of all.now)) ≤ most_nodes }
+    requires numbers { StatementFits (in_sequence (statements_of all.now)) }
+    requires count { count ≤ most_variables }
+    ensures made { IfOk result (λ entry. made_at entry graph.new ≡ made count (in_sequence (statements_of all.now)) exit (reverse exits.old.items) graph.old) }
+    ensures longer { OnOk result (length graph.new ≡ length graph.old + statement_nodes (in_sequence (statements_of all.now))) }
+    ensures exits { OnOk result (exits.new.items ≡ exits.old.items) }
+{
+    let mut entry = exit;
+    for s in all.iter().rev() {
+        entry = statement(alloc, graph, exits, count, s, entry)?;
+    }
+    Ok(entry)
+}

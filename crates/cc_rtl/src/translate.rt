@@ -1,0 +1,65 @@
+// From Cminor to RTL.
+
+ghost use Rattle.std.specs.Prelude.{◌≡◌, ◌≤◌, ◌<◌, length, Some, slice_get, IfOk, IfErr};
+ghost use Rattle.cc_meaning.specs.Resolved.{arities};
+ghost use Rattle.cc_cminor.specs.Pair.{tree_of as cminor_tree, code_of};
+ghost use Rattle.cc_cminor.specs.Size.{statement_size};
+ghost use Rattle.cc_rtl.specs.Rtl.{most_nodes};
+ghost use Rattle.cc_rtl.specs.Size.{function_nodes};
+ghost use Rattle.cc_rtl.specs.declared.fault.RtlFault.TheVariants.{FunctionTooLarge};
+
+use crate::fault::RtlFault;
+use crate::generate::generate;
+use crate::pair::RtlPair;
+use crate::rtl::Rtl;
+use crate::size::fits;
+use crate::variables::with_statement;
+use cc_cminor::CminorPair;
+use cc_meaning::functions_are_resolved;
+use cc_typing::TypedUnit;
+use std::alloc::Global;
+
+// How many parameters the function has: at most 8.
+fn parameters_of(pair: &CminorPair) -> u32
+    ensures parameters { slice_get (arities (cminor_tree pair.now)) pair.now.function ≡ Some result }
+    ensures few { result ≤ 8 }
+{
+    functions_are_resolved();
+    let unit: &TypedUnit = pair.unit();
+    let _externals = unit.externals();
+    let definition = unit.definition(pair.function());
+    let parameters = definition.signature.parameters.as_slice();
+    parameters.len() as u32
+}
+
+/// The RTL of a function. The value of an expression is put straight into the variable that is set, and a condition's comparison stands
+/// straight in front of its branch; labels ascend along the code.
+///
+/// `FunctionTooLarge` (22) exactly where it would have more than 4,096 nodes, which needs more than 3,072 statements and expressions;
+/// `OutOfMemory` (40) where memory runs out. The pair is given up with an error.
+pub fn to_rtl(alloc: Global, pair: CminorPair) -> Result<RtlPair, RtlFault>
+    ensures unit { IfOk result (λ made. made.unit ≡ pair.unit) }
+    ensures function { IfOk result (λ made. made.function ≡ pair.function) }
+    ensures nodes { IfOk result (λ made. length made.rtl.nodes ≡ function_nodes (code_of pair)) }
+    ensures too_large { IfErr result (λ fault. fault ≡ FunctionTooLarge → most_nodes < function_nodes (code_of pair)) }
+    ensures large { IfErr result (λ fault. fault ≡ FunctionTooLarge → 3072 < statement_size (code_of pair)) }
+{
+    let parameters = parameters_of(&pair);
+    let function = pair.function();
+    let code = pair.code();
+    if !fits(code) {
+        drop(pair);
+        return Err(RtlFault::FunctionTooLarge);
+    }
+    let count = with_statement(parameters, code);
+    match generate(alloc, count, code) {
+        Ok(nodes) => {
+            let rtl = Rtl::new(parameters, 0, nodes);
+            Ok(RtlPair::new(pair.into_unit(), function, rtl))
+        }
+        Err(_) => {
+            drop(pair);
+            Err(RtlFault::OutOfMemory)
+        }
+    }
+}

@@ -1,0 +1,133 @@
+//! The validator.
+
+ghost use Rattle.std.specs.Prelude.{◌≡◌, ◌↔◌, length, All, IfOk, IfErr, IfSome, IfNone, IsTrue, IsSome};
+ghost use Rattle.cc_rtl.specs.Rtl.{node_at};
+ghost use Rattle.cc_rtl.specs.Code.{labelled_of};
+ghost use Rattle.cc_ltl.specs.Ltl.{IsLtl};
+ghost use Rattle.cc_validate.specs.Solution.{IsAtEntry, HasSolution};
+ghost use Rattle.cc_validate.specs.Fault.{IsRefusal};
+ghost use Rattle.cc_validate.specs.internal.Facts.{IsClean, HoldsParametersAlone};
+
+use crate::beside::apart;
+use crate::code::{Code, graph, position};
+use crate::equation::Equation;
+use crate::fault::ValidateFault;
+use crate::pair::LtlPair;
+use crate::set::EquationSet;
+use cc_flow::solve_backward;
+use cc_ltl::{Location, Ltl};
+use cc_rtl::{Labelled, Rtl, RtlPair};
+use std::alloc::Global;
+
+// Parameters stand in x10 and up.
+const FIRST_ARGUMENT: u8 = 10;
+
+/// Why LTL was refused, and the pair that it was to stand for.
+#[derive(Drop)]
+pub struct Refused {
+    pub pair: RtlPair,
+    pub fault: ValidateFault,
+}
+
+/// The LTL in the place of the RTL, where equations show that it does what the RTL does.
+///
+/// It is Ok exactly where the equations have a solution, whoever made the LTL. Else it is refused, and the pair comes back as it was:
+/// with 24 there is no solution, and the fault names a label at which none can be; with 40 memory ran out.
+pub fn validate(alloc: Global, pair: RtlPair, ltl: Ltl) -> Result<LtlPair, Refused>
+    ensures answer { IfOk result (λ made. made ≡ record { unit = pair.unit; function = pair.function; ltl = ltl }) }
+    ensures solved { IfOk result (λ _. HasSolution pair.rtl ltl) }
+    ensures refused { IfErr result (λ refused. IsRefusal pair.rtl ltl refused.fault) }
+    ensures hands_back { IfErr result (λ refused. refused.pair ≡ pair) }
+{
+    match decide(alloc, pair.code(), &ltl) {
+        Ok(()) => {
+            let function = pair.function();
+            Ok(LtlPair::new(pair.into_unit(), function, ltl))
+        }
+        Err(fault) => {
+            drop(ltl);
+            Err(Refused { pair, fault })
+        }
+    }
+}
+
+/// Whether there is a solution, and if not, why.
+fn decide(alloc: Global, rtl: &Rtl, ltl: &Ltl) -> Result<(), ValidateFault>
+    ensures solved { IfOk result (λ _. HasSolution rtl.now ltl.now) }
+    ensures long { IfOk result (λ _. length ltl.now.blocks ≡ length rtl.now.nodes) }
+    ensures ltl { IfOk result (λ _. IsLtl ltl.now) }
+    ensures refused { IfErr result (λ fault. IsRefusal rtl.now ltl.now fault) }
+{
+    let nodes = rtl.nodes();
+    let blocks = ltl.blocks();
+    if ltl.entry() != rtl.entry() {
+        return Err(ValidateFault::Unvalidated { label: rtl.entry() });
+    }
+    if let Some(label) = apart(nodes, blocks) {
+        return Err(ValidateFault::Unvalidated { label });
+    }
+    let graph = graph(alloc, nodes)?;
+    let code = Code::new(nodes, blocks);
+    let least = solve_backward(alloc, &graph, &code)?;
+    if let Some(label) = contradicted(nodes, least.as_slice()) {
+        return Err(ValidateFault::Unvalidated { label });
+    }
+    let entry = &least.as_slice()[position(nodes, rtl.entry())];
+    if !parameters_alone(rtl.parameters(), entry) {
+        return Err(ValidateFault::Unvalidated { label: rtl.entry() });
+    }
+    Ok(())
+}
+
+/// A label whose facts contradict, where there is one.
+fn contradicted(nodes: &[Labelled], facts: &[EquationSet]) -> Option<u32>
+    requires { length facts.now ≡ length nodes.now }
+    ensures clean { IfNone result (All IsClean facts.now) }
+    ensures contradicted { IfSome result (λ _. All IsClean facts.now → ⊥) }
+    ensures there { IfSome result (λ label. IsSome (node_at (labelled_of nodes.now) label)) }
+{
+    let mut at = 0;
+    while at < facts.len() {
+        if !facts[at].is_clean() {
+            return Some(nodes[at].label);
+        }
+        at += 1;
+    }
+    None
+}
+
+/// Whether nothing but parameters is to be known, each at its location.
+fn parameters_alone(parameters: u32, facts: &EquationSet) -> bool
+    ensures { IsTrue result ↔ HoldsParametersAlone parameters facts.now }
+{
+    match facts.equations() {
+        None => false,
+        Some(equations) => are_at_entry(parameters, equations),
+    }
+}
+
+fn are_at_entry(parameters: u32, equations: &[Equation]) -> bool
+    ensures { IsTrue result ↔ All (IsAtEntry parameters) equations.now }
+{
+    for e in equations {
+        if !is_at_entry(parameters, e) {
+            return false;
+        }
+    }
+    true
+}
+
+/// Whether this is known at entry: parameter i is in x(10 + i).
+fn is_at_entry(parameters: u32, e: &Equation) -> bool
+    ensures { IsTrue result ↔ IsAtEntry parameters e.now }
+{
+    match e.location {
+        Location::Register(register) => {
+            let number = register.number();
+            e.register < parameters
+                && number >= FIRST_ARGUMENT
+                && u32::from(number - FIRST_ARGUMENT) == e.register
+        }
+        Location::Slot(_) => false,
+    }
+}

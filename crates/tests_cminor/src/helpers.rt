@@ -1,0 +1,82 @@
+// A text's functions, as Cminor.
+
+use cc_cminor::{CminorPair, to_cminor};
+use cc_syntax::parse;
+use cc_typing::{TypedUnit, check};
+use std::alloc::{AllocError, Global};
+use std::sync::Arc;
+use std::test::Fail;
+
+/// A text's typed unit.
+pub fn shared_unit(alloc: Global, text: &[u8]) -> Result<Arc<TypedUnit>, Fail> {
+    let unit = parse(alloc, text)?;
+    let typed = check(alloc, unit)?;
+    Ok(Arc::new(alloc, typed)?)
+}
+
+// Whether the function with this number goes through, and the pair names it.
+fn goes_through(alloc: Global, unit: &Arc<TypedUnit>, function: usize) -> bool {
+    if function >= unit.functions() {
+        return false;
+    }
+    match to_cminor(alloc, unit, function) {
+        Ok(pair) => {
+            let right = pair.function() == function && pair.unit().text() == unit.text();
+            drop(pair);
+            right
+        }
+        Err(_) => false,
+    }
+}
+
+/// Whether each function of a text goes through, and there are so many.
+pub fn all_go_through(alloc: Global, text: &[u8], functions: usize) -> Result<bool, Fail> {
+    let unit = shared_unit(alloc, text)?;
+    let mut right = unit.functions() == functions;
+    for function in 0..functions {
+        right = right && goes_through(alloc, &unit, function);
+    }
+    drop(unit);
+    Ok(right)
+}
+
+/// The text of the Cminor of one function.
+pub fn text_of_function(
+    alloc: Global,
+    text: &[u8],
+    function: usize,
+) -> Result<Option<String>, Fail> {
+    let unit = shared_unit(alloc, text)?;
+    if function >= unit.functions() {
+        return Ok(None);
+    }
+    let pair = to_cminor(alloc, &unit, function)?;
+    drop(unit);
+    let shown = written(alloc, &pair);
+    drop(pair);
+    Ok(Some(shown?))
+}
+
+fn written(alloc: Global, pair: &CminorPair) -> Result<String, AllocError> {
+    pair.to_string(alloc)
+}
+
+/// A part of a text, and how often it stands there.
+pub type Part<'a> = (&'a str, usize);
+
+/// Adds a part to a text, so many times.
+pub fn append(text: &mut Vec<u8>, part: &str, times: usize) -> Result<(), AllocError> {
+    for _ in 0..times {
+        text.extend_from_slice(part.as_bytes())?;
+    }
+    Ok(())
+}
+
+/// The text of these parts.
+pub fn text_of(alloc: Global, parts: &[Part<'_>]) -> Result<Vec<u8>, AllocError> {
+    let mut text = Vec::new(alloc);
+    for (part, times) in parts {
+        append(&mut text, part, *times)?;
+    }
+    Ok(text)
+}

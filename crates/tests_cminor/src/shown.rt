@@ -1,0 +1,190 @@
+// The text of the Cminor of whole functions, worked by hand from the rules in `docs/INTERMEDIATE.md`.
+
+use super::helpers::text_of_function;
+use std::alloc::Global;
+use std::test::Fail;
+
+/// A text, the number of a function, and the text of its Cminor.
+static SHOWN: [(&str, usize, &str); 10] = [
+    // the division of two signed words; a void call leaves 0 in a variable that nobody reads
+    (
+        "int main(void){write_word(-7/2);write_word(-7%2);return 0;}",
+        0,
+        "f0
+  write div_s(neg(7), 2)
+  v0 = 0
+  skip
+  write rem_s(neg(7), 2)
+  v0 = 0
+  skip
+  return 0
+",
+    ),
+    // a call in an operand
+    (
+        "int f(int n){if(n)return f(n-1);return 7;}int main(void){write_word(f(1022));}",
+        0,
+        "f0
+  if v0
+    v1 = call f0(sub(v0, 1))
+    return v1
+  else
+    skip
+  return 7
+",
+    ),
+    // a left operand waits for the call at its right
+    (
+        "int f(int x) { int y = x + 1; while (y < 10) y = y + f(y); return y; } int main(void) { }",
+        0,
+        "f0
+  v1 = 0
+  v1 = add(v0, 1)
+  block
+    loop
+      if lt_s(v1, 10)
+        block
+          v2 = v1
+          v3 = call f0(v1)
+          v2 = add(v2, v3)
+          v1 = v2
+        skip
+      else
+        exit 0
+  return v1
+",
+    ),
+    // an element: its index waits, the old value is read behind the right side
+    (
+        "int a[2];int f(void){a[0]=1;return 1;}int main(void){a[f()]+=a[0]+5;write_word(a[1]);}",
+        0,
+        "f0
+  v0 = 0
+  o0[v0] = 1
+  return 1
+",
+    ),
+    (
+        "int a[2];int f(void){a[0]=1;return 1;}int main(void){a[f()]+=a[0]+5;write_word(a[1]);}",
+        1,
+        "f1
+  v0 = call f0()
+  o0[v0] = add(o0[v0], add(o0[0], 5))
+  write o0[1]
+  v0 = 0
+  skip
+",
+    ),
+    // a local is set to 0 on each turn, then to its initialiser
+    (
+        "int main(void){int i;for(i=0;i<2;i++){int x=x+1;write_word(x);}}",
+        0,
+        "f0
+  v0 = 0
+  v0 = 0
+  block
+    loop
+      if lt_s(v0, 2)
+        block
+          v1 = 0
+          v1 = add(v1, 1)
+          write v1
+          v2 = 0
+          skip
+        v0 = add(v0, 1)
+      else
+        exit 0
+",
+    ),
+    // `&&` gives 0 or 1; an operand of type unsigned makes the division unsigned, a shift has the type of its left operand
+    (
+        "int f(int a,unsigned b){int c=a&&read_word();return c?b/2:a>>1;}int main(void){}",
+        0,
+        "f0
+  v2 = 0
+  if v0
+    v3 = read
+    v3 = is_zero(is_zero(v3))
+  else
+    v3 = 0
+  v2 = v3
+  if v2
+    v3 = div_u(v1, 2)
+  else
+    v3 = shr_s(v0, 1)
+  return v3
+",
+    ),
+    // `continue` leaves the body alone, `break` the loop
+    (
+        "int main(void){for(int i=0;i<9;i++){if(i==3)continue;if(i==5)break;write_word(-i);}}",
+        0,
+        "f0
+  v0 = 0
+  v0 = 0
+  block
+    loop
+      if lt_s(v0, 9)
+        block
+          if eq(v0, 3)
+            exit 0
+          else
+            skip
+          if eq(v0, 5)
+            exit 1
+          else
+            skip
+          write neg(v0)
+          v1 = 0
+          skip
+        v0 = add(v0, 1)
+      else
+        exit 0
+",
+    ),
+    // arguments wait in variables one behind the other where one of them is no single expression
+    (
+        "int g(int a,int b,int c){return a>b||c;}int main(void){return g(1,read_word(),~2);}",
+        1,
+        "f1
+  v0 = 1
+  v1 = read
+  v2 = complement(2)
+  v0 = call f0(v0, v1, v2)
+  return v0
+",
+    ),
+    // an object of one word, a condition behind the body
+    (
+        "unsigned n;int main(void){do{n=n+1;}while(!(n>=3));return n;}",
+        0,
+        "f0
+  block
+    loop
+      block
+        o0[0] = add(o0[0], 1)
+      if is_zero(le_u(3, o0[0]))
+        skip
+      else
+        exit 0
+  return o0[0]
+",
+    ),
+];
+
+// Whether the Cminor of a function of a text has these lines.
+fn shows(alloc: Global, text: &str, function: usize, lines: &str) -> Result<bool, Fail> {
+    match text_of_function(alloc, text.as_bytes(), function)? {
+        Some(shown) => Ok(shown.as_str() == lines),
+        None => Ok(false),
+    }
+}
+
+#[test]
+fn texts_of_functions(rt: HostRuntime) -> Result<(), Fail> {
+    for (text, function, lines) in SHOWN.iter() {
+        let right = shows(rt.alloc(), text, *function, lines)?;
+        assert!(rt; right, "{text} {function}");
+    }
+    Ok(())
+}

@@ -1,0 +1,208 @@
+// Rewrites: what their events answer, that they make room, and what a crash or a failure at each of them leaves.
+use crate::script::Line::{
+    Ack, Add, Begin, Crash, Done, Fails, Recover, Replace, RewriteAll, SyncAll, SyncArea, SyncBody,
+    SyncGate, Take, Withdraw, WriteArea, WriteBody, WriteGate,
+};
+use crate::script::{Line, ONE, TWO, fresh, leaves, run};
+use std::alloc::Global;
+use std::test::Fail;
+
+// Two records of one name.
+const TWICE: [Line; 18] = [
+    Add(1, b'a', ONE),
+    Take(3, 1, 0),
+    Done(3, ONE, 0),
+    Begin(1),
+    WriteBody,
+    SyncBody,
+    WriteGate,
+    SyncGate,
+    Ack(1),
+    Replace(1, b'a', TWO),
+    Take(3, 1, 0),
+    Done(3, TWO, 0),
+    Begin(1),
+    WriteBody,
+    SyncBody,
+    WriteGate,
+    SyncGate,
+    Ack(1),
+];
+
+// They fill an area of 64 bytes, so another name has no room; a rewrite leaves one of them, and then it has. In a rewrite jobs come
+// and workers answer, but nothing begins; each of its steps is possible in its turn alone. After it the other area is in use, and
+// after two more in a row that one again.
+const MAKES_ROOM: [(Line, u32); 46] = [
+    (Add(7, b'b', ONE), 0),
+    (Take(3, 7, 0), 0),
+    (Done(3, ONE, 0), 0),
+    (Begin(7), 34),
+    (SyncAll, 29),
+    (WriteArea, 29),
+    (SyncArea, 29),
+    (Fails, 29),
+    (RewriteAll, 0),
+    (RewriteAll, 29),
+    (WriteArea, 29),
+    (SyncArea, 29),
+    (WriteBody, 29),
+    (Recover, 29),
+    (Add(7, b'b', ONE), 0),
+    (Take(3, 7, 0), 0),
+    (SyncAll, 0),
+    (SyncAll, 29),
+    (Done(3, ONE, 0), 0),
+    (Begin(7), 29),
+    (WriteArea, 0),
+    (WriteArea, 29),
+    (Begin(7), 29),
+    (SyncArea, 0),
+    (SyncArea, 29),
+    (Begin(7), 0),
+    (RewriteAll, 29),
+    (WriteBody, 0),
+    (SyncBody, 0),
+    (WriteGate, 0),
+    (SyncGate, 0),
+    (Ack(7), 1),
+    (RewriteAll, 0),
+    (SyncAll, 0),
+    (WriteArea, 0),
+    (SyncArea, 0),
+    (RewriteAll, 0),
+    (SyncAll, 0),
+    (WriteArea, 0),
+    (SyncArea, 0),
+    (Crash(0xa5), 0),
+    (RewriteAll, 29),
+    (Recover, 0),
+    (Add(7, b'c', ONE), 0),
+    (Take(3, 7, 0), 0),
+    (Fails, 29),
+];
+
+#[test]
+fn a_rewrite_makes_room(rt: HostRuntime) -> Result<(), Fail> {
+    let alloc = rt.alloc();
+    let mut lines = Vec::new(alloc);
+    for line in &TWICE {
+        lines.push((*line, expected(*line)))?;
+    }
+    lines.extend_from_slice(&MAKES_ROOM)?;
+    assert!(rt;
+        leaves(
+            alloc,
+            fresh(alloc, 64)?,
+            &lines,
+            (Some(TWO), Some(ONE), None, 3)
+        )?
+    );
+    Ok(())
+}
+
+// What the events of those two records answer.
+fn expected(line: Line) -> u32 {
+    match line {
+        Ack(_) => 1,
+        _ => 0,
+    }
+}
+
+// A failure in a rewrite answers nothing, and closes the journal: no rewrite and no commit begins until the disk is opened
+// again. Then the name can be withdrawn, and a rewrite of an empty library leaves no record.
+const CLOSED: [(Line, u32); 26] = [
+    (RewriteAll, 0),
+    (SyncAll, 0),
+    (Fails, 0),
+    (Fails, 29),
+    (WriteArea, 29),
+    (RewriteAll, 29),
+    (Withdraw(2, b'a'), 0),
+    (Begin(2), 36),
+    (Crash(0xff), 0),
+    (Recover, 0),
+    (Withdraw(2, b'a'), 0),
+    (Begin(2), 0),
+    (Fails, 35),
+    (Crash(0x00), 0),
+    (Recover, 0),
+    (Withdraw(2, b'a'), 0),
+    (Begin(2), 0),
+    (WriteBody, 0),
+    (SyncBody, 0),
+    (WriteGate, 0),
+    (SyncGate, 0),
+    (Ack(2), 1),
+    (RewriteAll, 0),
+    (SyncAll, 0),
+    (WriteArea, 0),
+    (SyncArea, 0),
+];
+
+#[test]
+fn a_failure_closes(rt: HostRuntime) -> Result<(), Fail> {
+    let alloc = rt.alloc();
+    let state = run(alloc, &TWICE)?;
+    assert!(rt; leaves(alloc, state, &CLOSED, (None, None, None, 3))?);
+    Ok(())
+}
+
+// The four device steps of a rewrite.
+const STEPS: [Line; 4] = [RewriteAll, SyncAll, WriteArea, SyncArea];
+
+// One commit more, in whichever area is in use then.
+const ANOTHER: [Line; 9] = [
+    Add(7, b'b', ONE),
+    Take(3, 7, 0),
+    Done(3, ONE, 0),
+    Begin(7),
+    WriteBody,
+    SyncBody,
+    WriteGate,
+    SyncGate,
+    Ack(7),
+];
+
+// Whether the map is recovered behind so many steps of a rewrite, the failure of the next one where it is to fail, and a crash that
+// leaves this byte; and whether a commit after it is kept through another crash.
+fn survives(alloc: Global, steps: usize, fails: bool, byte: u8) -> Result<bool, Fail> {
+    let mut lines = Vec::new(alloc);
+    lines.extend_from_slice(&TWICE)?;
+    for line in STEPS.iter().take(steps) {
+        lines.push(*line)?;
+    }
+    if fails {
+        lines.push(Fails)?;
+    }
+    lines.extend_from_slice(&[Crash(byte), Recover])?;
+    let recovered = leaves(alloc, run(alloc, &lines)?, &[], (Some(TWO), None, None, 2))?;
+    lines.extend_from_slice(&ANOTHER)?;
+    lines.extend_from_slice(&[Crash(0xa5), Recover])?;
+    let kept = leaves(
+        alloc,
+        run(alloc, &lines)?,
+        &[],
+        (Some(TWO), Some(ONE), None, 3),
+    )?;
+    Ok(recovered && kept)
+}
+
+#[test]
+fn a_crash_at_each_step(rt: HostRuntime) -> Result<(), Fail> {
+    for steps in 0..5 {
+        for byte in &[0x00, 0xa5, 0xff] {
+            assert!(rt; survives(rt.alloc(), steps, false, *byte)?);
+            assert!(rt; survives(rt.alloc(), steps, true, *byte)?);
+        }
+    }
+    Ok(())
+}
+
+// Whatever a torn write of the area byte leaves.
+#[test]
+fn each_area_byte(rt: HostRuntime) -> Result<(), Fail> {
+    for byte in 0..=255 {
+        assert!(rt; survives(rt.alloc(), 3, false, byte)?);
+    }
+    Ok(())
+}

@@ -1,0 +1,117 @@
+// A text's functions, as RTL.
+
+use cc_cminor::to_cminor;
+use cc_rtl::{RtlFault, RtlPair, to_rtl};
+use cc_syntax::parse;
+use cc_typing::{TypedUnit, check};
+use std::alloc::{AllocError, Global};
+use std::sync::Arc;
+use std::test::Fail;
+
+/// A text's typed unit.
+pub fn shared_unit(alloc: Global, text: &[u8]) -> Result<Arc<TypedUnit>, Fail> {
+    let unit = parse(alloc, text)?;
+    let typed = check(alloc, unit)?;
+    Ok(Arc::new(alloc, typed)?)
+}
+
+// The RTL of the function with this number, or why there is none: 40 where there is not even Cminor.
+fn rtl_of(alloc: Global, unit: &Arc<TypedUnit>, function: usize) -> Result<RtlPair, RtlFault> {
+    if function >= unit.functions() {
+        return Err(RtlFault::OutOfMemory);
+    }
+    match to_cminor(alloc, unit, function) {
+        Ok(pair) => to_rtl(alloc, pair),
+        Err(_) => Err(RtlFault::OutOfMemory),
+    }
+}
+
+/// How a function comes out: how many nodes it has, or why it is refused.
+#[derive(Clone, Copy, PartialEq)]
+pub enum Answer {
+    Nodes(usize),
+    Fault(u32),
+}
+
+// How the function with this number comes out; a pair that names another function or unit counts as a fault.
+fn answer_for(alloc: Global, unit: &Arc<TypedUnit>, function: usize) -> Answer {
+    match rtl_of(alloc, unit, function) {
+        Ok(pair) => {
+            let right = pair.function() == function && pair.unit().text() == unit.text();
+            let nodes = pair.code().nodes().len();
+            drop(pair);
+            if right {
+                Answer::Nodes(nodes)
+            } else {
+                Answer::Fault(0)
+            }
+        }
+        Err(fault) => Answer::Fault(fault.number()),
+    }
+}
+
+/// How the first function of a text comes out.
+pub fn first_answer(alloc: Global, text: &[u8]) -> Result<Answer, Fail> {
+    let unit = shared_unit(alloc, text)?;
+    let answer = answer_for(alloc, &unit, 0);
+    drop(unit);
+    Ok(answer)
+}
+
+/// Whether each function of a text goes through, and there are so many.
+pub fn all_go_through(alloc: Global, text: &[u8], functions: usize) -> Result<bool, Fail> {
+    let unit = shared_unit(alloc, text)?;
+    let mut right = unit.functions() == functions;
+    for function in 0..functions {
+        let through = matches!(answer_for(alloc, &unit, function), Answer::Nodes(_));
+        right = right && through;
+    }
+    drop(unit);
+    Ok(right)
+}
+
+/// The text of the RTL of one function.
+pub fn text_of_function(
+    alloc: Global,
+    text: &[u8],
+    function: usize,
+) -> Result<Option<String>, Fail> {
+    let unit = shared_unit(alloc, text)?;
+    let shown = match rtl_of(alloc, &unit, function) {
+        Ok(pair) => {
+            let shown = written(alloc, &pair);
+            drop(pair);
+            Some(shown)
+        }
+        Err(_) => None,
+    };
+    drop(unit);
+    match shown {
+        Some(Ok(text)) => Ok(Some(text)),
+        Some(Err(fault)) => Err(Fail::from(fault)),
+        None => Ok(None),
+    }
+}
+
+fn written(alloc: Global, pair: &RtlPair) -> Result<String, AllocError> {
+    pair.code().to_string(alloc)
+}
+
+/// A part of a text, and how often it stands there.
+pub type Part<'a> = (&'a str, usize);
+
+fn append(text: &mut Vec<u8>, part: &str, times: usize) -> Result<(), AllocError> {
+    for _ in 0..times {
+        text.extend_from_slice(part.as_bytes())?;
+    }
+    Ok(())
+}
+
+/// The text of these parts.
+pub fn text_of(alloc: Global, parts: &[Part<'_>]) -> Result<Vec<u8>, AllocError> {
+    let mut text = Vec::new(alloc);
+    for (part, times) in parts {
+        append(&mut text, part, *times)?;
+    }
+    Ok(text)
+}

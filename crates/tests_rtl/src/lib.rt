@@ -1,0 +1,13 @@
+//! Tests of the way from C to RTL: each function of the worked programs goes through, a function is refused exactly where it has too
+//! many nodes, the text of some is what the rules of `docs/INTERMEDIATE.md` give by hand, and definitions of 64 KiB at the limits end
+//! in time.
+#![tactic(auto)]
+
+#[cfg(test)]
+mod helpers;
+#[cfg(test)]
+mod limits;
+#[cfg(test)]
+mod shown;
+#[cfg(test)]
+mod worked;

@@ -1,0 +1,83 @@
+// Disks of random bytes: each is read as the format says.
+use crate::helpers::{ROW, SIZE, are_bodies, disk_of, part};
+use cc_journal::Journal;
+use std::alloc::Global;
+use std::test::Fail;
+
+// The next byte of numbers that look random, the same in each run.
+fn next_byte(state: &mut u64) -> u8 {
+    *state = state
+        .wrapping_mul(6_364_136_223_846_793_005)
+        .wrapping_add(1_442_695_040_888_963_407);
+    state.to_be_bytes()[0]
+}
+
+// The bytes of a disk: mostly the right header with any area byte, a first gate that is open, and after it many zeros.
+fn random_disk(alloc: Global, state: &mut u64) -> Result<Vec<u8>, Fail> {
+    let mut bytes = vec![in alloc; 0u8; SIZE]?;
+    for (i, byte) in bytes.iter_mut().enumerate() {
+        let chosen = next_byte(state);
+        *byte = match ROW.get(i) {
+            Some(right) if 0 < i && i < 16 && chosen > 2 => *right,
+            _ if i < 16 => chosen,
+            _ if chosen < 40 || (chosen < 192 && (i == 16 || i == 80)) => 0xa5,
+            _ if chosen < 56 => chosen % 16,
+            _ if chosen < 64 => chosen.wrapping_mul(37),
+            _ => 0,
+        };
+    }
+    Ok(bytes)
+}
+
+// Whether the records of an area fit it, and their bodies.
+fn bodies_in<'a>(area: &'a [u8], bodies: &mut Vec<&'a [u8]>) -> Result<bool, Fail> {
+    let mut rest = area;
+    for _ in 0..area.len() {
+        match rest {
+            [0xa5, a, b, c, d, after @ ..] => {
+                let length = u32::from_le_bytes([*a, *b, *c, *d]) as usize;
+                // A gate stands after the body.
+                if length >= after.len() {
+                    return Ok(false);
+                }
+                bodies.push(&after[..length])?;
+                rest = &after[length..];
+            }
+            [0xa5, ..] => return Ok(false),
+            _ => return Ok(true),
+        }
+    }
+    Ok(false)
+}
+
+// Whether a disk of these bytes is refused with the number that the format says, or has the records that it says.
+fn is_read(alloc: Global, bytes: &[u8]) -> Result<bool, Fail> {
+    let start = match bytes {
+        [first, ..] if first % 2 == 1 => 80,
+        _ => 16,
+    };
+    let mut bodies = Vec::new(alloc);
+    let fits = bodies_in(part(bytes, start, start + 64), &mut bodies)?;
+    let number = if part(bytes, 1, 16) != part(&ROW, 1, 16) {
+        38
+    } else if fits {
+        0
+    } else {
+        37
+    };
+    match Journal::open(alloc, disk_of(alloc, bytes)?) {
+        Ok(journal) => Ok(number == 0 && are_bodies(journal.records(), &bodies)),
+        Err((fault, _disk)) => Ok(number == fault.number()),
+    }
+}
+
+#[test]
+fn random_bytes_are_read_as_the_format_says(rt: HostRuntime) -> Result<(), Fail> {
+    let alloc = rt.alloc();
+    let mut state = 1u64;
+    for i in 0..10_000u32 {
+        let bytes = random_disk(alloc, &mut state)?;
+        assert!(rt; is_read(alloc, &bytes)?, "disk {i}");
+    }
+    Ok(())
+}

@@ -1,0 +1,299 @@
+// Single changes of a function of LTL: one register, slot, successor, operator, constant or number of one operation or move is another,
+// or one move is dropped or made twice.
+
+use cc_ltl::{Block, Ltl, Move, Moves, Operation, Register, Slot};
+use cc_words::{Binary, Unary};
+use std::alloc::{AllocError, Global};
+use std::test::Fail;
+
+// Another register.
+fn other(register: Register, far: bool) -> Register {
+    let by = if far { 5 } else { 1 };
+    let number = (register.number() - 7 + by) % 25 + 7;
+    Register::new(number).unwrap_or(register)
+}
+
+fn other_slot(slot: Slot, slots: u16) -> Slot {
+    let number = if slot.number() + 1 < slots {
+        slot.number() + 1
+    } else {
+        0
+    };
+    Slot::new(number).unwrap_or(slot)
+}
+
+fn other_unary(operator: Unary) -> Unary {
+    match operator {
+        Unary::Neg => Unary::Complement,
+        Unary::Complement => Unary::IsZero,
+        Unary::IsZero => Unary::Neg,
+    }
+}
+
+fn other_binary(operator: Binary) -> Binary {
+    match operator {
+        Binary::Add => Binary::Sub,
+        Binary::Sub => Binary::Add,
+        Binary::Mul => Binary::Add,
+        Binary::DivS => Binary::DivU,
+        Binary::DivU => Binary::DivS,
+        Binary::RemS => Binary::RemU,
+        Binary::RemU => Binary::RemS,
+        Binary::Shl => Binary::ShrU,
+        Binary::ShrS => Binary::ShrU,
+        Binary::ShrU => Binary::ShrS,
+        Binary::And => Binary::Or,
+        Binary::Or => Binary::Xor,
+        Binary::Xor => Binary::And,
+        Binary::Eq => Binary::Ne,
+        Binary::Ne => Binary::Eq,
+        Binary::LtS => Binary::LtU,
+        Binary::LtU => Binary::LtS,
+        Binary::LeS => Binary::LeU,
+        Binary::LeU => Binary::LtU,
+    }
+}
+
+/// A change of a move, by its number, where it has so many: two of what it sets, two of what it reads.
+pub fn changed_move(each: &Move, slots: u16, number: u32) -> Option<Move> {
+    if number > 3 {
+        return None;
+    }
+    let far = number % 2 == 1;
+    let sets = number < 2;
+    match *each {
+        Move::Between { to, from } => Some(Move::Between {
+            to: if sets { other(to, far) } else { to },
+            from: if sets { from } else { other(from, far) },
+        }),
+        Move::Reload { to, slot } => Some(Move::Reload {
+            to: if sets { other(to, far) } else { to },
+            slot: if sets { slot } else { other_slot(slot, slots) },
+        }),
+        Move::Spill { slot, from } => Some(Move::Spill {
+            slot: if sets { other_slot(slot, slots) } else { slot },
+            from: if sets { from } else { other(from, far) },
+        }),
+    }
+}
+
+// A part of an operation: another one in the place that is changed.
+fn register_at(number: u32, place: u32, register: Register) -> Register {
+    if number == place {
+        other(register, false)
+    } else {
+        register
+    }
+}
+
+fn word_at(number: u32, place: u32, word: u32) -> u32 {
+    if number == place {
+        word.wrapping_add(1)
+    } else {
+        word
+    }
+}
+
+fn label_at(number: u32, place: u32, label: u32, blocks: u32) -> u32 {
+    if number != place {
+        label
+    } else if label.wrapping_add(1) < blocks {
+        label.wrapping_add(1)
+    } else {
+        0
+    }
+}
+
+/// How many changes an operation has.
+pub fn operation_changes(operation: &Operation) -> u32 {
+    match operation {
+        Operation::Nop { .. } | Operation::Read { .. } | Operation::Write { .. } => 1,
+        Operation::Call { .. } => 2,
+        Operation::Const { .. } | Operation::Branch { .. } => 3,
+        Operation::Unary { .. } | Operation::Load { .. } | Operation::Store { .. } => 4,
+        Operation::Binary { .. } => 5,
+        Operation::Return => 0,
+    }
+}
+
+/// A change of an operation, by its number, in a function with so many blocks.
+pub fn changed_operation(operation: &Operation, blocks: u32, number: u32) -> Operation {
+    match *operation {
+        Operation::Unary {
+            operator,
+            to,
+            from,
+            next,
+        } => Operation::Unary {
+            operator: if number == 0 {
+                other_unary(operator)
+            } else {
+                operator
+            },
+            to: register_at(number, 1, to),
+            from: register_at(number, 2, from),
+            next: label_at(number, 3, next, blocks),
+        },
+        Operation::Binary {
+            operator,
+            to,
+            left,
+            right,
+            next,
+        } => Operation::Binary {
+            operator: if number == 0 {
+                other_binary(operator)
+            } else {
+                operator
+            },
+            to: register_at(number, 1, to),
+            left: register_at(number, 2, left),
+            right: register_at(number, 3, right),
+            next: label_at(number, 4, next, blocks),
+        },
+        Operation::Branch {
+            from,
+            if_nonzero,
+            if_zero,
+        } => Operation::Branch {
+            from: register_at(number, 0, from),
+            if_nonzero: label_at(number, 1, if_nonzero, blocks),
+            if_zero: label_at(number, 2, if_zero, blocks),
+        },
+        other => changed_plain(other, blocks, number),
+    }
+}
+
+fn changed_plain(operation: Operation, blocks: u32, number: u32) -> Operation {
+    match operation {
+        Operation::Nop { next } => Operation::Nop {
+            next: label_at(number, 0, next, blocks),
+        },
+        Operation::Const { to, word, next } => Operation::Const {
+            to: register_at(number, 0, to),
+            word: word_at(number, 1, word),
+            next: label_at(number, 2, next, blocks),
+        },
+        Operation::Load {
+            object,
+            to,
+            index,
+            next,
+        } => Operation::Load {
+            object: word_at(number, 0, object),
+            to: register_at(number, 1, to),
+            index: register_at(number, 2, index),
+            next: label_at(number, 3, next, blocks),
+        },
+        Operation::Store {
+            object,
+            index,
+            from,
+            next,
+        } => Operation::Store {
+            object: word_at(number, 0, object),
+            index: register_at(number, 1, index),
+            from: register_at(number, 2, from),
+            next: label_at(number, 3, next, blocks),
+        },
+        Operation::Call { function, next } => Operation::Call {
+            function: word_at(number, 0, function),
+            next: label_at(number, 1, next, blocks),
+        },
+        Operation::Read { next } => Operation::Read {
+            next: label_at(number, 0, next, blocks),
+        },
+        Operation::Write { next } => Operation::Write {
+            next: label_at(number, 0, next, blocks),
+        },
+        other => other,
+    }
+}
+
+/// A change of a list of moves: the change of this number of the move at a place, or the move dropped or made twice. None where there
+/// are not so many.
+pub fn changed_moves(
+    alloc: Global,
+    moves: &[Move],
+    slots: u16,
+    place: usize,
+    number: u32,
+) -> Result<Option<Vec<Move>>, AllocError> {
+    let mut changed = Vec::new(alloc);
+    for (at, each) in moves.iter().enumerate() {
+        if at != place {
+            changed.push(*each)?;
+        } else if number == 1 {
+            changed.push(*each)?;
+            changed.push(*each)?;
+        } else if number > 1 {
+            let Some(other) = changed_move(each, slots, number - 2) else {
+                return Ok(None);
+            };
+            changed.push(other)?;
+        }
+    }
+    Ok(Some(changed))
+}
+
+fn as_moves(moves: Vec<Move>) -> Result<Moves, Fail> {
+    match Moves::new(moves) {
+        Ok(moves) => Ok(moves),
+        Err(moves) => {
+            drop(moves);
+            Err(Fail::from("too many moves"))
+        }
+    }
+}
+
+/// What one block becomes: another operation, or other moves before or behind it.
+#[derive(Drop)]
+pub enum Change {
+    Operation(Operation),
+    Before(Vec<Move>),
+    After(Vec<Move>),
+}
+
+fn changed_block(alloc: Global, block: &Block, change: Change) -> Result<Block, Fail> {
+    let mut operation = block.operation;
+    let mut before = Vec::from_slice(alloc, block.before.moves())?;
+    let mut after = Vec::from_slice(alloc, block.after.moves())?;
+    match change {
+        Change::Operation(other) => operation = other,
+        Change::Before(moves) => before = moves,
+        Change::After(moves) => after = moves,
+    }
+    Ok(Block {
+        label: block.label,
+        before: as_moves(before)?,
+        operation,
+        after: as_moves(after)?,
+    })
+}
+
+/// The function whose block at a place is changed. None where that is no function.
+pub fn changed(
+    alloc: Global,
+    ltl: &Ltl,
+    place: usize,
+    change: Change,
+) -> Result<Option<Ltl>, Fail> {
+    let mut blocks = Vec::new(alloc);
+    let mut change = Some(change);
+    for (at, block) in ltl.blocks().iter().enumerate() {
+        let as_before = Change::Operation(block.operation);
+        let made = if at == place {
+            changed_block(alloc, block, change.take().unwrap_or(as_before))?
+        } else {
+            changed_block(alloc, block, as_before)?
+        };
+        blocks.push(made)?;
+    }
+    match Ltl::new(ltl.slots(), ltl.entry(), blocks) {
+        Ok(ltl) => Ok(Some(ltl)),
+        Err(blocks) => {
+            drop(blocks);
+            Ok(None)
+        }
+    }
+}

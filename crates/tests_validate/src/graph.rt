@@ -1,0 +1,187 @@
+// A small interpreter of RTL.
+
+use super::world::{Next, Stop, World};
+use cc_rtl::{Labelled, Node, Rtl, RtlPair};
+use std::alloc::{AllocError, Global};
+
+/// The words of registers, 0 where none was put.
+#[derive(Drop)]
+struct Registers {
+    words: Vec<u32>,
+}
+
+impl Registers {
+    fn get(&self, register: u32) -> u32 {
+        match self.words.as_slice().get(register as usize) {
+            Some(word) => *word,
+            None => 0,
+        }
+    }
+
+    fn put(&mut self, register: u32, word: u32) -> Result<(), AllocError> {
+        for _ in self.words.len()..(register as usize).saturating_add(1) {
+            self.words.push(0)?;
+        }
+        if let Some(place) = self.words.as_mut_slice().get_mut(register as usize) {
+            *place = word;
+        }
+        Ok(())
+    }
+}
+
+/// The node of a label.
+pub fn node_at(rtl: &Rtl, label: u32) -> Option<&Labelled> {
+    let node = rtl.nodes().get(label as usize)?;
+    if node.label == label {
+        Some(node)
+    } else {
+        None
+    }
+}
+
+/// The run of a function for at most so many nodes, with at most so many calls open.
+#[cycle(graphs)]
+pub fn run_graph(
+    alloc: Global,
+    program: &[RtlPair],
+    function: u32,
+    arguments: &[u32],
+    world: &mut World,
+    open: u32,
+) -> Result<Stop, AllocError> {
+    let Some(pair) = program.get(function as usize) else {
+        return Ok(Stop::Wrong);
+    };
+    let rtl = pair.code();
+    let mut registers = Registers {
+        words: Vec::from_slice(alloc, arguments)?,
+    };
+    let mut label = rtl.entry();
+    for _ in 0..600u32 {
+        let Some(node) = node_at(rtl, label) else {
+            return Ok(Stop::Wrong);
+        };
+        match step(alloc, program, &node.node, &mut registers, world, open)? {
+            Next::To(next) => label = next,
+            Next::Stops(stop) => return Ok(stop),
+        }
+    }
+    Ok(Stop::Going)
+}
+
+// One node.
+#[cycle(graphs)]
+fn step(
+    alloc: Global,
+    program: &[RtlPair],
+    node: &Node,
+    registers: &mut Registers,
+    world: &mut World,
+    open: u32,
+) -> Result<Next, AllocError> {
+    match node {
+        Node::Nop { next } => Ok(Next::To(*next)),
+        Node::Const { to, word, next } => put(registers, *to, Some(*word), *next),
+        Node::Move { to, from, next } => {
+            let word = registers.get(*from);
+            put(registers, *to, Some(word), *next)
+        }
+        Node::Unary {
+            operator,
+            to,
+            from,
+            next,
+        } => {
+            let word = operator.apply(registers.get(*from));
+            put(registers, *to, Some(word), *next)
+        }
+        Node::Binary {
+            operator,
+            to,
+            left,
+            right,
+            next,
+        } => {
+            let word = operator.apply(registers.get(*left), registers.get(*right));
+            put(registers, *to, word, *next)
+        }
+        Node::Load {
+            object,
+            to,
+            index,
+            next,
+        } => {
+            let word = world.element(*object, registers.get(*index));
+            put(registers, *to, word, *next)
+        }
+        Node::Store {
+            object,
+            index,
+            from,
+            next,
+        } => {
+            if world.store(*object, registers.get(*index), registers.get(*from)) {
+                Ok(Next::To(*next))
+            } else {
+                Ok(Next::Stops(Stop::Wrong))
+            }
+        }
+        Node::Call {
+            function,
+            arguments,
+            to,
+            next,
+        } => {
+            if open == 0 {
+                return Ok(Next::Stops(Stop::Wrong));
+            }
+            let mut words = Vec::new(alloc);
+            for argument in arguments.as_slice() {
+                words.push(registers.get(*argument))?;
+            }
+            match run_graph(alloc, program, *function, words.as_slice(), world, open - 1)? {
+                Stop::Ended(word) => match to {
+                    Some(to) => put(registers, *to, Some(word), *next),
+                    None => Ok(Next::To(*next)),
+                },
+                stop => Ok(Next::Stops(stop)),
+            }
+        }
+        Node::Read { to, next } => {
+            let word = world.read();
+            put(registers, *to, Some(word), *next)
+        }
+        Node::Write { from, next } => {
+            world.write(registers.get(*from))?;
+            Ok(Next::To(*next))
+        }
+        Node::Branch {
+            from,
+            if_nonzero,
+            if_zero,
+        } => {
+            if registers.get(*from) == 0 {
+                Ok(Next::To(*if_zero))
+            } else {
+                Ok(Next::To(*if_nonzero))
+            }
+        }
+        Node::Return { from } => Ok(Next::Stops(Stop::Ended(registers.get(*from)))),
+    }
+}
+
+// A word goes to a register, where there is one.
+fn put(
+    registers: &mut Registers,
+    to: u32,
+    word: Option<u32>,
+    next: u32,
+) -> Result<Next, AllocError> {
+    match word {
+        Some(word) => {
+            registers.put(to, word)?;
+            Ok(Next::To(next))
+        }
+        None => Ok(Next::Stops(Stop::Wrong)),
+    }
+}

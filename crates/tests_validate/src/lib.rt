@@ -1,0 +1,21 @@
+//! Tests of the validator from outside: every single change of an allocation is refused, or is harmless by what small interpreters of RTL
+//! and LTL see. `texts` has the functions, `world` what an interpreter shares, `graph` and `located` the two interpreters, `changes` what is
+//! changed.
+#![tactic(auto)]
+
+#[cfg(test)]
+mod bytes;
+#[cfg(test)]
+mod changes;
+#[cfg(test)]
+mod graph;
+#[cfg(test)]
+mod located;
+#[cfg(test)]
+mod mutations;
+#[cfg(test)]
+mod pairs;
+#[cfg(test)]
+mod texts;
+#[cfg(test)]
+mod world;

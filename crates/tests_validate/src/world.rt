@@ -1,0 +1,90 @@
+// What an interpreter shares with the functions that it calls: one object, the input, the output.
+
+use std::alloc::{AllocError, Global};
+
+/// How a run stopped.
+#[derive(Clone, Copy, PartialEq, Eq)]
+pub enum Stop {
+    Ended(u32),
+    Wrong,
+    Going,
+}
+
+/// Where a run goes from one node or block.
+#[derive(Clone, Copy)]
+pub enum Next {
+    To(u32),
+    Stops(Stop),
+}
+
+#[derive(Drop)]
+pub struct World {
+    object: Vec<u32>,
+    seed: u32,
+    taken: u32,
+    output: Vec<u32>,
+}
+
+// Some word.
+fn word(seed: u32, number: u32) -> u32 {
+    if seed == 0 {
+        number
+    } else {
+        seed.wrapping_mul(number.wrapping_add(1)) % 7
+    }
+}
+
+impl World {
+    /// A world whose object has so many words; a seed says which words these are, and which the input has.
+    pub fn new(alloc: Global, words: u32, seed: u32) -> Result<World, AllocError> {
+        let mut object = Vec::new(alloc);
+        for number in 0..words {
+            object.push(word(seed, number))?;
+        }
+        Ok(World {
+            object,
+            seed,
+            taken: 0,
+            output: Vec::new(alloc),
+        })
+    }
+
+    pub fn element(&self, object: u32, index: u32) -> Option<u32> {
+        if object == 0 {
+            self.object.as_slice().get(index as usize).copied()
+        } else {
+            None
+        }
+    }
+
+    /// Sets an element, and tells whether there is one.
+    pub fn store(&mut self, object: u32, index: u32, word: u32) -> bool {
+        if object != 0 {
+            return false;
+        }
+        match self.object.as_mut_slice().get_mut(index as usize) {
+            Some(element) => {
+                *element = word;
+                true
+            }
+            None => false,
+        }
+    }
+
+    pub fn read(&mut self) -> u32 {
+        self.taken = self.taken.wrapping_add(1);
+        word(self.seed, self.taken)
+    }
+
+    pub fn write(&mut self, word: u32) -> Result<(), AllocError> {
+        self.output.push(word)?;
+        Ok(())
+    }
+
+    /// Whether two worlds have the same object and output, and took as much input.
+    pub fn is_same(&self, other: &World) -> bool {
+        self.taken == other.taken
+            && self.object.as_slice() == other.object.as_slice()
+            && self.output.as_slice() == other.output.as_slice()
+    }
+}
