@@ -3,8 +3,8 @@
 use crate::arguments::next_number;
 use anyhow::{Context, Result};
 use cc_library::Name;
-use cc_link::{Source, StoredUnit};
 use cc_rv32::image::{Code, Globals, Image};
+use cc_unit::{Source, StoredUnit};
 use std::alloc::Global;
 use std::env::Args;
 

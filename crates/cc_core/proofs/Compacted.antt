@@ -11,7 +11,7 @@ use Rattle.std.specs.Cmp.Lexicographic.{slice_cmp, nat_list_cmp_total}
 use Rattle.std.specs.FinMap as map
 use Rattle.std.specs.FinMap.Entries.{put, by_order, is_sorted, is_sorted-where_key, find-where_key}
 use Rattle.cc_journal.specs.Format.{record_bytes, records, room_of}
-use Rattle.cc_link.specs.declared.unit.StoredUnit.{StoredUnit}
+use Rattle.cc_unit.specs.declared.unit.StoredUnit.{StoredUnit}
 use Rattle.cc_library.specs.declared.command.Command.{Command}
 use Rattle.cc_library.specs.declared.command.Command.TheVariants.{Add, Replace, Withdraw}
 use Rattle.cc_library.specs.Apply.{Units, after, after_all, kept}

@@ -13,7 +13,7 @@ use Rattle.cc_journal.proofs.Records.{holds_alone}
 use Rattle.cc_library.specs.Apply.{Units, apply, library_of}
 use Rattle.cc_library.specs.Body.{IsCommand, body_of}
 use Rattle.cc_library.specs.Recovered.{StandFor, Recovers}
-use Rattle.cc_link.specs.declared.unit.StoredUnit.{StoredUnit}
+use Rattle.cc_unit.specs.declared.unit.StoredUnit.{StoredUnit}
 use Rattle.cc_library.proofs.Standing.{one_more, one_map, holds_recovers}
 use Rattle.cc_core.specs.declared.command.Numbered.{Numbered}
 use Rattle.cc_core.specs.declared.contents.Due.{Due}

@@ -1,7 +1,7 @@
 -- A run goes on by one turn, and what is reached stays reached.
 use Rattle.std.proofs.Common.{inl, List, [], ◌∷◌, ◌++◌, Option, Result, Ok, Err, refl, sym, subst}
 use Rattle.std.specs.Prelude.{OnOk}
-use Rattle.cc_link.specs.declared.unit.StoredUnit.{StoredUnit}
+use Rattle.cc_unit.specs.declared.unit.StoredUnit.{StoredUnit}
 use Rattle.cc_core.specs.declared.command.Reply.{Reply}
 use Rattle.cc_core.specs.declared.contents.Contents.{Contents}
 use Rattle.cc_core.specs.declared.event.Event.{Event}

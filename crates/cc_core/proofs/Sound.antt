@@ -20,7 +20,7 @@ use Rattle.cc_journal.specs.Format.{header, open_gate, record_bytes, records, ro
 use Rattle.cc_journal.proofs.Images.{frame}
 use Rattle.cc_journal.proofs.Records.{holds_alone, holds_same}
 use Rattle.cc_journal.proofs.Bytes.{empty_holds}
-use Rattle.cc_link.specs.declared.unit.StoredUnit.{StoredUnit}
+use Rattle.cc_unit.specs.declared.unit.StoredUnit.{StoredUnit}
 use Rattle.cc_library.specs.declared.command.Command.{Command}
 use Rattle.cc_library.specs.Apply.{Units, apply, after, library_of, AreAccepted}
 use Rattle.cc_library.specs.Body.{IsCommand, body_of}

@@ -3,7 +3,7 @@
 use Rattle.std.proofs.Common.{◌≡◌, ℕ, zero, suc, ◌≤◌, Bool, true, false, if◌then◌else◌, List, [], ◌∷◌, length, Option, Some, None, Result, Ok, Err, refl, sym, ap, subst, ◌∙◌, All}
 use Rattle.std.specs.Prelude.{slice_get, IsTrue, IsOk, nat_le}
 use Rattle.std.proofs.lemmas.Bool.{leb-true}
-use Rattle.cc_link.specs.declared.unit.StoredUnit.{StoredUnit}
+use Rattle.cc_unit.specs.declared.unit.StoredUnit.{StoredUnit}
 use Rattle.cc_library.specs.declared.command.Command.{Command}
 use Rattle.cc_library.specs.declared.command.Command.TheVariants as command
 use Rattle.cc_core.specs.declared.command.Request.{Request}

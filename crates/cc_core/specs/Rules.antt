@@ -1,6 +1,6 @@
 -- What a build does, apart from any code: its rules, and when pieces are all of a source's.
 use Rattle.std.specs.Prelude.{ℕ, ◌≡◌, List, length, slice_get, Some, Result, Ok}
-use Rattle.cc_link.specs.declared.unit.StoredUnit.{StoredUnit}
+use Rattle.cc_unit.specs.declared.unit.StoredUnit.{StoredUnit}
 
 -- the rules of a build whose pieces are of the type P
 pub record Rules (P : Type 0) : Type 0 where

@@ -1,11 +1,11 @@
 ghost use Rattle.std.specs.Prelude.{◌≡◌, ◌↔◌, ℕ, List, Result, Ok, IfOk, IfErr, IsTrue, All, map};
 ghost use Rattle.std.specs.Arc.{arc_value};
-ghost use Rattle.cc_link.specs.declared.unit.StoredUnit.{StoredUnit};
+ghost use Rattle.cc_unit.specs.declared.unit.StoredUnit.{StoredUnit};
 ghost use Rattle.cc_core.specs.Rules.{Rules, AreWhole};
 ghost use Rattle.cc_core.specs.Fault.{RefusesAs};
 
 use crate::fault::BuildFault;
-use cc_link::StoredUnit;
+use cc_unit::StoredUnit;
 use std::alloc::Global;
 use std::sync::Arc;
 

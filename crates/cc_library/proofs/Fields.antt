@@ -9,8 +9,8 @@ use Rattle.std.proofs.lemmas.List.{take_at, drop_at, take-append-drop, length-ap
 use Rattle.std.proofs.lemmas.List.Concat.{flat_map-cons}
 use Rattle.std.proofs.lemmas.Nat.{le_bytes_4, from_le_bytes-to_le_bytes_4}
 use Rattle.std.proofs.lemmas.Option.{none-some, same_Some}
-use Rattle.cc_link.specs.declared.unit.Certificate.{Certificate}
-use Rattle.cc_link.specs.declared.unit.StoredUnit.{StoredUnit}
+use Rattle.cc_unit.specs.declared.unit.Certificate.{Certificate}
+use Rattle.cc_unit.specs.declared.unit.StoredUnit.{StoredUnit}
 use Rattle.cc_library.specs.Name.{is_name}
 use Rattle.cc_library.specs.Body.{AreBelow, IsUnit, bytes_field, words_field, name_field, unit_fields}
 use Rattle.cc_library.specs.internal.Reading.{◌>>=◌, taken, number_in, words_in, words_field_in, source_in, name_in, unit_in}

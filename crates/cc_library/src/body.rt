@@ -6,7 +6,7 @@ ghost use Rattle.cc_library.specs.Body.{HasUnit, HoldsUnit, IsUnit, Spells, body
 
 use crate::command::{Command, Kind};
 use crate::name::Name;
-use cc_link::StoredUnit;
+use cc_unit::StoredUnit;
 use std::alloc::{AllocError, Global};
 
 /// The body of the record of a command of this kind, version 1: the byte 1; the kind's byte; the name's length as one

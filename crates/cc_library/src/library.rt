@@ -24,7 +24,7 @@ use crate::unit::SharedUnit;
 use crate::units::UnitMap;
 use cc_disk::Disk;
 use cc_journal::{Journal, JournalFault};
-use cc_link::StoredUnit;
+use cc_unit::StoredUnit;
 use std::alloc::{AllocError, Global};
 use std::marker::Model;
 use std::sync::Arc;
@@ -44,7 +44,7 @@ pub struct Library<D: Disk> {
 impl<D: Disk> Model for Library<D> {
     ghost use Rattle.std.specs.Coded.{coded_ℕ, coded_list};
     ghost use Rattle.std.specs.FinMap as map;
-    ghost use Rattle.cc_link.specs.contracts.unit.StoredUnit as stored;
+    ghost use Rattle.cc_unit.specs.contracts.unit.StoredUnit as stored;
     ghost use Rattle.cc_library.specs.Recovered.{View, IsKept, view_code};
 
     ghost Value = { View D };

@@ -8,8 +8,8 @@ ghost use Rattle.cc_library.specs.Answers.{Gives};
 use crate::command::Command;
 use crate::name::Name;
 use crate::unit::SharedUnit;
-use cc_link::{Source, StoredUnit};
 use cc_rv32::image::{Code, Globals, Image};
+use cc_unit::{Source, StoredUnit};
 use std::alloc::{AllocError, AllocFailed, Global};
 use std::sync::Arc;
 

@@ -2,7 +2,7 @@
 ghost use Rattle.std.specs.Prelude.{◌≡◌, IfOk};
 ghost use Rattle.std.specs.Arc.{arc_value};
 
-use cc_link::StoredUnit;
+use cc_unit::StoredUnit;
 use std::alloc::AllocError;
 use std::marker::Model;
 use std::sync::Arc;
@@ -15,7 +15,7 @@ pub struct SharedUnit {
 
 impl Model for SharedUnit {
     ghost use Rattle.std.specs.Arc.{arc_value};
-    ghost use Rattle.cc_link.specs.declared.unit.StoredUnit.{StoredUnit};
+    ghost use Rattle.cc_unit.specs.declared.unit.StoredUnit.{StoredUnit};
 
     ghost Value = { StoredUnit };
 

@@ -15,7 +15,7 @@ use crate::command::{Command, Kind};
 use crate::name::Name;
 use crate::unit::SharedUnit;
 use cc_journal::Body;
-use cc_link::StoredUnit;
+use cc_unit::StoredUnit;
 use std::alloc::{AllocError, Global};
 use std::collections::BTreeMap;
 use std::marker::Model;
@@ -31,9 +31,9 @@ impl Model for UnitMap {
     ghost use Rattle.std.specs.Ordering.{nat_cmp};
     ghost use Rattle.std.specs.Cmp.Lexicographic.{slice_cmp};
     ghost use Rattle.std.specs.FinMap as map;
-    ghost use Rattle.cc_link.specs.declared.unit.StoredUnit.{StoredUnit};
+    ghost use Rattle.cc_unit.specs.declared.unit.StoredUnit.{StoredUnit};
     ghost use Rattle.std.specs.Coded.{coded_ℕ, coded_list};
-    ghost use Rattle.cc_link.specs.contracts.unit.StoredUnit as stored;
+    ghost use Rattle.cc_unit.specs.contracts.unit.StoredUnit as stored;
 
     ghost Value = { map.FinMap (slice_cmp nat_cmp) StoredUnit };
 

@@ -1,9 +1,4 @@
-//! What the compiler hands out: the unit that the library keeps.
-//!
-//! `unit` is a unit with its source, its image and its certificate.
-//! It hands out `StoredUnit`, `Source` and `Certificate`.
+//! What the compiler hands out: for now the type of the unit that the library keeps, which stands in `cc_unit`.
 #![tactic(auto)]
 
-mod unit;
-
-pub use unit::{Certificate, MOST_SOURCE, Source, StoredUnit};
+pub use cc_unit::{Certificate, MOST_SOURCE, Source, StoredUnit};

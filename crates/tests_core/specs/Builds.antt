@@ -1,7 +1,7 @@
 -- Two builds: one in which each source has one piece or two, and the first holds the unit; and one that makes nothing.
 use Rattle.std.specs.Prelude.{ℕ, ◌≡◌, Bool, true, false, List, [], ◌∷◌, length, Result, Ok, Err, All, if◌then◌else◌, ◌==◌, refl}
 use Rattle.std.proofs.Common.{sym, ap, subst, ◌∙◌, cond, arith}
-use Rattle.cc_link.specs.declared.unit.StoredUnit.{StoredUnit}
+use Rattle.cc_unit.specs.declared.unit.StoredUnit.{StoredUnit}
 use Rattle.cc_core.specs.Rules.{Rules, AreWhole}
 
 -- what contracts see of a piece: its unit, and which piece of the source it is

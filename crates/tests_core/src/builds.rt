@@ -4,7 +4,7 @@ ghost use Rattle.tests_core.specs.Builds.{rules, keeps, is_right, law, nothing, 
 use crate::piece::Piece;
 use cc_core::build::Build;
 use cc_core::fault::BuildFault;
-use cc_link::StoredUnit;
+use cc_unit::StoredUnit;
 use std::alloc::Global;
 use std::sync::Arc;
 

@@ -3,8 +3,8 @@ ghost use Rattle.std.specs.Arc.{arc_value};
 ghost use Rattle.tests_core.specs.Builds.{keeps};
 
 use cc_library::SharedUnit;
-use cc_link::{Source, StoredUnit};
 use cc_rv32::image::{Code, Globals, Image};
+use cc_unit::{Source, StoredUnit};
 use std::alloc::{AllocError, Global};
 use std::marker::Model;
 use std::sync::Arc;

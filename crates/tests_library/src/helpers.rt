@@ -2,8 +2,8 @@
 use cc_disk::{Disk, MemoryDisk};
 use cc_journal::format;
 use cc_library::{Command, Edit, Library, LibraryFault, Name, SharedUnit};
-use cc_link::{Source, StoredUnit};
 use cc_rv32::image::{Code, Globals, Image};
+use cc_unit::{Source, StoredUnit};
 use std::alloc::Global;
 use std::sync::Arc;
 use std::test::Fail;

@@ -1,7 +1,7 @@
 -- The unit that was added is that of a piece, whose type keeps that it is right.
 use Rattle.std.proofs.Common.{◌≡◌, sym, ap, subst, ◌∙◌}
 use Rattle.std.specs.Arc.{arc_value}
-use Rattle.cc_link.specs.declared.unit.StoredUnit.{StoredUnit}
+use Rattle.cc_unit.specs.declared.unit.StoredUnit.{StoredUnit}
 use Rattle.cc_library.specs.declared.command.Command.TheVariants as command
 use Rattle.cc_core.specs.Run.{EachUnit}
 use Rattle.cc_core.proofs.Orders.{EachUnit-after}

@@ -1,7 +1,7 @@
 -- The change tells the records of each image as well; here the maps are enough.
 use Rattle.std.proofs.Common.{◌≡◌, ℕ, List, false, IsTrue, subst, [], ◌∷◌, ◌++◌}
 use Rattle.cc_disk.specs.Images.{LeavesOnly}
-use Rattle.cc_link.specs.declared.unit.StoredUnit.{StoredUnit}
+use Rattle.cc_unit.specs.declared.unit.StoredUnit.{StoredUnit}
 use Rattle.cc_library.specs.declared.command.Command.TheVariants.{Add}
 use Rattle.cc_library.specs.Apply.{after}
 use Rattle.cc_library.specs.Body.{body_of}

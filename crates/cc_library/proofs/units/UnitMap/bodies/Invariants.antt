@@ -1,6 +1,6 @@
 use Rattle.std.proofs.Common.{◌≡◌, ◌++◌, List, ℕ}
 use Rattle.std.specs.FinMap.{entries}
-use Rattle.cc_link.specs.declared.unit.StoredUnit.{StoredUnit}
+use Rattle.cc_unit.specs.declared.unit.StoredUnit.{StoredUnit}
 use Rattle.cc_library.specs.Compact.{adds}
 use Rattle.cc_library.specs.Recovered.{AreSpelled}
 use Rattle.cc_library.proofs.units.UnitMap.bodies.Given as goal
