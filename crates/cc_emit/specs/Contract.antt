@@ -2,6 +2,8 @@
 use Rattle.std.specs.Prelude.{◌≡◌, ℕ, zero, suc, ◌+◌, ◌-◌, ◌*◌, ◌%◌, ◌^◌, ◌<◌, ◌≤◌, ◌⊎◌, List, [], ◌∷◌, Option, Some, length, get_or, map}
 use Rattle.cc_rv32.specs.declared.instr.Instr.{Instr}
 use Rattle.cc_rv32.specs.declared.instr.Instr.TheVariants.{Jal}
+use Rattle.cc_emit.specs.declared.item.Item.{Item}
+use Rattle.cc_emit.specs.declared.item.Item.TheVariants.{Plain, Call, Go}
 use Rattle.cc_rv32.specs.Machine.{State, Continues, executed, globals_from, globals_to, stack_from, stack_to}
 use Rattle.cc_rv32.specs.Table.{IsEncodable}
 use Rattle.cc_runs.specs.Behavior.{AreWords}
@@ -11,12 +13,6 @@ use Rattle.cc_runs.specs.Meaning.{Meaning, IsCall}
 -- what stands at each address
 abbrev pub Code : Type 0
 Code = ℕ → Option Instr
-
--- an instruction; a call of a function; or a jump to the item of that number in the same piece
-pub data Item : Type 0 where
-  Plain : Instr → Item
-  Call : ℕ → Item
-  Go : ℕ → Item
 
 -- where each object lies, by its number
 pub record Layout (objects : List ℕ) : Type 0 where
@@ -31,7 +27,7 @@ abbrev pub Path : Code → ℕ → State → State → Type 0
 Path code zero s t = s ≡ t
 Path code (suc m) s t = (u : State) × (executed (code s.pc) s ≡ Continues u) × Path code m u t
 
--- in a piece at `place`, at the address a
+-- the instruction that an item becomes at the address a, in a piece at `place`
 abbrev pub filled : (places : ℕ → ℕ) → (place a : ℕ) → Item → Instr
 filled places place a (Plain i) = i
 filled places place a (Call g) = Jal 1 ((places g + (2 ^ 32 - a)) % 2 ^ 32)
@@ -103,12 +99,13 @@ pub record IsPlace (a : ℕ) : Type 0 where
   pub from : 0x10000 ≤ a
   pub to : a < 0x100000
 
--- what a piece keeps: wherever it stands, at each number of open calls
+-- What a piece keeps: wherever it stands, at each number of open calls. What one step is slow, the call of the function pays: its first
+-- instruction may be its return.
 abbrev pub PieceMeets : (meaning : Meaning) → Layout meaning.objects → (function rate : ℕ) → List Item → Type 0
 PieceMeets meaning layout f rate items =
     (code : Code) (places : ℕ → ℕ) (place : ℕ) → IsPlace place → IsPlace (place + 4 * length items) → Placed code places place place items → ((g : ℕ) → g < meaning.functions → IsPlace (places g))
     → (d c : ℕ) → d < 1024 → 1 ≤ c → CallsMeet meaning layout code places c (suc d)
-    → (ws : List ℕ) (h : World) (s : State) (n : ℕ) → Enters meaning layout f d place ws h s → Meets layout code (rate * c) 0 n s (meaning.body n d f ws h)
+    → (ws : List ℕ) (h : World) (s : State) (n : ℕ) → Enters meaning layout f d place ws h s → Meets layout code (rate * c) (rate * c) n s (meaning.body n d f ws h)
 
 -- an item that has a word, wherever the piece stands
 abbrev pub IsFit : (functions long : ℕ) → Item → Type 0
@@ -120,7 +117,7 @@ abbrev pub AreFit : (functions long : ℕ) → List Item → Type 0
 AreFit functions long [] = Unit {0}
 AreFit functions long (i ∷ is) = IsFit functions long i × AreFit functions long is
 
--- what a piece's type keeps
+-- the items of a function's code do what it does
 pub record IsPiece (meaning : Meaning) (layout : Layout meaning.objects) (f : ℕ) (items : List Item) : Type 0 where
   pub rate : ℕ
   pub meets : PieceMeets meaning layout f rate items
