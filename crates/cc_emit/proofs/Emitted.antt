@@ -212,7 +212,7 @@ module _ (x : Site) (c d : ℕ) (one : 1 ≤ c) (below : d < 1024) (all_places :
   simulate_next k later j w a [] l h s e st inside = ([], tt, fails_follows (suc k) j [] l h s inside.shares.output [] refl)
   simulate_next k later j w a (Label n ∷ ops) l h s e st inside =
       let z : a + 0 ≡ a = omega arith in
-      let r = simulate_next k later j _ a ops l h s e (subst (λ b. Standing x _ b ops) z (standing_tail x w a (Label n) ops st)) inside in
+      let r = simulate_next k later j (w + 0) a ops l h s e (subst (λ b. Standing x (w + 0) b ops) z (standing_tail x w a (Label n) ops st)) inside in
       (r.0, r.1, label_follows (suc k) j n s ops l h r.0 r.2)
   simulate_next k later j w a (Jump n ∷ ops) l h s e st inside = at_stepped k j (Jump n ∷ ops) l h s later inside.shares.output (jump_case x w a n ops l h s (e, st, inside) all)
   simulate_next k later j w a (IfZero r n ∷ ops) l h s e st inside = at_stepped k j (IfZero r n ∷ ops) l h s later inside.shares.output (if_zero_case x w a r n ops l h s (e, st, inside) all)

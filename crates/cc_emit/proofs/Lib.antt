@@ -6,3 +6,8 @@ pub mod Within
 pub mod Saving
 pub mod Recipes
 pub mod Cases
+pub mod Returning
+pub mod Emitted
+pub mod Choosing
+pub mod Encoding
+pub mod Pieces
