@@ -1,0 +1,13 @@
+pub mod Fine
+pub mod Basics
+pub mod Places
+pub mod Standing
+pub mod Within
+pub mod Saving
+pub mod Recipes
+pub mod Cases
+pub mod Returning
+pub mod Emitted
+pub mod Choosing
+pub mod Encoding
+pub mod Pieces
