@@ -1,8 +1,8 @@
-// The program `cclib`: reads a C program from standard input, and checks or interprets it. How a command line is read is the
+// The program `cclib`: reads a C program from standard input, and checks, interprets, runs or lists it. How a command line is read is the
 // matter of `cc_command_line`, how a task is done that of `cc_program`.
 #![tactic(auto)]
 
-use cc_command_line::{Task, line};
+use cc_command_line::{Task, line, refused_bytes};
 use cc_program::{Fault, perform};
 use clap::Error;
 use clap::error::ErrorKind;
@@ -44,8 +44,12 @@ fn refuse<R: Eprint + Print>(rt: &R, error: Error) -> Result<u8, AllocError> {
 
 // The status; the error is want of memory before the task began.
 fn run<R: AllocGlobal + Env + Input + Print + Eprint>(rt: &R) -> Result<u8, AllocError> {
-    let Ok(words) = std::env::args(rt) else {
-        return Err(AllocError);
+    let words = match std::env::args(rt) {
+        Ok(words) => words,
+        Err(error) if error.kind() == io::ErrorKind::InvalidData => {
+            return refuse(rt, refused_bytes(rt.alloc())?);
+        }
+        Err(_) => return Err(AllocError),
     };
     let words: Vec<String> = words.collect(rt.alloc())?;
     let asked = line(rt.alloc(), words.as_slice());

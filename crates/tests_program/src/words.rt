@@ -22,6 +22,25 @@ fn asks_to_interpret(
     }
 }
 
+fn asks_to_run(
+    alloc: Global,
+    words: &'static [&'static str],
+    steps: u64,
+    input: &[u32],
+) -> bool {
+    match line(alloc, words) {
+        Ok(Task::Run(found, given)) => found == steps && given.as_slice() == input,
+        other => {
+            drop(other);
+            false
+        }
+    }
+}
+
+fn asks_for_listing(alloc: Global, words: &'static [&'static str]) -> bool {
+    matches!(line(alloc, words), Ok(Task::Asm))
+}
+
 #[test]
 fn tasks(rt: HostRuntime) {
     assert!(rt; asks_to_check(rt.alloc(), &["cclib", "check"]));
@@ -30,6 +49,9 @@ fn tasks(rt: HostRuntime) {
     assert!(rt; asks_to_interpret(rt.alloc(), words, 1_000_000_000, &[]));
     let words = &["cclib", "interpret", "10", "4294967295", "007"];
     assert!(rt; asks_to_interpret(rt.alloc(), words, 10, &[4294967295, 7]));
+    assert!(rt; asks_to_run(rt.alloc(), &["cclib", "run", "5"], 5, &[]));
+    assert!(rt; asks_to_run(rt.alloc(), &["cclib", "run", "1000000000", "0", "1"], 1_000_000_000, &[0, 1]));
+    assert!(rt; asks_for_listing(rt.alloc(), &["cclib", "asm"]));
 }
 
 // Refused with status 2, the text on standard error.
@@ -47,7 +69,7 @@ fn is_refused(alloc: Global, words: &'static [&'static str]) -> bool {
     }
 }
 
-static REFUSED: [&[&str]; 10] = [
+static REFUSED: [&[&str]; 14] = [
     &["cclib", "interpret", "1000000001"],
     &["cclib", "interpret", "+5"],
     &["cclib", "interpret", "-1"],
@@ -56,7 +78,11 @@ static REFUSED: [&[&str]; 10] = [
     &["cclib", "interpret", "5", "+1"],
     &["cclib", "interpret", "5", "-1"],
     &["cclib", "interpret"],
-    &["cclib", "run", "5"],
+    &["cclib", "run"],
+    &["cclib", "run", "-5"],
+    &["cclib", "run", "5", "-1"],
+    &["cclib", "asm", "5"],
+    &["cclib", "check", "5"],
     &["cclib"],
 ];
 
