@@ -8,3 +8,4 @@ pub mod Frames
 pub mod Emission
 -- what a piece keeps
 pub mod Piece
+pub mod internal

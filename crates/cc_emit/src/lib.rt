@@ -4,8 +4,13 @@
 //! Linear is defined in `specs/Emission.antt`, what a piece owes on the machine in `specs/Contract.antt`.
 #![tactic(auto)]
 
+mod constants;
+mod frame;
+mod instructions;
 mod item;
+mod operators;
 mod piece;
+mod places;
 
 pub use item::Item;
 pub use piece::Piece;

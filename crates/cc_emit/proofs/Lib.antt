@@ -1,0 +1,2 @@
+-- which registers are saved
+pub mod Saving

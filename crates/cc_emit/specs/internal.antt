@@ -1,0 +1,3 @@
+-- What only private contracts and proofs speak of.
+-- places counted from the end
+pub mod Behind
