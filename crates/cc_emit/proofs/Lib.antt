@@ -1,2 +1,4 @@
 -- which registers are saved
-pub mod Saving
+pub mod Choosing
+-- the table of labels
+pub mod Tabling

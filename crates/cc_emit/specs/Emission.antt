@@ -80,10 +80,11 @@ const_items to w =
     else if low w == 0 then Plain (instr.Lui to (high w)) ∷ []
     else Plain (instr.Lui 5 (high w)) ∷ addi to 5 (low w) ∷ []
 
-abbrev pub unary_item : unary.Unary → (to from : ℕ) → Item
-unary_item Neg to from = Plain (instr.Op operation.Sub to 0 from)
-unary_item Complement to from = Plain (instr.OpImm Xori to from (2 ^ 32 - 1))
-unary_item IsZero to from = Plain (instr.OpImm Sltiu to from 1)
+-- an operator on one word
+abbrev pub unary_instr : unary.Unary → (to from : ℕ) → Instr
+unary_instr Neg to from = instr.Op operation.Sub to 0 from
+unary_instr Complement to from = instr.OpImm Xori to from (2 ^ 32 - 1)
+unary_instr IsZero to from = instr.OpImm Sltiu to from 1
 
 -- how an operator on two words is made: by one instruction; or by asking whether the word that one gives is zero, with the operands as
 -- they are or exchanged; or whether it is not
@@ -147,7 +148,7 @@ items_of base f near labels place (IfNonzero from to) = branch_items (near to) B
 items_of base f near labels place (IfZero from to) = branch_items (near to) Beq Bne from place (labels to)
 items_of base f near labels place (Copy m) = move_item m ∷ []
 items_of base f near labels place (Const to word) = const_items to word
-items_of base f near labels place (Unary operator to from) = unary_item operator to from ∷ []
+items_of base f near labels place (Unary operator to from) = Plain (unary_instr operator to from) ∷ []
 items_of base f near labels place (Binary operator to left right) = recipe_items (recipe operator) to left right
 items_of base f near labels place (Load object to index) = indexed (base object) index (load_word to 5 (low (base object)) ∷ [])
 items_of base f near labels place (Store object index from) = indexed (base object) index (store_word 5 from (low (base object)) ∷ [])
@@ -199,11 +200,14 @@ long_size f i = size f (λ label. false) i
 
 -- ---- where labels stand
 
+abbrev pub is_label : (label : ℕ) → linear.Item → Bool
+is_label label (Label other) = other == label
+is_label label i = false
+
 -- in the first pass, in items from this place on; their end, where the label stands nowhere
 abbrev pub long_place : Frame → (place : ℕ) → List linear.Item → (label : ℕ) → ℕ
 long_place f place [] label = place
-long_place f place (Label other ∷ items) label = if other == label then place else long_place f place items label
-long_place f place (i ∷ items) label = long_place f (place + long_size f i) items label
+long_place f place (i ∷ items) label = if is_label label i then place else long_place f (place + long_size f i) items label
 
 -- whether a branch reaches one place from another: by -4096 to 4092 bytes
 abbrev pub reaches : (from to : ℕ) → Bool
@@ -216,8 +220,8 @@ is_near f items long label = reaches long (long_place f 0 items label)
 -- in the second pass, in items from this place on; `long` is their place in the first pass
 abbrev pub short_place : Frame → (near : (long label : ℕ) → Bool) → (long place : ℕ) → List linear.Item → (label : ℕ) → ℕ
 short_place f near long place [] label = place
-short_place f near long place (Label other ∷ items) label = if other == label then place else short_place f near long place items label
-short_place f near long place (i ∷ items) label = short_place f near (long + long_size f i) (place + size f (near long) i) items label
+short_place f near long place (i ∷ items) label =
+    if is_label label i then place else short_place f near (long + long_size f i) (place + size f (near long) i) items label
 
 -- ---- the code
 

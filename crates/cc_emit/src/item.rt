@@ -1,6 +1,6 @@
 //! The items of a function's code, before it is known where the code stands.
 
-use cc_rv32::Instr;
+use cc_rv32::instr::Instr;
 
 /// One item, which becomes one word of an image.
 #[derive(Clone, Copy)]

@@ -1,8 +1,7 @@
 //! Operators: each is one instruction on its operands, or asks of one's result whether it is 0.
 
 ghost use Rattle.std.specs.Prelude.{◌≡◌, ◌<◌, ◌≤◌, ◌++◌, OnOk};
-ghost use Rattle.cc_emit.specs.Emission.{recipe, recipe_size, recipe_items, unary_item, Direct, ZeroOf, NonzeroOf};
-ghost use Rattle.cc_emit.specs.declared.item.Item.TheVariants.{Plain};
+ghost use Rattle.cc_emit.specs.Emission.{recipe, recipe_size, recipe_items, unary_instr, Direct, ZeroOf, NonzeroOf};
 
 use crate::instructions::{SCRATCH, ZERO, operate, operate_immediate, put};
 use crate::item::Item;
@@ -14,7 +13,7 @@ use std::alloc::AllocError;
 pub(crate) fn unary(operator: Unary, to: u8, from: u8) -> Instr
     requires to { to < 32 }
     requires from { from < 32 }
-    ensures { Plain result ≡ unary_item operator to from }
+    ensures { result ≡ unary_instr operator to from }
 {
     match operator {
         Unary::Neg => operate(Operation::Sub, to, ZERO, from),

@@ -3,8 +3,7 @@
 ghost use Rattle.std.specs.Prelude.{◌≡◌, ◌<◌, length};
 ghost use Rattle.std.specs.Arc.{arc_value};
 ghost use Rattle.cc_meaning.specs.Meaning.{functions};
-ghost use Rattle.cc_typing.specs.Typed.{IsTyped};
-ghost use Rattle.cc_emit.specs.Piece.{Piece as Shown, tree_of, AreOf, IsPieceOfUnit};
+ghost use Rattle.cc_emit.specs.Piece.{Piece as Shown, tree_of, IsPieceOfUnit};
 
 use crate::item::Item;
 use cc_typing::TypedUnit;
@@ -71,8 +70,7 @@ impl Piece {
     /// to its end. Wherever they stand, the machine does with them what the function does.
     pub fn items(&self) -> &[Item]
         ensures items { result.now ≡ self.now.items }
-        ensures typed { IsTyped (tree_of self.now) }
-        ensures piece { AreOf (tree_of self.now) self.now.function self.now.items }
+        ensures piece { IsPieceOfUnit self.now }
     {
         self.items.as_slice()
     }
