@@ -17,6 +17,12 @@ use Rattle.cc_emit.specs.internal.Behind.{long_behind, near_behind, behind, labe
 abbrev pub Counted : List linear.Item → (index count : ℕ) → Type 0
 Counted code i count = (n : ℕ) → count ≤ n → AllByRecursion (λ label. label < n) (labels (drop i code)) → AllByRecursion (λ label. label < n) (labels code)
 
+pub counted_more : (code : List linear.Item) (i count above count' : ℕ) (item : linear.Item) → i < length code → item ≡ get_or code i item → count ≤ count' → above ≤ count'
+    → ((n : ℕ) (rest : List linear.Item) → above ≤ n → AllByRecursion (λ label. label < n) (labels rest) → AllByRecursion (λ label. label < n) (labels (item ∷ rest))) → Counted code i count → Counted code (i + 1) count'
+counted_more code i count above count' item lt is le more one counted n ln all =
+    let rest : drop i code ≡ item ∷ drop (i + 1) code = drop_more code i item lt ∙ ap (λ x. x ∷ drop (i + 1) code) (sym is) in
+    counted n (omega arith) (subst (λ items. AllByRecursion (λ label. label < n) (labels items)) (sym rest) (one n (drop (i + 1) code) (omega arith) all))
+
 -- ---- the table
 
 pub no_labels : (f : Frame) (first : List ℕ) (count : ℕ) → IsTable f first [] count (replicate count 0)
@@ -57,12 +63,12 @@ no_label _ f l = refl
 
 -- the items from number `at` on are in the table
 pub record Filled (f : Frame) (first : List ℕ) (code : List linear.Item) (count at here all : ℕ) (table : List ℕ) : Type 0 where
-  within : at ≤ length code
-  here_is : here ≡ long_behind f (drop at code)
-  all_is : all ≡ behind f first (drop at code)
-  of_table : IsTable f first (drop at code) count table
-  few : here + 15 * at ≤ 15 * length code
-  few_all : all + 15 * at ≤ 15 * length code
+  pub within : at ≤ length code
+  pub here_is : here ≡ long_behind f (drop at code)
+  pub all_is : all ≡ behind f first (drop at code)
+  pub of_table : IsTable f first (drop at code) count table
+  pub few : here + 15 * at ≤ 15 * length code
+  pub few_all : all + 15 * at ≤ 15 * length code
 
 pub filled_first : (f : Frame) (first : List ℕ) (code : List linear.Item) (count : ℕ) (table : List ℕ) → table ≡ replicate count 0 → Filled f first code count (length code) 0 0 table
 filled_first f first code count table e =
@@ -78,12 +84,15 @@ filled_first f first code count table e =
 
 -- the item before number `at`
 abbrev pub At : (code : List linear.Item) (at : ℕ) → linear.Item → Type 0
-At code at item = (0 < at) × (item ≡ get_or code (at - 1) (Label 0))
+At code at item = (0 < at) × (item ≡ get_or code (at - 1) item)
 
 rest_more : (code : List linear.Item) (at : ℕ) (item : linear.Item) → at ≤ length code → At code at item → drop (at - 1) code ≡ item ∷ drop at code
 rest_more code at item le (pos, is) =
     let n : at - 1 + 1 ≡ at = omega arith in
-    drop_more code (at - 1) (Label 0) (omega arith) ∙ ap (λ x. x ∷ drop (at - 1 + 1) code) (sym is) ∙ ap (λ i. item ∷ drop i code) n
+    drop_more code (at - 1) item (omega arith) ∙ ap (λ x. x ∷ drop (at - 1 + 1) code) (sym is) ∙ ap (λ i. item ∷ drop i code) n
+
+pub is_label_at : (code : List linear.Item) (at : ℕ) (item : linear.Item) (n : ℕ) → item ≡ get_or code at item → item ≡ Label n → Label n ≡ get_or code at (Label n)
+is_label_at code at item n is e = subst (λ x. x ≡ get_or code at x) e is
 
 -- one item more
 filled_more : (f : Frame) (first : List ℕ) (code : List linear.Item) (count at here all here' all' : ℕ) (item : linear.Item) (table table' : List ℕ) → Filled f first code count at here all table → At code at item

@@ -31,7 +31,20 @@ pub(crate) const OTHER_SCRATCH: u8 = 6;
 /// `x17`, in which the machine finds the number of a service.
 pub(crate) const SERVICE: u8 = 17;
 
-/// Puts an instruction behind the other items.
+/// Puts an item behind the others.
+pub(crate) fn put_item(items: &mut Vec<Item>, item: Item) -> Result<(), AllocError>
+    ensures { OnOk result (items.new.items ≡ items.old.items ++ item ∷ []) }
+{
+    match item {
+        Item::Plain(instr) => put(items, instr),
+        Item::Call(_) | Item::Go(_) => {
+            items.push(item)?;
+            Ok(())
+        }
+    }
+}
+
+/// Puts an instruction behind the others.
 pub(crate) fn put(items: &mut Vec<Item>, instr: Instr) -> Result<(), AllocError>
     ensures { OnOk result (items.new.items ≡ items.old.items ++ Plain instr ∷ []) }
 {

@@ -4,7 +4,9 @@
 //! Linear is defined in `specs/Emission.antt`, what a piece owes on the machine in `specs/Contract.antt`.
 #![tactic(auto)]
 
+mod bases;
 mod constants;
+mod emission;
 mod frame;
 mod instructions;
 mod item;

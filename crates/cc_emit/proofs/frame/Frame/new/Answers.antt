@@ -1,4 +1,4 @@
-use Rattle.std.proofs.Common.{rules, refl, sym, ap, ◌∙◌, subst}
+use Rattle.std.proofs.Common.{rules, suc, refl, sym, ap, ◌∙◌, subst}
 
 use Rattle.cc_emit.proofs.Choosing.{Chosen, chosen_more, chosen_past, kept_below}
 use Rattle.cc_emit.proofs.frame.Frame.new.Goals as goal
