@@ -170,7 +170,7 @@ if_zero_case x w a r n rest l h s (e, st, inside) all =
     let next : List linear.Item = if t then items_from x.items n else rest in
     let test = zero_test x l h s r st.fine.0 inside in
     stepped x (IfZero r n ∷ rest) next l l h h s (λ ws. refl)
-    (branch_reaches x _ a n next rest l h s Beq Bne r t (near x w n) e inside st.from (standing_tail x w a (IfZero r n) rest st) all (stays_near x.frame x.items _ w a n st.seen) (first_items x w a (IfZero r n) rest st) test (ap not test) refl)
+    (branch_reaches x _ a n next rest l h s Beq Bne r t (near x w n) e inside st.from (standing_tail x w a (IfZero r n) rest st) all (stays_near x.frame x.items (IfZero r n ∷ rest) w a n st.seen) (first_items x w a (IfZero r n) rest st) test (ap not test) refl)
 
 pub if_nonzero_case : (x : Site) (w a r n : ℕ) (rest : List linear.Item) (l : Locations) (h : World) (s : State) → Given x w a (IfNonzero r n ∷ rest) l h s → StandsWhole x → Stepped x (IfNonzero r n ∷ rest) l h s
 if_nonzero_case x w a r n rest l h s (e, st, inside) all =
@@ -178,7 +178,7 @@ if_nonzero_case x w a r n rest l h s (e, st, inside) all =
     let next : List linear.Item = if t then rest else items_from x.items n in
     let test = zero_test x l h s r st.fine.0 inside in
     stepped x (IfNonzero r n ∷ rest) next l l h h s (λ ws. refl)
-    (branch_reaches x _ a n next rest l h s Bne Beq r (not t) (near x w n) e inside st.from (standing_tail x w a (IfNonzero r n) rest st) all (stays_near x.frame x.items _ w a n st.seen) (first_items x w a (IfNonzero r n) rest st) (ap not test) (test ∙ sym (not_not t)) (if_not t (items_from x.items n) rest))
+    (branch_reaches x _ a n next rest l h s Bne Beq r (not t) (near x w n) e inside st.from (standing_tail x w a (IfNonzero r n) rest st) all (stays_near x.frame x.items (IfNonzero r n ∷ rest) w a n st.seen) (first_items x w a (IfNonzero r n) rest st) (ap not test) (test ∙ sym (not_not t)) (if_not t (items_from x.items n) rest))
   where
     not_not : (b : Bool) → not (not b) ≡ b
     not_not true = refl

@@ -9,9 +9,11 @@ use Rattle.cc_linear.specs.declared.item.Item.TheVariants.{Label, Jump, IfNonzer
 use Rattle.cc_linear.specs.Linear.{place}
 use Rattle.cc_rv32.specs.Fields.{IsBranchOffset}
 use Rattle.cc_rv32.specs.declared.instr.BranchOperation.{BranchOperation}
+use Rattle.cc_rv32.specs.declared.instr.Instr.TheVariants.{Jalr}
 use Rattle.cc_emit.specs.declared.item.Item.{Item}
+use Rattle.cc_emit.specs.declared.item.Item.TheVariants.{Plain}
 use Rattle.cc_emit.specs.Frames.{Frame, frame_size}
-use Rattle.cc_emit.specs.Emission.{Recipe, Direct, ZeroOf, ZeroOfExchanged, NonzeroOf, high, low, stack_moved, stack_moved_size, restoring, saving, prologue, prologue_size, const_items, const_size, recipe, recipe_items, recipe_size, branch_items, branch_size, items_of, size, long_size, distance, reaches, is_label, is_near, long_place, short_place, emitted}
+use Rattle.cc_emit.specs.Emission.{Recipe, Direct, ZeroOf, ZeroOfExchanged, NonzeroOf, high, low, stack_moved, stack_moved_size, restoring, saving, epilogue, prologue, prologue_size, const_items, const_size, recipe, recipe_items, recipe_size, branch_items, branch_size, items_of, size, long_size, distance, reaches, is_label, is_near, long_place, short_place, emitted}
 
 -- ---- sizes
 
@@ -29,6 +31,18 @@ long_if false xs ys m n p q = q
 
 pub length_stack_moved : (f : Frame) (by : ℕ) → length (stack_moved f by) ≡ stack_moved_size f
 length_stack_moved f by = long_if (frame_size f == 0) [] _ 0 1 refl refl
+
+length_epilogue : (f : Frame) → length (epilogue f) ≡ length f.saved + stack_moved_size f + 1
+length_epilogue f =
+    let back = restoring (4 * f.slots) f.saved in
+    let move = stack_moved f (frame_size f) in
+    let rest : List Item = move ++ Plain (Jalr 0 1 0) ∷ [] in
+    let p : length (back ++ rest) ≡ length back + length rest = length-append back rest in
+    let q : length rest ≡ length move + 1 = length-append move (Plain (Jalr 0 1 0) ∷ []) in
+    let r : length back ≡ length f.saved = length_restoring (4 * f.slots) f.saved in
+    let t : length move ≡ stack_moved_size f = length_stack_moved f (frame_size f) in
+    let e : length back + length rest ≡ length f.saved + stack_moved_size f + 1 = omega arith in
+    p ∙ e
 
 recipe_size_is : (o : Recipe) (to a b : ℕ) → length (recipe_items o to a b) ≡ recipe_size o
 recipe_size_is (Direct i) to a b = refl
@@ -53,10 +67,7 @@ size_is base f near labels a (Store g i b) = refl
 size_is base f near labels a (Call g) = refl
 size_is base f near labels a Read = refl
 size_is base f near labels a Write = refl
-size_is base f near labels a Return =
-    length-append (restoring (4 * f.slots) f.saved) _ ∙ ap (λ n. n + _) (length_restoring (4 * f.slots) f.saved)
-    ∙ ap (λ n. length f.saved + n) (length-append (stack_moved f (frame_size f)) _ ∙ ap (λ n. n + 1) (length_stack_moved f (frame_size f)))
-    ∙ (let e : length f.saved + (stack_moved_size f + 1) ≡ length f.saved + stack_moved_size f + 1 = omega arith in e)
+size_is base f near labels a Return = length_epilogue f
 
 branch_size_le : (near : Bool) → branch_size near ≤ 2
 branch_size_le true = omega arith

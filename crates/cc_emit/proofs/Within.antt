@@ -58,13 +58,13 @@ with_registers x l k h s p g at_0 words at_2 same slots kept w = record {
   above = w.above;
 }
 
-target_kept : {f : Frame} (d : ℕ) → IsTarget f d → IsSavable d → IsKept d
-target_kept d u (inl e) = absurd (let lo = u.0.0 in omega arith)
-target_kept d u (inr k) = k
+target_kept : (f : Frame) (d : ℕ) → IsTarget f d → IsSavable d → IsKept d
+target_kept f d u (inl e) = absurd (let lo = u.0.0 in omega arith)
+target_kept f d u (inr k) = k
 
 kept_set : (x : Site) (s : State) (d v r : ℕ) → IsTarget x.frame d → IsSavable r → Member r x.frame.saved ⊎ (s.registers r ≡ x.from.registers r) → Member r x.frame.saved ⊎ (with_register s.registers d v r ≡ x.from.registers r)
 kept_set x s d v r u k (inl m) = inl m
-kept_set x s d v r u k (inr e) = elim (eqb_tells r d) [ inl t ↦ inl (subst (λ n. Member n x.frame.saved) (sym t.1) (u.1 (target_kept d u (subst IsSavable t.1 k)))) | inr t ↦ inr (set_other s.registers d v r t.1 ∙ e) ]
+kept_set x s d v r u k (inr e) = elim (eqb_tells r d) [ inl t ↦ inl (subst (λ n. Member n x.frame.saved) (sym t.1) (u.1 (target_kept x.frame d u (subst IsSavable t.1 k)))) | inr t ↦ inr (set_other s.registers d v r t.1 ∙ e) ]
 
 -- a register that the function may set is set
 pub within_set : (x : Site) (l : Locations) (h : World) (s : State) (p d v : ℕ) → IsTarget x.frame d → v < 2 ^ 32 → Within x l h s → Within x (put (Register d) v l) h (record s { pc = p; registers = with_register s.registers d v })

@@ -63,7 +63,7 @@ abbrev pub prologue : Frame → List Item
 prologue f = stack_moved f (2 ^ 32 - frame_size f) ++ saving (4 * f.slots) f.saved
 
 abbrev pub epilogue : Frame → List Item
-epilogue f = restoring (4 * f.slots) f.saved ++ stack_moved f (frame_size f) ++ Plain (instr.Jalr 0 1 0) ∷ []
+epilogue f = restoring (4 * f.slots) f.saved ++ (stack_moved f (frame_size f) ++ Plain (instr.Jalr 0 1 0) ∷ [])
 
 -- ---- what stands for an item of Linear; x5 and x6 alone are between
 

@@ -1,8 +1,11 @@
 //! The items of a function's code: those that stand for one item of Linear, and those of all behind the prologue.
 
-ghost use Rattle.std.specs.Prelude.{◌≡◌, ◌≤◌, ◌<◌, ◌++◌, ◌∷◌, [], ℕ, true, length, get_or, OnOk};
+ghost use Rattle.std.specs.Prelude.{◌≡◌, ◌≤◌, ◌<◌, ◌^◌, ◌++◌, ◌∷◌, [], ℕ, true, length, get_or, OnOk, IfOk};
+ghost use Rattle.std.specs.List.{AllByRecursion};
+ghost use Rattle.cc_ltl.specs.Registers.{most_slots};
+ghost use Rattle.cc_linear.specs.Linear.{labels, IsItem};
 ghost use Rattle.cc_rv32.specs.Fields.{IsBranchOffset};
-ghost use Rattle.cc_emit.specs.Emission.{items_of, branch_items, move_item, indexed, service, distance, reaches};
+ghost use Rattle.cc_emit.specs.Emission.{items_of, branch_items, move_item, indexed, service, distance, reaches, function_items};
 ghost use Rattle.cc_emit.specs.declared.item.Item.TheVariants.{Plain};
 ghost use Rattle.cc_emit.specs.internal.Bases.{base_in};
 ghost use Rattle.cc_emit.specs.internal.Behind.{near_behind, place_from, LeadsBelow};
@@ -16,11 +19,11 @@ use crate::instructions::{
 };
 use crate::item::Item;
 use crate::operators::{put_binary, unary};
-use crate::places::Places;
+use crate::tables::{Places, long_size};
 use cc_linear::Item as LinearItem;
 use cc_ltl::Move;
 use cc_rv32::instr::{BranchOperation, Instr, Operation};
-use std::alloc::{AllocError};
+use std::alloc::{AllocError, Global};
 
 /// The machine's service that writes a word.
 const WRITE: u32 = 1;
@@ -172,4 +175,28 @@ pub(crate) fn put_items_of(
         LinearItem::Write => put_service(items, WRITE),
         LinearItem::Return => frame.put_epilogue(items),
     }
+}
+
+/// The items of the code of a function with so many slots.
+pub(crate) fn function_items(
+    alloc: Global,
+    slots: u16,
+    code: &[LinearItem],
+    bases: &Bases,
+) -> Result<Vec<Item>, AllocError>
+    requires slots { slots ≤ most_slots }
+    requires fit { (functions : ℕ) × AllByRecursion (IsItem slots functions (labels code.now)) code.now }
+    requires few { length code.now ≤ 2 ^ 59 }
+    ensures { IfOk result (λ items. items.items ≡ function_items (base_in bases.now) slots code.now) }
+{
+    let frame = Frame::new(alloc, slots, code)?;
+    let places = Places::new(alloc, &frame, code)?;
+    let mut items = Vec::new(alloc);
+    frame.put_prologue(&mut items)?;
+    let mut here = places.long();
+    for item in code {
+        put_items_of(&mut items, &frame, &places, bases, here, *item)?;
+        here -= long_size(&frame, item);
+    }
+    Ok(items)
 }

@@ -12,7 +12,7 @@ mod instructions;
 mod item;
 mod operators;
 mod piece;
-mod places;
+mod tables;
 
 pub use item::Item;
 pub use piece::Piece;

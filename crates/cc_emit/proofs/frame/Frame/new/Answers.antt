@@ -1,6 +1,6 @@
 use Rattle.std.proofs.Common.{rules, suc, refl, sym, ap, ◌∙◌, subst}
 
-use Rattle.cc_emit.proofs.Choosing.{Chosen, chosen_more, chosen_past, kept_below}
+use Rattle.cc_emit.proofs.Kept.{Chosen, chosen_more, chosen_past, kept_below}
 use Rattle.cc_emit.proofs.frame.Frame.new.Goals as goal
 use Rattle.cc_emit.proofs.frame.Frame.new.Goals.{then-is_written+in_ok-push-2, else-is_written}
 

@@ -1,5 +1,5 @@
 -- The registers so far, and those still to be looked at.
-use Rattle.cc_emit.proofs.Choosing.{Chosen}
+use Rattle.cc_emit.proofs.Kept.{Chosen}
 use Rattle.cc_emit.proofs.frame.Frame.new.Given as goal
 
 abbrev pub invariant-loop-register : goal.invariant-loop-register

@@ -1,6 +1,6 @@
 use Rattle.std.proofs.Common.{rules}
 use Rattle.cc_emit.proofs.Tabling.{counted_more}
-use Rattle.cc_emit.proofs.places.label_count.Goals as goal
+use Rattle.cc_emit.proofs.tables.label_count.Goals as goal
 
 pub loop-item-preserved : goal.loop-item-preserved
 loop-item-preserved c =

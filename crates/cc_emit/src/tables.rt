@@ -2,7 +2,7 @@
 //! known where it is needed. A first table takes each branch for long; by it a branch is near or far. A second one has the places with
 //! each branch as long as it is.
 
-ghost use Rattle.std.specs.Prelude.{◌≡◌, ◌≤◌, ◌<◌, ◌^◌, length, get_or, ℕ, List, ◌∷◌, IfOk};
+ghost use Rattle.std.specs.Prelude.{◌≡◌, ◌≤◌, ◌<◌, ◌^◌, length, get_or, ℕ, List, [], ◌∷◌, IfOk};
 ghost use Rattle.std.specs.List.{AllByRecursion};
 ghost use Rattle.cc_linear.specs.declared.item.Item.{Item};
 ghost use Rattle.cc_linear.specs.Linear.{labels};
@@ -16,11 +16,12 @@ use cc_linear::Item as LinearItem;
 use std::alloc::{AllocError, Global};
 
 /// Where the labels of a function stand, by how many items come from there on: with each branch long, and with each as long as it is;
-/// and how many items the function's code has.
+/// how many items there are behind the prologue with each branch long, and how many the function's code has.
 #[derive(Drop)]
 pub(crate) struct Places {
     first: Vec<usize>,
     second: Vec<usize>,
+    long: usize,
     end: usize,
 }
 
@@ -33,13 +34,26 @@ impl Places {
     ) -> Result<Places, AllocError>
         requires { length code.now ≤ 2 ^ 59 }
         ensures places { IfOk result (λ p. ArePlaces frame.now code.now p.first.items p.second.items p.end) }
+        ensures long { IfOk result (λ p. p.long ≡ behind frame.now [] code.now) }
         ensures all_labels { IfOk result (λ p. AllByRecursion (λ label. label < length p.first.items) (labels code.now)) }
     {
         let count = label_count(code);
-        let (first, _) = table(alloc, frame, code, count, &[])?;
+        let (first, long) = table(alloc, frame, code, count, &[])?;
         let (second, behind) = table(alloc, frame, code, count, first.as_slice())?;
         let end = frame.prologue_size() + behind;
-        Ok(Places { first, second, end })
+        Ok(Places {
+            first,
+            second,
+            long,
+            end,
+        })
+    }
+
+    /// How many items there are behind the prologue, with each branch long.
+    pub(crate) fn long(&self) -> usize
+        ensures { result ≡ self.now.long }
+    {
+        self.long
     }
 
     /// Whether a branch to a label is near that has so many items from it on, with each branch long.
@@ -56,13 +70,6 @@ impl Places {
         ensures { result ≡ place_from self.now.second.items self.now.end label }
     {
         self.end - self.second[label as usize]
-    }
-
-    /// How many items an item takes that has so many from it on, with each branch long: at most 15.
-    pub(crate) fn size(&self, frame: &Frame, here: usize, item: &LinearItem) -> usize
-        ensures answer { result ≡ size frame.now (near_behind self.now.first.items here) item.now }
-    {
-        size(frame, self.first.as_slice(), here, item)
     }
 }
 

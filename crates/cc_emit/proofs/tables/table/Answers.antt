@@ -2,7 +2,7 @@ use Rattle.std.proofs.Common.{rules, ◌+◌, ◌-◌, ap, ◌∙◌, arith}
 use Rattle.cc_emit.specs.Emission.{size, long_size}
 use Rattle.cc_emit.specs.internal.Behind.{near_behind}
 use Rattle.cc_emit.proofs.Tabling.{filled_first, is_label_at, filled_label, filled_past, filled_other, filled_all}
-use Rattle.cc_emit.proofs.places.table.Goals as goal
+use Rattle.cc_emit.proofs.tables.table.Goals as goal
 
 pub loop-at-init : goal.loop-at-init
 loop-at-init c = filled_first _ _ _ _ _ (search rules)
