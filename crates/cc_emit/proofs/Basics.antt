@@ -54,9 +54,11 @@ with_same f d w e = λ i r. same_at r i
     same_by : (r : ℕ) (b : Bool) → (b ≡ true → w ≡ f r) → (if b then w else f r) ≡ f r
     same_by r true p = p refl
     same_by r false p = refl
+
     of_both : (a b : Bool) → (a && b) ≡ true → a ≡ true
     of_both true b q = refl
     of_both false b q = q
+
     same_at : (r : ℕ) → with_register f d w r ≡ f r
     same_at r = same_by r ((r == d) && not (d == 0)) (λ q. e ∙ ap f (let t : r ≡ d = eqb_says r d (of_both (r == d) (not (d == 0)) q) in let u : d ≡ r = omega arith in u))
 

@@ -1,19 +1,19 @@
 -- Places counted from the end are the places of the definition, and the items put so far and those of the items to come are the
 -- function's code.
-use Rattle.std.proofs.Common.{◌≡◌, ℕ, zero, suc, ◌+◌, ◌-◌, ◌*◌, ◌<◌, ◌≤◌, ◌⊎◌, List, [], ◌∷◌, ◌++◌, true, false, Bool, length, get_or, drop, refl, sym, ap, ◌∙◌, subst, inl, inr, append_assoc, length-append, arith}
-use Rattle.std.specs.Prelude.{if◌then◌else◌, nat_lt, nat_le, ◌&&◌, Contains, All}
+use Rattle.std.proofs.Common.{◌≡◌, ℕ, zero, suc, ◌+◌, ◌-◌, ◌*◌, ◌^◌, ◌<◌, ◌≤◌, ◌⊎◌, List, [], ◌∷◌, ◌++◌, true, false, Bool, length, get_or, drop, refl, sym, ap, ◌∙◌, subst, inl, inr, append_assoc, length-append, arith}
+use Rattle.std.specs.Prelude.{if◌then◌else◌, nat_lt, nat_le, ◌&&◌, Contains}
 use Rattle.std.specs.List.{AllByRecursion}
 use Rattle.std.proofs.lemmas.List.{drop_more, drop_all, get_or_default}
 use Rattle.std.proofs.lemmas.Bool.{lt-ltb}
-use Rattle.std.proofs.lemmas.Bool.Decides.{nat_tests}
+use Rattle.std.proofs.lemmas.Bool.Decides.{nat_tests, leb_tells}
 use Rattle.cc_rv32.specs.declared.instr.BranchOperation.TheVariants.{Beq, Bne}
 use Rattle.cc_linear.specs.declared.item.Item as linear
 use Rattle.cc_linear.specs.declared.item.Item.TheVariants.{Label, Jump, IfNonzero, IfZero, Copy, Const, Unary, Binary, Load, Store, Call, Read, Write, Return}
 use Rattle.cc_linear.specs.Linear.{labels, IsItem}
 use Rattle.cc_emit.specs.declared.item.Item.{Item}
 use Rattle.cc_emit.specs.declared.item.Item.TheVariants.{Go}
-use Rattle.cc_emit.specs.Frames.{Frame, frame_of}
-use Rattle.cc_emit.specs.Emission.{size, long_size, branch_size, branch_items, items_of, is_label, reaches, is_near, long_place, short_place, prologue, prologue_size, emitted, framed_items}
+use Rattle.cc_emit.specs.Frames.{Frame, frame_size}
+use Rattle.cc_emit.specs.Emission.{size, long_size, branch_size, branch_items, items_of, is_label, reaches, is_near, long_place, short_place, stack_moved, saving, prologue, prologue_size, emitted, framed_items}
 use Rattle.cc_emit.specs.internal.Behind.{long_behind, near_behind, behind, label_behind, IsTable, ArePlaces, place_from, LeadsBelow}
 use Rattle.cc_emit.proofs.Places.{size_is, length_stack_moved, length_saving, AreSeen, seen_first, seen_next, stays_near}
 
@@ -47,8 +47,11 @@ same_items base f p q g h a count _ lt e d = refl
 
 -- ---- the first pass
 
+none_before : (n : ℕ) → nat_lt n 0 ≡ false
+none_before n = elim (leb_tells (suc n) 0) [ inl e ↦ absurd (let q = e.1 in omega arith) | inr e ↦ e.0 ]
+
 first_size : (f : Frame) (here : ℕ) (i : linear.Item) → size f (near_behind [] here) i ≡ long_size f i
-first_size f here i = same_size f (near_behind [] here) (λ l. false) i (every_near (near_behind [] here) (λ l. false) i (λ l. refl))
+first_size f here i = same_size f (near_behind [] here) (λ l. false) i (every_near (near_behind [] here) (λ l. false) i (λ l. ap (λ b. if b then reaches 0 here else false) (none_before l)))
 
 pub behind_first : (f : Frame) (items : List linear.Item) → behind f [] items ≡ long_behind f items
 behind_first f [] = refl
@@ -73,7 +76,7 @@ turned w h t p whole e d = grind (arith, nat_tests)
 pub near_same : (f : Frame) (all : List linear.Item) (first : List ℕ) (w here l : ℕ) → IsTable f [] all (length first) first → w + here ≡ long_behind f all → l < length first → near_behind first here l ≡ is_near f all w l
 near_same f all first w here l t sum lt =
     ap (λ b. if b then reaches (get_or first l 0) here else false) (lt-ltb l (length first) lt)
-    ∙ turned w here (get_or first l 0) (long_place f 0 all l) (long_behind f all) (ap (λ n. long_place f 0 all l + n) (t.each l lt) ∙ first_place f 0 all l) sum
+    ∙ turned w here (get_or first l 0) (long_place f 0 all l) (long_behind f all) (let q = t.each l lt in let p = first_place f 0 all l in omega arith) sum
 
 -- ---- the second pass
 
@@ -92,7 +95,7 @@ places_of f all label = short_place f (is_near f all) 0 (prologue_size f) all la
 
 sum_of : (f : Frame) (all : List linear.Item) (first second : List ℕ) (end l : ℕ) → ArePlaces f all first second end → AllByRecursion (LeadsBelow (length first)) all → l < length first → places_of f all l + get_or second l 0 ≡ end
 sum_of f all first second end l p leads lt =
-    ap (λ n. places_of f all l + n) (p.of_second.each l lt) ∙ second_place f all first 0 (prologue_size f) all l p.of_first leads refl ∙ sym p.end_is
+    ap (λ n. places_of f all l + n) (p.of_second.each l lt) ∙ second_place f all first 0 (prologue_size f) all l p.of_first leads (omega arith) ∙ sym p.end_is
 
 pub place_is : (f : Frame) (all : List linear.Item) (first second : List ℕ) (end l : ℕ) → ArePlaces f all first second end → AllByRecursion (LeadsBelow (length first)) all → l < length first → place_from second end l ≡ places_of f all l
 place_is f all first second end l p leads lt = let e = sum_of f all first second end l p leads lt in omega arith
@@ -110,14 +113,19 @@ pub record Emitting (base : ℕ → ℕ) (f : Frame) (all : List linear.Item) (i
   pub so_far : items ++ emitted base f (is_near f all) (places_of f all) long (length items) (drop index all) ≡ framed_items base f all
 
 length_prologue : (f : Frame) → length (prologue f) ≡ prologue_size f
-length_prologue f = length-append _ _ ∙ ap (λ n. n + _) (length_stack_moved f _) ∙ ap (λ n. _ + n) (length_saving (4 * f.slots) f.saved)
+length_prologue f =
+    let by = 2 ^ 32 - frame_size f in
+    let all = length-append (stack_moved f by) (saving (4 * f.slots) f.saved) in
+    let one = length_stack_moved f by in
+    let more = length_saving (4 * f.slots) f.saved in
+    omega arith
 
 pub emitting_first : (base : ℕ → ℕ) (f : Frame) (all : List linear.Item) (here : ℕ) (items : List Item) → items ≡ prologue f → here ≡ behind f [] all → Emitting base f all 0 here items
 emitting_first base f all here items e h =
     let n : length items ≡ prologue_size f = ap (λ (xs : List Item). length xs) e ∙ length_prologue f in
     record {
       long = 0;
-      sum = h ∙ behind_first f all;
+      sum = (let z = h ∙ behind_first f all in omega arith);
       here_is = h ∙ behind_first f all;
       seen = subst (AreSeen f all all 0) (sym n) (seen_first f all);
       so_far = ap (λ a. items ++ emitted base f (is_near f all) (places_of f all) 0 a all) n ∙ ap (λ xs. xs ++ emitted base f (is_near f all) (places_of f all) 0 (prologue_size f) all) e;
@@ -185,9 +193,9 @@ near_reaches base f all first second end i here items p leads o l lt near =
 -- ---- labels that items lead to
 
 contained_below : (n : ℕ) (ls : List ℕ) (l : ℕ) → Contains ls l → AllByRecursion (λ label. label < n) ls → l < n
-contained_below n [] l (k, (lt, is)) all = absurd (omega arith)
-contained_below n (x ∷ ls) l (zero, (lt, is)) all = (let p = all.0 in let e : x ≡ l = is in omega arith)
-contained_below n (x ∷ ls) l (suc k, (lt, is)) all = contained_below n ls l (k, (omega arith, is)) all.1
+contained_below n [] l (k, lt, is) all = absurd (omega arith)
+contained_below n (x ∷ ls) l (zero, lt, is) all = (let p = all.0 in let e : x ≡ l = is in omega arith)
+contained_below n (x ∷ ls) l (suc k, lt, is) all = contained_below n ls l (k, omega arith, is) all.1
 
 leads_one : (count slots functions : ℕ) (ls : List ℕ) (i : linear.Item) → AllByRecursion (λ label. label < count) ls → IsItem slots functions ls i → LeadsBelow count i
 leads_one count slots functions ls (Jump to) all fits = contained_below count ls to fits all

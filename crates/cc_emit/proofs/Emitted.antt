@@ -243,8 +243,10 @@ same_locations f ws t words = λ i k. at_location k i
   where
     mine : List ℕ
     mine = listed 32 0 t.registers
+
     slots : List ℕ
     slots = listed f.slots 0 (λ k. t.memory (t.registers 2 + 4 * k))
+
     at_location : (k : Location) → at_entry f.slots (mine ++ (slots ++ words)) ws k ≡ found f t ws k
     at_location (Register r) = ap (λ xs. if nat_le 10 r then get_or ws (r - 10) (get_or xs r 0) else get_or xs r 0) (take_listed 32 0 t.registers (slots ++ words))
     at_location (Slot i) = ap (λ xs. get_or (take f.slots xs) i 0) (drop_listed 32 0 t.registers (slots ++ words)) ∙ ap (λ xs. get_or xs i 0) (take_listed f.slots 0 (λ k. t.memory (t.registers 2 + 4 * k)) words)

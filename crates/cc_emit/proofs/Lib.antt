@@ -17,3 +17,7 @@ pub mod Kept
 pub mod Tabling
 -- the code: places from the end are places
 pub mod Bridging
+-- the code: the table of the objects' addresses
+pub mod Addresses
+-- the code: what is handed out
+pub mod Handing

@@ -8,4 +8,6 @@ pub mod Frames
 pub mod Emission
 -- what a piece keeps
 pub mod Piece
+-- Worked emission, by computation; no contract rests on it.
+pub mod rows
 pub mod internal

@@ -5,10 +5,10 @@ ghost use Rattle.std.specs.List.{AllByRecursion};
 ghost use Rattle.cc_ltl.specs.Registers.{most_slots};
 ghost use Rattle.cc_linear.specs.Linear.{labels, IsItem};
 ghost use Rattle.cc_rv32.specs.Fields.{IsBranchOffset};
-ghost use Rattle.cc_emit.specs.Emission.{items_of, branch_items, move_item, indexed, service, distance, reaches, function_items};
+ghost use Rattle.cc_emit.specs.Emission.{items_of, branch_items, move_item, indexed, service, distance, reaches, prologue, framed_items, function_items};
 ghost use Rattle.cc_emit.specs.declared.item.Item.TheVariants.{Plain};
 ghost use Rattle.cc_emit.specs.internal.Bases.{base_in};
-ghost use Rattle.cc_emit.specs.internal.Behind.{near_behind, place_from, LeadsBelow};
+ghost use Rattle.cc_emit.specs.internal.Behind.{near_behind, place_from, behind, ArePlaces, LeadsBelow};
 
 use crate::bases::Bases;
 use crate::constants::put_constant;
@@ -114,7 +114,7 @@ pub(crate) fn put_items_of(
     item: LinearItem,
 ) -> Result<(), AllocError>
     requires known { LeadsBelow (length places.now.second.items) item }
-    requires within { (label : ℕ) → get_or places.now.second.items label 0 ≤ places.now.end }
+    requires within { (label : ℕ) → label < length places.now.second.items → get_or places.now.second.items label 0 ≤ places.now.end }
     requires reach { (label : ℕ) → label < length places.now.second.items → near_behind places.now.first.items here label ≡ true → reaches (length items.old.items) (place_from places.now.second.items places.now.end label) ≡ true }
     ensures { OnOk result (items.new.items ≡ items.old.items ++ items_of (base_in bases.now) frame.now (near_behind places.now.first.items here) (place_from places.now.second.items places.now.end) (length items.old.items) item) }
 {
@@ -177,7 +177,29 @@ pub(crate) fn put_items_of(
     }
 }
 
-/// The items of the code of a function with so many slots.
+// Puts the items of a function behind its prologue.
+fn put_code(
+    items: &mut Vec<Item>,
+    frame: &Frame,
+    places: &Places,
+    bases: &Bases,
+    code: &[LinearItem],
+) -> Result<(), AllocError>
+    requires opened { items.old.items ≡ prologue frame.now }
+    requires places { ArePlaces frame.now code.now places.now.first.items places.now.second.items places.now.end }
+    requires long { places.now.long ≡ behind frame.now [] code.now }
+    requires leads { AllByRecursion (LeadsBelow (length places.now.first.items)) code.now }
+    ensures { OnOk result (items.new.items ≡ framed_items (base_in bases.now) frame.now code.now) }
+{
+    let mut here = places.long();
+    for item in code {
+        put_items_of(items, frame, places, bases, here, *item)?;
+        here -= long_size(frame, item);
+    }
+    Ok(())
+}
+
+/// The items of the code of a function with so many slots; `bases` has the objects' addresses.
 pub(crate) fn function_items(
     alloc: Global,
     slots: u16,
@@ -193,10 +215,6 @@ pub(crate) fn function_items(
     let places = Places::new(alloc, &frame, code)?;
     let mut items = Vec::new(alloc);
     frame.put_prologue(&mut items)?;
-    let mut here = places.long();
-    for item in code {
-        put_items_of(&mut items, &frame, &places, bases, here, *item)?;
-        here -= long_size(&frame, item);
-    }
+    put_code(&mut items, &frame, &places, bases, code)?;
     Ok(items)
 }

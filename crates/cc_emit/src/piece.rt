@@ -36,11 +36,7 @@ impl Model for Piece {
 
 impl Piece {
     // The one place where a piece is made.
-    pub(crate) fn new(
-        unit: Arc<TypedUnit>,
-        function: usize,
-        items: Vec<Item>,
-    ) -> Piece
+    pub(crate) fn new(unit: Arc<TypedUnit>, function: usize, items: Vec<Item>) -> Piece
         requires { IsPieceOfUnit (record { unit = arc_value unit; function = function; items = items.items }) }
         ensures { result ≡ record { unit = arc_value unit; function = function; items = items.items } }
     {
