@@ -1,13 +1,12 @@
 -- What the items that stand for one item of Linear do.
-use Rattle.std.proofs.Common.{◌≡◌, ℕ, suc, ◌+◌, ◌-◌, ◌*◌, ◌%◌, ◌^◌, ◌<◌, ◌≤◌, ◌⊎◌, List, [], ◌∷◌, ◌++◌, Option, Some, None, true, false, Bool, length, get_or, refl, sym, ap, ap₂, ◌∙◌, subst, inl, inr, arith}
-use Rattle.std.specs.Prelude.{nat_lt, ◌==◌, if◌then◌else◌, not, slice_get, option_map}
-use Rattle.std.proofs.lemmas.Bool.Decides.{nat_tests}
+use Rattle.std.proofs.Common.{◌≡◌, ℕ, suc, ◌+◌, ◌-◌, ◌*◌, ◌%◌, ◌^◌, ◌<◌, ◌≤◌, ◌⊎◌, List, [], ◌∷◌, ◌++◌, Option, Some, None, true, false, Bool, length, refl, sym, ap, ap₂, ◌∙◌, subst, inl, inr, arith}
+use Rattle.std.specs.Prelude.{◌==◌, if◌then◌else◌, not, option_map}
 use Rattle.cc_words.specs.Words.{add, lt_u}
 use Rattle.cc_words.specs.Operators.{apply_unary, apply_binary}
 use Rattle.cc_words.specs.declared.operators.Unary as unary
 use Rattle.cc_words.specs.declared.operators.Binary as binary
 use Rattle.cc_runs.specs.Behavior.{AreWords}
-use Rattle.cc_runs.specs.World.{World, object_words, element, stored, next_word, first_or_zero, after_read, after_write}
+use Rattle.cc_runs.specs.World.{World, object_words, element, next_word, first_or_zero, after_read, after_write}
 use Rattle.cc_runs.specs.Run.{Fails, Goes, tried}
 use Rattle.cc_ltl.specs.declared.location.Location.TheVariants.{Register, Slot}
 use Rattle.cc_ltl.specs.declared.operation.Move.{Move}
@@ -16,7 +15,7 @@ use Rattle.cc_ltl.specs.Registers.{IsAllocatable}
 use Rattle.cc_ltl.specs.Ltl.{Locations, put}
 use Rattle.cc_linear.specs.declared.item.Item as linear
 use Rattle.cc_linear.specs.declared.item.Item.TheVariants.{Jump, IfNonzero, IfZero, Copy, Const, Unary, Binary, Load, Store, Read, Write}
-use Rattle.cc_linear.specs.Linear.{Configuration, at_items, linear_move, place as items_from}
+use Rattle.cc_linear.specs.Linear.{at_items, linear_move, place as items_from}
 use Rattle.cc_rv32.specs.declared.instr.Instr.{Instr}
 use Rattle.cc_rv32.specs.declared.instr.Instr.TheVariants as instr
 use Rattle.cc_rv32.specs.declared.instr.Instr.TheVariants.{Branch, Ecall, Lui, Op, OpImm, Shift}
@@ -28,14 +27,13 @@ use Rattle.cc_rv32.specs.declared.instr.Operation as operation
 use Rattle.cc_rv32.specs.declared.instr.Operation.TheVariants as operations
 use Rattle.cc_rv32.specs.Machine as machine
 use Rattle.cc_rv32.specs.Machine.{Continues, State, Traps, branches, computed, execute, is_accessible, is_taken, puts, with_register, with_word}
-use Rattle.cc_emit.specs.declared.item.Item.{Item}
 use Rattle.cc_emit.specs.declared.item.Item.TheVariants.{Go, Plain}
 use Rattle.cc_emit.specs.Contract.{Code, IsPlace, Path, Shares}
 use Rattle.cc_emit.specs.Frames.{Frame}
-use Rattle.cc_emit.specs.Emission.{Direct, NonzeroOf, Recipe, ZeroOf, ZeroOfExchanged, addi, branch_items, branch_size, const_items, const_size, distance, high, low, prologue_size, recipe, recipe_items, recipe_size, unary_instr}
+use Rattle.cc_emit.specs.Emission.{Direct, NonzeroOf, Recipe, ZeroOf, ZeroOfExchanged, addi, branch_items, branch_size, distance, high, low, prologue_size, recipe, recipe_items, recipe_size, unary_instr}
 use Rattle.cc_emit.proofs.Fine.{IsTarget}
 use Rattle.cc_emit.proofs.Basics.{in_stack, in_globals, high_low, high_word, first_word, eqb_yes, eqb_says, same_first, got}
-use Rattle.cc_emit.proofs.Places.{AreSeen, DistanceIs, Nears, distance_is, stays_near}
+use Rattle.cc_emit.proofs.Places.{DistanceIs, Nears, distance_is, stays_near}
 use Rattle.cc_emit.proofs.Recipes.{IsRight, recipe_right, binary_word, unary_right, unary_executes}
 use Rattle.cc_emit.proofs.Standing.{long_of, Site, Standing, Stands, near, labels, machine_step, first_items, standing_tail, standing_from, step_at, jump_step}
 use Rattle.cc_emit.proofs.Saving.{load_step, store_step}

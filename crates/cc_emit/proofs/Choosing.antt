@@ -1,5 +1,5 @@
 -- The frame that emission chooses saves what its items write, so each of them is fine in it.
-use Rattle.std.proofs.Common.{◌≡◌, ℕ, suc, ◌+◌, ◌<◌, ◌≤◌, List, [], ◌∷◌, true, false, Bool, length, refl, sym, ap, ◌∙◌, subst, inl, inr, arith}
+use Rattle.std.proofs.Common.{◌≡◌, ℕ, suc, ◌≤◌, List, [], ◌∷◌, true, false, Bool, length, refl, sym, ap, ◌∙◌, subst, inl, inr, arith}
 use Rattle.std.specs.Prelude.{◌||◌, if◌then◌else◌}
 use Rattle.std.specs.List.{AllByRecursion}
 use Rattle.cc_runs.specs.Meaning.{Meaning}
@@ -11,7 +11,7 @@ use Rattle.cc_linear.specs.declared.item.Item as linear
 use Rattle.cc_linear.specs.declared.item.Item.TheVariants.{Label, Jump, IfNonzero, IfZero, Copy, Const, Unary, Binary, Load, Store, Call, Read, Write, Return}
 use Rattle.cc_linear.specs.Linear.{IsItem}
 use Rattle.cc_emit.specs.Contract.{IsKept}
-use Rattle.cc_emit.specs.Frames.{kept_registers, writes, is_written, written, is_call, calls, saved_by, frame_of}
+use Rattle.cc_emit.specs.Frames.{kept_registers, writes, is_written, written, is_call, calls, frame_of}
 use Rattle.cc_emit.proofs.Fine.{AreFine, AreSavable, IsFine, IsFineMove, IsFrame, IsTarget, Member}
 use Rattle.cc_emit.proofs.Basics.{eqb_yes}
 

@@ -19,7 +19,7 @@ use Rattle.cc_linear.specs.Linear.{Configuration, at_items, answered, linear_mov
 use Rattle.cc_rv32.specs.Machine.{Continues, State, stack_from}
 use Rattle.cc_emit.specs.Contract.{CallsMeet, Code, ComesBack, Enters, IsPlace, IsSound, Layout, Meets, Path, PieceMeets, Placed}
 use Rattle.cc_emit.specs.Frames.{Frame}
-use Rattle.cc_emit.specs.Emission.{emitted, framed_items, prologue, prologue_size, saving, stack_moved, stack_moved_size}
+use Rattle.cc_emit.specs.Emission.{emitted, framed_items, prologue, prologue_size, saving, stack_moved}
 use Rattle.cc_emit.proofs.Fine.{AreFine, IsFrame, Member}
 use Rattle.cc_emit.proofs.Basics.{words_append, listed, listed_words, take_listed, drop_listed}
 use Rattle.cc_emit.proofs.Places.{length_saving, length_stack_moved, seen_first}

@@ -1,6 +1,6 @@
 -- Every item of a function's code has a word, wherever the code stands: each instruction is encodable, each call is of a function of
 -- the unit, each jump goes to a place within the code.
-use Rattle.std.proofs.Common.{◌≡◌, ℕ, ◌+◌, ◌-◌, ◌*◌, ◌<◌, ◌≤◌, ◌⊎◌, ◌^◌, List, [], ◌∷◌, ◌++◌, true, false, Bool, length, refl, sym, subst, inl, inr, arith}
+use Rattle.std.proofs.Common.{◌≡◌, ℕ, ◌+◌, ◌-◌, ◌*◌, ◌<◌, ◌≤◌, ◌^◌, List, [], ◌∷◌, ◌++◌, true, false, Bool, length, refl, inl, inr, arith}
 use Rattle.std.specs.Prelude.{if◌then◌else◌, ◌==◌}
 use Rattle.std.proofs.lemmas.List.{length-append}
 use Rattle.cc_words.specs.declared.operators.Unary as unary
@@ -10,16 +10,16 @@ use Rattle.cc_ltl.specs.declared.operation.Move.{Move}
 use Rattle.cc_ltl.specs.declared.operation.Move.TheVariants.{Between, Reload, Spill}
 use Rattle.cc_linear.specs.declared.item.Item as linear
 use Rattle.cc_linear.specs.declared.item.Item.TheVariants.{Label, Jump, IfNonzero, IfZero, Copy, Const, Unary, Binary, Load, Store, Call, Read, Write, Return}
-use Rattle.cc_rv32.specs.declared.instr.Instr.TheVariants.{Lui, Branch}
+use Rattle.cc_rv32.specs.declared.instr.Instr.TheVariants.{Lui}
 use Rattle.cc_rv32.specs.declared.instr.BranchOperation.{BranchOperation}
 use Rattle.cc_rv32.specs.declared.instr.BranchOperation.TheVariants.{Beq, Bne}
 use Rattle.cc_rv32.specs.Fields.{IsImmediate}
 use Rattle.cc_rv32.specs.Table.{IsEncodable}
 use Rattle.cc_emit.specs.declared.item.Item.{Item}
-use Rattle.cc_emit.specs.declared.item.Item.TheVariants.{Go, Plain}
-use Rattle.cc_emit.specs.Contract.{AreFit, IsKept}
+use Rattle.cc_emit.specs.declared.item.Item.TheVariants.{Plain}
+use Rattle.cc_emit.specs.Contract.{AreFit}
 use Rattle.cc_emit.specs.Frames.{Frame, frame_size}
-use Rattle.cc_emit.specs.Emission.{Direct, NonzeroOf, Recipe, ZeroOf, ZeroOfExchanged, addi, branch_items, const_items, distance, emitted, epilogue, framed_items, high, is_near, items_of, long_size, low, move_item, prologue, prologue_size, recipe, recipe_items, restoring, saving, short_place, size, stack_moved, stack_moved_size, unary_instr}
+use Rattle.cc_emit.specs.Emission.{Direct, NonzeroOf, Recipe, ZeroOf, ZeroOfExchanged, addi, branch_items, emitted, epilogue, framed_items, high, is_near, items_of, long_size, low, move_item, prologue, prologue_size, recipe, recipe_items, restoring, saving, short_place, size, stack_moved, stack_moved_size, unary_instr}
 use Rattle.cc_emit.proofs.Fine.{AreFine, AreSavable, IsFine, IsFineMove, IsFrame, IsSavable}
 use Rattle.cc_emit.proofs.Basics.{LowIs, low_is, eqb_denies}
 use Rattle.cc_emit.proofs.Places.{AreSeen, Nears, length_saving, length_stack_moved, near_offset, seen_first, seen_next, short_place_le, stays_near}

@@ -8,12 +8,11 @@ use Rattle.cc_typing.specs.Typed.{IsTyped, IsWithinLimits}
 use Rattle.cc_typing.specs.Scope.{FileScope, file_scope_behind, first_file_scope}
 use Rattle.cc_typing.specs.declared.rule.Offence.{Offence}
 use Rattle.cc_meaning.specs.Meaning.{Function, functions, functions_from, text_of}
-use Rattle.cc_meaning.specs.Numbered.{IsMeaningOf, arity_in, objects_in}
-use Rattle.cc_runs.specs.Meaning.{Meaning}
+use Rattle.cc_meaning.specs.Numbered.{arity_in, objects_in}
 use Rattle.cc_linear.specs.Linear.{labels, IsItem, IsLinear}
 use Rattle.cc_linear.specs.Pair as above
-use Rattle.cc_emit.specs.Contract.{Layout, IsPiece}
-use Rattle.cc_emit.specs.Objects.{IsInOrder, object_address}
+use Rattle.cc_emit.specs.Contract.{IsPiece}
+use Rattle.cc_emit.specs.Objects.{object_address}
 use Rattle.cc_emit.specs.Frames.{frame_of}
 use Rattle.cc_emit.specs.Emission.{framed_items}
 use Rattle.cc_emit.specs.Piece.{AreOf, IsPieceOfUnit, pair_items}

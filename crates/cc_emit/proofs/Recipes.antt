@@ -9,10 +9,7 @@ use Rattle.cc_words.specs.declared.operators.Unary.TheVariants.{Neg, Complement,
 use Rattle.cc_words.specs.declared.operators.Binary as binary
 use Rattle.cc_words.specs.declared.operators.Binary.TheVariants.{Add, Sub, Mul, DivS, DivU, RemS, RemU, Shl, ShrS, ShrU, And, Or, Xor, Eq, Ne, LtS, LtU, LeS, LeU}
 use Rattle.cc_words.proofs.Laws.{is_zero-lt_u, eq-sub, ne-sub, le_s-lt_s, le_u-lt_u, complement-xor, IsWord-add, IsWord-sub, IsWord-mul, IsWord-neg, IsWord-div_s, IsWord-div_u, IsWord-rem_s, IsWord-rem_u, IsWord-shl, IsWord-shr_s, IsWord-shr_u, IsWord-and, IsWord-or, IsWord-xor, IsWord-eq, IsWord-ne, IsWord-lt_s, IsWord-lt_u, IsWord-le_s, IsWord-le_u, IsWord-is_zero, IsWord-complement}
-use Rattle.cc_rv32.specs.declared.instr.Instr.{Instr}
-use Rattle.cc_rv32.specs.declared.instr.Instr.TheVariants.{Op, OpImm}
 use Rattle.cc_rv32.specs.declared.instr.Operation.TheVariants as operation
-use Rattle.cc_rv32.specs.declared.instr.ImmediateOperation.TheVariants.{Sltiu, Xori}
 use Rattle.cc_rv32.specs.Machine.{State, computed, execute, puts}
 use Rattle.cc_emit.specs.Emission.{Direct, NonzeroOf, Recipe, ZeroOf, ZeroOfExchanged, recipe, unary_instr}
 

@@ -1,16 +1,14 @@
 -- Calls and returns within a frame, and its start.
-use Rattle.std.proofs.Common.{◌≡◌, ℕ, zero, suc, ◌+◌, ◌-◌, ◌*◌, ◌%◌, ◌^◌, ◌<◌, ◌≤◌, ◌⊎◌, List, [], ◌∷◌, ◌++◌, Bool, true, false, Some, length, get_or, refl, sym, ap, ◌∙◌, subst, inl, inr, arith}
+use Rattle.std.proofs.Common.{◌≡◌, ℕ, zero, suc, ◌+◌, ◌-◌, ◌*◌, ◌%◌, ◌^◌, ◌<◌, ◌≤◌, ◌⊎◌, List, [], ◌∷◌, Bool, true, false, Some, length, get_or, refl, sym, ap, ◌∙◌, subst, inl, inr, arith}
 use Rattle.std.specs.Prelude.{if◌then◌else◌, nat_le}
 use Rattle.std.proofs.lemmas.Bool.Decides.{nat_tests}
-use Rattle.std.proofs.lemmas.List.{length-append}
 use Rattle.cc_words.specs.Words.{add}
 use Rattle.cc_runs.specs.Behavior.{AreWords}
 use Rattle.cc_runs.specs.World.{Answer, World, object_words}
-use Rattle.cc_runs.specs.Unknown.{survives, unknown_register, register_after_call}
-use Rattle.cc_ltl.specs.declared.location.Location.{Location}
+use Rattle.cc_runs.specs.Unknown.{survives}
 use Rattle.cc_ltl.specs.declared.location.Location.TheVariants.{Register, Slot}
 use Rattle.cc_ltl.specs.Registers.{IsAllocatable}
-use Rattle.cc_ltl.specs.Ltl.{Locations, put, words_from, at_entry}
+use Rattle.cc_ltl.specs.Ltl.{Locations, put, words_from}
 use Rattle.cc_linear.specs.declared.item.Item as linear
 use Rattle.cc_linear.specs.declared.item.Item.TheVariants.{Return}
 use Rattle.cc_rv32.specs.declared.instr.Instr.TheVariants.{Jal, Jalr}

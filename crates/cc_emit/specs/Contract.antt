@@ -99,8 +99,8 @@ pub record IsPlace (a : ℕ) : Type 0 where
   pub from : 0x10000 ≤ a
   pub to : a < 0x100000
 
--- What a piece keeps: wherever it stands, at each number of open calls. What one step is slow, the call of the function pays: its first
--- instruction may be its return.
+-- What a piece keeps: wherever it stands, at each number of open calls. What one instruction pays is left to the call of the function,
+-- since a function without a frame may have executed none yet.
 abbrev pub PieceMeets : (meaning : Meaning) → Layout meaning.objects → (function rate : ℕ) → List Item → Type 0
 PieceMeets meaning layout f rate items =
     (code : Code) (places : ℕ → ℕ) (place : ℕ) → IsPlace place → IsPlace (place + 4 * length items) → Placed code places place place items → ((g : ℕ) → g < meaning.functions → IsPlace (places g))

@@ -1,16 +1,19 @@
 -- Worked emission, by computation: the code of a function item for item, its run on the machine, and where a branch is near.
-use Rattle.std.specs.Prelude.{ℕ, zero, suc, ◌+◌, ◌-◌, ◌*◌, ◌/◌, ◌≡◌, refl, Bool, true, false, if◌then◌else◌, ◌==◌, nat_le, List, [], ◌∷◌, length, map, Option, Some, None, slice_get}
+use Rattle.std.specs.Prelude.{ℕ, zero, suc, ◌+◌, ◌-◌, ◌/◌, ◌≡◌, refl, true, false, if◌then◌else◌, ◌==◌, nat_le, List, [], ◌∷◌, map, None, slice_get}
 use Rattle.cc_words.specs.declared.operators.Binary.TheVariants.{Add, Sub}
 use Rattle.cc_ltl.specs.declared.operation.Move.TheVariants.{Reload, Spill}
 use Rattle.cc_linear.specs.declared.item.Item as linear
-use Rattle.cc_linear.specs.declared.item.Item.TheVariants.{Label, Jump, IfZero, Copy, Const, Binary, Load, Store, Write, Return}
+use Rattle.cc_linear.specs.declared.item.Item.TheVariants.{Label, Jump, IfZero, Copy, Const, Binary, Load, Store, Call, Write, Return}
 use Rattle.cc_rv32.specs.declared.instr.Instr.{Instr}
+use Rattle.cc_rv32.specs.declared.instr.Instr.TheVariants.{Jalr}
 use Rattle.cc_rv32.specs.Table.{encoding_of}
 use Rattle.cc_rv32.specs.Machine.{State, Turn, Continues, Exits, Traps, executed}
 use Rattle.cc_emit.specs.declared.item.Item.{Item}
+use Rattle.cc_emit.specs.declared.item.Item.TheVariants as item
+use Rattle.cc_emit.specs.declared.item.Item.TheVariants.{Plain}
 use Rattle.cc_emit.specs.Contract.{Code, filled}
 use Rattle.cc_emit.specs.Objects.{object_address}
-use Rattle.cc_emit.specs.Emission.{reaches, function_items}
+use Rattle.cc_emit.specs.Emission.{addi, load_word, store_word, const_size, reaches, function_items}
 
 -- 1 is added up once; the sum goes through a slot and through an element of the second object, whose address has a negative lower part
 abbrev loop : List linear.Item
@@ -69,6 +72,16 @@ ran = refl
 bare_words : words_of 0x10000 (function_items (λ g. 0) 0 (Return ∷ [])) ≡ 0x00008067 ∷ []
 unfolding encoding_of
 bare_words = refl
+
+-- one that calls saves x1: addi x2, x2, -4; sw x1, 0(x2); the call; lw x1, 0(x2); addi x2, x2, 4; jalr x0, 0(x1)
+calling : function_items (λ g. 0) 0 (Call 3 ∷ Return ∷ [])
+    ≡ addi 2 2 0xfffffffc ∷ store_word 2 1 0 ∷ item.Call 3 ∷ load_word 1 2 0 ∷ addi 2 2 4 ∷ Plain (Jalr 0 1 0) ∷ []
+calling = refl
+
+-- ---- how many items a constant takes: 2047, 2048, 4096, -2048, -2049, 0x12345678
+
+const_sizes : map const_size (2047 ∷ 2048 ∷ 4096 ∷ 0xfffff800 ∷ 0xfffff7ff ∷ 0x12345678 ∷ []) ≡ 1 ∷ 2 ∷ 1 ∷ 1 ∷ 2 ∷ 2 ∷ []
+const_sizes = refl
 
 -- ---- how far a near branch goes, in items
 
