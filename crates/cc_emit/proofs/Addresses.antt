@@ -1,12 +1,12 @@
 -- The table of the objects' addresses: what is in it so far and what is to come is the whole.
-use Rattle.std.proofs.Common.{◌≡◌, ℕ, zero, suc, ◌+◌, ◌-◌, ◌*◌, ◌<◌, ◌≤◌, List, [], ◌∷◌, ◌++◌, true, false, Bool, cond, length, map, get_or, min, nat_lt, refl, sym, ap, ◌∙◌, subst, append_assoc, length-append, arith}
+use Rattle.std.proofs.Common.{◌≡◌, ℕ, zero, suc, ◌+◌, ◌-◌, ◌*◌, ◌≤◌, List, [], ◌∷◌, ◌++◌, true, false, Bool, cond, length, map, get_or, min, nat_lt, refl, sym, ap, ◌∙◌, subst, append_assoc, length-append, arith}
 use Rattle.std.proofs.lemmas.Bool.Decides.{nat_tests}
-use Rattle.cc_syntax.specs.Tree.{Object, External, Declaration, Definition, Objects}
+use Rattle.cc_syntax.specs.Tree.{Object, External}
 use Rattle.cc_typing.specs.Types.{object_words}
-use Rattle.cc_typing.specs.Limits.{objects, object_name, too_many, most_words, word_excesses, past, most_functions, function_names, externals_excesses, excesses}
+use Rattle.cc_typing.specs.Limits.{objects, object_name, too_many, most_words, word_excesses, past, most_functions, function_names, externals_excesses}
 use Rattle.cc_typing.specs.Typed.{IsTyped, IsWithinLimits}
 use Rattle.cc_typing.specs.declared.rule.Offence.{Offence}
-use Rattle.cc_resolve.specs.Layout.{LaidObject, laid_from, layout_of}
+use Rattle.cc_resolve.specs.Layout.{LaidObject, laid_from}
 use Rattle.cc_meaning.specs.Meaning.{Global, initial_globals}
 use Rattle.cc_meaning.specs.Numbered.{objects_in, words_in}
 use Rattle.cc_meaning.specs.Calls.{ObjectsAreSized}

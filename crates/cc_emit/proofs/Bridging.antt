@@ -1,15 +1,15 @@
 -- Places counted from the end are the places of the definition, and the items put so far and those of the items to come are the
 -- function's code.
-use Rattle.std.proofs.Common.{◌≡◌, ℕ, zero, suc, ◌+◌, ◌-◌, ◌*◌, ◌^◌, ◌<◌, ◌≤◌, ◌⊎◌, List, [], ◌∷◌, ◌++◌, true, false, Bool, length, get_or, drop, refl, sym, ap, ◌∙◌, subst, inl, inr, append_assoc, length-append, arith}
-use Rattle.std.specs.Prelude.{if◌then◌else◌, nat_lt, nat_le, ◌&&◌, Contains}
+use Rattle.std.proofs.Common.{◌≡◌, ℕ, zero, suc, ◌+◌, ◌-◌, ◌*◌, ◌^◌, ◌<◌, ◌≤◌, List, [], ◌∷◌, ◌++◌, true, false, Bool, length, get_or, drop, refl, sym, ap, ◌∙◌, subst, inl, inr, append_assoc, length-append, arith}
+use Rattle.std.specs.Prelude.{if◌then◌else◌, nat_lt, Contains}
 use Rattle.std.specs.List.{AllByRecursion}
-use Rattle.std.proofs.lemmas.List.{drop_more, drop_all, get_or_default}
+use Rattle.std.proofs.lemmas.List.{drop_more, drop_all}
 use Rattle.std.proofs.lemmas.Bool.{lt-ltb}
 use Rattle.std.proofs.lemmas.Bool.Decides.{nat_tests, leb_tells}
 use Rattle.cc_rv32.specs.declared.instr.BranchOperation.TheVariants.{Beq, Bne}
 use Rattle.cc_linear.specs.declared.item.Item as linear
-use Rattle.cc_linear.specs.declared.item.Item.TheVariants.{Label, Jump, IfNonzero, IfZero, Copy, Const, Unary, Binary, Load, Store, Call, Read, Write, Return}
-use Rattle.cc_linear.specs.Linear.{labels, IsItem}
+use Rattle.cc_linear.specs.declared.item.Item.TheVariants.{Jump, IfNonzero, IfZero}
+use Rattle.cc_linear.specs.Linear.{IsItem}
 use Rattle.cc_emit.specs.declared.item.Item.{Item}
 use Rattle.cc_emit.specs.declared.item.Item.TheVariants.{Go}
 use Rattle.cc_emit.specs.Frames.{Frame, frame_size}
@@ -153,8 +153,8 @@ emitting_more base f all first second end i here here' item old new p leads lt i
     let here_is = o.here_is ∙ ap (long_behind f) rest in
     let one = items_of base f (near w) (places_of f all) a item in
     let same : items_of base f (near_behind first here) (place_from second end) a item ≡ one =
-        same_items base f (near_behind first here) (near w) (place_from second end) (places_of f all) a (length first) item (leads_at (length first) all i item lt is leads)
-        (λ l ll. near_same f all first w here l p.of_first sum ll) (λ l ll. place_is f all first second end l p leads ll) in
+    same_items base f (near_behind first here) (near w) (place_from second end) (places_of f all) a (length first) item (leads_at (length first) all i item lt is leads)
+    (λ l ll. near_same f all first w here l p.of_first sum ll) (λ l ll. place_is f all first second end l p leads ll) in
     let grown : new ≡ old ++ one = e ∙ ap (λ xs. old ++ xs) same in
     let n : length new ≡ a + size f (near w) item = ap (λ (xs : List Item). length xs) grown ∙ length-append old one ∙ ap (λ k. a + k) (size_is base f (near w) (places_of f all) a item) in
     let more = emitted base f near (places_of f all) (w + long_size f item) (a + size f (near w) item) (drop (i + 1) all) in
@@ -164,8 +164,8 @@ emitting_more base f all first second end i here here' item old new p leads lt i
       here_is = (let z : here' ≡ long_behind f (drop (i + 1) all) = omega arith in z);
       seen = subst (AreSeen f all (drop (i + 1) all) (w + long_size f item)) (sym n) (seen_next f all item (drop (i + 1) all) w a (subst (λ items. AreSeen f all items w a) rest o.seen));
       so_far =
-        ap (λ k. new ++ emitted base f near (places_of f all) (w + long_size f item) k (drop (i + 1) all)) n ∙ ap (λ xs. xs ++ more) grown ∙ append_assoc old one more
-        ∙ sym (ap (λ items. old ++ emitted base f near (places_of f all) w a items) rest) ∙ o.so_far;
+          ap (λ k. new ++ emitted base f near (places_of f all) (w + long_size f item) k (drop (i + 1) all)) n ∙ ap (λ xs. xs ++ more) grown ∙ append_assoc old one more
+          ∙ sym (ap (λ items. old ++ emitted base f near (places_of f all) w a items) rest) ∙ o.so_far;
     }
 
 pub emitting_all : (base : ℕ → ℕ) (f : Frame) (all : List linear.Item) (i here : ℕ) (items : List Item) → length all ≤ i → Emitting base f all i here items → items ≡ framed_items base f all

@@ -1,5 +1,5 @@
 -- What is handed out is the piece of the pair.
-use Rattle.std.proofs.Common.{◌≡◌, ℕ, ◌<◌, List, length, sym, ap, ◌∙◌, subst}
+use Rattle.std.proofs.Common.{◌≡◌, ℕ, List, sym, ap, ◌∙◌, subst}
 use Rattle.std.specs.List.{AllByRecursion}
 use Rattle.cc_syntax.specs.Tree.{External}
 use Rattle.cc_syntax.specs.declared.unit.Unit as parsed
@@ -10,7 +10,7 @@ use Rattle.cc_linear.specs.Pair as above
 use Rattle.cc_emit.specs.declared.item.Item.{Item}
 use Rattle.cc_emit.specs.Objects.{object_address}
 use Rattle.cc_emit.specs.Emission.{function_items}
-use Rattle.cc_emit.specs.Piece.{Piece, IsPieceOfUnit, pair_items}
+use Rattle.cc_emit.specs.Piece.{IsPieceOfUnit, pair_items}
 use Rattle.cc_emit.specs.internal.Bases.{base_in}
 
 pub fit_handed : (p : above.Pair) (n slots : ℕ) (code : List linear.Item) → slots ≡ p.slots → code ≡ p.code → IsLinear p.slots n p.code → (functions : ℕ) × AllByRecursion (IsItem slots functions (labels code)) code

@@ -1,5 +1,5 @@
 -- The registers that a function saves, one more of those that it may keep at a time.
-use Rattle.std.proofs.Common.{◌≡◌, ℕ, zero, suc, ◌+◌, ◌<◌, ◌≤◌, List, [], ◌∷◌, ◌++◌, true, false, length, get_or, drop, refl, sym, ap, ◌∙◌, append_assoc, length-append, arith}
+use Rattle.std.proofs.Common.{◌≡◌, ℕ, zero, suc, ◌+◌, ◌<◌, ◌≤◌, List, [], ◌∷◌, ◌++◌, true, false, length, get_or, drop, sym, ap, ◌∙◌, append_assoc, length-append, arith}
 use Rattle.std.specs.Prelude.{if◌then◌else◌}
 use Rattle.std.specs.List.{AllByRecursion}
 use Rattle.std.proofs.lemmas.List.{at_drop_more}
@@ -18,8 +18,7 @@ pub chosen_more : (code : List linear.Item) (i r : ℕ) (old new : List ℕ) →
 chosen_more code i r old new is lt small w e (all, few, below) =
     let step = at_drop_more (written code) kept_registers i 0 lt in
     let rest = written code (drop (i + 1) kept_registers) in
-    let one : written code (get_or kept_registers i 0 ∷ drop (i + 1) kept_registers) ≡ r ∷ rest = ap (λ x. written code (x ∷ drop (i + 1) kept_registers)) (sym is) ∙ ap (λ b. if b then r ∷ rest else rest) w in
-    (
+    let one : written code (get_or kept_registers i 0 ∷ drop (i + 1) kept_registers) ≡ r ∷ rest = ap (λ x. written code (x ∷ drop (i + 1) kept_registers)) (sym is) ∙ ap (λ b. if b then r ∷ rest else rest) w in (
       ap (λ l. l ++ rest) e ∙ append_assoc old (r ∷ []) rest ∙ ap (λ l. old ++ l) (sym one ∙ sym step) ∙ all,
       (let n = length-append old (r ∷ []) in rw e (omega (arith, n, few))),
       rw e (below_push old r below small),

@@ -1,11 +1,11 @@
 -- The table of labels, an item more at a time, from the back.
-use Rattle.std.proofs.Common.{◌≡◌, ℕ, zero, suc, ◌+◌, ◌-◌, ◌*◌, ◌<◌, ◌≤◌, ◌⊎◌, List, [], ◌∷◌, true, false, Bool, length, get_or, set, drop, replicate, refl, sym, ap, ◌∙◌, subst, inl, inr, arith}
-use Rattle.std.specs.Prelude.{if◌then◌else◌, ◌==◌}
+use Rattle.std.proofs.Common.{◌≡◌, ℕ, zero, suc, ◌+◌, ◌-◌, ◌*◌, ◌<◌, ◌≤◌, List, [], ◌∷◌, false, length, get_or, set, drop, replicate, refl, sym, ap, ◌∙◌, subst, inl, inr, arith}
+use Rattle.std.specs.Prelude.{if◌then◌else◌}
 use Rattle.std.specs.List.{AllByRecursion}
-use Rattle.std.proofs.lemmas.List.{get_or-set_same, get_or-set_other, length-set, get_or-replicate, length-replicate, drop_more, drop_all, get_or_default}
+use Rattle.std.proofs.lemmas.List.{get_or-set_same, get_or-set_other, length-set, get_or-replicate, length-replicate, drop_more, drop_all}
 use Rattle.std.proofs.lemmas.Bool.Decides.{eqb_tells}
 use Rattle.cc_linear.specs.declared.item.Item as linear
-use Rattle.cc_linear.specs.declared.item.Item.TheVariants.{Label, Jump, IfNonzero, IfZero, Copy, Const, Unary, Binary, Load, Store, Call, Read, Write, Return}
+use Rattle.cc_linear.specs.declared.item.Item.TheVariants.{Label}
 use Rattle.cc_linear.specs.Linear.{labels}
 use Rattle.cc_emit.specs.Frames.{Frame}
 use Rattle.cc_emit.specs.Emission.{size, long_size, is_label}
@@ -36,7 +36,7 @@ label_noted f first count n items table lt t =
     record {
       long = length-set table n b ∙ t.long;
       each = λ l ll. elim (eqb_tells n l) [
-        inl e ↦ (ap (λ i. get_or (set table n b) i 0) (sym e.1) ∙ get_or-set_same table n b 0 (let long = t.long in omega arith) ∙ sym (ap (λ c. if c then b else label_behind f first items l) e.0))
+        | inl e ↦ (ap (λ i. get_or (set table n b) i 0) (sym e.1) ∙ get_or-set_same table n b 0 (let long = t.long in omega arith) ∙ sym (ap (λ c. if c then b else label_behind f first items l) e.0))
         | inr e ↦ (get_or-set_other table n l b 0 (λ q. e.1 (sym q)) ∙ t.each l ll ∙ sym (ap (λ c. if c then b else label_behind f first items l) e.0))
       ];
     }
@@ -46,7 +46,7 @@ pub label_past : (f : Frame) (first : List ℕ) (count n : ℕ) (items : List li
 label_past f first count n items table le t = record {
   long = t.long;
   each = λ l ll. elim (eqb_tells n l) [
-    inl e ↦ absurd (let q = e.1 in omega arith)
+    | inl e ↦ absurd (let q = e.1 in omega arith)
     | inr e ↦ (t.each l ll ∙ sym (ap (λ c. if c then behind f first (Label n ∷ items) else label_behind f first items l) e.0))
   ];
 }
@@ -106,7 +106,7 @@ filled_more f first code count at here all here' all' item table table' o a eh e
     let le = o.within in
     let new_here : here' ≡ long_behind f (item ∷ drop at code) = (let h = o.here_is in omega arith) in
     let new_all : all' ≡ behind f first (item ∷ drop at code) =
-        ea ∙ ap (λ h. all + size f (near_behind first h) item) new_here ∙ (let h = o.all_is in let z : all + size f (near_behind first (long_behind f (item ∷ drop at code))) item ≡ behind f first (item ∷ drop at code) = omega arith in z) in
+    ea ∙ ap (λ h. all + size f (near_behind first h) item) new_here ∙ (let h = o.all_is in let z : all + size f (near_behind first (long_behind f (item ∷ drop at code))) item ≡ behind f first (item ∷ drop at code) = omega arith in z) in
     record {
       within = omega arith;
       here_is = new_here ∙ sym (ap (long_behind f) rest);

@@ -73,11 +73,7 @@ fn objects_of(external: &External) -> &[Object]
 }
 
 // Adds the addresses of some objects, of which the first lies at `address`, and answers the address behind them.
-fn add_bases(
-    addresses: &mut Vec<u32>,
-    address: u32,
-    trees: &[Object],
-) -> Result<u32, AllocError>
+fn add_bases(addresses: &mut Vec<u32>, address: u32, trees: &[Object]) -> Result<u32, AllocError>
     requires { address_behind address (object_trees trees.now) ≤ globals_to }
     ensures bases { OnOk result (addresses.new.items ≡ addresses.old.items ++ bases_from address (object_trees trees.now)) }
     ensures behind { IfOk result (λ n. n ≡ address_behind address (object_trees trees.now)) }

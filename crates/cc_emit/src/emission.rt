@@ -42,12 +42,7 @@ fn move_word(between: Move) -> Instr
 }
 
 // Puts an access to an element: x5 becomes its address, less the lower part of its object's address.
-fn put_indexed(
-    items: &mut Vec<Item>,
-    base: u32,
-    index: u8,
-    access: Instr,
-) -> Result<(), AllocError>
+fn put_indexed(items: &mut Vec<Item>, base: u32, index: u8, access: Instr) -> Result<(), AllocError>
     requires { index < 32 }
     ensures { OnOk result (items.new.items ≡ items.old.items ++ indexed base index (Plain access ∷ [])) }
 {

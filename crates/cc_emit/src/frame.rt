@@ -6,9 +6,7 @@ ghost use Rattle.cc_ltl.specs.Registers.{most_slots};
 ghost use Rattle.cc_emit.specs.Frames.{frame_size, frame_of, writes, is_written, calls, is_call};
 ghost use Rattle.cc_emit.specs.Emission.{saving, restoring, prologue, epilogue, prologue_size, stack_moved_size};
 
-use crate::instructions::{
-    RETURN_ADDRESS, STACK, add_immediate, go_back, load, put, store,
-};
+use crate::instructions::{RETURN_ADDRESS, STACK, add_immediate, go_back, load, put, store};
 use crate::item::Item;
 use cc_linear::Item as LinearItem;
 use cc_ltl::Move;
@@ -54,14 +52,6 @@ impl Frame {
             }
         }
         Ok(Frame { slots, saved })
-    }
-
-    /// How many slots it has.
-    pub(crate) fn slots(&self) -> u16
-        ensures answer { result ≡ self.now.slots }
-        ensures few { self.now.slots ≤ most_slots }
-    {
-        self.slots
     }
 
     /// The registers that it saves, in the order of their places.

@@ -113,7 +113,10 @@ fn put_zero_of(
     ensures { OnOk result (items.new.items ≡ items.old.items ++ recipe_items (ZeroOf operation) to left right) }
 {
     put(items, operate(operation, SCRATCH, left, right))?;
-    put(items, operate_immediate(ImmediateOperation::Sltiu, to, SCRATCH, 1))
+    put(
+        items,
+        operate_immediate(ImmediateOperation::Sltiu, to, SCRATCH, 1),
+    )
 }
 
 // Whether what an instruction gives is not 0.

@@ -144,11 +144,7 @@ fn size(frame: &Frame, first: &[usize], here: usize, item: &LinearItem) -> usize
 {
     match item {
         LinearItem::IfNonzero { to, .. } | LinearItem::IfZero { to, .. } => {
-            if is_near(first, here, *to) {
-                1
-            } else {
-                2
-            }
+            if is_near(first, here, *to) { 1 } else { 2 }
         }
         _ => long_size(frame, item),
     }

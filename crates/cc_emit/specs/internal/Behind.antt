@@ -1,6 +1,6 @@
 -- The same places counted from the end: the tables are filled from the back, since how far a place is from the end is known as soon as
 -- all behind it is.
-use Rattle.std.specs.Prelude.{◌≡◌, ℕ, ◌+◌, ◌-◌, ◌<◌, ◌≤◌, Bool, false, true, if◌then◌else◌, nat_lt, List, [], ◌∷◌, length, get_or}
+use Rattle.std.specs.Prelude.{◌≡◌, ℕ, ◌+◌, ◌-◌, ◌<◌, Bool, false, if◌then◌else◌, nat_lt, List, [], ◌∷◌, length, get_or}
 use Rattle.cc_linear.specs.declared.item.Item as linear
 use Rattle.cc_linear.specs.declared.item.Item.TheVariants.{Jump, IfNonzero, IfZero}
 use Rattle.cc_emit.specs.Frames.{Frame}

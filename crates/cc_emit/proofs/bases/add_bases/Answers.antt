@@ -1,4 +1,4 @@
-use Rattle.std.proofs.Common.{◌∷◌, drop, ap, arith}
+use Rattle.std.proofs.Common.{ap, arith}
 use Rattle.cc_syntax.specs.Erase.{object_tree, object_trees}
 use Rattle.cc_typing.proofs.SameTypes.{drop-item}
 use Rattle.cc_emit.proofs.Addresses.{next_fits}

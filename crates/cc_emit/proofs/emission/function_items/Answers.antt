@@ -1,7 +1,6 @@
-use Rattle.std.proofs.Common.{rules, ap, ◌∙◌}
+use Rattle.std.proofs.Common.{ap, ◌∙◌}
 use Rattle.cc_emit.specs.Emission.{framed_items}
 use Rattle.cc_emit.specs.internal.Bases.{base_in}
-use Rattle.cc_emit.proofs.Bridging.{leads_all}
 use Rattle.cc_emit.proofs.emission.function_items.Goals as goal
 
 pub returns : goal.returns

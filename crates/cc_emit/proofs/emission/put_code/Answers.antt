@@ -1,6 +1,6 @@
 use Rattle.std.proofs.Common.{rules, ◌-◌, ap}
 use Rattle.cc_emit.specs.internal.Bases.{base_in}
-use Rattle.cc_emit.proofs.Bridging.{emitting_first, emitting_more, emitting_all, place_within, near_reaches, here_enough}
+use Rattle.cc_emit.proofs.Bridging.{emitting_first, emitting_more, place_within, near_reaches}
 use Rattle.cc_emit.proofs.emission.put_code.Goals as goal
 
 pub loop-item-init : goal.loop-item-init

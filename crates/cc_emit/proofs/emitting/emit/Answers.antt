@@ -1,5 +1,4 @@
-use Rattle.std.proofs.Common.{ap, sym, ◌∙◌, subst}
-use Rattle.cc_syntax.specs.Erase.{external_trees}
+use Rattle.std.proofs.Common.{ap, ◌∙◌, subst}
 use Rattle.cc_syntax.specs.Source.{source}
 use Rattle.cc_syntax.specs.declared.unit.Unit as parsed
 use Rattle.cc_typing.specs.Typed.{IsWithinLimits}
