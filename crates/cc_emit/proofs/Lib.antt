@@ -24,3 +24,13 @@ pub mod Choosing
 pub mod Encoding
 -- a pair's code is a piece
 pub mod Pieces
+-- the code: which registers are saved
+pub mod Kept
+-- the code: the table of labels
+pub mod Tabling
+-- the code: places from the end are places
+pub mod Bridging
+-- the code: the table of the objects' addresses
+pub mod Addresses
+-- the code: what is handed out
+pub mod Handing

@@ -10,3 +10,4 @@ pub mod Emission
 pub mod Piece
 -- Worked emission, by computation; no contract rests on it.
 pub mod rows
+pub mod internal

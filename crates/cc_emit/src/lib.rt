@@ -2,10 +2,23 @@
 //!
 //! `item` has the items, `piece` the type that keeps that a function's code does what the function does. Which items stand for which
 //! Linear is defined in `specs/Emission.antt`, what a piece owes on the machine in `specs/Contract.antt`.
+//!
+//! `emitting` is the pass. `bases` has the objects' addresses, `frame` which registers are saved and where, `tables` the places of labels
+//! and which branches are near; `emission` puts the items of each item of Linear, with the help of `constants`, `operators` and
+//! `instructions`.
 #![tactic(auto)]
 
+mod bases;
+mod constants;
+mod emission;
+mod emitting;
+mod frame;
+mod instructions;
 mod item;
+mod operators;
 mod piece;
+mod tables;
 
+pub use emitting::emit;
 pub use item::Item;
 pub use piece::Piece;

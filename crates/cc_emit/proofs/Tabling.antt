@@ -1,0 +1,140 @@
+-- The table of labels, an item more at a time, from the back.
+use Rattle.std.proofs.Common.{◌≡◌, ℕ, zero, suc, ◌+◌, ◌-◌, ◌*◌, ◌<◌, ◌≤◌, List, [], ◌∷◌, false, length, get_or, set, drop, replicate, refl, sym, ap, ◌∙◌, subst, inl, inr, arith}
+use Rattle.std.specs.Prelude.{if◌then◌else◌}
+use Rattle.std.specs.List.{AllByRecursion}
+use Rattle.std.proofs.lemmas.List.{get_or-set_same, get_or-set_other, length-set, get_or-replicate, length-replicate, drop_more, drop_all}
+use Rattle.std.proofs.lemmas.Bool.Decides.{eqb_tells}
+use Rattle.cc_linear.specs.declared.item.Item as linear
+use Rattle.cc_linear.specs.declared.item.Item.TheVariants.{Label}
+use Rattle.cc_linear.specs.Linear.{labels}
+use Rattle.cc_emit.specs.Frames.{Frame}
+use Rattle.cc_emit.specs.Emission.{size, long_size, is_label}
+use Rattle.cc_emit.specs.internal.Behind.{long_behind, near_behind, behind, label_behind, IsTable}
+
+-- ---- how many labels a table needs
+
+-- a number from `count` on that is above the labels of the rest is above all
+abbrev pub Counted : List linear.Item → (index count : ℕ) → Type 0
+Counted code i count = (n : ℕ) → count ≤ n → AllByRecursion (λ label. label < n) (labels (drop i code)) → AllByRecursion (λ label. label < n) (labels code)
+
+pub counted_more : (code : List linear.Item) (i count above count' : ℕ) (item : linear.Item) → i < length code → item ≡ get_or code i item → count ≤ count' → above ≤ count'
+    → ((n : ℕ) (rest : List linear.Item) → above ≤ n → AllByRecursion (λ label. label < n) (labels rest) → AllByRecursion (λ label. label < n) (labels (item ∷ rest))) → Counted code i count → Counted code (i + 1) count'
+counted_more code i count above count' item lt is le more one counted n ln all =
+    let rest : drop i code ≡ item ∷ drop (i + 1) code = drop_more code i item lt ∙ ap (λ x. x ∷ drop (i + 1) code) (sym is) in
+    counted n (omega arith) (subst (λ items. AllByRecursion (λ label. label < n) (labels items)) (sym rest) (one n (drop (i + 1) code) (omega arith) all))
+
+-- ---- the table
+
+pub no_labels : (f : Frame) (first : List ℕ) (count : ℕ) → IsTable f first [] count (replicate count 0)
+no_labels f first count = record { long = length-replicate count 0; each = λ l lt. get_or-replicate count l 0 0 lt }
+
+-- a label is noted where it stands
+pub label_noted : (f : Frame) (first : List ℕ) (count n : ℕ) (items : List linear.Item) (table : List ℕ) → n < count → IsTable f first items count table
+    → IsTable f first (Label n ∷ items) count (set table n (behind f first (Label n ∷ items)))
+label_noted f first count n items table lt t =
+    let b = behind f first (Label n ∷ items) in
+    record {
+      long = length-set table n b ∙ t.long;
+      each = λ l ll. elim (eqb_tells n l) [
+        | inl e ↦ (ap (λ i. get_or (set table n b) i 0) (sym e.1) ∙ get_or-set_same table n b 0 (let long = t.long in omega arith) ∙ sym (ap (λ c. if c then b else label_behind f first items l) e.0))
+        | inr e ↦ (get_or-set_other table n l b 0 (λ q. e.1 (sym q)) ∙ t.each l ll ∙ sym (ap (λ c. if c then b else label_behind f first items l) e.0))
+      ];
+    }
+
+-- one past the table is not
+pub label_past : (f : Frame) (first : List ℕ) (count n : ℕ) (items : List linear.Item) (table : List ℕ) → count ≤ n → IsTable f first items count table → IsTable f first (Label n ∷ items) count table
+label_past f first count n items table le t = record {
+  long = t.long;
+  each = λ l ll. elim (eqb_tells n l) [
+    | inl e ↦ absurd (let q = e.1 in omega arith)
+    | inr e ↦ (t.each l ll ∙ sym (ap (λ c. if c then behind f first (Label n ∷ items) else label_behind f first items l) e.0))
+  ];
+}
+
+abbrev pub IsNoLabel : linear.Item → Type 0
+IsNoLabel item = (l : ℕ) → is_label l item ≡ false
+
+pub other_past : (f : Frame) (first : List ℕ) (count : ℕ) (item : linear.Item) (items : List linear.Item) (table : List ℕ) → IsNoLabel item → IsTable f first items count table → IsTable f first (item ∷ items) count table
+other_past f first count item items table none t = record { long = t.long; each = λ l lt. t.each l lt ∙ sym (ap (λ c. if c then behind f first (item ∷ items) else label_behind f first items l) (none l)) }
+
+no_label : (item : linear.Item) → ((n : ℕ) → item ≡ Label n → ⊥) → IsNoLabel item
+no_label (Label n) f l = absurd (f n refl)
+no_label _ f l = refl
+
+-- the items from number `at` on are in the table
+pub record Filled (f : Frame) (first : List ℕ) (code : List linear.Item) (count at here all : ℕ) (table : List ℕ) : Type 0 where
+  pub within : at ≤ length code
+  pub here_is : here ≡ long_behind f (drop at code)
+  pub all_is : all ≡ behind f first (drop at code)
+  pub of_table : IsTable f first (drop at code) count table
+  pub few : here + 15 * at ≤ 15 * length code
+  pub few_all : all + 15 * at ≤ 15 * length code
+
+pub filled_first : (f : Frame) (first : List ℕ) (code : List linear.Item) (count : ℕ) (table : List ℕ) → table ≡ replicate count 0 → Filled f first code count (length code) 0 0 table
+filled_first f first code count table e =
+    let none = drop_all (length code) code (omega arith) in
+    record {
+      within = omega arith;
+      here_is = sym (ap (long_behind f) none);
+      all_is = sym (ap (behind f first) none);
+      of_table = subst (IsTable f first (drop (length code) code) count) (sym e) (subst (λ items. IsTable f first items count (replicate count 0)) (sym none) (no_labels f first count));
+      few = omega arith;
+      few_all = omega arith;
+    }
+
+-- the item before number `at`
+abbrev pub At : (code : List linear.Item) (at : ℕ) → linear.Item → Type 0
+At code at item = (0 < at) × (item ≡ get_or code (at - 1) item)
+
+rest_more : (code : List linear.Item) (at : ℕ) (item : linear.Item) → at ≤ length code → At code at item → drop (at - 1) code ≡ item ∷ drop at code
+rest_more code at item le (pos, is) =
+    let n : at - 1 + 1 ≡ at = omega arith in
+    drop_more code (at - 1) item (omega arith) ∙ ap (λ x. x ∷ drop (at - 1 + 1) code) (sym is) ∙ ap (λ i. item ∷ drop i code) n
+
+pub is_label_at : (code : List linear.Item) (at : ℕ) (item : linear.Item) (n : ℕ) → item ≡ get_or code at item → item ≡ Label n → Label n ≡ get_or code at (Label n)
+is_label_at code at item n is e = subst (λ x. x ≡ get_or code at x) e is
+
+-- one item more
+filled_more : (f : Frame) (first : List ℕ) (code : List linear.Item) (count at here all here' all' : ℕ) (item : linear.Item) (table table' : List ℕ) → Filled f first code count at here all table → At code at item
+    → here' ≡ here + long_size f item → all' ≡ all + size f (near_behind first here') item → long_size f item ≤ 15 → size f (near_behind first here') item ≤ 15
+    → (here' ≡ long_behind f (item ∷ drop at code) → all' ≡ behind f first (item ∷ drop at code) → IsTable f first (item ∷ drop at code) count table') → Filled f first code count (at - 1) here' all' table'
+filled_more f first code count at here all here' all' item table table' o a eh ea lh la t =
+    let rest = rest_more code at item o.within a in
+    let pos = a.0 in
+    let few = o.few in
+    let few_all = o.few_all in
+    let le = o.within in
+    let new_here : here' ≡ long_behind f (item ∷ drop at code) = (let h = o.here_is in omega arith) in
+    let new_all : all' ≡ behind f first (item ∷ drop at code) =
+    ea ∙ ap (λ h. all + size f (near_behind first h) item) new_here ∙ (let h = o.all_is in let z : all + size f (near_behind first (long_behind f (item ∷ drop at code))) item ≡ behind f first (item ∷ drop at code) = omega arith in z) in
+    record {
+      within = omega arith;
+      here_is = new_here ∙ sym (ap (long_behind f) rest);
+      all_is = new_all ∙ sym (ap (behind f first) rest);
+      of_table = subst (λ items. IsTable f first items count table') (sym rest) (t new_here new_all);
+      few = omega arith;
+      few_all = omega arith;
+    }
+
+pub filled_label : (f : Frame) (first : List ℕ) (code : List linear.Item) (count at here all here' all' n : ℕ) (table : List ℕ) → Filled f first code count at here all table → At code at (Label n)
+    → here' ≡ here + long_size f (Label n) → all' ≡ all + size f (near_behind first here') (Label n) → n < length table → Filled f first code count (at - 1) here' all' (set table n all')
+filled_label f first code count at here all here' all' n table o a eh ea lt =
+    let long = o.of_table.long in
+    filled_more f first code count at here all here' all' (Label n) table (set table n all') o a eh ea (omega arith) (omega arith)
+    (λ h e. subst (λ m. IsTable f first (Label n ∷ drop at code) count (set table n m)) (sym e) (label_noted f first count n (drop at code) table (omega arith) o.of_table))
+
+pub filled_past : (f : Frame) (first : List ℕ) (code : List linear.Item) (count at here all here' all' n : ℕ) (table : List ℕ) → Filled f first code count at here all table → At code at (Label n)
+    → here' ≡ here + long_size f (Label n) → all' ≡ all + size f (near_behind first here') (Label n) → length table ≤ n → Filled f first code count (at - 1) here' all' table
+filled_past f first code count at here all here' all' n table o a eh ea le =
+    let long = o.of_table.long in
+    filled_more f first code count at here all here' all' (Label n) table table o a eh ea (omega arith) (omega arith) (λ h e. label_past f first count n (drop at code) table (omega arith) o.of_table)
+
+pub filled_other : (f : Frame) (first : List ℕ) (code : List linear.Item) (count at here all here' all' : ℕ) (item : linear.Item) (table : List ℕ) → Filled f first code count at here all table → At code at item
+    → here' ≡ here + long_size f item → all' ≡ all + size f (near_behind first here') item → long_size f item ≤ 15 → size f (near_behind first here') item ≤ 15
+    → ((n : ℕ) → item ≡ Label n → ⊥) → Filled f first code count (at - 1) here' all' table
+filled_other f first code count at here all here' all' item table o a eh ea lh la none =
+    filled_more f first code count at here all here' all' item table table o a eh ea lh la (λ h e. other_past f first count item (drop at code) table (no_label item none) o.of_table)
+
+pub filled_all : (f : Frame) (first : List ℕ) (code : List linear.Item) (count at here all : ℕ) (table : List ℕ) → Filled f first code count at here all table → at ≤ 0 → IsTable f first code count table × (all ≡ behind f first code)
+filled_all f first code count zero here all table o le = (o.of_table, o.all_is)
+filled_all f first code count (suc at) here all table o le = absurd (omega arith)

@@ -1,0 +1,5 @@
+-- What only private contracts and proofs speak of.
+-- places counted from the end
+pub mod Behind
+-- the addresses of objects as a table
+pub mod Bases

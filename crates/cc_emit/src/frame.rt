@@ -1,0 +1,182 @@
+//! The frame of a function: its slots, and the registers that it saves behind them.
+
+ghost use Rattle.std.specs.Prelude.{◌≡◌, ◌≤◌, ◌<◌, ◌+◌, ◌*◌, ◌++◌, length, IfOk, OnOk};
+ghost use Rattle.std.specs.List.{AllByRecursion};
+ghost use Rattle.cc_ltl.specs.Registers.{most_slots};
+ghost use Rattle.cc_emit.specs.Frames.{frame_size, frame_of, writes, is_written, calls, is_call};
+ghost use Rattle.cc_emit.specs.Emission.{saving, restoring, prologue, epilogue, prologue_size, stack_moved_size};
+
+use crate::instructions::{RETURN_ADDRESS, STACK, add_immediate, go_back, load, put, store};
+use crate::item::Item;
+use cc_linear::Item as LinearItem;
+use cc_ltl::Move;
+use std::alloc::{AllocError, Global};
+use std::marker::Model;
+
+/// The registers that a function gives back as it got them.
+const KEPT: [u8; 12] = [8, 9, 18, 19, 20, 21, 22, 23, 24, 25, 26, 27];
+
+/// The frame of a function: at most 495 slots and 13 registers. A clause sees both.
+#[derive(Drop)]
+pub(crate) struct Frame {
+    slots: u16,
+    saved: Vec<u8>,
+}
+
+impl Model for Frame {
+    ghost use Rattle.std.specs.Prelude.{◌≤◌, ◌<◌, length};
+    ghost use Rattle.std.specs.List.{AllByRecursion};
+    ghost use Rattle.cc_ltl.specs.Registers.{most_slots};
+    ghost use Rattle.cc_emit.specs.Frames.{Frame as Shown};
+
+    ghost Value = { Shown };
+
+    ghost view = { λ f. record { slots = f.slots; saved = f.saved.items } };
+
+    ghost invariant = { λ f. (f.slots ≤ most_slots) × (length f.saved.items ≤ 13) × AllByRecursion (λ r. r < 32) f.saved.items };
+}
+
+impl Frame {
+    /// The frame of these items.
+    pub(crate) fn new(alloc: Global, slots: u16, code: &[LinearItem]) -> Result<Frame, AllocError>
+        requires { slots ≤ most_slots }
+        ensures { IfOk result (λ frame. frame ≡ frame_of slots code.now) }
+    {
+        let mut saved = Vec::new(alloc);
+        if calls(code) {
+            saved.push(RETURN_ADDRESS)?;
+        }
+        for register in &KEPT {
+            if is_written(code, *register) {
+                saved.push(*register)?;
+            }
+        }
+        Ok(Frame { slots, saved })
+    }
+
+    /// The registers that it saves, in the order of their places.
+    pub(crate) fn saved(&self) -> &[u8]
+        ensures answer { result.now ≡ self.now.saved }
+        ensures few { length self.now.saved ≤ 13 }
+        ensures registers { AllByRecursion (λ r. r < 32) self.now.saved }
+    {
+        self.saved.as_slice()
+    }
+
+    /// How many bytes it has.
+    pub(crate) fn size(&self) -> u32
+        ensures answer { result ≡ frame_size self.now }
+        ensures small { result ≤ 2032 }
+    {
+        4 * (u32::from(self.slots) + self.saved.len() as u32)
+    }
+
+    /// How many items move the stack pointer by it: one, and none where the frame is empty.
+    pub(crate) fn moves(&self) -> usize
+        ensures answer { result ≡ stack_moved_size self.now }
+        ensures few { result ≤ 1 }
+    {
+        usize::from(self.size() != 0)
+    }
+
+    /// How many items come before those of the function's Linear: at most 14.
+    pub(crate) fn prologue_size(&self) -> usize
+        ensures answer { result ≡ prologue_size self.now }
+        ensures few { result ≤ 14 }
+    {
+        self.moves() + self.saved.len()
+    }
+
+    /// The stack pointer goes down by the frame's size, and the registers are saved.
+    pub(crate) fn put_prologue(&self, items: &mut Vec<Item>) -> Result<(), AllocError>
+        ensures { OnOk result (items.new.items ≡ items.old.items ++ prologue self.now) }
+    {
+        let size = self.size();
+        if size != 0 {
+            put(items, add_immediate(STACK, STACK, 0u32.wrapping_sub(size)))?;
+        }
+        put_saving(items, 4 * u32::from(self.slots), self.saved.as_slice())
+    }
+
+    /// The registers are restored, the stack pointer goes up, and the function returns.
+    pub(crate) fn put_epilogue(&self, items: &mut Vec<Item>) -> Result<(), AllocError>
+        ensures { OnOk result (items.new.items ≡ items.old.items ++ epilogue self.now) }
+    {
+        put_restoring(items, 4 * u32::from(self.slots), self.saved.as_slice())?;
+        let size = self.size();
+        if size != 0 {
+            put(items, add_immediate(STACK, STACK, size))?;
+        }
+        put(items, go_back())
+    }
+}
+
+fn put_saving(items: &mut Vec<Item>, offset: u32, saved: &[u8]) -> Result<(), AllocError>
+    requires few { offset + 4 * length saved.now ≤ 2032 }
+    requires registers { AllByRecursion (λ r. r < 32) saved.now }
+    ensures { OnOk result (items.new.items ≡ items.old.items ++ saving offset saved.now) }
+{
+    let mut at = offset;
+    for register in saved {
+        put(items, store(STACK, *register, at))?;
+        at += 4;
+    }
+    Ok(())
+}
+
+fn put_restoring(items: &mut Vec<Item>, offset: u32, saved: &[u8]) -> Result<(), AllocError>
+    requires few { offset + 4 * length saved.now ≤ 2032 }
+    requires registers { AllByRecursion (λ r. r < 32) saved.now }
+    ensures { OnOk result (items.new.items ≡ items.old.items ++ restoring offset saved.now) }
+{
+    let mut at = offset;
+    for register in saved {
+        put(items, load(*register, STACK, at))?;
+        at += 4;
+    }
+    Ok(())
+}
+
+fn calls(code: &[LinearItem]) -> bool
+    ensures { result ≡ calls code.now }
+{
+    for item in code {
+        if is_call(item) {
+            return true;
+        }
+    }
+    false
+}
+
+fn is_call(item: &LinearItem) -> bool
+    ensures { result ≡ is_call item.now }
+{
+    matches!(item, LinearItem::Call { .. })
+}
+
+fn is_written(code: &[LinearItem], register: u8) -> bool
+    ensures { result ≡ is_written code.now register }
+{
+    for item in code {
+        if writes(item, register) {
+            return true;
+        }
+    }
+    false
+}
+
+// Whether an item writes a register, other than one that a call destroys.
+fn writes(item: &LinearItem, register: u8) -> bool
+    ensures { result ≡ writes register item.now }
+{
+    match item {
+        LinearItem::Copy {
+            between: Move::Between { to, .. } | Move::Reload { to, .. },
+        }
+        | LinearItem::Const { to, .. }
+        | LinearItem::Unary { to, .. }
+        | LinearItem::Binary { to, .. }
+        | LinearItem::Load { to, .. } => to.number() == register,
+        _ => false,
+    }
+}

@@ -1,0 +1,202 @@
+//! Instructions by the numbers of their operands, as items, and a word cut in two, for `lui` and the instruction behind it.
+
+ghost use Rattle.std.specs.Prelude.{◌≡◌, ◌<◌, ◌^◌, ◌++◌, ◌∷◌, [], OnOk};
+ghost use Rattle.cc_rv32.specs.Fields.{IsImmediate, IsBranchOffset};
+ghost use Rattle.cc_rv32.specs.declared.instr.Instr.TheVariants.{Op, OpImm, Shift, Load, Store, Branch, Lui, Jalr, Ecall};
+ghost use Rattle.cc_rv32.specs.declared.instr.ImmediateOperation.TheVariants.{Addi};
+ghost use Rattle.cc_rv32.specs.declared.instr.ShiftOperation.TheVariants.{Slli};
+ghost use Rattle.cc_rv32.specs.declared.instr.LoadOperation.TheVariants.{Lw};
+ghost use Rattle.cc_rv32.specs.declared.instr.StoreOperation.TheVariants.{Sw};
+ghost use Rattle.cc_emit.specs.declared.item.Item.TheVariants.{Plain};
+ghost use Rattle.cc_emit.specs.Emission.{low, high};
+
+use crate::item::Item;
+use cc_rv32::instr::{
+    BranchOperation, ImmediateOperation, Instr, LoadOperation, Operation, ShiftOperation,
+    StoreOperation,
+};
+use cc_rv32::operand::{BranchOffset, Immediate, Register, ShiftCount, UpperImmediate};
+use std::alloc::AllocError;
+
+/// `x0`, which holds 0.
+pub(crate) const ZERO: u8 = 0;
+/// `x1`, in which a call leaves the address behind it.
+pub(crate) const RETURN_ADDRESS: u8 = 1;
+/// `x2`, the address of the frame.
+pub(crate) const STACK: u8 = 2;
+/// `x5`, for a result between two instructions of an item.
+pub(crate) const SCRATCH: u8 = 5;
+/// `x6`, for another.
+pub(crate) const OTHER_SCRATCH: u8 = 6;
+/// `x17`, in which the machine finds the number of a service.
+pub(crate) const SERVICE: u8 = 17;
+
+/// Puts an item behind the others.
+pub(crate) fn put_item(items: &mut Vec<Item>, item: Item) -> Result<(), AllocError>
+    ensures { OnOk result (items.new.items ≡ items.old.items ++ item ∷ []) }
+{
+    match item {
+        Item::Plain(instr) => put(items, instr),
+        Item::Call(_) | Item::Go(_) => {
+            items.push(item)?;
+            Ok(())
+        }
+    }
+}
+
+/// Puts an instruction behind the others.
+pub(crate) fn put(items: &mut Vec<Item>, instr: Instr) -> Result<(), AllocError>
+    ensures { OnOk result (items.new.items ≡ items.old.items ++ Plain instr ∷ []) }
+{
+    items.push(Item::Plain(instr))?;
+    Ok(())
+}
+
+/// An instruction on two registers.
+pub(crate) fn operate(operation: Operation, to: u8, left: u8, right: u8) -> Instr
+    requires to { to < 32 }
+    requires left { left < 32 }
+    requires right { right < 32 }
+    ensures { result ≡ Op operation to left right }
+{
+    Instr::Op {
+        operation,
+        rd: Register::new(to),
+        rs1: Register::new(left),
+        rs2: Register::new(right),
+    }
+}
+
+/// An instruction on a register and an immediate.
+pub(crate) fn operate_immediate(operation: ImmediateOperation, to: u8, from: u8, word: u32) -> Instr
+    requires to { to < 32 }
+    requires from { from < 32 }
+    requires word { IsImmediate word }
+    ensures { result ≡ OpImm operation to from word }
+{
+    Instr::OpImm {
+        operation,
+        rd: Register::new(to),
+        rs1: Register::new(from),
+        immediate: Immediate::new(word),
+    }
+}
+
+/// A register plus an immediate.
+pub(crate) fn add_immediate(to: u8, from: u8, word: u32) -> Instr
+    requires to { to < 32 }
+    requires from { from < 32 }
+    requires word { IsImmediate word }
+    ensures { result ≡ OpImm Addi to from word }
+{
+    operate_immediate(ImmediateOperation::Addi, to, from, word)
+}
+
+/// A register times 4.
+pub(crate) fn four_times(to: u8, from: u8) -> Instr
+    requires to { to < 32 }
+    requires from { from < 32 }
+    ensures { result ≡ Shift Slli to from 2 }
+{
+    Instr::Shift {
+        operation: ShiftOperation::Slli,
+        rd: Register::new(to),
+        rs1: Register::new(from),
+        count: ShiftCount::new(2),
+    }
+}
+
+/// The word at a register plus an offset.
+pub(crate) fn load(to: u8, at: u8, offset: u32) -> Instr
+    requires to { to < 32 }
+    requires at { at < 32 }
+    requires offset { IsImmediate offset }
+    ensures { result ≡ Load Lw to at offset }
+{
+    Instr::Load {
+        operation: LoadOperation::Lw,
+        rd: Register::new(to),
+        rs1: Register::new(at),
+        offset: Immediate::new(offset),
+    }
+}
+
+/// A word written at a register plus an offset.
+pub(crate) fn store(at: u8, from: u8, offset: u32) -> Instr
+    requires at { at < 32 }
+    requires from { from < 32 }
+    requires offset { IsImmediate offset }
+    ensures { result ≡ Store Sw at from offset }
+{
+    Instr::Store {
+        operation: StoreOperation::Sw,
+        rs1: Register::new(at),
+        rs2: Register::new(from),
+        offset: Immediate::new(offset),
+    }
+}
+
+/// A branch where a register compares so to 0.
+pub(crate) fn branch(operation: BranchOperation, register: u8, offset: u32) -> Instr
+    requires register { register < 32 }
+    requires offset { IsBranchOffset offset }
+    ensures { result ≡ Branch operation register 0 offset }
+{
+    Instr::Branch {
+        operation,
+        rs1: Register::new(register),
+        rs2: Register::new(ZERO),
+        offset: BranchOffset::new(offset),
+    }
+}
+
+/// The upper twenty bits of a register, and zeros below them.
+pub(crate) fn load_upper(to: u8, field: u32) -> Instr
+    requires to { to < 32 }
+    requires field { field < 2 ^ 20 }
+    ensures { result ≡ Lui to field }
+{
+    Instr::Lui {
+        rd: Register::new(to),
+        immediate: UpperImmediate::new(field),
+    }
+}
+
+/// Back to where the function was called.
+pub(crate) fn go_back() -> Instr
+    ensures { result ≡ Jalr 0 1 0 }
+{
+    Instr::Jalr {
+        rd: Register::new(ZERO),
+        rs1: Register::new(RETURN_ADDRESS),
+        offset: Immediate::new(0),
+    }
+}
+
+/// The machine's service whose number `x17` holds.
+pub(crate) fn serve() -> Instr
+    ensures { result ≡ Ecall }
+{
+    Instr::Ecall
+}
+
+/// The lower twelve bits of a word, as the immediate that they are with their sign.
+pub(crate) fn low(word: u32) -> u32
+    ensures value { result ≡ low word }
+    ensures fits { IsImmediate result }
+{
+    let part = word % 4096;
+    if part < 2048 {
+        part
+    } else {
+        part + 0xffff_f000
+    }
+}
+
+/// The upper twenty bits of a word, and one more where the lower twelve, with their sign, are below 0.
+pub(crate) fn high(word: u32) -> u32
+    ensures value { result ≡ high word }
+    ensures fits { result < 2 ^ 20 }
+{
+    ((u64::from(word) + 2048) / 4096 % 1_048_576) as u32
+}

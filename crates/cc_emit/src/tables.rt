@@ -1,0 +1,182 @@
+//! Where labels stand. A place is told by how many items come from it on, so a table of labels is filled from the back, and each sum is
+//! known where it is needed. A first table takes each branch for long; by it a branch is near or far. A second one has the places with
+//! each branch as long as it is.
+
+ghost use Rattle.std.specs.Prelude.{◌≡◌, ◌≤◌, ◌<◌, ◌^◌, length, get_or, ℕ, List, [], ◌∷◌, IfOk};
+ghost use Rattle.std.specs.List.{AllByRecursion};
+ghost use Rattle.cc_linear.specs.declared.item.Item.{Item};
+ghost use Rattle.cc_linear.specs.Linear.{labels};
+ghost use Rattle.cc_emit.specs.Emission.{size, long_size, reaches};
+ghost use Rattle.cc_emit.specs.internal.Behind.{near_behind, behind, IsTable, ArePlaces, place_from};
+
+use crate::constants::constant_size;
+use crate::frame::Frame;
+use crate::operators::binary_size;
+use cc_linear::Item as LinearItem;
+use std::alloc::{AllocError, Global};
+
+/// Where the labels of a function stand, by how many items come from there on: with each branch long, and with each as long as it is;
+/// how many items there are behind the prologue with each branch long, and how many the function's code has.
+#[derive(Drop)]
+pub(crate) struct Places {
+    first: Vec<usize>,
+    second: Vec<usize>,
+    long: usize,
+    end: usize,
+}
+
+impl Places {
+    /// Those of these items.
+    pub(crate) fn new(
+        alloc: Global,
+        frame: &Frame,
+        code: &[LinearItem],
+    ) -> Result<Places, AllocError>
+        requires { length code.now ≤ 2 ^ 59 }
+        ensures places { IfOk result (λ p. ArePlaces frame.now code.now p.first.items p.second.items p.end) }
+        ensures long { IfOk result (λ p. p.long ≡ behind frame.now [] code.now) }
+        ensures all_labels { IfOk result (λ p. AllByRecursion (λ label. label < length p.first.items) (labels code.now)) }
+    {
+        let count = label_count(code);
+        let (first, long) = table(alloc, frame, code, count, &[])?;
+        let (second, behind) = table(alloc, frame, code, count, first.as_slice())?;
+        let end = frame.prologue_size() + behind;
+        Ok(Places {
+            first,
+            second,
+            long,
+            end,
+        })
+    }
+
+    /// How many items there are behind the prologue, with each branch long.
+    pub(crate) fn long(&self) -> usize
+        ensures { result ≡ self.now.long }
+    {
+        self.long
+    }
+
+    /// Whether a branch to a label is near that has so many items from it on, with each branch long.
+    pub(crate) fn is_near(&self, here: usize, label: u32) -> bool
+        ensures { result ≡ near_behind self.now.first.items here label }
+    {
+        is_near(self.first.as_slice(), here, label)
+    }
+
+    /// The place of a label, by how many items are before it.
+    pub(crate) fn place(&self, label: u32) -> usize
+        requires known { label < length self.now.second.items }
+        requires within { get_or self.now.second.items label 0 ≤ self.now.end }
+        ensures { result ≡ place_from self.now.second.items self.now.end label }
+    {
+        self.end - self.second[label as usize]
+    }
+}
+
+// A number that is above each label of these items.
+fn label_count(code: &[LinearItem]) -> usize
+    ensures { AllByRecursion (λ label. label < result) (labels code.now) }
+{
+    let mut count = 0;
+    for item in code {
+        count = count.max(above_label(item));
+    }
+    count
+}
+
+// One more than an item's label, and 0 where it is none.
+fn above_label(item: &LinearItem) -> usize
+    ensures { (n : ℕ) (rest : List Item) → result ≤ n → AllByRecursion (λ label. label < n) (labels rest) → AllByRecursion (λ label. label < n) (labels (item.now ∷ rest)) }
+{
+    match item {
+        LinearItem::Label { label } => *label as usize + 1,
+        _ => 0,
+    }
+}
+
+// Whether a branch reaches one place from another: at most 1,024 items back and 1,023 forward.
+fn reaches(from: usize, to: usize) -> bool
+    ensures { result ≡ reaches from to }
+{
+    if from <= to {
+        to - from < 1024
+    } else {
+        from - to <= 1024
+    }
+}
+
+// Whether a branch is near that has so many items from it on, where the first table knows its label.
+fn is_near(first: &[usize], here: usize, label: u32) -> bool
+    ensures { result ≡ near_behind first.now here label }
+{
+    match first.get(label as usize) {
+        Some(there) => reaches(*there, here),
+        None => false,
+    }
+}
+
+/// How many items an item of Linear takes where each branch is long: at most 15.
+pub(crate) fn long_size(frame: &Frame, item: &LinearItem) -> usize
+    ensures answer { result ≡ long_size frame.now item.now }
+    ensures few { result ≤ 15 }
+{
+    match item {
+        LinearItem::Label { .. } => 0,
+        LinearItem::Jump { .. }
+        | LinearItem::Copy { .. }
+        | LinearItem::Unary { .. }
+        | LinearItem::Call { .. } => 1,
+        LinearItem::IfNonzero { .. }
+        | LinearItem::IfZero { .. }
+        | LinearItem::Read
+        | LinearItem::Write => 2,
+        LinearItem::Const { word, .. } => constant_size(*word),
+        LinearItem::Binary { operator, .. } => binary_size(*operator),
+        LinearItem::Load { .. } | LinearItem::Store { .. } => 4,
+        LinearItem::Return => frame.saved().len() + frame.moves() + 1,
+    }
+}
+
+// How many items an item of Linear takes, where so many come from it on: at most 15.
+fn size(frame: &Frame, first: &[usize], here: usize, item: &LinearItem) -> usize
+    ensures answer { result ≡ size frame.now (near_behind first.now here) item.now }
+    ensures few { result ≤ 15 }
+{
+    match item {
+        LinearItem::IfNonzero { to, .. } | LinearItem::IfZero { to, .. } => {
+            if is_near(first, here, *to) { 1 } else { 2 }
+        }
+        _ => long_size(frame, item),
+    }
+}
+
+// A table of the labels below `count`, and how many items there are in all; `first` tells which branches are near.
+fn table(
+    alloc: Global,
+    frame: &Frame,
+    code: &[LinearItem],
+    count: usize,
+    first: &[usize],
+) -> Result<(Vec<usize>, usize), AllocError>
+    requires { length code.now ≤ 2 ^ 59 }
+    ensures table { IfOk result (λ t. IsTable frame.now first.now code.now count t.0.items) }
+    ensures whole { IfOk result (λ t. t.1 ≡ behind frame.now first.now code.now) }
+    ensures few { IfOk result (λ t. t.1 < 2 ^ 63) }
+{
+    let mut labels = vec![in alloc; 0; count]?;
+    let mut here = 0;
+    let mut behind = 0;
+    let mut at = code.len();
+    while at > 0 {
+        at -= 1;
+        let item = &code[at];
+        here += long_size(frame, item);
+        behind += size(frame, first, here, item);
+        if let LinearItem::Label { label } = item {
+            if (*label as usize) < labels.len() {
+                labels[*label as usize] = behind;
+            }
+        }
+    }
+    Ok((labels, behind))
+}
