@@ -1,4 +1,23 @@
-//! What the compiler hands out: for now the type of the unit that the library keeps, which stands in `cc_unit`.
+//! Linking: from the pieces of a unit's functions to the unit that the library keeps.
 #![tactic(auto)]
 
+mod build_fault;
+mod compiled;
+mod compiling;
+mod fault;
+mod function;
+mod laws;
+mod linking;
+mod order;
+mod piece_fault;
+mod words;
+
+pub use build_fault::BuildFault;
 pub use cc_unit::{Certificate, MOST_SOURCE, Source, StoredUnit};
+pub use compiled::CompiledUnit;
+pub use compiling::compile;
+pub use fault::LinkFault;
+pub use function::compile_function;
+pub use laws::linked_units_agree;
+pub use linking::{link, link_lent};
+pub use piece_fault::PieceFault;

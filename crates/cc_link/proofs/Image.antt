@@ -1,0 +1,133 @@
+-- An image of pieces that meet their contracts follows the source.
+use Rattle.std.proofs.Common.{◌≡◌, ℕ, suc, ◌+◌, ◌-◌, ◌*◌, ◌%◌, ◌^◌, ◌<◌, ◌≤◌, Bool, true, false, List, [], ◌∷◌, length, get_or, refl, sym, ap, ◌∙◌, subst, arith}
+use Rattle.std.specs.List.{concat}
+use Rattle.std.specs.Prelude.{◌==◌, ◌++◌, if◌then◌else◌}
+use Rattle.std.proofs.Math.Nat.{mul-suc}
+use Rattle.cc_rv32.specs.declared.image.Image.{Image}
+use Rattle.cc_rv32.specs.declared.outcome.MachineOutcome.TheVariants.{Going as Runs}
+use Rattle.cc_rv32.specs.Machine.{State, Turn, Continues, Exits, Traps, turned, machine_run, seen, executed, jumps, with_register, first_or_zero, rest_of, start_state, start_memory, instruction_at, stack_to}
+use Rattle.cc_runs.specs.Behavior.{Going, Ended, Outcome, AreWords, Follows}
+use Rattle.cc_runs.specs.World.{World, Answer, Effect, Gives, Unfinished, Failed, IsWorld}
+use Rattle.cc_runs.specs.Meaning.{Meaning}
+use Rattle.cc_emit.specs.declared.item.Item.{Item}
+use Rattle.cc_emit.specs.Contract.{Layout, Path, Placed, Enters, ComesBack, Meets, IsPiece}
+use Rattle.cc_meaning.specs.Numbered.{outcome_by_number}
+use Rattle.cc_link.specs.Agree.{shown, image_behavior}
+use Rattle.cc_link.specs.Link.{size_of, head, place_of, linked_code, encoded}
+use Rattle.cc_link.proofs.Counting.{Matched, follows}
+use Rattle.cc_link.proofs.Machine.{going, run_path, run_more}
+use Rattle.cc_link.proofs.CallsMeet.{power}
+use Rattle.cc_link.proofs.Placing.{begins, from, linked_meets}
+use Rattle.cc_link.proofs.Laying.{total, laid_out, object_at, concat_words, start_below, sizes, words_at}
+
+-- what the call of main shows, while no other call is open
+abbrev pub called_behavior : (meaning : Meaning) (main : ℕ) (initial : List (List ℕ)) (input : List ℕ) → ℕ → Outcome ℕ
+called_behavior meaning main initial input n = outcome_by_number (meaning.call n 0 main [] (record { globals = initial; input = input; output = [] }))
+
+one_more : (c m n : ℕ) → n ≤ c + c * m → n ≤ c * suc m
+one_more c m n h = let e = mul-suc c m in omega arith
+
+cond_word : (b : Bool) (x : ℕ) → x < 2 ^ 32 → (if b then x else 0) < 2 ^ 32
+cond_word true x h = h
+cond_word false x h = omega arith
+
+cond_words : (b : Bool) (x y : ℕ) → x < 2 ^ 32 → y < 2 ^ 32 → (if b then x else y) < 2 ^ 32
+cond_words true x y h k = h
+cond_words false x y h k = k
+
+module _ (meaning : Meaning) (few : total meaning.objects ≤ 65536) (main : ℕ) (pieces : List (List Item)) (is_function : main < meaning.functions) (bare : meaning.arity main ≡ 0) (count : length pieces ≡ meaning.functions) (fits : 3 + size_of pieces ≤ 131072)
+    (all : (f : ℕ) → f < meaning.functions → IsPiece meaning (laid_out meaning.objects few) f (get_or pieces f []))
+    (initial : List (List ℕ)) (sized : sizes initial ≡ meaning.objects) (words : (g : ℕ) → AreWords (get_or initial g [])) (input : List ℕ) (input_words : AreWords input) where
+  abbrev code : List ℕ
+  code = encoded (linked_code main pieces)
+
+  abbrev layout : Layout meaning.objects
+  layout = laid_out meaning.objects few
+
+  abbrev first : State
+  first = start_state (concat initial) input
+
+  abbrev shared : World
+  shared = record { globals = initial; input = input; output = [] }
+
+  -- behind the first jump
+  abbrev entered : State
+  entered = record { pc = place_of pieces main; registers = with_register first.registers 1 0x10004; memory = start_memory (concat initial); input = input; output = [] }
+
+  abbrev stands : Placed (instruction_at code) (place_of pieces) 0x10000 0x10000 (head main)
+  stands = begins meaning layout main pieces is_function count fits all
+
+  world : IsWorld meaning.objects shared
+  world = record { sizes = sized; globals = words; input = input_words }
+
+  enters : Enters meaning layout main 0 (place_of pieces main) [] shared entered
+  enters = record {
+    is_call = record { count = sym bare; words = tt; world = world };
+    at = refl;
+    sound = record {
+      zero = refl;
+      registers = λ r. cond_words _ 0x10004 _ (omega arith) (cond_word (r == 2) stack_to (omega arith));
+      memory = λ a. start_below (concat initial) a (concat_words initial words);
+      input = input_words;
+    };
+    back = refl;
+    aligned = refl;
+    room = omega arith;
+    top = omega arith;
+    passes = tt;
+    shares = record { sizes = sized; globals = λ g i lt. object_at initial meaning.objects sized g i lt; input = refl; output = refl };
+  }
+
+  to_main : executed (instruction_at code first.pc) first ≡ Continues entered
+  to_main =
+      let p = from meaning layout main pieces is_function count fits all main is_function in
+      let a = p.from in
+      let b = p.to in
+      let e : (0x10000 + (place_of pieces main + (2 ^ 32 - 0x10000)) % 2 ^ 32) % 2 ^ 32 ≡ place_of pieces main = omega arith in
+      ap (λ o. executed o first) stands.0
+      ∙ ap (λ to. jumps 1 to first) e
+      ∙ ap (λ n. if n == 0 then Continues entered else Traps) p.aligned
+
+  -- behind main's return
+  exit : (t : State) (a : Answer) → ComesBack layout entered a t → shown (seen (machine_run code 2 (going t))) ≡ record { stop = Ended a.value; output = a.world.output }
+  unfolding machine_run
+  exit t a r =
+      let at : t.pc ≡ 0x10004 = r.at in
+      let u : State = record t { pc = t.pc + 4; registers = with_register t.registers 17 ((t.registers 0 + 93) % 2 ^ 32) } in
+      let one : executed (instruction_at code t.pc) t ≡ Continues u = ap (λ p. executed (instruction_at code p) t) at ∙ ap (λ o. executed o t) stands.1.0 in
+      let next : u.pc ≡ 0x10008 = ap (λ n. n + 4) at in
+      let n17 : (t.registers 0 + 93) % 2 ^ 32 ≡ 93 = ap (λ n. (n + 93) % 2 ^ 32) r.sound.zero in
+      let two : executed (instruction_at code u.pc) u ≡ Exits a.value =
+      ap (λ p. executed (instruction_at code p) u) next ∙ ap (λ o. executed o u) stands.1.1.0
+      ∙ ap (λ n. if n == 1 then Continues (record u { pc = u.pc + 4; output = u.output ++ (u.registers 10 ∷ []) }) else if n == 2 then Continues (record u { pc = u.pc + 4; registers = with_register u.registers 10 (first_or_zero u.input); input = rest_of u.input }) else if n == 93 then Exits (u.registers 10) else Traps) n17
+      ∙ ap Exits r.value in
+      ap (λ (x : Turn). shown (seen (machine_run code 1 (turned t x)))) one ∙ ap (λ (x : Turn). shown (seen (turned u x))) two ∙ ap (λ o. record { stop = Ended a.value; output = o }) r.shares.output
+
+  still : (m : ℕ) (t : State) (o : List ℕ) → Path (instruction_at code) m entered t → t.output ≡ o → shown (seen (machine_run code (suc m) (going first))) ≡ record { stop = Going; output = o }
+  unfolding machine_run
+  still m t o p e =
+      let z : suc m + 0 ≡ suc m = omega arith in
+      ap (λ k. shown (seen (machine_run code k (going first)))) (sym z) ∙ ap (λ r. shown (seen r)) (run_path code (suc m) 0 first t (entered, to_main, p)) ∙ ap (λ x. record { stop = Going; output = x }) e
+
+  abbrev machine : ℕ → Outcome ℕ
+  machine m = shown (seen (machine_run code m (going first)))
+
+  matched : (c n : ℕ) (e : Effect) → Meets layout (instruction_at code) c c n entered e → Matched machine c n (outcome_by_number e) (outcome_by_number e).stop
+  matched c n (Gives a left) (m, t, p, r, b) = (suc m + 2, ap (λ x. shown (seen x)) (run_path code (suc m) 2 first t (entered, to_main, p)) ∙ exit t a r)
+  matched c n (Unfinished o) (m, t, p, r, b) = (suc m, still m t o p r, one_more c m n b)
+  matched c n (Failed o) x = tt
+
+  pub agrees : Follows (called_behavior meaning main initial input) machine
+  agrees =
+      let l = linked_meets meaning layout main pieces is_function count fits all in
+      follows machine (λ m k. run_more code m k (going first)) (power l.0 1024) (called_behavior meaning main initial input) (λ n. matched (power l.0 1024) n _ (l.1 shared entered n enters))
+
+-- the whole: an image of these words and globals agrees with the source
+pub linked_agrees : (meaning : Meaning) (few : total meaning.objects ≤ 65536) (main : ℕ) (pieces : List (List Item)) → main < meaning.functions → meaning.arity main ≡ 0 → length pieces ≡ meaning.functions → 3 + size_of pieces ≤ 131072
+    → ((f : ℕ) → f < meaning.functions → IsPiece meaning (laid_out meaning.objects few) f (get_or pieces f []))
+    → (initial : List (List ℕ)) → sizes initial ≡ meaning.objects
+    → (image : Image) → image.code ≡ encoded (linked_code main pieces) → image.globals ≡ concat initial → AreWords image.globals → ((input : List ℕ) → AreWords input → Follows (called_behavior meaning main initial input) (image_behavior image input))
+linked_agrees meaning few main pieces is_function bare count fits all initial sized image is_code is_globals words input input_words =
+    subst (λ c. Follows (called_behavior meaning main initial input) (λ m. shown (seen (machine_run c m (record { state = start_state image.globals input; outcome = Runs }))))) (sym is_code)
+    (subst (λ g. Follows (called_behavior meaning main initial input) (λ m. shown (seen (machine_run (encoded (linked_code main pieces)) m (record { state = start_state g input; outcome = Runs }))))) (sym is_globals)
+    (agrees meaning few main pieces is_function bare count fits all initial sized (words_at initial (subst AreWords is_globals words)) input input_words))

@@ -1,0 +1,17 @@
+pub mod Counting
+pub mod Machine
+pub mod Laying
+pub mod CallsMeet
+pub mod Placing
+pub mod Image
+pub mod Sizes
+pub mod Agreeing
+pub mod Linked
+pub mod Filling
+pub mod Constants
+pub mod Deciding
+pub mod Names
+pub mod Own
+pub mod OneByOne
+pub mod Ordering
+pub mod Answering

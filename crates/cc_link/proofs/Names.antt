@@ -1,0 +1,14 @@
+-- The names of the functions that a unit defines.
+use Rattle.std.proofs.Common.{◌≡◌, ℕ, zero, suc, List, [], ◌∷◌, slice_get, Some, ap}
+use Rattle.cc_syntax.specs.Tree as tree
+use Rattle.cc_syntax.specs.Tree.{Declaration, Definition, Objects}
+use Rattle.cc_typing.specs.Limits.{function_names}
+use Rattle.cc_typing.specs.Typed.{definitions}
+
+-- a definition has the name with its number
+pub named : (es : List tree.External) (n : ℕ) (s : tree.Signature) (body : tree.Stmts) → slice_get (definitions es) n ≡ Some (Definition s body) → slice_get (function_names es) n ≡ Some s.name
+named [] n s body e = absurd cc
+named (Declaration q ∷ rest) n s body e = named rest n s body e
+named (Definition q other ∷ rest) zero s body e = let same : q ≡ s = cc in ap (λ (r : tree.Signature). Some r.name) same
+named (Definition q other ∷ rest) (suc n) s body e = named rest n s body e
+named (Objects t os ∷ rest) n s body e = named rest n s body e

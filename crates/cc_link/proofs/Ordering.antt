@@ -1,0 +1,62 @@
+-- One piece more that is gone over, and one function more that has its items.
+use Rattle.std.proofs.Common.{◌≡◌, ℕ, zero, suc, ◌+◌, ◌-◌, ◌<◌, ◌≤◌, ◌⊎◌, inl, inr, Bool, true, false, not, if◌then◌else◌, List, [], ◌∷◌, ◌++◌, length, map, get_or, drop, Option, Some, None, is_some, unwrap_or, refl, sym, ap, ◌∙◌, subst, arith, append_assoc}
+use Rattle.std.proofs.lemmas.Bool.{cases_lt}
+use Rattle.std.proofs.lemmas.List.{drop_more, map-append}
+use Rattle.std.specs.Borrow.{Bor}
+use Rattle.cc_syntax.specs.Source.{source}
+use Rattle.cc_emit.specs.declared.item.Item.{Item}
+use Rattle.cc_emit.specs.Piece.{Piece, IsPieceOfUnit}
+use Rattle.cc_link.specs.declared.fault.LinkFault.TheVariants.{Missing, Stranger}
+use Rattle.cc_link.specs.Linked.{same_bytes, stranger, items_of, missing, in_order}
+use Rattle.cc_link.specs.internal.Filling.{lent}
+use Rattle.cc_link.specs.internal.Lent.{lent_pieces}
+
+not_false : (b : Bool) → false ≡ not b → b ≡ true
+not_false true e = refl
+not_false false e = e
+
+-- a piece of the text is no stranger
+pub stranger_next : (text x : List ℕ) (at : ℕ) (pieces : List (Bor Piece)) (d : Bor Piece) → at < length pieces → d ≡ get_or pieces at d → x ≡ (source d.now.unit).text → false ≡ not (same_bytes x text)
+    → stranger text at (lent_pieces (drop at pieces)) ≡ stranger text (at + 1) (lent_pieces (drop (at + 1) pieces))
+stranger_next text x at pieces d lt is same e =
+    let rest : List Piece = lent_pieces (drop (at + 1) pieces) in
+    let split : drop at pieces ≡ d ∷ drop (at + 1) pieces = drop_more pieces at d lt ∙ ap (λ (b : Bor Piece). b ∷ drop (at + 1) pieces) (sym is) in
+    let one : suc at ≡ at + 1 = omega arith in
+    ap (λ (ps : List (Bor Piece)). stranger text at (lent_pieces ps)) split
+    ∙ ap (λ b. if b then stranger text (suc at) rest else Some (Stranger d.now.function at)) (ap (λ t. same_bytes t text) (sym same) ∙ not_false (same_bytes x text) e)
+    ∙ ap (λ n. stranger text n rest) one
+
+lent_at : (pieces : List (Bor Piece)) (i : ℕ) (x : Bor Piece) (d : Piece) → i < length pieces → get_or (lent_pieces pieces) i d ≡ (get_or pieces i x).now
+lent_at [] i x d lt = absurd (omega arith)
+lent_at (p ∷ ps) zero x d lt = refl
+lent_at (p ∷ ps) (suc i) x d lt = lent_at ps i x d (omega arith)
+
+pub kept_next : (pieces : List (Bor Piece)) (at : ℕ) (x : Bor Piece) → at < length pieces → x ≡ get_or pieces at x → IsPieceOfUnit x.now → ((k : ℕ) (d : Piece) → k < at → IsPieceOfUnit (get_or (lent_pieces pieces) k d))
+    → (k : ℕ) (d : Piece) → k < at + 1 → IsPieceOfUnit (get_or (lent_pieces pieces) k d)
+kept_next pieces at x lt is piece kept k d low = by (cases_lt k at)
+  where
+    by : (k < at) ⊎ (at ≤ k) → IsPieceOfUnit (get_or (lent_pieces pieces) k d)
+    by (inl less) = kept k d less
+    by (inr more) = let e : at ≡ k = omega arith in subst (λ n. IsPieceOfUnit (get_or (lent_pieces pieces) n d)) e (subst IsPieceOfUnit (sym (lent_at pieces at x d lt ∙ ap (λ (b : Bor Piece). b.now) (sym is))) piece)
+
+-- ---- functions in order
+
+pub missing_here : (ps : List Piece) (f n : ℕ) → f < n → items_of ps f ≡ None → missing ps f (n - f) ≡ Some (Missing f)
+missing_here ps f n lt e =
+    let one : n - f ≡ suc (n - (f + 1)) = omega arith in
+    ap (λ k. missing ps f k) one ∙ ap (λ (o : Option (List Item)). if is_some o then missing ps (suc f) (n - (f + 1)) else Some (Missing f)) e
+
+pub missing_next : (ps : List Piece) (f n : ℕ) (items : List Item) → f < n → items_of ps f ≡ Some items → missing ps f (n - f) ≡ missing ps (f + 1) (n - (f + 1))
+missing_next ps f n items lt e =
+    let one : n - f ≡ suc (n - (f + 1)) = omega arith in
+    let next : suc f ≡ f + 1 = omega arith in
+    ap (λ k. missing ps f k) one ∙ ap (λ (o : Option (List Item)). if is_some o then missing ps (suc f) (n - (f + 1)) else Some (Missing f)) e ∙ ap (λ k. missing ps k (n - (f + 1))) next
+
+pub order_added : (ps : List Piece) (f n : ℕ) (bs new : List (Bor (List Item))) (b : Bor (List Item)) (all : List (List Item)) → f < n → items_of ps f ≡ Some b.now → new ≡ bs ++ b ∷ []
+    → lent bs ++ in_order ps f (n - f) ≡ all → lent new ++ in_order ps (f + 1) (n - (f + 1)) ≡ all
+order_added ps f n bs new b all lt e is h =
+    let one : suc (n - (f + 1)) ≡ n - f = omega arith in
+    let next : f + 1 ≡ suc f = omega arith in
+    let rest : List (List Item) = in_order ps (suc f) (n - (f + 1)) in
+    ap (λ k. lent new ++ in_order ps k (n - (f + 1))) next ∙ ap (λ (l : List (Bor (List Item))). lent l ++ rest) is ∙ ap (λ (l : List (List Item)). l ++ rest) (map-append (λ (c : Bor (List Item)). c.now) bs (b ∷ []))
+    ∙ append_assoc (lent bs) (b.now ∷ []) rest ∙ ap (λ (o : Option (List Item)). lent bs ++ (unwrap_or o [] ∷ rest)) (sym e) ∙ ap (λ k. lent bs ++ in_order ps f k) one ∙ h

@@ -1,0 +1,36 @@
+use Rattle.std.proofs.Common.{rules, arith, ◌≡◌, ◌<◌, ◌+◌, ℕ, List, [], ◌∷◌, ◌++◌, length, refl, sym, ap, subst, ◌∙◌}
+use Rattle.std.specs.Arc.{arc_value}
+use Rattle.cc_syntax.specs.Source.{source}
+use Rattle.cc_syntax.specs.declared.unit.Unit.{Unit}
+use Rattle.cc_typing.specs.Typed.{defined_names}
+use Rattle.cc_meaning.specs.Meaning.{functions}
+use Rattle.cc_emit.specs.Piece.{Piece}
+use Rattle.cc_link.specs.Compile.{AreFrom}
+use Rattle.cc_link.proofs.Deciding.{defined_long}
+use Rattle.cc_link.proofs.Own.{one_from}
+use Rattle.cc_link.proofs.compiling.pieces.Goals as goal
+
+pub returns-in-Err-clause-refused : goal.returns-in-Err-clause-refused
+returns-in-Err-clause-refused c =
+    let s = source (arc_value c.args.unit.now) in
+    let count : c.functions-count.result ≡ length (functions s.externals) = c.functions-count.ensures ∙ ap (λ (u : Unit). length (defined_names (source u))) c.deref.ensures ∙ defined_long s in
+    let below : c.loop-function.function < c.functions-count.result = search rules in
+    (c.loop-function.function, omega (arith, count, below), c.in-Err.ensures.refused)
+
+pub loop-function-preserved : goal.loop-function-preserved
+loop-function-preserved c =
+    let text = (source (arc_value c.args.unit.now)).text in
+    let items : c.push.new.self.items ≡ c.loop-function.pieces.items ++ c.in-Ok.piece ∷ [] = search rules in
+    let whose : (source c.in-Ok.piece.unit).text ≡ text = ap (λ u. (source u).text) c.in-Ok.ensures.unit in
+    let which : c.in-Ok.piece.function ≡ 0 + length c.loop-function.pieces.items = let f = c.in-Ok.ensures.function in let n = c.loop-function.invariant.count in omega (arith, f, n) in
+    record {
+      own = subst (λ (ps : List Piece). AreFrom text 0 ps) (sym items) (one_from text 0 c.loop-function.pieces.items c.in-Ok.piece c.loop-function.invariant.own whose which);
+      count = search rules;
+    }
+
+pub returns-clause-count : goal.returns-clause-count
+returns-clause-count c =
+    let s = source (arc_value c.args.unit.now) in
+    let count : c.functions-count.result ≡ length (functions s.externals) = c.functions-count.ensures ∙ ap (λ (u : Unit). length (defined_names (source u))) c.deref.ensures ∙ defined_long s in
+    let all : c.loop-function.function ≡ c.functions-count.result = search rules in
+    c.loop-function.invariant.count ∙ all ∙ count

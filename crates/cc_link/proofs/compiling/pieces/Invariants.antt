@@ -1,0 +1,12 @@
+use Rattle.std.proofs.Common.{◌≡◌, length}
+use Rattle.std.specs.Arc.{arc_value}
+use Rattle.cc_syntax.specs.Source.{source}
+use Rattle.cc_link.specs.Compile.{AreFrom}
+use Rattle.cc_link.proofs.compiling.pieces.Given as goal
+
+-- the pieces so far are those of the functions so far
+abbrev pub invariant-loop-function : goal.invariant-loop-function
+invariant-loop-function l = record {
+  own : AreFrom (source (arc_value l.unit)).text 0 l.pieces.items;
+  count : length l.pieces.items ≡ l.function;
+}

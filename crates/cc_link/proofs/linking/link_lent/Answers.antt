@@ -1,0 +1,88 @@
+-- Each step's answer, by the lemma of Answering that it needs.
+use Rattle.std.proofs.Common.{◌≡◌, ◌<◌, ◌≤◌, ◌⊎◌, inl, inr, ℕ, List, [], length, None, Ok, Err, false, true, refl, sym, ap, subst, ◌∙◌}
+use Rattle.std.proofs.lemmas.Bool.{cases_lt}
+use Rattle.std.specs.Arc.{arc_value}
+use Rattle.std.specs.Borrow.{Bor}
+use Rattle.cc_syntax.specs.Source.{source}
+use Rattle.cc_syntax.specs.declared.unit.Unit as parsed
+use Rattle.cc_emit.specs.declared.item.Item.{Item}
+use Rattle.cc_link.specs.declared.fault.LinkFault.TheVariants.{OutOfMemory}
+use Rattle.cc_link.specs.Link.{code_words, most_code}
+use Rattle.cc_link.specs.Linked.{stranger, doubled, missing, in_order, linked}
+use Rattle.cc_link.specs.internal.Lent.{lent_pieces}
+use Rattle.cc_link.specs.internal.Filling.{lent}
+use Rattle.cc_link.proofs.Answering.{order_refused, size_refused, count_is, stay_is, answer_is, agree_is}
+use Rattle.cc_link.proofs.linking.link_lent.Goals as goal
+
+pub returns-in-Err-clause-refused : goal.returns-in-Err-clause-refused
+returns-in-Err-clause-refused c =
+    let u = c.deref-unit.result.now in
+    let s = source u in
+    let ps = lent_pieces c.args.pieces.now in
+    let a : stranger s.text 0 ps ≡ None = sym (c.in_default.ensures.answer ∙ ap (λ (t : List ℕ). stranger t 0 ps) c.text.ensures.answer) in
+    let b : doubled [] 0 ps ≡ None = sym c.in_default-doubled.ensures in
+    subst (λ (v : parsed.Unit). (c.in-Err.fault ≡ OutOfMemory) ⊎ (linked (source v) ps ≡ Err c.in-Err.fault)) c.deref-unit.ensures (order_refused s ps c.functions.result a b c.functions.ensures c.in-Err.fault c.in-Err.ensures.refused)
+
+pub returns-then-not-fits-clause-refused : goal.returns-then-not-fits-clause-refused
+returns-then-not-fits-clause-refused c =
+    let u = c.deref-unit.result.now in
+    let s = source u in
+    let ps = lent_pieces c.args.pieces.now in
+    let a : stranger s.text 0 ps ≡ None = sym (c.in_default.ensures.answer ∙ ap (λ (t : List ℕ). stranger t 0 ps) c.text.ensures.answer) in
+    let b : doubled [] 0 ps ≡ None = sym c.in_default-doubled.ensures in
+    let fs = c.as_slice.result.now in
+    let o : lent fs ≡ in_order ps 0 c.functions.result = ap (λ (l : List (Bor (List Item))). lent l) c.as_slice.ensures.value ∙ c.in-Ok.ensures.bodies in
+    let large : most_code < code_words (lent fs) = elim (cases_lt most_code (code_words (lent fs))) [ inl lt ↦ lt | inr le ↦ absurd (let d : false ≡ true = c.if-not-fits.ensures.1 le in cc) ] in
+    inr (ap (λ (v : parsed.Unit). linked (source v) ps) (sym c.deref-unit.ensures) ∙ size_refused s ps c.functions.result a b c.functions.ensures fs c.in-Ok.ensures.none o large)
+
+pub stored-made-requires-clause-count : goal.stored-made-requires-clause-count
+stored-made-requires-clause-count c =
+    let u = c.deref-unit.result.now in
+    let s = source u in
+    let ps = lent_pieces c.args.pieces.now in
+    let a : stranger s.text 0 ps ≡ None = sym (c.in_default.ensures.answer ∙ ap (λ (t : List ℕ). stranger t 0 ps) c.text.ensures.answer) in
+    let b : doubled [] 0 ps ≡ None = sym c.in_default-doubled.ensures in
+    let fs = c.as_slice-2.result.now in
+    let o : lent fs ≡ in_order ps 0 c.functions.result = ap (λ (l : List (Bor (List Item))). lent l) c.as_slice-2.ensures.value ∙ c.in-Ok.ensures.bodies in
+    count_is s ps c.functions.result a b c.functions.ensures fs c.in-Ok.ensures.none o
+
+pub stored-made-requires-clause-stay : goal.stored-made-requires-clause-stay
+stored-made-requires-clause-stay c =
+    let u = c.deref-unit.result.now in
+    let s = source u in
+    let ps = lent_pieces c.args.pieces.now in
+    let a : stranger s.text 0 ps ≡ None = sym (c.in_default.ensures.answer ∙ ap (λ (t : List ℕ). stranger t 0 ps) c.text.ensures.answer) in
+    let b : doubled [] 0 ps ≡ None = sym c.in_default-doubled.ensures in
+    let fs = c.as_slice-2.result.now in
+    let o : lent fs ≡ in_order ps 0 c.functions.result = ap (λ (l : List (Bor (List Item))). lent l) c.as_slice-2.ensures.value ∙ c.in-Ok.ensures.bodies in
+    let laws = c.unit_laws.ensures in
+    let tree = c.externals-externals.ensures in
+    stay_is s ps c.functions.result a b c.functions.ensures fs c.in-Ok.ensures.none o laws.tokens laws.trees laws.meanings laws.sized tree.spelled tree.typed tree.limits c.in_default.ensures.kept
+
+pub new-requires : goal.new-requires
+new-requires c =
+    let u = c.deref-unit.result.now in
+    let s = source u in
+    let ps = lent_pieces c.args.pieces.now in
+    let a : stranger s.text 0 ps ≡ None = sym (c.in_default.ensures.answer ∙ ap (λ (t : List ℕ). stranger t 0 ps) c.text.ensures.answer) in
+    let b : doubled [] 0 ps ≡ None = sym c.in_default-doubled.ensures in
+    let fs = c.as_slice-2.result.now in
+    let o : lent fs ≡ in_order ps 0 c.functions.result = ap (λ (l : List (Bor (List Item))). lent l) c.as_slice-2.ensures.value ∙ c.in-Ok.ensures.bodies in
+    let few : code_words (lent fs) ≤ most_code =
+    subst (λ (l : List (Bor (List Item))). code_words (lent l) ≤ most_code) (c.as_slice.ensures.value ∙ sym c.as_slice-2.ensures.value) (c.if-not-fits.ensures.0 refl) in
+    let tree = c.externals-externals.ensures in
+    agree_is s ps c.functions.result a b c.functions.ensures fs c.in-Ok.ensures.none o c.linked_units_agree.ensures tree.spelled (record { typed = tree.typed; limits = tree.limits }) c.in_default.ensures.kept (arc_value c.in_ok-made.field-0) few c.in_ok-made.ensures
+
+pub returns-clause-answer : goal.returns-clause-answer
+returns-clause-answer c =
+    let u = c.deref-unit.result.now in
+    let s = source u in
+    let ps = lent_pieces c.args.pieces.now in
+    let a : stranger s.text 0 ps ≡ None = sym (c.in_default.ensures.answer ∙ ap (λ (t : List ℕ). stranger t 0 ps) c.text.ensures.answer) in
+    let b : doubled [] 0 ps ≡ None = sym c.in_default-doubled.ensures in
+    let fs = c.as_slice-2.result.now in
+    let o : lent fs ≡ in_order ps 0 c.functions.result = ap (λ (l : List (Bor (List Item))). lent l) c.as_slice-2.ensures.value ∙ c.in-Ok.ensures.bodies in
+    let few : code_words (lent fs) ≤ most_code =
+    subst (λ (l : List (Bor (List Item))). code_words (lent l) ≤ most_code) (c.as_slice.ensures.value ∙ sym c.as_slice-2.ensures.value) (c.if-not-fits.ensures.0 refl) in
+    ap (λ (v : parsed.Unit). linked (source v) ps) (sym c.deref-unit.ensures)
+    ∙ answer_is s ps c.functions.result a b c.functions.ensures fs c.in-Ok.ensures.none o (arc_value c.in_ok-made.field-0) few c.in_ok-made.ensures ∙ ap Ok (sym c.new.ensures)

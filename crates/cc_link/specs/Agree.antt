@@ -1,0 +1,42 @@
+-- When an image agrees with a text: the text spells a program without a broken rule, and on each input the image's run follows the
+-- program's.
+use Rattle.std.specs.Prelude.{ℕ, List}
+use Rattle.cc_rv32.specs.declared.image.Image.{Image}
+use Rattle.cc_rv32.specs.declared.outcome.MachineOutcome.{MachineOutcome}
+use Rattle.cc_rv32.specs.declared.outcome.MachineOutcome.TheVariants as machine
+use Rattle.cc_rv32.specs.Machine.{Behavior, machine_behavior}
+use Rattle.cc_syntax.specs.Tree.{External, Source}
+use Rattle.cc_syntax.specs.Parse.{SpellsText}
+use Rattle.cc_typing.specs.Typed.{IsTyped}
+use Rattle.cc_typing.specs.Verdict.{source_with}
+use Rattle.cc_meaning.specs.Meaning.{source_behavior}
+use Rattle.cc_meaning.specs.Numbered.{without_cause}
+use Rattle.cc_runs.specs.Behavior.{AreWords, Stop, Going, Ended, Wrong, Outcome, Follows}
+
+-- how a run of the machine stands: an exit ends it with a word, and a trap is a run that went wrong
+abbrev pub stop_of : MachineOutcome → Stop ℕ
+stop_of machine.Going = Going
+stop_of (machine.Exited w) = Ended w
+stop_of machine.Trapped = Wrong
+
+abbrev pub shown : Behavior → Outcome ℕ
+shown b = record { stop = stop_of b.outcome; output = b.output }
+
+-- what an image does on an input, within a number of instructions
+abbrev pub image_behavior : Image → (input : List ℕ) → ℕ → Outcome ℕ
+image_behavior image input m = shown (machine_behavior image input m)
+
+-- what a program does on an input, within a number of steps
+abbrev pub program_behavior : Source → (input : List ℕ) → ℕ → Outcome ℕ
+program_behavior source input n = without_cause (source_behavior source input n)
+
+-- the tree of the text, and that the image's run follows its run
+pub record Agreement (text : List ℕ) (image : Image) : Type 0 where
+  pub tree : List External
+  pub spelled : SpellsText text tree
+  pub typed : IsTyped tree
+  pub follows : (input : List ℕ) → AreWords input → Follows (program_behavior (source_with text tree) input) (image_behavior image input)
+
+-- They agree. A typed unit keeps that its text spells its tree, and not in which way (∥ ∥₁); so nothing more is kept here.
+abbrev pub Agree : List ℕ → Image → Type 0
+Agree text image = ∥ Agreement text image ∥₁

@@ -1,0 +1,102 @@
+-- Why a function has no piece, and why a text has no image.
+use Rattle.std.specs.Prelude.{◌≡◌, ℕ, suc, ◌<◌, ◌⊎◌, List, [], ◌∷◌, length, slice_get, Option, Some, None, Err}
+use Rattle.cc_tokens.specs.declared.place.Place.{Place}
+use Rattle.cc_tokens.specs.Fault as tokens
+use Rattle.cc_syntax.specs.Tree.{Name, External}
+use Rattle.cc_syntax.specs.Source.{source}
+use Rattle.cc_syntax.specs.Grammar.{Measured, SpellsExternal}
+use Rattle.cc_syntax.specs.Parse.{SpellsText, IsParseRefusal}
+use Rattle.cc_typing.specs.declared.fault.TypeFault.{TypeFault}
+use Rattle.cc_typing.specs.declared.fault.TypeFault.TheVariants as typing
+use Rattle.cc_typing.specs.Fault as typed
+use Rattle.cc_typing.specs.Limits.{function_names}
+use Rattle.cc_typing.specs.Typed.{IsTyped, IsWithinLimits, IsTypeRefusal, definitions}
+use Rattle.cc_typing.specs.Verdict.{source_with}
+use Rattle.cc_meaning.specs.Meaning.{functions}
+use Rattle.cc_emit.specs.Piece as emit
+use Rattle.cc_link.specs.Fault.{link_fault_number}
+use Rattle.cc_link.specs.Linked.{linked}
+use Rattle.cc_link.specs.declared.fault.LinkFault.{LinkFault}
+use Rattle.cc_link.specs.declared.fault.LinkFault.TheVariants as link
+use Rattle.cc_link.specs.declared.piece_fault.PieceFault.{PieceFault}
+use Rattle.cc_link.specs.declared.piece_fault.PieceFault.TheVariants as piece
+use Rattle.cc_link.specs.declared.build_fault.BuildFault.{BuildFault}
+use Rattle.cc_link.specs.declared.build_fault.BuildFault.TheVariants.{Syntax, Typing, Piece, Link}
+
+-- ---- the numbers and the places of the faults
+
+abbrev pub piece_fault_number : PieceFault → ℕ
+piece_fault_number (piece.FunctionTooLarge at count) = 22
+piece_fault_number (piece.Unvalidated at count label) = 24
+piece_fault_number piece.OutOfMemory = 40
+
+abbrev pub build_fault_number : BuildFault → ℕ
+build_fault_number (Syntax f) = tokens.fault_number f
+build_fault_number (Typing f) = typed.fault_number f
+build_fault_number (Piece f) = piece_fault_number f
+build_fault_number (Link f) = link_fault_number f
+
+abbrev pub build_fault_place : BuildFault → Option Place
+build_fault_place (Syntax f) = tokens.fault_place f
+build_fault_place (Typing f) = typed.fault_place f
+build_fault_place (Piece f) = None
+build_fault_place (Link f) = None
+
+-- ---- why a function has no piece
+
+-- the name of a function begins in the text at this offset and has so many bytes
+abbrev pub IsNameAt : List External → (function at count : ℕ) → Type 0
+IsNameAt unit f at count = (name : Name) × (slice_get (function_names unit) f ≡ Some name) × (at ≡ name.at) × (count ≡ length name.text)
+
+-- its definition has more than 256 tokens
+abbrev pub IsLong : List External → (function : ℕ) → Type 0
+IsLong unit f = (definition : External) → slice_get (definitions unit) f ≡ Some definition → (tokens : List Measured) → SpellsExternal tokens definition → 256 < length tokens
+
+abbrev pub IsPieceRefusal : List External → (function : ℕ) → PieceFault → Type 0
+IsPieceRefusal unit f (piece.FunctionTooLarge at count) = IsNameAt unit f at count × IsLong unit f
+IsPieceRefusal unit f (piece.Unvalidated at count label) = IsNameAt unit f at count
+IsPieceRefusal unit f piece.OutOfMemory = Unit {0}
+
+-- ---- why a text has no image
+
+-- the tree of a text, which breaks no rule and passes no limit
+pub record IsProgramText (text : List ℕ) (tree : List External) : Type 0 where
+  pub spelled : SpellsText text tree
+  pub typed : IsTyped tree
+  pub limits : IsWithinLimits tree
+
+-- the text spells a tree that is refused
+pub record IsRefusedTree (text : List ℕ) (fault : TypeFault) : Type 0 where
+  pub tree : List External
+  pub spelled : SpellsText text tree
+  pub refused : IsTypeRefusal (source_with text tree) fault
+
+-- the text is a program's, and one of its functions has no piece
+pub record HasNoPiece (text : List ℕ) (fault : PieceFault) : Type 0 where
+  pub tree : List External
+  pub is : IsProgramText text tree
+  pub function : ℕ
+  pub defined : function < length (functions tree)
+  pub refused : IsPieceRefusal tree function fault
+
+-- pieces of a text, one of each function from this one on
+abbrev pub AreFrom : (text : List ℕ) (from : ℕ) → List emit.Piece → Type 0
+AreFrom text from [] = Unit {0}
+AreFrom text from (p ∷ ps) = ((source p.unit).text ≡ text) × (p.function ≡ from) × AreFrom text (suc from) ps
+
+-- the text is a program's, and linking refuses pieces of its functions, one of each
+pub record HasNoImage (text : List ℕ) (fault : LinkFault) : Type 0 where
+  pub tree : List External
+  pub is : IsProgramText text tree
+  pub pieces : List emit.Piece
+  pub own : AreFrom text 0 pieces
+  pub count : length pieces ≡ length (functions tree)
+  pub refused : linked (source_with text tree) pieces ≡ Err fault
+
+-- 1 to 7 and 11 to 21 exactly as `parse` and `check` have them, 40 set aside; a program has no image only where one of its functions has
+-- no piece, where its code would have more than 131,072 words, or where memory ran out
+abbrev pub IsBuildRefusal : List ℕ → BuildFault → Type 0
+IsBuildRefusal text (Syntax f) = IsParseRefusal text f
+IsBuildRefusal text (Typing f) = (f ≡ typing.OutOfMemory) ⊎ IsRefusedTree text f
+IsBuildRefusal text (Piece f) = HasNoPiece text f
+IsBuildRefusal text (Link f) = (f ≡ link.OutOfMemory) ⊎ ((f ≡ link.ImageTooLarge) × HasNoImage text f)

@@ -1,0 +1,14 @@
+-- when an image agrees with a text
+pub mod Agree
+-- the image that pieces make
+pub mod Link
+-- why pieces are refused, and else the unit that they make
+pub mod Linked
+-- that this unit agrees
+pub mod Laws
+-- the numbers of the faults
+pub mod Fault
+-- why a function has no piece, and why a text has no image
+pub mod Compile
+-- no promise rests on these
+pub mod internal

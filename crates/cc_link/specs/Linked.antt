@@ -1,0 +1,86 @@
+-- What linking comes to: why pieces are refused, and else the unit that they make.
+use Rattle.std.specs.Prelude.{ℕ, zero, suc, ◌==◌, nat_eq, nat_lt, Bool, false, ◌||◌, if◌then◌else◌, List, [], ◌∷◌, ◌++◌, length, Option, Some, None, is_some, unwrap_or, Result, Ok, Err}
+use Rattle.std.specs.Option.{option_or}
+use Rattle.std.specs.Cmp.Lexicographic.{pointwise}
+use Rattle.cc_syntax.specs.Tree.{External, Source}
+use Rattle.cc_syntax.specs.Source.{source}
+use Rattle.cc_typing.specs.Limits.{objects}
+use Rattle.cc_resolve.specs.Layout.{all_words}
+use Rattle.cc_meaning.specs.Meaning.{functions}
+use Rattle.cc_meaning.specs.Calls.{main_of}
+use Rattle.cc_rv32.specs.declared.image.Image.{Image}
+use Rattle.cc_unit.specs.declared.unit.StoredUnit.{StoredUnit}
+use Rattle.cc_emit.specs.declared.item.Item.{Item}
+use Rattle.cc_emit.specs.Piece.{Piece}
+use Rattle.cc_link.specs.Link.{linked_code, encoded, code_words, most_code}
+use Rattle.cc_link.specs.declared.fault.LinkFault.{LinkFault}
+use Rattle.cc_link.specs.declared.fault.LinkFault.TheVariants.{ImageTooLarge, Missing, Doubled, Stranger}
+
+-- ---- why pieces are refused; a place in the list of pieces counts from 0
+
+-- byte for byte the same
+abbrev pub same_bytes : List ℕ → List ℕ → Bool
+same_bytes x y = pointwise nat_eq x y
+
+-- 28: the first piece of a unit of another text; the first one of these is at `at` in the list
+abbrev pub stranger : (text : List ℕ) (at : ℕ) → List Piece → Option LinkFault
+stranger text at [] = None
+stranger text at (p ∷ ps) = if same_bytes (source p.unit).text text then stranger text (suc at) ps else Some (Stranger p.function at)
+
+-- the number is one of these
+abbrev pub is_among : List ℕ → ℕ → Bool
+is_among [] f = false
+is_among (g ∷ gs) f = (g == f) || is_among gs f
+
+-- 27: the first piece of a function that came before it; before the first one of these came pieces of the functions `before`
+abbrev pub doubled : (before : List ℕ) (at : ℕ) → List Piece → Option LinkFault
+doubled before at [] = None
+doubled before at (p ∷ ps) = if is_among before p.function then Some (Doubled p.function at) else doubled (before ++ p.function ∷ []) (suc at) ps
+
+-- the items of the first piece of a function
+abbrev pub items_of : List Piece → (function : ℕ) → Option (List Item)
+items_of [] f = None
+items_of (p ∷ ps) f = if p.function == f then Some p.items else items_of ps f
+
+-- 26: the least function without a piece, of so many from this one on
+abbrev pub missing : List Piece → (from count : ℕ) → Option LinkFault
+missing pieces from zero = None
+missing pieces from (suc count) = if is_some (items_of pieces from) then missing pieces (suc from) count else Some (Missing from)
+
+-- the items of so many functions from this one on
+abbrev pub in_order : List Piece → (from count : ℕ) → List (List Item)
+in_order pieces from zero = []
+in_order pieces from (suc count) = unwrap_or (items_of pieces from) [] ∷ in_order pieces (suc from) count
+
+-- the items of each function of a unit, in the order of definitions
+abbrev pub bodies : List External → List Piece → List (List Item)
+bodies unit pieces = in_order pieces 0 (length (functions unit))
+
+-- 25: the code would have too many words
+abbrev pub too_large : List (List Item) → Option LinkFault
+too_large fs = if nat_lt most_code (code_words fs) then Some ImageTooLarge else None
+
+-- why pieces do not make an image of a unit: 28, else 27, else 26, else 25
+abbrev pub link_refusal : Source → List Piece → Option LinkFault
+link_refusal s pieces =
+    option_or (stranger s.text 0 pieces) (option_or (doubled [] 0 pieces)
+    (option_or (missing pieces 0 (length (functions s.externals))) (too_large (bodies s.externals pieces))))
+
+-- ---- what they make
+
+-- the image: its code, and the words of the objects one after the other
+abbrev pub image_of : List External → List (List Item) → Image
+image_of unit fs = record { code = encoded (linked_code (main_of unit) fs); globals = all_words (objects unit) }
+
+-- the unit: its text, the image, and no certificate
+abbrev pub unit_of : Source → List Piece → StoredUnit
+unit_of s pieces = record { source = s.text; image = image_of s.externals (bodies s.externals pieces); certificate = None }
+
+-- the unit, where nothing is refused
+abbrev pub unless_refused : Option LinkFault → StoredUnit → Result StoredUnit LinkFault
+unless_refused None u = Ok u
+unless_refused (Some fault) u = Err fault
+
+-- what linking comes to
+abbrev pub linked : Source → List Piece → Result StoredUnit LinkFault
+linked s pieces = unless_refused (link_refusal s pieces) (unit_of s pieces)

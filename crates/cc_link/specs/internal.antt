@@ -1,0 +1,4 @@
+-- when items can be filled in
+pub mod Filling
+-- pieces that are lent
+pub mod Lent

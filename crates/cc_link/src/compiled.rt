@@ -1,0 +1,46 @@
+//! A unit that was compiled.
+
+ghost use Rattle.std.specs.Prelude.{◌≡◌};
+ghost use Rattle.std.specs.Arc.{arc_value};
+ghost use Rattle.cc_link.specs.Agree.{Agree};
+
+use cc_unit::StoredUnit;
+use std::marker::Model;
+use std::sync::Arc;
+
+/// A unit whose image agrees with its source: the source spells a program, and on every input the image's run follows the program's.
+/// That belongs to the type, so nobody holds a unit of which it is not true. Contracts see the unit as it is stored.
+#[derive(Drop)]
+pub struct CompiledUnit {
+    stored: Arc<StoredUnit>,
+}
+
+impl Model for CompiledUnit {
+    ghost use Rattle.std.specs.Arc.{arc_value};
+    ghost use Rattle.cc_unit.specs.declared.unit.StoredUnit.{StoredUnit};
+    ghost use Rattle.cc_link.specs.Agree.{Agree};
+
+    ghost Value = { StoredUnit };
+
+    ghost view = { λ c. arc_value c.stored };
+
+    ghost invariant = { λ c. Agree (arc_value c.stored).source (arc_value c.stored).image };
+}
+
+impl CompiledUnit {
+    // The one place where a compiled unit is made.
+    pub(crate) fn new(stored: Arc<StoredUnit>) -> CompiledUnit
+        requires { Agree (arc_value stored).source (arc_value stored).image }
+        ensures { result ≡ arc_value stored }
+    {
+        CompiledUnit { stored }
+    }
+
+    /// The unit as the library keeps it. It takes no memory.
+    pub fn stored(&self) -> &Arc<StoredUnit>
+        ensures answer { arc_value result.now ≡ self.now }
+        ensures agrees { Agree self.now.source self.now.image }
+    {
+        &self.stored
+    }
+}

@@ -1,0 +1,108 @@
+//! One function through all passes: from its tree to the piece of its code.
+
+ghost use Rattle.std.specs.Prelude.{◌≡◌, ◌<◌, ◌+◌, ◌⊎◌, length, IfOk, IfErr};
+ghost use Rattle.std.specs.Arc.{arc_value};
+ghost use Rattle.cc_syntax.specs.Source.{source};
+ghost use Rattle.cc_typing.specs.Typed.{defined_names};
+ghost use Rattle.cc_cminor.specs.Pair.{code_of};
+ghost use Rattle.cc_cminor.specs.Size.{AtMostTwelveAToken};
+ghost use Rattle.cc_link.specs.Compile.{IsNameAt, IsPieceRefusal};
+
+use crate::piece_fault::PieceFault;
+use cc_cminor::{CminorPair, to_cminor};
+use cc_colour::spill_all;
+use cc_emit::{Piece, emit};
+use cc_linear::linearise;
+use cc_rtl::{RtlFault, RtlPair, to_rtl};
+use cc_typing::TypedUnit;
+use cc_validate::{LtlPair, Refused, ValidateFault, validate};
+use std::alloc::{AllocError, Global};
+use std::sync::Arc;
+
+// The offset at which a function's name begins in the text, and how many bytes it has.
+fn name_of(unit: &TypedUnit, function: usize) -> (usize, usize)
+    requires { function < length (defined_names (source unit.now)) }
+    ensures { IsNameAt (source unit.now).externals function result.0 result.1 }
+{
+    let name = &unit.definition(function).signature.name;
+    (name.at, name.bytes.len())
+}
+
+// LTL that the validator accepts.
+fn allocated(alloc: Global, pair: RtlPair) -> Result<LtlPair, ValidateFault>
+    ensures unit { IfOk result (λ made. made.unit ≡ pair.unit) }
+    ensures function { IfOk result (λ made. made.function ≡ pair.function) }
+{
+    match spill_all(alloc, pair.code()) {
+        Ok(ltl) => match validate(alloc, pair, ltl) {
+            Ok(made) => Ok(made),
+            Err(Refused { pair, fault }) => {
+                drop(pair);
+                Err(fault)
+            }
+        },
+        Err(_) => {
+            drop(pair);
+            Err(ValidateFault::OutOfMemory)
+        }
+    }
+}
+
+// The piece of validated LTL.
+fn emitted(alloc: Global, pair: LtlPair) -> Result<Piece, AllocError>
+    ensures unit { IfOk result (λ piece. piece.unit ≡ pair.unit) }
+    ensures function { IfOk result (λ piece. piece.function ≡ pair.function) }
+{
+    match linearise(alloc, pair) {
+        Ok(linear) => emit(alloc, linear),
+        Err(_) => Err(AllocError),
+    }
+}
+
+// The piece of a function in Cminor, whose name stands there.
+fn finished(alloc: Global, pair: CminorPair, at: usize, length: usize) -> Result<Piece, PieceFault>
+    requires small { AtMostTwelveAToken (source pair.unit).externals pair.function (code_of pair) }
+    requires name { IsNameAt (source pair.unit).externals pair.function at length }
+    ensures unit { IfOk result (λ piece. piece.unit ≡ pair.unit) }
+    ensures function { IfOk result (λ piece. piece.function ≡ pair.function) }
+    ensures refused { IfErr result (λ fault. IsPieceRefusal (source pair.unit).externals pair.function fault) }
+{
+    let rtl = match to_rtl(alloc, pair) {
+        Ok(rtl) => rtl,
+        Err(RtlFault::FunctionTooLarge) => return Err(PieceFault::FunctionTooLarge { at, length }),
+        Err(RtlFault::OutOfMemory) => return Err(PieceFault::OutOfMemory),
+    };
+    let ltl = match allocated(alloc, rtl) {
+        Ok(ltl) => ltl,
+        Err(ValidateFault::Unvalidated { label }) => {
+            return Err(PieceFault::Unvalidated { at, length, label });
+        }
+        Err(ValidateFault::OutOfMemory) => return Err(PieceFault::OutOfMemory),
+    };
+    match emitted(alloc, ltl) {
+        Ok(piece) => Ok(piece),
+        Err(_) => Err(PieceFault::OutOfMemory),
+    }
+}
+
+/// The piece of the function with a number, through Cminor, RTL, validated LTL and Linear to its code. Functions are numbered from 0 in
+/// the order of their definitions. That the code does what the function does belongs to the piece's type.
+///
+/// Refusals, the first two with the bytes of the function's name: 22 where it would have more than 4,096 nodes of RTL, which needs more
+/// than 256 tokens; 24 where the validator refuses the allocation; 40 where memory ran out.
+pub fn compile_function(
+    alloc: Global,
+    unit: &Arc<TypedUnit>,
+    function: usize,
+) -> Result<Piece, PieceFault>
+    requires { function < length (defined_names (source (arc_value unit.now))) }
+    ensures unit { IfOk result (λ piece. piece.unit ≡ arc_value unit.now) }
+    ensures function { IfOk result (λ piece. piece.function ≡ function) }
+    ensures refused { IfErr result (λ fault. IsPieceRefusal (source (arc_value unit.now)).externals function fault) }
+{
+    let (at, length) = name_of(unit, function);
+    match to_cminor(alloc, unit, function) {
+        Ok(pair) => finished(alloc, pair, at, length),
+        Err(_) => Err(PieceFault::OutOfMemory),
+    }
+}

@@ -1,0 +1,34 @@
+//! What holds of linking by its definition alone, and the laws of lower crates that it rests on.
+
+ghost use Rattle.cc_tokens.specs.Tokens.{TokensAreOne};
+ghost use Rattle.cc_syntax.specs.Limits.{TreesAreOne};
+ghost use Rattle.cc_meaning.specs.Calls.{ObjectsAreSized, TypedUnitsHaveMain};
+ghost use Rattle.cc_meaning.specs.Numbered.{ProgramsAreNumbered, TypedUnitsHaveMeanings};
+ghost use Rattle.cc_link.specs.Laws.{LinkedUnitsAgree};
+
+use cc_meaning::{names_have_numbers, programs_call_main, units_have_meanings};
+use cc_syntax::trees_are_determined;
+use cc_tokens::tokens_are_determined;
+
+// The laws of texts and units together.
+pub(crate) fn unit_laws()
+    ensures tokens { TokensAreOne }
+    ensures trees { TreesAreOne }
+    ensures meanings { TypedUnitsHaveMeanings }
+    ensures mains { TypedUnitsHaveMain }
+    ensures programs { ProgramsAreNumbered }
+    ensures sized { ObjectsAreSized }
+{
+    tokens_are_determined();
+    trees_are_determined();
+    units_have_meanings();
+    programs_call_main();
+    names_have_numbers();
+}
+
+/// The unit that the pieces of a checked unit make, in whatever order, has the unit's text, and its image agrees with it.
+pub fn linked_units_agree()
+    ensures { LinkedUnitsAgree }
+{
+    unit_laws();
+}

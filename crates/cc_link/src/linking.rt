@@ -1,0 +1,157 @@
+//! From the pieces of a unit's functions to the unit that the library keeps.
+//!
+//! Pieces come in any order. First it is seen that there is one of each function, and that all are of this text; then what stands where
+//! depends on nothing but the functions' items in the order of definitions.
+
+ghost use Rattle.std.specs.Prelude.{◌≡◌, ◌⊎◌, ◌≤◌, None, Ok, Err, length, IfOk, IfErr};
+ghost use Rattle.std.specs.Arc.{arc_value};
+ghost use Rattle.cc_syntax.specs.Source.{source};
+ghost use Rattle.cc_meaning.specs.Meaning.{functions};
+ghost use Rattle.cc_link.specs.declared.fault.LinkFault.TheVariants.{OutOfMemory};
+ghost use Rattle.cc_link.specs.Link.{code_words, most_code};
+ghost use Rattle.cc_link.specs.Linked.{image_of, linked};
+ghost use Rattle.cc_link.specs.internal.Filling.{lent, AllStayIn};
+ghost use Rattle.cc_link.specs.internal.Lent.{lent_pieces};
+
+use crate::compiled::CompiledUnit;
+use crate::fault::LinkFault;
+use crate::laws::{linked_units_agree, unit_laws};
+use crate::order::{doubled, in_order, stranger};
+use crate::words::{code, fits};
+use cc_emit::{Item, Piece};
+use cc_resolve::lay_out;
+use cc_rv32::image::{Globals, Image};
+use cc_typing::TypedUnit;
+use cc_unit::{Source, StoredUnit};
+use std::alloc::{AllocError, Global};
+use std::sync::Arc;
+
+const MAIN: &[u8] = b"main";
+
+// The text of a unit.
+fn source_of(alloc: Global, unit: &TypedUnit) -> Result<Source, AllocError>
+    ensures { IfOk result (λ text. text ≡ (source unit.now).text) }
+{
+    let text = Vec::from_slice(alloc, unit.text())?;
+    match Source::new(text) {
+        Ok(source) => Ok(source),
+        Err(_) => unreachable!(),
+    }
+}
+
+// The image of a unit's functions.
+fn image(alloc: Global, unit: &TypedUnit, bodies: &[&[Item]]) -> Result<Image, AllocError>
+    requires count { length bodies.now ≡ length (functions (source unit.now).externals) }
+    requires few { code_words (lent bodies.now) ≤ most_code }
+    requires stay { AllStayIn (length bodies.now) (lent bodies.now) }
+    ensures { IfOk result (λ image. image ≡ image_of (source unit.now).externals (lent bodies.now)) }
+{
+    unit_laws();
+    let mut words = Vec::new(alloc);
+    let layout = lay_out(alloc, &mut words, unit.externals())?;
+    let main = layout.function(MAIN);
+    drop(layout);
+    let globals = match Globals::new(words) {
+        Ok(globals) => globals,
+        Err(_) => unreachable!(),
+    };
+    match code(alloc, main, bodies) {
+        Ok(code) => Ok(Image { code, globals }),
+        Err(error) => {
+            drop(globals);
+            Err(error)
+        }
+    }
+}
+
+// What the library keeps of a unit and its functions.
+fn stored(
+    alloc: Global,
+    unit: &TypedUnit,
+    bodies: &[&[Item]],
+) -> Result<Arc<StoredUnit>, AllocError>
+    requires count { length bodies.now ≡ length (functions (source unit.now).externals) }
+    requires few { code_words (lent bodies.now) ≤ most_code }
+    requires stay { AllStayIn (length bodies.now) (lent bodies.now) }
+    ensures { IfOk result (λ stored. arc_value stored ≡ record { source = (source unit.now).text; image = image_of (source unit.now).externals (lent bodies.now); certificate = None }) }
+{
+    let image = image(alloc, unit, bodies)?;
+    let source = match source_of(alloc, unit) {
+        Ok(source) => source,
+        Err(error) => {
+            drop(image);
+            return Err(error);
+        }
+    };
+    let unit = StoredUnit {
+        source,
+        image,
+        certificate: None,
+    };
+    Ok(Arc::new(alloc, unit)?)
+}
+
+/// Links the pieces of a unit, lent in any order: its source is the unit's text, and its image agrees with it.
+///
+/// Refusals, in this order: 28 for the first piece whose unit has another text; 27 for the first piece whose function came before; 26
+/// for the least function without a piece; 25 where the image would have more than 131,072 words of code. 40 where memory ran out.
+pub fn link_lent(
+    alloc: Global,
+    unit: &Arc<TypedUnit>,
+    pieces: &[&Piece],
+) -> Result<CompiledUnit, LinkFault>
+    ensures answer { IfOk result (λ unit'. linked (source (arc_value unit.now)) (lent_pieces pieces.now) ≡ Ok unit') }
+    ensures refused { IfErr result (λ fault. (fault ≡ OutOfMemory) ⊎ (linked (source (arc_value unit.now)) (lent_pieces pieces.now) ≡ Err fault)) }
+{
+    let unit: &TypedUnit = unit;
+    if let Some(fault) = stranger(unit.text(), pieces) {
+        return Err(fault);
+    }
+    if let Some(fault) = doubled(pieces) {
+        return Err(fault);
+    }
+    let bodies = match in_order(alloc, unit.functions(), pieces) {
+        Ok(bodies) => bodies,
+        Err(fault) => return Err(fault),
+    };
+    if !fits(bodies.as_slice()) {
+        drop(bodies);
+        return Err(LinkFault::ImageTooLarge);
+    }
+    unit_laws();
+    linked_units_agree();
+    let _externals = unit.externals();
+    let made = stored(alloc, unit, bodies.as_slice());
+    drop(bodies);
+    Ok(CompiledUnit::new(made?))
+}
+
+/// Links the pieces of a unit, given up in any order. It answers what `link_lent` does.
+pub fn link(
+    alloc: Global,
+    unit: &Arc<TypedUnit>,
+    pieces: Vec<Piece>,
+) -> Result<CompiledUnit, LinkFault>
+    ensures answer { IfOk result (λ unit'. linked (source (arc_value unit.now)) pieces.items ≡ Ok unit') }
+    ensures refused { IfErr result (λ fault. (fault ≡ OutOfMemory) ⊎ (linked (source (arc_value unit.now)) pieces.items ≡ Err fault)) }
+{
+    let lent = match lent(alloc, pieces.as_slice()) {
+        Ok(lent) => lent,
+        Err(_) => return Err(LinkFault::OutOfMemory),
+    };
+    let made = link_lent(alloc, unit, lent.as_slice());
+    drop(lent);
+    drop(pieces);
+    made
+}
+
+// References to pieces, in their order.
+fn lent(alloc: Global, pieces: &[Piece]) -> Result<Vec<&Piece>, AllocError>
+    ensures { IfOk result (λ lent. lent_pieces lent.items ≡ pieces.now) }
+{
+    let mut lent = Vec::new(alloc);
+    for piece in pieces {
+        lent.push(piece)?;
+    }
+    Ok(lent)
+}

@@ -1,0 +1,92 @@
+//! Which piece is of which function: the refusals 28, 27 and 26, and the functions' items in the order of definitions.
+//!
+//! There are at most 64 functions, so a piece that is looked for is found by going over all of them.
+
+ghost use Rattle.std.specs.Prelude.{◌≡◌, ◌⊎◌, List, [], None, Some, All, length, slice_index, IfOk, IfErr, IfNone, MatchOption};
+ghost use Rattle.cc_emit.specs.Piece.{IsPieceOfUnit};
+ghost use Rattle.cc_link.specs.declared.fault.LinkFault.TheVariants.{OutOfMemory};
+ghost use Rattle.cc_link.specs.Linked.{stranger, is_among, doubled, items_of, missing, in_order};
+ghost use Rattle.cc_link.specs.internal.Filling.{lent};
+ghost use Rattle.cc_link.specs.internal.Lent.{lent_pieces, functions_of};
+
+use crate::fault::LinkFault;
+use cc_emit::{Item, Piece};
+use cc_typing::TypedUnit;
+use std::alloc::Global;
+
+/// 28 for the first piece of a unit of another text. Where there is none, each piece is what its type keeps.
+pub(crate) fn stranger(text: &[u8], pieces: &[&Piece]) -> Option<LinkFault>
+    ensures answer { result ≡ stranger text.now 0 (lent_pieces pieces.now) }
+    ensures kept { IfNone result (All IsPieceOfUnit (lent_pieces pieces.now)) }
+{
+    for (at, piece) in pieces.iter().enumerate() {
+        let function = piece.function();
+        let _kept = piece.items();
+        let other: &TypedUnit = piece.unit();
+        if other.text() != text {
+            return Some(LinkFault::Stranger { function, at });
+        }
+    }
+    None
+}
+
+// Whether one of the pieces is of the function.
+fn came(pieces: &[&Piece], function: usize) -> bool
+    ensures { result ≡ is_among (functions_of (lent_pieces pieces.now)) function }
+{
+    for piece in pieces {
+        if piece.function() == function {
+            return true;
+        }
+    }
+    false
+}
+
+/// 27 for the first piece of a function of which a piece came before.
+pub(crate) fn doubled(pieces: &[&Piece]) -> Option<LinkFault>
+    ensures { result ≡ doubled [] 0 (lent_pieces pieces.now) }
+{
+    for (at, piece) in pieces.iter().enumerate() {
+        let function = piece.function();
+        if came(&pieces[..at], function) {
+            return Some(LinkFault::Doubled { function, at });
+        }
+    }
+    None
+}
+
+// The items of the first piece of the function.
+fn items_of<'a>(pieces: &'a [&'a Piece], function: usize) -> Option<&'a [Item]>
+    ensures { MatchOption result (items_of (lent_pieces pieces.now) function ≡ None) (λ items. items_of (lent_pieces pieces.now) function ≡ Some items.now) }
+{
+    for piece in pieces {
+        if piece.function() == function {
+            return Some(piece.items());
+        }
+    }
+    None
+}
+
+/// The items of so many functions in their order, and 26 for the least without a piece.
+pub(crate) fn in_order<'a>(
+    alloc: Global,
+    functions: usize,
+    pieces: &'a [&'a Piece],
+) -> Result<Vec<&'a [Item]>, LinkFault>
+    ensures bodies { IfOk result (λ bodies. lent bodies.items ≡ in_order (lent_pieces pieces.now) 0 functions) }
+    ensures none { IfOk result (λ _. missing (lent_pieces pieces.now) 0 functions ≡ None) }
+    ensures refused { IfErr result (λ fault. (fault ≡ OutOfMemory) ⊎ (missing (lent_pieces pieces.now) 0 functions ≡ Some fault)) }
+{
+    let mut bodies = Vec::new(alloc);
+    for function in 0..functions {
+        let Some(items) = items_of(pieces, function) else {
+            drop(bodies);
+            return Err(LinkFault::Missing { function });
+        };
+        if bodies.push(items).is_err() {
+            drop(bodies);
+            return Err(LinkFault::OutOfMemory);
+        }
+    }
+    Ok(bodies)
+}

@@ -1,0 +1,149 @@
+//! The words of an image's code: each item is filled in at its address.
+//!
+//! A function's items become words one after the other; only where calls and jumps lead depends on where it stands, and all lies so
+//! near that every distance fits a jump.
+
+ghost use Rattle.std.specs.Prelude.{◌≡◌, ◌+◌, ◌-◌, ◌*◌, ◌%◌, ◌^◌, ◌<◌, ◌≤◌, ◌++◌, ◌↔◌, [], ◌∷◌, length, slice_index, IsTrue, IfOk, OnOk};
+ghost use Rattle.cc_emit.specs.Contract.{IsPlace, filled};
+ghost use Rattle.cc_link.specs.Link.{fill, fill_all, head, linked_code, encoded, code_words, most_code};
+ghost use Rattle.cc_link.specs.internal.Filling.{lent, AllStayIn, ArePlaces, Leads, CanStand, CanAllStand, places_from};
+
+use cc_emit::Item;
+use cc_rv32::encode::encode;
+use cc_rv32::image::{Code, MOST_CODE};
+use cc_rv32::instr::{ImmediateOperation, Instr};
+use cc_rv32::operand::{Immediate, JumpOffset, Register};
+use std::alloc::{AllocError, Global};
+
+// Where the code begins; how many words stand before the functions, and where those begin.
+const CODE_FROM: u32 = 0x0001_0000;
+
+const HEAD_WORDS: usize = 3;
+
+const FUNCTIONS_FROM: u32 = 0x0001_000c;
+
+/// Whether the code of these functions has at most 131,072 words.
+pub(crate) fn fits(bodies: &[&[Item]]) -> bool
+    ensures { IsTrue result ↔ (code_words (lent bodies.now) ≤ most_code) }
+{
+    let mut room = MOST_CODE - HEAD_WORDS;
+    for items in bodies {
+        if items.len() > room {
+            return false;
+        }
+        room -= items.len();
+    }
+    true
+}
+
+/// Where the functions stand, in their order.
+fn places(alloc: Global, bodies: &[&[Item]]) -> Result<Vec<u32>, AllocError>
+    requires { code_words (lent bodies.now) ≤ most_code }
+    ensures { IfOk result (λ places. places.items ≡ places_from FUNCTIONS_FROM (lent bodies.now)) }
+{
+    let mut places = Vec::new(alloc);
+    let mut place = FUNCTIONS_FROM;
+    for items in bodies {
+        places.push(place)?;
+        place += 4 * items.len() as u32;
+    }
+    Ok(places)
+}
+
+// How far a jump at one address goes to another.
+fn distance(at: u32, to: u32) -> JumpOffset
+    requires at { IsPlace at }
+    requires to { IsPlace to }
+    ensures { result ≡ (to + (2 ^ 32 - at)) % 2 ^ 32 }
+{
+    JumpOffset::new(to.wrapping_sub(at))
+}
+
+// The instruction that an item becomes at an address, in a function that stands at `place`.
+fn instruction(places: &[u32], place: u32, at: u32, item: Item) -> Instr
+    requires at { IsPlace at }
+    requires leads { Leads places.now place item }
+    ensures { result ≡ filled (λ f. slice_index places.now f) place at item }
+{
+    match item {
+        Item::Plain(instr) => instr,
+        Item::Call(function) => Instr::Jal {
+            rd: Register::new(1),
+            offset: distance(at, places[function as usize]),
+        },
+        Item::Go(to) => Instr::Jal {
+            rd: Register::new(0),
+            offset: distance(at, place + 4 * to as u32),
+        },
+    }
+}
+
+/// Puts the words of a function that stands at `place` behind others.
+fn add_function(
+    words: &mut Vec<u32>,
+    places: &[u32],
+    place: u32,
+    items: &[Item],
+) -> Result<(), AllocError>
+    requires places { ArePlaces places.now }
+    requires stand { CanStand (length places.now) place items.now }
+    ensures { OnOk result (words.new.items ≡ words.old.items ++ encoded (fill (λ f. slice_index places.now f) place place items.now)) }
+{
+    let mut at = place;
+    for item in items {
+        words.push(encode(instruction(places, place, at, *item)))?;
+        at += 4;
+    }
+    Ok(())
+}
+
+/// Puts the words of all functions behind others.
+fn add_functions(words: &mut Vec<u32>, places: &[u32], bodies: &[&[Item]]) -> Result<(), AllocError>
+    requires places { ArePlaces places.now }
+    requires stand { CanAllStand (length places.now) FUNCTIONS_FROM (lent bodies.now) }
+    ensures { OnOk result (words.new.items ≡ words.old.items ++ encoded (fill_all (λ f. slice_index places.now f) FUNCTIONS_FROM (lent bodies.now))) }
+{
+    let mut place = FUNCTIONS_FROM;
+    for items in bodies {
+        add_function(words, places, place, items)?;
+        place += 4 * items.len() as u32;
+    }
+    Ok(())
+}
+
+/// Puts the head's words behind others: the call of `main`, and the exit with its word.
+fn add_head(words: &mut Vec<u32>, places: &[u32], main: usize) -> Result<(), AllocError>
+    requires places { ArePlaces places.now }
+    requires main { main < length places.now }
+    ensures { OnOk result (words.new.items ≡ words.old.items ++ encoded (fill (λ f. slice_index places.now f) CODE_FROM CODE_FROM (head main))) }
+{
+    let offset = distance(CODE_FROM, places[main]);
+    let rd = Register::new(1);
+    words.push(encode(Instr::Jal { rd, offset }))?;
+    words.push(encode(Instr::OpImm {
+        operation: ImmediateOperation::Addi,
+        rd: Register::new(17),
+        rs1: Register::new(0),
+        immediate: Immediate::new(93),
+    }))?;
+    words.push(encode(Instr::Ecall))?;
+    Ok(())
+}
+
+/// The code of the functions, of which number `main` is called first.
+pub(crate) fn code(alloc: Global, main: usize, bodies: &[&[Item]]) -> Result<Code, AllocError>
+    requires main { main < length bodies.now }
+    requires few { code_words (lent bodies.now) ≤ most_code }
+    requires stay { AllStayIn (length bodies.now) (lent bodies.now) }
+    ensures { IfOk result (λ code. code ≡ encoded (linked_code main (lent bodies.now))) }
+{
+    let places = places(alloc, bodies)?;
+    let mut words = Vec::new(alloc);
+    add_head(&mut words, places.as_slice(), main)?;
+    add_functions(&mut words, places.as_slice(), bodies)?;
+    drop(places);
+    match Code::new(words) {
+        Ok(code) => Ok(code),
+        Err(_) => unreachable!(),
+    }
+}
