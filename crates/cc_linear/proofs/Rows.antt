@@ -106,9 +106,9 @@ pub branch_put : (end : ℕ → ℕ) (block : Block) (order : List ℕ) (old onc
     → once ≡ old ++ (moves_then before [] ++ (first ∷ [])) → twice ≡ once ++ second → twice ≡ old ++ block_then end block block.operation order []
 branch_put end block order old once twice second before first from taken other nonzero zero_ b is n z both o t =
     t ∙ ap (λ xs. xs ++ second) o ∙ append_assoc old (moves_then before [] ++ (first ∷ [])) second ∙ ap (λ xs. old ++ xs) (
-      append_assoc (moves_then before []) (first ∷ []) second ∙ ap (λ xs. moves_then before [] ++ xs) both ∙ sym (moves_alone before (branch_then (λ l. l) from nonzero zero_ order []))
-      ∙ ap (λ ms. moves_then ms (branch_then (λ l. l) from nonzero zero_ order [])) b ∙ ap (λ e. moves_then block.before (branch_then (λ l. l) from e zero_ order [])) n
-      ∙ ap (λ e. moves_then block.before (branch_then (λ l. l) from (end taken) e order [])) z ∙ sym (ap (λ op. block_then end block op order []) is)
+    append_assoc (moves_then before []) (first ∷ []) second ∙ ap (λ xs. moves_then before [] ++ xs) both ∙ sym (moves_alone before (branch_then (λ l. l) from nonzero zero_ order []))
+    ∙ ap (λ ms. moves_then ms (branch_then (λ l. l) from nonzero zero_ order [])) b ∙ ap (λ e. moves_then block.before (branch_then (λ l. l) from e zero_ order [])) n
+    ∙ ap (λ e. moves_then block.before (branch_then (λ l. l) from (end taken) e order [])) z ∙ sym (ap (λ op. block_then end block op order []) is)
     )
 
 pub return_put : (end : ℕ → ℕ) (block : Block) (order : List ℕ) (old once : List Item) (before : List Move) → before ≡ block.before → block.operation ≡ Return
@@ -143,9 +143,9 @@ straight_put end block order old once twice middle last before after to b a g le
     sym (moves_alone before middle) ∙ ap (λ ms. moves_then ms middle) b ∙ ap (moves_then block.before) (sym m) in
     t ∙ ap (λ xs. xs ++ (moves_then after [] ++ last)) o ∙ append_assoc old (moves_then before [] ++ middle) (moves_then after [] ++ last)
     ∙ ap (λ xs. old ++ xs) (
-      ap (λ xs. xs ++ (moves_then after [] ++ last)) front ∙ ap (λ xs. moves_then block.before (operation_then block.operation []) ++ xs) behind
-      ∙ sym (moves_before block.before (operation_then block.operation []) (moves_then block.after tail)) ∙ ap (moves_then block.before) (sym (operation_alone block.operation (moves_then block.after tail)))
-      ∙ sym (straight_is end block block.operation order [] g)
+    ap (λ xs. xs ++ (moves_then after [] ++ last)) front ∙ ap (λ xs. moves_then block.before (operation_then block.operation []) ++ xs) behind
+    ∙ sym (moves_before block.before (operation_then block.operation []) (moves_then block.after tail)) ∙ ap (moves_then block.before) (sym (operation_alone block.operation (moves_then block.after tail)))
+    ∙ sym (straight_is end block block.operation order [] g)
     )
 
 -- ---- one block after the other

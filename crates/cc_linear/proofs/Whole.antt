@@ -68,8 +68,8 @@ all_lead ltl up leads =
     let labels = labels_of ltl.blocks in
     let long = labels_long ltl.blocks in
     all_by_place labels ltl.blocks (λ i d lt.
-        successors_lead labels (get_or ltl.blocks i d).operation (λ n c.
-            some_label ltl.blocks n (leads (get_or labels i 0) (get_or ltl.blocks i d) n (block_there labels ltl.blocks i d refl (are_labels ltl.blocks up) (omega arith)) c).0))
+    successors_lead labels (get_or ltl.blocks i d).operation (λ n c.
+    some_label ltl.blocks n (leads (get_or labels i 0) (get_or ltl.blocks i d) n (block_there labels ltl.blocks i d refl (are_labels ltl.blocks up) (omega arith)) c).0))
 
 -- ---- places are places of blocks
 

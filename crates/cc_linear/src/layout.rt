@@ -89,7 +89,13 @@ pub fn lay_out(
     put(&mut items, &[], way(end_label(labels, ends, entry), first))?;
     for i in 0..order.len() {
         let place = order[i];
-        put(&mut items, &[], Some(Item::Label { label: labels[place] }))?;
+        put(
+            &mut items,
+            &[],
+            Some(Item::Label {
+                label: labels[place],
+            }),
+        )?;
         let following = label_at(labels, order, i + 1);
         put_block(&mut items, labels, ends, &blocks[place], following)?;
     }

@@ -1,4 +1,4 @@
-// A text's functions, as Linear. Blocks come from the allocation that keeps every register in a slot.
+// A text's functions, as Linear. Their LTL is the allocation that keeps each register in a slot of its own.
 
 use cc_cminor::to_cminor;
 use cc_colour::spill_all;
@@ -7,7 +7,7 @@ use cc_rtl::to_rtl;
 use cc_syntax::parse;
 use cc_typing::{TypedUnit, check};
 use cc_validate::validate;
-use std::alloc::Global;
+use std::alloc::{AllocError, Global};
 use std::sync::Arc;
 use std::test::Fail;
 
@@ -19,7 +19,11 @@ pub fn shared_unit(alloc: Global, text: &[u8]) -> Result<Arc<TypedUnit>, Fail> {
 }
 
 /// The Linear of the function with this number.
-pub fn linear_of(alloc: Global, unit: &Arc<TypedUnit>, function: usize) -> Result<LinearPair, Fail> {
+pub fn linear_of(
+    alloc: Global,
+    unit: &Arc<TypedUnit>,
+    function: usize,
+) -> Result<LinearPair, Fail> {
     if function >= unit.functions() {
         return Err(Fail::from("no such function"));
     }
@@ -35,6 +39,23 @@ pub fn linear_of(alloc: Global, unit: &Arc<TypedUnit>, function: usize) -> Resul
     }
 }
 
+/// Whether each function of a text goes through, names itself and its unit, and there are so many.
+pub fn all_go_through(alloc: Global, text: &[u8], functions: usize) -> Result<bool, Fail> {
+    let unit = shared_unit(alloc, text)?;
+    let mut right = unit.functions() == functions;
+    for function in 0..functions {
+        let pair = linear_of(alloc, &unit, function)?;
+        right = right
+            && pair.function() == function
+            && pair.unit().text() == text
+            && pair.slots() > 0
+            && !pair.code().is_empty();
+        drop(pair);
+    }
+    drop(unit);
+    Ok(right)
+}
+
 /// The text of the Linear of one function.
 pub fn text_of_function(alloc: Global, text: &str, function: usize) -> Result<String, Fail> {
     let unit = shared_unit(alloc, text.as_bytes())?;
@@ -43,4 +64,23 @@ pub fn text_of_function(alloc: Global, text: &str, function: usize) -> Result<St
     drop(pair);
     drop(unit);
     Ok(shown)
+}
+
+/// A part of a text, and how often it stands there.
+pub type Part<'a> = (&'a str, usize);
+
+fn append(text: &mut Vec<u8>, part: &str, times: usize) -> Result<(), AllocError> {
+    for _ in 0..times {
+        text.extend_from_slice(part.as_bytes())?;
+    }
+    Ok(())
+}
+
+/// The text of these parts.
+pub fn text_of(alloc: Global, parts: &[Part<'_>]) -> Result<Vec<u8>, AllocError> {
+    let mut text = Vec::new(alloc);
+    for (part, times) in parts {
+        append(&mut text, part, *times)?;
+    }
+    Ok(text)
 }

@@ -1,27 +1,112 @@
-// The text of the Linear of whole functions.
+// The text of the Linear of whole functions, worked by hand from the rules in `docs/INTERMEDIATE.md`: the nodes of RTL, the blocks that
+// stand for them with each register in its slot, and the order of blocks.
 
 use super::helpers::text_of_function;
+use std::alloc::Global;
 use std::test::Fail;
 
-static SHOWN: [(&str, usize, &str); 5] = [
-    ("int main(void){}", 0, ""),
-    ("int f(int a,int b){return a-b;}int main(void){}", 0, ""),
-    ("int main(void){for(;;);write_word(1);}", 0, ""),
-    ("int f(int n){do n=n-1;while(n);if(n)return 3;while(n&&read_word()){if(n==5)break;if(n==6)n=4;else n=5;}return n;}int main(void){}", 0, ""),
+/// A text, the number of a function, and the text of its Linear.
+static SHOWN: [(&str, usize, &str); 4] = [
+    // one block after the other; what stands behind the return is never reached
     (
-        "int main(void){int i;int j;for(i=0;i<2;i++){for(j=0;j<3;j++){write_word(j);}}}",
+        "int f(int a,int b){return a-b;}int main(void){}",
         0,
-        "",
+        "f0 slots 3
+  slot0 = x10
+  slot1 = x11
+  x28 = slot0
+  x29 = slot1
+  x28 = sub x28, x29
+  slot2 = x28
+  x10 = slot2
+  return
+",
+    ),
+    // a loop's test, which comes first, stands behind its body: RTL is 0: nop -> 4, 1: branch r0 -> 2, 5, 2: r1 = 1 -> 3,
+    // 3: r0 = sub r0, r1 -> 4, 4: nop -> 1, 5: return r0
+    (
+        "int f(int n){while(n)n=n-1;return n;}int main(void){}",
+        0,
+        "f0 slots 2
+  slot0 = x10
+  jump 1
+2:
+  x28 = 1
+  slot1 = x28
+  x28 = slot0
+  x29 = slot1
+  x28 = sub x28, x29
+  slot0 = x28
+1:
+  x28 = slot0
+  branch x28 != 0 -> 2
+  x10 = slot0
+  return
+",
+    ),
+    // an endless loop that does nothing stays; its two empty blocks, the entry and the head's way back, are passed over
+    (
+        "int main(void){for(;;);write_word(1);}",
+        0,
+        "f0 slots 2
+1:
+  x28 = 1
+  slot1 = x28
+  x28 = slot1
+  branch x28 != 0 -> 1
+  x28 = 1
+  slot1 = x28
+  x10 = slot1
+  write
+  x28 = 0
+  slot0 = x28
+  x28 = 0
+  slot1 = x28
+  x10 = slot1
+  return
+",
+    ),
+    // the way for a word that is 0 follows the branch, unless it follows another block, as what is behind an `if` follows what is under it
+    (
+        "int f(int n){if(n)return f(n-1);return 7;}int main(void){}",
+        0,
+        "f0 slots 4
+  slot0 = x10
+  x28 = slot0
+  branch x28 != 0 -> 2
+  x28 = 7
+  slot2 = x28
+  x10 = slot2
+  return
+2:
+  x28 = 1
+  slot3 = x28
+  x28 = slot0
+  x29 = slot3
+  x28 = sub x28, x29
+  slot2 = x28
+  x10 = slot2
+  call 0
+  slot1 = x10
+  x10 = slot1
+  return
+",
     ),
 ];
+
+// Whether the Linear of a function of a text has these lines.
+fn shows(alloc: Global, text: &str, function: usize, lines: &str) -> Result<bool, Fail> {
+    let shown = text_of_function(alloc, text, function)?;
+    let same = shown.as_str() == lines;
+    drop(shown);
+    Ok(same)
+}
 
 #[test]
 fn texts_of_functions(rt: HostRuntime) -> Result<(), Fail> {
     for (text, function, lines) in SHOWN.iter() {
-        let shown = text_of_function(rt.alloc(), text, *function)?;
-        println!(rt; "{shown}")?;
-        drop(shown);
+        let right = shows(rt.alloc(), text, *function, lines)?;
+        assert!(rt; right, "{text} {function}");
     }
-    assert!(rt; false);
     Ok(())
 }

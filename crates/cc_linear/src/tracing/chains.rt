@@ -1,10 +1,13 @@
 // An order in which code falls through the likely way, and a loop's test stands at its bottom. Nothing rests on it.
 //
 // Blocks are joined into chains, of which each falls through to the next. Places are in the order of labels, and labels in the order of
-// the source: so a way to a place that does not come later is the way back of a loop. First, blocks that have one way are joined: those
-// that lead back before the others, and of them the last first (others come of `continue`), so the head of a loop, with its test, stands
-// behind the loop's body, and a turn needs no jump. Then branches are joined to the way for a word that is 0, out of a loop or behind an
-// `if`, and where that is behind another block already, to the other.
+// the source: so a way to a place that does not come later is the way back of a loop, to the loop's head. Joined are, in this order:
+// 1. the blocks that only lead back, of one loop the last first (others come of `continue`): so the head, with the loop's test, stands
+//    behind the loop's body, and a turn needs no jump;
+// 2. the blocks that have one way, unless it leads into a loop;
+// 3. the branches: to the way for a word that is 0, which is out of a loop or behind an `if`, and where that is behind another block, to
+//    the other;
+// 4. the blocks that lead into a loop.
 
 ghost use Rattle.std.specs.Prelude.{◌≡◌, ◌<◌, length, vec_len, IfOk, All};
 ghost use Rattle.cc_linear.specs.internal.Reached.{InGraph, WaysBelow};
@@ -84,16 +87,23 @@ fn join_back(chains: &mut Chains, graph: &[Ways], is_found: &[bool])
     }
 }
 
-/// Joins the blocks that have one way.
-fn join_on(chains: &mut Chains, graph: &[Ways], is_found: &[bool])
+/// Joins the blocks that have one way, those that lead to heads of loops or the others.
+fn join_on(
+    chains: &mut Chains,
+    graph: &[Ways],
+    is_found: &[bool],
+    is_head: &[bool],
+    into_loops: bool,
+)
     requires graph { InGraph graph.now }
     requires found { length is_found.now ≡ length graph.now }
+    requires heads { length is_head.now ≡ length graph.now }
     requires chains { vec_len chains.old.behind ≡ length graph.now }
     ensures { vec_len chains.new.behind ≡ length graph.now }
 {
     for from in 0..graph.len() {
         if let Ways::One(to) = graph[from] {
-            if is_found[from] {
+            if is_found[from] && is_head[to] == into_loops {
                 join(chains, from, to);
             }
         }
@@ -114,6 +124,38 @@ fn join_branches(chains: &mut Chains, graph: &[Ways], is_found: &[bool])
                 join(chains, from, taken);
             }
         }
+    }
+}
+
+/// Which labels are heads of loops: a block that was found leads back to them.
+fn heads(alloc: Global, graph: &[Ways], is_found: &[bool]) -> Result<Vec<bool>, AllocError>
+    requires graph { InGraph graph.now }
+    requires found { length is_found.now ≡ length graph.now }
+    ensures { IfOk result (λ is_head. length is_head.items ≡ length graph.now) }
+{
+    let mut is_head = vec![in alloc; false; graph.len()]?;
+    for from in 0..graph.len() {
+        if is_found[from] {
+            match graph[from] {
+                Ways::Leaves => {}
+                Ways::One(to) => mark_back(&mut is_head, from, to),
+                Ways::Two(taken, other) => {
+                    mark_back(&mut is_head, from, taken);
+                    mark_back(&mut is_head, from, other);
+                }
+            }
+        }
+    }
+    Ok(is_head)
+}
+
+/// Marks where a way leads, if it leads back.
+fn mark_back(is_head: &mut Vec<bool>, from: usize, to: usize)
+    requires { to < length is_head.old.items }
+    ensures { length is_head.new.items ≡ length is_head.old.items }
+{
+    if to <= from {
+        is_head[to] = true;
     }
 }
 
@@ -147,9 +189,11 @@ pub fn in_chains(alloc: Global, graph: &[Ways], found: &[usize]) -> Result<Vec<u
     for i in 0..found.len() {
         is_found[found[i]] = true;
     }
+    let is_head = heads(alloc, graph, &is_found)?;
     let mut chains = alone(alloc, graph.len())?;
     join_back(&mut chains, graph, &is_found);
-    join_on(&mut chains, graph, &is_found);
+    join_on(&mut chains, graph, &is_found, &is_head, false);
     join_branches(&mut chains, graph, &is_found);
+    join_on(&mut chains, graph, &is_found, &is_head, true);
     listed(alloc, &chains, found)
 }

@@ -1,0 +1,103 @@
+// What the turns of loops execute: the items from a label to a branch back to it hold the loop's own test, and those of what stands within.
+
+use super::helpers::{linear_of, shared_unit};
+use cc_linear::Item;
+use std::alloc::Global;
+use std::test::Fail;
+
+/// A turn: how many branches and how many jumps stand in it.
+type Turn = (usize, usize);
+
+// Where an item branches to.
+fn target(item: Item) -> Option<u32> {
+    match item {
+        Item::IfNonzero { to, .. } | Item::IfZero { to, .. } => Some(to),
+        _ => None,
+    }
+}
+
+// The branches and jumps among items, from the label on; none where the label does not stand.
+fn turn(items: &[Item], head: u32) -> Option<Turn> {
+    let mut found = false;
+    let mut branches = 0_usize;
+    let mut jumps = 0_usize;
+    for item in items {
+        match item {
+            Item::Label { label } => found = found || *label == head,
+            Item::Jump { .. } if found => jumps = jumps.saturating_add(1),
+            Item::IfNonzero { .. } | Item::IfZero { .. } if found => {
+                branches = branches.saturating_add(1);
+            }
+            _ => {}
+        }
+    }
+    if found { Some((branches, jumps)) } else { None }
+}
+
+// Whether these are the turns of the branches back, in their order.
+fn are_turns(items: &[Item], turns: &[Turn]) -> bool {
+    let mut seen = 0_usize;
+    let mut same = true;
+    for i in 0..items.len() {
+        if let Some(head) = target(items[i]) {
+            if let Some(found) = turn(&items[..i + 1], head) {
+                same = same && seen < turns.len() && turns[seen] == found;
+                seen = seen.saturating_add(1);
+            }
+        }
+    }
+    same && seen == turns.len()
+}
+
+// Whether the last function of a text has these turns.
+fn has_turns(alloc: Global, text: &str, turns: &[Turn]) -> Result<bool, Fail> {
+    let unit = shared_unit(alloc, text.as_bytes())?;
+    let pair = linear_of(alloc, &unit, unit.functions().saturating_sub(1))?;
+    let right = are_turns(pair.code(), turns);
+    drop(pair);
+    drop(unit);
+    Ok(right)
+}
+
+/// A text, and the turns of its last function. A turn of a loop within another begins with a jump to its test, behind its body.
+static LOOPS: [(&str, &[Turn]); 9] = [
+    ("int x;int main(void){while(x)x--;}", &[(1, 0)]),
+    ("int x;int main(void){do x--;while(x);}", &[(1, 0)]),
+    ("int main(void){for(;;);}", &[(1, 0)]),
+    (
+        "int main(void){int i;for(i=0;i<9;i++)write_word(i);}",
+        &[(1, 0)],
+    ),
+    // one loop behind another, and after an `if` that stands before it
+    (
+        "int x;int main(void){if(x){x=x+2;x=x+3;}while(x)x--;while(x)x++;}",
+        &[(1, 0), (1, 0)],
+    ),
+    // loops within one another: the inner turn has no jump, the outer one that into the inner
+    (
+        "int main(void){int i;int j;for(i=0;i<2;i++)for(j=0;j<3;j++)write_word(j);}",
+        &[(1, 0), (2, 1)],
+    ),
+    (
+        "int main(void){int i;int j;int k;for(i=0;i<2;i++)for(j=0;j<3;j++)for(k=0;k<4;k++)write_word(k);}",
+        &[(1, 0), (2, 1), (3, 2)],
+    ),
+    // a second test in the loop is a second branch, and leaves it or goes on without a jump
+    (
+        "int x;int main(void){while(x){if(x==5)break;x--;}}",
+        &[(2, 0)],
+    ),
+    (
+        "int x;int main(void){for(;;){x--;if(x==5)break;}}",
+        &[(2, 0)],
+    ),
+];
+
+#[test]
+fn turns_of_loops(rt: HostRuntime) -> Result<(), Fail> {
+    for (text, turns) in LOOPS.iter() {
+        let right = has_turns(rt.alloc(), text, *turns)?;
+        assert!(rt; right, "{text}");
+    }
+    Ok(())
+}
