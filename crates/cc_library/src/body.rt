@@ -1,5 +1,7 @@
 // Writing a command as the body of a record.
-ghost use Rattle.std.specs.Prelude.{◌≡◌, ◌+◌, ◌++◌, ◌<◌, ◌^◌, length, IfOk, IsTrue, OnOk};
+ghost use Rattle.std.specs.Prelude.{◌≡◌, ◌+◌, ◌*◌, ◌++◌, ◌<◌, ◌^◌, length, IfOk, IsTrue, OnOk};
+ghost use Rattle.std.specs.Int.{w32, to_le_bytes};
+ghost use Rattle.std.specs.List.{flat_map};
 ghost use Rattle.std.specs.Option.{option_map};
 ghost use Rattle.cc_library.specs.Name.{is_name};
 ghost use Rattle.cc_library.specs.Body.{HasUnit, HoldsUnit, IsUnit, Spells, body_bytes, body_of, unit_fields, unit_part, words_field};
@@ -70,8 +72,23 @@ fn put_words(body: &mut Vec<u8>, words: &[u32]) -> Result<(), AllocError>
     ensures { OnOk result (body.new.items ≡ body.old.items ++ words_field words.now) }
 {
     body.extend_from_slice(&(words.len() as u32).to_le_bytes())?;
-    for word in words {
-        body.extend_from_slice(&word.to_le_bytes())?;
-    }
+    let start = body.len();
+    // The room for all words is taken at once, and then filled: one call of the vector for each would take longer than its bytes.
+    body.resize(start + 4 * words.len(), 0)?;
+    fill_words(&mut body[start..], words);
     Ok(())
+}
+
+// Writes the words one after the other, each as four bytes, the lowest first.
+fn fill_words(bytes: &mut [u8], words: &[u32])
+    requires { length bytes.old ≡ 4 * length words.now }
+    ensures { bytes.new ≡ flat_map (to_le_bytes w32) words.now }
+{
+    for (i, word) in words.iter().enumerate() {
+        let [a, b, c, d] = word.to_le_bytes();
+        bytes[4 * i] = a;
+        bytes[4 * i + 1] = b;
+        bytes[4 * i + 2] = c;
+        bytes[4 * i + 3] = d;
+    }
 }

@@ -38,8 +38,14 @@ fn replay_body(alloc: Global, mut units: UnitMap, body: &Body) -> Result<UnitMap
         drop(command);
         return Err(LibraryFault::Damaged);
     }
-    let applied = units.apply(&command);
-    drop(command);
-    applied?;
-    Ok(units)
+    match units.begin(&command) {
+        Ok(()) => {
+            units.finish(command);
+            Ok(units)
+        }
+        Err(_) => {
+            drop(command);
+            Err(LibraryFault::OutOfMemory)
+        }
+    }
 }

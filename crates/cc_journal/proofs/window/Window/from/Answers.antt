@@ -1,4 +1,4 @@
-use Rattle.std.proofs.Common.{◌≡◌, ◌-◌, List, ℕ, length, sym, subst, arith}
+use Rattle.std.proofs.Common.{◌-◌, List, ℕ, length, sym, subst, arith}
 use Rattle.cc_journal.specs.internal.Reading.{Shows}
 use Rattle.cc_journal.proofs.Ahead.{shows_from}
 use Rattle.cc_journal.proofs.window.Window.from.Goals as goal
