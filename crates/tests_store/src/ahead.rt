@@ -40,8 +40,14 @@ fn a_record_behind_what_was_read_ahead(rt: HostRuntime) -> Result<(), Fail> {
     // The second record begins so many bytes before the end of what is read ahead, or behind it.
     for before in 0..9usize {
         let first = AHEAD - 5 - before;
-        assert!(rt; are_found(rt.alloc(), &[first, 300, 0, 7])?, "{before} bytes before");
-        assert!(rt; are_found(rt.alloc(), &[first + 9, 0, 300])?, "{before} bytes less");
+        assert!(rt;
+            are_found(rt.alloc(), &[first, 300, 0, 7])?,
+            "{before} bytes before"
+        );
+        assert!(rt;
+            are_found(rt.alloc(), &[first + 9, 0, 300])?,
+            "{before} bytes less"
+        );
     }
     Ok(())
 }
