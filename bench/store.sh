@@ -1,8 +1,9 @@
 #!/usr/bin/env bash
 # What the library costs over the file that it lies in, by ratios within one run: store.sh [FOLDER] (this one).
-# Durable commits: COUNT units (100) are added to a library on a file in FOLDER, and a program in C (commits.c) makes the same
+# Durable commits: COUNT units (500) are added to a library on a file in FOLDER, and a program in C (commits.c) makes the same
 # two writes and two syncs a unit on a file of the same length, in turn. The ratio is its time by ours, both without the time of
-# a start that adds nothing: 1.0 is as fast.
+# a start that adds nothing: 1.0 is as fast. The shell's clock counts milliseconds: with fewer units a step of it is more than
+# the 5 in 100 that are asked for, where a sync takes some 50 us.
 # Opening: a library of 1,000 units against reading its file, each TIMES times (50) in one process. The ratio is our time by
 # that of reading; the file has both areas, of which opening reads one, and opening syncs twice besides.
 # Each is run ROUNDS times (20; opening 5), in turn, and the best counts. Where others use the device, more rounds of fewer
@@ -13,7 +14,7 @@ program=$top/crates/bench_store/out/bench_store
 [ -x "$program" ] || { echo "store.sh: build the program first: (cd crates/bench_store && rt run)" >&2; exit 1; }
 folder=$(mktemp -d "${1:-.}/store.XXXXXX")
 trap 'rm -rf "$folder"' EXIT
-rounds=${ROUNDS:-20} count=${COUNT:-100} times=${TIMES:-50}
+rounds=${ROUNDS:-20} count=${COUNT:-500} times=${TIMES:-50}
 gcc -O2 -o "$folder/plain" "$top/bench/commits.c"
 
 # timed NAME COMMAND..: adds the seconds of the wall clock and of the processor to that file

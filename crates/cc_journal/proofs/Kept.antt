@@ -56,13 +56,14 @@ module _ {D : Type 0} (honest : Bool) (size : D → ℕ) (seen : D → List ℕ)
       (appended (seen disk) start area used bodies (kept.holds h not_closed) kept.taken body (seen new) room (subst (λ (c : Commit). IsCommitted c (seen disk) (seen new)) is done))
 
   -- where it was done
-  pub kept_more : (new : D) (commit : Commit) (more : List (List ℕ)) → commit ≡ append_commit (start + used) body → more ≡ bodies ++ body ∷ [] → used + length body + 6 ≤ area → size new ≡ size disk → closed ≡ false
+  pub kept_more : (new : D) (commit : Commit) (more : List (List ℕ)) (taken : ℕ) → commit ≡ append_commit (start + used) body → more ≡ bodies ++ body ∷ [] → taken ≡ used + (length body + 5)
+      → used + length body + 6 ≤ area → size new ≡ size disk → closed ≡ false
       → (IsTrue honest → IsCommitted commit (seen disk) (seen new)) → (IsTrue honest → LeavesAlone (seen new) (may_leave new))
-      → IsKept honest (size new) (seen new) (may_leave new) start area (used + (length body + 5)) more closed
-  kept_more new commit more is pushed room same not_closed done alone = record {
+      → IsKept honest (size new) (seen new) (may_leave new) start area taken more closed
+  kept_more new commit more taken is pushed counted room same not_closed done alone = record {
     is_area = subst (λ (n : ℕ). IsArea n area) (sym same) kept.is_area;
     begins = kept.begins;
-    taken = omega (arith, kept.taken, length-records_push bodies body, ap (λ (l : List (List ℕ)). length (records l)) pushed);
+    taken = omega (arith, counted, kept.taken, length-records_push bodies body, ap (λ (l : List (List ℕ)). length (records l)) pushed);
     fits = omega (arith, room, kept.taken, length-records_push bodies body, ap (λ (l : List (List ℕ)). length (records l)) pushed);
     alone = λ h _. alone h;
     holds = λ h _.

@@ -3,6 +3,7 @@ mod Moments
 pub mod Images
 mod Steps
 pub mod Bytes
+pub mod Ahead
 pub mod Scan
 pub mod Rewriting
 mod Kept

@@ -129,13 +129,49 @@ impl<D: Disk> Journal<D> {
         if self.area - self.used < body.len() + 6 {
             return Err(JournalFault::Full);
         }
+        let kept = Vec::from_slice(alloc, body)?;
+        self.append_body(alloc, Body::new(kept))
+    }
+
+    /// The same as `append`, of a body that is handed over: it is not copied to be kept. Every refusal gives it up.
+    pub fn append_body(&mut self, alloc: Global, body: Body) -> Result<(), JournalFault>
+        ensures answers { AppendAnswers self.old.closed self.old.area self.old.bodies body (D.failures self.old.disk) (D.failures self.new.disk) result }
+        ensures size { D.size self.new.disk ≡ D.size self.old.disk }
+        ensures area { self.new.area ≡ self.old.area }
+
+        // At Ok the record stands after the old ones, and every image has them alone.
+        ensures added { OnOk result (self.new.bodies ≡ self.old.bodies ++ body ∷ []) }
+        ensures open { OnOk result (self.new.closed ≡ false) }
+        ensures kept { OnOk result (IsTrue D.honest
+            → (image : List ℕ) → D.may_leave self.new.disk image → HoldsAlone image self.new.area self.new.bodies) }
+
+        // The bytes of the disk change in one range alone: it has the record, its gate open, and a closed gate after it.
+        ensures bytes { OnOk result (IsTrue D.honest → (offset : ℕ)
+            × IsWritten (D.seen self.old.disk) offset (record_bytes body ++ 0 ∷ []) (D.seen self.new.disk)) }
+
+        // A refusal leaves the records; without a device call it leaves all, after 35 the journal is closed.
+        ensures leaves { OnErr result (self.new.bodies ≡ self.old.bodies) }
+        ensures untouched { IfErr result (λ e. e ≢ JournalFault.DiskFault → self.new ≡ self.old) }
+        ensures closes { IsErrOf result JournalFault.DiskFault → self.new.closed ≡ true }
+
+        // A crash at any moment of the call leaves the old records, or the old and the new one.
+        ensures moments { IsTrue D.honest → self.old.closed ≡ false
+            → LeavesOnly D.moment D.left_since self.old.disk self.new.disk (HoldsOldOrNew self.old.area self.old.bodies body) }
+    {
+        if self.closed {
+            return Err(JournalFault::Closed);
+        }
+        let length = body.as_slice().len();
+        if self.area - self.used < length + 6 {
+            return Err(JournalFault::Full);
+        }
         // All growths come before the first device call.
         let gate = self.start + self.used;
-        let (kept, commit) = prepare(alloc, &mut self.bodies, gate, body)?;
+        let commit = prepare(alloc, &mut self.bodies, gate, body.as_slice())?;
         match make(&mut self.disk, &commit) {
             Ok(()) => {
-                self.used += body.len() + 5;
-                self.bodies.push(kept).unwrap();
+                self.used += length + 5;
+                self.bodies.push(body).unwrap();
                 Ok(())
             }
             Err(_) => {
@@ -215,25 +251,23 @@ impl<D: Disk> Journal<D> {
     }
 }
 
-// What an `append` takes of memory: the record to keep, the bytes to write, and room for the record.
+// What an `append` takes of memory beside the record to keep: the bytes to write, and room for the record.
 fn prepare(
     alloc: Global,
     bodies: &mut Vec<Body>,
     gate: usize,
     body: &[u8],
-) -> Result<(Body, Commit), AllocError>
+) -> Result<Commit, AllocError>
     requires short { length body.now < 2 ^ 32 }
     requires fits { gate + 1 < 2 ^ 64 }
-    ensures kept { IfOk result (λ made. made.0 ≡ body.now) }
-    ensures commit { IfOk result (λ made. made.1 ≡ append_commit gate body.now) }
+    ensures commit { IfOk result (λ commit. commit ≡ append_commit gate body.now) }
     ensures room { OnOk result (vec_len bodies.new + 1 ≤ vec_capacity bodies.new) }
     ensures same { bodies.new.items ≡ bodies.old.items }
     ensures len { vec_len bodies.new ≡ vec_len bodies.old }
 {
-    let kept = Vec::from_slice(alloc, body)?;
     let commit = Commit::append(alloc, gate, body)?;
     bodies.reserve(1)?;
-    Ok((Body::new(kept), commit))
+    Ok(commit)
 }
 
 // The area byte of the area that begins at that offset.

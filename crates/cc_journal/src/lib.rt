@@ -1,7 +1,8 @@
 //! A journal that keeps what it acknowledged through a power cut in the middle of any write.
 //!
 //! `formatting` makes an empty journal on a disk, `commit` gets records onto it, `reading` reads the records of a disk,
-//! `journal` has the journal's type with its calls, `body` the bytes of one record, `fault` the refusals.
+//! `window` reads ahead for it, `journal` has the journal's type with its calls, `body` the bytes of one record, `fault`
+//! the refusals.
 //! It hands out `format`, `Journal`, `Body`, `Commit` and `JournalFault`.
 #![tactic(auto)]
 
@@ -11,6 +12,7 @@ mod fault;
 mod formatting;
 mod journal;
 mod reading;
+mod window;
 
 pub use body::Body;
 pub use commit::Commit;

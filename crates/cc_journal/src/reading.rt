@@ -5,11 +5,12 @@ ghost use Rattle.cc_disk.specs.Images.{LeavesAlone, OnlyReads};
 ghost use Rattle.cc_journal.specs.Format.{header, records, room_of, HasHeader, IsArea};
 ghost use Rattle.cc_journal.specs.Journal.{IsKept};
 ghost use Rattle.cc_journal.specs.Answers.{OpenFaults};
-ghost use Rattle.cc_journal.specs.internal.Reading.{BeginsWith, EndsClosed, FindsRecord, IsReadingFault, is_fault_of_disk};
+ghost use Rattle.cc_journal.specs.internal.Reading.{BeginsWith, EndsClosed, FindsRecord, IsReadingFault, Shows, is_fault_of_disk};
 
 use crate::body::Body;
 use crate::commit::OPEN;
 use crate::fault::JournalFault;
+use crate::window::Window;
 use cc_disk::{Disk, DiskFault};
 use std::alloc::Global;
 
@@ -114,6 +115,7 @@ fn parse_header(bytes: &[u8; 16], size: usize) -> Option<(usize, usize)>
 }
 
 // The records from `start` on, within an area of that size, and how many bytes they take.
+#[tactic(auto, using(crate::proofs::Ahead::shows_none))]
 fn read_records<D: Disk>(
     alloc: Global,
     disk: &mut D,
@@ -133,7 +135,8 @@ fn read_records<D: Disk>(
 {
     let mut bodies = Vec::new(alloc);
     let mut used = 0;
-    while let Some(body) = read_record(alloc, disk, start + used, area - used)? {
+    let mut window = Window::new(alloc);
+    while let Some(body) = read_record(alloc, disk, &mut window, start + used, area - used)? {
         used += body.as_slice().len() + 5;
         bodies.push(body)?;
     }
@@ -152,37 +155,37 @@ fn length_of(bytes: &[u8; 4]) -> u32
 fn read_record<D: Disk>(
     alloc: Global,
     disk: &mut D,
+    window: &mut Window,
     offset: usize,
     left: usize,
 ) -> Result<Option<Body>, JournalFault>
     requires some { 0 < left }
     requires on_disk { offset + left ≤ D.size disk.old }
     requires addressed { offset + left < 2 ^ 64 }
+    requires shown { IsTrue D.honest → Shows window.old.offset window.old.bytes.items (D.seen disk.old) }
     ensures size { D.size disk.new ≡ D.size disk.old }
     ensures reads { IsTrue D.honest → OnlyReads D.seen D.may_leave D.moment D.left_since disk.old disk.new }
     ensures failures { D.failures disk.new ≡ (if is_fault_of_disk result then D.failures disk.old + 1 else D.failures disk.old) }
+    ensures shown { OnOk result (IsTrue D.honest → Shows window.new.offset window.new.bytes.items (D.seen disk.old)) }
     ensures fits { IfOk result (λ found. IfSome found (λ body. length body + 6 ≤ left)) }
     ensures finds { IsTrue D.honest → FindsRecord (drop offset (D.seen disk.old)) left result }
     ensures others { IfErr result IsReadingFault }
 {
-    let mut gate = [0u8; 1];
+    window.look(disk, offset, offset + left, left.min(5))?;
+    let front = window.from(offset);
     // A closed gate ends the records, whatever stands after it.
-    disk.read_at(offset, &mut gate)?;
-    if gate[0] != OPEN {
+    if front[0] != OPEN {
         return Ok(None);
     }
     if left < 6 {
         return Err(JournalFault::Damaged);
     }
-    let mut length = [0u8; 4];
     // The length says how far the record goes.
-    disk.read_at(offset + 1, &mut length)?;
-    let length = length_of(&length) as usize;
+    let length = length_of(&[front[1], front[2], front[3], front[4]]) as usize;
     if left - 6 < length {
         return Err(JournalFault::Damaged);
     }
-    let mut bytes = vec![in alloc; 0u8; length]?;
     // The body, as long as it says, within the area.
-    disk.read_at(offset + 5, &mut bytes)?;
+    let bytes = window.read(alloc, disk, offset + 5, length)?;
     Ok(Some(Body::new(bytes)))
 }

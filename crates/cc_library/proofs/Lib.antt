@@ -8,3 +8,4 @@ pub mod Refused
 pub mod Opening
 pub mod Running
 pub mod Compacting
+mod Sizes

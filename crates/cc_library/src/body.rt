@@ -1,5 +1,7 @@
 // Writing a command as the body of a record.
-ghost use Rattle.std.specs.Prelude.{◌≡◌, ◌+◌, ◌++◌, ◌<◌, ◌^◌, length, IfOk, IsTrue, OnOk};
+ghost use Rattle.std.specs.Prelude.{◌≡◌, ◌+◌, ◌*◌, ◌++◌, ◌<◌, ◌^◌, length, IfOk, IsTrue, OnOk};
+ghost use Rattle.std.specs.Int.{w32, to_le_bytes};
+ghost use Rattle.std.specs.List.{flat_map};
 ghost use Rattle.std.specs.Option.{option_map};
 ghost use Rattle.cc_library.specs.Name.{is_name};
 ghost use Rattle.cc_library.specs.Body.{HasUnit, HoldsUnit, IsUnit, Spells, body_bytes, body_of, unit_fields, unit_part, words_field};
@@ -24,8 +26,9 @@ pub fn command_body(
     ensures name { OnOk result (IsTrue (is_name name.now)) }
     ensures unit { OnOk result (HoldsUnit (option_map (λ u. u.now) unit.entry)) }
 {
-    let mut body = Vec::new(alloc);
     let bytes = name.bytes();
+    // All the room is taken at once.
+    let mut body = Vec::with_capacity(alloc, body_length(bytes, unit))?;
     body.extend_from_slice(&[1, kind.number(), bytes.len() as u8])?;
     body.extend_from_slice(bytes)?;
     if let Some(unit) = unit {
@@ -50,6 +53,29 @@ pub fn body_of_command(alloc: Global, command: &Command) -> Result<Vec<u8>, Allo
     }
 }
 
+// How many bytes the body of a command with this name takes.
+fn body_length(name: &[u8], unit: Option<&StoredUnit>) -> usize
+    requires { length name.now < 256 }
+    ensures { result ≡ 3 + length name.now + length (unit_part (option_map (λ u. u.now) unit.entry)) }
+{
+    match unit {
+        Some(unit) => 3 + name.len() + unit_length(unit),
+        None => 3 + name.len(),
+    }
+}
+
+// How many bytes the fields of a unit take.
+#[tactic(auto, using(crate::proofs::Sizes::unit_long))]
+fn unit_length(unit: &StoredUnit) -> usize
+    ensures length { result ≡ length (unit_fields unit.now) }
+    ensures small { result < 2 ^ 32 }
+{
+    let source = unit.source.bytes().len();
+    let code = unit.image.code.words().len();
+    let globals = unit.image.globals.words().len();
+    12 + source + 4 * code + 4 * globals
+}
+
 // Adds the fields of a unit.
 fn put_unit(body: &mut Vec<u8>, unit: &StoredUnit) -> Result<(), AllocError>
     ensures put { OnOk result (body.new.items ≡ body.old.items ++ unit_fields unit.now) }
@@ -70,8 +96,23 @@ fn put_words(body: &mut Vec<u8>, words: &[u32]) -> Result<(), AllocError>
     ensures { OnOk result (body.new.items ≡ body.old.items ++ words_field words.now) }
 {
     body.extend_from_slice(&(words.len() as u32).to_le_bytes())?;
-    for word in words {
-        body.extend_from_slice(&word.to_le_bytes())?;
-    }
+    let start = body.len();
+    // The words are written into their room: a call of the vector for each would take longer than its bytes.
+    body.resize(start + 4 * words.len(), 0)?;
+    fill_words(&mut body[start..], words);
     Ok(())
+}
+
+// Writes the words one after the other, each as four bytes, the lowest first.
+fn fill_words(bytes: &mut [u8], words: &[u32])
+    requires { length bytes.old ≡ 4 * length words.now }
+    ensures { bytes.new ≡ flat_map (to_le_bytes w32) words.now }
+{
+    for (i, word) in words.iter().enumerate() {
+        let [a, b, c, d] = word.to_le_bytes();
+        bytes[4 * i] = a;
+        bytes[4 * i + 1] = b;
+        bytes[4 * i + 2] = c;
+        bytes[4 * i + 3] = d;
+    }
 }

@@ -373,7 +373,7 @@ impl<D: Disk> Library<D> {
         }
         let body = body_of_command(alloc, &command)?;
         self.units.begin(&command)?;
-        match self.journal.append(alloc, &body) {
+        match self.journal.append_body(alloc, cc_journal::Body::new(body)) {
             Ok(()) => {
                 self.units.finish(command);
                 Ok(())

@@ -171,7 +171,8 @@ fn words_at(alloc: Global, count: u32, bytes: &[u8]) -> Result<(Vec<u32>, &[u8])
     ensures given { Gives (λ x. (x.0.items, x.1.now)) result (words_in count bytes.now) }
     ensures counted { IfOk result (λ x. length x.0.items ≡ count) }
 {
-    let mut words = Vec::new(alloc);
+    // The room for all words is taken at once, and for no more than there can be.
+    let mut words = Vec::with_capacity(alloc, (count as usize).min(bytes.len() / 4))?;
     let mut rest = bytes;
     for _ in 0..count {
         let (word, after) = number_at(rest)?;

@@ -34,12 +34,10 @@ fn replay_body(alloc: Global, mut units: UnitMap, body: &Body) -> Result<UnitMap
         Err(ReadFault::NoCommand) => return Err(LibraryFault::Damaged),
         Err(ReadFault::OutOfMemory) => return Err(LibraryFault::OutOfMemory),
     };
-    if units.refusal(&command).is_some() {
-        drop(command);
-        return Err(LibraryFault::Damaged);
+    // The map is asked and changed by one search.
+    match units.accept(command) {
+        Ok(true) => Ok(units),
+        Ok(false) => Err(LibraryFault::Damaged),
+        Err(_) => Err(LibraryFault::OutOfMemory),
     }
-    let applied = units.apply(&command);
-    drop(command);
-    applied?;
-    Ok(units)
 }

@@ -1,5 +1,5 @@
 // The units by name.
-ghost use Rattle.std.specs.Prelude.{◌≡◌, OnOk, OnErr, IfOk, IsOk, IsTrue};
+ghost use Rattle.std.specs.Prelude.{◌≡◌, false, OnOk, OnErr, IfOk, IsOk, IsTrue};
 ghost use Rattle.std.specs.Option.{option_map};
 ghost use Rattle.std.specs.Arc.{arc_value};
 ghost use Rattle.std.specs.Ordering.{nat_cmp};
@@ -168,6 +168,36 @@ impl UnitMap {
     {
         let _ = self.units.insert(name, unit)?;
         Ok(())
+    }
+
+    // Does the command, where the map accepts it, and says whether it does. What a refused one leaves is not said.
+    pub(crate) fn accept(&mut self, command: Command) -> Result<bool, AllocError>
+        ensures done { IfOk result (λ done. IsTrue done → IsOk (apply self.old command) × (self.new ≡ after self.old command)) }
+        ensures refused { IfOk result (λ done. done ≡ false → IsOk (apply self.old command) → ⊥) }
+    {
+        match command {
+            Command::Add(name, unit) => Ok(!self.set(name, unit)?),
+            Command::Replace(name, unit) => self.set(name, unit),
+            Command::Withdraw(name) => Ok(self.take(&name)),
+        }
+    }
+
+    // Sets the unit of a name, and says whether it had one.
+    fn set(&mut self, name: Name, unit: SharedUnit) -> Result<bool, AllocError>
+        ensures set { OnOk result (self.new ≡ map.insert self.old name unit) }
+        ensures had { IfOk result (λ had. had ≡ map.contains_key self.old name) }
+    {
+        let old = self.units.insert(name, unit)?;
+        Ok(old.is_some())
+    }
+
+    // Takes a name out, and says whether it had a unit.
+    fn take(&mut self, name: &Name) -> bool
+        ensures taken { self.new ≡ map.remove self.old name.now }
+        ensures had { result ≡ map.contains_key self.old name.now }
+    {
+        let old = self.units.remove(name);
+        old.is_some()
     }
 
     // Takes a name out, where it is there.

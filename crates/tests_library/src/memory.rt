@@ -14,7 +14,7 @@ fn with_a(alloc: Global) -> Result<Library<FuseDisk<MemoryDisk>>, Fail> {
     }
     opened(
         alloc,
-        FuseDisk::new(library.into_disk(), 6, FuseMode::Before),
+        FuseDisk::new(library.into_disk(), 3, FuseMode::Before),
     )
 }
 

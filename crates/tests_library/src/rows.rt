@@ -7,9 +7,8 @@ use cc_library::{Library, Name};
 use std::alloc::Global;
 use std::test::Fail;
 
-// The device calls of opening a library with one record: a sync, the header, and of the record its gate, its length and
-// its body, then the closed gate.
-const OPENING: u64 = 6;
+// The device calls of opening a library with one record: a sync, the header, the records, which are read ahead.
+const OPENING: u64 = 3;
 
 // Whether these steps on a new library with areas of that many bytes have these numbers, and its disk then holds these units.
 fn are_answered(

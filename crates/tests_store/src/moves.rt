@@ -4,8 +4,8 @@ use cc_disk::{Disk, FuseDisk, FuseMode, MemoryDisk};
 use std::alloc::Global;
 use std::test::Fail;
 
-// The calls of opening a journal with one record: a sync, the header, its gate, its length, its body, the closed gate.
-const OPENING: u64 = 6;
+// The calls of opening a journal with one record: a sync, the header, the records, which are read ahead.
+const OPENING: u64 = 3;
 
 const OLD: [u8; 3] = [1, 2, 3];
 

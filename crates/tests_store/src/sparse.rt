@@ -11,7 +11,7 @@ pub struct SparseDisk {
 }
 
 impl SparseDisk {
-    /// A disk of that size with these bytes at these offsets. A read leaves the buffer as it is where none is kept.
+    /// A disk of that size with these bytes at these offsets. A read gives 0 where none is kept.
     pub fn new(kept: Vec<(usize, u8)>, size: usize) -> SparseDisk {
         SparseDisk { kept, size }
     }
@@ -22,8 +22,9 @@ impl SparseDisk {
     }
 }
 
-// The bytes from that offset on, where they are kept.
+// The bytes from that offset on, 0 where none is kept.
 fn recall(kept: &[(usize, u8)], offset: usize, buffer: &mut [u8]) {
+    buffer.fill(0);
     for (at, byte) in kept {
         let i = at.wrapping_sub(offset);
         if i < buffer.len() {

@@ -1,8 +1,12 @@
 -- What reading a journal finds, step by step.
-use Rattle.std.specs.Prelude.{◌≡◌, ◌≢◌, ℕ, ◌+◌, ◌*◌, ◌%◌, ◌<◌, ◌^◌, Bool, true, false, List, ◌∷◌, ◌++◌, length, Option, Some, None, Result, Ok, Err}
+use Rattle.std.specs.Prelude.{◌≡◌, ◌≢◌, ℕ, ◌+◌, ◌*◌, ◌%◌, ◌<◌, ◌^◌, Bool, true, false, List, ◌∷◌, ◌++◌, length, take, drop, Option, Some, None, Result, Ok, Err}
 use Rattle.cc_journal.specs.declared.fault.JournalFault.{JournalFault}
 use Rattle.cc_journal.specs.declared.fault.JournalFault.TheVariants.{Full, DiskFault, Closed, Damaged, NotALibrary, OutOfMemory}
 use Rattle.cc_journal.specs.Format.{header, records, record_bytes, open_gate}
+
+-- these are bytes of those, from that offset on
+abbrev pub Shows : ℕ → (bytes seen : List ℕ) → Type 0
+Shows offset bytes seen = bytes ≡ take (length bytes) (drop offset seen)
 
 -- a header at the front of these bytes, of an area of that size that begins at that offset
 pub record BeginsWith (bytes : List ℕ) (start area : ℕ) : Type 0 where
@@ -29,6 +33,15 @@ FindsRecord bytes left (Err Full) = ⊥
 FindsRecord bytes left (Err Closed) = ⊥
 FindsRecord bytes left (Err DiskFault) = Unit {0}
 FindsRecord bytes left (Err OutOfMemory) = Unit {0}
+
+-- the faults that reading bytes has: the device failed, or memory ran out
+abbrev pub IsBytesFault : JournalFault → Type 0
+IsBytesFault DiskFault = Unit {0}
+IsBytesFault OutOfMemory = Unit {0}
+IsBytesFault Damaged = ⊥
+IsBytesFault Full = ⊥
+IsBytesFault Closed = ⊥
+IsBytesFault NotALibrary = ⊥
 
 -- the faults that reading records has
 abbrev pub IsReadingFault : JournalFault → Type 0

@@ -1,6 +1,7 @@
-use Rattle.std.proofs.Common.{◌≡◌, ◌+◌, ℕ, List, length, take, drop, sym, ◌∙◌, ap, arith}
-use Rattle.std.proofs.lemmas.Grind.{common_steps}
-use Rattle.std.proofs.lemmas.List.{drop-drop}
+use Rattle.std.proofs.Common.{◌≡◌, ◌+◌, ◌≤◌, ℕ, List, [], ◌∷◌, get_or, length, take, drop, sym, ◌∙◌, ap, arith}
+use Rattle.std.proofs.lemmas.Result.{err_from_is_err_and}
+use Rattle.std.proofs.lemmas.List.{drop-drop, get_or-take, length-take-le}
+use Rattle.cc_journal.proofs.Ahead.{finds_none, gate_shown, length_shown}
 use Rattle.cc_journal.proofs.Bytes.{gate_read, record_read, length_read}
 use Rattle.cc_journal.proofs.reading.read_record.Goals as goal
 
@@ -8,27 +9,38 @@ pub returns-clause-finds : goal.returns-clause-finds
 returns-clause-finds g c = λ h.
     let S = g.D.Disk.seen c.args.disk.now in
     let bytes = drop c.args.offset S in
+    let front = c.from-front.result.now in
+    let shown = c.from-front.ensures.shows S (c.in_ok-look.ensures.shown h) in
+    let some : 5 ≤ length front = omega (arith, c.from-front.ensures.all c.in_ok-look.ensures.begins, c.in_ok-look.ensures.enough) in
     let n = c.length_of-length.result in
-    let body-is : c.new.result ≡ c.read_at-3.new.buffer = grind (arith, common_steps) in
-    let long : length c.read_at-3.new.buffer ≡ n = grind (arith, common_steps) in
-    let seen-1 = c.read_at.ensures.seen h in
-    let seen-2 = c.read_at-2.ensures.seen h ∙ seen-1 in
-    let four : c.read_at-2.new.buffer ≡ take 4 (drop 1 bytes) =
-    c.in_ok-read_at-2.ensures.read h ∙ ap (λ (l : List ℕ). take 4 (drop (c.args.offset + 1) l)) seen-1 ∙ ap (λ (l : List ℕ). take 4 l) (sym (drop-drop 1 c.args.offset S)) in
-    let size : length c.deref_mut.result.now ≡ n = grind (arith, common_steps) in
+    let four = get_or front 1 0 ∷ get_or front 2 0 ∷ get_or front 3 0 ∷ get_or front 4 0 ∷ [] in
     let rest : c.new.result ≡ take n (drop 5 bytes) =
-    body-is ∙ c.in_ok-read_at-3.ensures.read h ∙ ap (λ (k : ℕ). take k (drop (c.args.offset + 5) (g.D.Disk.seen c.read_at-2.new.self))) size
-    ∙ ap (λ (l : List ℕ). take n (drop (c.args.offset + 5) l)) seen-2 ∙ ap (λ (l : List ℕ). take n l) (sym (drop-drop 5 c.args.offset S)) in
-    (_, record_read bytes c.read_at.new.buffer c.read_at-2.new.buffer c.new.result n (c.in_ok-read_at.ensures.read h) (omega arith) c.if-gate.false four c.length_of-length.ensures.bytes rest (ap length body-is ∙ long))
+    c.new.ensures ∙ c.in_ok-bytes.ensures.read h ∙ ap (λ (l : List ℕ). take n (drop (c.args.offset + 5) l)) (c.look.ensures.reads h).same ∙ ap (λ (l : List ℕ). take n l) (sym (drop-drop 5 c.args.offset S)) in (
+      _,
+      record_read bytes (take 1 front) four c.new.result n (gate_shown front bytes shown (omega arith)) (length-take-le 1 front (omega arith)) (get_or-take 1 front 0 0 (omega arith) ∙ c.if-front.false)
+          (length_shown front bytes shown some) c.length_of-length.ensures.bytes rest (ap length c.new.ensures ∙ c.in_ok-bytes.ensures.count),
+    )
 
 pub returns-then-left-length-clause-finds : goal.returns-then-left-length-clause-finds
 returns-then-left-length-clause-finds g c = λ h.
     let S = g.D.Disk.seen c.args.disk.now in
     let bytes = drop c.args.offset S in
-    let four : c.read_at-2.new.buffer ≡ take 4 (drop 1 bytes) =
-    c.in_ok-read_at-2.ensures.read h ∙ ap (λ (l : List ℕ). take 4 (drop (c.args.offset + 1) l)) (c.read_at.ensures.seen h) ∙ ap (λ (l : List ℕ). take 4 l) (sym (drop-drop 1 c.args.offset S)) in (
-      (_, gate_read bytes c.read_at.new.buffer (c.in_ok-read_at.ensures.read h) (omega arith) c.if-gate.false),
+    let front = c.from-front.result.now in
+    let shown = c.from-front.ensures.shows S (c.in_ok-look.ensures.shown h) in
+    let some : 5 ≤ length front = omega (arith, c.from-front.ensures.all c.in_ok-look.ensures.begins, c.in_ok-look.ensures.enough) in
+    let four = get_or front 1 0 ∷ get_or front 2 0 ∷ get_or front 3 0 ∷ get_or front 4 0 ∷ [] in (
+      (_, gate_read bytes (take 1 front) (gate_shown front bytes shown (omega arith)) (length-take-le 1 front (omega arith)) (get_or-take 1 front 0 0 (omega arith) ∙ c.if-front.false)),
       λ body rest is small.
-          let same = length_read bytes c.read_at-2.new.buffer body rest c.length_of-length.result four c.length_of-length.ensures.value is small in
+          let same = length_read bytes four body rest c.length_of-length.result (length_shown front bytes shown some) c.length_of-length.ensures.value is small in
           omega (arith, same, c.if-left-length.true),
     )
+
+pub returns-in_err-look-clause-finds : goal.returns-in_err-look-clause-finds
+returns-in_err-look-clause-finds g c = λ h.
+    let p = err_from_is_err_and c.from_residual.result c.from_residual.ensures.1 in
+    rw (p.1, p.2) (finds_none (drop c.args.offset (g.D.Disk.seen c.args.disk.now)) c.args.left c.in_err-look.field-0.0 c.in_err-look.ensures.others)
+
+pub returns-in_err-bytes-clause-finds : goal.returns-in_err-bytes-clause-finds
+returns-in_err-bytes-clause-finds g c = λ h.
+    let p = err_from_is_err_and c.from_residual-in_err-bytes.result c.from_residual-in_err-bytes.ensures.1 in
+    rw (p.1, p.2) (finds_none (drop c.args.offset (g.D.Disk.seen c.args.disk.now)) c.args.left c.in_err-bytes.field-0.0 c.in_err-bytes.ensures.others)

@@ -7,7 +7,7 @@ use Rattle.cc_library.proofs.reading.words_at.Goals as goal
 
 pub returns-in_err-word-clause-given : goal.returns-in_err-word-clause-given
 returns-in_err-word-clause-given c =
-    let p = err_from_is_err_and c.from_residual.result c.from_residual.ensures.1 in
+    let p = err_from_is_err_and c.from_residual-in_err-word.result c.from_residual-in_err-word.ensures.1 in
     rw (p.1, p.2) (ends c.in_err-word.field-0.0 c.loop.words.items c.args.count c.loop.counter c.loop.rest.now (words_in c.args.count c.args.bytes.now) c.loop-test.true c.in_err-word.ensures c.loop.invariant.read)
 
 pub loop-preserved : goal.loop-preserved

@@ -1,10 +1,9 @@
-use Rattle.std.proofs.Common.{◌≡◌, ◌+◌, ◌<◌, ◌≤◌, ℕ, [], ◌∷◌, ◌++◌, false, IsTrue, refl, subst, arith}
+use Rattle.std.proofs.Common.{◌≡◌, ◌<◌, ◌≤◌, [], ◌∷◌, ◌++◌, false, IsTrue, refl, subst, arith}
 use Rattle.std.proofs.lemmas.Result.{err_from_is_err_and}
-use Rattle.std.proofs.lemmas.Grind.{common_steps}
-use Rattle.cc_disk.specs.Images.{IsWritten, LeavesOnly}
-use Rattle.cc_journal.specs.Format.{HoldsOldOrNew, record_bytes, room_of}
+use Rattle.cc_disk.specs.Images.{LeavesOnly}
+use Rattle.cc_journal.specs.Format.{HoldsOldOrNew, room_of}
 use Rattle.cc_journal.specs.Journal.{View}
-use Rattle.cc_journal.proofs.Kept.{kept_alone, room_push, still, in_commit, appended_bytes, kept_more}
+use Rattle.cc_journal.proofs.Kept.{room_push, still}
 use Rattle.cc_journal.proofs.journal.Journal.append.Goals as goal
 
 -- without a device call
@@ -31,72 +30,11 @@ returns-in_err-kept-clause-answers g c =
     let room = room_push i.bodies.items body i.used c.self.invariant.taken in
     let p = err_from_is_err_and c.from_residual.result c.from_residual.ensures.1 in
     rw (p.1, p.2)
-    (subst (λ (v : View g.row.D.Denot). (v.closed ≡ false) × (room_of (v.bodies ++ body ∷ []) ≤ v.area) × (g.D.Disk.failures i.disk ≡ g.D.Disk.failures v.disk)) c.self.view_is (c.if-self.false, omega (arith, room), refl))
+    (subst (λ (v : View g.row.D.Denot). (v.closed ≡ false) × (room_of (v.bodies ++ body ∷ []) ≤ v.area) × (g.D.Disk.failures v.disk ≡ g.D.Disk.failures v.disk)) c.self.view_is (c.if-self.false, omega (arith, room), refl))
 
 pub returns-in_err-kept-clause-moments : goal.returns-in_err-kept-clause-moments
 returns-in_err-kept-clause-moments g c =
     let D = g.D.Disk in
     let i = c.self.inside in
-    subst (λ (v : View g.row.D.Denot). IsTrue D.honest → v.closed ≡ false → LeavesOnly D.moment D.left_since v.disk i.disk (HoldsOldOrNew v.area v.bodies c.args.body.now)) c.self.view_is
+    subst (λ (v : View g.row.D.Denot). IsTrue D.honest → v.closed ≡ false → LeavesOnly D.moment D.left_since v.disk v.disk (HoldsOldOrNew v.area v.bodies c.args.body.now)) c.self.view_is
     (λ h not_closed. still D.honest D.size D.seen D.may_leave D.moment D.left_since i.disk i.start i.area i.used i.bodies.items i.closed c.self.invariant c.args.body.now (λ image left. g.met.D.Disk.only_now i.disk image h left) h not_closed)
-
--- the device failed
-
-pub returns-in-Err-clause-answers : goal.returns-in-Err-clause-answers
-returns-in-Err-clause-answers g c =
-    let i = c.self.inside in
-    let body = c.args.body.now in
-    let room = room_push i.bodies.items body i.used c.self.invariant.taken in
-    subst (λ (v : View g.row.D.Denot). (v.closed ≡ false) × (room_of (v.bodies ++ body ∷ []) ≤ v.area) × (g.D.Disk.failures c.make.new.disk ≡ g.D.Disk.failures v.disk + 1)) c.self.view_is
-    (c.if-self.false, omega (arith, room), c.in-Err.ensures.failures)
-
-pub returns-in-Err-clause-moments : goal.returns-in-Err-clause-moments
-returns-in-Err-clause-moments g c =
-    let D = g.D.Disk in
-    let i = c.self.inside in
-    subst (λ (v : View g.row.D.Denot). IsTrue D.honest → v.closed ≡ false → LeavesOnly D.moment D.left_since v.disk c.make.new.disk (HoldsOldOrNew v.area v.bodies c.args.body.now)) c.self.view_is
-    (λ h not_closed. in_commit D.honest D.size D.seen D.may_leave D.moment D.left_since i.disk i.start i.area i.used i.bodies.items i.closed c.self.invariant c.args.body.now c.make.new.disk c.in_ok-kept.commit c.in_ok-kept.ensures.commit (omega arith) h not_closed (c.in-Err.ensures.moments h))
-
--- the record was added
-
-pub returns-in-Ok-clause-answers : goal.returns-in-Ok-clause-answers
-returns-in-Ok-clause-answers g c =
-    let i = c.self.inside in
-    let body = c.args.body.now in
-    let room = room_push i.bodies.items body i.used c.self.invariant.taken in
-    subst (λ (v : View g.row.D.Denot). (v.closed ≡ false) × (room_of (v.bodies ++ body ∷ []) ≤ v.area) × (g.D.Disk.failures c.make.new.disk ≡ g.D.Disk.failures v.disk)) c.self.view_is
-    (c.if-self.false, omega (arith, room), c.in-Ok.ensures.failures)
-
-pub returns-in-Ok-clause-moments : goal.returns-in-Ok-clause-moments
-returns-in-Ok-clause-moments g c =
-    let D = g.D.Disk in
-    let i = c.self.inside in
-    subst (λ (v : View g.row.D.Denot). IsTrue D.honest → v.closed ≡ false → LeavesOnly D.moment D.left_since v.disk c.make.new.disk (HoldsOldOrNew v.area v.bodies c.args.body.now)) c.self.view_is
-    (λ h not_closed. in_commit D.honest D.size D.seen D.may_leave D.moment D.left_since i.disk i.start i.area i.used i.bodies.items i.closed c.self.invariant c.args.body.now c.make.new.disk c.in_ok-kept.commit c.in_ok-kept.ensures.commit (omega arith) h not_closed (c.in-Ok.ensures.moments h))
-
-pub invariant_of-self-in-Ok-1 : goal.invariant_of-self-in-Ok-1
-invariant_of-self-in-Ok-1 g c =
-    let D = g.D.Disk in
-    let i = c.self.inside in
-    let pushed : c.push.new.self.items ≡ i.bodies.items ++ c.args.body.now ∷ [] = grind (arith, common_steps) in
-    kept_more D.honest D.size D.seen D.may_leave D.moment D.left_since i.disk i.start i.area i.used i.bodies.items i.closed c.self.invariant c.args.body.now c.make.new.disk c.in_ok-kept.commit c.push.new.self.items c.in_ok-kept.ensures.commit pushed (omega arith) c.make.ensures.size c.if-self.false c.in-Ok.ensures.committed c.in-Ok.ensures.alone
-
-pub returns-in-Ok-clause-kept : goal.returns-in-Ok-clause-kept
-returns-in-Ok-clause-kept g c =
-    let D = g.D.Disk in
-    let i = c.self.inside in
-    let pushed : c.push.new.self.items ≡ i.bodies.items ++ c.args.body.now ∷ [] = grind (arith, common_steps) in
-    let kept = kept_more D.honest D.size D.seen D.may_leave D.moment D.left_since i.disk i.start i.area i.used i.bodies.items i.closed c.self.invariant c.args.body.now c.make.new.disk c.in_ok-kept.commit c.push.new.self.items c.in_ok-kept.ensures.commit pushed (omega arith) c.make.ensures.size c.if-self.false c.in-Ok.ensures.committed c.in-Ok.ensures.alone in
-    λ h image now. kept_alone _ _ _ (D.may_leave c.make.new.disk) _ _ _ _ _ kept h c.if-self.false image now
-
-pub returns-in-Ok-clause-bytes : goal.returns-in-Ok-clause-bytes
-returns-in-Ok-clause-bytes g c =
-    let D = g.D.Disk in
-    let i = c.self.inside in
-    let body = c.args.body.now in
-    subst (λ (v : View g.row.D.Denot). IsTrue D.honest → (offset : ℕ) × IsWritten (D.seen v.disk) offset (record_bytes body ++ 0 ∷ []) (D.seen c.make.new.disk)) c.self.view_is
-    (λ h. (
-      i.start + i.used,
-      appended_bytes D.honest D.size D.seen D.may_leave D.moment D.left_since i.disk i.start i.area i.used i.bodies.items i.closed c.self.invariant body
-          c.make.new.disk c.in_ok-kept.commit c.in_ok-kept.ensures.commit (omega arith) h c.if-self.false (c.in-Ok.ensures.committed h),
-    ))

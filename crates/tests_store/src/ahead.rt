@@ -1,0 +1,60 @@
+// Records that reading ahead cuts in two: what is read at once ends within a gate's record, at each of its first bytes, and
+// within a body.
+use crate::helpers::{holds, opened};
+use cc_disk::MemoryDisk;
+use cc_journal::format;
+use std::alloc::Global;
+use std::test::Fail;
+
+// How many bytes are read ahead, from an area's begin on where it is opened.
+const AHEAD: usize = 65_536;
+
+// So many bytes that tell their place.
+fn counted(alloc: Global, length: usize) -> Result<Vec<u8>, Fail> {
+    let mut bytes = Vec::with_capacity(alloc, length)?;
+    for i in 0..length {
+        bytes.push((i % 251) as u8)?;
+    }
+    Ok(bytes)
+}
+
+// Whether records with bodies of these lengths are found again, in that order.
+fn are_found(alloc: Global, lengths: &[usize]) -> Result<bool, Fail> {
+    let longest = counted(alloc, 200_000)?;
+    let mut disk = MemoryDisk::new(alloc, 16 + 2 * 300_000)?;
+    format(&mut disk, 300_000)?;
+    let mut journal = opened(alloc, disk)?;
+    let mut bodies: Vec<&[u8]> = Vec::new(alloc);
+    for length in lengths {
+        let Some(body) = longest.get(..*length) else {
+            return Ok(false);
+        };
+        journal.append(alloc, body)?;
+        bodies.push(body)?;
+    }
+    Ok(holds(alloc, journal.into_disk(), &bodies))
+}
+
+#[test]
+fn a_record_behind_what_was_read_ahead(rt: HostRuntime) -> Result<(), Fail> {
+    // The second record begins so many bytes before the end of what is read ahead, or behind it.
+    for before in 0..9usize {
+        let first = AHEAD - 5 - before;
+        assert!(rt;
+            are_found(rt.alloc(), &[first, 300, 0, 7])?,
+            "{before} bytes before"
+        );
+        assert!(rt;
+            are_found(rt.alloc(), &[first + 9, 0, 300])?,
+            "{before} bytes less"
+        );
+    }
+    Ok(())
+}
+
+#[test]
+fn bodies_longer_than_what_is_read_ahead(rt: HostRuntime) -> Result<(), Fail> {
+    assert!(rt; are_found(rt.alloc(), &[3, AHEAD, 1, 3 * AHEAD, 2])?);
+    assert!(rt; are_found(rt.alloc(), &[AHEAD - 6, 1, AHEAD - 5, 2 * AHEAD])?);
+    Ok(())
+}
