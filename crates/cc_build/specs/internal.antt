@@ -1,0 +1,2 @@
+-- the compiler's faults as the core's refusals
+pub mod Refusals
