@@ -14,4 +14,4 @@ module _ (law : LinkedUnitsAgree) where
 
   pub kept_run : (old new : Contents Piece) (events : List (Event Piece)) → Run compiling IsCompiled old events new → Run compiling Keeps old events new
   kept_run old new [] h = h
-  kept_run old new (event ∷ later) h = (h.0, kept_turn old h.0 event h.1, kept_run h.0 new later h.2)
+  kept_run old new (event ∷ later) h = (h.0, (kept_turn old h.0 event h.1.0, kept_run h.0 new later h.1.1))

@@ -1,5 +1,5 @@
 use Rattle.cc_build.proofs.Runs.{kept_run}
-use Rattle.cc_build.proofs.headline.headline.Goals as goal
+use Rattle.cc_build.proofs.recovered.headline.Goals as goal
 
 pub returns-clause-survives : goal.returns-clause-survives
 returns-clause-survives c = λ first new events start run. c.crash_law.ensures.survives first new events start (kept_run c.linked_units_agree.ensures first new events run)
