@@ -1,15 +1,19 @@
 // The command line.
 
-ghost use Rattle.std.specs.Prelude.{◌≤◌, IfOk};
+ghost use Rattle.std.specs.Prelude.{◌≤◌, IfOk, IfSome};
 ghost use Rattle.cc_command_line.specs.Task.{IsWithinLimits};
 
 use clap::error::ErrorKind;
-use clap::{Arg, ArgMatches, Command, Error, value_parser};
+use clap::{Arg, ArgMatches, Command, Error};
 use std::alloc::{AllocError, Global};
 use std::convert::AsStr;
 
-/// The largest number of steps that the command line takes.
+/// The largest number of steps or instructions that the command line takes.
 pub const MOST_STEPS: u64 = 1_000_000_000;
+
+const STEPS_RULE: &str = "STEPS is a decimal number from 0 to 1000000000";
+const WORD_RULE: &str = "WORD is a decimal number from 0 to 4294967295; a negative number is written as its value modulo 4294967296, \
+    as 4294967295 for -1";
 
 /// What the program is asked to do with the text on standard input.
 #[derive(Drop)]
@@ -18,36 +22,68 @@ pub enum Task {
     Check,
     /// Run the program for at most so many steps on these input words.
     Interpret(u64, Vec<u32>),
+    /// Compile the program and run its image for at most so many instructions on these input words.
+    Run(u64, Vec<u32>),
+    /// Compile the program and list its image.
+    Asm,
 }
 
-fn interpret_command<'a>(alloc: Global) -> Result<Command<'a>, AllocError> {
+// What is said of a command that runs a program: its name, what it does, its bound, and an example.
+struct Runner {
+    name: &'static str,
+    whole: &'static str,
+    about: &'static str,
+    steps: &'static str,
+    example: &'static str,
+}
+
+const INTERPRET: Runner = Runner {
+    name: "interpret",
+    whole: "cclib interpret",
+    about: "Print the words that the program writes, and how it ends, by the definition of C",
+    steps: "The most steps that a run may take: 0 to 1000000000",
+    example: "The program comes on standard input: cclib interpret 1000 < examples/quotient.c",
+};
+
+const RUN: Runner = Runner {
+    name: "run",
+    whole: "cclib run",
+    about: "Compile the program and run its image: print the words that it writes, and how it ends",
+    steps: "The most instructions that a run may take: 0 to 1000000000",
+    example: "The program comes on standard input: cclib run 1000 < examples/quotient.c",
+};
+
+// A command that runs a program. Its numbers are read below and not by clap, which takes a sign.
+fn runner_command<'a>(alloc: Global, runner: &Runner) -> Result<Command<'a>, AllocError> {
     let steps = Arg::new(alloc, "STEPS")
         .required(true)
-        .help("The most steps that a run may take: 0 to 1000000000")
-        .value_parser(value_parser!(u64).range(0..1_000_000_001));
-    let interpret = Command::new(alloc, "interpret")
-        .about("Print the words that the program writes, and how it ends")
+        .allow_negative_numbers(true)
+        .help(runner.steps);
+    let begun = Command::new(alloc, runner.name)
+        .about(runner.about)
+        .after_help(runner.example)
         .arg(steps)?;
     let words = Arg::new(alloc, "WORD")
         .num_args(0..)
-        .help("The input words: 0 to 4294967295 each")
-        .value_parser(value_parser!(u32));
-    interpret.arg(words)
+        .allow_negative_numbers(true)
+        .help("The input words: 0 to 4294967295 each");
+    begun.arg(words)
 }
 
-// The command with `check` alone.
-fn check_command<'a>(alloc: Global) -> Result<Command<'a>, AllocError> {
-    let check = Command::new(alloc, "check").about("Say `ok`, or the first fault of the program");
-    Command::new(alloc, "cclib")
-        .about("Reads a C program from standard input")
-        .subcommand_required(true)
-        .subcommand(check)
+// A command without words of its own.
+fn plain_command<'a>(alloc: Global, name: &'static str, about: &'static str) -> Command<'a> {
+    Command::new(alloc, name)
+        .about(about)
+        .after_help("The program comes on standard input.")
 }
 
-fn command<'a>(alloc: Global) -> Result<Command<'a>, AllocError> {
-    let whole = check_command(alloc)?;
-    match interpret_command(alloc) {
-        Ok(interpret) => whole.subcommand(interpret),
+// The command with one more part.
+fn with_part<'a>(
+    whole: Command<'a>,
+    part: Result<Command<'a>, AllocError>,
+) -> Result<Command<'a>, AllocError> {
+    match part {
+        Ok(part) => whole.subcommand(part),
         Err(error) => {
             drop(whole);
             Err(error)
@@ -55,22 +91,52 @@ fn command<'a>(alloc: Global) -> Result<Command<'a>, AllocError> {
     }
 }
 
-// The error of clap for a word that breaks this rule.
-fn refused(alloc: Global, rule: &'static str) -> Result<Error, AllocError> {
-    let mut whole = command(alloc)?;
-    whole.error(ErrorKind::ValueValidation, rule)
+fn command<'a>(alloc: Global) -> Result<Command<'a>, AllocError> {
+    let check = "Say `ok`, or the first fault of the program";
+    let whole = Command::new(alloc, "cclib")
+        .version("0.1.0")
+        .about("Reads a C program from standard input: checks, interprets, compiles and runs it")
+        .subcommand_required(true)
+        .subcommand(plain_command(alloc, "check", check))?;
+    let whole = with_part(whole, runner_command(alloc, &INTERPRET))?;
+    let whole = with_part(whole, runner_command(alloc, &RUN))?;
+    whole.subcommand(plain_command(alloc, "asm", "Compile the program and list its image"))
 }
 
-fn steps_of(alloc: Global, given: &ArgMatches<'_>) -> Result<u64, Error>
+// The error of clap for a word of that command that breaks this rule.
+fn refused(alloc: Global, runner: &Runner, rule: &'static str) -> Result<Error, AllocError> {
+    let mut part = runner_command(alloc, runner)?.bin_name(runner.whole)?;
+    part.error(ErrorKind::ValueValidation, rule)
+}
+
+/// The error of clap for a command line of which a word is not UTF-8. Its status is 2.
+pub fn refused_bytes(alloc: Global) -> Result<Error, AllocError> {
+    let mut whole = command(alloc)?;
+    whole.error(ErrorKind::ValueValidation, "a word of the command line is not UTF-8")
+}
+
+// The number of steps that a text of digits stands for.
+fn steps_in(text: &str) -> Option<u64>
+    ensures { IfSome result (λ steps. steps ≤ MOST_STEPS) }
+{
+    if !text.bytes().all(|b| b.is_ascii_digit()) {
+        return None;
+    }
+    match text.parse::<u64>() {
+        Ok(steps) if steps <= MOST_STEPS => Some(steps),
+        _ => None,
+    }
+}
+
+fn steps_of(alloc: Global, runner: &Runner, given: &ArgMatches<'_>) -> Result<u64, Error>
     ensures { IfOk result (λ steps. steps ≤ MOST_STEPS) }
 {
-    let is_decimal = match given.get_str("STEPS") {
-        Some(text) => text.bytes().all(|b| b.is_ascii_digit()),
-        None => false,
+    let Some(text) = given.get_str("STEPS") else {
+        return Err(refused(alloc, runner, STEPS_RULE)?);
     };
-    match given.get_one::<u64>("STEPS") {
-        Some(steps) if is_decimal && steps <= MOST_STEPS => Ok(steps),
-        _ => Err(refused(alloc, "STEPS is a decimal number from 0 to 1000000000")?),
+    match steps_in(text) {
+        Some(steps) => Ok(steps),
+        None => Err(refused(alloc, runner, STEPS_RULE)?),
     }
 }
 
@@ -94,13 +160,13 @@ fn words_in(alloc: Global, texts: &[&str]) -> Result<Option<Vec<u32>>, AllocErro
     Ok(Some(words))
 }
 
-fn words_of(alloc: Global, given: &ArgMatches<'_>) -> Result<Vec<u32>, Error> {
+fn words_of(alloc: Global, runner: &Runner, given: &ArgMatches<'_>) -> Result<Vec<u32>, Error> {
     let Some(texts) = given.get_strs("WORD") else {
         return Ok(Vec::new(alloc));
     };
     match words_in(alloc, texts)? {
         Some(words) => Ok(words),
-        None => Err(refused(alloc, "WORD is a decimal number from 0 to 4294967295")?),
+        None => Err(refused(alloc, runner, WORD_RULE)?),
     }
 }
 
@@ -109,9 +175,14 @@ fn task_of(alloc: Global, matches: &ArgMatches<'_>) -> Result<Task, Error>
 {
     match matches.subcommand() {
         Some(("interpret", given)) => {
-            let steps = steps_of(alloc, given)?;
-            Ok(Task::Interpret(steps, words_of(alloc, given)?))
+            let steps = steps_of(alloc, &INTERPRET, given)?;
+            Ok(Task::Interpret(steps, words_of(alloc, &INTERPRET, given)?))
         }
+        Some(("run", given)) => {
+            let steps = steps_of(alloc, &RUN, given)?;
+            Ok(Task::Run(steps, words_of(alloc, &RUN, given)?))
+        }
+        Some(("asm", _)) => Ok(Task::Asm),
         _ => Ok(Task::Check),
     }
 }

@@ -6,4 +6,4 @@
 
 mod command_line;
 
-pub use command_line::{MOST_STEPS, Task, line};
+pub use command_line::{MOST_STEPS, Task, line, refused_bytes};

@@ -15,11 +15,14 @@ use Rattle.cc_linear.specs.declared.item.Item.{Item}
 use Rattle.cc_linear.specs.declared.item.Item.TheVariants as item
 use Rattle.cc_linear.specs.declared.item.Item.TheVariants.{Label, Jump, IfNonzero, IfZero}
 use Rattle.cc_linear.specs.Linear.{labels, IsItem}
-use Rattle.cc_linear.specs.Pair.{IsPair}
+use Rattle.cc_linear.specs.Targets.{targets}
+use Rattle.cc_linear.specs.Pair.{Pair, tree_of, IsPair}
 use Rattle.cc_linear.specs.internal.Lays.{moves_then, operation_then, next}
 use Rattle.cc_linear.specs.internal.Layout.{is_next, leads, is_empty, tail_of, branch_then, block_then, laid_at, laid, linear_code, HasSuccessors, IsOrder, AreEnds, NoneBehind, BranchesAreLast}
 use Rattle.cc_linear.proofs.Laid.{linear_tracks}
+use Rattle.cc_linear.specs.internal.Idle.{kept}
 use Rattle.cc_linear.proofs.Ordering.{laid_out}
+use Rattle.cc_linear.proofs.WithoutLabels.{below_itself, labels_kept, distinct_only, only_has, still_fit, kept_tracks}
 use Rattle.cc_runs.proofs.Simulating.{coarser}
 
 -- ---- the labels of the list are those of the order
@@ -193,4 +196,23 @@ pair_of p end far most order is ends ordered =
         fit = code_fits (above.tree_of p) p.ltl end order (labels code) is.ltl is.calls ordered (λ l c. subst (λ ls. Contains ls l) (sym names) c);
       };
       keeps_up = (coarser is.keeps_up.0 most, λ meaning m. linear_tracks meaning p.function is.keeps_up.0 p.ltl code end far most (laid_out p.ltl end far most order ends ordered last) (is.keeps_up.1 meaning m));
+    }
+
+-- ---- without the labels that nothing leads to
+
+-- a pair stays one
+pub kept_pair : (p : Pair) → IsPair p → IsPair (record { unit = p.unit; function = p.function; slots = p.slots; code = kept (targets p.code) p.code })
+kept_pair p is =
+    let led = targets p.code in
+    let below = below_itself p.code in
+    let names = labels_kept led p.code in
+    record {
+      typed = is.typed;
+      function = is.function;
+      linear = record {
+        few = is.linear.few;
+        distinct = subst (λ ls. AllPairs (λ (a b : ℕ). a ≢ b) ls) (sym names) (distinct_only led (labels p.code) is.linear.distinct);
+        fit = still_fit p.slots (length (functions (tree_of p))) led (labels p.code) (labels (kept led p.code)) (λ l h c. subst (λ ls. Contains ls l) (sym names) (only_has led (labels p.code) l h c)) p.code below is.linear.fit;
+      };
+      keeps_up = (coarser is.keeps_up.0 0, λ meaning m. kept_tracks meaning p.function is.keeps_up.0 p.slots p.code led below (is.keeps_up.1 meaning m));
     }

@@ -1,6 +1,6 @@
 // A text with the tree that its tokens spell.
 
-ghost use Rattle.std.specs.Prelude.{◌≡◌};
+ghost use Rattle.std.specs.Prelude.{◌≡◌, ◌≤◌, length};
 ghost use Rattle.cc_syntax.specs.Erase.{external_trees};
 ghost use Rattle.cc_syntax.specs.Parse.{SpellsText};
 
@@ -12,6 +12,7 @@ pub struct Unit {
     text: Vec<u8>,
     externals: Vec<External>,
     ghost spelled: { ∥ SpellsText text.items (external_trees externals.items) ∥₁ },
+    ghost fits: { length text.items ≤ 65536 },
 }
 
 impl Unit {
@@ -19,16 +20,18 @@ impl Unit {
 
     /// A text and a tree that it spells.
     pub(crate) fn new(text: Vec<u8>, externals: Vec<External>) -> Self
-        requires { SpellsText text.items (external_trees externals.items) }
+        requires spelled { SpellsText text.items (external_trees externals.items) }
+        requires fits { length text.items ≤ 65536 }
         ensures text { (source result).text ≡ text.items }
         ensures externals { (source result).externals ≡ external_trees externals.items }
     {
         Unit { text, externals }
     }
 
-    /// The text, byte for byte.
+    /// The text, byte for byte: 65,536 at most.
     pub fn text(&self) -> &[u8]
-        ensures { result.now ≡ (source self.now).text }
+        ensures answer { result.now ≡ (source self.now).text }
+        ensures few { length result.now ≤ 65536 }
     {
         self.text.as_slice()
     }

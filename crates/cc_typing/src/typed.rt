@@ -71,9 +71,10 @@ impl TypedUnit {
         TypedUnit { unit }
     }
 
-    /// The text, byte for byte.
+    /// The text, byte for byte: 65,536 at most.
     pub fn text(&self) -> &[u8]
-        ensures { result.now ≡ (source self.now).text }
+        ensures answer { result.now ≡ (source self.now).text }
+        ensures few { length result.now ≤ 65536 }
     {
         self.unit.text()
     }

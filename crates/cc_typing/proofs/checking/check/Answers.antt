@@ -16,7 +16,7 @@ returns-in-Some-clause-refused c =
     let s = source c.args.unit in
     let o = c.in-Some.offence in
     let first : noted None (all_offences s.externals) ≡ Some o = sym (c.in_ok-found.ensures.first ∙ ap (λ es. noted None (all_offences es)) c.externals.ensures.tree) ∙ c.in-Some.is in
-    inr (refused-first s o _ first (c.fault.ensures ∙ ap (fault_of o.rule) (c.place_in-place.ensures ∙ ap (λ text. place_of text o.at) c.text.ensures)))
+    inr (refused-first s o _ first (c.fault.ensures ∙ ap (fault_of o.rule) (c.place_in-place.ensures ∙ ap (λ text. place_of text o.at) c.text.ensures.answer)))
 
 pub returns-then-not-defines_main-clause-refused :
     goal.returns-then-not-defines_main-clause-refused
@@ -24,7 +24,7 @@ returns-then-not-defines_main-clause-refused c =
     let s = source c.args.unit in
     let none : noted None (all_offences s.externals) ≡ None = sym (c.in_ok-found.ensures.first ∙ ap (λ es. noted None (all_offences es)) c.externals.ensures.tree) ∙ c.in_default.is in
     let main : defines_main s.externals ≡ false = sym (c.defines_main.ensures ∙ ap defines_main c.externals-2.ensures.tree) ∙ c.if-not-defines_main.true in
-    inr (refused-main s _ none main (ap NoMain (c.place_at.ensures ∙ ap (λ text. place_of text (length text)) c.text-text.ensures)))
+    inr (refused-main s _ none main (ap NoMain (c.place_at.ensures ∙ ap (λ text. place_of text (length text)) c.text-text.ensures.answer)))
 
 pub returns-in-Some-undefined-clause-refused : goal.returns-in-Some-undefined-clause-refused
 returns-in-Some-undefined-clause-refused c =
@@ -33,7 +33,7 @@ returns-in-Some-undefined-clause-refused c =
     let none : noted None (all_offences s.externals) ≡ None = sym (c.in_ok-found.ensures.first ∙ ap (λ es. noted None (all_offences es)) c.externals.ensures.tree) ∙ c.in_default.is in
     let main : defines_main s.externals ≡ true = sym (c.defines_main.ensures ∙ ap defines_main c.externals-2.ensures.tree) ∙ c.if-not-defines_main.false in
     let called : noted None (undefined_calls s.externals) ≡ Some o = sym (c.in_ok-found.ensures.undefined ∙ ap (λ es. noted None (undefined_calls es)) c.externals.ensures.tree) ∙ c.in-Some-undefined.is in
-    inr (refused-call s o _ none main called (c.fault-in-Some-undefined.ensures ∙ ap (fault_of o.rule) (c.place_in-place-in-Some-undefined.ensures ∙ ap (λ text. place_of text o.at) c.text-in-Some-undefined.ensures)))
+    inr (refused-call s o _ none main called (c.fault-in-Some-undefined.ensures ∙ ap (fault_of o.rule) (c.place_in-place-in-Some-undefined.ensures ∙ ap (λ text. place_of text o.at) c.text-in-Some-undefined.ensures.answer)))
 
 pub new-requires : goal.new-requires
 new-requires c =

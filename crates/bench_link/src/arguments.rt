@@ -1,0 +1,20 @@
+//! The command line's words.
+
+use anyhow::{Context, Result};
+use std::env::Args;
+
+/// The next argument, or an error where there is none.
+pub fn next_argument(arguments: &mut Args) -> Result<String> {
+    arguments
+        .next()
+        .context("usage: bench_link compile FILE TIMES, or bench_link count FILE")
+}
+
+/// The next argument as a number.
+pub fn next_number(arguments: &mut Args) -> Result<u32> {
+    let number: u32 = next_argument(arguments)?
+        .as_str()
+        .parse()
+        .context("TIMES is no number")?;
+    Ok(number)
+}

@@ -1,0 +1,463 @@
+-- What the items that stand for one item of Linear do.
+use Rattle.std.proofs.Common.{◌≡◌, ℕ, suc, ◌+◌, ◌-◌, ◌*◌, ◌%◌, ◌^◌, ◌<◌, ◌≤◌, ◌⊎◌, List, [], ◌∷◌, ◌++◌, Option, Some, None, true, false, Bool, length, refl, sym, ap, ap₂, ◌∙◌, subst, inl, inr, arith}
+use Rattle.std.specs.Prelude.{◌==◌, if◌then◌else◌, not, option_map}
+use Rattle.cc_words.specs.Words.{add, lt_u}
+use Rattle.cc_words.specs.Operators.{apply_unary, apply_binary}
+use Rattle.cc_words.specs.declared.operators.Unary as unary
+use Rattle.cc_words.specs.declared.operators.Binary as binary
+use Rattle.cc_runs.specs.Behavior.{AreWords}
+use Rattle.cc_runs.specs.World.{World, object_words, element, next_word, first_or_zero, after_read, after_write}
+use Rattle.cc_runs.specs.Run.{Fails, Goes, tried}
+use Rattle.cc_ltl.specs.declared.location.Location.TheVariants.{Register, Slot}
+use Rattle.cc_ltl.specs.declared.operation.Move.{Move}
+use Rattle.cc_ltl.specs.declared.operation.Move.TheVariants.{Between, Reload, Spill}
+use Rattle.cc_ltl.specs.Registers.{IsAllocatable}
+use Rattle.cc_ltl.specs.Ltl.{Locations, put}
+use Rattle.cc_linear.specs.declared.item.Item as linear
+use Rattle.cc_linear.specs.declared.item.Item.TheVariants.{Jump, IfNonzero, IfZero, Copy, Const, Unary, Binary, Load, Store, Read, Write}
+use Rattle.cc_linear.specs.Linear.{at_items, linear_move, place as items_from}
+use Rattle.cc_rv32.specs.declared.instr.Instr.{Instr}
+use Rattle.cc_rv32.specs.declared.instr.Instr.TheVariants as instr
+use Rattle.cc_rv32.specs.declared.instr.Instr.TheVariants.{Branch, Ecall, Lui, Op, OpImm, Shift}
+use Rattle.cc_rv32.specs.declared.instr.BranchOperation.{BranchOperation}
+use Rattle.cc_rv32.specs.declared.instr.BranchOperation.TheVariants.{Beq, Bne}
+use Rattle.cc_rv32.specs.declared.instr.ImmediateOperation.TheVariants.{Addi, Sltiu}
+use Rattle.cc_rv32.specs.declared.instr.ShiftOperation.TheVariants.{Slli}
+use Rattle.cc_rv32.specs.declared.instr.Operation as operation
+use Rattle.cc_rv32.specs.declared.instr.Operation.TheVariants as operations
+use Rattle.cc_rv32.specs.Machine as machine
+use Rattle.cc_rv32.specs.Machine.{Continues, State, Traps, branches, computed, execute, is_accessible, is_taken, puts, with_register, with_word}
+use Rattle.cc_emit.specs.declared.item.Item.TheVariants.{Go, Plain}
+use Rattle.cc_emit.specs.Contract.{Code, IsPlace, Path, Shares}
+use Rattle.cc_emit.specs.Frames.{Frame}
+use Rattle.cc_emit.specs.Emission.{Direct, NonzeroOf, Recipe, ZeroOf, ZeroOfExchanged, addi, branch_items, branch_size, distance, high, low, prologue_size, recipe, recipe_items, recipe_size, unary_instr}
+use Rattle.cc_emit.proofs.Fine.{IsTarget}
+use Rattle.cc_emit.proofs.Basics.{in_stack, in_globals, high_low, high_word, first_word, eqb_yes, eqb_says, same_first, got}
+use Rattle.cc_emit.proofs.Places.{DistanceIs, Nears, distance_is, stays_near}
+use Rattle.cc_emit.proofs.Recipes.{IsRight, recipe_right, binary_word, unary_right, unary_executes}
+use Rattle.cc_emit.proofs.Standing.{long_of, Site, Standing, Stands, near, labels, machine_step, first_items, standing_tail, standing_from, step_at, jump_step}
+use Rattle.cc_emit.proofs.Saving.{load_step, store_step}
+use Rattle.cc_emit.proofs.Within.{Within, with_element, within_set, within_scratch, within_pc, within_slot, within_store, within_read, within_write, low_stack}
+
+-- the machine comes to where these items stand
+pub record Reaches (x : Site) (next : List linear.Item) (l : Locations) (h : World) (s : State) : Type 0 where
+  pub more : ℕ
+  pub to : State
+  pub path : Path x.code (suc more) s to
+  pub long : ℕ
+  pub offset : ℕ
+  pub at : to.pc ≡ x.place + 4 * offset
+  pub standing : Standing x long offset next
+  pub within : Within x l h to
+
+-- one move of Linear, with the words that it takes
+pub record Stepped (x : Site) (ops : List linear.Item) (l : Locations) (h : World) (s : State) : Type 0 where
+  pub front : List ℕ
+  pub are_words : AreWords front
+  pub next : List linear.Item
+  pub locations : Locations
+  pub world : World
+  pub moves : (ws : List ℕ) → linear_move x.meaning.arity x.items (at_items ops l h (front ++ ws)) ≡ Goes (at_items next locations world ws)
+  pub reaches : Reaches x next locations world s
+
+-- or none, since it goes wrong
+abbrev pub Case : (x : Site) (ops : List linear.Item) (l : Locations) (h : World) (s : State) → Type 0
+Case x ops l h s = Stepped x ops l h s ⊎ ((ws : List ℕ) → linear_move x.meaning.arity x.items (at_items ops l h ws) ≡ Fails)
+
+reach_more : (x : Site) (next : List linear.Item) (l : Locations) (h : World) (s u : State) → machine_step x.code s ≡ Continues u → Reaches x next l h u → Reaches x next l h s
+reach_more x next l h s u e r = record { more = suc r.more; to = r.to; path = (u, e, r.path); long = r.long; offset = r.offset; at = r.at; standing = r.standing; within = r.within }
+
+-- the last instruction
+reach_by : (x : Site) (next : List linear.Item) (l : Locations) (h : World) (s t : State) (v b : ℕ) → machine_step x.code s ≡ Continues t → t.pc ≡ x.place + 4 * b → Standing x v b next → Within x l h t → Reaches x next l h s
+reach_by x next l h s t v b e at st w = record { more = 0; to = t; path = (t, e, refl); long = v; offset = b; at = at; standing = st; within = w }
+
+-- the last instruction sets a register
+reach_set : (x : Site) (next : List linear.Item) (l : Locations) (h : World) (s : State) (p q b d v : ℕ) (i : Instr) → s.pc ≡ p → x.code p ≡ Some i → p + 4 ≡ x.place + 4 * b → execute i s ≡ puts d v s → IsTarget x.frame d → v < 2 ^ 32 → Standing x q b next → Within x l h s → Reaches x next (put (Register d) v l) h s
+reach_set x next l h s p q b d v i e f g k u lt st w =
+    reach_by x next (put (Register d) v l) h s (record s { pc = s.pc + 4; registers = with_register s.registers d v }) q b (step_at x.code s p i e f ∙ k) (ap (λ n. n + 4) e ∙ g) st (within_set x l h s (s.pc + 4) d v u lt w)
+
+-- an item that is done
+stepped : (x : Site) (ops next : List linear.Item) (l k : Locations) (h g : World) (s : State) → ((ws : List ℕ) → linear_move x.meaning.arity x.items (at_items ops l h ws) ≡ Goes (at_items next k g ws)) → Reaches x next k g s → Stepped x ops l h s
+stepped x ops next l k h g s moves r = record { front = []; are_words = tt; next = next; locations = k; world = g; moves = moves; reaches = r }
+
+abbrev Given : (x : Site) (w a : ℕ) (ops : List linear.Item) (l : Locations) (h : World) (s : State) → Type 0
+Given x w a ops l h s = (s.pc ≡ x.place + 4 * a) × Standing x w a ops × Within x l h s
+
+word_of_register : (x : Site) (l : Locations) (h : World) (s : State) (r : ℕ) → IsAllocatable r → Within x l h s → l (Register r) < 2 ^ 32
+word_of_register x l h s r u w = let e = w.same r u in let b = w.sound.registers r in omega arith
+
+-- ---- jumps and branches
+
+-- the function's items stand behind its prologue
+abbrev pub StandsWhole : Site → Type 0
+StandsWhole x = Standing x 0 (prologue_size x.frame) x.items
+
+-- to a label
+reach_jump : (x : Site) (p n : ℕ) (l : Locations) (h : World) (s : State) → s.pc ≡ p → IsPlace p → x.code p ≡ Some (instr.Jal 0 ((x.place + 4 * labels x n + (2 ^ 32 - p)) % 2 ^ 32)) → StandsWhole x → Within x l h s → Reaches x (items_from x.items n) l h s
+reach_jump x p n l h s e from f all w =
+    let b = labels x n in
+    let target = standing_from x n 0 (prologue_size x.frame) x.items all in
+    reach_by x (items_from x.items n) l h s (record s { pc = x.place + 4 * b }) _ b (jump_step x.code s p (x.place + 4 * b) e from target.from f) refl target (within_pc x l h s (x.place + 4 * b) w)
+
+pub jump_case : (x : Site) (w a n : ℕ) (rest : List linear.Item) (l : Locations) (h : World) (s : State) → Given x w a (Jump n ∷ rest) l h s → StandsWhole x → Stepped x (Jump n ∷ rest) l h s
+jump_case x w a n rest l h s (e, st, inside) all =
+    stepped x (Jump n ∷ rest) (items_from x.items n) l l h h s (λ ws. refl) (reach_jump x (x.place + 4 * a) n l h s e st.from (first_items x w a (Jump n) rest st).0 all inside)
+
+-- a branch goes on at one of two places
+branch_step : (code : Code) (s : State) (p q : ℕ) (i : Instr) (t : Bool) → s.pc ≡ p → q % 4 ≡ 0 → code p ≡ Some i → (to : ℕ) → execute i s ≡ branches t to s → (t ≡ true → to ≡ q) → machine_step code s ≡ Continues (record s { pc = if t then q else p + 4 })
+branch_step code s p q i true e z f to k there =
+    step_at code s p i e f ∙ k ∙ ap (λ n. if n % 4 == 0 then Continues (record s { pc = n }) else Traps) (there refl) ∙ ap (λ b. if b then Continues (record s { pc = q }) else Traps) (eqb_yes (q % 4) 0 z)
+branch_step code s p q i false e z f to k there = step_at code s p i e f ∙ k ∙ ap (λ n. Continues (record s { pc = n + 4 })) e
+
+-- the long form: the branch over the jump, then the jump or not
+over_reaches : (x : Site) (v a n : ℕ) (next rest : List linear.Item) (l : Locations) (h : World) (s : State) (i : Instr) (t : Bool) → s.pc ≡ x.place + 4 * a → Within x l h s → IsPlace (x.place + 4 * a) → Standing x v (a + 2) rest → StandsWhole x
+    → Stands x (x.place + 4 * a) (Plain i ∷ Go (labels x n) ∷ []) → execute i s ≡ branches t (add s.pc 8) s → (if t then rest else items_from x.items n) ≡ next → Reaches x next l h s
+over_reaches x v a n next rest l h s i true e inside p st all f k same =
+    let q = p.to in
+    let z = p.aligned in
+    let one = branch_step x.code s (x.place + 4 * a) (x.place + 4 * a + 8) i true e (omega arith) f.0 (add s.pc 8) k (λ t. omega arith) in
+    reach_by x next l h s (record s { pc = x.place + 4 * a + 8 }) v (a + 2) one (omega arith) (subst (Standing x v (a + 2)) same st) (within_pc x l h s (x.place + 4 * a + 8) inside)
+over_reaches x v a n next rest l h s i false e inside p st all f k same =
+    let q = p.to in
+    let z = p.aligned in
+    let lo = p.from in
+    let up = st.from.to in
+    let one = branch_step x.code s (x.place + 4 * a) (x.place + 4 * a + 8) i false e (omega arith) f.0 (add s.pc 8) k (λ t. omega arith) in
+    let u : State = record s { pc = x.place + 4 * a + 4 } in
+    let here : IsPlace (x.place + 4 * a + 4) = record { aligned = omega arith; from = omega arith; to = omega arith } in
+    reach_more x next l h s u one (subst (λ ops. Reaches x ops l h u) same (reach_jump x (x.place + 4 * a + 4) n l h u refl here f.1.0 all (within_pc x l h s (x.place + 4 * a + 4) inside)))
+
+offset_arrives : (place a b y pc : ℕ) → IsPlace (place + 4 * a) → IsPlace (place + 4 * b) → Nears a b → DistanceIs a b y → pc ≡ place + 4 * a → add pc y ≡ place + 4 * b
+offset_arrives place a b y pc p q n (inl d) e = let x = p.to in let z = q.to in let u = n.0 in let v = n.1 in let g = d.0 in let k = d.1 in omega arith
+offset_arrives place a b y pc p q n (inr d) e = let x = p.to in let z = q.to in let u = n.0 in let v = n.1 in let g = d.0 in let k = d.1 in omega arith
+
+-- the short form
+short_reaches : (x : Site) (v a n : ℕ) (next rest : List linear.Item) (l : Locations) (h : World) (s : State) (i : Instr) (t : Bool) → s.pc ≡ x.place + 4 * a → Within x l h s → IsPlace (x.place + 4 * a) → Standing x v (a + 1) rest → StandsWhole x
+    → Nears a (labels x n) → Stands x (x.place + 4 * a) (Plain i ∷ []) → execute i s ≡ branches t (add s.pc (distance a (labels x n))) s → (if t then items_from x.items n else rest) ≡ next → Reaches x next l h s
+short_reaches x v a n next rest l h s i true e inside p st all nears f k same =
+    let b = labels x n in
+    let target = standing_from x n 0 (prologue_size x.frame) x.items all in
+    let there = offset_arrives x.place a b (distance a b) s.pc p target.from nears (distance_is a b) e in
+    let one = branch_step x.code s (x.place + 4 * a) (x.place + 4 * b) i true e target.from.aligned f.0 (add s.pc (distance a b)) k (λ t. there) in
+    reach_by x next l h s (record s { pc = x.place + 4 * b }) _ b one refl (subst (Standing x _ b) same target) (within_pc x l h s (x.place + 4 * b) inside)
+short_reaches x v a n next rest l h s i false e inside p st all nears f k same =
+    let b = labels x n in
+    let target = standing_from x n 0 (prologue_size x.frame) x.items all in
+    let there = offset_arrives x.place a b (distance a b) s.pc p target.from nears (distance_is a b) e in
+    let one = branch_step x.code s (x.place + 4 * a) (x.place + 4 * b) i false e target.from.aligned f.0 (add s.pc (distance a b)) k (λ t. there) in
+    reach_by x next l h s (record s { pc = x.place + 4 * a + 4 }) v (a + 1) one (omega arith) (subst (Standing x v (a + 1)) same st) (within_pc x l h s (x.place + 4 * a + 4) inside)
+
+if_not : {A : Type 0} (t : Bool) (p q : A) → (if not t then p else q) ≡ (if t then q else p)
+if_not true p q = refl
+if_not false p q = refl
+
+-- a branch in either form; the opposite one is taken where it is not
+branch_reaches : (x : Site) (v a n : ℕ) (next rest : List linear.Item) (l : Locations) (h : World) (s : State) (o c : BranchOperation) (r : ℕ) (t is : Bool) → s.pc ≡ x.place + 4 * a → Within x l h s → IsPlace (x.place + 4 * a) → Standing x v (a + branch_size is) rest → StandsWhole x
+    → (is ≡ true → Nears a (labels x n)) → Stands x (x.place + 4 * a) (branch_items is o c r a (labels x n)) → is_taken o (s.registers r) (s.registers 0) ≡ t → is_taken c (s.registers r) (s.registers 0) ≡ not t → (if t then items_from x.items n else rest) ≡ next → Reaches x next l h s
+branch_reaches x v a n next rest l h s o c r t true e inside p st all nears f taken opposite same =
+    short_reaches x v a n next rest l h s (Branch o r 0 (distance a (labels x n))) t e inside p st all (nears refl) f (ap (λ b. branches b (add s.pc (distance a (labels x n))) s) taken) same
+branch_reaches x v a n next rest l h s o c r t false e inside p st all nears f taken opposite same =
+    over_reaches x v a n next rest l h s (Branch c r 0 8) (not t) e inside p st all f (ap (λ b. branches b (add s.pc 8) s) opposite) (if_not t rest (items_from x.items n) ∙ same)
+
+zero_test : (x : Site) (l : Locations) (h : World) (s : State) (r : ℕ) → IsAllocatable r → Within x l h s → (s.registers r == s.registers 0) ≡ (l (Register r) == 0)
+zero_test x l h s r u w = ap₂ (λ p q. p == q) (sym (w.same r u)) w.sound.zero
+
+pub if_zero_case : (x : Site) (w a r n : ℕ) (rest : List linear.Item) (l : Locations) (h : World) (s : State) → Given x w a (IfZero r n ∷ rest) l h s → StandsWhole x → Stepped x (IfZero r n ∷ rest) l h s
+if_zero_case x w a r n rest l h s (e, st, inside) all =
+    let t = l (Register r) == 0 in
+    let next : List linear.Item = if t then items_from x.items n else rest in
+    let test = zero_test x l h s r st.fine.0 inside in
+    stepped x (IfZero r n ∷ rest) next l l h h s (λ ws. refl)
+    (branch_reaches x _ a n next rest l h s Beq Bne r t (near x w n) e inside st.from (standing_tail x w a (IfZero r n) rest st) all (stays_near x.frame x.items (IfZero r n ∷ rest) w a n st.seen) (first_items x w a (IfZero r n) rest st) test (ap not test) refl)
+
+pub if_nonzero_case : (x : Site) (w a r n : ℕ) (rest : List linear.Item) (l : Locations) (h : World) (s : State) → Given x w a (IfNonzero r n ∷ rest) l h s → StandsWhole x → Stepped x (IfNonzero r n ∷ rest) l h s
+if_nonzero_case x w a r n rest l h s (e, st, inside) all =
+    let t = l (Register r) == 0 in
+    let next : List linear.Item = if t then rest else items_from x.items n in
+    let test = zero_test x l h s r st.fine.0 inside in
+    stepped x (IfNonzero r n ∷ rest) next l l h h s (λ ws. refl)
+    (branch_reaches x _ a n next rest l h s Bne Beq r (not t) (near x w n) e inside st.from (standing_tail x w a (IfNonzero r n) rest st) all (stays_near x.frame x.items (IfNonzero r n ∷ rest) w a n st.seen) (first_items x w a (IfNonzero r n) rest st) (ap not test) (test ∙ sym (not_not t)) (if_not t (items_from x.items n) rest))
+  where
+    not_not : (b : Bool) → not (not b) ≡ b
+    not_not true = refl
+    not_not false = refl
+
+-- ---- registers
+
+behind_1 : (place a : ℕ) → place + 4 * a + 4 ≡ place + 4 * (a + 1)
+behind_1 place a = omega arith
+
+behind_2 : (place a : ℕ) → place + 4 * a + 4 + 4 ≡ place + 4 * (a + 2)
+behind_2 place a = omega arith
+
+behind_4 : (place a : ℕ) → place + 4 * a + 4 + 4 + 4 + 4 ≡ place + 4 * (a + 4)
+behind_4 place a = omega arith
+
+-- a word, by the parts that are not zero
+const_reaches : (x : Site) (v a to word : ℕ) (no_high no_low : Bool) (rest : List linear.Item) (l : Locations) (h : World) (s : State) → s.pc ≡ x.place + 4 * a → Within x l h s → IsTarget x.frame to → word < 2 ^ 32 → (no_high ≡ true → high word ≡ 0) → (no_low ≡ true → low word ≡ 0)
+    → Standing x v (a + (if no_high then 1 else if no_low then 1 else 2)) rest
+    → Stands x (x.place + 4 * a) (if no_high then addi to 0 (low word) ∷ [] else if no_low then Plain (Lui to (high word)) ∷ [] else Plain (Lui 5 (high word)) ∷ addi to 5 (low word) ∷ [])
+    → Reaches x rest (put (Register to) word l) h s
+const_reaches x v a to word true no_low rest l h s e inside u lt is_high is_low st f =
+    let zero = inside.sound.zero in
+    let none = is_high refl in
+    let both = high_low word lt in
+    let value : add (s.registers 0) (low word) ≡ word = omega arith in
+    reach_set x rest l h s (x.place + 4 * a) v (a + 1) to word (OpImm Addi to 0 (low word)) e f.0 (behind_1 x.place a) (ap (λ n. puts to n s) value) u lt st inside
+const_reaches x v a to word false true rest l h s e inside u lt is_high is_low st f =
+    let none = is_low refl in
+    let both = high_low word lt in
+    let small = high_word word in
+    let value : high word * 2 ^ 12 ≡ word = omega arith in
+    reach_set x rest l h s (x.place + 4 * a) v (a + 1) to word (Lui to (high word)) e f.0 (behind_1 x.place a) (ap (λ n. puts to n s) value) u lt st inside
+const_reaches x v a to word false false rest l h s e inside u lt is_high is_low st f =
+    let up = high word * 2 ^ 12 in
+    let s5 : State = record s { pc = s.pc + 4; registers = with_register s.registers 5 up } in
+    let w5 = within_scratch x l h s (s.pc + 4) 5 up (omega arith) (omega arith) (high_word word) inside in
+    reach_more x rest (put (Register to) word l) h s s5 (step_at x.code s (x.place + 4 * a) (Lui 5 (high word)) e f.0)
+    (reach_set x rest l h s5 (x.place + 4 * a + 4) v (a + 2) to word (OpImm Addi to 5 (low word)) (ap (λ n. n + 4) e) f.1.0 (behind_2 x.place a) (ap (λ n. puts to n s5) (high_low word lt)) u lt st w5)
+
+pub const_case : (x : Site) (w a to word : ℕ) (rest : List linear.Item) (l : Locations) (h : World) (s : State) → Given x w a (Const to word ∷ rest) l h s → Stepped x (Const to word ∷ rest) l h s
+const_case x w a to word rest l h s (e, st, inside) =
+    let fine = st.fine.0 in
+    stepped x (Const to word ∷ rest) rest l (put (Register to) word l) h h s (λ ws. refl)
+    (const_reaches x _ a to word (high word == 0) (low word == 0) rest l h s e inside fine.0 fine.1 (eqb_says (high word) 0) (eqb_says (low word) 0) (standing_tail x w a (Const to word) rest st) (first_items x w a (Const to word) rest st))
+
+pub unary_case : (x : Site) (w a to b : ℕ) (o : unary.Unary) (rest : List linear.Item) (l : Locations) (h : World) (s : State) → Given x w a (Unary o to b ∷ rest) l h s → Stepped x (Unary o to b ∷ rest) l h s
+unary_case x w a to b o rest l h s (e, st, inside) =
+    let fine = st.fine.0 in
+    let v = apply_unary o (l (Register b)) in
+    let r = unary_right o (s.registers b) (inside.sound.registers b) in
+    let same : execute (unary_instr o to b) s ≡ puts to v s = unary_executes o to b s inside.sound.zero ∙ ap (λ n. puts to n s) (r.0 ∙ ap (apply_unary o) (sym (inside.same b fine.1))) in
+    stepped x (Unary o to b ∷ rest) rest l (put (Register to) v l) h h s (λ ws. refl)
+    (reach_set x rest l h s (x.place + 4 * a) _ (a + 1) to v (unary_instr o to b) e (first_items x w a (Unary o to b) rest st).0 (behind_1 x.place a) same fine.0 (subst (λ n. apply_unary o n < 2 ^ 32) (sym (inside.same b fine.1)) r.1) (standing_tail x w a (Unary o to b) rest st) inside)
+
+-- x5, then a question about it
+asked : (x : Site) (w a to p q v t : ℕ) (o : operation.Operation) (i : Instr) (rest : List linear.Item) (l : Locations) (h : World) (s : State) → s.pc ≡ x.place + 4 * a → Standing x w (a + 2) rest → Within x l h s → Stands x (x.place + 4 * a) (Plain (Op o 5 p q) ∷ Plain i ∷ []) → computed o (s.registers p) (s.registers q) ≡ t → t < 2 ^ 32
+    → ((u : State) → u.registers 5 ≡ t → u.registers 0 ≡ 0 → execute i u ≡ puts to v u) → IsTarget x.frame to → v < 2 ^ 32 → Reaches x rest (put (Register to) v l) h s
+asked x w a to p q v t o i rest l h s e st inside items value b5 question u lt =
+    let s5 : State = record s { pc = s.pc + 4; registers = with_register s.registers 5 t } in
+    let w5 = within_scratch x l h s (s.pc + 4) 5 t (omega arith) (omega arith) b5 inside in
+    reach_more x rest (put (Register to) v l) h s s5 (step_at x.code s (x.place + 4 * a) (Op o 5 p q) e items.0 ∙ ap (λ n. puts 5 n s) value)
+    (reach_set x rest l h s5 (x.place + 4 * a + 4) w (a + 2) to v i (ap (λ n. n + 4) e) items.1.0 (behind_2 x.place a) (question s5 refl w5.sound.zero) u lt st w5)
+
+recipe_reaches : (x : Site) (w a to b c v : ℕ) (k : Recipe) (rest : List linear.Item) (l : Locations) (h : World) (s : State) → s.pc ≡ x.place + 4 * a → Standing x w (a + recipe_size k) rest → Within x l h s → Stands x (x.place + 4 * a) (recipe_items k to b c) → IsTarget x.frame to → IsAllocatable b → IsAllocatable c
+    → IsRight k (l (Register b)) (l (Register c)) v → v < 2 ^ 32 → Reaches x rest (put (Register to) v l) h s
+recipe_reaches x w a to b c v (Direct i) rest l h s e st inside items u ub uc right lt =
+    let value : computed i (s.registers b) (s.registers c) ≡ v = ap₂ (computed i) (sym (inside.same b ub)) (sym (inside.same c uc)) ∙ right in
+    reach_set x rest l h s (x.place + 4 * a) w (a + 1) to v (Op i to b c) e items.0 (behind_1 x.place a) (ap (λ n. puts to n s) value) u lt st inside
+recipe_reaches x w a to b c v (ZeroOf i) rest l h s e st inside items u ub uc right lt =
+    asked x w a to b c v (computed i (l (Register b)) (l (Register c))) i (OpImm Sltiu to 5 1) rest l h s e st inside items (ap₂ (computed i) (sym (inside.same b ub)) (sym (inside.same c uc))) right.0 (λ t p z. ap (λ n. puts to (lt_u n 1) t) p ∙ ap (λ n. puts to n t) right.1) u lt
+recipe_reaches x w a to b c v (ZeroOfExchanged i) rest l h s e st inside items u ub uc right lt =
+    asked x w a to c b v (computed i (l (Register c)) (l (Register b))) i (OpImm Sltiu to 5 1) rest l h s e st inside items (ap₂ (computed i) (sym (inside.same c uc)) (sym (inside.same b ub))) right.0 (λ t p z. ap (λ n. puts to (lt_u n 1) t) p ∙ ap (λ n. puts to n t) right.1) u lt
+recipe_reaches x w a to b c v (NonzeroOf i) rest l h s e st inside items u ub uc right lt =
+    asked x w a to b c v (computed i (l (Register b)) (l (Register c))) i (Op operations.Sltu to 0 5) rest l h s e st inside items (ap₂ (computed i) (sym (inside.same b ub)) (sym (inside.same c uc))) right.0 (λ t p z. ap₂ (λ n k. puts to (lt_u k n) t) p z ∙ ap (λ n. puts to n t) right.1) u lt
+
+binary_at : (x : Site) (w a to b c : ℕ) (o : binary.Binary) (rest : List linear.Item) (l : Locations) (h : World) (s : State) → Given x w a (Binary o to b c ∷ rest) l h s → (z : Option ℕ) → apply_binary o (l (Register b)) (l (Register c)) ≡ z → Case x (Binary o to b c ∷ rest) l h s
+binary_at x w a to b c o rest l h s given None is = inr (λ ws. ap (λ z. tried z (λ q. Goes (at_items rest (put (Register to) q l) h ws))) is)
+binary_at x w a to b c o rest l h s (e, st, inside) (Some v) is =
+    let fine = st.fine.0 in
+    let wb = word_of_register x l h s b fine.1 inside in
+    let wc = word_of_register x l h s c fine.2 inside in
+    let right = recipe_right o (l (Register b)) (l (Register c)) v wb wc is in
+    inl (stepped x (Binary o to b c ∷ rest) rest l (put (Register to) v l) h h s (λ ws. ap (λ z. tried z (λ q. Goes (at_items rest (put (Register to) q l) h ws))) is)
+    (recipe_reaches x _ a to b c v (recipe o) rest l h s e (standing_tail x w a (Binary o to b c) rest st) inside (first_items x w a (Binary o to b c) rest st) fine.0 fine.1 fine.2 right (binary_word o (l (Register b)) (l (Register c)) v wb wc is)))
+
+pub binary_case : (x : Site) (w a to b c : ℕ) (o : binary.Binary) (rest : List linear.Item) (l : Locations) (h : World) (s : State) → Given x w a (Binary o to b c ∷ rest) l h s → Case x (Binary o to b c ∷ rest) l h s
+binary_case x w a to b c o rest l h s given = binary_at x w a to b c o rest l h s given (apply_binary o (l (Register b)) (l (Register c))) refl
+
+-- ---- moves
+
+slot_address : (x : Site) (l : Locations) (h : World) (s : State) (i : ℕ) → i < x.frame.slots → Within x l h s → (is_accessible 4 (s.registers 2 + 4 * i) ≡ true) × ((s.registers 2 + 4 * i) % 2 ^ 32 ≡ s.registers 2 + 4 * i)
+slot_address x l h s i lt w =
+    let stack = w.stack in
+    let from = low_stack x l h s w in
+    let top = x.top in
+    let z = x.aligned in
+    (in_stack (s.registers 2 + 4 * i) (omega arith) (omega arith) (omega arith), omega arith)
+
+pub copy_case : (x : Site) (w a : ℕ) (m : Move) (rest : List linear.Item) (l : Locations) (h : World) (s : State) → Given x w a (Copy m ∷ rest) l h s → Stepped x (Copy m ∷ rest) l h s
+copy_case x w a (Between to b) rest l h s (e, st, inside) =
+    let fine = st.fine.0 in
+    let q = inside.same b fine.1 in
+    let lt = inside.sound.registers b in
+    let same : add (s.registers b) 0 ≡ l (Register b) = omega arith in
+    stepped x (Copy (Between to b) ∷ rest) rest l (put (Register to) (l (Register b)) l) h h s (λ ws. refl)
+    (reach_set x rest l h s (x.place + 4 * a) _ (a + 1) to (l (Register b)) (OpImm Addi to b 0) e (first_items x w a (Copy (Between to b)) rest st).0 (behind_1 x.place a) (ap (λ n. puts to n s) same) fine.0 (omega arith) (standing_tail x w a (Copy (Between to b)) rest st) inside)
+copy_case x w a (Reload to i) rest l h s (e, st, inside) =
+    let fine = st.fine.0 in
+    let at = s.registers 2 + 4 * i in
+    let ok = slot_address x l h s i fine.1 inside in
+    let v = l (Slot i) in
+    let value : s.memory at ≡ v = sym (inside.slots i fine.1) in
+    let step = load_step x.code s (x.place + 4 * a) to 2 (4 * i) at e (first_items x w a (Copy (Reload to i)) rest st).0 ok.1 ok.0 ∙ ap (λ n. puts to n s) value in
+    let lt = inside.sound.memory at in
+    stepped x (Copy (Reload to i) ∷ rest) rest l (put (Register to) v l) h h s (λ ws. refl)
+    (reach_by x rest (put (Register to) v l) h s (record s { pc = s.pc + 4; registers = with_register s.registers to v }) _ (a + 1) step (ap (λ n. n + 4) e ∙ behind_1 x.place a) (standing_tail x w a (Copy (Reload to i)) rest st) (within_set x l h s (s.pc + 4) to v fine.0 (omega arith) inside))
+copy_case x w a (Spill i b) rest l h s (e, st, inside) =
+    let fine = st.fine.0 in
+    let at = s.registers 2 + 4 * i in
+    let ok = slot_address x l h s i fine.0 inside in
+    let v = l (Register b) in
+    let step = store_step x.code s (x.place + 4 * a) 2 b (4 * i) at e (first_items x w a (Copy (Spill i b)) rest st).0 ok.1 ok.0 ∙ ap (λ n. Continues (record s { pc = s.pc + 4; memory = with_word s.memory at n })) (sym (inside.same b fine.1)) in
+    stepped x (Copy (Spill i b) ∷ rest) rest l (put (Slot i) v l) h h s (λ ws. refl)
+    (reach_by x rest (put (Slot i) v l) h s (record s { pc = s.pc + 4; memory = with_word s.memory at v }) _ (a + 1) step (ap (λ n. n + 4) e ∙ behind_1 x.place a) (standing_tail x w a (Copy (Spill i b)) rest st) (within_slot x l h s (s.pc + 4) i v fine.0 (word_of_register x l h s b fine.1 inside) inside))
+
+-- ---- objects
+
+sum_address : (i b hi lo : ℕ) → (hi + lo) % 2 ^ 32 ≡ b → b + 4 * i < 2 ^ 32 → (((i * 4) % 2 ^ 32 + hi) % 2 ^ 32 + lo) % 2 ^ 32 ≡ b + 4 * i
+sum_address i b hi lo e lt = omega arith
+
+abbrev shifted : State → ℕ → State
+shifted s i = record s { pc = s.pc + 4; registers = with_register s.registers 5 ((s.registers i * 4) % 2 ^ 32) }
+
+abbrev uppered : State → ℕ → State
+uppered s b = record s { pc = s.pc + 4; registers = with_register s.registers 6 (high b * 2 ^ 12) }
+
+abbrev added : State → State
+added s = record s { pc = s.pc + 4; registers = with_register s.registers 5 (add (s.registers 5) (s.registers 6)) }
+
+abbrev at_element : State → (i b : ℕ) → State
+at_element s i b = added (uppered (shifted s i) b)
+
+within_element : (x : Site) (l : Locations) (h : World) (s : State) (i b : ℕ) → Within x l h s → Within x l h (at_element s i b)
+within_element x l h s i b w =
+    let one = within_scratch x l h s (s.pc + 4) 5 ((s.registers i * 4) % 2 ^ 32) (omega arith) (omega arith) (omega arith) w in
+    let two = within_scratch x l h (shifted s i) (s.pc + 4 + 4) 6 (high b * 2 ^ 12) (omega arith) (omega arith) (high_word b) one in
+    within_scratch x l h (uppered (shifted s i) b) (s.pc + 4 + 4 + 4) 5 _ (omega arith) (omega arith) (omega arith) two
+
+-- the three instructions before a load or a store
+element_reaches : (x : Site) (next : List linear.Item) (k : Locations) (g : World) (s : State) (p i b : ℕ) → s.pc ≡ p → x.code p ≡ Some (Shift Slli 5 i 2) → x.code (p + 4) ≡ Some (Lui 6 (high b)) → x.code (p + 4 + 4) ≡ Some (Op operations.Add 5 5 6) → Reaches x next k g (at_element s i b) → Reaches x next k g s
+element_reaches x next k g s p i b e f1 f2 f3 r =
+    let u = shifted s i in
+    let v = uppered u b in
+    reach_more x next k g s u (step_at x.code s p (Shift Slli 5 i 2) e f1)
+    (reach_more x next k g u v (step_at x.code u (p + 4) (Lui 6 (high b)) (ap (λ n. n + 4) e) f2)
+    (reach_more x next k g v (at_element s i b) (step_at x.code v (p + 4 + 4) (Op operations.Add 5 5 6) (ap (λ n. n + 4 + 4) e) f3) r))
+
+-- the element's address
+element_address : (x : Site) (l : Locations) (h : World) (s : State) (g i : ℕ) → IsAllocatable i → l (Register i) < length (object_words h g) → Within x l h s
+    → ((at_element s i (x.layout.base g)).registers 5 + low (x.layout.base g)) % 2 ^ 32 ≡ x.layout.base g + 4 * l (Register i)
+element_address x l h s g i u lt w =
+    let y = x.layout in
+    let b = y.base g in
+    let to = y.to g in
+    let long = long_of x.meaning.objects h w.shares.sizes g in
+    let small : b < 2 ^ 32 = omega arith in
+    sum_address (s.registers i) b (high b * 2 ^ 12) (low b) (high_low b small) (let e = w.same i u in omega arith) ∙ ap (λ n. b + 4 * n) (sym (w.same i u))
+
+element_accessible : (x : Site) (h : World) (s : State) (g i : ℕ) → i < length (object_words h g) → Shares x.layout s h → is_accessible 4 (x.layout.base g + 4 * i) ≡ true
+element_accessible x h s g i lt sh =
+    let y = x.layout in
+    let to = y.to g in
+    let from = y.from g in
+    let z = y.aligned g in
+    let long = long_of x.meaning.objects h sh.sizes g in
+    in_globals (y.base g + 4 * i) (omega arith) (omega arith) (omega arith)
+
+load_at : (x : Site) (w a g to i : ℕ) (rest : List linear.Item) (l : Locations) (h : World) (s : State) → Given x w a (Load g to i ∷ rest) l h s → (z : Option ℕ) → element h g (l (Register i)) ≡ z → Case x (Load g to i ∷ rest) l h s
+load_at x w a g to i rest l h s given None is = inr (λ ws. ap (λ z. tried z (λ q. Goes (at_items rest (put (Register to) q l) h ws))) is)
+load_at x w a g to i rest l h s (e, st, inside) (Some v) is =
+    let items = first_items x w a (Load g to i) rest st in
+    let fine = st.fine.0 in
+    let n = l (Register i) in
+    let there = got (object_words h g) n v is in
+    let b = x.layout.base g in
+    let at = b + 4 * n in
+    let u = at_element s i b in
+    let wu = within_element x l h s i b inside in
+    let long = long_of x.meaning.objects h inside.shares.sizes g in
+    let lt = there.0 in
+    let value : s.memory at ≡ v = inside.shares.globals g n (omega arith) ∙ there.1 in
+    let lv : v < 2 ^ 32 = (let q = inside.sound.memory at in omega arith) in
+    let step = load_step x.code u (x.place + 4 * a + 4 + 4 + 4) to 5 (low b) at (ap (λ n. n + 4 + 4 + 4) e) items.1.1.1.0 (element_address x l h s g i fine.1 lt inside) (element_accessible x h s g n lt inside.shares) ∙ ap (λ n. puts to n u) value in
+    inl (stepped x (Load g to i ∷ rest) rest l (put (Register to) v l) h h s (λ ws. ap (λ z. tried z (λ q. Goes (at_items rest (put (Register to) q l) h ws))) is)
+    (element_reaches x rest (put (Register to) v l) h s (x.place + 4 * a) i b e items.0 items.1.0 items.1.1.0
+    (reach_by x rest (put (Register to) v l) h u (record u { pc = u.pc + 4; registers = with_register u.registers to v }) _ (a + 4) step (ap (λ n. n + 4 + 4 + 4 + 4) e ∙ behind_4 x.place a) (standing_tail x w a (Load g to i) rest st) (within_set x l h u (u.pc + 4) to v fine.0 lv wu))))
+
+pub load_case : (x : Site) (w a g to i : ℕ) (rest : List linear.Item) (l : Locations) (h : World) (s : State) → Given x w a (Load g to i ∷ rest) l h s → Case x (Load g to i ∷ rest) l h s
+load_case x w a g to i rest l h s given = load_at x w a g to i rest l h s given (element h g (l (Register i))) refl
+
+store_at : (x : Site) (w a g i r : ℕ) (rest : List linear.Item) (l : Locations) (h : World) (s : State) → Given x w a (Store g i r ∷ rest) l h s → (z : Option ℕ) → element h g (l (Register i)) ≡ z → Case x (Store g i r ∷ rest) l h s
+store_at x w a g i r rest l h s given None is = inr (λ ws. ap (λ z. tried (option_map (λ old. with_element h g (l (Register i)) (l (Register r))) z) (λ k. Goes (at_items rest l k ws))) is)
+store_at x w a g i r rest l h s (e, st, inside) (Some v) is =
+    let items = first_items x w a (Store g i r) rest st in
+    let fine = st.fine.0 in
+    let n = l (Register i) in
+    let lt = (got (object_words h g) n v is).0 in
+    let b = x.layout.base g in
+    let k = with_element h g n (l (Register r)) in
+    let at = b + 4 * n in
+    let u = at_element s i b in
+    let wu = within_element x l h s i b inside in
+    let step = store_step x.code u (x.place + 4 * a + 4 + 4 + 4) 5 r (low b) at (ap (λ n. n + 4 + 4 + 4) e) items.1.1.1.0 (element_address x l h s g i fine.0 lt inside) (element_accessible x h s g n lt inside.shares) ∙ ap (λ n. Continues (record u { pc = u.pc + 4; memory = with_word u.memory at n })) (sym (wu.same r fine.1)) in
+    inl (stepped x (Store g i r ∷ rest) rest l l h k s (λ ws. ap (λ z. tried (option_map (λ old. with_element h g (l (Register i)) (l (Register r))) z) (λ k. Goes (at_items rest l k ws))) is)
+    (element_reaches x rest l k s (x.place + 4 * a) i b e items.0 items.1.0 items.1.1.0
+    (reach_by x rest l k u (record u { pc = u.pc + 4; memory = with_word u.memory at (l (Register r)) }) _ (a + 4) step (ap (λ n. n + 4 + 4 + 4 + 4) e ∙ behind_4 x.place a) (standing_tail x w a (Store g i r) rest st) (within_store x l h u (u.pc + 4) g n (l (Register r)) lt (word_of_register x l h s r fine.1 inside) wu))))
+
+pub store_case : (x : Site) (w a g i r : ℕ) (rest : List linear.Item) (l : Locations) (h : World) (s : State) → Given x w a (Store g i r ∷ rest) l h s → Case x (Store g i r ∷ rest) l h s
+store_case x w a g i r rest l h s given = store_at x w a g i r rest l h s given (element h g (l (Register i))) refl
+
+-- ---- input and output
+
+not_kept : (f : Frame) (r : ℕ) → 10 ≤ r → r ≤ 17 → IsTarget f r
+not_kept f r lo hi = ((omega arith, omega arith), λ k. elim k [ inl q ↦ absurd (omega arith) | inr q ↦ absurd (omega arith) ])
+
+-- the number of a service
+numbered : State → ℕ → State
+numbered s n = record s { pc = s.pc + 4; registers = with_register s.registers 17 n }
+
+number_step : (x : Site) (l : Locations) (h : World) (s : State) (p n : ℕ) → s.pc ≡ p → n < 2 ^ 32 → x.code p ≡ Some (OpImm Addi 17 0 n) → Within x l h s → machine_step x.code s ≡ Continues (numbered s n)
+unfolding numbered
+number_step x l h s p n e lt f w =
+    let value : add (s.registers 0) n ≡ n = (let z = w.sound.zero in omega arith) in
+    step_at x.code s p (OpImm Addi 17 0 n) e f ∙ ap (λ v. puts 17 v s) value
+
+number_within : (x : Site) (l : Locations) (h : World) (s : State) (n : ℕ) → n < 2 ^ 32 → Within x l h s → Within x (put (Register 17) n l) h (numbered s n)
+unfolding numbered
+number_within x l h s n lt w = within_set x l h s (s.pc + 4) 17 n (not_kept x.frame 17 (omega arith) (omega arith)) lt w
+
+pub write_case : (x : Site) (w a : ℕ) (rest : List linear.Item) (l : Locations) (h : World) (s : State) → Given x w a (Write ∷ rest) l h s → Stepped x (Write ∷ rest) l h s
+unfolding numbered
+write_case x w a rest l h s (e, st, inside) =
+    let items = first_items x w a Write rest st in
+    let u = numbered s 1 in
+    let wu = number_within x l h s 1 (omega arith) inside in
+    let k = put (Register 17) 1 l in
+    let v = l (Register 10) in
+    let t : State = record u { pc = u.pc + 4; output = u.output ++ (v ∷ []) } in
+    let step : machine_step x.code u ≡ Continues t = step_at x.code u (x.place + 4 * a + 4) Ecall (ap (λ n. n + 4) e) items.1.0 ∙ ap (λ v. Continues (record u { pc = u.pc + 4; output = u.output ++ (v ∷ []) })) (sym (inside.same 10 (omega arith, omega arith))) in
+    record {
+      front = 1 ∷ [];
+      are_words = (omega arith, tt);
+      next = rest;
+      locations = k;
+      world = after_write v h;
+      moves = λ ws. refl;
+      reaches = reach_more x rest k (after_write v h) s u (number_step x l h s (x.place + 4 * a) 1 e (omega arith) items.0 inside)
+          (reach_by x rest k (after_write v h) u t _ (a + 2) step (ap (λ n. n + 4 + 4) e ∙ behind_2 x.place a) (standing_tail x w a Write rest st) (within_pc x k (after_write v h) (record u { output = u.output ++ (v ∷ []) }) (u.pc + 4) (within_write x k h u v wu)));
+    }
+
+pub read_case : (x : Site) (w a : ℕ) (rest : List linear.Item) (l : Locations) (h : World) (s : State) → Given x w a (Read ∷ rest) l h s → Stepped x (Read ∷ rest) l h s
+unfolding numbered
+read_case x w a rest l h s (e, st, inside) =
+    let items = first_items x w a Read rest st in
+    let u = numbered s 2 in
+    let wu = number_within x l h s 2 (omega arith) inside in
+    let v = next_word h in
+    let k = put (Register 10) v (put (Register 17) 2 l) in
+    let t : State = record u { pc = u.pc + 4; registers = with_register u.registers 10 v; input = machine.rest_of u.input } in
+    let same : machine.first_or_zero u.input ≡ v = same_first u.input ∙ ap first_or_zero inside.shares.input in
+    let lt : v < 2 ^ 32 = subst (λ n. n < 2 ^ 32) (sym (same_first u.input) ∙ same) (first_word u.input inside.sound.input) in
+    let step : machine_step x.code u ≡ Continues t = step_at x.code u (x.place + 4 * a + 4) Ecall (ap (λ n. n + 4) e) items.1.0 ∙ ap (λ n. Continues (record u { pc = u.pc + 4; registers = with_register u.registers 10 n; input = machine.rest_of u.input })) same in
+    let set_v = within_set x (put (Register 17) 2 l) h u (u.pc + 4) 10 v (not_kept x.frame 10 (omega arith) (omega arith)) lt wu in
+    record {
+      front = 2 ∷ [];
+      are_words = (omega arith, tt);
+      next = rest;
+      locations = k;
+      world = after_read h;
+      moves = λ ws. refl;
+      reaches = reach_more x rest k (after_read h) s u (number_step x l h s (x.place + 4 * a) 2 e (omega arith) items.0 inside)
+          (reach_by x rest k (after_read h) u t _ (a + 2) step (ap (λ n. n + 4 + 4) e ∙ behind_2 x.place a) (standing_tail x w a Read rest st) (within_read x k h (record u { pc = u.pc + 4; registers = with_register u.registers 10 v }) set_v));
+    }

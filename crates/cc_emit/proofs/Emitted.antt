@@ -1,0 +1,330 @@
+-- The code of a Linear function does what the function does: by induction on the moves of its run, the words that nobody knows chosen
+-- as those that the machine's registers and memory hold.
+use Rattle.std.proofs.Common.{◌≡◌, ℕ, zero, suc, ◌+◌, ◌-◌, ◌*◌, ◌%◌, ◌<◌, ◌≤◌, List, [], ◌∷◌, ◌++◌, length, get_or, take, drop, refl, sym, ap, ap₂, ◌∙◌, subst, inl, inr, arith}
+use Rattle.std.specs.Prelude.{if◌then◌else◌, nat_le}
+use Rattle.std.proofs.Math.Nat.{mul-suc, mul-le-mul_left, mul-add, add-mul, mul_assoc}
+use Rattle.std.proofs.lemmas.List.{length-append}
+use Rattle.cc_runs.specs.Behavior.{AreWords, Ended, Going, Outcome, Stop, Wrong}
+use Rattle.cc_runs.specs.World.{Answer, Effect, Failed, Gives, Unfinished, World}
+use Rattle.cc_runs.specs.Run.{Fails, Move, act, resumed, run, work, work_act, work_resumed}
+use Rattle.cc_runs.specs.Meaning.{Later as Lasts, Meaning, call_effect}
+use Rattle.cc_runs.specs.Tracks.{Keeps, TracksForAll}
+use Rattle.cc_runs.specs.Unknown.{survives}
+use Rattle.cc_ltl.specs.declared.location.Location.{Location}
+use Rattle.cc_ltl.specs.declared.location.Location.TheVariants.{Register, Slot}
+use Rattle.cc_ltl.specs.Ltl.{Locations, put, words_from, after_call, at_entry}
+use Rattle.cc_linear.specs.declared.item.Item as linear
+use Rattle.cc_linear.specs.declared.item.Item.TheVariants.{Label, Jump, IfNonzero, IfZero, Copy, Const, Unary, Binary, Load, Store, Call, Read, Write, Return}
+use Rattle.cc_linear.specs.Linear.{Configuration, at_items, answered, linear_move, linear_output, linear_start}
+use Rattle.cc_rv32.specs.Machine.{Continues, State, stack_from}
+use Rattle.cc_emit.specs.Contract.{CallsMeet, Code, ComesBack, Enters, IsPlace, IsSound, Layout, Meets, Path, PieceMeets, Placed}
+use Rattle.cc_emit.specs.Frames.{Frame}
+use Rattle.cc_emit.specs.Emission.{emitted, framed_items, prologue, prologue_size, saving, stack_moved}
+use Rattle.cc_emit.proofs.Fine.{AreFine, IsFrame, Member}
+use Rattle.cc_emit.proofs.Basics.{words_append, listed, listed_words, take_listed, drop_listed}
+use Rattle.cc_emit.proofs.Places.{length_saving, length_stack_moved, seen_first}
+use Rattle.cc_emit.proofs.Standing.{Site, Standing, Stands, near, labels, machine_step, path_then, first_items, standing_tail, placed_append, between}
+use Rattle.cc_emit.proofs.Within.{Within}
+use Rattle.cc_emit.proofs.Cases.{Stepped, Case, StandsWhole, jump_case, if_zero_case, if_nonzero_case, const_case, copy_case, unary_case, binary_case, load_case, store_case, read_case, write_case}
+use Rattle.cc_emit.proofs.Returning.{return_path, called, called_step, enters_callee, return_place, regained, within_behind, framed, prologue_path, framed_pc, found, framed_within}
+
+abbrev pub DoesBy : {b : List ℕ} (y : Layout b) (code : Code) (rate : ℕ) (from s : State) → Stop Answer → List ℕ → ℕ → Type 0
+DoesBy y code rate from s Going o done = (m : ℕ) × (t : State) × Path code m s t × (t.output ≡ o) × (done ≤ rate * m)
+DoesBy y code rate from s (Ended r) o done = (m : ℕ) × (t : State) × Path code m s t × ComesBack y from r t × (done ≤ rate * m)
+DoesBy y code rate from s Wrong o done = Unit {0}
+
+-- what the machine does, of a run of Linear with this much work
+abbrev pub Does : {b : List ℕ} (y : Layout b) (code : Code) (rate : ℕ) (from s : State) → Outcome Answer → ℕ → Type 0
+Does y code rate from s z done = DoesBy y code rate from s z.stop z.output done
+
+-- more is done where a path leads on
+does_then : {b : List ℕ} (y : Layout b) (code : Code) (rate : ℕ) (from s t : State) (stop : Stop Answer) (o : List ℕ) (v m more : ℕ) → Path code m s t → more ≤ rate * m → DoesBy y code rate from t stop o v → DoesBy y code rate from s stop o (more + v)
+does_then y code rate from s t Going o v m more p b (k, u, q, e, c) = (m + k, u, path_then code m k s t u p q, e, (let f = mul-add rate m k in omega arith))
+does_then y code rate from s t (Ended r) o v m more p b (k, u, q, e, c) = (m + k, u, path_then code m k s t u p q, e, (let f = mul-add rate m k in omega arith))
+does_then y code rate from s t Wrong o v m more p b x = tt
+
+-- one move, paid by an instruction at least
+one_move : {b : List ℕ} (y : Layout b) (code : Code) (rate : ℕ) (from s t : State) (z : Outcome Answer) (v m : ℕ) → 1 ≤ rate → Path code (suc m) s t → Does y code rate from t z v → Does y code rate from s z (suc v)
+one_move y code rate from s t z v m one p x =
+    let f : 1 + v ≡ suc v = omega arith in
+    let g : 1 ≤ rate * suc m = let h = mul-suc rate m in omega arith in
+    subst (Does y code rate from s z) f (does_then y code rate from s t z.stop z.output v (suc m) 1 p g x)
+
+call_paid : (c m n : ℕ) → 1 ≤ c → n ≤ c + c * m → suc n ≤ (c + c) * suc m
+call_paid c m n one h = let f = mul-suc (c + c) m in let g = add-mul c c m in omega arith
+
+module _ (x : Site) (c d : ℕ) (one : 1 ≤ c) (below : d < 1024) (all_places : (g : ℕ) → g < x.meaning.functions → IsPlace (x.places g)) (calls : CallsMeet x.meaning x.layout x.code x.places c (suc d))
+    (sound : IsSound x.from) (back : x.from.registers 1 % 4 ≡ 0) (room : stack_from + 2032 * (1024 - d) ≤ x.from.registers 2) (all : StandsWhole x) where
+  abbrev rate : ℕ
+  rate = c + c
+
+  abbrev Done : State → Outcome Answer → ℕ → Type 0
+  Done s z done = Does x.layout x.code rate x.from s z done
+
+  abbrev lrun : ℕ → ℕ → Configuration → Outcome Answer
+  lrun k j q = run (linear_move x.meaning.arity x.items) linear_output (call_effect x.meaning (suc d)) k j q
+
+  abbrev lwork : ℕ → ℕ → Configuration → ℕ
+  lwork k j q = work (linear_move x.meaning.arity x.items) (call_effect x.meaning (suc d)) k j q
+
+  abbrev FollowsWith : (k j : ℕ) → Configuration → State → Type 0
+  FollowsWith k j q s = (i steps : ℕ) → i ≤ k → steps ≤ j → Done s (lrun i steps q) (lwork i steps q)
+
+  -- some words, for all smaller cuts at once
+  abbrev Simulated : (k j : ℕ) → List linear.Item → Locations → World → State → Type 0
+  Simulated k j ops l h s = (words : List ℕ) × AreWords words × FollowsWith k j (at_items ops l h words) s
+
+  two : 1 ≤ rate
+  two = omega arith
+
+  here : (s : State) (o : List ℕ) → s.output ≡ o → DoesBy x.layout x.code rate x.from s Going o 0
+  here s o e = (0, s, refl, e, omega arith)
+
+  -- what is owed of a move
+  abbrev Owes : (i steps : ℕ) → List ℕ → State → Move Configuration → Type 0
+  Owes i steps o s mv = Done s (act (call_effect x.meaning (suc d)) mv o steps (lrun i)) (work_act (call_effect x.meaning (suc d)) mv steps (lwork i))
+
+  stepped_follows : (k j : ℕ) (ops : List linear.Item) (l : Locations) (h : World) (s : State) → s.output ≡ h.output → (z : Stepped x ops l h s) → (words : List ℕ) → FollowsWith k j (at_items z.next z.locations z.world words) z.reaches.to
+      → FollowsWith (suc k) j (at_items ops l h (z.front ++ words)) s
+  stepped_follows k j ops l h s o z words f zero steps le les = here s h.output o
+  stepped_follows k j ops l h s o z words f (suc i) steps le les =
+      let q = at_items z.next z.locations z.world words in
+      subst (Owes i steps h.output s) (sym (z.moves words)) (one_move x.layout x.code rate x.from s z.reaches.to (lrun i steps q) (lwork i steps q) z.reaches.more two z.reaches.path (f i steps (omega arith) les))
+
+  fails_follows : (k j : ℕ) (ops : List linear.Item) (l : Locations) (h : World) (s : State) → s.output ≡ h.output → (words : List ℕ) → linear_move x.meaning.arity x.items (at_items ops l h words) ≡ Fails → FollowsWith k j (at_items ops l h words) s
+  fails_follows k j ops l h s o words e zero steps le les = here s h.output o
+  fails_follows k j ops l h s o words e (suc i) steps le les = subst (Owes i steps h.output s) (sym e) tt
+
+  -- all that is to come
+  abbrev Later : ℕ → Type 0
+  Later k = (j w a : ℕ) (ops : List linear.Item) (l : Locations) (h : World) (s : State) → s.pc ≡ x.place + 4 * a → Standing x w a ops → Within x l h s → Simulated k j ops l h s
+
+  at_stepped : (k j : ℕ) (ops : List linear.Item) (l : Locations) (h : World) (s : State) → Later k → s.output ≡ h.output → Stepped x ops l h s → Simulated (suc k) j ops l h s
+  at_stepped k j ops l h s later o z =
+      let r = z.reaches in
+      let next = later j r.long r.offset z.next z.locations z.world r.to r.at r.standing r.within in
+      (z.front ++ next.0, words_append z.front next.0 z.are_words next.1, stepped_follows k j ops l h s o z next.0 next.2)
+
+  at_case : (k j : ℕ) (ops : List linear.Item) (l : Locations) (h : World) (s : State) → Later k → s.output ≡ h.output → Case x ops l h s → Simulated (suc k) j ops l h s
+  at_case k j ops l h s later o (inl z) = at_stepped k j ops l h s later o z
+  at_case k j ops l h s later o (inr e) = ([], tt, fails_follows (suc k) j ops l h s o [] (e []))
+
+  -- ---- calls
+
+  abbrev effect : ℕ → (g : ℕ) → Locations → World → Effect
+  effect j g l h = x.meaning.call j (suc d) g (words_from 10 (x.meaning.arity g) l) h
+
+  abbrev Comes : ℕ → (ops : List linear.Item) (l : Locations) → State → List ℕ → ℕ → Effect → Type 0
+  Comes i ops l s words steps e = Done s (resumed e (answered ops l words) (lrun i)) (suc (work_resumed e (answered ops l words) steps (lwork i)))
+
+  -- after the call the run of Linear finds in its locations what the machine's hold
+  same_call : (l : Locations) (t : State) (words : List ℕ) → after_call (listed 32 0 t.registers ++ words) l ≡ regained l t
+  same_call l t words = λ i k. at_location k i
+    where
+      at_location : (k : Location) → after_call (listed 32 0 t.registers ++ words) l k ≡ regained l t k
+      at_location (Register r) = ap (λ xs. if survives r then l (Register r) else get_or xs r 0) (take_listed 32 0 t.registers words)
+      at_location (Slot i) = refl
+
+  same_configuration : (ops : List linear.Item) (l : Locations) (a : Answer) (t : State) (words : List ℕ) → answered ops l (listed 32 0 t.registers ++ words) a ≡ at_items ops (put (Register 10) a.value (regained l t)) a.world words
+  same_configuration ops l a t words =
+      ap₂ (λ (k : Locations) (xs : List ℕ). at_items ops (put (Register 10) a.value k) a.world xs) (same_call l t words) (drop_listed 32 0 t.registers words)
+
+  -- a call that gives its answer
+  answers : (i steps left n : ℕ) (s : State) (ops : List linear.Item) (l : Locations) (g : ℕ) (a : Answer) (t : State) (words : List ℕ) → machine_step x.code s ≡ Continues (called s (x.places g)) → Path x.code n (called s (x.places g)) t → steps ≤ left + c + c * n
+      → Done t (lrun i left (at_items ops (put (Register 10) a.value (regained l t)) a.world words)) (lwork i left (at_items ops (put (Register 10) a.value (regained l t)) a.world words))
+      → Comes i ops l s (listed 32 0 t.registers ++ words) steps (Gives a left)
+  answers i steps left n s ops l g a t words to p le z =
+      let P : Configuration → Type 0 = λ q. Done t (lrun i left q) (lwork i left q) in
+      let q = answered ops l (listed 32 0 t.registers ++ words) a in
+      let y : P q = subst P (sym (same_configuration ops l a t words)) z in
+      let v = lwork i left q in
+      let e : suc (steps - left) + v ≡ suc (steps - left + v) = omega arith in
+      let r = lrun i left q in
+      subst (Done s r) e (does_then x.layout x.code rate x.from s t r.stop r.output v (suc n) (suc (steps - left)) (called s (x.places g), to, p) (call_paid c n (steps - left) one (omega arith)) y)
+
+  -- a call that doesn't, within these steps
+  unfinished : (s : State) (ops : List linear.Item) (l : Locations) (g i steps : ℕ) (words o : List ℕ) → machine_step x.code s ≡ Continues (called s (x.places g)) → Meets x.layout x.code c c steps (called s (x.places g)) (Unfinished o) → Comes i ops l s words steps (Unfinished o)
+  unfinished s ops l g i steps words o to (n, t, p, q, b) = (suc n, t, (called s (x.places g), to, p), q, call_paid c n steps one b)
+
+  abbrev EntersBy : (g : ℕ) → Locations → World → State → Type 0
+  EntersBy g l h s = Enters x.meaning x.layout g (suc d) (x.places g) (words_from 10 (x.meaning.arity g) l) h (called s (x.places g))
+
+  at_call : (s : State) (ops : List linear.Item) (l : Locations) (h : World) (g i steps : ℕ) (words : List ℕ) → machine_step x.code s ≡ Continues (called s (x.places g)) → g < x.meaning.functions → EntersBy g l h s
+      → ((a : Answer) (left : ℕ) → effect steps g l h ≡ Gives a left → Comes i ops l s words steps (Gives a left)) → (e : Effect) → effect steps g l h ≡ e → Comes i ops l s words steps e
+  at_call s ops l h g i steps words to lt enter f (Gives a left) eq = f a left eq
+  at_call s ops l h g i steps words to lt enter f (Unfinished o) eq =
+      unfinished s ops l g i steps words o to (subst (Meets x.layout x.code c c steps (called s (x.places g))) eq (calls g (words_from 10 (x.meaning.arity g) l) h (called s (x.places g)) steps lt enter))
+  at_call s ops l h g i steps words to lt enter f (Failed o) eq = tt
+
+  call_follows : (k j : ℕ) (s : State) (ops : List linear.Item) (l : Locations) (h : World) (g : ℕ) (words : List ℕ) → s.output ≡ h.output → machine_step x.code s ≡ Continues (called s (x.places g)) → g < x.meaning.functions → EntersBy g l h s
+      → ((i steps : ℕ) → i ≤ k → steps ≤ j → (a : Answer) (left : ℕ) → effect steps g l h ≡ Gives a left → Comes i ops l s words steps (Gives a left))
+      → FollowsWith (suc k) j (at_items (Call g ∷ ops) l h words) s
+  call_follows k j s ops l h g words o to lt enter f zero steps le les = here s h.output o
+  call_follows k j s ops l h g words o to lt enter f (suc i) steps le les = at_call s ops l h g i steps words to lt enter (f i steps (omega arith) les) (effect steps g l h) refl
+
+  -- where the call gives no answer within j steps, it gives none within fewer
+  none_fewer : (j steps g left : ℕ) (l : Locations) (h : World) (a : Answer) → steps ≤ j → effect steps g l h ≡ Gives a left → effect j g l h ≡ Gives a (left + (j - steps))
+  none_fewer j steps g left l h a le eq =
+      let e : steps + (j - steps) ≡ j = omega arith in
+      ap (λ q. effect q g l h) (sym e) ∙ subst (λ e. Lasts (j - steps) e (effect (steps + (j - steps)) g l h)) eq (x.meaning.later steps (j - steps) (suc d) g (words_from 10 (x.meaning.arity g) l) h)
+
+  call_simulated : (k j w a0 : ℕ) (s : State) (ops : List linear.Item) (l : Locations) (h : World) (g : ℕ) → Member 1 x.frame.saved → Within x l h s → s.pc ≡ x.place + 4 * a0 → Standing x w (a0 + 1) ops → machine_step x.code s ≡ Continues (called s (x.places g)) → g < x.meaning.functions → EntersBy g l h s → Later k
+      → (e : Effect) → effect j g l h ≡ e → Simulated (suc k) j (Call g ∷ ops) l h s
+  call_simulated k j w a0 s ops l h g saves inside here_at st to lt enter later (Gives a left) eq =
+      let met : Meets x.layout x.code c c j (called s (x.places g)) (Gives a left) = subst (Meets x.layout x.code c c j (called s (x.places g))) eq (calls g (words_from 10 (x.meaning.arity g) l) h (called s (x.places g)) j lt enter) in
+      let p = met.0 in
+      let t = met.1 in
+      let back = met.3 in
+      let paid = met.4 in
+      let to_next : t.pc ≡ x.place + 4 * (a0 + 1) = back.at ∙ return_place s (x.places g) ∙ ap (λ b. b + 4) here_at ∙ (let e : x.place + 4 * a0 + 4 ≡ x.place + 4 * (a0 + 1) = omega arith in e) in
+      let onward = later left w (a0 + 1) ops (put (Register 10) a.value (regained l t)) a.world t to_next st (within_behind x l h s (x.places g) a t saves inside back) in
+      let mine = listed 32 0 t.registers in (
+        mine ++ onward.0,
+        words_append mine onward.0 (listed_words 32 0 t.registers (λ r lo hi. back.sound.registers r)) onward.1,
+        call_follows k j s ops l h g (mine ++ onward.0) inside.shares.output to lt enter (λ i steps le les b rest e.
+            let same : Gives a left ≡ Gives b (rest + (j - steps)) = sym eq ∙ none_fewer j steps g rest l h b les e in
+            let a_b : a ≡ b = cc in
+            let lefts : left ≡ rest + (j - steps) = cc in
+            let fewer = (x.meaning.exact (suc d) g (words_from 10 (x.meaning.arity g) l) h steps rest b e).0 in
+            subst (λ q. Comes i ops l s (mine ++ onward.0) steps (Gives q rest)) a_b (answers i steps rest p s ops l g a t onward.0 to met.2 (omega arith) (onward.2 i rest le (omega arith)))),
+      )
+  call_simulated k j w a0 s ops l h g saves inside here_at st to lt enter later (Unfinished o) eq =
+      ([], tt, call_follows k j s ops l h g [] inside.shares.output to lt enter (λ i steps le les b rest e. absurd (let same : Unfinished o ≡ Gives b (rest + (j - steps)) = sym eq ∙ none_fewer j steps g rest l h b les e in cc)))
+  call_simulated k j w a0 s ops l h g saves inside here_at st to lt enter later (Failed o) eq =
+      ([], tt, call_follows k j s ops l h g [] inside.shares.output to lt enter (λ i steps le les b rest e. absurd (let same : Failed o ≡ Gives b (rest + (j - steps)) = sym eq ∙ none_fewer j steps g rest l h b les e in cc)))
+
+  -- ---- the rest
+
+  return_follows : (k j : ℕ) (s : State) (ops : List linear.Item) (l : Locations) (h : World) → s.output ≡ h.output → (n : ℕ) × (t : State) × Path x.code n s t × ComesBack x.layout x.from (record { value = l (Register 10); world = h }) t → FollowsWith (suc k) j (at_items (Return ∷ ops) l h []) s
+  return_follows k j s ops l h o p zero steps le les = here s h.output o
+  return_follows k j s ops l h o p (suc i) steps le les = (p.0, p.1, p.2, p.3, omega arith)
+
+  -- a label is no move
+  label_follows : (k j n : ℕ) (s : State) (ops : List linear.Item) (l : Locations) (h : World) (words : List ℕ) → FollowsWith k j (at_items ops l h words) s → FollowsWith k j (at_items (Label n ∷ ops) l h words) s
+  label_follows k j n s ops l h words f zero steps le les = f zero steps le les
+  label_follows k j n s ops l h words f (suc i) steps le les = f (suc i) steps le les
+
+  at_none : (j : ℕ) (ops : List linear.Item) (l : Locations) (h : World) (s : State) → s.output ≡ h.output → FollowsWith 0 j (at_items ops l h []) s
+  at_none j ops l h s o zero steps le les = here s h.output o
+  at_none j ops l h s o (suc i) steps le les = absurd (omega arith)
+
+  simulate_next : (k : ℕ) → Later k → Later (suc k)
+  simulate_next k later j w a [] l h s e st inside = ([], tt, fails_follows (suc k) j [] l h s inside.shares.output [] refl)
+  simulate_next k later j w a (Label n ∷ ops) l h s e st inside =
+      let z : a + 0 ≡ a = omega arith in
+      let r = simulate_next k later j (w + 0) a ops l h s e (subst (λ b. Standing x (w + 0) b ops) z (standing_tail x w a (Label n) ops st)) inside in
+      (r.0, r.1, label_follows (suc k) j n s ops l h r.0 r.2)
+  simulate_next k later j w a (Jump n ∷ ops) l h s e st inside = at_stepped k j (Jump n ∷ ops) l h s later inside.shares.output (jump_case x w a n ops l h s (e, st, inside) all)
+  simulate_next k later j w a (IfZero r n ∷ ops) l h s e st inside = at_stepped k j (IfZero r n ∷ ops) l h s later inside.shares.output (if_zero_case x w a r n ops l h s (e, st, inside) all)
+  simulate_next k later j w a (IfNonzero r n ∷ ops) l h s e st inside = at_stepped k j (IfNonzero r n ∷ ops) l h s later inside.shares.output (if_nonzero_case x w a r n ops l h s (e, st, inside) all)
+  simulate_next k later j w a (Copy m ∷ ops) l h s e st inside = at_stepped k j (Copy m ∷ ops) l h s later inside.shares.output (copy_case x w a m ops l h s (e, st, inside))
+  simulate_next k later j w a (Const to v ∷ ops) l h s e st inside = at_stepped k j (Const to v ∷ ops) l h s later inside.shares.output (const_case x w a to v ops l h s (e, st, inside))
+  simulate_next k later j w a (Unary o to b ∷ ops) l h s e st inside = at_stepped k j (Unary o to b ∷ ops) l h s later inside.shares.output (unary_case x w a to b o ops l h s (e, st, inside))
+  simulate_next k later j w a (Binary o to b c ∷ ops) l h s e st inside = at_case k j (Binary o to b c ∷ ops) l h s later inside.shares.output (binary_case x w a to b c o ops l h s (e, st, inside))
+  simulate_next k later j w a (Load g to i ∷ ops) l h s e st inside = at_case k j (Load g to i ∷ ops) l h s later inside.shares.output (load_case x w a g to i ops l h s (e, st, inside))
+  simulate_next k later j w a (Store g i b ∷ ops) l h s e st inside = at_case k j (Store g i b ∷ ops) l h s later inside.shares.output (store_case x w a g i b ops l h s (e, st, inside))
+  simulate_next k later j w a (Read ∷ ops) l h s e st inside = at_stepped k j (Read ∷ ops) l h s later inside.shares.output (read_case x w a ops l h s (e, st, inside))
+  simulate_next k later j w a (Write ∷ ops) l h s e st inside = at_stepped k j (Write ∷ ops) l h s later inside.shares.output (write_case x w a ops l h s (e, st, inside))
+  simulate_next k later j w a (Call g ∷ ops) l h s e st inside =
+      let fine = st.fine.0 in
+      let on_s : IsPlace s.pc = subst IsPlace (sym e) st.from in
+      call_simulated k j _ a s ops l h g fine.2 inside e (standing_tail x w a (Call g) ops st) (called_step x.code s (x.place + 4 * a) (x.places g) e st.from (all_places g fine.0) (first_items x w a (Call g) ops st).0) fine.0 (enters_callee x d g l h s below room fine.1 on_s inside) later (effect j g l h) refl
+  simulate_next k later j w a (Return ∷ ops) l h s e st inside = ([], tt, return_follows k j s ops l h inside.shares.output (return_path x w a ops l h s sound back e st inside))
+
+  simulate : (k : ℕ) → Later k
+  simulate zero j w a ops l h s e st inside = ([], tt, at_none j ops l h s inside.shares.output)
+  simulate (suc k) j w a ops l h s e st inside = simulate_next k (simulate k) j w a ops l h s e st inside
+
+-- ---- the whole function
+
+-- the run of Linear starts with what the machine's registers and memory hold
+same_locations : (f : Frame) (ws : List ℕ) (t : State) (words : List ℕ) → at_entry f.slots (listed 32 0 t.registers ++ (listed f.slots 0 (λ k. t.memory (t.registers 2 + 4 * k)) ++ words)) ws ≡ found f t ws
+same_locations f ws t words = λ i k. at_location k i
+  where
+    mine : List ℕ
+    mine = listed 32 0 t.registers
+
+    slots : List ℕ
+    slots = listed f.slots 0 (λ k. t.memory (t.registers 2 + 4 * k))
+
+    at_location : (k : Location) → at_entry f.slots (mine ++ (slots ++ words)) ws k ≡ found f t ws k
+    at_location (Register r) = ap (λ xs. if nat_le 10 r then get_or ws (r - 10) (get_or xs r 0) else get_or xs r 0) (take_listed 32 0 t.registers (slots ++ words))
+    at_location (Slot i) = ap (λ xs. get_or (take f.slots xs) i 0) (drop_listed 32 0 t.registers (slots ++ words)) ∙ ap (λ xs. get_or xs i 0) (take_listed f.slots 0 (λ k. t.memory (t.registers 2 + 4 * k)) words)
+
+same_start : (f : Frame) (ops : List linear.Item) (ws : List ℕ) (h : World) (t : State) (words : List ℕ)
+    → linear_start f.slots ops (listed 32 0 t.registers ++ (listed f.slots 0 (λ k. t.memory (t.registers 2 + 4 * k)) ++ words)) ws h ≡ at_items ops (found f t ws) h words
+same_start f ops ws h t words =
+    let slots = listed f.slots 0 (λ k. t.memory (t.registers 2 + 4 * k)) in
+    ap₂ (λ (k : Locations) (xs : List ℕ). at_items ops k h xs) (same_locations f ws t words)
+    (ap (λ xs. drop f.slots xs) (drop_listed 32 0 t.registers (slots ++ words)) ∙ drop_listed f.slots 0 (λ k. t.memory (t.registers 2 + 4 * k)) words)
+
+rate_paid : (r c v p m n left : ℕ) → 1 ≤ c → n ≤ left + r * suc v → v ≤ (c + c) * m → n ≤ left + (r + r) * c + (r + r) * c * (p + m)
+rate_paid r c v p m n left one a b =
+    let j : (c + c) * m ≤ (c + c) * (p + m) = mul-le-mul_left (c + c) (let z : m ≤ p + m = omega arith in z) in
+    let e : r * v ≤ r * ((c + c) * (p + m)) = mul-le-mul_left r (let z : v ≤ (c + c) * (p + m) = omega arith in z) in
+    let f : r * ((c + c) * (p + m)) ≡ r * (c + c) * (p + m) = sym (mul_assoc r (c + c) (p + m)) in
+    let g : r * (c + c) ≡ (r + r) * c = mul-add r c c ∙ sym (add-mul r r c) in
+    let i : r * (c + c) * (p + m) ≡ (r + r) * c * (p + m) = ap (λ x. x * (p + m)) g in
+    let s : r * suc v ≡ r * v + r = mul-suc r v in
+    let u : r * 1 ≤ r * c = mul-le-mul_left r one in
+    let t : (r + r) * c ≡ r * c + r * c = add-mul r r c in
+    let y : r * 1 ≡ r = omega arith in
+    omega arith
+
+meets_of : {b : List ℕ} (y : Layout b) (code : Code) (r c p n : ℕ) (s t : State) (e : Effect) (v : ℕ) (z : Outcome Answer) → 1 ≤ c → Path code p s t → Keeps r n e v z → Does y code (c + c) s t z v → Meets y code ((r + r) * c) ((r + r) * c) n s e
+meets_of y code r c p n s t (Gives a left) v z one path (e, b) does =
+    let does' = subst (λ x. Does y code (c + c) s t x v) e does in
+    (p + does'.0, does'.1, path_then code p does'.0 s t does'.1 path does'.2, does'.3, rate_paid r c v p does'.0 n left one b does'.4)
+meets_of y code r c p n s t (Unfinished o) v z one path (e, b) does =
+    let does' = subst (λ x. Does y code (c + c) s t x v) e does in
+    (p + does'.0, does'.1, path_then code p does'.0 s t does'.1 path does'.2, does'.3, (let f = rate_paid r c v p does'.0 n 0 one (omega arith) does'.4 in omega arith))
+meets_of y code r c p n s t (Failed o) v z one path k does = tt
+
+-- the function's items stand behind its prologue
+standing_all : (x : Site) → IsPlace x.place → IsPlace (x.place + 4 * length (framed_items x.layout.base x.frame x.items)) → Stands x x.place (framed_items x.layout.base x.frame x.items) → AreFine x.meaning x.frame x.items → Stands x x.place (prologue x.frame) × StandsWhole x
+standing_all x from to placed fine =
+    let f = x.frame in
+    let first = prologue f in
+    let rest = emitted x.layout.base f (near x) (labels x) 0 (prologue_size f) x.items in
+    let both = placed_append x.code x.places x.place x.place first rest placed in
+    let n : length first ≡ prologue_size f = length-append (stack_moved f _) (saving (4 * f.slots) f.saved) ∙ ap₂ (λ i k. i + k) (length_stack_moved f _) (length_saving (4 * f.slots) f.saved) in
+    let long : length (first ++ rest) ≡ length first + length rest = length-append first rest in
+    let e : x.place + 4 * length first ≡ x.place + 4 * prologue_size f = omega arith in
+    let end : x.place + 4 * length (first ++ rest) ≡ x.place + 4 * prologue_size f + 4 * length rest = omega arith in
+    let last : IsPlace (x.place + 4 * prologue_size f + 4 * length rest) = subst IsPlace end to in
+    let z = from.aligned in (
+      both.0,
+      record {
+        placed = subst (λ b. Stands x b rest) e both.1;
+        from = between x.place (x.place + 4 * prologue_size f) _ from last (omega arith) (omega arith) (omega arith);
+        to = last;
+        fine = fine;
+        seen = seen_first f x.items;
+      },
+    )
+
+enough_room : (d n top : ℕ) → d < 1024 → n ≤ 508 → stack_from + 2032 * (1024 - d) ≤ top → stack_from + 4 * n ≤ top
+enough_room d n top below small room = omega arith
+
+-- what is emitted in a frame meets a piece's contract
+pub framed_meets : (meaning : Meaning) (layout : Layout meaning.objects) (f rate : ℕ) (frame : Frame) (ops : List linear.Item) → TracksForAll meaning f rate (linear_move meaning.arity ops) linear_output (linear_start frame.slots ops) → IsFrame frame → AreFine meaning frame ops
+    → PieceMeets meaning layout f (rate + rate) (framed_items layout.base frame ops)
+framed_meets meaning layout f rate frame ops keeps is_frame fine code places place from to placed all_places d c below one calls ws h s n enters =
+    let small = is_frame.small in
+    let x : Site = record { meaning = meaning; layout = layout; frame = frame; items = ops; code = code; places = places; place = place; from = s; is_frame = is_frame; aligned = enters.aligned; room = enough_room d (frame.slots + length frame.saved) (s.registers 2) below small enters.room; top = enters.top } in
+    let bound = keeps d below ws h enters.is_call n in
+    let most = bound.0 in
+    let most_steps = bound.1 in
+    let stand = standing_all x from to placed fine in
+    let t = framed frame s in
+    let on_s : Placed code places place s.pc (prologue frame) = subst (λ b. Placed code places place b (prologue frame)) (sym enters.at) stand.0 in
+    let path : Path code (prologue_size frame) s t = prologue_path code places place frame s enters.aligned x.room enters.top small on_s in
+    let within = framed_within x f d ws h enters in
+    let sim = simulate x c d one below all_places calls enters.sound enters.back enters.room stand.1 most most_steps 0 (prologue_size frame) ops (found frame t ws) h t (framed_pc frame s place enters.at) stand.1 within in
+    let mine = listed 32 0 t.registers in
+    let slots = listed frame.slots 0 (λ k. t.memory (t.registers 2 + 4 * k)) in
+    let words = mine ++ (slots ++ sim.0) in
+    let are : AreWords words = words_append mine (slots ++ sim.0) (listed_words 32 0 t.registers (λ r lo hi. within.sound.registers r)) (words_append slots sim.0 (listed_words frame.slots 0 _ (λ i lo hi. within.sound.memory (t.registers 2 + 4 * i))) sim.1) in
+    let k = bound.2 words are in
+    let does = subst (λ q. Does layout code (c + c) s t (run (linear_move meaning.arity ops) linear_output (call_effect meaning (suc d)) k.moves k.steps q) (work (linear_move meaning.arity ops) (call_effect meaning (suc d)) k.moves k.steps q)) (sym (same_start frame ops ws h t sim.0)) (sim.2 k.moves k.steps k.few k.few_steps) in
+    meets_of layout code rate c (prologue_size frame) n s t (meaning.body n d f ws h) _ _ one path k.keeps does

@@ -1,0 +1,57 @@
+-- What emission asks of a frame and of items: that a frame saves what is written, and that items name what there is.
+use Rattle.std.specs.Prelude.{◌≡◌, ℕ, ◌+◌, ◌<◌, ◌≤◌, ◌⊎◌, List, [], ◌∷◌, length}
+use Rattle.cc_runs.specs.Meaning.{Meaning}
+use Rattle.cc_ltl.specs.declared.operation.Move.{Move}
+use Rattle.cc_ltl.specs.declared.operation.Move.TheVariants.{Between, Reload, Spill}
+use Rattle.cc_ltl.specs.Registers.{IsAllocatable}
+use Rattle.cc_ltl.specs.Ltl.{IsWord}
+use Rattle.cc_linear.specs.declared.item.Item as linear
+use Rattle.cc_linear.specs.declared.item.Item.TheVariants.{Label, Jump, IfNonzero, IfZero, Copy, Const, Unary, Binary, Load, Store, Call, Read, Write, Return}
+use Rattle.cc_emit.specs.Contract.{IsKept}
+use Rattle.cc_emit.specs.Frames.{Frame}
+
+abbrev pub Member : ℕ → List ℕ → Type 0
+Member r [] = ⊥
+Member r (x ∷ xs) = (r ≡ x) ⊎ Member r xs
+
+-- x1, x8, x9, x18 to x27
+abbrev pub IsSavable : ℕ → Type 0
+IsSavable r = (r ≡ 1) ⊎ IsKept r
+
+abbrev pub AreSavable : List ℕ → Type 0
+AreSavable [] = Unit {0}
+AreSavable (r ∷ rs) = IsSavable r × AreSavable rs
+
+pub record IsFrame (f : Frame) : Type 0 where
+  pub savable : AreSavable f.saved
+  pub small : f.slots + length f.saved ≤ 508
+
+-- a register that is written is no kept one, or saved
+abbrev pub IsTarget : Frame → ℕ → Type 0
+IsTarget f r = IsAllocatable r × (IsKept r → Member r f.saved)
+
+abbrev pub IsFineMove : Frame → Move → Type 0
+IsFineMove f (Between to from) = IsTarget f to × IsAllocatable from
+IsFineMove f (Reload to slot) = IsTarget f to × (slot < f.slots)
+IsFineMove f (Spill slot from) = (slot < f.slots) × IsAllocatable from
+
+-- a call is of a function with at most eight parameters, in a frame that saves x1
+abbrev pub IsFine : Meaning → Frame → linear.Item → Type 0
+IsFine meaning f (Label label) = Unit {0}
+IsFine meaning f (Jump to) = Unit {0}
+IsFine meaning f (IfNonzero from to) = IsAllocatable from
+IsFine meaning f (IfZero from to) = IsAllocatable from
+IsFine meaning f (Copy m) = IsFineMove f m
+IsFine meaning f (Const to word) = IsTarget f to × IsWord word
+IsFine meaning f (Unary operator to from) = IsTarget f to × IsAllocatable from
+IsFine meaning f (Binary operator to left right) = IsTarget f to × IsAllocatable left × IsAllocatable right
+IsFine meaning f (Load object to index) = IsTarget f to × IsAllocatable index
+IsFine meaning f (Store object index from) = IsAllocatable index × IsAllocatable from
+IsFine meaning f (Call function) = (function < meaning.functions) × (meaning.arity function ≤ 8) × Member 1 f.saved
+IsFine meaning f Read = Unit {0}
+IsFine meaning f Write = Unit {0}
+IsFine meaning f Return = Unit {0}
+
+abbrev pub AreFine : Meaning → Frame → List linear.Item → Type 0
+AreFine meaning f [] = Unit {0}
+AreFine meaning f (i ∷ items) = IsFine meaning f i × AreFine meaning f items

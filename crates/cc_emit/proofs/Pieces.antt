@@ -1,0 +1,78 @@
+-- The code that a pair of Linear becomes is a piece of its unit.
+use Rattle.std.proofs.Common.{◌≡◌, ℕ, zero, suc, ◌+◌, ◌<◌, ◌≤◌, Bool, true, false, cond, List, [], ◌∷◌, ◌++◌, length, map, unwrap_or, slice_get, nat_lt, refl, sym, ap, ◌∙◌, subst, arith}
+use Rattle.std.proofs.lemmas.Bool.Decides.{nat_tests}
+use Rattle.std.specs.List.{AllByRecursion}
+use Rattle.cc_syntax.specs.Tree.{Parameter, Signature, External, Declaration, Definition, Objects}
+use Rattle.cc_typing.specs.Limits.{too_many, most_parameters, parameter_excesses, external_excesses, externals_excesses}
+use Rattle.cc_typing.specs.Typed.{IsTyped, IsWithinLimits}
+use Rattle.cc_typing.specs.Scope.{FileScope, file_scope_behind, first_file_scope}
+use Rattle.cc_typing.specs.declared.rule.Offence.{Offence}
+use Rattle.cc_meaning.specs.Meaning.{Function, functions, functions_from, text_of}
+use Rattle.cc_meaning.specs.Numbered.{arity_in, objects_in}
+use Rattle.cc_linear.specs.Linear.{labels, IsItem, IsLinear}
+use Rattle.cc_linear.specs.Pair as above
+use Rattle.cc_emit.specs.Contract.{IsPiece}
+use Rattle.cc_emit.specs.Objects.{object_address}
+use Rattle.cc_emit.specs.Frames.{frame_of}
+use Rattle.cc_emit.specs.Emission.{framed_items}
+use Rattle.cc_emit.specs.Piece.{AreOf, IsPieceOfUnit, pair_items}
+use Rattle.cc_emit.proofs.Choosing.{is_frame, are_fine}
+use Rattle.cc_emit.proofs.Encoding.{framed_fit}
+use Rattle.cc_emit.proofs.Emitted.{framed_meets}
+
+-- ---- a function has at most eight parameters
+
+front_none : (xs ys : List Offence) → xs ++ ys ≡ [] → xs ≡ []
+front_none [] ys e = refl
+front_none (x ∷ xs) ys e = absurd (let z : x ∷ (xs ++ ys) ≡ [] = e in cc)
+
+back_none : (xs ys : List Offence) → xs ++ ys ≡ [] → ys ≡ []
+back_none [] ys e = e
+back_none (x ∷ xs) ys e = absurd (let z : x ∷ (xs ++ ys) ≡ [] = e in cc)
+
+none_by : (b : Bool) (o : Offence) → cond b (o ∷ []) [] ≡ [] → b ≡ false
+none_by true o e = absurd (let z : o ∷ [] ≡ [] = e in cc)
+none_by false o e = refl
+
+few_of : (s : Signature) → parameter_excesses s ≡ [] → length s.parameters ≤ 8
+few_of s e = let b = none_by (nat_lt most_parameters (length s.parameters)) (too_many s.name) e in grind (arith, nat_tests)
+
+map_length : {A B : Type 0} (g : A → B) (xs : List A) → length (map g xs) ≡ length xs
+map_length g [] = refl
+map_length g (x ∷ xs) = ap suc (map_length g xs)
+
+few_in : (externals : List External) (scope : FileScope) (g : ℕ) → externals_excesses externals ≡ [] → unwrap_or (slice_get (map (λ (h : Function). length h.parameters) (functions_from externals scope)) g) 0 ≤ 8
+few_in [] scope g none = omega arith
+few_in (Definition s body ∷ rest) scope zero none =
+    subst (λ n. n ≤ 8) (sym (map_length (λ (p : Parameter). text_of p.name) s.parameters)) (few_of s (front_none (parameter_excesses s) _ (front_none (external_excesses (Definition s body)) (externals_excesses rest) none)))
+few_in (Definition s body ∷ rest) scope (suc g) none = few_in rest (file_scope_behind (Definition s body) scope) g (back_none (external_excesses (Definition s body)) (externals_excesses rest) none)
+few_in (Declaration s ∷ rest) scope g none = few_in rest (file_scope_behind (Declaration s) scope) g (back_none (external_excesses (Declaration s)) (externals_excesses rest) none)
+few_in (Objects t os ∷ rest) scope g none = few_in rest (file_scope_behind (Objects t os) scope) g none
+
+pub few_parameters : (unit : List External) → IsWithinLimits unit → (g : ℕ) → arity_in unit g ≤ 8
+few_parameters unit limits g = few_in unit first_file_scope g (front_none (externals_excesses unit) _ limits)
+
+-- ---- the piece
+
+items_do : (p : above.Pair) → IsWithinLimits (above.tree_of p) → IsLinear p.slots (length (functions (above.tree_of p))) p.code → above.KeepsUp (above.tree_of p) p.function p.slots p.code
+    → AreOf (above.tree_of p) p.function (pair_items p)
+items_do p limits linear keeps meaning is layout in_order =
+    let tree = above.tree_of p in
+    let base : layout.base ≡ object_address (objects_in tree) = λ i g. (in_order g ∙ ap (λ (o : List ℕ). object_address o g) is.objects) i in
+    let fits : AllByRecursion (IsItem p.slots meaning.functions (labels p.code)) p.code = subst (λ n. AllByRecursion (IsItem p.slots n (labels p.code)) p.code) (sym is.functions) linear.fit in
+    let few : (g : ℕ) → meaning.arity g ≤ 8 = λ g. subst (λ (arity : ℕ → ℕ). arity g ≤ 8) (sym is.arity) (few_parameters tree limits g) in
+    let frame = frame_of p.slots p.code in
+    let fine = are_fine meaning (labels p.code) p.slots p.code few fits in
+    let framed = is_frame p.slots p.code linear.few in
+    let rate = keeps.0 in
+    let piece : IsPiece meaning layout p.function (framed_items layout.base frame p.code) = record {
+      rate = rate + rate;
+      meets = framed_meets meaning layout p.function rate frame p.code (keeps.1 meaning is) framed fine;
+      fit = framed_fit meaning layout.base frame p.code framed fine;
+    } in
+    subst (λ (b : ℕ → ℕ). IsPiece meaning layout p.function (framed_items b frame p.code)) base piece
+
+-- with what `LinearPair::code` says of a pair, and the limits of its unit
+pub piece_of : (p : above.Pair) → IsTyped (above.tree_of p) → IsWithinLimits (above.tree_of p) → p.function < length (functions (above.tree_of p)) → IsLinear p.slots (length (functions (above.tree_of p))) p.code → above.KeepsUp (above.tree_of p) p.function p.slots p.code
+    → IsPieceOfUnit (record { unit = p.unit; function = p.function; items = pair_items p })
+piece_of p typed limits lt linear keeps = record { typed = typed; function = lt; items = items_do p limits linear keeps }

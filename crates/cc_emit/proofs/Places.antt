@@ -1,0 +1,204 @@
+-- Sizes and places: an item has as many items as its size says, and a branch that is near in the first pass is so in the second,
+-- since from the first to the second distances do not grow.
+use Rattle.std.proofs.Common.{◌≡◌, ℕ, suc, ◌+◌, ◌-◌, ◌*◌, ◌^◌, ◌<◌, ◌≤◌, ◌⊎◌, List, [], ◌∷◌, ◌++◌, true, false, Bool, length, refl, sym, ap, ◌∙◌, subst, inl, inr, arith}
+use Rattle.std.specs.Prelude.{if◌then◌else◌, ◌==◌}
+use Rattle.std.proofs.lemmas.Bool.Decides.{nat_tests}
+use Rattle.std.proofs.lemmas.List.{length-append}
+use Rattle.cc_linear.specs.declared.item.Item as linear
+use Rattle.cc_linear.specs.declared.item.Item.TheVariants.{Label, Jump, IfNonzero, IfZero, Copy, Const, Unary, Binary, Load, Store, Call, Read, Write, Return}
+use Rattle.cc_linear.specs.Linear.{place}
+use Rattle.cc_rv32.specs.Fields.{IsBranchOffset}
+use Rattle.cc_rv32.specs.declared.instr.BranchOperation.{BranchOperation}
+use Rattle.cc_rv32.specs.declared.instr.Instr.TheVariants.{Jalr}
+use Rattle.cc_emit.specs.declared.item.Item.{Item}
+use Rattle.cc_emit.specs.declared.item.Item.TheVariants.{Plain}
+use Rattle.cc_emit.specs.Frames.{Frame, frame_size}
+use Rattle.cc_emit.specs.Emission.{Recipe, Direct, ZeroOf, ZeroOfExchanged, NonzeroOf, high, low, stack_moved, stack_moved_size, restoring, saving, epilogue, prologue_size, recipe, recipe_items, recipe_size, branch_items, branch_size, items_of, size, long_size, distance, reaches, is_label, is_near, long_place, short_place, emitted}
+
+-- ---- sizes
+
+pub length_saving : (o : ℕ) (rs : List ℕ) → length (saving o rs) ≡ length rs
+length_saving o [] = refl
+length_saving o (r ∷ rs) = ap suc (length_saving (o + 4) rs)
+
+pub length_restoring : (o : ℕ) (rs : List ℕ) → length (restoring o rs) ≡ length rs
+length_restoring o [] = refl
+length_restoring o (r ∷ rs) = ap suc (length_restoring (o + 4) rs)
+
+long_if : (b : Bool) (xs ys : List Item) (m n : ℕ) → length xs ≡ m → length ys ≡ n → length (if b then xs else ys) ≡ (if b then m else n)
+long_if true xs ys m n p q = p
+long_if false xs ys m n p q = q
+
+pub length_stack_moved : (f : Frame) (by : ℕ) → length (stack_moved f by) ≡ stack_moved_size f
+length_stack_moved f by = long_if (frame_size f == 0) [] _ 0 1 refl refl
+
+length_epilogue : (f : Frame) → length (epilogue f) ≡ length f.saved + stack_moved_size f + 1
+length_epilogue f =
+    let back = restoring (4 * f.slots) f.saved in
+    let move = stack_moved f (frame_size f) in
+    let rest : List Item = move ++ Plain (Jalr 0 1 0) ∷ [] in
+    let p : length (back ++ rest) ≡ length back + length rest = length-append back rest in
+    let q : length rest ≡ length move + 1 = length-append move (Plain (Jalr 0 1 0) ∷ []) in
+    let r : length back ≡ length f.saved = length_restoring (4 * f.slots) f.saved in
+    let t : length move ≡ stack_moved_size f = length_stack_moved f (frame_size f) in
+    let e : length back + length rest ≡ length f.saved + stack_moved_size f + 1 = omega arith in
+    p ∙ e
+
+recipe_size_is : (o : Recipe) (to a b : ℕ) → length (recipe_items o to a b) ≡ recipe_size o
+recipe_size_is (Direct i) to a b = refl
+recipe_size_is (ZeroOf i) to a b = refl
+recipe_size_is (ZeroOfExchanged i) to a b = refl
+recipe_size_is (NonzeroOf i) to a b = refl
+
+branch_size_is : (near : Bool) (taken opposite : BranchOperation) (r a to : ℕ) → length (branch_items near taken opposite r a to) ≡ branch_size near
+branch_size_is near taken opposite r a to = long_if near _ _ 1 2 refl refl
+
+pub size_is : (base : ℕ → ℕ) (f : Frame) (near : ℕ → Bool) (labels : ℕ → ℕ) (a : ℕ) (i : linear.Item) → length (items_of base f near labels a i) ≡ size f near i
+size_is base f near labels a (Label n) = refl
+size_is base f near labels a (Jump n) = refl
+size_is base f near labels a (IfNonzero r n) = branch_size_is (near n) _ _ r a (labels n)
+size_is base f near labels a (IfZero r n) = branch_size_is (near n) _ _ r a (labels n)
+size_is base f near labels a (Copy m) = refl
+size_is base f near labels a (Const to w) = long_if (high w == 0) _ _ 1 (if low w == 0 then 1 else 2) refl (long_if (low w == 0) _ _ 1 2 refl refl)
+size_is base f near labels a (Unary o to b) = refl
+size_is base f near labels a (Binary o to b c) = recipe_size_is (recipe o) to b c
+size_is base f near labels a (Load g to i) = refl
+size_is base f near labels a (Store g i b) = refl
+size_is base f near labels a (Call g) = refl
+size_is base f near labels a Read = refl
+size_is base f near labels a Write = refl
+size_is base f near labels a Return = length_epilogue f
+
+branch_size_le : (near : Bool) → branch_size near ≤ 2
+branch_size_le true = omega arith
+branch_size_le false = omega arith
+
+-- in its long form an item is no shorter
+pub size_le : (f : Frame) (near : ℕ → Bool) (i : linear.Item) → size f near i ≤ long_size f i
+size_le f near (Label n) = omega arith
+size_le f near (Jump n) = omega arith
+size_le f near (IfNonzero r n) = branch_size_le (near n)
+size_le f near (IfZero r n) = branch_size_le (near n)
+size_le f near (Copy m) = omega arith
+size_le f near (Const to w) = omega arith
+size_le f near (Unary o to b) = omega arith
+size_le f near (Binary o to b c) = omega arith
+size_le f near (Load g to i) = omega arith
+size_le f near (Store g i b) = omega arith
+size_le f near (Call g) = omega arith
+size_le f near Read = omega arith
+size_le f near Write = omega arith
+size_le f near Return = omega arith
+
+-- ---- places
+
+-- the items from a label's place on are those from the first item on that is the label
+pub place_is : (i : linear.Item) (items : List linear.Item) (l : ℕ) → place (i ∷ items) l ≡ (if is_label l i then i ∷ items else place items l)
+place_is (Label n) items l = refl
+place_is (Jump n) items l = refl
+place_is (IfNonzero r n) items l = refl
+place_is (IfZero r n) items l = refl
+place_is (Copy m) items l = refl
+place_is (Const to w) items l = refl
+place_is (Unary o to b) items l = refl
+place_is (Binary o to b c) items l = refl
+place_is (Load g to i) items l = refl
+place_is (Store g i b) items l = refl
+place_is (Call g) items l = refl
+place_is Read items l = refl
+place_is Write items l = refl
+place_is Return items l = refl
+
+-- the place of a label is behind w and a, by no more in the second pass than in the first
+record IsAhead (w a long short : ℕ) : Type 0 where
+  longer : w ≤ long
+  shorter : a ≤ short
+  apart : short + w ≤ long + a
+
+ahead_if : (b : Bool) (w a long short : ℕ) → IsAhead w a long short → IsAhead w a (if b then w else long) (if b then a else short)
+ahead_if true w a long short h = record { longer = omega arith; shorter = omega arith; apart = omega arith }
+ahead_if false w a long short h = h
+
+further : (w a v b long short : ℕ) → w ≤ v → a ≤ b → b + w ≤ v + a → IsAhead v b long short → IsAhead w a long short
+further w a v b long short p q r h = let x = h.longer in let y = h.shorter in let z = h.apart in record { longer = omega arith; shorter = omega arith; apart = omega arith }
+
+is_ahead : (f : Frame) (near : ℕ → ℕ → Bool) (w a : ℕ) (items : List linear.Item) (l : ℕ) → IsAhead w a (long_place f w items l) (short_place f near w a items l)
+is_ahead f near w a [] l = record { longer = omega arith; shorter = omega arith; apart = omega arith }
+is_ahead f near w a (i ∷ items) l =
+    let le = size_le f (near w) i in
+    let next = is_ahead f near (w + long_size f i) (a + size f (near w) i) items l in
+    ahead_if (is_label l i) w a _ _ (further w a (w + long_size f i) (a + size f (near w) i) _ _ (omega arith) (omega arith) (omega arith) next)
+
+-- where a label of all items is, seen from items that stand at w and a: in front, or among them
+abbrev pub IsSeen : Frame → (all items : List linear.Item) → (w a : ℕ) → (l : ℕ) → Type 0
+IsSeen f all items w a l =
+    ((long_place f 0 all l ≤ w) × (short_place f (is_near f all) 0 (prologue_size f) all l ≤ a) × (a + long_place f 0 all l ≤ w + short_place f (is_near f all) 0 (prologue_size f) all l))
+    ⊎ ((long_place f 0 all l ≡ long_place f w items l) × (short_place f (is_near f all) 0 (prologue_size f) all l ≡ short_place f (is_near f all) w a items l))
+
+-- so of each label
+abbrev pub AreSeen : Frame → (all items : List linear.Item) → (w a : ℕ) → Type 0
+AreSeen f all items w a = (l : ℕ) → IsSeen f all items w a l
+
+pub seen_first : (f : Frame) (all : List linear.Item) → AreSeen f all all 0 (prologue_size f)
+seen_first f all l = inr (refl, refl)
+
+seen_by : (f : Frame) (all : List linear.Item) (i : linear.Item) (items : List linear.Item) (w a l : ℕ) (b : Bool) → long_place f 0 all l ≡ (if b then w else long_place f (w + long_size f i) items l)
+    → short_place f (is_near f all) 0 (prologue_size f) all l ≡ (if b then a else short_place f (is_near f all) (w + long_size f i) (a + size f (is_near f all w) i) items l)
+    → IsSeen f all items (w + long_size f i) (a + size f (is_near f all w) i) l
+seen_by f all i items w a l true p q = let le = size_le f (is_near f all w) i in inl (omega arith, omega arith, omega arith)
+seen_by f all i items w a l false p q = inr (p, q)
+
+pub seen_next : (f : Frame) (all : List linear.Item) (i : linear.Item) (items : List linear.Item) (w a : ℕ) → AreSeen f all (i ∷ items) w a → AreSeen f all items (w + long_size f i) (a + size f (is_near f all w) i)
+seen_next f all i items w a seen l =
+    elim (seen l) [ inl h ↦ (let le = size_le f (is_near f all w) i in let x = h.0 in let y = h.1 in let z = h.2 in inl (omega arith, omega arith, omega arith)) | inr h ↦ seen_by f all i items w a l (is_label l i) h.0 h.1 ]
+
+-- ---- near branches
+
+abbrev pub Nears : (from to : ℕ) → Type 0
+Nears from to = (from ≤ to + 1024) × (to < from + 1024)
+
+pub reaches_says : (from to : ℕ) → reaches from to ≡ true → Nears from to
+reaches_says from to e = grind (arith, nat_tests)
+
+near_by : (w a long short : ℕ) → Nears w long → ((long ≤ w) × (short ≤ a) × (a + long ≤ w + short)) ⊎ IsAhead w a long short → Nears a short
+near_by w a long short n (inl h) = let x = h.0 in let y = h.1 in let z = h.2 in let u = n.0 in let v = n.1 in (omega arith, omega arith)
+near_by w a long short n (inr h) = let x = h.longer in let y = h.shorter in let z = h.apart in let u = n.0 in let v = n.1 in (omega arith, omega arith)
+
+seen_ahead : (f : Frame) (all items : List linear.Item) (w a l : ℕ) → IsSeen f all items w a l
+    → ((long_place f 0 all l ≤ w) × (short_place f (is_near f all) 0 (prologue_size f) all l ≤ a) × (a + long_place f 0 all l ≤ w + short_place f (is_near f all) 0 (prologue_size f) all l)) ⊎ IsAhead w a (long_place f 0 all l) (short_place f (is_near f all) 0 (prologue_size f) all l)
+seen_ahead f all items w a l (inl h) = inl h
+seen_ahead f all items w a l (inr h) = inr (subst (λ n. IsAhead w a n (short_place f (is_near f all) 0 (prologue_size f) all l)) (sym h.0) (subst (IsAhead w a (long_place f w items l)) (sym h.1) (is_ahead f (is_near f all) w a items l)))
+
+-- a branch that is near by the first pass
+pub stays_near : (f : Frame) (all items : List linear.Item) (w a l : ℕ) → AreSeen f all items w a → is_near f all w l ≡ true → Nears a (short_place f (is_near f all) 0 (prologue_size f) all l)
+stays_near f all items w a l seen e = near_by w a (long_place f 0 all l) _ (reaches_says w (long_place f 0 all l) e) (seen_ahead f all items w a l (seen l))
+
+-- the offset of such a branch: what it is, and that the instruction can hold it
+abbrev pub DistanceIs : (from to x : ℕ) → Type 0
+DistanceIs from to x = ((from ≤ to) × (x ≡ 4 * (to - from))) ⊎ ((to < from) × (x ≡ 2 ^ 32 - 4 * (from - to)))
+
+pub distance_is : (from to : ℕ) → DistanceIs from to (distance from to)
+distance_is from to = grind (arith, nat_tests)
+
+offset_by : (from to x : ℕ) → Nears from to → DistanceIs from to x → IsBranchOffset x
+offset_by from to x n (inl h) = let u = n.0 in let v = n.1 in let p = h.0 in let q = h.1 in (omega arith, omega arith, omega arith)
+offset_by from to x n (inr h) = let u = n.0 in let v = n.1 in let p = h.0 in let q = h.1 in (omega arith, omega arith, omega arith)
+
+pub near_offset : (from to : ℕ) → Nears from to → IsBranchOffset (distance from to)
+near_offset from to n = offset_by from to (distance from to) n (distance_is from to)
+
+-- ---- all places are within the code
+
+place_if : (b : Bool) (a x y : ℕ) → a ≤ y → x ≤ y → (if b then a else x) ≤ y
+place_if true a x y p q = p
+place_if false a x y p q = q
+
+pub short_place_le : (base : ℕ → ℕ) (f : Frame) (near : ℕ → ℕ → Bool) (labels : ℕ → ℕ) (w a : ℕ) (items : List linear.Item) (l : ℕ) → short_place f near w a items l ≤ a + length (emitted base f near labels w a items)
+short_place_le base f near labels w a [] l = omega arith
+short_place_le base f near labels w a (i ∷ items) l =
+    let first = items_of base f (near w) labels a i in
+    let rest = emitted base f near labels (w + long_size f i) (a + size f (near w) i) items in
+    let n : length first ≡ size f (near w) i = size_is base f (near w) labels a i in
+    let long : length (first ++ rest) ≡ length first + length rest = length-append first rest in
+    let next = short_place_le base f near labels (w + long_size f i) (a + size f (near w) i) items l in
+    place_if (is_label l i) a (short_place f near (w + long_size f i) (a + size f (near w) i) items l) (a + length (first ++ rest)) (omega arith) (omega arith)

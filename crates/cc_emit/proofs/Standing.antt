@@ -1,0 +1,144 @@
+-- Where items stand in the code: the code from an item on, and from a label on.
+use Rattle.std.proofs.Common.{◌≡◌, ℕ, zero, suc, ◌+◌, ◌-◌, ◌*◌, ◌%◌, ◌^◌, ◌≤◌, List, [], ◌∷◌, ◌++◌, Some, true, false, Bool, length, get_or, map, refl, sym, ap, ◌∙◌, subst, arith}
+use Rattle.std.specs.Prelude.{if◌then◌else◌, ◌==◌}
+use Rattle.std.proofs.lemmas.List.{length-append}
+use Rattle.cc_rv32.specs.declared.instr.Instr.{Instr}
+use Rattle.cc_rv32.specs.declared.instr.Instr.TheVariants.{Jal}
+use Rattle.cc_rv32.specs.Machine.{Continues, State, Traps, Turn, execute, executed, stack_from, stack_to, with_register}
+use Rattle.cc_runs.specs.World.{World, object_words}
+use Rattle.cc_runs.specs.Meaning.{Meaning}
+use Rattle.cc_linear.specs.declared.item.Item as linear
+use Rattle.cc_linear.specs.Linear.{place as items_from}
+use Rattle.cc_emit.specs.declared.item.Item.{Item}
+use Rattle.cc_emit.specs.Contract.{Code, IsPlace, Layout, Path, Placed}
+use Rattle.cc_emit.specs.Frames.{Frame, frame_size}
+use Rattle.cc_emit.specs.Emission.{prologue_size, emitted, items_of, size, long_size, is_label, is_near, long_place, short_place}
+use Rattle.cc_emit.proofs.Fine.{AreFine, IsFrame}
+use Rattle.cc_emit.proofs.Basics.{eqb_yes, with_zero}
+use Rattle.cc_emit.proofs.Places.{AreSeen, size_is, place_is, seen_next}
+
+-- one instruction of some code
+abbrev pub machine_step : Code → State → Turn
+machine_step code s = executed (code s.pc) s
+
+pub path_then : (code : Code) (m k : ℕ) (s t u : State) → Path code m s t → Path code k t u → Path code (m + k) s u
+path_then code zero k s t u p q =
+    let e : k ≡ 0 + k = omega arith in
+    subst (λ n. Path code n s u) e (subst (λ x. Path code k x u) (sym p) q)
+path_then code (suc m) k s t u p q =
+    let e : suc (m + k) ≡ suc m + k = omega arith in
+    subst (λ n. Path code n s u) e (p.0, p.1, path_then code m k p.0 t u p.2 q)
+
+-- a function's code at its place, entered by a call
+pub record Site : Type 0 where
+  pub meaning : Meaning
+  pub layout : Layout meaning.objects
+  pub frame : Frame
+  pub items : List linear.Item
+  pub code : Code
+  pub places : ℕ → ℕ
+  pub place : ℕ
+  pub from : State
+  pub is_frame : IsFrame frame
+  pub aligned : from.registers 2 % 4 ≡ 0
+  pub room : stack_from + frame_size frame ≤ from.registers 2
+  pub top : from.registers 2 ≤ stack_to
+
+abbrev pub size_in : Site → ℕ → ℕ
+size_in x g = get_or x.meaning.objects g 0
+
+pub long_of : (objects : List ℕ) (h : World) → map (λ (ws : List ℕ). length ws) h.globals ≡ objects → (g : ℕ) → length (object_words h g) ≡ get_or objects g 0
+long_of objects h e g = sym (long_at h.globals g) ∙ ap (λ o. get_or o g 0) e
+  where
+    long_at : (gs : List (List ℕ)) (g : ℕ) → get_or (map (λ (ws : List ℕ). length ws) gs) g 0 ≡ length (get_or gs g [])
+    long_at [] g = refl
+    long_at (x ∷ xs) zero = refl
+    long_at (x ∷ xs) (suc g) = long_at xs g
+
+abbrev pub near : Site → (long label : ℕ) → Bool
+near x = is_near x.frame x.items
+
+abbrev pub labels : Site → ℕ → ℕ
+labels x = short_place x.frame (near x) 0 (prologue_size x.frame) x.items
+
+abbrev pub items_at : Site → (w a : ℕ) → List linear.Item → List Item
+items_at x w a ops = emitted x.layout.base x.frame (near x) (labels x) w a ops
+
+abbrev pub items_for : Site → (w a : ℕ) → linear.Item → List Item
+items_for x w a op = items_of x.layout.base x.frame (near x w) (labels x) a op
+
+abbrev pub Stands : Site → ℕ → List Item → Type 0
+Stands x p items = Placed x.code x.places x.place p items
+
+-- these items stand from an item of the piece on, w in the first pass
+pub record Standing (x : Site) (w a : ℕ) (ops : List linear.Item) : Type 0 where
+  pub placed : Stands x (x.place + 4 * a) (items_at x w a ops)
+  pub from : IsPlace (x.place + 4 * a)
+  pub to : IsPlace (x.place + 4 * a + 4 * length (items_at x w a ops))
+  pub fine : AreFine x.meaning x.frame ops
+  pub seen : AreSeen x.frame x.items ops w a
+
+pub placed_append : (code : Code) (places : ℕ → ℕ) (place a : ℕ) (xs ys : List Item) → Placed code places place a (xs ++ ys) → Placed code places place a xs × Placed code places place (a + 4 * length xs) ys
+placed_append code places place a [] ys p = (tt, subst (λ n. Placed code places place n ys) (let e : a ≡ a + 4 * 0 = omega arith in e) p)
+placed_append code places place a (x ∷ xs) ys p =
+    let q = placed_append code places place (a + 4) xs ys p.1 in
+    let e : a + 4 + 4 * length xs ≡ a + 4 * suc (length xs) = omega arith in
+    ((p.0, q.0), subst (λ n. Placed code places place n ys) e q.1)
+
+pub between : (a b c : ℕ) → IsPlace a → IsPlace c → a ≤ b → b ≤ c → b % 4 ≡ 0 → IsPlace b
+between a b c p q le lt z = let from = p.from in let to = q.to in record { aligned = z; from = omega arith; to = omega arith }
+
+-- the items of the first one
+pub first_items : (x : Site) (w a : ℕ) (op : linear.Item) (ops : List linear.Item) → Standing x w a (op ∷ ops) → Stands x (x.place + 4 * a) (items_for x w a op)
+first_items x w a op ops st =
+    (placed_append x.code x.places x.place (x.place + 4 * a) (items_for x w a op) (items_at x (w + long_size x.frame op) (a + size x.frame (near x w) op) ops) st.placed).0
+
+-- the items behind it
+pub standing_tail : (x : Site) (w a : ℕ) (op : linear.Item) (ops : List linear.Item) → Standing x w a (op ∷ ops) → Standing x (w + long_size x.frame op) (a + size x.frame (near x w) op) ops
+standing_tail x w a op ops st =
+    let b = a + size x.frame (near x w) op in
+    let first = items_for x w a op in
+    let rest = items_at x (w + long_size x.frame op) b ops in
+    let n : length first ≡ size x.frame (near x w) op = size_is x.layout.base x.frame (near x w) (labels x) a op in
+    let long : length (first ++ rest) ≡ length first + length rest = length-append first rest in
+    let e : x.place + 4 * a + 4 * length first ≡ x.place + 4 * b = omega arith in
+    let end : x.place + 4 * a + 4 * length (first ++ rest) ≡ x.place + 4 * b + 4 * length rest = omega arith in
+    let to : IsPlace (x.place + 4 * b + 4 * length rest) = subst IsPlace end st.to in
+    let z = st.from.aligned in
+    record {
+      placed = subst (λ c. Stands x c rest) e (placed_append x.code x.places x.place (x.place + 4 * a) first rest st.placed).1;
+      from = between (x.place + 4 * a) (x.place + 4 * b) _ st.from to (omega arith) (omega arith) (omega arith);
+      to = to;
+      fine = st.fine.1;
+      seen = seen_next x.frame x.items op ops w a st.seen;
+    }
+
+stands_if : (x : Site) (t : Bool) (v w a b : ℕ) (os ps : List linear.Item) → Standing x v a os → Standing x w b ps → Standing x (if t then v else w) (if t then a else b) (if t then os else ps)
+stands_if x true v w a b os ps p q = p
+stands_if x false v w a b os ps p q = q
+
+-- the items from a label on stand where the label does
+pub standing_from : (x : Site) (l w a : ℕ) (ops : List linear.Item) → Standing x w a ops → Standing x (long_place x.frame w ops l) (short_place x.frame (near x) w a ops l) (items_from ops l)
+standing_from x l w a [] st = st
+standing_from x l w a (op ∷ ops) st =
+    let v = w + long_size x.frame op in
+    let b = a + size x.frame (near x w) op in
+    subst (Standing x (long_place x.frame w (op ∷ ops) l) (short_place x.frame (near x) w a (op ∷ ops) l)) (sym (place_is op ops l))
+    (stands_if x (is_label l op) w (long_place x.frame v ops l) a (short_place x.frame (near x) v b ops l) (op ∷ ops) (items_from ops l) st (standing_from x l v b ops (standing_tail x w a op ops st)))
+
+-- ---- single steps
+
+pub step_at : (code : Code) (s : State) (a : ℕ) (i : Instr) → s.pc ≡ a → code a ≡ Some i → machine_step code s ≡ execute i s
+step_at code s a i e f = ap (λ b. executed (code b) s) e ∙ ap (λ b. executed b s) f
+
+pub arrives : (p q : ℕ) → IsPlace p → IsPlace q → (p + (q + (2 ^ 32 - p)) % 2 ^ 32) % 2 ^ 32 ≡ q
+arrives p q from to = let x = from.to in let y = to.to in omega arith
+
+-- a jump from one place to another
+pub jump_step : (code : Code) (s : State) (p q : ℕ) → s.pc ≡ p → IsPlace p → IsPlace q → code p ≡ Some (Jal 0 ((q + (2 ^ 32 - p)) % 2 ^ 32)) → machine_step code s ≡ Continues (record s { pc = q })
+jump_step code s p q e from to f =
+    let i = (q + (2 ^ 32 - p)) % 2 ^ 32 in
+    let there : (s.pc + i) % 2 ^ 32 ≡ q = ap (λ n. (n + i) % 2 ^ 32) e ∙ arrives p q from to in
+    let P : ℕ → Turn = λ n. if n % 4 == 0 then Continues (record s { pc = n; registers = with_register s.registers 0 (s.pc + 4) }) else Traps in
+    let taken : P q ≡ Continues (record s { pc = q; registers = with_register s.registers 0 (s.pc + 4) }) = ap (λ t. if t then Continues (record s { pc = q; registers = with_register s.registers 0 (s.pc + 4) }) else Traps) (eqb_yes (q % 4) 0 to.aligned) in
+    step_at code s p (Jal 0 i) e f ∙ ap P there ∙ taken ∙ ap (λ g. Continues (record s { pc = q; registers = g })) (with_zero s.registers (s.pc + 4))

@@ -1,0 +1,213 @@
+-- The machine within a function's body: what of its state the run of Linear tells, and what each change of it keeps.
+use Rattle.std.proofs.Common.{map, ◌≡◌, ℕ, zero, suc, ◌+◌, ◌*◌, ◌^◌, ◌<◌, ◌≤◌, ◌⊎◌, List, [], ◌∷◌, ◌++◌, length, get_or, refl, sym, ap, ◌∙◌, subst, inl, inr, arith}
+use Rattle.std.specs.Prelude.{set}
+use Rattle.std.proofs.lemmas.List.{get_or-set_same, get_or-set_other, length-set, get_or_past}
+use Rattle.std.proofs.lemmas.Bool.Decides.{eqb_tells}
+use Rattle.cc_rv32.specs.Machine as machine
+use Rattle.cc_rv32.specs.Machine.{State, stack_from, with_register, with_word}
+use Rattle.cc_runs.specs.Behavior.{AreWords}
+use Rattle.cc_runs.specs.World.{World, object_words, rest_of, after_read, after_write}
+use Rattle.cc_ltl.specs.declared.location.Location.TheVariants.{Register, Slot}
+use Rattle.cc_ltl.specs.Registers.{IsAllocatable}
+use Rattle.cc_ltl.specs.Ltl.{Locations, put}
+use Rattle.cc_emit.specs.Contract.{IsKept, IsSound, Shares}
+use Rattle.cc_emit.specs.Frames.{Frame, frame_size}
+use Rattle.cc_emit.proofs.Fine.{IsSavable, IsTarget, Member}
+use Rattle.cc_emit.proofs.Basics.{set_same, set_other, set_word, word_same, word_other, word_word, put_register, put_slot, rest_words, same_rest}
+use Rattle.cc_emit.proofs.Standing.{long_of, size_in, Site}
+
+-- the world with a word in an element that is there
+abbrev pub with_element : World → (g i w : ℕ) → World
+with_element h g i w = record h { globals = set h.globals g (set (object_words h g) i w) }
+
+-- the words of these registers lie from an address on
+abbrev pub SavedAt : List ℕ → (a : ℕ) → (registers memory : ℕ → ℕ) → Type 0
+SavedAt [] a f m = Unit {0}
+SavedAt (r ∷ rs) a f m = (m a ≡ f r) × SavedAt rs (a + 4) f m
+
+pub saved_moved : (rs : List ℕ) (a : ℕ) (f m k : ℕ → ℕ) → ((b : ℕ) → a ≤ b → b < a + 4 * length rs → k b ≡ m b) → SavedAt rs a f m → SavedAt rs a f k
+saved_moved [] a f m k same p = tt
+saved_moved (r ∷ rs) a f m k same p = (same a (omega arith) (omega arith) ∙ p.0, saved_moved rs (a + 4) f m k (λ b le lt. same b (omega arith) (omega arith)) p.1)
+
+pub record Within (x : Site) (l : Locations) (h : World) (s : State) : Type 0 where
+  pub sound : IsSound s
+  pub same : (r : ℕ) → IsAllocatable r → l (Register r) ≡ s.registers r
+  pub slots : (i : ℕ) → i < x.frame.slots → l (Slot i) ≡ s.memory (s.registers 2 + 4 * i)
+  pub shares : Shares x.layout s h
+  pub stack : s.registers 2 + frame_size x.frame ≡ x.from.registers 2
+  pub saved : SavedAt x.frame.saved (s.registers 2 + 4 * x.frame.slots) x.from.registers s.memory
+  pub kept : (r : ℕ) → IsSavable r → Member r x.frame.saved ⊎ (s.registers r ≡ x.from.registers r)
+  pub above : (a : ℕ) → x.from.registers 2 ≤ a → s.memory a ≡ x.from.memory a
+
+scratch_other : (r d : ℕ) → 3 ≤ d → d < 7 → IsSavable r → r ≡ d → ⊥
+scratch_other r d lo hi (inl k) e = omega arith
+scratch_other r d lo hi (inr (inl k)) e = omega arith
+scratch_other r d lo hi (inr (inr k)) e = omega arith
+
+-- the registers are others, x2 is not
+pub with_registers : (x : Site) (l k : Locations) (h : World) (s : State) (p : ℕ) (g : ℕ → ℕ) → g 0 ≡ 0 → ((r : ℕ) → g r < 2 ^ 32) → g 2 ≡ s.registers 2
+    → ((r : ℕ) → IsAllocatable r → k (Register r) ≡ g r) → ((i : ℕ) → k (Slot i) ≡ l (Slot i)) → ((r : ℕ) → IsSavable r → Member r x.frame.saved ⊎ (g r ≡ x.from.registers r)) → Within x l h s → Within x k h (record s { pc = p; registers = g })
+with_registers x l k h s p g at_0 words at_2 same slots kept w = record {
+  sound = record { zero = at_0; registers = words; memory = w.sound.memory; input = w.sound.input };
+  same = same;
+  slots = λ i lt. slots i ∙ w.slots i lt ∙ ap (λ n. s.memory (n + 4 * i)) (sym at_2);
+  shares = record { sizes = w.shares.sizes; globals = w.shares.globals; input = w.shares.input; output = w.shares.output };
+  stack = ap (λ n. n + frame_size x.frame) at_2 ∙ w.stack;
+  saved = subst (λ n. SavedAt x.frame.saved (n + 4 * x.frame.slots) x.from.registers s.memory) (sym at_2) w.saved;
+  kept = kept;
+  above = w.above;
+}
+
+target_kept : (f : Frame) (d : ℕ) → IsTarget f d → IsSavable d → IsKept d
+target_kept f d u (inl e) = absurd (let lo = u.0.0 in omega arith)
+target_kept f d u (inr k) = k
+
+kept_set : (x : Site) (s : State) (d v r : ℕ) → IsTarget x.frame d → IsSavable r → Member r x.frame.saved ⊎ (s.registers r ≡ x.from.registers r) → Member r x.frame.saved ⊎ (with_register s.registers d v r ≡ x.from.registers r)
+kept_set x s d v r u k (inl m) = inl m
+kept_set x s d v r u k (inr e) = elim (eqb_tells r d) [ inl t ↦ inl (subst (λ n. Member n x.frame.saved) (sym t.1) (u.1 (target_kept x.frame d u (subst IsSavable t.1 k)))) | inr t ↦ inr (set_other s.registers d v r t.1 ∙ e) ]
+
+-- a register that the function may set is set
+pub within_set : (x : Site) (l : Locations) (h : World) (s : State) (p d v : ℕ) → IsTarget x.frame d → v < 2 ^ 32 → Within x l h s → Within x (put (Register d) v l) h (record s { pc = p; registers = with_register s.registers d v })
+within_set x l h s p d v u b w =
+    let a = u.0.0 in
+    with_registers x l (put (Register d) v l) h s p (with_register s.registers d v) (set_other s.registers d v 0 (λ e. omega arith) ∙ w.sound.zero) (set_word s.registers d v b w.sound.registers) (set_other s.registers d v 2 (λ e. omega arith))
+    (λ r ur. put_register l d v r (with_register s.registers d v r) (λ e. sym (ap (with_register s.registers d v) (sym e) ∙ set_same s.registers d v (omega arith))) (λ e. w.same r ur ∙ sym (set_other s.registers d v r (λ q. e (sym q)))))
+    (λ i. refl)
+    (λ r k. kept_set x s d v r u k (w.kept r k)) w
+
+kept_scratch : (x : Site) (s : State) (d v r : ℕ) → (r ≡ d → ⊥) → Member r x.frame.saved ⊎ (s.registers r ≡ x.from.registers r) → Member r x.frame.saved ⊎ (with_register s.registers d v r ≡ x.from.registers r)
+kept_scratch x s d v r n (inl m) = inl m
+kept_scratch x s d v r n (inr e) = inr (set_other s.registers d v r n ∙ e)
+
+-- one that it does not have is set
+pub within_scratch : (x : Site) (l : Locations) (h : World) (s : State) (p d v : ℕ) → 3 ≤ d → d < 7 → v < 2 ^ 32 → Within x l h s → Within x l h (record s { pc = p; registers = with_register s.registers d v })
+within_scratch x l h s p d v from to b w =
+    with_registers x l l h s p (with_register s.registers d v) (set_other s.registers d v 0 (λ e. omega arith) ∙ w.sound.zero) (set_word s.registers d v b w.sound.registers) (set_other s.registers d v 2 (λ e. omega arith))
+    (λ r ur. let lo = ur.0 in w.same r ur ∙ sym (set_other s.registers d v r (λ e. omega arith)))
+    (λ i. refl)
+    (λ r k. kept_scratch x s d v r (scratch_other r d from to k) (w.kept r k)) w
+
+-- only the place is another
+pub within_pc : (x : Site) (l : Locations) (h : World) (s : State) (p : ℕ) → Within x l h s → Within x l h (record s { pc = p })
+within_pc x l h s p w = record {
+  sound = record { zero = w.sound.zero; registers = w.sound.registers; memory = w.sound.memory; input = w.sound.input };
+  same = w.same;
+  slots = w.slots;
+  shares = record { sizes = w.shares.sizes; globals = w.shares.globals; input = w.shares.input; output = w.shares.output };
+  stack = w.stack;
+  saved = w.saved;
+  kept = w.kept;
+  above = w.above;
+}
+
+-- where x2 lies
+pub low_stack : (x : Site) (l : Locations) (h : World) (s : State) → Within x l h s → stack_from ≤ s.registers 2
+low_stack x l h s w = let a = w.stack in let b = x.room in omega arith
+
+-- the word of a slot is set
+pub within_slot : (x : Site) (l : Locations) (h : World) (s : State) (p i v : ℕ) → i < x.frame.slots → v < 2 ^ 32 → Within x l h s → Within x (put (Slot i) v l) h (record s { pc = p; memory = with_word s.memory (s.registers 2 + 4 * i) v })
+within_slot x l h s p i v lt b w =
+    let at = s.registers 2 + 4 * i in
+    let stack = w.stack in
+    let from = low_stack x l h s w in
+    record {
+      sound = record { zero = w.sound.zero; registers = w.sound.registers; memory = word_word s.memory at v b w.sound.memory; input = w.sound.input };
+      same = w.same;
+      slots = λ j lj. put_slot l i v j (with_word s.memory at v (s.registers 2 + 4 * j)) (λ e. sym (ap (λ n. with_word s.memory at v (s.registers 2 + 4 * n)) (sym e) ∙ word_same s.memory at v)) (λ e. w.slots j lj ∙ sym (word_other s.memory at v (s.registers 2 + 4 * j) (λ q. e (omega arith))));
+      shares = record { sizes = w.shares.sizes; globals = λ g j lj. word_other s.memory at v _ (λ q. let t = x.layout.to g in omega arith) ∙ w.shares.globals g j lj; input = w.shares.input; output = w.shares.output };
+      stack = w.stack;
+      saved = saved_moved x.frame.saved _ x.from.registers s.memory (with_word s.memory at v) (λ c lo hi. word_other s.memory at v c (λ q. omega arith)) w.saved;
+      kept = w.kept;
+      above = λ c le. word_other s.memory at v c (λ q. omega arith) ∙ w.above c le;
+    }
+
+-- ---- a word of an object is set
+
+object_is : (h : World) (g i : ℕ) → i < length (object_words h g) → (g < length h.globals)
+object_is h g i lt = elim (le_or_lt (length h.globals) g) [ inl le ↦ absurd (let e : length (object_words h g) ≡ 0 = ap length (get_or_past h.globals g [] le) in omega arith) | inr less ↦ less ]
+  where
+    le_or_lt : (a b : ℕ) → (a ≤ b) ⊎ (b < a)
+    le_or_lt a b = grind arith
+
+same_object : (h : World) (g i v k : ℕ) → i < length (object_words h g) → k ≡ g → object_words (with_element h g i v) k ≡ set (object_words h g) i v
+same_object h g i v k lt e = ap (object_words (with_element h g i v)) e ∙ get_or-set_same h.globals g (set (object_words h g) i v) [] (object_is h g i lt)
+
+other_object : (h : World) (g i v k : ℕ) → (k ≡ g → ⊥) → object_words (with_element h g i v) k ≡ object_words h k
+other_object h g i v k e = get_or-set_other h.globals g k (set (object_words h g) i v) [] e
+
+stored_size : (h : World) (g i v k : ℕ) → i < length (object_words h g) → length (object_words (with_element h g i v) k) ≡ length (object_words h k)
+stored_size h g i v k lt =
+    elim (eqb_tells k g) [ inl t ↦ ap length (same_object h g i v k lt t.1) ∙ length-set (object_words h g) i v ∙ ap (λ n. length (object_words h n)) (sym t.1) | inr t ↦ ap length (other_object h g i v k t.1) ]
+
+set_sizes : (gs : List (List ℕ)) (g i v : ℕ) → map (λ (ws : List ℕ). length ws) (set gs g (set (get_or gs g []) i v)) ≡ map (λ (ws : List ℕ). length ws) gs
+set_sizes [] g i v = refl
+set_sizes (x ∷ xs) zero i v = ap (λ n. n ∷ map (λ (ws : List ℕ). length ws) xs) (length-set x i v)
+set_sizes (x ∷ xs) (suc g) i v = ap (λ ns. length x ∷ ns) (set_sizes xs g i v)
+
+stored_sizes : (h : World) (g i v : ℕ) → map (λ (ws : List ℕ). length ws) (with_element h g i v).globals ≡ map (λ (ws : List ℕ). length ws) h.globals
+stored_sizes h g i v = set_sizes h.globals g i v
+
+stored_word : (x : Site) (l : Locations) (h : World) (s : State) (g i v k j : ℕ) → i < length (object_words h g) → Within x l h s → j < size_in x k → with_word s.memory (x.layout.base g + 4 * i) v (x.layout.base k + 4 * j) ≡ get_or (object_words (with_element h g i v) k) j 0
+stored_word x l h s g i v k j lt w lj =
+    let y = x.layout in
+    let at = y.base g + 4 * i in
+    let long : length (object_words h g) ≡ size_in x g = long_of x.meaning.objects h w.shares.sizes g in
+    elim (eqb_tells k g) [
+      | inl t ↦
+          elim (eqb_tells j i) [
+            | inl u ↦
+                (let e : y.base k + 4 * j ≡ at = ap (λ n. y.base n + 4 * j) t.1 ∙ ap (λ n. y.base g + 4 * n) u.1 in
+                ap (with_word s.memory at v) e ∙ word_same s.memory at v ∙ sym (ap (λ n. get_or (object_words (with_element h g i v) k) n 0) u.1 ∙ ap (λ ws. get_or ws i 0) (same_object h g i v k lt t.1) ∙ get_or-set_same (object_words h g) i v 0 lt))
+            | inr u ↦
+                (let e : y.base k + 4 * j ≡ y.base g + 4 * j = ap (λ n. y.base n + 4 * j) t.1 in
+                let lg : j < size_in x g = subst (λ n. j < size_in x n) t.1 lj in
+                ap (with_word s.memory at v) e ∙ word_other s.memory at v (y.base g + 4 * j) (λ q. u.1 (omega arith)) ∙ w.shares.globals g j lg ∙ sym (ap (λ ws. get_or ws j 0) (same_object h g i v k lt t.1) ∙ get_or-set_other (object_words h g) i j v 0 u.1))
+          ]
+      | inr t ↦
+          (word_other s.memory at v (y.base k + 4 * j) (λ q. elim (y.apart g k (λ e. t.1 (sym e))) [ inl b ↦ omega arith | inr b ↦ omega arith ]) ∙ w.shares.globals k j lj ∙ sym (ap (λ ws. get_or ws j 0) (other_object h g i v k t.1)))
+    ]
+
+pub within_store : (x : Site) (l : Locations) (h : World) (s : State) (p g i v : ℕ) → i < length (object_words h g) → v < 2 ^ 32 → Within x l h s → Within x l (with_element h g i v) (record s { pc = p; memory = with_word s.memory (x.layout.base g + 4 * i) v })
+within_store x l h s p g i v lt b w =
+    let y = x.layout in
+    let at = y.base g + 4 * i in
+    let stack = w.stack in
+    let from = low_stack x l h s w in
+    let long : length (object_words h g) ≡ size_in x g = long_of x.meaning.objects h w.shares.sizes g in
+    let to = y.to g in
+    record {
+      sound = record { zero = w.sound.zero; registers = w.sound.registers; memory = word_word s.memory at v b w.sound.memory; input = w.sound.input };
+      same = w.same;
+      slots = λ j lj. w.slots j lj ∙ sym (word_other s.memory at v (s.registers 2 + 4 * j) (λ q. omega arith));
+      shares = record { sizes = stored_sizes h g i v ∙ w.shares.sizes; globals = λ k j lj. stored_word x l h s g i v k j lt w lj; input = w.shares.input; output = w.shares.output };
+      stack = w.stack;
+      saved = saved_moved x.frame.saved _ x.from.registers s.memory (with_word s.memory at v) (λ c lo hi. word_other s.memory at v c (λ q. omega arith)) w.saved;
+      kept = w.kept;
+      above = λ c le. word_other s.memory at v c (λ q. omega arith) ∙ w.above c le;
+    }
+
+-- a word of the input is taken
+pub within_read : (x : Site) (l : Locations) (h : World) (s : State) → Within x l h s → Within x l (after_read h) (record s { input = machine.rest_of s.input })
+within_read x l h s w = record {
+  sound = record { zero = w.sound.zero; registers = w.sound.registers; memory = w.sound.memory; input = subst AreWords (sym (same_rest s.input)) (rest_words s.input w.sound.input) };
+  same = w.same;
+  slots = w.slots;
+  shares = record { sizes = w.shares.sizes; globals = w.shares.globals; input = same_rest s.input ∙ ap rest_of w.shares.input; output = w.shares.output };
+  stack = w.stack;
+  saved = w.saved;
+  kept = w.kept;
+  above = w.above;
+}
+
+-- a word is written
+pub within_write : (x : Site) (l : Locations) (h : World) (s : State) (v : ℕ) → Within x l h s → Within x l (after_write v h) (record s { output = s.output ++ (v ∷ []) })
+within_write x l h s v w = record {
+  sound = record { zero = w.sound.zero; registers = w.sound.registers; memory = w.sound.memory; input = w.sound.input };
+  same = w.same;
+  slots = w.slots;
+  shares = record { sizes = w.shares.sizes; globals = w.shares.globals; input = w.shares.input; output = ap (λ o. o ++ (v ∷ [])) w.shares.output };
+  stack = w.stack;
+  saved = w.saved;
+  kept = w.kept;
+  above = w.above;
+}

@@ -1,0 +1,124 @@
+-- What the code of one function owes, on cc_rv32's machine.
+use Rattle.std.specs.Prelude.{◌≡◌, ℕ, zero, suc, ◌+◌, ◌-◌, ◌*◌, ◌%◌, ◌^◌, ◌<◌, ◌≤◌, ◌⊎◌, List, [], ◌∷◌, Option, Some, length, get_or, map}
+use Rattle.cc_rv32.specs.declared.instr.Instr.{Instr}
+use Rattle.cc_rv32.specs.declared.instr.Instr.TheVariants.{Jal}
+use Rattle.cc_emit.specs.declared.item.Item.{Item}
+use Rattle.cc_emit.specs.declared.item.Item.TheVariants.{Plain, Call, Go}
+use Rattle.cc_rv32.specs.Machine.{State, Continues, executed, globals_from, globals_to, stack_from, stack_to}
+use Rattle.cc_rv32.specs.Table.{IsEncodable}
+use Rattle.cc_runs.specs.Behavior.{AreWords}
+use Rattle.cc_runs.specs.World.{World, Answer, Effect, Gives, Unfinished, Failed, object_words}
+use Rattle.cc_runs.specs.Meaning.{Meaning, IsCall}
+
+-- what stands at each address
+abbrev pub Code : Type 0
+Code = ℕ → Option Instr
+
+-- where each object lies, by its number
+pub record Layout (objects : List ℕ) : Type 0 where
+  pub base : ℕ → ℕ
+  pub from : (g : ℕ) → globals_from ≤ base g
+  pub to : (g : ℕ) → base g + 4 * get_or objects g 0 ≤ globals_to
+  pub aligned : (g : ℕ) → base g % 4 ≡ 0
+  pub apart : (g k : ℕ) → (g ≡ k → ⊥) → (base g + 4 * get_or objects g 0 ≤ base k) ⊎ (base k + 4 * get_or objects k 0 ≤ base g)
+
+-- in m instructions the machine comes from s to t
+abbrev pub Path : Code → ℕ → State → State → Type 0
+Path code zero s t = s ≡ t
+Path code (suc m) s t = (u : State) × (executed (code s.pc) s ≡ Continues u) × Path code m u t
+
+-- the instruction that an item becomes at the address a, in a piece at `place`
+abbrev pub filled : (places : ℕ → ℕ) → (place a : ℕ) → Item → Instr
+filled places place a (Plain i) = i
+filled places place a (Call g) = Jal 1 ((places g + (2 ^ 32 - a)) % 2 ^ 32)
+filled places place a (Go n) = Jal 0 ((place + 4 * n + (2 ^ 32 - a)) % 2 ^ 32)
+
+-- the items stand at this address
+abbrev pub Placed : Code → (places : ℕ → ℕ) → (place a : ℕ) → List Item → Type 0
+Placed code places place a [] = Unit {0}
+Placed code places place a (item ∷ items) = (code a ≡ Some (filled places place a item)) × Placed code places place (a + 4) items
+
+-- what holds of every state of a run
+pub record IsSound (s : State) : Type 0 where
+  pub zero : s.registers 0 ≡ 0
+  pub registers : (r : ℕ) → s.registers r < 2 ^ 32
+  pub memory : (a : ℕ) → s.memory a < 2 ^ 32
+  pub input : AreWords s.input
+
+-- the machine's state has what the functions share
+pub record Shares {objects : List ℕ} (layout : Layout objects) (s : State) (h : World) : Type 0 where
+  pub sizes : map (λ (ws : List ℕ). length ws) h.globals ≡ objects
+  pub globals : (g i : ℕ) → i < get_or objects g 0 → s.memory (layout.base g + 4 * i) ≡ get_or (object_words h g) i 0
+  pub input : s.input ≡ h.input
+  pub output : s.output ≡ h.output
+
+-- argument i in x(10+i)
+abbrev pub Passes : List ℕ → ℕ → State → Type 0
+Passes [] r s = Unit {0}
+Passes (w ∷ ws) r s = (s.registers r ≡ w) × Passes ws (suc r) s
+
+-- x8, x9, x18 to x27
+abbrev pub IsKept : ℕ → Type 0
+IsKept r = ((8 ≤ r) × (r ≤ 9)) ⊎ ((18 ≤ r) × (r ≤ 27))
+
+-- the machine at a function's first word, called where d calls are open
+pub record Enters (meaning : Meaning) (layout : Layout meaning.objects) (f d place : ℕ) (ws : List ℕ) (h : World) (s : State) : Type 0 where
+  pub is_call : IsCall meaning f ws h
+  pub at : s.pc ≡ place
+  pub sound : IsSound s
+  pub back : s.registers 1 % 4 ≡ 0
+  pub aligned : s.registers 2 % 4 ≡ 0
+  pub room : stack_from + 2032 * (1024 - d) ≤ s.registers 2
+  pub top : s.registers 2 ≤ stack_to
+  pub passes : Passes ws 10 s
+  pub shares : Shares layout s h
+
+-- the machine behind the return
+pub record ComesBack {objects : List ℕ} (layout : Layout objects) (s : State) (a : Answer) (t : State) : Type 0 where
+  pub at : t.pc ≡ s.registers 1
+  pub sound : IsSound t
+  pub value : t.registers 10 ≡ a.value
+  pub shares : Shares layout t a.world
+  pub stack : t.registers 2 ≡ s.registers 2
+  pub kept : (r : ℕ) → IsKept r → t.registers r ≡ s.registers r
+  pub above : (a : ℕ) → s.registers 2 ≤ a → t.memory a ≡ s.memory a
+
+-- The machine from s does what the source does within n steps. Each c steps take an instruction at least; `spare` steps are paid elsewhere.
+abbrev pub Meets : {objects : List ℕ} (layout : Layout objects) → Code → (c spare n : ℕ) → State → Effect → Type 0
+Meets layout code c spare n s (Gives a left) = (m : ℕ) × (t : State) × Path code m s t × ComesBack layout s a t × (n ≤ left + spare + c * m)
+Meets layout code c spare n s (Unfinished o) = (m : ℕ) × (t : State) × Path code m s t × (t.output ≡ o) × (n ≤ spare + c * m)
+Meets layout code c spare n s (Failed o) = Unit {0}
+
+-- each call from d open calls does what the source's does; the jump to it pays c steps
+abbrev pub CallsMeet : (meaning : Meaning) → Layout meaning.objects → Code → (ℕ → ℕ) → (c d : ℕ) → Type 0
+CallsMeet meaning layout code places c d =
+    (g : ℕ) (ws : List ℕ) (h : World) (s : State) (n : ℕ) → g < meaning.functions → Enters meaning layout g d (places g) ws h s → Meets layout code c c n s (meaning.call n d g ws h)
+
+pub record IsPlace (a : ℕ) : Type 0 where
+  pub aligned : a % 4 ≡ 0
+  pub from : 0x10000 ≤ a
+  pub to : a < 0x100000
+
+-- What a piece keeps: wherever it stands, at each number of open calls. What one instruction pays is left to the call of the function,
+-- since a function without a frame may have executed none yet.
+abbrev pub PieceMeets : (meaning : Meaning) → Layout meaning.objects → (function rate : ℕ) → List Item → Type 0
+PieceMeets meaning layout f rate items =
+    (code : Code) (places : ℕ → ℕ) (place : ℕ) → IsPlace place → IsPlace (place + 4 * length items) → Placed code places place place items → ((g : ℕ) → g < meaning.functions → IsPlace (places g))
+    → (d c : ℕ) → d < 1024 → 1 ≤ c → CallsMeet meaning layout code places c (suc d)
+    → (ws : List ℕ) (h : World) (s : State) (n : ℕ) → Enters meaning layout f d place ws h s → Meets layout code (rate * c) (rate * c) n s (meaning.body n d f ws h)
+
+-- an item that has a word, wherever the piece stands
+abbrev pub IsFit : (functions long : ℕ) → Item → Type 0
+IsFit functions long (Plain i) = IsEncodable i
+IsFit functions long (Call g) = g < functions
+IsFit functions long (Go n) = n ≤ long
+
+abbrev pub AreFit : (functions long : ℕ) → List Item → Type 0
+AreFit functions long [] = Unit {0}
+AreFit functions long (i ∷ is) = IsFit functions long i × AreFit functions long is
+
+-- the items of a function's code do what it does
+pub record IsPiece (meaning : Meaning) (layout : Layout meaning.objects) (f : ℕ) (items : List Item) : Type 0 where
+  pub rate : ℕ
+  pub meets : PieceMeets meaning layout f rate items
+  pub fit : AreFit meaning.functions (length items) items

@@ -1,0 +1,241 @@
+-- The code of a function: which items stand for its Linear, and in which order.
+-- A place is a number of items of the piece before it. Which branches are near is known from a first pass, in which each branch takes
+-- two items; a second pass has the places of labels with each branch as long as it is.
+use Rattle.std.specs.Prelude.{ℕ, ◌+◌, ◌-◌, ◌*◌, ◌/◌, ◌%◌, ◌^◌, Bool, false, ◌&&◌, ◌==◌, nat_lt, nat_le, if◌then◌else◌, List, [], ◌∷◌, ◌++◌, length}
+use Rattle.cc_words.specs.declared.operators.Unary as unary
+use Rattle.cc_words.specs.declared.operators.Unary.TheVariants.{Neg, Complement, IsZero}
+use Rattle.cc_words.specs.declared.operators.Binary as binary
+use Rattle.cc_words.specs.declared.operators.Binary.TheVariants.{Add, Sub, Mul, DivS, DivU, RemS, RemU, Shl, ShrS, ShrU, And, Or, Xor, Eq, Ne, LtS, LtU, LeS, LeU}
+use Rattle.cc_ltl.specs.declared.operation.Move.{Move}
+use Rattle.cc_ltl.specs.declared.operation.Move.TheVariants.{Between, Reload, Spill}
+use Rattle.cc_linear.specs.declared.item.Item as linear
+use Rattle.cc_linear.specs.declared.item.Item.TheVariants.{Label, Jump, IfNonzero, IfZero, Copy, Const, Unary, Binary, Load, Store, Call, Read, Write, Return}
+use Rattle.cc_rv32.specs.declared.instr.Instr.{Instr}
+use Rattle.cc_rv32.specs.declared.instr.Instr.TheVariants as instr
+use Rattle.cc_rv32.specs.declared.instr.Operation.{Operation}
+use Rattle.cc_rv32.specs.declared.instr.Operation.TheVariants as operation
+use Rattle.cc_rv32.specs.declared.instr.ImmediateOperation.TheVariants.{Addi, Sltiu, Xori}
+use Rattle.cc_rv32.specs.declared.instr.ShiftOperation.TheVariants.{Slli}
+use Rattle.cc_rv32.specs.declared.instr.LoadOperation.TheVariants.{Lw}
+use Rattle.cc_rv32.specs.declared.instr.StoreOperation.TheVariants.{Sw}
+use Rattle.cc_rv32.specs.declared.instr.BranchOperation.{BranchOperation}
+use Rattle.cc_rv32.specs.declared.instr.BranchOperation.TheVariants.{Beq, Bne}
+use Rattle.cc_emit.specs.declared.item.Item.{Item}
+use Rattle.cc_emit.specs.declared.item.Item.TheVariants as item
+use Rattle.cc_emit.specs.declared.item.Item.TheVariants.{Plain, Go}
+use Rattle.cc_emit.specs.Frames.{Frame, frame_size, frame_of}
+
+-- ---- instructions
+
+-- to = from + the immediate
+abbrev pub addi : (to from immediate : ℕ) → Item
+addi to from immediate = Plain (instr.OpImm Addi to from immediate)
+
+-- the word at address + offset, loaded and stored
+abbrev pub load_word : (to address offset : ℕ) → Item
+load_word to address offset = Plain (instr.Load Lw to address offset)
+
+abbrev pub store_word : (address from offset : ℕ) → Item
+store_word address from offset = Plain (instr.Store Sw address from offset)
+
+-- the lower twelve bits of a word, which the machine extends with their sign, and what the upper twenty then have to be
+abbrev pub low : (word : ℕ) → ℕ
+low w = if nat_lt (w % 2 ^ 12) (2 ^ 11) then w % 2 ^ 12 else w % 2 ^ 12 + (2 ^ 32 - 2 ^ 12)
+
+abbrev pub high : (word : ℕ) → ℕ
+high w = (w + 2 ^ 11) / 2 ^ 12 % 2 ^ 20
+
+-- ---- entry and return
+
+-- x2 moves by a frame's size, given as a word; a function without a frame does not move it
+abbrev pub stack_moved : Frame → (by : ℕ) → List Item
+stack_moved f by = if frame_size f == 0 then [] else addi 2 2 by ∷ []
+
+abbrev pub saving : (offset : ℕ) → List ℕ → List Item
+saving offset [] = []
+saving offset (r ∷ rs) = store_word 2 r offset ∷ saving (offset + 4) rs
+
+abbrev pub restoring : (offset : ℕ) → List ℕ → List Item
+restoring offset [] = []
+restoring offset (r ∷ rs) = load_word r 2 offset ∷ restoring (offset + 4) rs
+
+abbrev pub prologue : Frame → List Item
+prologue f = stack_moved f (2 ^ 32 - frame_size f) ++ saving (4 * f.slots) f.saved
+
+abbrev pub epilogue : Frame → List Item
+epilogue f = restoring (4 * f.slots) f.saved ++ (stack_moved f (frame_size f) ++ Plain (instr.Jalr 0 1 0) ∷ [])
+
+-- ---- what stands for an item of Linear; x5 and x6 alone are between
+
+-- a move
+abbrev pub move_item : Move → Item
+move_item (Between to from) = addi to from 0
+move_item (Reload to slot) = load_word to 2 (4 * slot)
+move_item (Spill slot from) = store_word 2 from (4 * slot)
+
+-- a word: its lower part alone, its upper part alone, or both
+abbrev pub const_items : (to word : ℕ) → List Item
+const_items to w =
+    if high w == 0 then addi to 0 (low w) ∷ []
+    else if low w == 0 then Plain (instr.Lui to (high w)) ∷ []
+    else Plain (instr.Lui 5 (high w)) ∷ addi to 5 (low w) ∷ []
+
+-- an operator on one word
+abbrev pub unary_instr : unary.Unary → (to from : ℕ) → Instr
+unary_instr Neg to from = instr.Op operation.Sub to 0 from
+unary_instr Complement to from = instr.OpImm Xori to from (2 ^ 32 - 1)
+unary_instr IsZero to from = instr.OpImm Sltiu to from 1
+
+-- how an operator on two words is made: by one instruction; or by asking whether the word that one gives is zero, with the operands as
+-- they are or exchanged; or whether it is not
+pub data Recipe : Type 0 where
+  Direct : Operation → Recipe
+  ZeroOf : Operation → Recipe
+  ZeroOfExchanged : Operation → Recipe
+  NonzeroOf : Operation → Recipe
+
+abbrev pub recipe : binary.Binary → Recipe
+recipe Add = Direct operation.Add
+recipe Sub = Direct operation.Sub
+recipe Mul = Direct operation.Mul
+recipe DivS = Direct operation.Div
+recipe DivU = Direct operation.Divu
+recipe RemS = Direct operation.Rem
+recipe RemU = Direct operation.Remu
+recipe Shl = Direct operation.Sll
+recipe ShrS = Direct operation.Sra
+recipe ShrU = Direct operation.Srl
+recipe And = Direct operation.And
+recipe Or = Direct operation.Or
+recipe Xor = Direct operation.Xor
+recipe Eq = ZeroOf operation.Sub
+recipe Ne = NonzeroOf operation.Sub
+recipe LtS = Direct operation.Slt
+recipe LtU = Direct operation.Sltu
+recipe LeS = ZeroOfExchanged operation.Slt
+recipe LeU = ZeroOfExchanged operation.Sltu
+
+abbrev pub recipe_items : Recipe → (to left right : ℕ) → List Item
+recipe_items (Direct o) to a b = Plain (instr.Op o to a b) ∷ []
+recipe_items (ZeroOf o) to a b = Plain (instr.Op o 5 a b) ∷ Plain (instr.OpImm Sltiu to 5 1) ∷ []
+recipe_items (ZeroOfExchanged o) to a b = Plain (instr.Op o 5 b a) ∷ Plain (instr.OpImm Sltiu to 5 1) ∷ []
+recipe_items (NonzeroOf o) to a b = Plain (instr.Op o 5 a b) ∷ Plain (instr.Op operation.Sltu to 0 5) ∷ []
+
+-- before the access to an element: x5 becomes its address, less the lower part of its object's address
+abbrev pub indexed : (base index : ℕ) → List Item → List Item
+indexed base index items = Plain (instr.Shift Slli 5 index 2) ∷ Plain (instr.Lui 6 (high base)) ∷ Plain (instr.Op operation.Add 5 5 6) ∷ items
+
+-- a service of the machine
+abbrev pub service : (number : ℕ) → List Item
+service number = addi 17 0 number ∷ Plain instr.Ecall ∷ []
+
+-- from one place to another, in bytes, as a word
+abbrev pub distance : (from to : ℕ) → ℕ
+distance from to = if nat_le from to then 4 * (to - from) else 2 ^ 32 - 4 * (from - to)
+
+-- a branch on a register: where it is near, one instruction, else the opposite one over a jump
+abbrev pub branch_items : (near : Bool) → (taken opposite : BranchOperation) → (register place to : ℕ) → List Item
+branch_items near taken opposite r place to =
+    if near then Plain (instr.Branch taken r 0 (distance place to)) ∷ []
+    else Plain (instr.Branch opposite r 0 8) ∷ Go to ∷ []
+
+-- the items of one item at a place; `base` has the objects' addresses, `labels` the labels' places, `near` says whether a branch from
+-- here to a label is near
+abbrev pub items_of : (base : ℕ → ℕ) → Frame → (near : ℕ → Bool) → (labels : ℕ → ℕ) → (place : ℕ) → linear.Item → List Item
+items_of base f near labels place (Label label) = []
+items_of base f near labels place (Jump to) = Go (labels to) ∷ []
+items_of base f near labels place (IfNonzero from to) = branch_items (near to) Bne Beq from place (labels to)
+items_of base f near labels place (IfZero from to) = branch_items (near to) Beq Bne from place (labels to)
+items_of base f near labels place (Copy m) = move_item m ∷ []
+items_of base f near labels place (Const to word) = const_items to word
+items_of base f near labels place (Unary operator to from) = Plain (unary_instr operator to from) ∷ []
+items_of base f near labels place (Binary operator to left right) = recipe_items (recipe operator) to left right
+items_of base f near labels place (Load object to index) = indexed (base object) index (load_word to 5 (low (base object)) ∷ [])
+items_of base f near labels place (Store object index from) = indexed (base object) index (store_word 5 from (low (base object)) ∷ [])
+items_of base f near labels place (Call function) = item.Call function ∷ []
+items_of base f near labels place Read = service 2
+items_of base f near labels place Write = service 1
+items_of base f near labels place Return = epilogue f
+
+-- ---- how many items that are
+
+abbrev pub stack_moved_size : Frame → ℕ
+stack_moved_size f = if frame_size f == 0 then 0 else 1
+
+-- the prologue's
+abbrev pub prologue_size : Frame → ℕ
+prologue_size f = stack_moved_size f + length f.saved
+
+abbrev pub const_size : (word : ℕ) → ℕ
+const_size w = if high w == 0 then 1 else if low w == 0 then 1 else 2
+
+abbrev pub recipe_size : Recipe → ℕ
+recipe_size (Direct o) = 1
+recipe_size (ZeroOf o) = 2
+recipe_size (ZeroOfExchanged o) = 2
+recipe_size (NonzeroOf o) = 2
+
+abbrev pub branch_size : (near : Bool) → ℕ
+branch_size near = if near then 1 else 2
+
+abbrev pub size : Frame → (near : ℕ → Bool) → linear.Item → ℕ
+size f near (Label label) = 0
+size f near (Jump to) = 1
+size f near (IfNonzero from to) = branch_size (near to)
+size f near (IfZero from to) = branch_size (near to)
+size f near (Copy m) = 1
+size f near (Const to word) = const_size word
+size f near (Unary operator to from) = 1
+size f near (Binary operator to left right) = recipe_size (recipe operator)
+size f near (Load object to index) = 4
+size f near (Store object index from) = 4
+size f near (Call function) = 1
+size f near Read = 2
+size f near Write = 2
+size f near Return = length f.saved + stack_moved_size f + 1
+
+-- with each branch in its long form
+abbrev pub long_size : Frame → linear.Item → ℕ
+long_size f i = size f (λ label. false) i
+
+-- ---- where labels stand
+
+abbrev pub is_label : (label : ℕ) → linear.Item → Bool
+is_label label (Label other) = other == label
+is_label label i = false
+
+-- in the first pass, in items from this place on; their end, where the label stands nowhere
+abbrev pub long_place : Frame → (place : ℕ) → List linear.Item → (label : ℕ) → ℕ
+long_place f place [] label = place
+long_place f place (i ∷ items) label = if is_label label i then place else long_place f (place + long_size f i) items label
+
+-- whether a branch reaches one place from another: by -4096 to 4092 bytes
+abbrev pub reaches : (from to : ℕ) → Bool
+reaches from to = nat_le from (to + 1024) && nat_lt to (from + 1024)
+
+-- whether a branch is near, by its place in the first pass, where the function's items begin at place 0
+abbrev pub is_near : Frame → List linear.Item → (long label : ℕ) → Bool
+is_near f items long label = reaches long (long_place f 0 items label)
+
+-- in the second pass, in items from this place on; `long` is their place in the first pass
+abbrev pub short_place : Frame → (near : (long label : ℕ) → Bool) → (long place : ℕ) → List linear.Item → (label : ℕ) → ℕ
+short_place f near long place [] label = place
+short_place f near long place (i ∷ items) label =
+    if is_label label i then place else short_place f near (long + long_size f i) (place + size f (near long) i) items label
+
+-- ---- the code
+
+-- what stands for items from these places on
+abbrev pub emitted : (base : ℕ → ℕ) → Frame → (near : (long label : ℕ) → Bool) → (labels : ℕ → ℕ) → (long place : ℕ) → List linear.Item → List Item
+emitted base f near labels long place [] = []
+emitted base f near labels long place (i ∷ items) =
+    items_of base f (near long) labels place i ++ emitted base f near labels (long + long_size f i) (place + size f (near long) i) items
+
+-- in a frame
+abbrev pub framed_items : (base : ℕ → ℕ) → Frame → List linear.Item → List Item
+framed_items base f items =
+    prologue f ++ emitted base f (is_near f items) (short_place f (is_near f items) 0 (prologue_size f) items) 0 (prologue_size f) items
+
+-- the code of a function with so many slots
+abbrev pub function_items : (base : ℕ → ℕ) → (slots : ℕ) → List linear.Item → List Item
+function_items base slots items = framed_items base (frame_of slots items) items

@@ -1,0 +1,12 @@
+-- what the code of one function owes on the machine, wherever it stands
+pub mod Contract
+-- where each object lies
+pub mod Objects
+-- the frame of a function
+pub mod Frames
+-- the items of a function's code
+pub mod Emission
+-- what a piece keeps
+pub mod Piece
+-- Worked emission, by computation; no contract rests on it.
+pub mod rows

@@ -1,0 +1,14 @@
+//! The items of a function's code, before it is known where the code stands.
+
+use cc_rv32::instr::Instr;
+
+/// One item, which becomes one word of an image.
+#[derive(Clone, Copy)]
+pub enum Item {
+    /// An instruction.
+    Plain(Instr),
+    /// A call of the function of that number, in the order of definitions.
+    Call(u32),
+    /// A jump to the item of that number of the same piece, counted from 0.
+    Go(usize),
+}

@@ -1,0 +1,86 @@
+//! The code of one function of a unit, with the fact that the machine does with it what the function does.
+
+ghost use Rattle.std.specs.Prelude.{◌≡◌, ◌<◌, length};
+ghost use Rattle.std.specs.Arc.{arc_value};
+ghost use Rattle.cc_meaning.specs.Meaning.{functions};
+ghost use Rattle.cc_emit.specs.Piece.{Piece as Shown, tree_of, IsPieceOfUnit};
+
+use crate::item::Item;
+use cc_typing::TypedUnit;
+use std::marker::Model;
+use std::sync::Arc;
+
+/// The code of one function of a typed unit. Contracts see the unit, the function's number and the items; that the machine does with
+/// them what the function does, wherever they stand, belongs to the type, so nobody holds a piece of which it is not true.
+#[derive(Drop)]
+pub struct Piece {
+    unit: Arc<TypedUnit>,
+    function: usize,
+    items: Vec<Item>,
+}
+
+impl Model for Piece {
+    ghost use Rattle.std.specs.Arc.{arc_value};
+    ghost use Rattle.std.specs.Coded.{codes};
+    ghost use Rattle.cc_syntax.specs.contracts.unit.Unit as parsed;
+    ghost use Rattle.cc_emit.specs.Piece.{Piece as Shown, IsPieceOfUnit};
+
+    ghost Value = { Shown };
+
+    ghost coded = { Prim.hlevel (codes, parsed.the_row.coded) };
+
+    ghost view = { λ p. record { unit = arc_value p.unit; function = p.function; items = p.items.items } };
+
+    ghost invariant = { λ p. IsPieceOfUnit (record { unit = arc_value p.unit; function = p.function; items = p.items.items }) };
+}
+
+impl Piece {
+    // The one place where a piece is made.
+    pub(crate) fn new(unit: Arc<TypedUnit>, function: usize, items: Vec<Item>) -> Piece
+        requires { IsPieceOfUnit (record { unit = arc_value unit; function = function; items = items.items }) }
+        ensures { result ≡ record { unit = arc_value unit; function = function; items = items.items } }
+    {
+        Piece {
+            unit,
+            function,
+            items,
+        }
+    }
+
+    /// The unit.
+    pub fn unit(&self) -> &Arc<TypedUnit>
+        ensures answer { arc_value result.now ≡ self.now.unit }
+    {
+        &self.unit
+    }
+
+    /// The function's number, in the order of definitions.
+    pub fn function(&self) -> usize
+        ensures answer { result ≡ self.now.function }
+        ensures of_unit { self.now.function < length (functions (tree_of self.now)) }
+    {
+        self.function
+    }
+
+    /// The items of its code, one for each word. Each call is of a function of the unit, and each jump goes to an item of the piece or
+    /// to its end. Wherever they stand, the machine does with them what the function does.
+    pub fn items(&self) -> &[Item]
+        ensures items { result.now ≡ self.now.items }
+        ensures piece { IsPieceOfUnit self.now }
+    {
+        self.items.as_slice()
+    }
+
+    /// The unit's owner.
+    pub fn into_unit(self) -> Arc<TypedUnit>
+        ensures answer { arc_value result ≡ self.unit }
+    {
+        let Piece {
+            unit,
+            function: _,
+            items,
+        } = self;
+        drop(items);
+        unit
+    }
+}

@@ -1,0 +1,28 @@
+-- The type keeps that the run keeps up: a pair of LTL and what is made of its code are a pair of Linear.
+use Rattle.std.proofs.Common.{◌≡◌, ℕ, List, ap, sym, subst, ◌∙◌}
+use Rattle.cc_syntax.specs.declared.unit.Unit as parsed
+use Rattle.cc_ltl.specs.Ltl.{Ltl}
+use Rattle.cc_linear.specs.declared.item.Item.{Item}
+use Rattle.cc_linear.specs.Pair.{Pair, IsPair}
+use Rattle.cc_linear.specs.Targets.{NoneIdle}
+use Rattle.cc_linear.specs.internal.Whole.{IsMadeOf}
+use Rattle.cc_validate.specs.Pair as above
+use Rattle.cc_linear.proofs.Whole.{pair_made, made_without}
+use Rattle.cc_linear.proofs.lineariser.linearise.Goals as goal
+
+pub new-requires : goal.new-requires
+new-requires c =
+    let p = c.args.pair in
+    let items = c.in_ok-code.code.items in
+    let made : IsMadeOf p.ltl items = subst (λ (l : Ltl). IsMadeOf l items) c.code-2.ensures.code c.in_ok-code.ensures in
+    let kept : above.IsPair p = subst above.IsPair c.pair.view_is c.pair.invariant in
+    subst (λ (u : parsed.Unit). IsPair (record { unit = u; function = c.function-function.result; slots = c.slots-slots.result; code = items })) (sym c.into_unit.ensures.answer)
+    (subst (λ f. IsPair (record { unit = p.unit; function = f; slots = c.slots-slots.result; code = items })) (sym c.function-function.ensures.answer)
+    (subst (λ s. IsPair (record { unit = p.unit; function = p.function; slots = s; code = items })) (sym (c.slots-slots.ensures ∙ ap (λ (l : Ltl). l.slots) c.code.ensures.code)) (pair_made p items kept made)))
+
+pub returns-clause-labels : goal.returns-clause-labels
+returns-clause-labels c =
+    let p = c.args.pair in
+    let items = c.in_ok-code.code.items in
+    let made : IsMadeOf p.ltl items = subst (λ (l : Ltl). IsMadeOf l items) c.code-2.ensures.code c.in_ok-code.ensures in
+    subst NoneIdle (sym (ap (λ (q : Pair). q.code) c.new.ensures)) (made_without p.ltl items made)

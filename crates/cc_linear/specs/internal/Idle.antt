@@ -1,0 +1,22 @@
+-- Labels that nothing leads to, and the list without them.
+use Rattle.std.specs.Prelude.{ℕ, ◌<◌, ◌≤◌, List, [], ◌∷◌, length, get_or, Bool, true, false, if◌then◌else◌, ◌==◌}
+use Rattle.cc_linear.specs.declared.item.Item.{Item}
+use Rattle.cc_linear.specs.declared.item.Item.TheVariants.{Label}
+
+-- numbers that rise
+abbrev pub IsRising : List ℕ → Type 0
+IsRising xs = (i j : ℕ) → i ≤ j → j < length xs → get_or xs i 0 ≤ get_or xs j 0
+
+-- whether a number is among them
+abbrev pub has : List ℕ → ℕ → Bool
+has [] l = false
+has (x ∷ xs) l = if x == l then true else has xs l
+
+-- an item stays, unless it is a label that is not among these
+abbrev pub stays : (led : List ℕ) → Item → Bool
+stays led (Label l) = has led l
+stays led item = true
+
+abbrev pub kept : (led : List ℕ) → List Item → List Item
+kept led [] = []
+kept led (item ∷ items) = if stays led item then item ∷ kept led items else kept led items

@@ -1,0 +1,16 @@
+-- What is made of a function: its blocks in some order, without the labels that nothing leads to.
+use Rattle.std.specs.Prelude.{◌≡◌, ℕ, List}
+use Rattle.cc_ltl.specs.Ltl.{Ltl}
+use Rattle.cc_linear.specs.declared.item.Item.{Item}
+use Rattle.cc_linear.specs.Targets.{targets}
+use Rattle.cc_linear.specs.internal.Layout.{AreEnds, IsOrder, linear_code}
+use Rattle.cc_linear.specs.internal.Idle.{kept}
+
+pub record IsMadeOf (ltl : Ltl) (items : List Item) : Type 0 where
+  pub end : ℕ → ℕ
+  pub far : ℕ → ℕ
+  pub most : ℕ
+  pub order : List ℕ
+  pub ends : AreEnds ltl end far most
+  pub ordered : IsOrder ltl end order
+  pub made : items ≡ kept (targets (linear_code ltl end order)) (linear_code ltl end order)

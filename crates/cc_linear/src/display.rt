@@ -1,0 +1,91 @@
+//! A function as text: its number and its slots, and a line for each item.
+
+use crate::item::Item;
+use crate::pair::LinearPair;
+use cc_ltl::Operation;
+use std::fmt;
+
+// An item that does what an operation of LTL does, as that operation.
+fn operation_of(item: Item) -> Option<Operation> {
+    let next = 0;
+    match item {
+        Item::Const { to, word } => Some(Operation::Const { to, word, next }),
+        Item::Unary { operator, to, from } => Some(Operation::Unary {
+            operator,
+            to,
+            from,
+            next,
+        }),
+        Item::Binary {
+            operator,
+            to,
+            left,
+            right,
+        } => Some(Operation::Binary {
+            operator,
+            to,
+            left,
+            right,
+            next,
+        }),
+        Item::Load { object, to, index } => Some(Operation::Load {
+            object,
+            to,
+            index,
+            next,
+        }),
+        Item::Store {
+            object,
+            index,
+            from,
+        } => Some(Operation::Store {
+            object,
+            index,
+            from,
+            next,
+        }),
+        Item::Call { function } => Some(Operation::Call { function, next }),
+        Item::Read => Some(Operation::Read { next }),
+        Item::Write => Some(Operation::Write { next }),
+        Item::Return => Some(Operation::Return),
+        Item::Label { .. }
+        | Item::Jump { .. }
+        | Item::IfNonzero { .. }
+        | Item::IfZero { .. }
+        | Item::Copy { .. } => None,
+    }
+}
+
+/// A label `3:`, a jump `jump 3`, a branch `branch x7 != 0 -> 3` or `branch x7 == 0 -> 3`, a move `x8 = slot0`; an operation as in LTL:
+/// `x7 = sub x8, x9`, `x7 = object0[x8]`, `call 3`, `return`.
+impl fmt::Display for Item {
+    fn fmt<W: fmt::Write>(&self, f: &mut fmt::Formatter<W>) -> fmt::Result {
+        match self {
+            Item::Label { label } => write!(f, "{label}:"),
+            Item::Jump { to } => write!(f, "jump {to}"),
+            Item::IfNonzero { from, to } => write!(f, "branch {from} != 0 -> {to}"),
+            Item::IfZero { from, to } => write!(f, "branch {from} == 0 -> {to}"),
+            Item::Copy { between } => write!(f, "{between}"),
+            _ => match operation_of(*self) {
+                Some(operation) => write!(f, "{operation}"),
+                None => Ok(()),
+            },
+        }
+    }
+}
+
+/// The listing: a line with the function's number and how many slots it has, and a line for each item; all but labels are set in.
+impl fmt::Display for LinearPair {
+    fn fmt<W: fmt::Write>(&self, f: &mut fmt::Formatter<W>) -> fmt::Result {
+        let function = self.function();
+        let slots = self.slots();
+        writeln!(f, "f{function} slots {slots}")?;
+        for item in self.code() {
+            match item {
+                Item::Label { .. } => writeln!(f, "{item}")?,
+                _ => writeln!(f, "  {item}")?,
+            }
+        }
+        Ok(())
+    }
+}

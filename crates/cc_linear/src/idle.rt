@@ -1,0 +1,52 @@
+// Labels that nothing leads to are left out.
+
+ghost use Rattle.std.specs.Prelude.{◌≡◌, ℕ, ◌↔◌, ◌<◌, ◌≤◌, length, get_or, IfOk};
+ghost use Rattle.std.specs.List.{Contains};
+ghost use Rattle.cc_linear.specs.Targets.{targets};
+ghost use Rattle.cc_linear.specs.internal.Idle.{IsRising, stays as has_its_place, kept as without};
+
+use crate::item::Item;
+use std::alloc::{AllocError, Global};
+
+/// The items without the labels to which no jump and no branch leads.
+pub fn without_idle(alloc: Global, items: &[Item]) -> Result<Vec<Item>, AllocError>
+    ensures { IfOk result (λ kept. kept.items ≡ without (targets items.now) items.now) }
+{
+    let led = sorted_targets(alloc, items)?;
+    let mut kept = Vec::new(alloc);
+    for item in items {
+        if stays(&led, item) {
+            kept.push(*item)?;
+        }
+    }
+    Ok(kept)
+}
+
+// The labels of jumps and branches; they rise.
+fn sorted_targets(alloc: Global, items: &[Item]) -> Result<Vec<u32>, AllocError>
+    ensures same { IfOk result (λ led. (l : ℕ) → Contains led.items l ↔ Contains (targets items.now) l) }
+    ensures rising { IfOk result (λ led. IsRising led.items) }
+{
+    let mut led = Vec::new(alloc);
+    for item in items {
+        match *item {
+            Item::Jump { to } | Item::IfNonzero { to, .. } | Item::IfZero { to, .. } => {
+                led.push(to)?;
+            }
+            _ => {}
+        }
+    }
+    led.sort_unstable();
+    Ok(led)
+}
+
+// Whether an item has its place, where jumps and branches lead to these labels.
+fn stays(led: &[u32], item: &Item) -> bool
+    requires { IsRising led.now }
+    ensures { result ≡ has_its_place led.now item.now }
+{
+    match *item {
+        Item::Label { label } => led.binary_search(&label).is_ok(),
+        _ => true,
+    }
+}

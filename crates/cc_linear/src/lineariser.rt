@@ -1,0 +1,54 @@
+// From LTL to Linear.
+
+ghost use Rattle.std.specs.Prelude.{◌≡◌, IfOk};
+ghost use Rattle.cc_validate.specs.Pair.{IsGraph};
+ghost use Rattle.cc_linear.specs.Targets.{NoneIdle};
+ghost use Rattle.cc_linear.specs.internal.Whole.{IsMadeOf};
+
+use crate::fault::LinearFault;
+use crate::idle::without_idle;
+use crate::item::Item;
+use crate::layout::lay_out;
+use crate::pair::LinearPair;
+use crate::places::labels;
+use crate::tables::{end_of, graph, next_places};
+use crate::tracing::ends::chain_ends;
+use crate::tracing::order::order;
+use cc_ltl::Ltl;
+use cc_validate::LtlPair;
+use std::alloc::{AllocError, Global};
+
+// The items of a function's blocks.
+fn items_of(alloc: Global, ltl: &Ltl) -> Result<Vec<Item>, AllocError>
+    requires { IsGraph ltl.now }
+    ensures { IfOk result (λ items. IsMadeOf ltl.now items.items) }
+{
+    let blocks = ltl.blocks();
+    let names = labels(alloc, blocks)?;
+    let labels = names.as_slice();
+    let nexts = next_places(alloc, labels, blocks)?;
+    let table = chain_ends(alloc, &nexts)?;
+    let ends = table.as_slice();
+    let graph = graph(alloc, labels, ends, blocks)?;
+    let entry = end_of(labels, ends, ltl.entry());
+    let order = order(alloc, &graph, entry)?;
+    let items = lay_out(alloc, labels, ends, blocks, ltl.entry(), &order)?;
+    without_idle(alloc, &items)
+}
+
+/// The Linear of a function. Chains of empty blocks are passed over; an endless cycle of them stays an endless jump. Blocks stand in an
+/// order in which a loop's test stands at its bottom and the likely way falls through, so that a turn of a loop executes one branch and no
+/// jump. What cannot be reached is left out, and so is each label to which nothing leads.
+///
+/// `LinearFault::OutOfMemory` (40) alone, where memory runs out; the pair is given up with it.
+pub fn linearise(alloc: Global, pair: LtlPair) -> Result<LinearPair, LinearFault>
+    ensures unit { IfOk result (λ made. made.unit ≡ pair.unit) }
+    ensures function { IfOk result (λ made. made.function ≡ pair.function) }
+    ensures slots { IfOk result (λ made. made.slots ≡ pair.ltl.slots) }
+    ensures labels { IfOk result (λ made. NoneIdle made.code) }
+{
+    let function = pair.function();
+    let slots = pair.code().slots();
+    let code = items_of(alloc, pair.code())?;
+    Ok(LinearPair::new(pair.into_unit(), function, slots, code))
+}

@@ -1,0 +1,155 @@
+// An order in which code falls through the likely way, and a loop's test stands at its bottom. Nothing rests on it.
+//
+// Blocks are joined into chains, of which each falls through to the next. Places are in the order of labels, and labels in the order of
+// the source: so a way to a place that does not come later is the way back of a loop. First, blocks that have one way are joined: those
+// that lead back before the others, and of them the last first (others come of `continue`), so the head of a loop, with its test, stands
+// behind the loop's body, and a turn needs no jump. Then branches are joined to the way for a word that is 0, out of a loop or behind an
+// `if`, and where that is behind another block already, to the other.
+
+ghost use Rattle.std.specs.Prelude.{◌≡◌, ◌<◌, length, vec_len, IfOk, All};
+ghost use Rattle.cc_linear.specs.internal.Reached.{InGraph, WaysBelow};
+
+use super::ways::Ways;
+use std::alloc::{AllocError, Global};
+
+/// Chains of labels that follow one another. The number of labels stands for none.
+#[derive(Drop)]
+struct Chains {
+    behind: Vec<usize>,
+    is_led: Vec<bool>,
+    first: Vec<usize>, // of the chain that ends here
+    last: Vec<usize>, // of the chain that begins here
+    ghost is_led_long: { vec_len is_led ≡ vec_len behind },
+    ghost first_long: { vec_len first ≡ vec_len behind },
+    ghost last_long: { vec_len last ≡ vec_len behind },
+}
+
+/// Each label alone.
+fn alone(alloc: Global, count: usize) -> Result<Chains, AllocError>
+    ensures { IfOk result (λ chains. vec_len chains.behind ≡ count) }
+{
+    let mut first: Vec<usize> = Vec::new(alloc);
+    let mut last: Vec<usize> = Vec::new(alloc);
+    for label in 0..count {
+        first.push(label)?;
+        last.push(label)?;
+    }
+    let behind = vec![in alloc; count; count]?;
+    let is_led = vec![in alloc; false; count]?;
+    Ok(Chains {
+        behind,
+        is_led,
+        first,
+        last,
+    })
+}
+
+/// Puts a label behind another, where that is the last of its chain and the label the first of another.
+fn join(chains: &mut Chains, from: usize, to: usize)
+    requires from { from < vec_len chains.old.behind }
+    requires to { to < vec_len chains.old.behind }
+    ensures { vec_len chains.new.behind ≡ vec_len chains.old.behind }
+{
+    let count = chains.behind.len();
+    let first = chains.first[from];
+    let last = chains.last[to];
+    if chains.behind[from] == count
+        && !chains.is_led[to]
+        && first != to
+        && first < count
+        && last < count
+    {
+        chains.behind[from] = to;
+        chains.is_led[to] = true;
+        chains.first[last] = first;
+        chains.last[first] = last;
+    }
+}
+
+/// Joins the blocks that do nothing but lead back, the last first.
+fn join_back(chains: &mut Chains, graph: &[Ways], is_found: &[bool])
+    requires graph { InGraph graph.now }
+    requires found { length is_found.now ≡ length graph.now }
+    requires chains { vec_len chains.old.behind ≡ length graph.now }
+    ensures { vec_len chains.new.behind ≡ length graph.now }
+{
+    let count = graph.len();
+    for i in 0..count {
+        let from = count - 1 - i;
+        if let Ways::One(to) = graph[from] {
+            if is_found[from] && to <= from {
+                join(chains, from, to);
+            }
+        }
+    }
+}
+
+/// Joins the blocks that have one way.
+fn join_on(chains: &mut Chains, graph: &[Ways], is_found: &[bool])
+    requires graph { InGraph graph.now }
+    requires found { length is_found.now ≡ length graph.now }
+    requires chains { vec_len chains.old.behind ≡ length graph.now }
+    ensures { vec_len chains.new.behind ≡ length graph.now }
+{
+    for from in 0..graph.len() {
+        if let Ways::One(to) = graph[from] {
+            if is_found[from] {
+                join(chains, from, to);
+            }
+        }
+    }
+}
+
+/// Joins the branches.
+fn join_branches(chains: &mut Chains, graph: &[Ways], is_found: &[bool])
+    requires graph { InGraph graph.now }
+    requires found { length is_found.now ≡ length graph.now }
+    requires chains { vec_len chains.old.behind ≡ length graph.now }
+    ensures { vec_len chains.new.behind ≡ length graph.now }
+{
+    for from in 0..graph.len() {
+        if let Ways::Two(taken, other) = graph[from] {
+            if is_found[from] {
+                join(chains, from, other);
+                join(chains, from, taken);
+            }
+        }
+    }
+}
+
+/// The chains one after another, that of the entry first.
+fn listed(alloc: Global, chains: &Chains, found: &[usize]) -> Result<Vec<usize>, AllocError>
+    requires inside { All (λ l. l < vec_len chains.now.behind) found.now }
+{
+    let count = chains.behind.len();
+    let mut order: Vec<usize> = Vec::new(alloc);
+    for i in 0..found.len() {
+        let mut at = found[i];
+        if !chains.is_led[at] {
+            for _ in 0..count {
+                if at >= count {
+                    break;
+                }
+                order.push(at)?;
+                at = chains.behind[at];
+            }
+        }
+    }
+    Ok(order)
+}
+
+/// The labels that were found, chain by chain.
+pub fn in_chains(alloc: Global, graph: &[Ways], found: &[usize]) -> Result<Vec<usize>, AllocError>
+    requires graph { InGraph graph.now }
+    requires inside { All (λ l. l < length graph.now) found.now }
+{
+    let mut is_found = vec![in alloc; false; graph.len()]?;
+    for i in 0..found.len() {
+        is_found[found[i]] = true;
+    }
+    let mut chains = alone(alloc, graph.len())?;
+    join_back(&mut chains, graph, &is_found);
+    join_on(&mut chains, graph, &is_found);
+    join_branches(&mut chains, graph, &is_found);
+    listed(alloc, &chains, found)
+}
