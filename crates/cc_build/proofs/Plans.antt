@@ -5,17 +5,21 @@ use Rattle.cc_tokens.specs.declared.fault.SyntaxFault.{SyntaxFault}
 use Rattle.cc_tokens.specs.declared.fault.SyntaxFault.TheVariants as syntax
 use Rattle.cc_syntax.specs.Tree.{Name, External, Source}
 use Rattle.cc_syntax.specs.Parse.{SpellsText, IsParseRefusal}
-use Rattle.cc_syntax.proofs.Determined.{answers_are_one}
+use Rattle.cc_syntax.proofs.Determined.{answers_are_one, texts_have_answers}
 use Rattle.cc_typing.specs.declared.fault.TypeFault.{TypeFault}
 use Rattle.cc_typing.specs.declared.fault.TypeFault.TheVariants as typing
 use Rattle.cc_typing.specs.Limits.{too_many, past, function_names, externals_excesses, word_excesses, objects}
 use Rattle.cc_typing.specs.Typed.{IsTyped, IsWithinLimits, IsTypeRefusal, defined_names}
 use Rattle.cc_typing.specs.Verdict.{Verdict, NoTree, NotTyped, Program, IsVerdict}
-use Rattle.cc_typing.proofs.Determined.{verdicts_are_one}
+use Rattle.cc_typing.proofs.Determined.{verdicts_are_one, texts_have_verdicts}
 use Rattle.cc_typing.proofs.Verdict.{both_empty}
 use Rattle.cc_core.specs.Fault.{RefusesAs}
-use Rattle.cc_build.specs.Plan.{verdict_of, verdict_is, pieces_of, plan}
+use Rattle.cc_build.specs.Plan.{verdict_of, pieces_of, plan}
 use Rattle.cc_build.specs.internal.Refusals.{of_syntax, of_typing}
+
+pub verdict_is : (text : List ℕ) → IsVerdict text (verdict_of text)
+unfolding verdict_of
+verdict_is text = (texts_have_verdicts texts_have_answers text).1
 
 -- a verdict is the text's
 planned : (text : List ℕ) (v : Verdict) → IsVerdict text v → plan text ≡ pieces_of v

@@ -4,7 +4,5 @@ pub mod Plan
 pub mod Compiling
 -- what the headline says of every image of the disk
 pub mod Recovered
--- the law that the trait asks of a build
-pub mod Law
 -- what serves private contracts
 pub mod internal

@@ -5,17 +5,13 @@ use Rattle.cc_tokens.specs.Fault as syntax
 use Rattle.cc_typing.specs.declared.fault.TypeFault.{TypeFault}
 use Rattle.cc_typing.specs.Fault as typing
 use Rattle.cc_typing.specs.Limits.{function_names}
-use Rattle.cc_typing.specs.Verdict.{Verdict, NoTree, NotTyped, Program, IsVerdict}
+use Rattle.cc_typing.specs.Verdict.{Verdict, NoTree, NotTyped, Program}
 use Rattle.cc_syntax.proofs.Determined.{texts_have_answers}
 use Rattle.cc_typing.proofs.Determined.{texts_have_verdicts}
 
 -- what the two calls come to for a text. A text has exactly one verdict, so this is it, whichever way it is found.
-pub verdict_of : List ℕ → Verdict
+unfoldable pub verdict_of : List ℕ → Verdict
 verdict_of text = (texts_have_verdicts texts_have_answers text).0
-
-pub verdict_is : (text : List ℕ) → IsVerdict text (verdict_of text)
-unfolding verdict_of
-verdict_is text = (texts_have_verdicts texts_have_answers text).1
 
 -- a program has a piece for each function that it defines; any other text is refused with its fault's number
 abbrev pub pieces_of : Verdict → Result ℕ ℕ

@@ -3,7 +3,7 @@ ghost use Rattle.std.specs.Prelude.{ℕ, List};
 ghost use Rattle.cc_typing.specs.Verdict.{IsVerdict};
 ghost use Rattle.cc_build.specs.Plan.{verdict_of};
 ghost use Rattle.cc_build.specs.Compiling.{compiling, Keeps, is_right};
-ghost use Rattle.cc_build.specs.Law.{whole_units_agree};
+ghost use Rattle.cc_build.specs.internal.Law.{whole_units_agree};
 
 use crate::refusal::{link_refusal, text_refusal, type_refusal};
 use cc_core::build::Build;

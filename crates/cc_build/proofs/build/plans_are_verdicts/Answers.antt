@@ -1,4 +1,4 @@
-use Rattle.cc_build.specs.Plan.{verdict_is}
+use Rattle.cc_build.proofs.Plans.{verdict_is}
 use Rattle.cc_build.proofs.build.plans_are_verdicts.Goals as goal
 
 -- src/build.rt:85:1
