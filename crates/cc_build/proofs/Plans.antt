@@ -1,0 +1,83 @@
+-- What `parse` and `check` answer is the plan, since a text has one verdict.
+use Rattle.std.proofs.Common.{◌≡◌, ◌≤◌, ◌⊎◌, inl, inr, ℕ, zero, suc, List, [], ◌∷◌, ◌++◌, length, map, take, drop, Option, Some, None, Result, Ok, Err, refl, sym, ap, subst, ◌∙◌, arith}
+use Rattle.std.proofs.lemmas.List.{length-map}
+use Rattle.cc_tokens.specs.declared.fault.SyntaxFault.{SyntaxFault}
+use Rattle.cc_tokens.specs.declared.fault.SyntaxFault.TheVariants as syntax
+use Rattle.cc_syntax.specs.Tree.{Name, External, Source}
+use Rattle.cc_syntax.specs.Parse.{SpellsText, IsParseRefusal}
+use Rattle.cc_syntax.proofs.Determined.{answers_are_one, texts_have_answers}
+use Rattle.cc_typing.specs.declared.fault.TypeFault.{TypeFault}
+use Rattle.cc_typing.specs.declared.fault.TypeFault.TheVariants as typing
+use Rattle.cc_typing.specs.Limits.{too_many, past, function_names, externals_excesses, word_excesses, objects}
+use Rattle.cc_typing.specs.Typed.{IsTyped, IsWithinLimits, IsTypeRefusal, defined_names}
+use Rattle.cc_typing.specs.Verdict.{Verdict, NoTree, NotTyped, Program, IsVerdict}
+use Rattle.cc_typing.proofs.Determined.{verdicts_are_one, texts_have_verdicts}
+use Rattle.cc_typing.proofs.Verdict.{both_empty}
+use Rattle.cc_core.specs.Fault.{RefusesAs}
+use Rattle.cc_build.specs.Plan.{verdict_of, pieces_of, plan}
+use Rattle.cc_build.specs.internal.Refusals.{of_syntax, of_typing}
+
+pub verdict_is : (text : List ℕ) → IsVerdict text (verdict_of text)
+unfolding verdict_of
+verdict_is text = (texts_have_verdicts texts_have_answers text).1
+
+-- a verdict is the text's
+planned : (text : List ℕ) (v : Verdict) → IsVerdict text v → plan text ≡ pieces_of v
+planned text v is = ap pieces_of (verdicts_are_one answers_are_one text (verdict_of text) v (verdict_is text) is)
+
+pub text_refused : (text : List ℕ) (fault : SyntaxFault) → IsParseRefusal text fault → RefusesAs (of_syntax fault) (plan text)
+text_refused text (syntax.BadByte p) h = planned text (NoTree (syntax.BadByte p)) h
+text_refused text (syntax.UnclosedComment p) h = planned text (NoTree (syntax.UnclosedComment p)) h
+text_refused text (syntax.BadConstant p) h = planned text (NoTree (syntax.BadConstant p)) h
+text_refused text (syntax.ConstantTooLarge p) h = planned text (NoTree (syntax.ConstantTooLarge p)) h
+text_refused text (syntax.Unexpected p) h = planned text (NoTree (syntax.Unexpected p)) h
+text_refused text (syntax.TooDeep p) h = planned text (NoTree (syntax.TooDeep p)) h
+text_refused text syntax.SourceTooLarge h = planned text (NoTree syntax.SourceTooLarge) h
+text_refused text syntax.OutOfMemory h = tt
+
+module _ (text : List ℕ) (s : Source) (same : s.text ≡ text) (fits : length text ≤ 65536) (spelled : SpellsText text s.externals) where
+  not_typed : (fault : TypeFault) → IsTypeRefusal s fault → plan text ≡ pieces_of (NotTyped fault)
+  not_typed fault h = planned text (NotTyped fault) (s.externals, (fits, spelled), subst (λ (z : List ℕ). IsTypeRefusal (record { text = z; externals = s.externals }) fault) same h)
+
+  pub type_refused : (fault : TypeFault) → (fault ≡ typing.OutOfMemory) ⊎ IsTypeRefusal s fault → RefusesAs (of_typing fault) (plan text)
+  type_refused typing.OutOfMemory h = tt
+  type_refused (typing.Unknown p) (inl e) = absurd (cc)
+  type_refused (typing.Unknown p) (inr h) = not_typed (typing.Unknown p) h
+  type_refused (typing.Redeclared p) (inl e) = absurd (cc)
+  type_refused (typing.Redeclared p) (inr h) = not_typed (typing.Redeclared p) h
+  type_refused (typing.WrongKind p) (inl e) = absurd (cc)
+  type_refused (typing.WrongKind p) (inr h) = not_typed (typing.WrongKind p) h
+  type_refused (typing.WrongCount p) (inl e) = absurd (cc)
+  type_refused (typing.WrongCount p) (inr h) = not_typed (typing.WrongCount p) h
+  type_refused (typing.VoidValue p) (inl e) = absurd (cc)
+  type_refused (typing.VoidValue p) (inr h) = not_typed (typing.VoidValue p) h
+  type_refused (typing.BadReturn p) (inl e) = absurd (cc)
+  type_refused (typing.BadReturn p) (inr h) = not_typed (typing.BadReturn p) h
+  type_refused (typing.BadAssign p) (inl e) = absurd (cc)
+  type_refused (typing.BadAssign p) (inr h) = not_typed (typing.BadAssign p) h
+  type_refused (typing.BadBreak p) (inl e) = absurd (cc)
+  type_refused (typing.BadBreak p) (inr h) = not_typed (typing.BadBreak p) h
+  type_refused (typing.NoMain p) (inl e) = absurd (cc)
+  type_refused (typing.NoMain p) (inr h) = not_typed (typing.NoMain p) h
+  type_refused (typing.Undefined p) (inl e) = absurd (cc)
+  type_refused (typing.Undefined p) (inr h) = not_typed (typing.Undefined p) h
+  type_refused (typing.TooMany p) (inl e) = absurd (cc)
+  type_refused (typing.TooMany p) (inr h) = not_typed (typing.TooMany p) h
+
+  pub program_planned : IsTyped s.externals → IsWithinLimits s.externals → plan text ≡ Ok (length (defined_names s))
+  program_planned typed limits =
+      planned text (Program s.externals) ((fits, spelled), (typed, limits)) ∙ ap Ok (sym (length-map (function_names s.externals) (λ (x : Name). x.text)))
+
+none_past : (n : ℕ) (names : List Name) → past n names ≡ [] → length names ≤ n
+none_past zero [] e = omega arith
+none_past zero (x ∷ names) e = absurd (let l = ap length e in let f : 1 ≡ 0 = l in omega arith)
+none_past (suc n) [] e = omega arith
+none_past (suc n) (x ∷ names) e = let h = none_past n names e in omega arith
+
+-- within the limits there are at most 64 functions
+pub few_functions : (s : Source) → IsWithinLimits s.externals → length (defined_names s) ≤ 64
+few_functions s limits =
+    let rest = (both_empty (externals_excesses s.externals) (past 64 (function_names s.externals) ++ word_excesses 0 (objects s.externals)) limits).1 in
+    let few = none_past 64 (function_names s.externals) (both_empty (past 64 (function_names s.externals)) (word_excesses 0 (objects s.externals)) rest).0 in
+    let same = length-map (function_names s.externals) (λ (x : Name). x.text) in
+    omega arith

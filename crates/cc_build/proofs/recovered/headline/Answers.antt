@@ -1,0 +1,8 @@
+use Rattle.cc_build.proofs.Runs.{kept_run}
+use Rattle.cc_build.proofs.recovered.headline.Goals as goal
+
+pub returns-clause-survives : goal.returns-clause-survives
+returns-clause-survives c = λ first new events start run. c.crash_law.ensures.survives first new events start (kept_run c.linked_units_agree.ensures first new events run)
+
+pub returns-clause-agrees : goal.returns-clause-agrees
+returns-clause-agrees c = λ first new events start run. c.crash_law.ensures.right first new events start (kept_run c.linked_units_agree.ensures first new events run)

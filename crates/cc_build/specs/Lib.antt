@@ -1,0 +1,8 @@
+-- how many pieces a source has, or the number that refuses it
+pub mod Plan
+-- the rules of the build that compiles, and what a piece keeps
+pub mod Compiling
+-- what the headline says of every image of the disk
+pub mod Recovered
+-- what serves private contracts
+pub mod internal

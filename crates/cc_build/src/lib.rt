@@ -1,0 +1,13 @@
+//! The build that the protocol core takes: it compiles C.
+//!
+//! A source has a piece for each function that it defines, or is refused as `parse` and `check` refuse it; pieces are linked to a unit.
+//! `build` is that build, `refusal` gives faults as the core's refusals, `recovered` says what is thereby known of whatever a crash leaves of
+//! the disk. It hands out `CcBuild`, `run`, `headline` and `plans_are_verdicts`.
+#![tactic(auto)]
+
+mod build;
+mod recovered;
+mod refusal;
+
+pub use build::{CcBuild, plans_are_verdicts};
+pub use recovered::{headline, run};
