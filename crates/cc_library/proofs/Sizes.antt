@@ -2,7 +2,7 @@
 use Rattle.std.proofs.Common.{◌≡◌, ℕ, ◌+◌, ◌*◌, List, [], ◌∷◌, ◌++◌, length, refl, arith, length-append}
 use Rattle.std.specs.Int.{w32, to_le_bytes}
 use Rattle.std.specs.List.{flat_map}
-use Rattle.cc_link.specs.declared.unit.StoredUnit.{StoredUnit}
+use Rattle.cc_unit.specs.declared.unit.StoredUnit.{StoredUnit}
 use Rattle.cc_library.specs.Body.{bytes_field, words_field, unit_fields}
 
 four : (n : ℕ) → length (to_le_bytes w32 n) ≡ 4

@@ -7,12 +7,17 @@ use Rattle.cc_typing.specs.declared.fault.TypeFault.{TypeFault}
 use Rattle.cc_typing.specs.declared.fault.TypeFault.TheVariants as type_fault
 use Rattle.cc_meaning.specs.Meaning.{source_behavior}
 use Rattle.cc_meaning.specs.Erase.{outcome_tree}
+use Rattle.cc_rv32.specs.declared.image.Image.{Image}
+use Rattle.cc_rv32.specs.Machine.{machine_behavior}
+use Rattle.cc_rv32.specs.Listing.{listing}
+use Rattle.cc_link.specs.Agree.{Agree}
+use Rattle.cc_link.specs.Compile.{IsBuildRefusal}
 use Rattle.cc_command_line.specs.declared.command_line.Task.{Task}
-use Rattle.cc_command_line.specs.declared.command_line.Task.TheVariants.{Check, Interpret}
+use Rattle.cc_command_line.specs.declared.command_line.Task.TheVariants.{Check, Interpret, Run, Asm}
 use Rattle.cc_program.specs.declared.answer.Answer.{Answer}
-use Rattle.cc_program.specs.declared.answer.Answer.TheVariants.{Accepted, Ran}
+use Rattle.cc_program.specs.declared.answer.Answer.TheVariants.{Accepted, Ran, Executed, Listed}
 use Rattle.cc_program.specs.declared.fault.Fault.{Fault}
-use Rattle.cc_program.specs.declared.fault.Fault.TheVariants.{Syntax, Typing, Meaning, OutOfMemory, Read, Write}
+use Rattle.cc_program.specs.declared.fault.Fault.TheVariants.{Syntax, Typing, Meaning, Build, OutOfMemory, Read, Write}
 
 -- the text spells the tree, which breaks no rule, defines main and passes no limit
 pub record IsProgram (s : Source) : Type 0 where
@@ -20,19 +25,38 @@ pub record IsProgram (s : Source) : Type 0 where
   pub typed : IsTyped s.externals
   pub limits : IsWithinLimits s.externals
 
--- the answer to a task for a program: that it is one, or what it does on the input words within the steps
-abbrev pub IsAnswer : Task → Source → Answer → Type 0
-IsAnswer Check s Accepted = Unit {0}
-IsAnswer Check s (Ran o) = ⊥
-IsAnswer (Interpret steps words) s Accepted = ⊥
-IsAnswer (Interpret steps words) s (Ran o) = outcome_tree o ≡ source_behavior s words.items steps
-
--- the answer to a task for a text, which is a program's
-pub record Answers (task : Task) (text : List ℕ) (answer : Answer) : Type 0 where
+-- the program of a text
+pub record ProgramOf (text : List ℕ) : Type 0 where
   pub program : Source
   pub whose : program.text ≡ text
   pub is : IsProgram program
-  pub answered : IsAnswer task program answer
+
+-- what `check` answers: that the text is a program
+abbrev pub IsAccepted : (text : List ℕ) → Answer → Type 0
+IsAccepted text Accepted = ProgramOf text
+IsAccepted text answer = ⊥
+
+-- what `interpret` answers: what the program does on the input words within the steps
+abbrev pub IsRan : (steps : ℕ) → (words text : List ℕ) → Answer → Type 0
+IsRan steps words text (Ran o) = (p : ProgramOf text) × (outcome_tree o ≡ source_behavior p.program words steps)
+IsRan steps words text answer = ⊥
+
+-- what `run` answers: what an image that agrees with the text does on the input words within so many instructions
+abbrev pub IsExecuted : (steps : ℕ) → (words text : List ℕ) → Answer → Type 0
+IsExecuted steps words text (Executed output outcome) = (image : Image) × Agree text image × (machine_behavior image words steps ≡ record { outcome = outcome; output = output.items })
+IsExecuted steps words text answer = ⊥
+
+-- what `asm` answers: the listing of an image that agrees with the text
+abbrev pub IsListed : (text : List ℕ) → Answer → Type 0
+IsListed text (Listed lines) = (image : Image) × Agree text image × (lines.items ≡ listing image)
+IsListed text answer = ⊥
+
+-- the answer to a task for a text
+abbrev pub Answers : Task → (text : List ℕ) → Answer → Type 0
+Answers Check text answer = IsAccepted text answer
+Answers (Interpret steps words) text answer = IsRan steps words.items text answer
+Answers (Run steps words) text answer = IsExecuted steps words.items text answer
+Answers Asm text answer = IsListed text answer
 
 -- the text spells a tree that is refused for a rule, a limit or the want of main
 pub record IsTextRefusal (text : List ℕ) (fault : TypeFault) : Type 0 where
@@ -41,11 +65,12 @@ pub record IsTextRefusal (text : List ℕ) (fault : TypeFault) : Type 0 where
   pub spelled : SpellsText program.text program.externals
   pub refused : IsTypeRefusal program fault
 
--- why a text gets no answer: it spells no tree, its tree is refused, or memory was
+-- why a text gets no answer: it spells no tree, its tree is refused, it has no image, or memory was
 abbrev pub IsRefused : List ℕ → Fault → Type 0
 IsRefused text (Syntax f) = IsParseRefusal text f
 IsRefused text (Typing f) = (f ≡ type_fault.OutOfMemory) ⊎ IsTextRefusal text f
 IsRefused text (Meaning f) = Unit {0}
+IsRefused text (Build f) = IsBuildRefusal text f
 IsRefused text OutOfMemory = Unit {0}
 IsRefused text Read = ⊥
 IsRefused text Write = ⊥

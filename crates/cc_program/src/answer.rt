@@ -1,12 +1,17 @@
 // The answer to a task for a text.
 
-ghost use Rattle.std.specs.Prelude.{IfOk, IfErr};
+ghost use Rattle.std.specs.Prelude.{◌≡◌, IfOk, IfErr};
 ghost use Rattle.cc_syntax.specs.Source.{source};
-ghost use Rattle.cc_program.specs.Answer.{IsProgram, Answers, IsRefused};
+ghost use Rattle.cc_link.specs.Agree.{Agree};
+ghost use Rattle.cc_program.specs.Answer.{IsProgram, IsAccepted, IsRan, IsExecuted, IsListed, Answers, IsRefused};
 
 use super::fault::Fault;
 use cc_command_line::Task;
+use cc_link::{CompiledUnit, compile};
 use cc_meaning::{Outcome, interpret};
+use cc_rv32::listing::list;
+use cc_rv32::machine::Machine;
+use cc_rv32::outcome::MachineOutcome;
 use cc_syntax::parse;
 use cc_typing::{TypedUnit, check};
 use std::alloc::Global;
@@ -18,41 +23,125 @@ pub enum Answer {
     Accepted,
     /// What the program does.
     Ran(Outcome),
+    /// What the program's image has written, and what its run has come to.
+    Executed(Vec<u32>, MachineOutcome),
+    /// The listing of the program's image.
+    Listed(Vec<u8>),
 }
 
-/// The answer to a task for a program: that it is one, or what it does on the input words.
-///
-/// 40 where memory was refused as the program ran.
-fn answer_of(alloc: Global, task: &Task, program: &TypedUnit) -> Result<Answer, Fault>
-    requires { IsProgram (source program.now) }
-    ensures answer { IfOk result (λ answer. Answers task.now (source program.now).text answer) }
-    ensures refused { IfErr result (λ fault. IsRefused (source program.now).text fault) }
-{
-    match task {
-        Task::Check => Ok(Answer::Accepted),
-        Task::Interpret(steps, words) => match interpret(alloc, program, words.as_slice(), *steps) {
-            Ok(outcome) => Ok(Answer::Ran(outcome)),
-            Err(fault) => Err(Fault::Meaning(fault)),
-        },
-    }
-}
-
-/// The answer to a task for a text: from bytes over tokens, tree and resolved form to the outcome.
-///
-/// Refusals: those of `parse`, then those of `check`, and 40 where memory was refused.
-pub fn answer_for(alloc: Global, task: &Task, text: &[u8]) -> Result<Answer, Fault>
-    ensures answer { IfOk result (λ answer. Answers task.now text.now answer) }
+// The program of a text.
+fn program(alloc: Global, text: &[u8]) -> Result<TypedUnit, Fault>
+    ensures text { IfOk result (λ program. (source program).text ≡ text.now) }
+    ensures program { IfOk result (λ program. IsProgram (source program)) }
     ensures refused { IfErr result (λ fault. IsRefused text.now fault) }
 {
     match parse(alloc, text) {
         Err(fault) => Err(Fault::Syntax(fault)),
         Ok(unit) => match check(alloc, unit) {
             Err(fault) => Err(Fault::Typing(fault)),
-            Ok(program) => {
-                let answer = answer_of(alloc, task, &program);
-                drop(program);
-                answer
-            }
+            Ok(program) => Ok(program),
         },
+    }
+}
+
+// That the text is a program.
+fn accepted(alloc: Global, text: &[u8]) -> Result<Answer, Fault>
+    ensures answer { IfOk result (λ answer. IsAccepted text.now answer) }
+    ensures refused { IfErr result (λ fault. IsRefused text.now fault) }
+{
+    match program(alloc, text) {
+        Err(fault) => Err(fault),
+        Ok(program) => {
+            drop(program);
+            Ok(Answer::Accepted)
+        }
+    }
+}
+
+// What the program does on the input words. 40 where memory was refused as it ran.
+fn ran(alloc: Global, text: &[u8], words: &[u32], steps: u64) -> Result<Answer, Fault>
+    ensures answer { IfOk result (λ answer. IsRan steps words.now text.now answer) }
+    ensures refused { IfErr result (λ fault. IsRefused text.now fault) }
+{
+    match program(alloc, text) {
+        Err(fault) => Err(fault),
+        Ok(program) => {
+            let outcome = interpret(alloc, &program, words, steps);
+            drop(program);
+            match outcome {
+                Ok(outcome) => Ok(Answer::Ran(outcome)),
+                Err(fault) => Err(Fault::Meaning(fault)),
+            }
+        }
+    }
+}
+
+// The compiled unit of a text.
+fn compiled(alloc: Global, text: &[u8]) -> Result<CompiledUnit, Fault>
+    ensures agrees { IfOk result (λ unit. Agree text.now unit.image) }
+    ensures refused { IfErr result (λ fault. IsRefused text.now fault) }
+{
+    match compile(alloc, text) {
+        Ok(unit) => Ok(unit),
+        Err(fault) => Err(Fault::Build(fault)),
+    }
+}
+
+// What the program's image does on the input words. 40 where memory was refused as it ran.
+fn executed(alloc: Global, text: &[u8], words: &[u32], steps: u64) -> Result<Answer, Fault>
+    ensures answer { IfOk result (λ answer. IsExecuted steps words.now text.now answer) }
+    ensures refused { IfErr result (λ fault. IsRefused text.now fault) }
+{
+    let unit = match compiled(alloc, text) {
+        Ok(unit) => unit,
+        Err(fault) => return Err(fault),
+    };
+    let Ok(mut machine) = Machine::new(alloc, &unit.stored().image, words) else {
+        drop(unit);
+        return Err(Fault::OutOfMemory);
+    };
+    drop(unit);
+    let Ok(outcome) = machine.run(steps) else {
+        drop(machine);
+        return Err(Fault::OutOfMemory);
+    };
+    let output = Vec::from_slice(alloc, machine.output());
+    drop(machine);
+    match output {
+        Ok(output) => Ok(Answer::Executed(output, outcome)),
+        Err(_) => Err(Fault::OutOfMemory),
+    }
+}
+
+// The listing of the program's image.
+fn listed(alloc: Global, text: &[u8]) -> Result<Answer, Fault>
+    ensures answer { IfOk result (λ answer. IsListed text.now answer) }
+    ensures refused { IfErr result (λ fault. IsRefused text.now fault) }
+{
+    match compiled(alloc, text) {
+        Err(fault) => Err(fault),
+        Ok(unit) => {
+            let lines = list(alloc, &unit.stored().image);
+            drop(unit);
+            match lines {
+                Ok(lines) => Ok(Answer::Listed(lines)),
+                Err(_) => Err(Fault::OutOfMemory),
+            }
+        }
+    }
+}
+
+/// The answer to a task for a text: `check` and `interpret` by its tree, `run` and `asm` by its image, which agrees with it.
+///
+/// Refusals: those of `parse`, then those of `check`; for `run` and `asm` then 22, 24 and 25 of `compile`; 40 where memory was refused.
+pub fn answer_for(alloc: Global, task: &Task, text: &[u8]) -> Result<Answer, Fault>
+    ensures answer { IfOk result (λ answer. Answers task.now text.now answer) }
+    ensures refused { IfErr result (λ fault. IsRefused text.now fault) }
+{
+    match task {
+        Task::Check => accepted(alloc, text),
+        Task::Interpret(steps, words) => ran(alloc, text, words.as_slice(), *steps),
+        Task::Run(steps, words) => executed(alloc, text, words.as_slice(), *steps),
+        Task::Asm => listed(alloc, text),
     }
 }

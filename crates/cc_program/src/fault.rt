@@ -1,8 +1,9 @@
 // Every refusal of the program, with its line.
 
 ghost use Rattle.std.specs.Prelude.{◌≡◌};
-ghost use Rattle.cc_program.specs.Fault.{fault_number, fault_place};
+ghost use Rattle.cc_program.specs.Fault.{fault_number, fault_place, function_fault};
 
+use cc_link::{BuildFault, PieceFault};
 use cc_meaning::MeaningFault;
 use cc_syntax::{Place, SyntaxFault};
 use cc_typing::TypeFault;
@@ -22,7 +23,10 @@ pub enum Fault {
     /// 40: memory was refused as the program ran.
     #[error(transparent)]
     Meaning(MeaningFault),
-    /// 40: memory was refused as the text was read.
+    /// 1 to 7, 11 to 22, 24, 25, 40: the text has no image.
+    #[error(transparent)]
+    Build(BuildFault),
+    /// 40: memory was refused as the text was read, or as an image ran.
     #[error("OutOfMemory")]
     OutOfMemory,
     /// 53: the text could not be read.
@@ -40,7 +44,7 @@ impl From<AllocError> for Fault {
 }
 
 impl Fault {
-    /// The number of the fault: 1 to 7, 11 to 21, 40, 53 or 54.
+    /// The number of the fault: 1 to 7, 11 to 22, 24, 25, 40, 53 or 54.
     pub fn number(&self) -> u32
         ensures { result ≡ fault_number self.now }
     {
@@ -48,6 +52,7 @@ impl Fault {
             Fault::Syntax(fault) => fault.number(),
             Fault::Typing(fault) => fault.number(),
             Fault::Meaning(fault) => fault.number(),
+            Fault::Build(fault) => fault.number(),
             Fault::OutOfMemory => 40,
             Fault::Read => 53,
             Fault::Write => 54,
@@ -61,19 +66,45 @@ impl Fault {
         match self {
             Fault::Syntax(fault) => fault.place(),
             Fault::Typing(fault) => fault.place(),
+            Fault::Build(fault) => fault.place(),
             Fault::Meaning(_) | Fault::OutOfMemory | Fault::Read | Fault::Write => None,
         }
     }
 
-    /// Writes the fault's line, as `fault 5 Unexpected at 1:25`.
-    pub fn write_line<W: Write>(&self, writer: &mut W) -> io::Result<()> {
-        let number = self.number();
-        match self.place() {
-            Some(Place { line, column }) => writeln!(
-                writer,
-                "fault {number} {self} at {line}:{column}"
-            ),
-            None => writeln!(writer, "fault {number} {self}"),
+    /// The fault of a function, where it is one.
+    fn of_function(&self) -> Option<PieceFault>
+        ensures { result ≡ function_fault self.now }
+    {
+        match self {
+            Fault::Build(BuildFault::Piece(fault)) => Some(*fault),
+            _ => None,
         }
     }
+
+    /// Writes the fault's line for the text that has it, as `fault 5 Unexpected at 1:25` or `fault 22 FunctionTooLarge in main`.
+    pub fn write_line<W: Write>(&self, text: &[u8], writer: &mut W) -> io::Result<()> {
+        let number = self.number();
+        if let Some(Place { line, column }) = self.place() {
+            return writeln!(writer, "fault {number} {self} at {line}:{column}");
+        }
+        write!(writer, "fault {number} {self}")?;
+        match self.of_function() {
+            Some(PieceFault::FunctionTooLarge { at, length }) => {
+                write_name(text, at, length, writer)?;
+            }
+            Some(PieceFault::Unvalidated { at, length, label }) => {
+                write_name(text, at, length, writer)?;
+                write!(writer, " at label {label}")?;
+            }
+            Some(PieceFault::OutOfMemory) | None => {}
+        }
+        writeln!(writer)
+    }
+}
+
+// In which function a fault is: the name of so many bytes that begins there in the text.
+fn write_name<W: Write>(text: &[u8], at: usize, length: usize, writer: &mut W) -> io::Result<()> {
+    writer.write_all(b" in ")?;
+    let rest = text.get(at..).unwrap_or(b"");
+    writer.write_all(rest.get(..length).unwrap_or(rest))
 }

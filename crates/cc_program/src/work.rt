@@ -7,6 +7,7 @@ use super::fault::Fault;
 use super::source::read_source;
 use cc_command_line::Task;
 use cc_meaning::{Cause, Outcome, Stop};
+use cc_rv32::outcome::MachineOutcome;
 use std::alloc::Global;
 use std::io::{self, Read, Write};
 
@@ -34,19 +35,43 @@ fn write_outcome<W: Write>(outcome: &Outcome, writer: &mut W) -> io::Result<()> 
     write_stop(outcome.stop, writer)
 }
 
+fn write_run<W: Write>(output: &[u32], outcome: MachineOutcome, writer: &mut W) -> io::Result<()> {
+    for word in output {
+        writeln!(writer, "{}", word.cast_signed())?;
+    }
+    match outcome {
+        MachineOutcome::Going => writeln!(writer, "going"),
+        MachineOutcome::Exited(word) => writeln!(writer, "exited {}", word.cast_signed()),
+        MachineOutcome::Trapped => writeln!(writer, "trapped"),
+    }
+}
+
 fn write_answer<W: Write>(answer: &Answer, writer: &mut W) -> io::Result<()> {
     match answer {
         Answer::Accepted => writeln!(writer, "ok")?,
         Answer::Ran(outcome) => write_outcome(outcome, writer)?,
+        Answer::Executed(output, outcome) => write_run(output.as_slice(), *outcome, writer)?,
+        Answer::Listed(lines) => writer.write_all(lines.as_slice())?,
     }
     writer.flush()
 }
 
-fn answer_from<R: Read>(alloc: Global, task: &Task, reader: &mut R) -> Result<Answer, Fault> {
-    let text = read_source(alloc, reader)?;
-    let answer = answer_for(alloc, task, text.as_slice());
-    drop(text);
-    answer
+// Does a task for a text: writes the answer, or the fault's line.
+fn tell<W: Write>(alloc: Global, task: &Task, text: &[u8], writer: &mut W) -> Result<(), Fault> {
+    match answer_for(alloc, task, text) {
+        Ok(answer) => {
+            let written = write_answer(&answer, writer);
+            drop(answer);
+            match written {
+                Ok(()) => Ok(()),
+                Err(_) => Err(Fault::Write),
+            }
+        }
+        Err(fault) => {
+            let _ = fault.write_line(text, writer);
+            Err(fault)
+        }
+    }
 }
 
 fn try_perform<R: Read, W: Write>(
@@ -55,12 +80,16 @@ fn try_perform<R: Read, W: Write>(
     reader: &mut R,
     writer: &mut W,
 ) -> Result<(), Fault> {
-    let answer = answer_from(alloc, task, reader)?;
-    let written = write_answer(&answer, writer);
-    drop(answer);
-    match written {
-        Ok(()) => Ok(()),
-        Err(_) => Err(Fault::Write),
+    match read_source(alloc, reader) {
+        Ok(text) => {
+            let told = tell(alloc, task, text.as_slice(), writer);
+            drop(text);
+            told
+        }
+        Err(fault) => {
+            let _ = fault.write_line(b"", writer);
+            Err(fault)
+        }
     }
 }
 
@@ -82,7 +111,6 @@ pub fn perform<H: AllocGlobal, R: Read, W: Write>(
         Ok(()) => 0,
         Err(Fault::Write) => 1,
         Err(fault) => {
-            let _ = fault.write_line(writer);
             drop(fault);
             let _ = writer.flush();
             1

@@ -16,7 +16,7 @@ fn main(rt: HostRuntime) -> ExitCode {
     match run(&rt) {
         Ok(status) => ExitCode::from(status),
         Err(_) => {
-            let _ = Fault::OutOfMemory.write_line(&mut io::writer(&rt));
+            let _ = Fault::OutOfMemory.write_line(b"", &mut io::writer(&rt));
             ExitCode::from(1)
         }
     }

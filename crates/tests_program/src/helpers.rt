@@ -18,6 +18,24 @@ pub fn interprets<H: AllocGlobal>(rt: &H, text: &[u8], steps: u64, lines: &str) 
     writes(rt, task, text, lines.as_bytes(), 0)
 }
 
+/// Whether the image of a text writes these lines within so many instructions on no input.
+pub fn runs<H: AllocGlobal>(rt: &H, text: &[u8], steps: u64, lines: &str) -> bool {
+    let task = Task::Run(steps, Vec::new(rt.alloc()));
+    writes(rt, task, text, lines.as_bytes(), 0)
+}
+
+/// Whether `run` refuses the text of these parts with this line.
+pub fn has_no_image<H: AllocGlobal>(rt: &H, parts: &[Part<'_>], line: &str) -> bool {
+    let task = Task::Run(1000, Vec::new(rt.alloc()));
+    match text_of(rt.alloc(), parts) {
+        Ok(text) => writes(rt, task, text.as_slice(), line.as_bytes(), 1),
+        Err(_) => {
+            drop(task);
+            false
+        }
+    }
+}
+
 /// Whether `check` answers a text with this line.
 pub fn checks<H: AllocGlobal>(rt: &H, text: &[u8], line: &str) -> bool {
     writes(

@@ -22,12 +22,7 @@ fn asks_to_interpret(
     }
 }
 
-fn asks_to_run(
-    alloc: Global,
-    words: &'static [&'static str],
-    steps: u64,
-    input: &[u32],
-) -> bool {
+fn asks_to_run(alloc: Global, words: &'static [&'static str], steps: u64, input: &[u32]) -> bool {
     match line(alloc, words) {
         Ok(Task::Run(found, given)) => found == steps && given.as_slice() == input,
         other => {
@@ -50,7 +45,14 @@ fn tasks(rt: HostRuntime) {
     let words = &["cclib", "interpret", "10", "4294967295", "007"];
     assert!(rt; asks_to_interpret(rt.alloc(), words, 10, &[4294967295, 7]));
     assert!(rt; asks_to_run(rt.alloc(), &["cclib", "run", "5"], 5, &[]));
-    assert!(rt; asks_to_run(rt.alloc(), &["cclib", "run", "1000000000", "0", "1"], 1_000_000_000, &[0, 1]));
+    assert!(rt;
+        asks_to_run(
+            rt.alloc(),
+            &["cclib", "run", "1000000000", "0", "1"],
+            1_000_000_000,
+            &[0, 1]
+        )
+    );
     assert!(rt; asks_for_listing(rt.alloc(), &["cclib", "asm"]));
 }
 

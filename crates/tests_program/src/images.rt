@@ -1,0 +1,66 @@
+// Programs that are compiled: what their images write and how they end, and texts without an image.
+
+use super::helpers::{has_no_image, runs};
+
+// Small programs, the instructions of each run, what its image writes on no input and how it ends.
+static IMAGES: [(&str, u64, &str); 8] = [
+    ("int main(void){}", 1000, "exited 0\n"),
+    (
+        "int main(void){write_word(-7/2);write_word(-7%2);return 0;}",
+        1000,
+        "-3\n-1\nexited 0\n",
+    ),
+    (
+        "int f(int n){if(n)return f(n-1);return 7;}int main(void){write_word(f(1022));}",
+        1_000_000,
+        "7\nexited 0\n",
+    ),
+    ("int main(void){for(;;);write_word(1);}", 1000, "going\n"),
+    (
+        "int main(void){for(;;);write_word(1);}",
+        1_000_000,
+        "going\n",
+    ),
+    (
+        "int a[2];int f(void){a[0]=1;return 1;}int main(void){a[f()]+=a[0]+5;write_word(a[1]);}",
+        1000,
+        "6\nexited 0\n",
+    ),
+    (
+        "unsigned u=4294967295u;int a[3]={1,2,3};int main(void){write_word(u/2==2147483647);write_word(a[1]+a[2]);return a[0]-4;}",
+        1000,
+        "1\n5\nexited -3\n",
+    ),
+    (
+        "int g(int a,int b,int c,int d,int e,int f,int x,int y){return a-b+c*d-e/f+(x^y);}int main(void){return g(9,8,7,6,5,4,3,2);}",
+        10_000,
+        "exited 43\n",
+    ),
+];
+
+#[test]
+fn images(rt: HostRuntime) {
+    for (text, steps, lines) in IMAGES.iter() {
+        assert!(rt; runs(&rt, text.as_bytes(), *steps, lines));
+    }
+}
+
+#[test]
+fn refusals(rt: HostRuntime) {
+    assert!(rt;
+        has_no_image(
+            &rt,
+            &[("int main(void){x=1;}", 1)],
+            "fault 11 Unknown at 1:16\n"
+        )
+    );
+    assert!(rt;
+        has_no_image(
+            &rt,
+            &[("int main(void){return 1 2;}", 1)],
+            "fault 5 Unexpected at 1:25\n"
+        )
+    );
+    let large = &[("int main(void){", 1), ("write_word(0);", 4097), ("}", 1)];
+    assert!(rt; has_no_image(&rt, large, "fault 22 FunctionTooLarge in main\n"));
+}
