@@ -6,7 +6,7 @@ use Rattle.cc_typing.specs.Checked.{IsChecked}
 use Rattle.cc_unit.specs.declared.unit.StoredUnit.{StoredUnit}
 use Rattle.cc_emit.specs.Piece.{Piece, IsPieceOfUnit}
 use Rattle.cc_link.specs.Agree.{Agree}
-use Rattle.cc_link.specs.Linked.{same_text, linked}
+use Rattle.cc_link.specs.Linked.{same_bytes, linked}
 use Rattle.cc_link.specs.Laws.{LinkedUnitsAgree}
 use Rattle.cc_link.specs.declared.fault.LinkFault.{LinkFault}
 use Rattle.cc_link.specs.Fault.{link_fault_number}
@@ -26,7 +26,7 @@ numbered (Err fault) = Err (link_fault_number fault)
 -- there is no piece
 abbrev pub unit_of : List ℕ → List Piece → Result StoredUnit ℕ
 unit_of text [] = Err 26
-unit_of text (piece ∷ pieces) = if same_text (text_of piece) text then numbered (linked (source piece.unit) (piece ∷ pieces)) else Err 28
+unit_of text (piece ∷ pieces) = if same_bytes (text_of piece) text then numbered (linked (source piece.unit) (piece ∷ pieces)) else Err 28
 
 -- a source has a piece for each function that it defines, by its number in the order of definitions; and they are linked
 abbrev pub compiling : Rules Piece

@@ -6,7 +6,7 @@ use Rattle.cc_unit.specs.declared.unit.StoredUnit.{StoredUnit}
 use Rattle.cc_emit.specs.Piece.{Piece, IsPieceOfUnit}
 use Rattle.cc_link.specs.Agree.{Agree}
 use Rattle.cc_link.specs.declared.fault.LinkFault.{LinkFault}
-use Rattle.cc_link.specs.Linked.{same_text, linked}
+use Rattle.cc_link.specs.Linked.{same_bytes, linked}
 use Rattle.cc_core.specs.Rules.{AreWhole}
 use Rattle.cc_build.specs.Compiling.{numbered, unit_of, text_of, compiling, is_right, Keeps}
 
@@ -24,6 +24,6 @@ pub whole_units_agree : (text : List ℕ) (pieces : List Piece) (unit : StoredUn
 whole_units_agree text [] unit whole kept is = absurd (cc)
 whole_units_agree text (piece ∷ pieces) unit whole kept is =
     let keep : Keeps piece = kept 0 piece (omega arith) in
-    let linked_so = is_unit (linked (source piece.unit) (piece ∷ pieces)) unit (chosen (same_text (text_of piece) text) (numbered (linked (source piece.unit) (piece ∷ pieces))) unit is) in
+    let linked_so = is_unit (linked (source piece.unit) (piece ∷ pieces)) unit (chosen (same_bytes (text_of piece) text) (numbered (linked (source piece.unit) (piece ∷ pieces))) unit is) in
     let agreed = keep.agree (source piece.unit) (piece ∷ pieces) unit keep.compiled.spelled keep.compiled.checked (λ k d lt. (kept k d lt).compiled.of_unit) linked_so in
     (agreed.0 ∙ (whole.named 0 piece refl).0, subst (λ (z : List ℕ). Agree z unit.image) (sym agreed.0) agreed.1)
