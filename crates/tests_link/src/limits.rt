@@ -22,8 +22,8 @@ fn writes_one(words: &[i32; 1], steps: u64) -> Run<'_> {
 #[test]
 fn most_calls_with_large_frames(rt: HostRuntime) -> Result<(), Fail> {
     let text = deep(rt.alloc())?;
-    let run = writes_one(&[162_498_007], 100_000_000);
-    let right = runs(rt.alloc(), text.as_slice(), run);
+    let words = [162_498_007];
+    let right = runs(rt.alloc(), text.as_slice(), writes_one(&words, 100_000_000));
     drop(text);
     let right = right?;
     assert!(rt; right);
@@ -34,7 +34,8 @@ fn most_calls_with_large_frames(rt: HostRuntime) -> Result<(), Fail> {
 #[test]
 fn most_functions(rt: HostRuntime) -> Result<(), Fail> {
     let text = many(rt.alloc())?;
-    let right = runs(rt.alloc(), text.as_slice(), writes_one(&[2_016], 100_000));
+    let words = [2_016];
+    let right = runs(rt.alloc(), text.as_slice(), writes_one(&words, 100_000));
     drop(text);
     let right = right?;
     assert!(rt; right);
@@ -149,7 +150,8 @@ fn branches_over(alloc: Global, times: usize, word: i32) -> Result<bool, Fail> {
         ("}else x=x+1000;write_word(x);}", 1),
     ];
     let text = text_of(alloc, &parts)?;
-    let right = runs(alloc, text.as_slice(), writes_one(&[word], 100_000));
+    let words = [word];
+    let right = runs(alloc, text.as_slice(), writes_one(&words, 100_000));
     drop(text);
     right
 }

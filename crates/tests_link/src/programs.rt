@@ -24,10 +24,12 @@ static PROGRAMS: [(&str, &str, u32, i32); 12] = [
 #[test]
 fn words_of_gcc(rt: HostRuntime) -> Result<(), Fail> {
     for (name, text, input, word) in PROGRAMS.iter() {
+        let inputs = [*input];
+        let words = [*word];
         let run = Run {
-            input: &[*input],
+            input: inputs.as_slice(),
             steps: 100_000_000,
-            words: &[*word],
+            words: words.as_slice(),
             outcome: MachineOutcome::Exited(0),
         };
         let right = runs(rt.alloc(), text.as_bytes(), run)?;
