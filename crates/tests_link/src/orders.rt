@@ -91,12 +91,7 @@ enum Answer {
     Other,
 }
 
-fn answer_for(
-    alloc: Global,
-    unit: &Arc<TypedUnit>,
-    pieces: &[Piece],
-    places: &[usize],
-) -> Answer {
+fn answer_for(alloc: Global, unit: &Arc<TypedUnit>, pieces: &[Piece], places: &[usize]) -> Answer {
     match linked(alloc, unit, pieces, places) {
         Ok(made) => {
             drop(made);
@@ -135,11 +130,7 @@ static LISTS: [(&[usize], Answer); 17] = [
 ];
 
 // The first of the lists that comes to something else.
-fn wrong_list(
-    alloc: Global,
-    unit: &Arc<TypedUnit>,
-    pieces: &[Piece],
-) -> Option<&'static [usize]> {
+fn wrong_list(alloc: Global, unit: &Arc<TypedUnit>, pieces: &[Piece]) -> Option<&'static [usize]> {
     for (places, answer) in LISTS.iter() {
         if answer_for(alloc, unit, pieces, places) != *answer {
             return Some(*places);
