@@ -1,9 +1,11 @@
 #!/usr/bin/env python3
-"""Compares what the interpreter writes with what gcc's program writes, for random programs whose meaning the standard fixes.
+"""Compares what the interpreter, the compiled program and gcc's program write, for random programs whose meaning the standard fixes.
 
-compare.py [COUNT] [SEED]: so many programs (100), from a seed (1). The programs have both types, casts, all operators, arrays,
-functions without side effects and all statements but goto; shifts and divisions are guarded, and sums wrap (-fwrapv). The
-interpreter has to be built (./cclib --help)."""
+compare.py [COUNT] [SEED]: so many programs (100), from a seed (1). The programs have both types, casts, all operators, arrays, locals,
+functions of up to eight parameters without side effects, words of the input and all statements but goto; shifts and divisions are
+guarded, and sums wrap (-fwrapv). The words have to be the same, and the word that main returns; gcc tells only the last eight bits of
+that. A program in which an operation goes wrong is passed over, once it is seen that it is compiled. The program has to be built
+(./cclib --help), or CCLIB names one that is. The text of a program with other words is printed."""
 
 import os
 import random
@@ -11,8 +13,14 @@ import subprocess
 import sys
 import tempfile
 
-PROGRAM = os.path.join(os.path.dirname(os.path.abspath(__file__)), "../crates/cclib/out/cclib")
-SERVICES = '#include <stdio.h>\nint read_word(void) { return 0; }\nvoid write_word(int w) { printf("%d\\n", w); }\n'
+PROGRAM = os.environ.get("CCLIB") or os.path.join(os.path.dirname(os.path.abspath(__file__)), "../crates/cclib/out/cclib")
+MOST = "1000000000"
+WORDS = "0 1 7 4294967295 2147483648 2147483647 12345678 3000000000".split()
+SERVICES = """#include <stdio.h>
+unsigned words[] = {%s}, at;
+int read_word(void) { return at < sizeof words / 4 ? words[at++] : 0; }
+void write_word(int w) { printf("%%d\\n", w); }
+""" % ",".join(it + "u" for it in WORDS)
 BEGIN = """int f(int, unsigned);
 int p[4] = {1, -2, 3};
 unsigned q[] = {0xffffffff, 7, 2147483648u, 1};
@@ -20,10 +28,17 @@ int a = 5, b = -7, c;
 unsigned u = 3, v = ~0u, w;
 int f(int x, unsigned y) { int k = x; k *= 3; return k ^ y; }
 unsigned g(unsigned x, int y) { for (int j = 0; j < 3; j++) y += x; return y - x; }
+int h(int x, int y, int z, unsigned s, unsigned t, int i, int j, unsigned k) {
+    int m = x - y, n = z ^ i;
+    if (k & 3) return h(m, n, x, t, s, j, i, k >> 2) + (s < k);
+    return (m | n) + (s & t) - j + k;
+}
+unsigned d(unsigned n, int x) { if (n) return d(n - 1, x * 3 + n) + x; return x; }
 int main(void) {
+int l = 9, m = -3, n = 0; unsigned s = 4000000000u, t = 0, o = 1;
 """
 CONSTANTS = "0 1 2 3 7 31 32 255 2147483647 1u 5u 4294967295u 0x80000000 0x7fffffff 017 65536".split()
-VARIABLES = "a b c u v w".split()
+VARIABLES = "a b c u v w l m n s t o".split()
 
 
 class Writer:
@@ -62,7 +77,10 @@ class Writer:
         if kind == 11:
             return f"({e()})?({e()}):({e()})"
         if kind == 12:
-            return f"{self.one_of('f', 'g')}({e()},{e()})"
+            which = self.random.random()
+            if which < 0.15:
+                return f"h({','.join([e(), *[self.leaf() for _ in range(6)], e()])})"
+            return f"d(({e()})&15,{e()})" if which < 0.3 else f"{self.one_of('f', 'g')}({e()},{e()})"
         return f"{e()}{self.one_of('+', '-', '*', '&', '^', '|', '<', '==')}1"
 
     def target(self):
@@ -80,6 +98,8 @@ class Writer:
         if kind == 4:
             return f"{self.target()}{self.one_of('++', '--')};"
         if kind == 5:
+            if self.random.random() < 0.3:
+                return f"{self.one_of(*VARIABLES)}=read_word();"
             return f"{self.one_of('++', '--')}{self.target()};"
         if kind < 7 or depth == 0:
             return f"write_word({self.expression(3)});"
@@ -97,34 +117,54 @@ class Writer:
         return BEGIN + "".join(self.statement(3) + "\n" for _ in range(40)) + "return a;\n}\n"
 
 
-def answers(text, room):
-    """Returns the words of both, and None where a guarded part still goes wrong."""
-    ran = subprocess.run([PROGRAM, "interpret", "1000000000"], input=text.encode(), capture_output=True, check=False)
-    *words, end = ran.stdout.decode().splitlines()
-    if not end.startswith("ended"):
-        return None
+def lines_of(command, text=""):
+    ran = subprocess.run(command, input=text.encode(), capture_output=True, check=False)
+    return ran.stdout.decode().splitlines(), ran.returncode
+
+
+def gcc_lines(text, room):
+    """What gcc's program writes, and the last eight bits of what its main returns."""
     with open(f"{room}/program.c", "w", encoding="utf-8") as it:
         it.write(SERVICES + text)
     subprocess.run(["gcc", "-std=c99", "-w", "-fwrapv", "-O0", "-o", f"{room}/program", f"{room}/program.c"], check=True)
-    return words, subprocess.run([f"{room}/program"], capture_output=True, check=False).stdout.decode().splitlines()
+    return lines_of([f"{room}/program"])
+
+
+def judged(text, room):
+    """How many words all three write, or None where an operation goes wrong, or a text that says who differs."""
+    (*words, end), _ = lines_of([PROGRAM, "interpret", MOST, *WORDS], text)
+    (*made, came), _ = lines_of([PROGRAM, "run", MOST, *WORDS], text)
+    if came.startswith("fault"):
+        return f"it is not compiled: {came}"
+    if end.startswith("wrong"):
+        return None
+    if not end.startswith("ended"):
+        return f"the interpreter says {end}"
+    if made != words or came != end.replace("ended", "exited"):
+        return f"the compiled program writes other words, or {came} where the interpreter says {end}"
+    theirs, status = gcc_lines(text, room)
+    if theirs != words or status != int(end.split()[1]) % 256:
+        return f"gcc's program writes other words, or ends with {status} where the interpreter says {end}"
+    return len(words)
 
 
 def main():
     count = int(sys.argv[1]) if len(sys.argv) > 1 else 100
     first = int(sys.argv[2]) if len(sys.argv) > 2 else 1
-    same, words, passed_over = 0, 0, 0
+    same, words, passed_over, other = 0, 0, 0, 0
     with tempfile.TemporaryDirectory() as room:
         for seed in range(first, first + count):
-            found = answers(Writer(seed).program(), room)
+            text = Writer(seed).program()
+            found = judged(text, room)
             if found is None:
                 passed_over += 1
-            elif found[0] != found[1]:
-                print(f"seed {seed}: other words than gcc's", file=sys.stderr)
-                return 1
+            elif isinstance(found, str):
+                other += 1
+                print(f"seed {seed}: {found}\n{text}", file=sys.stderr)
             else:
-                same, words = same + 1, words + len(found[0])
-    print(f"{same} programs write gcc's words, {words} in all; {passed_over} passed over, since an operation goes wrong")
-    return 0
+                same, words = same + 1, words + found
+    print(f"{same} programs write the same words in all three, {words} in all; {passed_over} passed over, since an operation goes wrong; {other} differ")
+    return 1 if other else 0
 
 
 sys.exit(main())

@@ -1,0 +1,64 @@
+// A text compiled, and what its image does.
+
+use cc_link::{CompiledUnit, compile};
+use cc_rv32::machine::Machine;
+use cc_rv32::outcome::MachineOutcome;
+use std::alloc::{AllocError, Global};
+use std::test::Fail;
+
+/// What a run comes to: its input, how many instructions it may take, the words that it writes, and its outcome.
+#[derive(Clone, Copy)]
+pub struct Run<'a> {
+    pub input: &'a [u32],
+    pub steps: u64,
+    pub words: &'a [i32],
+    pub outcome: MachineOutcome,
+}
+
+// Whether these are the words, as signed numbers.
+fn are_words(found: &[u32], words: &[i32]) -> bool {
+    let mut same = found.len() == words.len();
+    for (one, other) in found.iter().zip(words.iter()) {
+        same = same && one.cast_signed() == *other;
+    }
+    same
+}
+
+/// Whether the image of a unit runs so.
+pub fn image_runs(alloc: Global, unit: &CompiledUnit, run: Run<'_>) -> Result<bool, Fail> {
+    let mut machine = Machine::new(alloc, &unit.stored().image, run.input)?;
+    let outcome = machine.run(run.steps);
+    let same = are_words(machine.output(), run.words);
+    drop(machine);
+    Ok(same && outcome? == run.outcome)
+}
+
+/// Whether a text has an image that runs so, and its unit has it as its source and no certificate.
+pub fn runs(alloc: Global, text: &[u8], run: Run<'_>) -> Result<bool, Fail> {
+    let unit = compile(alloc, text)?;
+    let stored = unit.stored();
+    let kept = stored.source.bytes() == text && stored.certificate.is_none();
+    let right = image_runs(alloc, &unit, run);
+    drop(unit);
+    Ok(right? && kept)
+}
+
+/// A part of a text, and how often it stands there.
+pub type Part<'a> = (&'a str, usize);
+
+/// Puts a part behind a text, so many times.
+pub fn append(text: &mut Vec<u8>, part: &str, times: usize) -> Result<(), AllocError> {
+    for _ in 0..times {
+        text.extend_from_slice(part.as_bytes())?;
+    }
+    Ok(())
+}
+
+/// The text of these parts.
+pub fn text_of(alloc: Global, parts: &[Part<'_>]) -> Result<Vec<u8>, AllocError> {
+    let mut text = Vec::new(alloc);
+    for (part, times) in parts {
+        append(&mut text, part, *times)?;
+    }
+    Ok(text)
+}

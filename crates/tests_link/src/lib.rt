@@ -1,0 +1,20 @@
+//! Tests of the compiler from text to run: the worked rows, the pieces of a unit in every order, each refusal, the limits, and eight
+//! programs whose words are gcc's.
+#![tactic(auto)]
+
+#[cfg(test)]
+mod helpers;
+#[cfg(test)]
+mod limits;
+#[cfg(test)]
+mod numbered;
+#[cfg(test)]
+mod orders;
+#[cfg(test)]
+mod programs;
+#[cfg(test)]
+mod refusals;
+#[cfg(test)]
+mod rows;
+#[cfg(test)]
+mod texts;

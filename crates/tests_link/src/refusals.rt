@@ -1,0 +1,156 @@
+// What `compile` refuses, and where.
+
+use super::helpers::{Part, text_of};
+use cc_link::{BuildFault, PieceFault, compile};
+use std::alloc::Global;
+use std::test::Fail;
+
+/// A text, the number of its fault, and its line and column.
+static TEXTS: [(&str, u32, usize, usize); 29] = [
+    // spelling
+    ("int main(void){@}", 1, 1, 16),
+    ("/*", 2, 1, 1),
+    ("int main(void){0xe+1;}", 3, 1, 16),
+    ("int main(void){write_word(2147483648);}", 4, 1, 27),
+    ("", 5, 1, 1),
+    ("int main(void){return 1 2;}", 5, 1, 25),
+    (
+        "int main(void){{{{{{{{{{{{{{{{{{{{{{{{{{{{{{{{{{{{{{{{{{{{{{{{{{{{{{{{{{{{{{{{{}}}}}}}}}}}}}}}}}}}}}}}}}}}}}}}}}}}}}}}}}}}}}}}}}}}}}}}}}}}}}}}}}",
+        6,
+        1,
+        79,
+    ),
+    // names and kinds
+    ("int main(void){x=1;}", 11, 1, 16),
+    ("int main(void){\n  y=x;\n}", 11, 2, 3),
+    ("int x;int x;int main(void){}", 12, 1, 11),
+    ("int a[2];int main(void){a;}", 13, 1, 25),
+    ("int main(void){write_word();}", 14, 1, 16),
+    ("int a[0];int main(void){}", 14, 1, 5),
+    ("int a[2]={1,2,3};int main(void){}", 14, 1, 5),
+    ("void f(void){}int main(void){write_word(f());}", 15, 1, 41),
+    ("void f(void){return 1;}int main(void){}", 16, 1, 14),
+    ("int main(void){return;}", 16, 1, 16),
+    ("int a[2];int main(void){a=1;}", 17, 1, 25),
+    ("int main(void){main=1;}", 17, 1, 16),
+    ("int main(void){break;}", 18, 1, 16),
+    ("unsigned main(void){return 0;}", 19, 1, 31),
+    ("int f(void){}", 19, 1, 14),
+    ("int f(void);int main(void){f();}", 20, 1, 28),
+    ("int f(int);int main(void){f(1);}", 20, 1, 27),
+    (
+        "int f(int,int,int,int,int,int,int,int,int);int main(void){}",
+        21,
+        1,
+        5,
+    ),
+    ("int a[65536];int b;int main(void){}", 21, 1, 18),
+    // of several faults the one that comes first
+    ("int main(void){return 1 2;} 08 $", 3, 1, 29),
+    ("int main(void){y=1;return 1 2;}", 5, 1, 29),
+    ("int main(void){y=1;x=2;}", 11, 1, 16),
+];
+
+// The number of a text's fault with its line and column, or 0 where it is compiled, and 0 for a place that a fault lacks.
+fn fault_of(alloc: Global, text: &[u8]) -> (u32, usize, usize) {
+    match compile(alloc, text) {
+        Ok(unit) => {
+            drop(unit);
+            (0, 0, 0)
+        }
+        Err(fault) => {
+            let number = fault.number();
+            let (line, column) = match fault.place() {
+                Some(place) => (place.line, place.column),
+                None => (0, 0),
+            };
+            drop(fault);
+            (number, line, column)
+        }
+    }
+}
+
+#[test]
+fn texts(rt: HostRuntime) {
+    for (text, number, line, column) in TEXTS.iter() {
+        let found = fault_of(rt.alloc(), text.as_bytes());
+        assert!(rt; found == (*number, *line, *column), "{text}");
+    }
+}
+
+#[test]
+fn a_text_past_65536_bytes(rt: HostRuntime) -> Result<(), Fail> {
+    let longest = text_of(rt.alloc(), &[("int main(void){}", 1), (" ", 65_520)])?;
+    let past = text_of(rt.alloc(), &[("int main(void){}", 1), (" ", 65_521)])?;
+    let compiled = fault_of(rt.alloc(), longest.as_slice()) == (0, 0, 0);
+    let refused = fault_of(rt.alloc(), past.as_slice()) == (7, 0, 0);
+    drop(longest);
+    drop(past);
+    assert!(rt; compiled && refused);
+    Ok(())
+}
+
+// Whether a function of the text of these parts has too many nodes, and its name stands there.
+fn is_too_large(
+    alloc: Global,
+    parts: &[Part<'_>],
+    offset: usize,
+    bytes: usize,
+) -> Result<bool, Fail> {
+    let text = text_of(alloc, parts)?;
+    let refused = match compile(alloc, text.as_slice()) {
+        Err(BuildFault::Piece(PieceFault::FunctionTooLarge { at, length })) => {
+            at == offset && length == bytes
+        }
+        other => {
+            drop(other);
+            false
+        }
+    };
+    drop(text);
+    Ok(refused)
+}
+
+/// The parts of texts with a function of more than 4,096 nodes, the offset of its name, and the name's bytes: a write takes three
+/// nodes, and each function three more. Of several such functions it is the first, and none before the first is in its way.
+static LARGE: [([Part<'static>; 4], usize, usize); 3] = [
+    (
+        [
+            ("int main(void){", 1),
+            ("write_word(0);", 4_097),
+            ("}", 1),
+            ("", 0),
+        ],
+        4,
+        4,
+    ),
+    (
+        [
+            ("int f(int x){return x;}int main(void){", 1),
+            ("write_word(0);", 1_365),
+            ("}", 1),
+            ("", 0),
+        ],
+        27,
+        4,
+    ),
+    (
+        [
+            ("int x;void large(void){", 1),
+            ("x++;", 5_000),
+            ("}int main(void){", 1),
+            ("x++;}", 1),
+        ],
+        11,
+        5,
+    ),
+];
+
+#[test]
+fn functions_with_too_many_nodes(rt: HostRuntime) -> Result<(), Fail> {
+    for (parts, offset, bytes) in LARGE.iter() {
+        let right = is_too_large(rt.alloc(), parts.as_slice(), *offset, *bytes)?;
+        assert!(rt; right, "{offset}");
+    }
+    Ok(())
+}

@@ -1,0 +1,141 @@
+// Worked programs, run as images.
+
+use super::helpers::{Run, runs};
+use cc_rv32::outcome::MachineOutcome;
+use std::test::Fail;
+
+/// A function that gives its argument, and a `main` with 24 locals that are alive over its call.
+pub const LONG: &str =
+    "int f(int x){return x;}int main(void){int v1=read_word();int v2=read_word();int v3=read_word();int v4=read_word();int v5=read_word();int v6=read_word();int v7=read_word();int v8=read_word();int v9=read_word();int v10=read_word();int v11=read_word();int v12=read_word();int v13=read_word();int v14=read_word();int v15=read_word();int v16=read_word();int v17=read_word();int v18=read_word();int v19=read_word();int v20=read_word();int v21=read_word();int v22=read_word();int v23=read_word();int v24=read_word();write_word(f(0));write_word(v1+v2+v3+v4+v5+v6+v7+v8+v9+v10+v11+v12+v13+v14+v15+v16+v17+v18+v19+v20+v21+v22+v23+v24);}";
+
+/// Two quotients.
+pub const QUOTIENTS: &str = "int main(void){write_word(-7/2);write_word(-7%2);return 0;}";
+
+/// The words from 1 to 24.
+pub const WORDS: &[u32] = &[
+    1, 2, 3, 4, 5, 6, 7, 8, 9, 10, 11, 12, 13, 14, 15, 16, 17, 18, 19, 20, 21, 22, 23, 24,
+];
+
+const ENDED: MachineOutcome = MachineOutcome::Exited(0);
+
+/// A program, its input, how many instructions it may take, the words that it writes, and what it comes to.
+static ROWS: [(&str, &[u32], u64, &[i32], MachineOutcome); 18] = [
+    ("int main(void){}", &[], 1000, &[], ENDED),
+    ("int main(void){}", &[], 0, &[], MachineOutcome::Going),
+    (QUOTIENTS, &[], 1000, &[-3, -1], ENDED),
+    (
+        "int main(void){write_word(-1<1u);write_word(-8>>1u);write_word(1<<31);}",
+        &[],
+        1000,
+        &[0, -4, -2147483648],
+        ENDED,
+    ),
+    (
+        "int main(void){write_word(2147483647+1);write_word(0x80000000);}",
+        &[],
+        1000,
+        &[-2147483648, -2147483648],
+        ENDED,
+    ),
+    (LONG, WORDS, 10_000, &[0, 300], ENDED),
+    (
+        "int f(int n){if(n)return f(n-1);return 7;}int main(void){write_word(f(1022));}",
+        &[],
+        1_000_000,
+        &[7],
+        ENDED,
+    ),
+    (
+        "int main(void){for(;;);write_word(1);}",
+        &[],
+        1000,
+        &[],
+        MachineOutcome::Going,
+    ),
+    (
+        "int main(void){if(0)if(1)write_word(1);else write_word(2);}",
+        &[],
+        1000,
+        &[],
+        ENDED,
+    ),
+    (
+        "int a[3];int main(void){write_word(a[2]);}",
+        &[],
+        1000,
+        &[0],
+        ENDED,
+    ),
+    (
+        "int a[2];int f(void){a[0]=1;return 1;}int main(void){a[f()]+=a[0]+5;write_word(a[1]);}",
+        &[],
+        1000,
+        &[6],
+        ENDED,
+    ),
+    (
+        "int main(void){int i;for(i=0;i<2;i++){int x=x+1;write_word(x);}}",
+        &[],
+        1000,
+        &[1, 1],
+        ENDED,
+    ),
+    (
+        "int main(void){write_word(read_word());write_word(read_word());return 3;}",
+        &[4294967295],
+        1000,
+        &[-1, 0],
+        MachineOutcome::Exited(3),
+    ),
+    // further programs, whose words are the rules' own: short cuts, an inner name, globals, a loop that is left and gone on with
+    (
+        "int n;int f(void){n=n+1;return n;}int main(void){write_word(0&&f());write_word(1||f());write_word(f()&&0);write_word(n);}",
+        &[],
+        1000,
+        &[0, 1, 0, 1],
+        ENDED,
+    ),
+    (
+        "int main(void){int x=1;{int x=x+5,y=x;write_word(x);write_word(y);x=9;}return x;}",
+        &[],
+        1000,
+        &[5, 5],
+        MachineOutcome::Exited(1),
+    ),
+    (
+        "int g=7,a[]={1,-2,3},b[4]={5};unsigned u=1;int main(void){write_word(g);write_word(a[1]);write_word(b[0]+b[3]);write_word(u-2<0);}",
+        &[],
+        1000,
+        &[7, -2, 5, 0],
+        ENDED,
+    ),
+    (
+        "int main(void){int i=9;do{write_word(i);if(i==9){i=3;continue;}break;}while(i);return i;}",
+        &[],
+        1000,
+        &[9, 3],
+        MachineOutcome::Exited(3),
+    ),
+    (
+        "int main(void){write_word(-8/2u);write_word((unsigned)-8>>1);write_word(1?-1:1u);return -1;}",
+        &[],
+        1000,
+        &[2147483644, 2147483644, -1],
+        MachineOutcome::Exited(4294967295),
+    ),
+];
+
+#[test]
+fn worked_programs(rt: HostRuntime) -> Result<(), Fail> {
+    for (text, input, steps, words, outcome) in ROWS.iter() {
+        let run = Run {
+            input,
+            steps: *steps,
+            words,
+            outcome: *outcome,
+        };
+        let right = runs(rt.alloc(), text.as_bytes(), run)?;
+        assert!(rt; right, "{text} {steps}");
+    }
+    Ok(())
+}
