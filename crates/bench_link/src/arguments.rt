@@ -5,9 +5,7 @@ use std::env::Args;
 
 /// The next argument, or an error where there is none.
 pub fn next_argument(arguments: &mut Args) -> Result<String> {
-    arguments
-        .next()
-        .context("usage: bench_link compile FILE TIMES, or bench_link count FILE")
+    arguments.next().context("usage: bench_link compile FILE TIMES, or bench_link count FILE")
 }
 
 /// The next argument as a number.

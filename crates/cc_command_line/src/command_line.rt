@@ -12,7 +12,9 @@ use std::convert::AsStr;
 pub const MOST_STEPS: u64 = 1_000_000_000;
 
 const STEPS_RULE: &str = "STEPS is a decimal number from 0 to 1000000000";
-const WORD_RULE: &str = "WORD is a decimal number from 0 to 4294967295; a negative number is written as its value modulo 4294967296, \
+
+const WORD_RULE: &str =
+    "WORD is a decimal number from 0 to 4294967295; a negative number is written as its value modulo 4294967296, \
     as 4294967295 for -1";
 
 /// What the program is asked to do with the text on standard input.
@@ -112,7 +114,10 @@ fn refused(alloc: Global, runner: &Runner, rule: &'static str) -> Result<Error, 
 /// The error of clap for a command line of which a word is not UTF-8. Its status is 2.
 pub fn refused_bytes(alloc: Global) -> Result<Error, AllocError> {
     let mut whole = command(alloc)?;
-    whole.error(ErrorKind::ValueValidation, "a word of the command line is not UTF-8")
+    whole.error(
+        ErrorKind::ValueValidation,
+        "a word of the command line is not UTF-8",
+    )
 }
 
 // The number of steps that a text of digits stands for.
