@@ -59,10 +59,10 @@ fn counted(rt: &HostRuntime, path: &str) -> Result<u64> {
 fn instructions(alloc: Global, image: &Image) -> Result<u64> {
     let whole = whole_parts(alloc, image)?;
     let mut machine = Machine::new(alloc, image, &[])?;
-    machine.run(whole * PART)?;
+    machine.run(whole.saturating_mul(PART))?;
     for more in 1..=PART {
         if machine.step()? != MachineOutcome::Going {
-            return Ok(whole * PART + more);
+            return Ok(whole.saturating_mul(PART).saturating_add(more));
         }
     }
     bail!("it ends nowhere")

@@ -113,9 +113,9 @@ fn is_too_large(
 
 /// The parts of texts with a function of more than 4,096 nodes, the offset of its name, and the name's bytes: a write takes three
 /// nodes, and each function three more. Of several such functions it is the first, and none before the first is in its way.
-static LARGE: [([Part<'static>; 4], usize, usize); 3] = [
+static LARGE: [(&[Part<'static>], usize, usize); 3] = [
     (
-        [
+        &[
             ("int main(void){", 1),
             ("write_word(0);", 4_097),
             ("}", 1),
@@ -125,7 +125,7 @@ static LARGE: [([Part<'static>; 4], usize, usize); 3] = [
         4,
     ),
     (
-        [
+        &[
             ("int f(int x){return x;}int main(void){", 1),
             ("write_word(0);", 1_365),
             ("}", 1),
@@ -135,7 +135,7 @@ static LARGE: [([Part<'static>; 4], usize, usize); 3] = [
         4,
     ),
     (
-        [
+        &[
             ("int x;void large(void){", 1),
             ("x++;", 5_000),
             ("}int main(void){", 1),
@@ -149,7 +149,7 @@ static LARGE: [([Part<'static>; 4], usize, usize); 3] = [
 #[test]
 fn functions_with_too_many_nodes(rt: HostRuntime) -> Result<(), Fail> {
     for (parts, offset, bytes) in LARGE.iter() {
-        let right = is_too_large(rt.alloc(), parts.as_slice(), *offset, *bytes)?;
+        let right = is_too_large(rt.alloc(), parts, *offset, *bytes)?;
         assert!(rt; right, "{offset}");
     }
     Ok(())
