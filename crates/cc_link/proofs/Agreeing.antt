@@ -1,16 +1,13 @@
 -- An image of the pieces of a unit agrees with the unit's text.
-use Rattle.std.proofs.Common.{◌≡◌, ℕ, ◌+◌, ◌<◌, ◌≤◌, List, [], ◌∷◌, length, map, get_or, Some, unwrap_or, slice_get, refl, sym, ap, ◌∙◌, subst, arith}
-use Rattle.std.specs.List.{concat}
-use Rattle.cc_syntax.specs.Tree.{External, Source}
+use Rattle.std.proofs.Common.{◌≡◌, ℕ, ◌<◌, ◌≤◌, List, [], length, get_or, unwrap_or, refl, sym, ap, ◌∙◌, subst}
+use Rattle.cc_syntax.specs.Tree.{External}
 use Rattle.cc_typing.specs.Typed.{IsTyped, IsWithinLimits}
 use Rattle.cc_typing.specs.Limits.{objects}
 use Rattle.cc_typing.specs.Verdict.{source_with}
 use Rattle.cc_resolve.specs.Layout.{all_words}
 use Rattle.cc_meaning.specs.Meaning.{functions, initial_globals}
-use Rattle.cc_meaning.specs.Resolved.{arities}
 use Rattle.cc_meaning.specs.Calls.{HasMain, main_of, first_shared, TypedUnitsHaveMain, ObjectsAreSized}
-use Rattle.cc_meaning.specs.Numbered.{IsMeaningOf, words_in, world_of, objects_in, call_in, arity_in, outcome_by_number, TypedUnitsHaveMeanings, ProgramsAreNumbered}
-use Rattle.cc_rv32.specs.declared.image.Image.{Image}
+use Rattle.cc_meaning.specs.Numbered.{IsMeaningOf, words_in, world_of, outcome_by_number, TypedUnitsHaveMeanings, ProgramsAreNumbered}
 use Rattle.cc_runs.specs.Behavior.{Outcome, AreWords, Follows}
 use Rattle.cc_runs.specs.Meaning.{Meaning}
 use Rattle.cc_emit.specs.declared.item.Item.{Item}

@@ -1,5 +1,5 @@
 -- What `link_lent` answers, from what its steps have said. a, b, m, n, o: no stranger, none doubled, none missing, how many functions, and their items.
-use Rattle.std.proofs.Common.{◌≡◌, ℕ, ◌<◌, ◌≤◌, ◌⊎◌, inl, inr, List, [], ◌∷◌, length, map, Option, Some, None, Ok, Err, refl, sym, ap, ◌∙◌, subst}
+use Rattle.std.proofs.Common.{◌≡◌, ℕ, ◌<◌, ◌≤◌, ◌⊎◌, inl, inr, List, [], length, Some, None, Ok, Err, sym, ap, ◌∙◌, subst}
 use Rattle.std.proofs.lemmas.List.{length-map}
 use Rattle.std.specs.Borrow.{Bor}
 use Rattle.std.specs.Prelude.{All}
@@ -19,7 +19,7 @@ use Rattle.cc_link.specs.declared.fault.LinkFault.{LinkFault}
 use Rattle.cc_link.specs.declared.fault.LinkFault.TheVariants.{ImageTooLarge, OutOfMemory}
 use Rattle.cc_link.specs.Agree.{Agree}
 use Rattle.cc_link.specs.Link.{code_words, most_code}
-use Rattle.cc_link.specs.Linked.{stranger, doubled, missing, in_order, bodies, image_of, unit_of, linked}
+use Rattle.cc_link.specs.Linked.{stranger, doubled, missing, in_order, bodies, image_of, linked}
 use Rattle.cc_link.specs.Laws.{LinkedUnitsAgree}
 use Rattle.cc_link.specs.internal.Filling.{lent, AllStayIn}
 use Rattle.cc_link.proofs.Linked.{order_long}

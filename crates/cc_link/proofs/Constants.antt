@@ -1,5 +1,5 @@
 -- The words of the objects of a spelled unit are words: each number that a text spells is one, and what is computed of words is.
-use Rattle.std.proofs.Common.{◌≡◌, ℕ, zero, suc, ◌+◌, ◌-◌, ◌^◌, ◌<◌, ◌≤◌, ◌⊎◌, inl, inr, Bool, true, false, ◌&&◌, ◌||◌, not, nat_le, ◌==◌, if◌then◌else◌, List, [], ◌∷◌, ◌++◌, length, map, replicate, Option, Some, None, unwrap_or, option_map, refl, sym, ap, ◌∙◌, subst, arith}
+use Rattle.std.proofs.Common.{◌≡◌, ℕ, zero, suc, ◌+◌, ◌-◌, ◌^◌, ◌<◌, ◌≤◌, Bool, true, false, ◌&&◌, ◌||◌, not, nat_le, ◌==◌, if◌then◌else◌, List, [], ◌∷◌, ◌++◌, length, map, replicate, Option, Some, None, unwrap_or, option_map, refl, sym, subst, arith}
 use Rattle.std.proofs.lemmas.Bool.{leb-true}
 use Rattle.cc_words.specs.Words.{IsWord}
 use Rattle.cc_words.proofs.Laws.{IsWord-add, IsWord-sub, IsWord-mul, IsWord-neg, IsWord-truth_value, IsWord-eq, IsWord-ne, IsWord-lt_s, IsWord-le_s, IsWord-lt_u, IsWord-le_u, IsWord-is_zero, IsWord-div_s, IsWord-rem_s, IsWord-div_u, IsWord-rem_u, IsWord-shl, IsWord-shr_s, IsWord-shr_u, IsWord-and, IsWord-or, IsWord-xor, IsWord-complement}
@@ -7,7 +7,7 @@ use Rattle.cc_tokens.specs.declared.scalar.Scalar.{Scalar}
 use Rattle.cc_tokens.specs.declared.scalar.Scalar.TheVariants.{Int, Unsigned}
 use Rattle.cc_tokens.specs.declared.token.TokenKind.{TokenKind}
 use Rattle.cc_tokens.specs.declared.token.TokenKind.TheVariants as kind
-use Rattle.cc_tokens.specs.Constant.{Constant, constant_type, digits_value, type_of_value}
+use Rattle.cc_tokens.specs.Constant.{digits_value, type_of_value}
 use Rattle.cc_tokens.specs.Token.{Lexeme}
 use Rattle.cc_tokens.specs.Tokens.{Piece, blank, comment, token, IsCut, SpellsToken, tokens_of, IsTokens}
 use Rattle.cc_syntax.specs.declared.ast.UnaryOperator.{UnaryOperator}
@@ -15,10 +15,10 @@ use Rattle.cc_syntax.specs.declared.ast.UnaryOperator.TheVariants.{Plus, Minus, 
 use Rattle.cc_syntax.specs.declared.ast.BinaryOperator.{BinaryOperator}
 use Rattle.cc_syntax.specs.declared.ast.BinaryOperator.TheVariants.{Multiply, Divide, Remainder, Add, Subtract, ShiftLeft, ShiftRight, Less, Greater, LessOrEqual, GreaterOrEqual, Equal, NotEqual, And, Xor, Or, LogicalAnd, LogicalOr}
 use Rattle.cc_syntax.specs.Tree.{Expr, Number, Variable, Element, Call, Parenthesised, Unary, Cast, Binary, Conditional, ConstantExpr, Object, Single, Array, External, Declaration, Definition, Objects}
-use Rattle.cc_syntax.specs.Grammar.{Measured, outside, full, full_after, identifier, plain_tokens, SpellsExpression, SpellsConstantExpr, SpellsRow, SpellsList, SpellsObject, SpellsExternal, SpellsExternals, SpellsUnit}
+use Rattle.cc_syntax.specs.Grammar.{Measured, outside, full_after, identifier, plain_tokens, SpellsExpression, SpellsConstantExpr, SpellsRow, SpellsList, SpellsObject, SpellsExternals, SpellsUnit}
 use Rattle.cc_syntax.specs.Parse.{SpellsText}
 use Rattle.cc_typing.specs.Operators.{unary_word, binary_word, decided, is_true, working_type}
-use Rattle.cc_typing.specs.Types.{is_constant, decided_or, with_word, value_type, constant_value, constant_word, array_length, initial_word, initial_words}
+use Rattle.cc_typing.specs.Types.{is_constant, decided_or, with_word, value_type, constant_value, array_length, initial_word, initial_words}
 use Rattle.cc_typing.specs.Limits.{objects}
 use Rattle.cc_resolve.specs.Layout.{all_words}
 use Rattle.cc_runs.specs.Behavior.{AreWords}

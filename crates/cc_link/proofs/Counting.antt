@@ -1,8 +1,7 @@
 -- From counted steps to Follows, where the second run goes on from itself.
-use Rattle.std.proofs.Common.{◌≡◌, ℕ, suc, ◌+◌, ◌-◌, ◌*◌, ◌<◌, ◌≤◌, List, [], ◌++◌, refl, sym, ap, ◌∙◌, subst, ◌⊎◌, inl, inr, arith, append_assoc}
+use Rattle.std.proofs.Common.{◌≡◌, ℕ, suc, ◌+◌, ◌-◌, ◌*◌, ◌<◌, ◌≤◌, refl, sym, ap, ◌∙◌, subst, ◌⊎◌, inl, inr, arith}
 use Rattle.std.proofs.Math.Nat.{mul-le-mul_left}
 use Rattle.std.proofs.lemmas.Bool.{cases_lt}
-use Rattle.std.proofs.lemmas.List.{append-nil}
 use Rattle.cc_runs.specs.Behavior.{Stop, Going, Ended, Wrong, Outcome, Begins, IsRight, EndsAlike, Shows, Follows}
 use Rattle.cc_runs.specs.Cuts.{StaysBy}
 use Rattle.cc_runs.proofs.Behaving.{begins_refl, shows_same}

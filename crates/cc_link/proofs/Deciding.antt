@@ -1,14 +1,13 @@
 -- From what the code has seen of pieces to linking's answer.
-use Rattle.std.proofs.Common.{◌≡◌, ℕ, zero, suc, ◌+◌, ◌*◌, ◌<◌, ◌≤◌, List, [], ◌∷◌, ◌++◌, length, map, get_or, Option, Some, None, Ok, Err, if◌then◌else◌, nat_lt, refl, sym, ap, ◌∙◌, subst, arith, length-append}
+use Rattle.std.proofs.Common.{◌≡◌, ℕ, suc, ◌+◌, ◌*◌, ◌<◌, ◌≤◌, List, [], ◌∷◌, length, map, get_or, Option, Some, None, Ok, Err, if◌then◌else◌, refl, sym, ap, ◌∙◌, subst, arith, length-append}
 use Rattle.std.proofs.Math.Bridge.{le_prop}
 use Rattle.std.proofs.Math.Logic.{∥∥₁_elim}
-use Rattle.std.proofs.lemmas.List.{map-append, length-map}
+use Rattle.std.proofs.lemmas.List.{length-map}
 use Rattle.std.proofs.lemmas.Bool.{lt-ltb, le-ltb}
 use Rattle.std.specs.Prelude.{All}
 use Rattle.std.specs.Option.{option_or}
 use Rattle.cc_tokens.specs.Tokens.{TokensAreOne}
 use Rattle.cc_syntax.specs.Tree.{Name, External, Source, Declaration, Definition, Objects}
-use Rattle.cc_syntax.specs.Source.{source}
 use Rattle.cc_syntax.specs.Limits.{TreesAreOne}
 use Rattle.cc_syntax.specs.Parse.{SpellsText}
 use Rattle.cc_typing.specs.Scope.{FileScope, first_file_scope, file_scope_behind}
@@ -16,18 +15,16 @@ use Rattle.cc_typing.specs.Limits.{function_names}
 use Rattle.cc_typing.specs.Typed.{IsTyped, IsWithinLimits, defined_names}
 use Rattle.cc_meaning.specs.Meaning.{functions, functions_from}
 use Rattle.cc_meaning.specs.Calls.{ObjectsAreSized}
-use Rattle.cc_meaning.specs.Numbered.{TypedUnitsHaveMeanings, objects_in}
-use Rattle.cc_rv32.specs.declared.instr.Instr.{Instr}
-use Rattle.cc_unit.specs.declared.unit.StoredUnit.{StoredUnit}
+use Rattle.cc_meaning.specs.Numbered.{TypedUnitsHaveMeanings}
 use Rattle.cc_emit.specs.declared.item.Item.{Item}
 use Rattle.cc_emit.specs.declared.item.Item.TheVariants.{Plain, Call, Go}
 use Rattle.cc_emit.specs.Contract.{AreFit}
-use Rattle.cc_emit.specs.Piece.{Piece, tree_of, AreOf, IsPieceOfUnit}
+use Rattle.cc_emit.specs.Piece.{Piece, IsPieceOfUnit}
 use Rattle.cc_link.specs.declared.fault.LinkFault.{LinkFault}
 use Rattle.cc_link.specs.declared.fault.LinkFault.TheVariants.{ImageTooLarge}
 use Rattle.cc_rv32.specs.Table.{encoding_of}
 use Rattle.cc_link.specs.Link.{fill, fill_all, size_of, head, place_of, linked_code, encoded, code_words, most_code}
-use Rattle.cc_link.specs.Linked.{stranger, doubled, missing, in_order, bodies, too_large, link_refusal, unit_of, unless_refused, linked}
+use Rattle.cc_link.specs.Linked.{stranger, doubled, missing, bodies, unit_of, unless_refused, linked}
 use Rattle.cc_link.specs.internal.Filling.{StaysIn, StayIn, AllStayIn}
 use Rattle.cc_link.proofs.Laying.{total, laid_out, laid_in_order}
 use Rattle.cc_link.proofs.Placing.{length_fill}

@@ -1,7 +1,6 @@
 -- Items that are filled in one after the other, and functions.
 use Rattle.std.proofs.Common.{◌≡◌, ℕ, zero, suc, ◌+◌, ◌-◌, ◌*◌, ◌%◌, ◌^◌, ◌<◌, ◌≤◌, List, [], ◌∷◌, ◌++◌, length, get_or, take, drop, refl, sym, ap, ◌∙◌, subst, arith, append_assoc}
 use Rattle.std.proofs.lemmas.List.{at_drop_more, drop_more, map-append}
-use Rattle.std.specs.Prelude.{map, slice_index}
 use Rattle.std.specs.Borrow.{Bor}
 use Rattle.cc_rv32.specs.declared.instr.Instr.{Instr}
 use Rattle.cc_rv32.specs.declared.instr.Instr.TheVariants.{Jal}

@@ -7,12 +7,11 @@ use Rattle.std.specs.Prelude.{All}
 use Rattle.std.specs.Option.{option_or}
 use Rattle.std.specs.Cmp.Lexicographic.{same_text}
 use Rattle.cc_tokens.specs.Tokens.{TokensAreOne}
-use Rattle.cc_syntax.specs.Tree.{External, Source}
+use Rattle.cc_syntax.specs.Tree.{External}
 use Rattle.cc_syntax.specs.Source.{source}
 use Rattle.cc_syntax.specs.Limits.{TreesAreOne}
 use Rattle.cc_syntax.specs.Parse.{SpellsText}
 use Rattle.cc_typing.specs.Limits.{objects}
-use Rattle.cc_typing.specs.Checked.{IsChecked}
 use Rattle.cc_resolve.specs.Layout.{all_words}
 use Rattle.cc_meaning.specs.Meaning.{functions}
 use Rattle.cc_meaning.specs.Calls.{TypedUnitsHaveMain, ObjectsAreSized}
@@ -23,9 +22,9 @@ use Rattle.cc_emit.specs.declared.item.Item.{Item}
 use Rattle.cc_emit.specs.Piece.{Piece, tree_of, AreOf, IsPieceOfUnit}
 use Rattle.cc_link.specs.declared.fault.LinkFault.{LinkFault}
 use Rattle.cc_link.specs.declared.fault.LinkFault.TheVariants.{ImageTooLarge, Missing, Stranger}
-use Rattle.cc_link.specs.Agree.{Agree, Agreement}
+use Rattle.cc_link.specs.Agree.{Agree}
 use Rattle.cc_link.specs.Link.{code_words, most_code}
-use Rattle.cc_link.specs.Linked.{same_bytes, stranger, doubled, items_of, missing, in_order, bodies, too_large, link_refusal, unit_of, unless_refused, linked}
+use Rattle.cc_link.specs.Linked.{same_bytes, stranger, doubled, items_of, missing, in_order, bodies, too_large, link_refusal, unit_of, unless_refused}
 use Rattle.cc_link.specs.Laws.{LinkedUnitsAgree}
 use Rattle.cc_link.proofs.Agreeing.{unit_agrees}
 

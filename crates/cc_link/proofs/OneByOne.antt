@@ -1,14 +1,12 @@
 -- The functions' pieces, one after the other.
-use Rattle.std.proofs.Common.{◌≡◌, ℕ, zero, suc, ◌+◌, ◌-◌, ◌<◌, ◌⊎◌, inl, inr, List, [], ◌∷◌, ◌++◌, length, map, get_or, drop, is_some, Option, Some, None, if◌then◌else◌, unwrap_or, refl, sym, ap, ◌∙◌, subst, arith, append_assoc}
-use Rattle.std.proofs.lemmas.List.{at_drop_more, map-append}
+use Rattle.std.proofs.Common.{◌≡◌, ℕ, suc, ◌+◌, ◌-◌, ◌<◌, List, [], ◌∷◌, ◌++◌, is_some, Option, Some, None, if◌then◌else◌, unwrap_or, sym, ap, ◌∙◌, arith, append_assoc}
+use Rattle.std.proofs.lemmas.List.{map-append}
 use Rattle.std.specs.Borrow.{Bor}
-use Rattle.cc_syntax.specs.Source.{source}
 use Rattle.cc_emit.specs.declared.item.Item.{Item}
-use Rattle.cc_emit.specs.Piece.{Piece, IsPieceOfUnit}
-use Rattle.cc_link.specs.declared.fault.LinkFault.TheVariants.{Missing, Stranger}
-use Rattle.cc_link.specs.Linked.{same_bytes, stranger, items_of, missing, in_order}
+use Rattle.cc_emit.specs.Piece.{Piece}
+use Rattle.cc_link.specs.declared.fault.LinkFault.TheVariants.{Missing}
+use Rattle.cc_link.specs.Linked.{items_of, missing, in_order}
 use Rattle.cc_link.specs.internal.Filling.{lent}
-use Rattle.cc_link.specs.internal.Lent.{lent_pieces}
 
 -- at a function without a piece
 pub missing_here : (ps : List Piece) (f n : ℕ) → f < n → items_of ps f ≡ None → missing ps f (n - f) ≡ Some (Missing f)

@@ -1,14 +1,12 @@
--- One piece more that is gone over, and one function more that has its items.
-use Rattle.std.proofs.Common.{◌≡◌, ℕ, zero, suc, ◌+◌, ◌-◌, ◌<◌, ◌≤◌, ◌⊎◌, inl, inr, Bool, true, false, not, if◌then◌else◌, List, [], ◌∷◌, ◌++◌, length, map, get_or, drop, Option, Some, None, is_some, unwrap_or, refl, sym, ap, ◌∙◌, subst, arith, append_assoc}
+-- One piece more that is gone over.
+use Rattle.std.proofs.Common.{◌≡◌, ℕ, zero, suc, ◌+◌, ◌<◌, ◌≤◌, ◌⊎◌, inl, inr, Bool, true, false, not, if◌then◌else◌, List, [], ◌∷◌, length, get_or, drop, Some, refl, sym, ap, ◌∙◌, subst, arith}
 use Rattle.std.proofs.lemmas.Bool.{cases_lt}
-use Rattle.std.proofs.lemmas.List.{drop_more, map-append}
+use Rattle.std.proofs.lemmas.List.{drop_more}
 use Rattle.std.specs.Borrow.{Bor}
 use Rattle.cc_syntax.specs.Source.{source}
-use Rattle.cc_emit.specs.declared.item.Item.{Item}
 use Rattle.cc_emit.specs.Piece.{Piece, IsPieceOfUnit}
-use Rattle.cc_link.specs.declared.fault.LinkFault.TheVariants.{Missing, Stranger}
-use Rattle.cc_link.specs.Linked.{same_bytes, stranger, items_of, missing, in_order}
-use Rattle.cc_link.specs.internal.Filling.{lent}
+use Rattle.cc_link.specs.declared.fault.LinkFault.TheVariants.{Stranger}
+use Rattle.cc_link.specs.Linked.{same_bytes, stranger}
 use Rattle.cc_link.specs.internal.Lent.{lent_pieces}
 
 not_false : (b : Bool) → false ≡ not b → b ≡ true
@@ -38,25 +36,3 @@ kept_next pieces at x lt is piece kept k d low = by (cases_lt k at)
     by : (k < at) ⊎ (at ≤ k) → IsPieceOfUnit (get_or (lent_pieces pieces) k d)
     by (inl less) = kept k d less
     by (inr more) = let e : at ≡ k = omega arith in subst (λ n. IsPieceOfUnit (get_or (lent_pieces pieces) n d)) e (subst IsPieceOfUnit (sym (lent_at pieces at x d lt ∙ ap (λ (b : Bor Piece). b.now) (sym is))) piece)
-
--- ---- functions in order
-
-pub missing_here : (ps : List Piece) (f n : ℕ) → f < n → items_of ps f ≡ None → missing ps f (n - f) ≡ Some (Missing f)
-missing_here ps f n lt e =
-    let one : n - f ≡ suc (n - (f + 1)) = omega arith in
-    ap (λ k. missing ps f k) one ∙ ap (λ (o : Option (List Item)). if is_some o then missing ps (suc f) (n - (f + 1)) else Some (Missing f)) e
-
-pub missing_next : (ps : List Piece) (f n : ℕ) (items : List Item) → f < n → items_of ps f ≡ Some items → missing ps f (n - f) ≡ missing ps (f + 1) (n - (f + 1))
-missing_next ps f n items lt e =
-    let one : n - f ≡ suc (n - (f + 1)) = omega arith in
-    let next : suc f ≡ f + 1 = omega arith in
-    ap (λ k. missing ps f k) one ∙ ap (λ (o : Option (List Item)). if is_some o then missing ps (suc f) (n - (f + 1)) else Some (Missing f)) e ∙ ap (λ k. missing ps k (n - (f + 1))) next
-
-pub order_added : (ps : List Piece) (f n : ℕ) (bs new : List (Bor (List Item))) (b : Bor (List Item)) (all : List (List Item)) → f < n → items_of ps f ≡ Some b.now → new ≡ bs ++ b ∷ []
-    → lent bs ++ in_order ps f (n - f) ≡ all → lent new ++ in_order ps (f + 1) (n - (f + 1)) ≡ all
-order_added ps f n bs new b all lt e is h =
-    let one : suc (n - (f + 1)) ≡ n - f = omega arith in
-    let next : f + 1 ≡ suc f = omega arith in
-    let rest : List (List Item) = in_order ps (suc f) (n - (f + 1)) in
-    ap (λ k. lent new ++ in_order ps k (n - (f + 1))) next ∙ ap (λ (l : List (Bor (List Item))). lent l ++ rest) is ∙ ap (λ (l : List (List Item)). l ++ rest) (map-append (λ (c : Bor (List Item)). c.now) bs (b ∷ []))
-    ∙ append_assoc (lent bs) (b.now ∷ []) rest ∙ ap (λ (o : Option (List Item)). lent bs ++ (unwrap_or o [] ∷ rest)) (sym e) ∙ ap (λ k. lent bs ++ in_order ps f k) one ∙ h

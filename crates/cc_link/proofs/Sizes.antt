@@ -1,12 +1,12 @@
 -- The objects of a checked unit: how many words they have, and which stand in the image.
-use Rattle.std.proofs.Common.{◌≡◌, ℕ, zero, suc, ◌+◌, ◌≤◌, Bool, true, false, if◌then◌else◌, nat_lt, List, [], ◌∷◌, ◌++◌, length, map, refl, sym, ap, ◌∙◌, arith, length-append}
+use Rattle.std.proofs.Common.{◌≡◌, ℕ, suc, ◌+◌, ◌≤◌, Bool, true, false, if◌then◌else◌, nat_lt, List, [], ◌∷◌, ◌++◌, length, map, refl, ap, ◌∙◌, arith, length-append}
 use Rattle.std.proofs.lemmas.Bool.{ltb-false}
 use Rattle.std.specs.List.{concat}
 use Rattle.cc_syntax.specs.Tree.{Object, External}
 use Rattle.cc_typing.specs.Types.{object_words, initial_words}
-use Rattle.cc_typing.specs.Limits.{most_words, too_many, past, function_names, objects, object_name, word_excesses, externals_excesses, excesses}
+use Rattle.cc_typing.specs.Limits.{most_words, too_many, past, function_names, objects, object_name, word_excesses, externals_excesses}
 use Rattle.cc_typing.specs.Typed.{IsTyped, IsWithinLimits}
-use Rattle.cc_resolve.specs.Layout.{LaidObject, laid_from, layout_of, all_words}
+use Rattle.cc_resolve.specs.Layout.{LaidObject, laid_from, all_words}
 use Rattle.cc_meaning.specs.Meaning.{Global, initial_globals}
 use Rattle.cc_meaning.specs.Calls.{ObjectsAreSized}
 use Rattle.cc_meaning.specs.Numbered.{words_in, objects_in}

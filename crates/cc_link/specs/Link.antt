@@ -1,10 +1,9 @@
 -- The image that pieces make. Its code is the head, which calls main and exits with its word, and behind it the functions in the order
 -- of their definitions; each item is filled in at its address. Its globals are the words of the objects in the order of declaration.
-use Rattle.std.specs.Prelude.{◌≡◌, ℕ, ◌+◌, ◌*◌, List, [], ◌∷◌, ◌++◌, length, take, map}
+use Rattle.std.specs.Prelude.{ℕ, ◌+◌, ◌*◌, List, [], ◌∷◌, ◌++◌, length, take, map}
 use Rattle.cc_rv32.specs.declared.instr.Instr.{Instr}
 use Rattle.cc_rv32.specs.declared.instr.Instr.TheVariants.{OpImm, Ecall}
 use Rattle.cc_rv32.specs.declared.instr.ImmediateOperation.TheVariants.{Addi}
-use Rattle.cc_rv32.specs.declared.image.Image.{Image}
 use Rattle.cc_rv32.specs.Table.{encoding_of}
 use Rattle.cc_rv32.specs.Machine.{code_from}
 use Rattle.cc_emit.specs.declared.item.Item.{Item}

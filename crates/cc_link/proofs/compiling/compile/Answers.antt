@@ -1,4 +1,4 @@
-use Rattle.std.proofs.Common.{◌≡◌, ◌⊎◌, inl, inr, ℕ, List, subst}
+use Rattle.std.proofs.Common.{inl, inr, ℕ, List, subst}
 use Rattle.cc_syntax.specs.Source.{source}
 use Rattle.cc_typing.specs.Typed.{IsTypeRefusal}
 use Rattle.cc_typing.specs.Verdict.{source_with}

@@ -1,4 +1,4 @@
-use Rattle.std.proofs.Common.{◌≡◌, rules, refl, ap, sym, length}
+use Rattle.std.proofs.Common.{rules, refl}
 use Rattle.cc_syntax.specs.Source.{source}
 use Rattle.cc_syntax.specs.Erase.{signature_tree, statements_of, name_tree}
 use Rattle.cc_link.proofs.Names.{named}

@@ -1,7 +1,6 @@
 -- A typed unit's objects have 65,536 words at most.
-use Rattle.std.proofs.Common.{◌≡◌, ◌≤◌, ◌++◌, ℕ, List, [], length, false, true, ap, sym, subst, ◌∙◌, arith}
+use Rattle.std.proofs.Common.{◌≡◌, ℕ, List, length, false, true, ap, ◌∙◌, arith}
 use Rattle.cc_syntax.specs.Source.{source}
-use Rattle.cc_syntax.specs.Erase.{external_trees}
 use Rattle.cc_syntax.specs.Tree as tree
 use Rattle.cc_typing.specs.Limits.{objects}
 use Rattle.cc_resolve.specs.Layout.{all_words}

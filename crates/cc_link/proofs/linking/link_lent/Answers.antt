@@ -1,5 +1,5 @@
 -- Each step's answer, by the lemma of Answering that it needs.
-use Rattle.std.proofs.Common.{◌≡◌, ◌<◌, ◌≤◌, ◌⊎◌, inl, inr, ℕ, List, [], length, None, Ok, Err, false, true, refl, sym, ap, subst, ◌∙◌}
+use Rattle.std.proofs.Common.{◌≡◌, ◌<◌, ◌≤◌, ◌⊎◌, inl, inr, ℕ, List, [], None, Ok, Err, false, true, refl, sym, ap, subst, ◌∙◌}
 use Rattle.std.proofs.lemmas.Bool.{cases_lt}
 use Rattle.std.specs.Arc.{arc_value}
 use Rattle.std.specs.Borrow.{Bor}
@@ -8,7 +8,7 @@ use Rattle.cc_syntax.specs.declared.unit.Unit as parsed
 use Rattle.cc_emit.specs.declared.item.Item.{Item}
 use Rattle.cc_link.specs.declared.fault.LinkFault.TheVariants.{OutOfMemory}
 use Rattle.cc_link.specs.Link.{code_words, most_code}
-use Rattle.cc_link.specs.Linked.{stranger, doubled, missing, in_order, linked}
+use Rattle.cc_link.specs.Linked.{stranger, doubled, in_order, linked}
 use Rattle.cc_link.specs.internal.Lent.{lent_pieces}
 use Rattle.cc_link.specs.internal.Filling.{lent}
 use Rattle.cc_link.proofs.Answering.{order_refused, size_refused, count_is, stay_is, answer_is, agree_is}

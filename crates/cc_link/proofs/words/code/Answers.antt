@@ -1,9 +1,8 @@
 -- Each function's place is one, and what the three parts put together are the words of the whole code.
-use Rattle.std.proofs.Common.{◌≡◌, ◌<◌, ◌≤◌, ◌+◌, ◌++◌, ℕ, List, length, false, true, ap, sym, subst, ◌∙◌, arith, slice_index}
+use Rattle.std.proofs.Common.{◌≡◌, ◌<◌, ◌++◌, ℕ, List, length, false, true, ap, sym, subst, ◌∙◌, arith, slice_index}
 use Rattle.std.proofs.lemmas.List.{length-map}
-use Rattle.cc_emit.specs.declared.item.Item.{Item}
-use Rattle.cc_link.specs.Link.{fill, fill_all, size_of, head, encoded, linked_code, code_words}
-use Rattle.cc_link.specs.internal.Filling.{lent, AllStayIn, ArePlaces, CanAllStand, places_from}
+use Rattle.cc_link.specs.Link.{fill, fill_all, head, encoded, linked_code, code_words}
+use Rattle.cc_link.specs.internal.Filling.{lent, AllStayIn, ArePlaces, CanAllStand}
 use Rattle.cc_link.proofs.Filling.{are_places, all_stand, places_long, linked_is}
 use Rattle.cc_link.proofs.Deciding.{code_long}
 use Rattle.cc_link.proofs.words.code.Goals as goal
