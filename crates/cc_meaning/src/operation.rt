@@ -7,6 +7,7 @@ use super::outcome::Cause;
 use cc_resolve::{BinaryOperation, UnaryOperation};
 
 /// What an operation on one word gives.
+#[inline(always)]
 pub fn unary(operation: UnaryOperation, word: u32) -> u32
     ensures { result ≡ unary_result operation word }
 {
@@ -18,6 +19,7 @@ pub fn unary(operation: UnaryOperation, word: u32) -> u32
 }
 
 /// What an operation on two words gives, or why it gives nothing.
+#[inline(always)]
 pub fn binary(operation: BinaryOperation, left: u32, right: u32) -> Result<u32, Cause>
     ensures { result ≡ ok_or (binary_result operation left right) (cause_of_operation operation) }
 {

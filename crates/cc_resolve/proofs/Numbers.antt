@@ -2,7 +2,9 @@
 use Rattle.std.proofs.Common.{◌≡◌, ℕ, suc, ◌+◌, ◌<◌, Bool, true, false, cond, List, [], ◌∷◌, ◌++◌, length, Option, Some, None, is_some, option_map, Result, Ok, Err, OnOk, is_err, refl, sym, ap, ◌∙◌, Bor, get_or, arith}
 use Rattle.std.proofs.lemmas.List.{map-append}
 use Rattle.std.specs.Cmp.Lexicographic.{bytes_decides}
-use Rattle.indexmap.specs.IndexMap.{IndexMap, get, Updates}
+use Rattle.std.specs.Map.{lookup}
+use Rattle.std.specs.BTreeMap.{BTreeMap, Updates}
+use Rattle.cc_typing.proofs.KeyOrder.{key_cmp, lookup-updated}
 use Rattle.cc_typing.specs.Names.{same_name}
 use Rattle.cc_typing.specs.Entities.{names_in}
 use Rattle.cc_typing.specs.Scope as scope
@@ -42,17 +44,17 @@ length-names_in : (ks : List (Bor (List ℕ))) → length (names_in ks) ≡ leng
 length-names_in [] = refl
 length-names_in (k ∷ ks) = ap suc (length-names_in ks)
 
-module _ {S : Type 0} (names : List (Bor (List ℕ))) (y : Bor (List ℕ)) (old : IndexMap (Bor (List ℕ)) ℕ S) (numbering : IsNumbering names old) where
+module _ (names : List (Bor (List ℕ))) (y : Bor (List ℕ)) (old : BTreeMap (Bor (List ℕ)) ℕ) (numbering : IsNumbering names old) where
   pushed : (x : List ℕ) → first_of (names_in (names ++ y ∷ [])) x ≡ or_last (first_of (names_in names) x) (length names) (same_name y.now x)
   pushed x =
       ap (λ l. first_of l x) (map-append (λ (k : Bor (List ℕ)). k.now) names (y ∷ [])) ∙ first_of-push (names_in names) y.now x
       ∙ ap (λ n. or_last (first_of (names_in names) x) n (same_name y.now x)) (length-names_in names)
 
-  same-number : (x : List ℕ) → same_name y.now x ≡ true → first_of (names_in names) x ≡ get same_key old y
+  same-number : (x : List ℕ) → same_name y.now x ≡ true → first_of (names_in names) x ≡ lookup (same_key y) old.entries
   same-number x h = sym (ap (first_of (names_in names)) ((bytes_decides y.now x).0 h)) ∙ sym (numbering y)
 
   -- a name that is there already keeps its number
-  pub IsNumbering-again : (r : Option ℕ) → r ≡ get same_key old y → is_some r ≡ true → IsNumbering (names ++ y ∷ []) old
+  pub IsNumbering-again : (r : Option ℕ) → r ≡ lookup (same_key y) old.entries → is_some r ≡ true → IsNumbering (names ++ y ∷ []) old
   IsNumbering-again None er h = absurd (let no : false ≡ true = h in cc)
   IsNumbering-again (Some i) er h = λ q. numbering q ∙ by q (same_name y.now q.now) refl ∙ sym (pushed q.now)
     where
@@ -61,10 +63,10 @@ module _ {S : Type 0} (names : List (Bor (List ℕ))) (y : Bor (List ℕ)) (old 
       by q false e = or_last-other (first_of (names_in names) q.now) (length names)
 
   -- a new name gets the next number
-  pub IsNumbering-new : (new : IndexMap (Bor (List ℕ)) ℕ S) (r : Option ℕ) (n : ℕ) → r ≡ get same_key old y → is_some r ≡ false → n ≡ length names → Updates same_key old new y (Some n) → IsNumbering (names ++ y ∷ []) new
+  pub IsNumbering-new : (new : BTreeMap (Bor (List ℕ)) ℕ) (r : Option ℕ) (n : ℕ) → r ≡ lookup (same_key y) old.entries → is_some r ≡ false → n ≡ length names → Updates key_cmp old new y (Some n) → IsNumbering (names ++ y ∷ []) new
   IsNumbering-new new (Some i) n er h en u = absurd (let no : true ≡ false = h in cc)
   IsNumbering-new new None n er h en u =
-      λ q. u.0 q ∙ ap (cond (same_key y q) (Some n)) (numbering q) ∙ by q (same_name y.now q.now) refl ∙ sym (pushed q.now)
+      λ q. lookup-updated old new y (Some n) u q ∙ ap (cond (same_key y q) (Some n)) (numbering q) ∙ by q (same_name y.now q.now) refl ∙ sym (pushed q.now)
     where
       by : (q : Bor (List ℕ)) (c : Bool) → same_name y.now q.now ≡ c → cond c (Some n) (first_of (names_in names) q.now) ≡ or_last (first_of (names_in names) q.now) (length names) c
       by q true e = let gone : first_of (names_in names) q.now ≡ None = same-number q.now e ∙ sym er in ap Some en ∙ sym (ap (λ k. or_last k (length names) true) gone)

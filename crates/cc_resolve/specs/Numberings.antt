@@ -1,7 +1,8 @@
 -- How the code keeps where names lead: the names of the objects and of the functions of a unit.
 use Rattle.std.specs.Prelude.{ℕ, suc, ◌≡◌, List, [], ◌∷◌, map, Option, Some, None, if◌then◌else◌, option_map}
 use Rattle.std.specs.Borrow.{Bor}
-use Rattle.indexmap.specs.IndexMap.{IndexMap, get}
+use Rattle.std.specs.BTreeMap.{BTreeMap}
+use Rattle.std.specs.Map.{lookup}
 use Rattle.cc_typing.specs.Names.{same_name}
 use Rattle.cc_typing.specs.Bindings.{same_key}
 use Rattle.cc_typing.specs.Entities.{names_in}
@@ -15,8 +16,8 @@ first_of [] x = None
 first_of (y ∷ rest) x = if same_name y x then Some 0 else option_map suc (first_of rest x)
 
 -- the map has the number of each name
-abbrev pub IsNumbering : {S : Type 0} → List (Bor (List ℕ)) → IndexMap (Bor (List ℕ)) ℕ S → Type 0
-IsNumbering names numbers = (x : Bor (List ℕ)) → get same_key numbers x ≡ first_of (names_in names) x.now
+abbrev pub IsNumbering : List (Bor (List ℕ)) → BTreeMap (Bor (List ℕ)) ℕ → Type 0
+IsNumbering names numbers = (x : Bor (List ℕ)) → lookup (same_key x) numbers.entries ≡ first_of (names_in names) x.now
 
 -- objects, of their names and where their words are
 abbrev pub laid_objects : List (List ℕ) → List Extent → List LaidObject

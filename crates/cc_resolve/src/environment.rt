@@ -56,7 +56,8 @@ impl<'a> Environment<'a> {
         requires { self.old.visible.inner ≡ [] }
         ensures { OnOk result (self.new ≡ record self.old { visible = file_level (with_declared name.now (entity_of entity.entry) (record { bindings = self.old.visible.outer; defined = [] })).bindings }) }
     {
-        self.visible.declare_in_file(name, entity)
+        self.visible.declare_in_file(name, entity)?;
+        Ok(())
     }
 
     /// Begins an inner scope, and answers how many names the one around it had declared, for the `close` that ends it.
@@ -80,7 +81,8 @@ impl<'a> Environment<'a> {
         ensures { OnOk result (self.new ≡ with_local scalar name.now self.old) }
     {
         self.visible.declare(name, Entity::Variable(scalar))?;
-        self.locals.push(name, Entity::Variable(scalar))
+        self.locals.push(name, Entity::Variable(scalar))?;
+        Ok(())
     }
 
     /// Declares a parameter, which gets the next number, whether it has a name or not.
@@ -92,9 +94,11 @@ impl<'a> Environment<'a> {
     {
         match &parameter.name {
             Some(name) => self.declare(parameter.scalar, name.bytes.as_slice()),
-            None => self
-                .locals
-                .push(UNNAMED, Entity::Variable(parameter.scalar)),
+            None => {
+                self.locals
+                    .push(UNNAMED, Entity::Variable(parameter.scalar))?;
+                Ok(())
+            }
         }
     }
 

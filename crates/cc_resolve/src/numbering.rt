@@ -1,17 +1,17 @@
-// The numbers of names.
+// The numbers of names, found in the order of the names' bytes, so that no choice of names makes a search long.
 
 ghost use Rattle.std.specs.Prelude.{◌≡◌, [], ◌∷◌, ◌++◌, length, OnOk, OnErr};
 ghost use Rattle.cc_resolve.specs.Numberings.{first_of};
 
-use indexmap::IndexMap;
 use std::alloc::{AllocError, Global};
+use std::collections::BTreeMap;
 use std::marker::Model;
 
 /// Numbering in order, where a name may stand again. The first has the number 0.
 #[derive(Drop)]
 pub struct Numbering<'a> {
     list: Vec<&'a [u8]>,
-    numbers: IndexMap<&'a [u8], usize>,
+    numbers: BTreeMap<&'a [u8], usize>,
 }
 
 impl<'a> Model for Numbering<'a> {
@@ -32,7 +32,7 @@ impl<'a> Numbering<'a> {
     {
         Numbering {
             list: Vec::new(alloc),
-            numbers: IndexMap::new(alloc),
+            numbers: BTreeMap::new(alloc),
         }
     }
 

@@ -5,6 +5,7 @@ pub mod Runs
 pub mod ConstantForms
 pub mod Words
 pub mod Punctuators
+pub mod Few
 pub mod Comments
 pub mod Fronts
 pub mod Complete

@@ -14,7 +14,7 @@ use Rattle.cc_tokens.proofs.Tables.{of_each_punctuator, punctuator_at-bytes}
 use Rattle.cc_tokens.proofs.Words.{found_passes, missing_fails}
 
 -- no punctuator is longer than the one before it
-abbrev is_descending : ℕ → List Punctuator → Bool
+abbrev pub is_descending : ℕ → List Punctuator → Bool
 is_descending most [] = true
 is_descending most (p ∷ ps) = nat_le (length (punctuator_bytes p)) most && is_descending (length (punctuator_bytes p)) ps
 
@@ -26,7 +26,7 @@ none_longer test most top (p ∷ ps) descends le =
     let ih = none_longer test (length (punctuator_bytes p)) top ps both.1 (omega arith) in
     ((λ passes. omega arith), ih)
 
-longest_first : (test : Punctuator → Bool) (most : ℕ) (ps : List Punctuator) (p : Punctuator) → is_descending most ps ≡ true → find test ps ≡ Some p → AllByRecursion (λ q. test q ≡ true → length (punctuator_bytes q) ≤ length (punctuator_bytes p)) ps
+pub longest_first : (test : Punctuator → Bool) (most : ℕ) (ps : List Punctuator) (p : Punctuator) → is_descending most ps ≡ true → find test ps ≡ Some p → AllByRecursion (λ q. test q ≡ true → length (punctuator_bytes q) ≤ length (punctuator_bytes p)) ps
 longest_first test most [] p descends e = tt
 longest_first test most (x ∷ ps) p descends e =
     let both = and_parts (nat_le (length (punctuator_bytes x)) most) (is_descending (length (punctuator_bytes x)) ps) descends in
@@ -39,7 +39,7 @@ longest_first test most (x ∷ ps) p descends e =
     e
 
 -- the test of the table: the punctuator stands at the front
-front_test : (bytes : List ℕ) (p : Punctuator) → (starts_with (λ a b. a == b) bytes (punctuator_bytes p) ≡ true → bytes ≡ punctuator_bytes p ++ drop (length (punctuator_bytes p)) bytes) × ((rest : List ℕ) → bytes ≡ punctuator_bytes p ++ rest → starts_with (λ a b. a == b) bytes (punctuator_bytes p) ≡ true)
+pub front_test : (bytes : List ℕ) (p : Punctuator) → (starts_with (λ a b. a == b) bytes (punctuator_bytes p) ≡ true → bytes ≡ punctuator_bytes p ++ drop (length (punctuator_bytes p)) bytes) × ((rest : List ℕ) → bytes ≡ punctuator_bytes p ++ rest → starts_with (λ a b. a == b) bytes (punctuator_bytes p) ≡ true)
 front_test bytes p = starts_is Decides-eqb bytes (punctuator_bytes p) (starts_with (λ a b. a == b) bytes (punctuator_bytes p)) refl
 
 pub punctuator_found : (bytes : List ℕ) (p : Punctuator) → punctuator_at bytes ≡ Some p → bytes ≡ punctuator_bytes p ++ drop (length (punctuator_bytes p)) bytes

@@ -4,15 +4,17 @@
 // definition of the tokens of a text.
 
 ghost use Rattle.std.specs.Prelude.{◌≡◌, ◌+◌, ◌*◌, ◌<◌, ◌≤◌, ◌||◌, ◌&&◌, ◌==◌, true, length, take, drop, min, slice_index};
-ghost use Rattle.std.specs.List.{fold, prefix_len};
+ghost use Rattle.std.specs.List.{find, fold, prefix_len, starts_with};
+ghost use Rattle.std.specs.Str.{bytes_eq};
 ghost use Rattle.std.specs.Char.{digit_value};
+ghost use Rattle.cc_tokens.specs.Spelling.{keyword_bytes, punctuator_bytes};
 ghost use Rattle.cc_tokens.specs.Constant.{is_digit_of, type_of_value};
 ghost use Rattle.cc_tokens.specs.Tokens.{is_blank, is_nondigit, is_exponent_letter, begins_comment};
-ghost use Rattle.cc_tokens.specs.internal.Scan.{begins, offset_within, goes_on, run_of, keyword_named, punctuator_at, word_kind, base_of, prefix_of_base, suffix_of, constant_spelled, constant_kind, typed, number_front, comment_of, comment_front, front_of};
+ghost use Rattle.cc_tokens.specs.internal.Scan.{begins, offset_within, goes_on, run_of, keywords_with, punctuators_with, keyword_named, punctuator_at, word_kind, base_of, prefix_of_base, suffix_of, constant_spelled, constant_kind, typed, number_front, comment_of, comment_front, front_of};
 
 use super::flaw::Flaw;
 use super::scalar::Scalar;
-use super::token::{KEYWORDS, Keyword, PUNCTUATORS, Punctuator, TokenKind};
+use super::token::{Keyword, Punctuator, TokenKind};
 
 /// What a search looks for.
 #[derive(Clone, Copy)]
@@ -131,21 +133,121 @@ fn run_len(run: Run, bytes: &[u8]) -> usize
     n
 }
 
-#[tactic(auto, unfolding(crate::specs::internal::Scan::keyword_named))]
+// The keywords that begin with a byte.
+fn keywords_with(first: u8) -> &'static [Keyword]
+    ensures { result.now ≡ keywords_with first }
+{
+    match first {
+        b'_' => &[Keyword::Bool, Keyword::Complex, Keyword::Imaginary],
+        b'a' => &[Keyword::Auto],
+        b'b' => &[Keyword::Break],
+        b'c' => &[
+            Keyword::Case,
+            Keyword::Char,
+            Keyword::Const,
+            Keyword::Continue,
+        ],
+        b'd' => &[Keyword::Default, Keyword::Do, Keyword::Double],
+        b'e' => &[Keyword::Else, Keyword::Enum, Keyword::Extern],
+        b'f' => &[Keyword::Float, Keyword::For],
+        b'g' => &[Keyword::Goto],
+        b'i' => &[Keyword::If, Keyword::Inline, Keyword::Int],
+        b'l' => &[Keyword::Long],
+        b'r' => &[Keyword::Register, Keyword::Restrict, Keyword::Return],
+        b's' => &[
+            Keyword::Short,
+            Keyword::Signed,
+            Keyword::Sizeof,
+            Keyword::Static,
+            Keyword::Struct,
+            Keyword::Switch,
+        ],
+        b't' => &[Keyword::Typedef],
+        b'u' => &[Keyword::Union, Keyword::Unsigned],
+        b'v' => &[Keyword::Void, Keyword::Volatile],
+        b'w' => &[Keyword::While],
+        _ => &[],
+    }
+}
+
+// The first of some keywords that has these bytes.
+fn keyword_in(few: &[Keyword], word: &[u8]) -> Option<Keyword>
+    ensures { result ≡ find (λ k. bytes_eq (keyword_bytes k) word.now) few.now }
+{
+    few.iter().copied().find(|k| k.bytes() == word)
+}
+
 fn keyword_named(word: &[u8]) -> Option<Keyword>
     ensures { result ≡ keyword_named word.now }
 {
-    KEYWORDS.iter().copied().find(|k| k.bytes() == word)
+    keyword_in(keywords_with(byte_at(word, 0)), word)
 }
 
-#[tactic(auto, unfolding(crate::specs::internal::Scan::punctuator_at))]
+// The punctuators that begin with a byte, the longest first.
+fn punctuators_with(first: u8) -> &'static [Punctuator]
+    ensures { result.now ≡ punctuators_with first }
+{
+    match first {
+        b'<' => &[
+            Punctuator::ShiftLeftAssign,
+            Punctuator::ShiftLeft,
+            Punctuator::LessOrEqual,
+            Punctuator::Less,
+        ],
+        b'>' => &[
+            Punctuator::ShiftRightAssign,
+            Punctuator::ShiftRight,
+            Punctuator::GreaterOrEqual,
+            Punctuator::Greater,
+        ],
+        b'=' => &[Punctuator::Equal, Punctuator::Assign],
+        b'!' => &[Punctuator::NotEqual, Punctuator::Exclamation],
+        b'&' => &[
+            Punctuator::AndAnd,
+            Punctuator::AmpersandAssign,
+            Punctuator::Ampersand,
+        ],
+        b'|' => &[Punctuator::OrOr, Punctuator::BarAssign, Punctuator::Bar],
+        b'+' => &[
+            Punctuator::PlusAssign,
+            Punctuator::PlusPlus,
+            Punctuator::Plus,
+        ],
+        b'-' => &[
+            Punctuator::MinusAssign,
+            Punctuator::MinusMinus,
+            Punctuator::Minus,
+        ],
+        b'*' => &[Punctuator::StarAssign, Punctuator::Star],
+        b'/' => &[Punctuator::SlashAssign, Punctuator::Slash],
+        b'%' => &[Punctuator::PercentAssign, Punctuator::Percent],
+        b'^' => &[Punctuator::CaretAssign, Punctuator::Caret],
+        b'(' => &[Punctuator::OpenParenthesis],
+        b')' => &[Punctuator::CloseParenthesis],
+        b'[' => &[Punctuator::OpenBracket],
+        b']' => &[Punctuator::CloseBracket],
+        b'{' => &[Punctuator::OpenBrace],
+        b'}' => &[Punctuator::CloseBrace],
+        b';' => &[Punctuator::Semicolon],
+        b',' => &[Punctuator::Comma],
+        b'?' => &[Punctuator::Question],
+        b':' => &[Punctuator::Colon],
+        b'~' => &[Punctuator::Tilde],
+        _ => &[],
+    }
+}
+
+// The first of some punctuators that stands at the front.
+fn punctuator_in(few: &[Punctuator], bytes: &[u8]) -> Option<Punctuator>
+    ensures { result ≡ find (λ p. starts_with (λ a b. a == b) bytes.now (punctuator_bytes p)) few.now }
+{
+    few.iter().copied().find(|p| bytes.starts_with(p.bytes()))
+}
+
 fn punctuator_at(bytes: &[u8]) -> Option<Punctuator>
     ensures { result ≡ punctuator_at bytes.now }
 {
-    PUNCTUATORS
-        .iter()
-        .copied()
-        .find(|p| bytes.starts_with(p.bytes()))
+    punctuator_in(punctuators_with(byte_at(bytes, 0)), bytes)
 }
 
 fn word_kind(word: &[u8]) -> TokenKind

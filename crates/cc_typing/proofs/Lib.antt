@@ -1,3 +1,4 @@
+pub mod KeyOrder
 pub mod Tables
 pub mod Numbers
 pub mod NameSets

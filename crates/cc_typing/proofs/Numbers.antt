@@ -1,14 +1,10 @@
 -- What the number of a name says of where it stands.
-use Rattle.std.proofs.Common.{◌≡◌, ℕ, zero, suc, ◌-◌, ◌<◌, ◌≤◌, Bool, true, false, cond, leb, List, [], ◌∷◌, length, take, Option, Some, None, IfSome, is_some, refl, sym, ap, ◌∙◌, nat_eq, arith}
+use Rattle.std.proofs.Common.{◌≡◌, ℕ, zero, suc, ◌-◌, ◌<◌, ◌≤◌, Bool, true, false, cond, List, [], ◌∷◌, length, take, drop, Option, Some, None, IfSome, is_some, refl, sym, ap, ◌∙◌, nat_eq, arith}
 use Rattle.std.specs.Cmp.Lexicographic.{pointwise}
 use Rattle.std.proofs.lemmas.Bool.Decides.{nat_tests}
-use Rattle.cc_typing.specs.Scope.{Binding, found, is_declared}
-use Rattle.cc_typing.specs.Bindings.{number_in}
-
--- a number from k on
-abbrev pub from : ℕ → Option ℕ → Bool
-from k None = false
-from k (Some n) = leb k n
+use Rattle.cc_typing.specs.Scope.{Binding, Entity, found, is_declared, with_declared}
+use Rattle.cc_typing.specs.declared.bindings.Newest.{Newest}
+use Rattle.cc_typing.specs.Bindings.{number_in, from, number_of, scope_of, file_level}
 
 number_in-below : (bs : List Binding) (x : List ℕ) → IfSome (number_in bs x) (λ n. n < length bs)
 number_in-below [] x = tt
@@ -39,3 +35,39 @@ is_declared-take (b ∷ bs) x (suc i) h = by (pointwise nat_eq b.name x) (is_dec
         → is_some (cond c (Some b.entity) (found (take i bs) x)) ≡ from (suc (length bs) - suc i) (cond c (Some (length bs)) (number_in bs x))
     by true e = grind (arith, nat_tests)
     by false e = let k : suc (length bs) - suc i ≡ length bs - i = omega arith in e ∙ ap (λ j. from j (number_in bs x)) (sym k)
+
+-- a name has a number exactly where it is declared
+pub is_some-number_in : (bs : List Binding) (x : List ℕ) → is_some (number_in bs x) ≡ is_declared bs x
+is_some-number_in [] x = refl
+is_some-number_in (b ∷ bs) x = by (pointwise nat_eq b.name x) (is_some-number_in bs x)
+  where
+    by : (c : Bool) → is_some (number_in bs x) ≡ is_some (found bs x) → is_some (cond c (Some (length bs)) (number_in bs x)) ≡ is_some (cond c (Some b.entity) (found bs x))
+    by true e = refl
+    by false e = e
+
+-- ---- file scope, where nothing but it is in scope
+
+none-inner : (bs : List Binding) (i : ℕ) → i ≤ length bs → take i bs ≡ [] → i ≡ 0
+none-inner bs zero h e = refl
+none-inner [] (suc i) h e = absurd (omega arith)
+none-inner (b ∷ bs) (suc i) h e = absurd cc
+
+is_some-number_of : (h : Option Newest) → is_some h ≡ is_some (number_of h)
+is_some-number_of None = refl
+is_some-number_of (Some n) = refl
+
+-- a name that would hide another is declared already
+pub is_declared-hides : (bs : List Binding) (x : List ℕ) (i : ℕ) (h : Option Newest) → i ≤ length bs → take i bs ≡ [] → number_of h ≡ number_in bs x → is_some h ≡ is_declared (drop i bs) x
+is_declared-hides bs x i h fits inner number =
+    is_some-number_of h ∙ ap is_some number ∙ is_some-number_in bs x ∙ sym (ap (λ j. is_declared (drop j bs) x) (none-inner bs i fits inner))
+
+-- the scope after a name that is declared already, and after a new one
+pub scope-stays : (bs : List Binding) (x : List ℕ) (entity : Entity) (i : ℕ) → i ≤ length bs → take i bs ≡ [] → is_declared (drop i bs) x ≡ true
+    → scope_of bs i ≡ file_level (with_declared x entity (record { bindings = drop i bs; defined = [] })).bindings
+scope-stays bs x entity zero fits inner h = sym (ap (λ c. file_level (cond c bs (record { name = x; entity = entity } ∷ bs))) h)
+scope-stays bs x entity (suc i) fits inner h = absurd (let no = none-inner bs (suc i) fits inner in omega arith)
+
+pub scope-grows : (bs : List Binding) (x : List ℕ) (entity : Entity) (i : ℕ) → i ≤ length bs → take i bs ≡ [] → is_declared (drop i bs) x ≡ false
+    → scope_of (record { name = x; entity = entity } ∷ bs) i ≡ file_level (with_declared x entity (record { bindings = drop i bs; defined = [] })).bindings
+scope-grows bs x entity zero fits inner h = sym (ap (λ c. file_level (cond c bs (record { name = x; entity = entity } ∷ bs))) h)
+scope-grows bs x entity (suc i) fits inner h = absurd (let no = none-inner bs (suc i) fits inner in omega arith)

@@ -1,9 +1,11 @@
 -- The table of names: what a binding hides comes back when the binding goes.
 use Rattle.std.proofs.Common.{◌≡◌, ℕ, suc, Bool, true, false, cond, List, [], ◌∷◌, ◌++◌, length, map, reverse, Option, Some, None, Result, Ok, Err, OnOk, OnErr, refl, sym, ap, subst, ◌∙◌, Bor, nat_eq}
 use Rattle.std.specs.Cmp.Lexicographic.{pointwise, bytes_decides, nat_list_eq_equiv}
-use Rattle.std.proofs.lemmas.List.{reverse-append}
-use Rattle.indexmap.specs.IndexMap.{IndexMap, get, Updates}
+use Rattle.std.proofs.lemmas.List.{reverse-append, length-reverse}
+use Rattle.std.specs.Map.{lookup}
+use Rattle.std.specs.BTreeMap.{BTreeMap, get, Updates}
 use Rattle.cc_typing.specs.Scope as scope
+use Rattle.cc_typing.proofs.KeyOrder.{key_cmp, lookup-get, lookup-updated}
 use Rattle.cc_typing.specs.Entities.{entity_of}
 use Rattle.cc_typing.specs.Bindings.{binding_of, newest, AreHidden, same_key, IsTable, number_in, number_of, entity_found}
 use Rattle.cc_typing.specs.declared.bindings.Binding.{Binding}
@@ -47,17 +49,29 @@ newest-restored rest b x w h = by (pointwise nat_eq b.name.now x) refl
     by true e = h ∙ newest-same rest b.name.now x e
     by false e = refl
 
-module _ {S : Type 0} (bs : List Binding) (b : Binding) (old new : IndexMap (Bor (List ℕ)) Newest S) (table : IsTable (bs ++ b ∷ []) old) where
+-- the table with one binding more, which hides what was the newest of its name
+pub IsTable-pushed : (bs : List Binding) (b : Binding) (n : ℕ) (old new : BTreeMap (Bor (List ℕ)) Newest) → IsTable bs old → n ≡ length bs → b.hidden ≡ get key_cmp old b.name
+    → Updates key_cmp old new b.name (Some (record { number = n; entity = b.entity })) → IsTable (bs ++ b ∷ []) new
+IsTable-pushed bs b n old new table en hides v =
+    let u : Updates key_cmp old new b.name (Some (record { number = length (reverse bs); entity = b.entity })) =
+    subst (λ m. Updates key_cmp old new b.name (Some (record { number = m; entity = b.entity }))) (en ∙ sym (length-reverse bs)) v in
+    record {
+      found = λ q. lookup-updated old new b.name _ u q ∙ ap (cond (same_key b.name q) (Some (record { number = length (reverse bs); entity = b.entity }))) (table.found q)
+          ∙ ap (λ (l : List Binding). newest l q.now) (sym (reverse-push bs b));
+      hidden = subst AreHidden (sym (reverse-push bs b)) (hides ∙ sym (lookup-get old b.name) ∙ table.found b.name, table.hidden);
+    }
+
+module _ (bs : List Binding) (b : Binding) (old new : BTreeMap (Bor (List ℕ)) Newest) (table : IsTable (bs ++ b ∷ []) old) where
   hidden_is : AreHidden (b ∷ reverse bs)
   hidden_is = subst AreHidden (reverse-push bs b) table.hidden
 
-  found_is : (x : Bor (List ℕ)) → get same_key old x ≡ newest (b ∷ reverse bs) x.now
+  found_is : (x : Bor (List ℕ)) → lookup (same_key x) old.entries ≡ newest (b ∷ reverse bs) x.now
   found_is x = table.found x ∙ ap (λ (l : List Binding). newest l x.now) (reverse-push bs b)
 
   -- the table without its newest binding, whose name gets back what it hides
-  pub IsTable-popped : (x : Bor (List ℕ)) (w : Option Newest) → b.name ≡ x → b.hidden ≡ w → Updates same_key old new x w → IsTable bs new
+  pub IsTable-popped : (x : Bor (List ℕ)) (w : Option Newest) → b.name ≡ x → b.hidden ≡ w → Updates key_cmp old new x w → IsTable bs new
   IsTable-popped x w ex ew u = record {
-    found = λ q. u.0 q ∙ ap (cond (same_key x q) w) (found_is q) ∙ restored-at q;
+    found = λ q. lookup-updated old new x w u q ∙ ap (cond (same_key x q) w) (found_is q) ∙ restored-at q;
     hidden = hidden_is.1;
   }
     where
@@ -70,10 +84,10 @@ module _ {S : Type 0} (bs : List Binding) (b : Binding) (old new : IndexMap (Bor
   same-itself = nat_list_eq_equiv.refl
 
   -- the newest name is in the table
-  pub newest-there : get same_key old b.name ≡ Some (record { number = length (reverse bs); entity = b.entity })
-  newest-there = found_is b.name ∙ ap (λ c. cond c (Some (record { number = length (reverse bs); entity = b.entity })) (newest (reverse bs) b.name.now)) (same-itself b.name.now)
+  pub newest-there : get key_cmp old b.name ≡ Some (record { number = length (reverse bs); entity = b.entity })
+  newest-there = sym (lookup-get old b.name) ∙ found_is b.name ∙ ap (λ c. cond c (Some (record { number = length (reverse bs); entity = b.entity })) (newest (reverse bs) b.name.now)) (same-itself b.name.now)
 
   -- so putting back what it hides needs no memory
-  pub IsTable-put : {E : Type 0} (r : Result (Option Newest) E) (x : Bor (List ℕ)) (n : Newest) → b.name ≡ x → b.hidden ≡ Some n → OnOk r (Updates same_key old new x (Some n)) → OnErr r (get same_key old x ≡ None) → IsTable bs new
+  pub IsTable-put : {E : Type 0} (r : Result (Option Newest) E) (x : Bor (List ℕ)) (n : Newest) → b.name ≡ x → b.hidden ≡ Some n → OnOk r (Updates key_cmp old new x (Some n)) → OnErr r (get key_cmp old x ≡ None) → IsTable bs new
   IsTable-put (Ok o) x n ex en u absent = IsTable-popped x (Some n) ex en u
-  IsTable-put (Err e) x n ex en u absent = let there = newest-there in let gone : get same_key old b.name ≡ None = ap (get same_key old) ex ∙ absent in cc
+  IsTable-put (Err e) x n ex en u absent = let there = newest-there in let gone : get key_cmp old b.name ≡ None = ap (get key_cmp old) ex ∙ absent in cc

@@ -1,8 +1,9 @@
 -- How the code keeps the names in scope.
-use Rattle.std.specs.Prelude.{ℕ, ◌≡◌, Bool, List, [], ◌∷◌, length, map, reverse, take, drop, Option, Some, None, if◌then◌else◌, nat_eq}
+use Rattle.std.specs.Prelude.{ℕ, ◌≡◌, Bool, false, List, [], ◌∷◌, length, map, reverse, take, drop, Option, Some, None, if◌then◌else◌, nat_eq, nat_le}
 use Rattle.std.specs.Borrow.{Bor}
 use Rattle.std.specs.Cmp.Lexicographic.{pointwise}
-use Rattle.indexmap.specs.IndexMap.{IndexMap, get}
+use Rattle.std.specs.BTreeMap.{BTreeMap}
+use Rattle.std.specs.Map.{lookup}
 use Rattle.cc_typing.specs.Names.{same_name}
 use Rattle.cc_typing.specs.Scope as scope
 use Rattle.cc_typing.specs.Scope.{Visible}
@@ -33,14 +34,19 @@ abbrev pub same_key : Bor (List ℕ) → Bor (List ℕ) → Bool
 same_key a b = pointwise nat_eq a.now b.now
 
 -- the map has the newest binding of each name
-pub record IsTable {S : Type 0} (bs : List Binding) (names : IndexMap (Bor (List ℕ)) Newest S) : Type 0 where
-  pub found : (x : Bor (List ℕ)) → get same_key names x ≡ newest (reverse bs) x.now
+pub record IsTable (bs : List Binding) (names : BTreeMap (Bor (List ℕ)) Newest) : Type 0 where
+  pub found : (x : Bor (List ℕ)) → lookup (same_key x) names.entries ≡ newest (reverse bs) x.now
   pub hidden : AreHidden (reverse bs)
 
 -- the number of the newest binding of a name: how many stand after it
 abbrev pub number_in : List scope.Binding → List ℕ → Option ℕ
 number_in [] x = None
 number_in (b ∷ behind) x = if same_name b.name x then Some (length behind) else number_in behind x
+
+-- a number from k on
+abbrev pub from : ℕ → Option ℕ → Bool
+from k None = false
+from k (Some n) = nat_le k n
 
 -- what is answered of a name
 abbrev pub number_of : Option Newest → Option ℕ

@@ -1,16 +1,17 @@
 // The names in scope, with the newest binding of each.
 //
-// `names` has the newest binding of each name; a binding keeps what was the newest of its name before it. So a look-up
-// takes one step, and so does taking the newest binding back.
+// `names` has the newest binding of each name; a binding keeps what was the newest of its name before it. So a look-up is
+// one search, and so are a new binding and taking the newest one back. `names` is in the order of the names' bytes: no choice of
+// names makes a search long, as it would in a table by a hash that whoever wrote the text knows.
 
-ghost use Rattle.std.specs.Prelude.{◌≡◌, [], ◌∷◌, ◌<◌, ◌^◌, length, drop, OnOk, OnErr};
+ghost use Rattle.std.specs.Prelude.{◌≡◌, [], ◌∷◌, ◌<◌, ◌^◌, length, drop, IfOk, OnOk, OnErr};
 ghost use Rattle.cc_typing.specs.Scope.{found};
 ghost use Rattle.cc_typing.specs.Entities.{entity_of};
 ghost use Rattle.cc_typing.specs.Bindings.{number_in, number_of, entity_found};
 
 use super::entity::Entity;
-use indexmap::IndexMap;
 use std::alloc::{AllocError, Global};
+use std::collections::BTreeMap;
 use std::marker::Model;
 
 /// The newest binding of a name: its number, and what the name stands for.
@@ -31,7 +32,7 @@ pub struct Binding<'a> {
 #[derive(Drop)]
 pub struct Bindings<'a> {
     list: Vec<Binding<'a>>,
-    names: IndexMap<&'a [u8], Newest<'a>>,
+    names: BTreeMap<&'a [u8], Newest<'a>>,
 }
 
 impl<'a> Model for Bindings<'a> {
@@ -52,7 +53,7 @@ impl<'a> Bindings<'a> {
     {
         Bindings {
             list: Vec::new(alloc),
-            names: IndexMap::new(alloc),
+            names: BTreeMap::new(alloc),
         }
     }
 
@@ -70,24 +71,30 @@ impl<'a> Bindings<'a> {
         self.names.get(name).copied()
     }
 
-    /// Adds a name, which gets the next number.
-    pub fn push(&mut self, name: &'a [u8], entity: Entity<'a>) -> Result<(), AllocError>
+    /// Adds a name, which gets the next number, and answers the binding of its name that it hides, where it hides one.
+    pub fn push(
+        &mut self,
+        name: &'a [u8],
+        entity: Entity<'a>,
+    ) -> Result<Option<Newest<'a>>, AllocError>
         ensures ok { OnOk result (self.new ≡ record { name = name.now; entity = entity_of entity.entry } ∷ self.old) }
         ensures err { OnErr result (self.new ≡ self.old) }
         ensures fits { OnOk result (length self.new < 2 ^ 64) }
+        ensures hides { IfOk result (λ hidden. number_of hidden ≡ number_in self.old name.now) }
     {
+        self.list.reserve(1)?;
         let number = self.list.len();
-        let hidden = self.names.get(name).copied();
-        self.list.push(Binding {
-            name,
-            entity,
-            hidden,
-        })?;
-        if self.names.insert(name, Newest { number, entity }).is_err() {
-            self.list.pop();
-            return Err(AllocError);
+        match self.names.insert(name, Newest { number, entity }) {
+            Ok(hidden) => {
+                self.list.push_reserved(Binding {
+                    name,
+                    entity,
+                    hidden,
+                });
+                Ok(hidden)
+            }
+            Err(_) => Err(AllocError),
         }
-        Ok(())
     }
 
     /// Takes the newest name back.
@@ -110,7 +117,7 @@ impl<'a> Bindings<'a> {
                 let _ = self.names.insert(name, newest);
             }
             None => {
-                self.names.swap_remove(name);
+                self.names.remove(name);
             }
         }
     }

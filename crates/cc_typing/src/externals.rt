@@ -68,8 +68,8 @@ fn object<'a>(
     match tree {
         Object::Single(name, initial) => {
             let bytes = name.bytes.as_slice();
-            findings.note_if(scope.find(bytes).is_some(), Rule::Redeclared, name.at);
-            scope.declare_in_file(bytes, Entity::Variable(scalar))?;
+            let again = scope.declare_in_file(bytes, Entity::Variable(scalar))?;
+            findings.note_if(again, Rule::Redeclared, name.at);
             optional_constant(scope, findings, initial);
         }
         Object::Array(name, length, values) => {

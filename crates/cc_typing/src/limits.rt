@@ -4,7 +4,7 @@ ghost use Rattle.std.specs.Prelude.{◌≡◌, ◌≤◌, [], ◌∷◌, None, l
 ghost use Rattle.cc_syntax.specs.Erase.{name_tree, declarator_trees, beginning_tree, statement_tree, statements_of, object_tree, object_trees, signature_tree, external_tree, external_trees};
 ghost use Rattle.cc_typing.specs.internal.Counts.{count_after, defines, excess_of, objects_in, word_count, with_words, words_after};
 ghost use Rattle.cc_typing.specs.internal.Findings.{noted};
-ghost use Rattle.cc_typing.specs.Limits.{too_many, declared_names, beginning_names, locals_of, locals, function_names, objects, object_name, parameter_excesses, external_excesses, externals_excesses, excesses};
+ghost use Rattle.cc_typing.specs.Limits.{most_functions, too_many, declared_names, beginning_names, locals_of, locals, function_names, objects, object_name, parameter_excesses, external_excesses, externals_excesses, excesses};
 ghost use Rattle.cc_typing.specs.Types.{object_words};
 
 use super::constants::array_length;
@@ -245,7 +245,7 @@ fn count_function(count: &mut Count, external: &External)
 }
 
 fn past_functions(externals: &[External]) -> Option<usize>
-    ensures { result ≡ (count_after (record { most = 64; names = 0; past = None }) (function_names (external_trees externals.now))).past }
+    ensures { result ≡ (count_after (record { most = most_functions; names = 0; past = None }) (function_names (external_trees externals.now))).past }
 {
     let mut count = Count::new(MOST_FUNCTIONS);
     for external in externals {

@@ -1,16 +1,16 @@
-// A set of names.
+// A set of names, kept in order, so that no choice of names makes a look-up long.
 
 ghost use Rattle.std.specs.Prelude.{◌≡◌, ◌∷◌, ℕ, List, [], OnOk};
 ghost use Rattle.cc_typing.specs.Scope.{has_name};
 
-use indexmap::IndexSet;
 use std::alloc::{AllocError, Global};
+use std::collections::BTreeSet;
 use std::marker::Model;
 
-/// A set of names; a look-up takes one step.
+/// A set of names; a look-up compares with as many names as a search by halves.
 #[derive(Drop)]
 pub struct Names<'a> {
-    names: IndexSet<&'a [u8]>,
+    names: BTreeSet<&'a [u8]>,
 }
 
 impl<'a> Model for Names<'a> {
@@ -27,7 +27,7 @@ impl<'a> Names<'a> {
         ensures { result ≡ [] }
     {
         Names {
-            names: IndexSet::new(alloc),
+            names: BTreeSet::new(alloc),
         }
     }
 

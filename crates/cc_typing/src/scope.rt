@@ -3,9 +3,9 @@
 ghost use Rattle.std.specs.Prelude.{◌≡◌, ◌≤◌, [], length, drop, IfOk, OnOk, option_map};
 ghost use Rattle.cc_typing.specs.Scope.{opened, declared, in_scope, is_declared, found, with_declared, first_file_scope};
 ghost use Rattle.cc_typing.specs.Entities.{entity_of, optional_entity};
-ghost use Rattle.cc_typing.specs.Bindings.{closed, file_level};
+ghost use Rattle.cc_typing.specs.Bindings.{closed, file_level, from, number_of};
 
-use super::bindings::Bindings;
+use super::bindings::{Bindings, Newest};
 use super::entity::Entity;
 use std::alloc::{AllocError, Global};
 use std::marker::Model;
@@ -39,7 +39,18 @@ fn push_builtins(bindings: &mut Bindings<'_>) -> Result<(), AllocError>
     ensures { OnOk result (bindings.new ≡ first_file_scope.bindings) }
 {
     bindings.push(READ_WORD, Entity::ReadWord)?;
-    bindings.push(WRITE_WORD, Entity::WriteWord)
+    bindings.push(WRITE_WORD, Entity::WriteWord)?;
+    Ok(())
+}
+
+// Whether there is a binding, and its number is one from `first` on.
+fn is_from(binding: Option<Newest<'_>>, first: usize) -> bool
+    ensures { result ≡ from first (number_of binding.entry) }
+{
+    match binding {
+        Some(newest) => newest.number >= first,
+        None => false,
+    }
 }
 
 impl<'a> Scope<'a> {
@@ -84,10 +95,10 @@ impl<'a> Scope<'a> {
         ensures scope { OnOk result (self.new ≡ declared name.now (entity_of entity.entry) self.old) }
         ensures again { IfOk result (λ b. b ≡ is_declared self.old.inner name.now) }
     {
-        let again = self.is_declared(name);
-        self.bindings.push(name, entity)?;
+        let first = self.bindings.len() - self.inner;
+        let hidden = self.bindings.push(name, entity)?;
         self.inner += 1;
-        Ok(again)
+        Ok(is_from(hidden, first))
     }
 
     /// Takes the newest name of the innermost scope back, where it has one.
@@ -100,24 +111,21 @@ impl<'a> Scope<'a> {
         }
     }
 
-    /// Declares a name in file scope, where it is new; else what stands there stays.
-    pub fn declare_in_file(&mut self, name: &'a [u8], entity: Entity<'a>) -> Result<(), AllocError>
+    /// Declares a name in file scope, where it is new; else what stands there stays. Answers whether it had declared it already.
+    pub fn declare_in_file(
+        &mut self,
+        name: &'a [u8],
+        entity: Entity<'a>,
+    ) -> Result<bool, AllocError>
         requires { self.old.inner ≡ [] }
-        ensures { OnOk result (self.new ≡ file_level (with_declared name.now (entity_of entity.entry) (record { bindings = self.old.outer; defined = [] })).bindings) }
+        ensures again { IfOk result (λ b. b ≡ is_declared self.old.outer name.now) }
+        ensures scope { OnOk result (self.new ≡ file_level (with_declared name.now (entity_of entity.entry) (record { bindings = self.old.outer; defined = [] })).bindings) }
     {
-        if self.bindings.find(name).is_none() {
-            self.bindings.push(name, entity)?;
+        if self.bindings.push(name, entity)?.is_some() {
+            self.bindings.pop();
+            return Ok(true);
         }
-        Ok(())
-    }
-
-    fn is_declared(&self, name: &[u8]) -> bool
-        ensures { result ≡ is_declared self.now.inner name.now }
-    {
-        match self.bindings.find(name) {
-            Some(newest) => newest.number >= self.bindings.len() - self.inner,
-            None => false,
-        }
+        Ok(false)
     }
 
     /// What a name stands for.

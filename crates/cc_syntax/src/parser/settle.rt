@@ -13,6 +13,9 @@ use crate::parser::stop::Stop;
 use cc_tokens::Scalar;
 use std::alloc::{AllocError, Global};
 
+/// The most statements of a list that has room for no more than it holds.
+const SHORT: usize = 4;
+
 /// A block of statements.
 fn block(statements: Vec<Statement>) -> Statement
     ensures { statement_tree result ≡ Block (statements_of statements.items) }
@@ -27,6 +30,17 @@ fn boxed(alloc: Global, statement: Statement) -> Result<Box<Statement>, AllocErr
     Ok(Box::new(alloc, statement)?)
 }
 
+/// Most lists of statements are short: the first few find their room one at a time, so that a block of one statement has room
+/// for one.
+fn make_room(statements: &mut Vec<Statement>) -> Result<(), AllocError>
+    ensures { statements.new.items ≡ statements.old.items }
+{
+    if statements.len() < SHORT {
+        statements.reserve_exact(1)?;
+    }
+    Ok(())
+}
+
 /// The statements with one more at the end.
 fn with_statement(
     mut statements: Vec<Statement>,
@@ -34,6 +48,11 @@ fn with_statement(
 ) -> Result<Vec<Statement>, AllocError>
     ensures { IfOk result (λ ss. statements_of ss.items ≡ with_last (statements_of statements.items) (statement_tree statement.value)) }
 {
+    if make_room(&mut statements).is_err() {
+        drop(statements);
+        drop(statement);
+        return Err(AllocError);
+    }
     statements.push(Box::into_inner(statement))?;
     Ok(statements)
 }
@@ -52,6 +71,11 @@ fn with_finished(body: Box<Body>, statement: Box<Statement>) -> Result<Box<Body>
     ensures { IfOk result (λ b. body_view b.value ≡ inside_of (body_view body.value) (with_last (statements_of body.value.finished.items) (statement_tree statement.value)) (open_views body.value.open.items)) }
 {
     let mut body = body;
+    if make_room(&mut body.finished).is_err() {
+        drop(body);
+        drop(statement);
+        return Err(AllocError);
+    }
     body.finished.push(Box::into_inner(statement))?;
     Ok(body)
 }

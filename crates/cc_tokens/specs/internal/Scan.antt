@@ -14,7 +14,9 @@ use Rattle.cc_tokens.specs.declared.scan.Front.{Front}
 use Rattle.cc_tokens.specs.declared.scan.Front.TheVariants as front
 use Rattle.cc_tokens.specs.declared.scalar.Scalar.{Scalar}
 use Rattle.cc_tokens.specs.declared.token.Keyword.{Keyword}
+use Rattle.cc_tokens.specs.declared.token.Keyword.TheVariants as keyword
 use Rattle.cc_tokens.specs.declared.token.Punctuator.{Punctuator}
+use Rattle.cc_tokens.specs.declared.token.Punctuator.TheVariants as punctuator
 use Rattle.cc_tokens.specs.declared.token.TokenKind.{TokenKind}
 use Rattle.cc_tokens.specs.declared.token.TokenKind.TheVariants as kind
 use Rattle.cc_tokens.specs.declared.token.TheConstants.{KEYWORDS, PUNCTUATORS}
@@ -43,6 +45,55 @@ goes_on run.Number = continues_number
 unfoldable pub run_length : (ℕ → ℕ → Bool) → ℕ → List ℕ → ℕ
 run_length may before [] = 0
 run_length may before (b ∷ bs) = if may before b then suc (run_length may b bs) else 0
+
+-- the keywords that begin with a byte
+abbrev pub keywords_with : ℕ → List Keyword
+keywords_with b =
+    if b == 95 then keyword.Bool ∷ keyword.Complex ∷ keyword.Imaginary ∷ []
+    else (if b == 97 then keyword.Auto ∷ []
+    else (if b == 98 then keyword.Break ∷ []
+    else (if b == 99 then keyword.Case ∷ keyword.Char ∷ keyword.Const ∷ keyword.Continue ∷ []
+    else (if b == 100 then keyword.Default ∷ keyword.Do ∷ keyword.Double ∷ []
+    else (if b == 101 then keyword.Else ∷ keyword.Enum ∷ keyword.Extern ∷ []
+    else (if b == 102 then keyword.Float ∷ keyword.For ∷ []
+    else (if b == 103 then keyword.Goto ∷ []
+    else (if b == 105 then keyword.If ∷ keyword.Inline ∷ keyword.Int ∷ []
+    else (if b == 108 then keyword.Long ∷ []
+    else (if b == 114 then keyword.Register ∷ keyword.Restrict ∷ keyword.Return ∷ []
+    else (if b == 115 then keyword.Short ∷ keyword.Signed ∷ keyword.Sizeof ∷ keyword.Static ∷ keyword.Struct ∷ keyword.Switch ∷ []
+    else (if b == 116 then keyword.Typedef ∷ []
+    else (if b == 117 then keyword.Union ∷ keyword.Unsigned ∷ []
+    else (if b == 118 then keyword.Void ∷ keyword.Volatile ∷ []
+    else (if b == 119 then keyword.While ∷ []
+    else [])))))))))))))))
+
+-- the punctuators that begin with a byte, the longest first
+abbrev pub punctuators_with : ℕ → List Punctuator
+punctuators_with b =
+    if b == 60 then punctuator.ShiftLeftAssign ∷ punctuator.ShiftLeft ∷ punctuator.LessOrEqual ∷ punctuator.Less ∷ []
+    else (if b == 62 then punctuator.ShiftRightAssign ∷ punctuator.ShiftRight ∷ punctuator.GreaterOrEqual ∷ punctuator.Greater ∷ []
+    else (if b == 61 then punctuator.Equal ∷ punctuator.Assign ∷ []
+    else (if b == 33 then punctuator.NotEqual ∷ punctuator.Exclamation ∷ []
+    else (if b == 38 then punctuator.AndAnd ∷ punctuator.AmpersandAssign ∷ punctuator.Ampersand ∷ []
+    else (if b == 124 then punctuator.OrOr ∷ punctuator.BarAssign ∷ punctuator.Bar ∷ []
+    else (if b == 43 then punctuator.PlusAssign ∷ punctuator.PlusPlus ∷ punctuator.Plus ∷ []
+    else (if b == 45 then punctuator.MinusAssign ∷ punctuator.MinusMinus ∷ punctuator.Minus ∷ []
+    else (if b == 42 then punctuator.StarAssign ∷ punctuator.Star ∷ []
+    else (if b == 47 then punctuator.SlashAssign ∷ punctuator.Slash ∷ []
+    else (if b == 37 then punctuator.PercentAssign ∷ punctuator.Percent ∷ []
+    else (if b == 94 then punctuator.CaretAssign ∷ punctuator.Caret ∷ []
+    else (if b == 40 then punctuator.OpenParenthesis ∷ []
+    else (if b == 41 then punctuator.CloseParenthesis ∷ []
+    else (if b == 91 then punctuator.OpenBracket ∷ []
+    else (if b == 93 then punctuator.CloseBracket ∷ []
+    else (if b == 123 then punctuator.OpenBrace ∷ []
+    else (if b == 125 then punctuator.CloseBrace ∷ []
+    else (if b == 59 then punctuator.Semicolon ∷ []
+    else (if b == 44 then punctuator.Comma ∷ []
+    else (if b == 63 then punctuator.Question ∷ []
+    else (if b == 58 then punctuator.Colon ∷ []
+    else (if b == 126 then punctuator.Tilde ∷ []
+    else []))))))))))))))))))))))
 
 -- the keyword of these bytes
 unfoldable pub keyword_named : List ℕ → Option Keyword

@@ -1,7 +1,7 @@
 -- Worked units and the rules that they break, by computation. An offset counts bytes from 0.
-use Rattle.std.specs.Prelude.{◌≡◌, refl, ℕ, zero, suc, ◌+◌, ◌/◌, ◌%◌, true, false, List, [], ◌∷◌, ◌++◌, Some, None, codes}
+use Rattle.std.specs.Prelude.{◌≡◌, refl, ℕ, zero, suc, replicate, ◌+◌, ◌/◌, ◌%◌, true, false, List, [], ◌∷◌, ◌++◌, Some, None, codes}
 use Rattle.cc_syntax.specs.Tree as tree
-use Rattle.cc_syntax.specs.Tree.{Name, External}
+use Rattle.cc_syntax.specs.Tree.{Name, Stmt, External}
 use Rattle.cc_tokens.specs.declared.scalar.Scalar.TheVariants.{Int, Unsigned}
 use Rattle.cc_syntax.specs.declared.ast.UnaryOperator.TheVariants.{Minus, Not}
 use Rattle.cc_syntax.specs.declared.ast.BinaryOperator.TheVariants.{Divide, Add, Less}
@@ -130,8 +130,64 @@ negated_void = refl
 missing_value : offences (tree.Definition (record { result = (Some Int); name = (name (codes "main") 4); parameters = [] }) (tree.next (tree.Return 15 None) tree.end) ∷ []) ≡ broken BadReturn 15
 missing_value = refl
 
+-- a unit with each kind of statement, part by part
+-- int a[3]={1,2};
+abbrev a_listed : External
+a_listed = tree.Objects Int (tree.Array (name (codes "a") 4) (Some (record { at = 6; expr = (tree.Number Int 3) })) ((record { at = 10; expr = (tree.Number Int 1) }) ∷ (record { at = 12; expr = (tree.Number Int 2) }) ∷ []) ∷ [])
+
+-- unsigned g;
+abbrev g_declared : External
+g_declared = tree.Objects Unsigned (tree.Single (name (codes "g") 24) None ∷ [])
+
+-- int f(int,int);
+abbrev f_declared : External
+f_declared = tree.Declaration (record { result = (Some Int); name = (name (codes "f") 30); parameters = (record { scalar = Int; name = None } ∷ record { scalar = Int; name = None } ∷ []) })
+
+-- void h(void){(f(1,2));for(;;)break;}
+abbrev h_defined : External
+h_defined = tree.Definition (record { result = None; name = (name (codes "h") 46); parameters = [] }) (tree.next (tree.Perform (Some (tree.Evaluate (tree.Parenthesised (tree.Call (name (codes "f") 55) (tree.more (tree.Number Int 1) (tree.more (tree.Number Int 2) tree.none))))))) (tree.next (tree.For (tree.Performs None) None None (tree.Break 70)) tree.end))
+
+-- int f(int a,int b){if(a)return b;else return a;}
+abbrev f_defined : External
+f_defined = tree.Definition (record { result = (Some Int); name = (name (codes "f") 81); parameters = (record { scalar = Int; name = (Some (name (codes "a") 87)) } ∷ record { scalar = Int; name = (Some (name (codes "b") 93)) } ∷ []) }) (tree.next (tree.IfElse (tree.Variable (name (codes "a") 99)) (tree.Return 101 (Some (tree.Variable (name (codes "b") 108)))) (tree.Return 115 (Some (tree.Variable (name (codes "a") 122))))) tree.end)
+
+-- int x=x+1;
+abbrev x_declared : Stmt
+x_declared = tree.Local Int (record { name = (name (codes "x") 144); initial = (Some (tree.Binary Add (tree.Variable (name (codes "x") 146)) (tree.Number Int 1))) } ∷ [])
+
+-- int write_word;
+abbrev write_word_hidden : Stmt
+write_word_hidden = tree.Local Int (record { name = (name (codes "write_word") 154); initial = None } ∷ [])
+
+-- do{continue;}while(x<1u);
+abbrev do_loop : Stmt
+do_loop = tree.DoWhile (tree.Block (tree.next (tree.Continue 168) tree.end)) (tree.Binary Less (tree.Variable (name (codes "x") 184)) (tree.Number Unsigned 1))
+
+-- for(int i=0;i<2;i++){int i;i=g;}
+abbrev for_loop : Stmt
+for_loop = tree.For (tree.Declares Int (record { name = (name (codes "i") 198); initial = (Some (tree.Number Int 0)) } ∷ [])) (Some (tree.Binary Less (tree.Variable (name (codes "i") 202)) (tree.Number Int 2))) (Some (tree.Step Increment (tree.AtVariable (name (codes "i") 206)))) (tree.Block (tree.next (tree.Local Int (record { name = (name (codes "i") 215); initial = None } ∷ [])) (tree.next (tree.Perform (Some (tree.Assign assignment.Plain (tree.AtVariable (name (codes "i") 217)) (tree.Variable (name (codes "g") 219))))) tree.end)))
+
+-- a[x]+=f(x,(int)g);
+abbrev element_added_to : Stmt
+element_added_to = tree.Perform (Some (tree.Assign assignment.Add (tree.AtElement (name (codes "a") 222) (tree.Variable (name (codes "x") 224))) (tree.Call (name (codes "f") 228) (tree.more (tree.Variable (name (codes "x") 230)) (tree.more (tree.Cast Int (tree.Variable (name (codes "g") 237))) tree.none)))))
+
+-- while(0);
+abbrev while_loop : Stmt
+while_loop = tree.While (tree.Number Int 0) (tree.Perform None)
+
+-- h();
+abbrev h_called : Stmt
+h_called = tree.Perform (Some (tree.Evaluate (tree.Call (name (codes "h") 249) tree.none)))
+
+-- int main(void){ and those seven }
+abbrev main_defined : External
+main_defined = tree.Definition (record { result = (Some Int); name = (name (codes "main") 129); parameters = [] }) (tree.next x_declared (tree.next write_word_hidden (tree.next do_loop (tree.next for_loop (tree.next element_added_to (tree.next while_loop (tree.next h_called tree.end)))))))
+
 -- int a[3]={1,2};unsigned g;int f(int,int);void h(void){(f(1,2));for(;;)break;}int f(int a,int b){if(a)return b;else return a;}int main(void){int x=x+1;int write_word;do{continue;}while(x<1u);for(int i=0;i<2;i++){int i;i=g;}a[x]+=f(x,(int)g);while(0);h();}
-all_statements : offences (tree.Objects Int (tree.Array (name (codes "a") 4) (Some (record { at = 6; expr = (tree.Number Int 3) })) ((record { at = 10; expr = (tree.Number Int 1) }) ∷ (record { at = 12; expr = (tree.Number Int 2) }) ∷ []) ∷ []) ∷ tree.Objects Unsigned (tree.Single (name (codes "g") 24) None ∷ []) ∷ tree.Declaration (record { result = (Some Int); name = (name (codes "f") 30); parameters = (record { scalar = Int; name = None } ∷ record { scalar = Int; name = None } ∷ []) }) ∷ tree.Definition (record { result = None; name = (name (codes "h") 46); parameters = [] }) (tree.next (tree.Perform (Some (tree.Evaluate (tree.Parenthesised (tree.Call (name (codes "f") 55) (tree.more (tree.Number Int 1) (tree.more (tree.Number Int 2) tree.none))))))) (tree.next (tree.For (tree.Performs None) None None (tree.Break 70)) tree.end)) ∷ tree.Definition (record { result = (Some Int); name = (name (codes "f") 81); parameters = (record { scalar = Int; name = (Some (name (codes "a") 87)) } ∷ record { scalar = Int; name = (Some (name (codes "b") 93)) } ∷ []) }) (tree.next (tree.IfElse (tree.Variable (name (codes "a") 99)) (tree.Return 101 (Some (tree.Variable (name (codes "b") 108)))) (tree.Return 115 (Some (tree.Variable (name (codes "a") 122))))) tree.end) ∷ tree.Definition (record { result = (Some Int); name = (name (codes "main") 129); parameters = [] }) (tree.next (tree.Local Int (record { name = (name (codes "x") 144); initial = (Some (tree.Binary Add (tree.Variable (name (codes "x") 146)) (tree.Number Int 1))) } ∷ [])) (tree.next (tree.Local Int (record { name = (name (codes "write_word") 154); initial = None } ∷ [])) (tree.next (tree.DoWhile (tree.Block (tree.next (tree.Continue 168) tree.end)) (tree.Binary Less (tree.Variable (name (codes "x") 184)) (tree.Number Unsigned 1))) (tree.next (tree.For (tree.Declares Int (record { name = (name (codes "i") 198); initial = (Some (tree.Number Int 0)) } ∷ [])) (Some (tree.Binary Less (tree.Variable (name (codes "i") 202)) (tree.Number Int 2))) (Some (tree.Step Increment (tree.AtVariable (name (codes "i") 206)))) (tree.Block (tree.next (tree.Local Int (record { name = (name (codes "i") 215); initial = None } ∷ [])) (tree.next (tree.Perform (Some (tree.Assign assignment.Plain (tree.AtVariable (name (codes "i") 217)) (tree.Variable (name (codes "g") 219))))) tree.end)))) (tree.next (tree.Perform (Some (tree.Assign assignment.Add (tree.AtElement (name (codes "a") 222) (tree.Variable (name (codes "x") 224))) (tree.Call (name (codes "f") 228) (tree.more (tree.Variable (name (codes "x") 230)) (tree.more (tree.Cast Int (tree.Variable (name (codes "g") 237))) tree.none)))))) (tree.next (tree.While (tree.Number Int 0) (tree.Perform None)) (tree.next (tree.Perform (Some (tree.Evaluate (tree.Call (name (codes "h") 249) tree.none)))) tree.end))))))) ∷ []) ≡ []
+abbrev each_statement : List External
+each_statement = a_listed ∷ g_declared ∷ f_declared ∷ h_defined ∷ f_defined ∷ main_defined ∷ []
+
+all_statements : offences each_statement ≡ []
 all_statements = refl
 
 -- void write_word(int);int read_word(void);int main(void){write_word(read_word());}
@@ -146,8 +202,8 @@ wrong_part_not_evaluated = refl
 unsigned_and_signed : offences (tree.Objects Int (tree.Array (name (codes "a") 4) (Some (record { at = 6; expr = (tree.Binary Less (tree.Number Int 1) (tree.Number Unsigned 2)) })) [] ∷ []) ∷ tree.Definition (record { result = (Some Int); name = (name (codes "main") 16); parameters = [] }) tree.end ∷ []) ≡ []
 unsigned_and_signed = refl
 
--- int a[3]={1,2};unsigned g;int f(int,int);void h(void){(f(1,2));for(;;)break;}int f(int a,int b){if(a)return b;else return a;}int main(void){int x=x+1;int write_word;do{continue;}while(x<1u);for(int i=0;i<2;i++){int i;i=g;}a[x]+=f(x,(int)g);while(0);h();}
-none_is_undefined : undefined_calls (tree.Objects Int (tree.Array (name (codes "a") 4) (Some (record { at = 6; expr = (tree.Number Int 3) })) ((record { at = 10; expr = (tree.Number Int 1) }) ∷ (record { at = 12; expr = (tree.Number Int 2) }) ∷ []) ∷ []) ∷ tree.Objects Unsigned (tree.Single (name (codes "g") 24) None ∷ []) ∷ tree.Declaration (record { result = (Some Int); name = (name (codes "f") 30); parameters = (record { scalar = Int; name = None } ∷ record { scalar = Int; name = None } ∷ []) }) ∷ tree.Definition (record { result = None; name = (name (codes "h") 46); parameters = [] }) (tree.next (tree.Perform (Some (tree.Evaluate (tree.Parenthesised (tree.Call (name (codes "f") 55) (tree.more (tree.Number Int 1) (tree.more (tree.Number Int 2) tree.none))))))) (tree.next (tree.For (tree.Performs None) None None (tree.Break 70)) tree.end)) ∷ tree.Definition (record { result = (Some Int); name = (name (codes "f") 81); parameters = (record { scalar = Int; name = (Some (name (codes "a") 87)) } ∷ record { scalar = Int; name = (Some (name (codes "b") 93)) } ∷ []) }) (tree.next (tree.IfElse (tree.Variable (name (codes "a") 99)) (tree.Return 101 (Some (tree.Variable (name (codes "b") 108)))) (tree.Return 115 (Some (tree.Variable (name (codes "a") 122))))) tree.end) ∷ tree.Definition (record { result = (Some Int); name = (name (codes "main") 129); parameters = [] }) (tree.next (tree.Local Int (record { name = (name (codes "x") 144); initial = (Some (tree.Binary Add (tree.Variable (name (codes "x") 146)) (tree.Number Int 1))) } ∷ [])) (tree.next (tree.Local Int (record { name = (name (codes "write_word") 154); initial = None } ∷ [])) (tree.next (tree.DoWhile (tree.Block (tree.next (tree.Continue 168) tree.end)) (tree.Binary Less (tree.Variable (name (codes "x") 184)) (tree.Number Unsigned 1))) (tree.next (tree.For (tree.Declares Int (record { name = (name (codes "i") 198); initial = (Some (tree.Number Int 0)) } ∷ [])) (Some (tree.Binary Less (tree.Variable (name (codes "i") 202)) (tree.Number Int 2))) (Some (tree.Step Increment (tree.AtVariable (name (codes "i") 206)))) (tree.Block (tree.next (tree.Local Int (record { name = (name (codes "i") 215); initial = None } ∷ [])) (tree.next (tree.Perform (Some (tree.Assign assignment.Plain (tree.AtVariable (name (codes "i") 217)) (tree.Variable (name (codes "g") 219))))) tree.end)))) (tree.next (tree.Perform (Some (tree.Assign assignment.Add (tree.AtElement (name (codes "a") 222) (tree.Variable (name (codes "x") 224))) (tree.Call (name (codes "f") 228) (tree.more (tree.Variable (name (codes "x") 230)) (tree.more (tree.Cast Int (tree.Variable (name (codes "g") 237))) tree.none)))))) (tree.next (tree.While (tree.Number Int 0) (tree.Perform None)) (tree.next (tree.Perform (Some (tree.Evaluate (tree.Call (name (codes "h") 249) tree.none)))) tree.end))))))) ∷ []) ≡ []
+-- the same
+none_is_undefined : undefined_calls each_statement ≡ []
 none_is_undefined = refl
 
 -- int f(void);int main(void){f();}
@@ -166,12 +222,16 @@ main_has_no_parameters = refl
 main : defines_main (tree.Definition (record { result = (Some Int); name = (name (codes "main") 4); parameters = [] }) tree.end ∷ []) ≡ true
 main = refl
 
+-- int
+abbrev one_parameter : tree.Parameter
+one_parameter = record { scalar = Int; name = None }
+
 -- int f(int,int,int,int,int,int,int,int,int);int main(void){}
-nine_parameters : excesses (tree.Declaration (record { result = (Some Int); name = (name (codes "f") 4); parameters = (record { scalar = Int; name = None } ∷ record { scalar = Int; name = None } ∷ record { scalar = Int; name = None } ∷ record { scalar = Int; name = None } ∷ record { scalar = Int; name = None } ∷ record { scalar = Int; name = None } ∷ record { scalar = Int; name = None } ∷ record { scalar = Int; name = None } ∷ record { scalar = Int; name = None } ∷ []) }) ∷ tree.Definition (record { result = (Some Int); name = (name (codes "main") 47); parameters = [] }) tree.end ∷ []) ≡ broken TooMany 4
+nine_parameters : excesses (tree.Declaration (record { result = (Some Int); name = (name (codes "f") 4); parameters = replicate 9 one_parameter }) ∷ tree.Definition (record { result = (Some Int); name = (name (codes "main") 47); parameters = [] }) tree.end ∷ []) ≡ broken TooMany 4
 nine_parameters = refl
 
 -- int f(int,int,int,int,int,int,int,int);int main(void){}
-eight_parameters : excesses (tree.Declaration (record { result = (Some Int); name = (name (codes "f") 4); parameters = (record { scalar = Int; name = None } ∷ record { scalar = Int; name = None } ∷ record { scalar = Int; name = None } ∷ record { scalar = Int; name = None } ∷ record { scalar = Int; name = None } ∷ record { scalar = Int; name = None } ∷ record { scalar = Int; name = None } ∷ record { scalar = Int; name = None } ∷ []) }) ∷ tree.Definition (record { result = (Some Int); name = (name (codes "main") 43); parameters = [] }) tree.end ∷ []) ≡ []
+eight_parameters : excesses (tree.Declaration (record { result = (Some Int); name = (name (codes "f") 4); parameters = replicate 8 one_parameter }) ∷ tree.Definition (record { result = (Some Int); name = (name (codes "main") 43); parameters = [] }) tree.end ∷ []) ≡ []
 eight_parameters = refl
 
 -- int a[65536];int main(void){}

@@ -24,11 +24,11 @@ returns-in_ok-declare_in_file-in-Array-clause-found c =
     let these = c.as_slice-values.result.now in
     let values = constant_trees these in
     let is : object_tree c.args.tree.now ≡ Array x n values = ap object_tree c.in-Array.is ∙ ap (λ l. Array x n (constant_trees l)) (sym c.as_slice-values.ensures.value) in
-    let again : c.is_some-in-Array.result ≡ is_declared (in_scope v) x.text =
-    c.is_some-in-Array.ensures ∙ is_some-entity c.find-in-Array.result ∙ ap is_some c.find-in-Array.ensures ∙ ap (is_declared (in_scope v)) c.as_slice-bytes-in-Array.ensures.value in
+    let again : c.is_some.result ≡ is_declared (in_scope v) x.text =
+    c.is_some.ensures ∙ is_some-entity c.find.result ∙ ap is_some c.find.ensures ∙ ap (is_declared (in_scope v)) c.as_slice-bytes-in-Array.ensures.value in
     let bad : c.is_bad_length-wrong.result ≡ is_bad_length (array_length n values) (length values) =
     c.is_bad_length-wrong.ensures ∙ ap (λ k. is_bad_length k (length these)) c.array_length.ensures ∙ ap (is_bad_length (array_length n values)) (length-trees these) in
     array-found v c.declare_in_file-in-Array.new.self c.args.scalar c.args.findings.now c.note_if-in-Array.new.self c.optional_constant-in-Array.new.findings c.note_if-in-Array-2.new.self c.constants.new.findings
-    x n values (object_tree c.args.tree.now) c.is_some-in-Array.result c.is_bad_length-wrong.result c.requires is again bad
-    (c.in_ok-declare_in_file-in-Array.ensures ∙ ap (λ y. file_level (with_declared y (Elements c.args.scalar) (file_of v)).bindings) c.as_slice-bytes-in-Array.ensures.value)
+    x n values (object_tree c.args.tree.now) c.is_some.result c.is_bad_length-wrong.result c.requires is again bad
+    (c.in_ok-declare_in_file-in-Array.ensures.scope ∙ ap (λ y. file_level (with_declared y (Elements c.args.scalar) (file_of v)).bindings) c.as_slice-bytes-in-Array.ensures.value)
     c.note_if-in-Array.ensures c.optional_constant-in-Array.ensures c.note_if-in-Array-2.ensures c.constants.ensures

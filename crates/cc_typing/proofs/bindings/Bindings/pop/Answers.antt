@@ -12,4 +12,4 @@ invariant_of-self-in-Some-hidden c =
 pub invariant_of-self-in-None : goal.invariant_of-self-in-None
 invariant_of-self-in-None c =
     let table = subst (λ l. IsTable l c.self.inside.names) (c.in-Some.ensures.items) c.self.invariant in
-    IsTable-popped _ _ _ _ table _ _ refl c.in-None.is c.swap_remove.ensures.updates
+    IsTable-popped _ _ _ _ table _ _ refl c.in-None.is c.remove.ensures.updates

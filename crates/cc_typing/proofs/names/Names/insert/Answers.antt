@@ -7,5 +7,5 @@ use Rattle.cc_typing.proofs.names.Names.insert.Goals as goal
 
 pub returns : goal.returns
 returns c = λ x.
-    has_name-inserted c.self.inside.names.keys c.insert.new.self.keys c.args.name c.in_ok-insert.ensures.updates.0 x
+    has_name-inserted c.self.inside.names c.insert.new.self c.args.name c.in_ok-insert.ensures.updates x
     ∙ ap (λ v. same_name c.args.name.now x || has_name v x) c.self.view_is
