@@ -1,4 +1,5 @@
-//! Globals and stack as two lists of words, reached by byte address with one comparison each.
+//! Globals and stack as two lists of words, reached by byte address with one comparison each: the stack first, since most
+//! loads and stores go there.
 
 ghost use Rattle.std.specs.Prelude.{◌≡◌, ◌+◌, ◌*◌, ◌<◌, ◌⊎◌, length};
 ghost use Rattle.cc_rv32.specs.Machine.{with_part};
@@ -23,13 +24,13 @@ fn word(globals: &[u32], stack: &[u32], address: u32) -> Option<u32>
     requires stack { length stack.now ≡ 524288 }
     ensures { result ≡ word_in globals.now stack.now address }
 {
-    let index = (address.wrapping_sub(GLOBALS_FROM) >> 2) as usize;
-    if index < GLOBALS_WORDS {
-        return Some(globals[index]);
-    }
     let index = (address.wrapping_sub(STACK_FROM) >> 2) as usize;
     if index < STACK_WORDS {
         return Some(stack[index]);
+    }
+    let index = (address.wrapping_sub(GLOBALS_FROM) >> 2) as usize;
+    if index < GLOBALS_WORDS {
+        return Some(globals[index]);
     }
     None
 }
@@ -80,14 +81,14 @@ fn set_word(globals: &mut [u32], stack: &mut [u32], address: u32, word: u32, at:
     requires at { at < 131072 }
     ensures { (result, globals.new, stack.new) ≡ stored_flat at (with_word_in globals.old stack.old address word) globals.old stack.old }
 {
-    let index = (address.wrapping_sub(GLOBALS_FROM) >> 2) as usize;
-    if index < GLOBALS_WORDS {
-        globals[index] = word;
-        return Next::At(at + 1);
-    }
     let index = (address.wrapping_sub(STACK_FROM) >> 2) as usize;
     if index < STACK_WORDS {
         stack[index] = word;
+        return Next::At(at + 1);
+    }
+    let index = (address.wrapping_sub(GLOBALS_FROM) >> 2) as usize;
+    if index < GLOBALS_WORDS {
+        globals[index] = word;
         return Next::At(at + 1);
     }
     Next::Trap
