@@ -1,5 +1,5 @@
 -- From tables by places to what the layout asks of labels: where chains end, and an order that holds all that is reached.
-use Rattle.std.proofs.Common.{◌≡◌, ℕ, zero, suc, ◌+◌, ◌<◌, ◌≤◌, Bool, true, false, cond, ◌&&◌, List, [], ◌∷◌, length, map, get_or, refl, sym, ap, ◌∙◌, subst, ◌⊎◌, inl, inr, arith, Option, Some, None, ◌==◌, All}
+use Rattle.std.proofs.Common.{◌≡◌, ℕ, zero, suc, ◌+◌, ◌<◌, ◌≤◌, Bool, true, false, cond, ◌&&◌, List, [], ◌∷◌, length, get_or, refl, sym, ap, ◌∙◌, subst, ◌⊎◌, inl, inr, arith, Some, None, ◌==◌, All}
 use Rattle.std.specs.List.{AllPairs, Contains}
 use Rattle.std.proofs.lemmas.Bool.Decides.{nat_tests, eqb_tells}
 use Rattle.std.proofs.lemmas.List.Sorted.{searched}
@@ -16,7 +16,7 @@ use Rattle.cc_ltl.specs.Ltl.{Ltl, IsBelowFirst, Ascend, block_at}
 use Rattle.cc_linear.specs.internal.Lays.{next, Nearer, Passes, IsPassed}
 use Rattle.cc_linear.specs.internal.Layout.{has_none, is_nop, is_empty, HasSuccessors, IsOrder, AreEnds}
 use Rattle.cc_linear.specs.internal.Ends.{HasEndsBy}
-use Rattle.cc_linear.specs.internal.Reached.{Ways, Leaves, One, Two, HasWays, IsClosed}
+use Rattle.cc_linear.specs.internal.Reached.{Leaves, HasWays, IsClosed}
 use Rattle.cc_linear.specs.internal.Places.{AreLabels, LeadsIn, AllLeadIn, labels_of, place_in, next_place, next_places, end_place, end_in, ways_of, graph_of, labels_at}
 
 -- ---- labels that ascend

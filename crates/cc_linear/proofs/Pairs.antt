@@ -1,5 +1,5 @@
 -- What a pair of Linear keeps comes of the pair of LTL and an order of its blocks.
-use Rattle.std.proofs.Common.{◌≡◌, ℕ, zero, suc, ◌<◌, List, [], ◌∷◌, length, refl, sym, ap, ◌∙◌, subst, Contains, ◌≢◌, arith}
+use Rattle.std.proofs.Common.{◌≡◌, ℕ, suc, ◌<◌, List, [], ◌∷◌, length, refl, sym, ap, ◌∙◌, subst, Contains, ◌≢◌, arith}
 use Rattle.std.specs.Prelude.{Bool, true, false, if◌then◌else◌, ◌==◌, Option, Some, None}
 use Rattle.std.specs.List.{AllByRecursion, AllPairs}
 use Rattle.cc_syntax.specs.Tree.{External}

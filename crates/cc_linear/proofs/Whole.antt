@@ -1,5 +1,5 @@
 -- From a function's blocks to its list: the tables by places are what each step asks for, and the whole is made of the function.
-use Rattle.std.proofs.Common.{◌≡◌, ℕ, zero, suc, ◌+◌, ◌<◌, ◌≤◌, Bool, true, false, cond, ◌&&◌, List, [], ◌∷◌, length, map, get_or, refl, sym, ap, ◌∙◌, subst, arith, Option, Some, None, IsSome, All, Contains}
+use Rattle.std.proofs.Common.{◌≡◌, ℕ, suc, ◌+◌, ◌<◌, ◌≤◌, Bool, true, false, cond, ◌&&◌, List, [], ◌∷◌, length, get_or, refl, sym, ap, ◌∙◌, subst, arith, Option, Some, None, IsSome, All, Contains}
 use Rattle.std.specs.List.{AllPairs, AllByRecursion}
 use Rattle.std.proofs.lemmas.List.Elements.{All-from_recursion}
 use Rattle.std.proofs.lemmas.List.{get_or_default}
@@ -15,7 +15,7 @@ use Rattle.cc_linear.specs.Pair.{IsPair}
 use Rattle.cc_linear.specs.internal.Lays.{next}
 use Rattle.cc_linear.specs.internal.Layout.{has_none, is_nop, is_empty, leads, laid, linear_code, AreEnds, IsOrder}
 use Rattle.cc_linear.specs.internal.Ends.{HasEnds, HasEndsBy}
-use Rattle.cc_linear.specs.internal.Reached.{Ways, Leaves, WaysBelow, InGraph, IsClosed}
+use Rattle.cc_linear.specs.internal.Reached.{Ways, WaysBelow, InGraph, IsClosed}
 use Rattle.cc_linear.specs.internal.Places.{AreLabels, LeadsIn, AllLeadIn, labels_of, place_in, next_place, next_places, end_place, end_in, ways_of, graph_of, labels_at}
 use Rattle.cc_linear.specs.internal.Idle.{kept}
 use Rattle.cc_linear.specs.internal.Whole.{IsMadeOf}

@@ -1,5 +1,5 @@
 -- Labels that nothing leads to may be left out: what is done at a label is what the next item does, so the two lists go hand in hand.
-use Rattle.std.proofs.Common.{◌≡◌, ◌≢◌, ℕ, zero, suc, ◌+◌, ◌*◌, ◌<◌, ◌≤◌, Bool, true, false, cond, List, [], ◌∷◌, length, refl, sym, ap, ◌∙◌, subst, ◌⊎◌, inl, inr, arith, Option, Some, None, ◌==◌, Contains, ◌↔◌, get_or, drop, ◌++◌, append_assoc, append-nil}
+use Rattle.std.proofs.Common.{◌≡◌, ◌≢◌, ℕ, zero, suc, ◌+◌, ◌<◌, ◌≤◌, Bool, true, false, cond, List, [], ◌∷◌, length, refl, sym, ap, ◌∙◌, subst, inl, inr, arith, Option, Some, None, ◌==◌, Contains, ◌↔◌, get_or, drop, ◌++◌, append_assoc, append-nil}
 use Rattle.std.specs.List.{AllByRecursion, AllPairs}
 use Rattle.std.proofs.lemmas.Bool.Decides.{eqb_tells}
 use Rattle.std.proofs.lemmas.Bool.{cases_lt}
@@ -21,7 +21,7 @@ use Rattle.cc_ltl.specs.declared.location.Location.TheVariants.{Register}
 use Rattle.cc_ltl.specs.Ltl.{Locations}
 use Rattle.cc_linear.specs.declared.item.Item.{Item}
 use Rattle.cc_linear.specs.declared.item.Item.TheVariants.{Label, Jump, IfNonzero, IfZero, Copy, Const, Unary, Binary, Load, Store, Call, Read, Write, Return}
-use Rattle.cc_linear.specs.Linear.{labels, place, IsItem, IsLinear, Configuration, at_items, does, linear_move, linear_output, linear_start}
+use Rattle.cc_linear.specs.Linear.{labels, place, IsItem, Configuration, at_items, does, linear_move, linear_output, linear_start}
 use Rattle.cc_linear.specs.Targets.{targets, NoneIdle}
 use Rattle.cc_linear.specs.internal.Idle.{IsRising, has, stays, kept}
 

@@ -15,3 +15,6 @@ pub mod Sizes
 pub mod Parameters
 pub mod Making
 pub mod Pairs
+pub mod Places
+pub mod Nops
+pub mod Dropping

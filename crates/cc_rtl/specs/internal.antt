@@ -6,3 +6,5 @@ pub mod Generate
 pub mod Generating
 -- How many registers the variables take.
 pub mod Variables
+-- Each node leads to nodes, said of lists.
+pub mod Leading

@@ -1,15 +1,18 @@
 //! RTL: the code of a function as a graph of labelled nodes over pseudo-registers.
 //!
 //! `node` has the syntax, `rtl` the type of a function, `display` its text, `pair` the type that keeps that a function's RTL does what
-//! the function does. `generate` makes the nodes of a function from its Cminor.
+//! the function does. `generate` makes the nodes of a function from its Cminor; `dead` makes nops of nodes that nobody needs, and
+//! `positions` shows a function as the graph that dataflow takes.
 #![tactic(auto)]
 
+mod dead;
 mod display;
 mod fault;
 mod generate;
 mod laws;
 mod node;
 mod pair;
+mod positions;
 mod rtl;
 mod size;
 mod translate;

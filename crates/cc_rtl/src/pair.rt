@@ -1,10 +1,11 @@
 //! The RTL of one function of a unit, with the fact that its run keeps up with the function.
 
-ghost use Rattle.std.specs.Prelude.{◌≡◌, ◌<◌, length};
+ghost use Rattle.std.specs.Prelude.{◌≡◌, ◌<◌, [], ◌∷◌, length, All, IsSome};
 ghost use Rattle.std.specs.Arc.{arc_value};
 ghost use Rattle.cc_meaning.specs.Meaning.{functions};
 ghost use Rattle.cc_typing.specs.Typed.{IsTyped};
-ghost use Rattle.cc_rtl.specs.Rtl.{IsRtl};
+ghost use Rattle.cc_rtl.specs.Rtl.{IsRtl, node_at};
+ghost use Rattle.cc_rtl.specs.Live.{without, MayGo};
 ghost use Rattle.cc_rtl.specs.Pair.{Pair, tree_of, AreCalls, HasParameters, KeepsUp, FollowsFunction, IsPair};
 
 use crate::rtl::Rtl;
@@ -77,6 +78,25 @@ impl RtlPair {
         ensures follows { FollowsFunction (tree_of self.now) self.now.function self.now.rtl }
     {
         &self.code
+    }
+
+    /// The nodes of these labels become nops: they are pure, and some live sets of the code with the nops hold none of their results
+    /// behind them. Nothing else changes, and it takes no memory.
+    pub fn make_nops(&mut self, labels: &[u32])
+        requires there { All (λ l. IsSome (node_at self.old.rtl.nodes l)) labels.now }
+        requires dead { MayGo labels.now self.old.rtl }
+        ensures { self.new ≡ record self.old { rtl = without labels.now self.old.rtl } }
+    {
+        self.code.make_nops(labels);
+    }
+
+    /// The node of one label becomes a nop, under the same condition.
+    pub fn make_nop(&mut self, label: u32)
+        requires there { IsSome (node_at self.old.rtl.nodes label) }
+        requires dead { MayGo (label ∷ []) self.old.rtl }
+        ensures { self.new ≡ record self.old { rtl = without (label ∷ []) self.old.rtl } }
+    {
+        self.make_nops(&[label]);
     }
 
     /// The unit's owner, for the pair of the next language.

@@ -9,7 +9,7 @@ ghost use Rattle.cc_validate.specs.Fault.{IsRefusal};
 ghost use Rattle.cc_validate.specs.internal.Facts.{IsClean, HoldsParametersAlone};
 
 use crate::beside::apart;
-use crate::code::{Code, graph, position};
+use crate::code::Code;
 use crate::equation::Equation;
 use crate::fault::ValidateFault;
 use crate::pair::LtlPair;
@@ -66,13 +66,13 @@ fn decide(alloc: Global, rtl: &Rtl, ltl: &Ltl) -> Result<(), ValidateFault>
     if let Some(label) = apart(nodes, blocks) {
         return Err(ValidateFault::Unvalidated { label });
     }
-    let graph = graph(alloc, nodes)?;
+    let graph = rtl.graph(alloc)?;
     let code = Code::new(nodes, blocks);
     let least = solve_backward(alloc, &graph, &code)?;
     if let Some(label) = contradicted(nodes, least.as_slice()) {
         return Err(ValidateFault::Unvalidated { label });
     }
-    let entry = &least.as_slice()[position(nodes, rtl.entry())];
+    let entry = &least.as_slice()[rtl.position(rtl.entry())];
     if !parameters_alone(rtl.parameters(), entry) {
         return Err(ValidateFault::Unvalidated { label: rtl.entry() });
     }

@@ -1,5 +1,4 @@
-use Rattle.std.proofs.Common.{◌≡◌, ℕ, subst, sym, arith, ◌↔◌}
-use Rattle.std.specs.List.{Contains}
+use Rattle.std.proofs.Common.{subst, arith}
 use Rattle.std.specs.List.Sorted.{IsPermutation}
 use Rattle.std.proofs.lemmas.List.Sorted.{Contains-permutation, IsPermutation-sym, IsNonDecreasingBy-from_sort}
 use Rattle.cc_linear.specs.Targets.{targets}

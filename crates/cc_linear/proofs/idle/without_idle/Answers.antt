@@ -1,5 +1,4 @@
-use Rattle.std.proofs.Common.{◌≡◌, ℕ, subst, sym, ap, ◌∙◌, true, false, arith, ◌↔◌}
-use Rattle.std.specs.List.{Contains}
+use Rattle.std.proofs.Common.{◌≡◌, sym, ap, ◌∙◌, true, false}
 use Rattle.cc_linear.specs.Targets.{targets}
 use Rattle.cc_linear.specs.internal.Idle.{stays}
 use Rattle.cc_linear.proofs.WithoutLabels.{kept_more}

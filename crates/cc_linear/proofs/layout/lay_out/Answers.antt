@@ -1,8 +1,8 @@
-use Rattle.std.proofs.Common.{◌≡◌, ℕ, ◌+◌, ◌<◌, length, get_or, drop, subst, sym, ap, ◌∙◌, arith, Some, ◌++◌}
+use Rattle.std.proofs.Common.{◌+◌, length, get_or, drop, subst, sym, ap, ◌∙◌, arith, Some, ◌++◌}
 use Rattle.std.proofs.lemmas.List.{drop_more}
 use Rattle.cc_ltl.specs.declared.block.Block.{Block}
 use Rattle.cc_linear.specs.internal.Layout.{laid}
-use Rattle.cc_linear.specs.internal.Places.{LeadsIn, end_in, labels_at, labels_of, listed}
+use Rattle.cc_linear.specs.internal.Places.{LeadsIn, end_in, labels_at, listed}
 use Rattle.cc_linear.proofs.ByPlace.{labels_long, leads_at, block_there}
 use Rattle.cc_linear.proofs.Rows.{laid_more}
 use Rattle.cc_linear.proofs.layout.lay_out.Goals as goal

@@ -1,5 +1,5 @@
 -- The tables are what each step asks for, and what is made is made of the function.
-use Rattle.std.proofs.Common.{◌≡◌, ℕ, ap, sym, subst, ◌∙◌}
+use Rattle.std.proofs.Common.{◌≡◌, ap, sym, subst, ◌∙◌}
 use Rattle.std.proofs.lemmas.Result.{IfOk-weaker}
 use Rattle.cc_linear.specs.internal.Ends.{HasEnds}
 use Rattle.cc_linear.specs.internal.Layout.{leads, laid}

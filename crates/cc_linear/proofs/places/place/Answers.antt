@@ -1,5 +1,4 @@
 -- A label that is there is found.
-use Rattle.std.proofs.Common.{◌≡◌}
 use Rattle.cc_linear.proofs.ByPlace.{not_missing}
 use Rattle.cc_linear.proofs.places.place.Goals as goal
 

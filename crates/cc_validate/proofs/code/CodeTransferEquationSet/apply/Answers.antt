@@ -5,7 +5,8 @@ use Rattle.cc_rtl.specs.Code.{node_of, labelled_of}
 use Rattle.cc_validate.specs.Equations.{Agrees}
 use Rattle.cc_validate.specs.internal.Facts.{Below, nothing, through}
 use Rattle.cc_validate.specs.internal.Positions.{carries, Sides}
-use Rattle.cc_validate.proofs.Places.{labelled, length_labelled, get_labelled, beside_length, beside_at, carries_at, carries_past, least_same}
+use Rattle.cc_rtl.proofs.Places.{labelled, length_labelled, get_labelled}
+use Rattle.cc_validate.proofs.Places.{beside_length, beside_at, carries_at, carries_past, least_same}
 use Rattle.cc_validate.proofs.code.CodeTransferEquationSet.apply.Goals as goal
 
 pub returns-then-node-self : goal.returns-then-node-self

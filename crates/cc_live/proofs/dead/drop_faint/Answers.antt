@@ -1,0 +1,30 @@
+-- By the least strongly live sets what is dropped is all that nobody needs.
+use Rattle.std.proofs.Common.{◌≡◌, true, ap, sym, subst, List, ℕ}
+use Rattle.cc_rtl.specs.Rtl.{Rtl}
+use Rattle.cc_rtl.specs.Pair.{Pair}
+use Rattle.cc_live.specs.Rows.{rows_at}
+use Rattle.cc_live.specs.internal.Facts.{AreLeastAs}
+use Rattle.cc_live.proofs.Solved.{strongly}
+use Rattle.cc_live.proofs.Dropped.{is_without_faint, nothing_dead}
+use Rattle.cc_live.proofs.dead.drop_faint.Goals as goal
+
+-- the sets as `drop_by` takes them
+least : (rtl code : Rtl) (rows solved : List (List ℕ)) → code ≡ rtl → rows ≡ solved → AreLeastAs true code.nodes (rows_at code.nodes solved) → AreLeastAs true rtl.nodes (rows_at rtl.nodes rows)
+least rtl code rows solved e f h =
+    subst (λ (rows : List (List ℕ)). AreLeastAs true rtl.nodes (rows_at rtl.nodes rows)) (sym f) (subst (λ (r : Rtl). AreLeastAs true r.nodes (rows_at r.nodes solved)) e h)
+
+pub drop_by-requires : goal.drop_by-requires
+drop_by-requires c =
+    let nodes = c.args.pair.now.rtl.nodes in
+    strongly nodes (rows_at nodes c.as_slice.result.now)
+    (least c.args.pair.now.rtl c.code.result.now c.as_slice.result.now c.in_ok-live.live.items c.code.ensures.code c.as_slice.ensures.value c.in_ok-live.ensures.least).are_live
+
+pub returns-clause-without : goal.returns-clause-without
+returns-clause-without c =
+    let nodes = c.args.pair.now.rtl.nodes in
+    is_without_faint c.args.pair.now.rtl c.drop_by.new.pair.rtl (rows_at nodes c.as_slice.result.now)
+    (least c.args.pair.now.rtl c.code.result.now c.as_slice.result.now c.in_ok-live.live.items c.code.ensures.code c.as_slice.ensures.value c.in_ok-live.ensures.least)
+    (ap (λ (p : Pair). p.rtl) c.in_ok-drop_by.ensures.dropped)
+
+pub returns-clause-nothing_dead : goal.returns-clause-nothing_dead
+returns-clause-nothing_dead c = nothing_dead c.args.pair.now.rtl c.drop_by.new.pair.rtl (returns-clause-without c)

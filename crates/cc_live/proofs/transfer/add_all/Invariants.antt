@@ -1,0 +1,8 @@
+-- The registers before are in.
+use Rattle.std.proofs.Common.{◌≡◌, ◌||◌, ℕ, take}
+use Rattle.cc_rtl.specs.Live.{among}
+use Rattle.cc_live.specs.Rows.{holds}
+use Rattle.cc_live.proofs.transfer.add_all.Given as goal
+
+abbrev pub invariant-loop-register : goal.invariant-loop-register
+invariant-loop-register l = (r : ℕ) → holds l.front r ≡ (among (take l.register-index l.registers) r || holds l.initial.front r)

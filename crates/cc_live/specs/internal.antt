@@ -1,0 +1,10 @@
+-- Rows as facts, and what a node makes of one.
+pub mod Facts
+-- What a row holds.
+pub mod Holding
+-- The laws of rows, as lemmas.
+pub mod Laws
+-- How often a row can still rise.
+pub mod Room
+-- The labels of dead nodes.
+pub mod Dead

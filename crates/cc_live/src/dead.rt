@@ -1,0 +1,90 @@
+//! A function without its dead nodes.
+
+ghost use Rattle.std.specs.Prelude.{◌≡◌, [], get_or, All, IsSome, IfOk, IfErr};
+ghost use Rattle.cc_rtl.specs.Rtl.{node_at, successors};
+ghost use Rattle.cc_rtl.specs.Code.{node_of};
+ghost use Rattle.cc_rtl.specs.Live.{AreLive, is_dead as is_dead_by};
+ghost use Rattle.cc_live.specs.Rows.{holds, rows_at};
+ghost use Rattle.cc_live.specs.Liveness.{AreStronglyLive, without_dead, IsWithoutFaint, NothingIsDead};
+ghost use Rattle.cc_live.specs.internal.Dead.{dead_labels as dead_labels_of};
+
+use crate::set::{Liveness, RegisterSet};
+use crate::transfer::solve;
+use cc_rtl::{Node, Rtl, RtlPair};
+use std::alloc::{AllocError, Global};
+
+/// Makes nops of the pure nodes whose result none of their successors' sets hold, whatever live sets of the code are handed in. All else
+/// of the pair stays, and its run still keeps up with the function. What these nodes read may then be live no more: `drop_faint` goes on
+/// to the end. Without memory the pair stays as it was.
+pub fn drop_dead(alloc: Global, pair: &mut RtlPair, live: &Liveness) -> Result<(), AllocError>
+    requires { AreLive pair.old.rtl.nodes (rows_at pair.old.rtl.nodes live.now) }
+    ensures dropped { IfOk result (λ _. pair.new ≡ record pair.old { rtl = without_dead (rows_at pair.old.rtl.nodes live.now) pair.old.rtl }) }
+    ensures leaves { IfErr result (λ _. pair.new ≡ pair.old) }
+{
+    drop_by(alloc, pair, live.as_slice())?;
+    Ok(())
+}
+
+/// Makes nops of all nodes that nobody needs: pure ones whose result only such nodes read, if any. All else of the pair stays, and its
+/// run still keeps up with the function. Afterwards no node is dead. Without memory the pair stays as it was.
+pub fn drop_faint(alloc: Global, pair: &mut RtlPair) -> Result<(), AllocError>
+    ensures unit { pair.new.unit ≡ pair.old.unit }
+    ensures function { pair.new.function ≡ pair.old.function }
+    ensures without { IfOk result (λ _. IsWithoutFaint pair.old.rtl pair.new.rtl) }
+    ensures nothing_dead { IfOk result (λ _. NothingIsDead pair.new.rtl) }
+    ensures leaves { IfErr result (λ _. pair.new ≡ pair.old) }
+{
+    let live = solve(alloc, pair.code(), true)?;
+    drop_by(alloc, pair, live.as_slice())?;
+    Ok(())
+}
+
+/// Makes nops of the nodes that are dead by strongly live sets, as any live sets are.
+fn drop_by(alloc: Global, pair: &mut RtlPair, live: &[RegisterSet]) -> Result<(), AllocError>
+    requires { AreStronglyLive pair.old.rtl.nodes (rows_at pair.old.rtl.nodes live.now) }
+    ensures dropped { IfOk result (λ _. pair.new ≡ record pair.old { rtl = without_dead (rows_at pair.old.rtl.nodes live.now) pair.old.rtl }) }
+    ensures leaves { IfErr result (λ _. pair.new ≡ pair.old) }
+{
+    let labels = dead_labels(alloc, pair.code(), live)?;
+    pair.make_nops(labels.as_slice());
+    Ok(())
+}
+
+/// The labels of the nodes that are dead by these sets.
+fn dead_labels(alloc: Global, rtl: &Rtl, live: &[RegisterSet]) -> Result<Vec<u32>, AllocError>
+    ensures { IfOk result (λ labels. labels.items ≡ dead_labels_of (rows_at rtl.now.nodes live.now) rtl.now.nodes) }
+{
+    let nodes = rtl.nodes();
+    let mut labels = Vec::new(alloc);
+    for labelled in nodes {
+        if is_dead(rtl, live, &labelled.node) {
+            labels.push(labelled.label)?;
+        }
+    }
+    Ok(labels)
+}
+
+/// Whether a node is pure, and its result is in no successor's set.
+fn is_dead(rtl: &Rtl, live: &[RegisterSet], node: &Node) -> bool
+    requires { All (λ s. IsSome (node_at rtl.now.nodes s)) (successors (node_of node.now)) }
+    ensures { result ≡ is_dead_by (rows_at rtl.now.nodes live.now) (node_of node.now) }
+{
+    match node {
+        Node::Const { to, next, .. }
+        | Node::Move { to, next, .. }
+        | Node::Unary { to, next, .. }
+        | Node::Binary { to, next, .. }
+        | Node::Load { to, next, .. } => !holds_at(live, rtl.position(*next), *to),
+        _ => false,
+    }
+}
+
+/// Whether the set of a position holds a register.
+fn holds_at(live: &[RegisterSet], position: usize, register: u32) -> bool
+    ensures { result ≡ holds (get_or live.now position []) register }
+{
+    match live.get(position) {
+        Some(set) => set.contains(register),
+        None => false,
+    }
+}

@@ -1,0 +1,144 @@
+//! What a node makes of the registers that are live behind it, and what the solver makes of that.
+
+ghost use Rattle.std.specs.Prelude.{◌≡◌, ℕ, ◌||◌, ◌&&◌, ◌↔◌, not, length, IsTrue, IfOk};
+ghost use Rattle.cc_rtl.specs.Code.{node_of};
+ghost use Rattle.cc_rtl.specs.Live.{reads, result as result_of, pure_result as pure_result_of, among};
+ghost use Rattle.cc_live.specs.Rows.{holds, rows_at};
+ghost use Rattle.cc_live.specs.internal.Facts.{in_front as made_in_front, is_unread, is_result, carries, AreLeastAs};
+ghost use Rattle.cc_live.specs.internal.Laws.{carries_up};
+
+use crate::set::RegisterSet;
+use cc_flow::{Facts, Transfer, solve_backward};
+use cc_rtl::{Node, Rtl};
+use std::alloc::{AllocError, Global};
+
+/// The nodes of a function, of which dead ones need nothing where that is asked (`strong`).
+#[derive(Drop)]
+pub struct Code<'a> {
+    pub rtl: &'a Rtl,
+    pub strong: bool,
+}
+
+impl<'a> Transfer<RegisterSet> for Code<'a> {
+    ghost carries = { λ c. carries c.strong c.rtl.now.nodes };
+
+    fn apply(
+        &self,
+        alloc: Global,
+        node: usize,
+        facts: &RegisterSet,
+    ) -> Result<RegisterSet, AllocError> {
+        let nodes = self.rtl.nodes();
+        if node >= nodes.len() {
+            return RegisterSet::least(alloc);
+        }
+        in_front(alloc, self.strong, &nodes[node].node, facts)
+    }
+
+    ghost monotone = { λ c. carries_up c.strong c.rtl.now.nodes };
+}
+
+/// What is live in front of a node, of what is live behind it.
+fn in_front(
+    alloc: Global,
+    strong: bool,
+    node: &Node,
+    behind: &RegisterSet,
+) -> Result<RegisterSet, AllocError>
+    ensures { IfOk result (λ front. (r : ℕ) → IsTrue (holds front r) ↔ IsTrue (holds (made_in_front strong (node_of node.now) behind.now) r)) }
+{
+    let mut front = behind.copy(alloc)?;
+    if is_left_out(strong, node, behind) {
+        return Ok(front);
+    }
+    drop_result(&mut front, node);
+    add_reads(&mut front, node)?;
+    Ok(front)
+}
+
+/// Takes out the register that gets a node's result.
+fn drop_result(front: &mut RegisterSet, node: &Node)
+    ensures { (r : ℕ) → holds front.new r ≡ (holds front.old r && not (is_result (result_of (node_of node.now)) r)) }
+{
+    if let Some(to) = result(node) {
+        front.remove(to);
+    }
+}
+
+/// Whether a node needs nothing of what it reads: where that is asked, a pure one whose result is not live behind it.
+fn is_left_out(strong: bool, node: &Node, behind: &RegisterSet) -> bool
+    ensures { result ≡ (strong && is_unread behind.now (pure_result_of (node_of node.now))) }
+{
+    if !strong {
+        return false;
+    }
+    match pure_result(node) {
+        Some(to) => !behind.contains(to),
+        None => false,
+    }
+}
+
+/// The register of a pure node, which does nothing but put a word into it.
+fn pure_result(node: &Node) -> Option<u32>
+    ensures { result ≡ pure_result_of (node_of node.now) }
+{
+    match node {
+        Node::Const { to, .. }
+        | Node::Move { to, .. }
+        | Node::Unary { to, .. }
+        | Node::Binary { to, .. }
+        | Node::Load { to, .. } => Some(*to),
+        _ => None,
+    }
+}
+
+/// The register that gets a node's result.
+fn result(node: &Node) -> Option<u32>
+    ensures { result ≡ result_of (node_of node.now) }
+{
+    match node {
+        Node::Call { to, .. } => *to,
+        Node::Read { to, .. } => Some(*to),
+        _ => pure_result(node),
+    }
+}
+
+/// Puts in what a node reads.
+fn add_reads(front: &mut RegisterSet, node: &Node) -> Result<(), AllocError>
+    ensures { IfOk result (λ _. (r : ℕ) → holds front.new r ≡ (among (reads (node_of node.now)) r || holds front.old r)) }
+{
+    match node {
+        Node::Nop { .. } | Node::Const { .. } | Node::Read { .. } => Ok(()),
+        Node::Move { from, .. }
+        | Node::Unary { from, .. }
+        | Node::Load { index: from, .. }
+        | Node::Write { from, .. }
+        | Node::Branch { from, .. }
+        | Node::Return { from } => add_all(front, &[*from]),
+        Node::Binary { left, right, .. } => add_all(front, &[*left, *right]),
+        Node::Store { index, from, .. } => add_all(front, &[*index, *from]),
+        Node::Call { arguments, .. } => add_all(front, arguments.as_slice()),
+    }
+}
+
+/// Puts some registers in.
+fn add_all(front: &mut RegisterSet, registers: &[u32]) -> Result<(), AllocError>
+    ensures { IfOk result (λ _. (r : ℕ) → holds front.new r ≡ (among registers.now r || holds front.old r)) }
+{
+    for register in registers {
+        front.insert(*register)?;
+    }
+    Ok(())
+}
+
+/// The least live sets of a function, one for each node; strongly live ones where that is asked.
+pub fn solve(alloc: Global, rtl: &Rtl, strong: bool) -> Result<Vec<RegisterSet>, AllocError>
+    ensures long { IfOk result (λ sets. length sets.items ≡ length rtl.now.nodes) }
+    ensures least { IfOk result (λ sets. AreLeastAs strong rtl.now.nodes (rows_at rtl.now.nodes sets.items)) }
+{
+    let _nodes = rtl.nodes();
+    let graph = rtl.graph(alloc)?;
+    let code = Code { rtl, strong };
+    let least = solve_backward(alloc, &graph, &code)?;
+    Ok(least.into_vec())
+}

@@ -1,0 +1,9 @@
+-- The nodes of so many labels are nops.
+use Rattle.std.proofs.Common.{◌≡◌, take}
+use Rattle.cc_rtl.specs.Code.{labelled_of}
+use Rattle.cc_rtl.specs.Live.{with_nops}
+use Rattle.cc_rtl.proofs.Nops.{these}
+use Rattle.cc_rtl.proofs.dead.make_all_nops.Given as goal
+
+abbrev pub invariant-loop-label : goal.invariant-loop-label
+invariant-loop-label l = labelled_of l.nodes.items ≡ with_nops (these (take l.label-index l.labels)) (labelled_of l.initial.nodes.items)

@@ -1,8 +1,0 @@
--- So many rows are made.
-use Rattle.cc_rtl.specs.Code.{labelled_of}
-use Rattle.cc_validate.specs.internal.Positions.{graph_of}
-use Rattle.cc_validate.proofs.Places.{Rows}
-use Rattle.cc_validate.proofs.code.graph.Given as goal
-
-abbrev pub invariant-loop-at : goal.invariant-loop-at
-invariant-loop-at l = Rows (graph_of (labelled_of l.nodes)) l.graph l.at

@@ -1,0 +1,157 @@
+// A text's functions as RTL, their live sets as a text, and what is left of them.
+
+use cc_cminor::to_cminor;
+use cc_live::{Liveness, RegisterSet, drop_dead, drop_faint, liveness};
+use cc_rtl::{Node, RtlFault, RtlPair, to_rtl};
+use cc_syntax::parse;
+use cc_typing::{TypedUnit, check};
+use std::alloc::{AllocError, Global};
+use std::fmt::Write;
+use std::sync::Arc;
+use std::test::Fail;
+
+/// What is asked of a function.
+#[derive(Clone, Copy, PartialEq)]
+pub enum Asked {
+    /// Its live sets.
+    Sets,
+    /// Its text.
+    Text,
+    /// Its text without dead nodes.
+    WithoutDead,
+    /// Its text without faint nodes.
+    WithoutFaint,
+}
+
+fn shared_unit(alloc: Global, text: &[u8]) -> Result<Arc<TypedUnit>, Fail> {
+    let unit = parse(alloc, text)?;
+    let typed = check(alloc, unit)?;
+    Ok(Arc::new(alloc, typed)?)
+}
+
+// The RTL of the function with this number, or why there is none: 40 where there is not even Cminor.
+fn rtl_of(alloc: Global, unit: &Arc<TypedUnit>, function: usize) -> Result<RtlPair, RtlFault> {
+    if function >= unit.functions() {
+        return Err(RtlFault::OutOfMemory);
+    }
+    match to_cminor(alloc, unit, function) {
+        Ok(pair) => to_rtl(alloc, pair),
+        Err(_) => Err(RtlFault::OutOfMemory),
+    }
+}
+
+// The registers of a set below 256, in order.
+fn write_set(text: &mut String, set: &RegisterSet) -> Result<(), AllocError> {
+    for register in 0..256u32 {
+        if set.contains(register) {
+            write!(text, " r{register}")?;
+        }
+    }
+    Ok(())
+}
+
+// The sets of a function, one line for each node.
+fn written_sets(alloc: Global, pair: &RtlPair, live: &Liveness) -> Result<String, AllocError> {
+    let mut text = String::new(alloc);
+    let nodes = pair.code().nodes();
+    for (at, set) in live.as_slice().iter().enumerate() {
+        if let Some(labelled) = nodes.get(at) {
+            write!(text, "{}:", labelled.label)?;
+        }
+        write_set(&mut text, set)?;
+        text.push('\n')?;
+    }
+    Ok(text)
+}
+
+fn answer(alloc: Global, pair: &mut RtlPair, asked: Asked) -> Result<String, AllocError> {
+    match asked {
+        Asked::Sets => {
+            let live = liveness(alloc, pair.code())?;
+            written_sets(alloc, pair, &live)
+        }
+        Asked::Text => pair.code().to_string(alloc),
+        Asked::WithoutDead => {
+            let live = liveness(alloc, pair.code())?;
+            drop_dead(alloc, pair, &live)?;
+            pair.code().to_string(alloc)
+        }
+        Asked::WithoutFaint => {
+            drop_faint(alloc, pair)?;
+            pair.code().to_string(alloc)
+        }
+    }
+}
+
+/// What is asked of one function of a text; nothing where it has no RTL.
+pub fn asked_of(
+    alloc: Global,
+    text: &[u8],
+    function: usize,
+    asked: Asked,
+) -> Result<Option<String>, Fail> {
+    let unit = shared_unit(alloc, text)?;
+    let shown = match rtl_of(alloc, &unit, function) {
+        Ok(mut pair) => {
+            let shown = answer(alloc, &mut pair, asked);
+            drop(pair);
+            Some(shown)
+        }
+        Err(_) => None,
+    };
+    drop(unit);
+    match shown {
+        Some(Ok(text)) => Ok(Some(text)),
+        Some(Err(fault)) => Err(Fail::from(fault)),
+        None => Ok(None),
+    }
+}
+
+/// How many nodes of a function are no nops: of all, of those that are left without dead ones, and without faint ones.
+#[derive(Clone, Copy)]
+pub struct Left {
+    pub all: usize,
+    pub live: usize,
+    pub strongly_live: usize,
+}
+
+fn nodes_left(pair: &RtlPair) -> usize {
+    pair.code()
+        .nodes()
+        .iter()
+        .filter(|labelled| !matches!(labelled.node, Node::Nop { .. }))
+        .count()
+}
+
+fn count_left(alloc: Global, pair: &mut RtlPair) -> Result<Left, AllocError> {
+    let all = nodes_left(pair);
+    let live = liveness(alloc, pair.code())?;
+    drop_dead(alloc, pair, &live)?;
+    let live = nodes_left(pair);
+    drop_faint(alloc, pair)?;
+    let strongly_live = nodes_left(pair);
+    Ok(Left {
+        all,
+        live,
+        strongly_live,
+    })
+}
+
+/// How many nodes of one function of a text are left; nothing where it has no RTL.
+pub fn left_of(alloc: Global, text: &[u8], function: usize) -> Result<Option<Left>, Fail> {
+    let unit = shared_unit(alloc, text)?;
+    let left = match rtl_of(alloc, &unit, function) {
+        Ok(mut pair) => {
+            let left = count_left(alloc, &mut pair);
+            drop(pair);
+            Some(left)
+        }
+        Err(_) => None,
+    };
+    drop(unit);
+    match left {
+        Some(Ok(left)) => Ok(Some(left)),
+        Some(Err(fault)) => Err(Fail::from(fault)),
+        None => Ok(None),
+    }
+}

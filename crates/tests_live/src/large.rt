@@ -1,0 +1,73 @@
+// Functions of some 4,000 nodes over 200 variables that are live around a loop, in a test's time.
+
+use super::helpers::{Left, left_of};
+use std::alloc::{AllocError, Global};
+use std::fmt::Write;
+use std::test::Fail;
+
+// A function that reads 200 variables and then, in a loop, moves each to the one before so many times, and returns one value.
+fn rotating(alloc: Global, times: usize, value: &str) -> Result<String, AllocError> {
+    let mut text = String::new(alloc);
+    text.push_str("int main(void){")?;
+    for variable in 0..200u32 {
+        write!(text, "int v{variable}=read_word();")?;
+    }
+    text.push_str("while(read_word()){")?;
+    for _ in 0..times {
+        for variable in 0..199u32 {
+            write!(text, "v{}=v{};", variable, variable + 1)?;
+        }
+        text.push_str("v199=v0;")?;
+    }
+    write!(text, "}}return {value};}}")?;
+    Ok(text)
+}
+
+/// How often the variables move, which value is returned, and how many nodes are no nops: at first, without dead ones, without faint
+/// ones. A declaration takes a constant, which is dead, a read and a move, the loop a nop, a read and a branch, and a return of a
+/// constant two nodes. Where no variable is returned, what `v0` first gets is read by nobody, since the loop sets it first.
+static ROTATIONS: [(usize, &str, Left); 3] = [
+    (
+        16,
+        "v0",
+        Left {
+            all: 3_805,
+            live: 3_605,
+            strongly_live: 3_605,
+        },
+    ),
+    (
+        16,
+        "0",
+        Left {
+            all: 3_806,
+            live: 3_605,
+            strongly_live: 206,
+        },
+    ),
+    (
+        1,
+        "0",
+        Left {
+            all: 806,
+            live: 605,
+            strongly_live: 206,
+        },
+    ),
+];
+
+#[test]
+fn rotations(rt: HostRuntime) -> Result<(), Fail> {
+    for (times, value, left) in ROTATIONS.iter() {
+        let text = rotating(rt.alloc(), *times, value)?;
+        match left_of(rt.alloc(), text.as_bytes(), 0)? {
+            Some(shown) => {
+                assert_eq!(rt; shown.all, left.all, "{times} {value}");
+                assert_eq!(rt; shown.live, left.live, "{times} {value}");
+                assert_eq!(rt; shown.strongly_live, left.strongly_live, "{times} {value}");
+            }
+            None => assert!(rt; false, "{times} {value}"),
+        }
+    }
+    Ok(())
+}
