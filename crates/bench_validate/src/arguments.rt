@@ -5,9 +5,9 @@ use std::env::Args;
 
 /// The next argument, or an error where there is none.
 pub fn next_argument(arguments: &mut Args) -> Result<String> {
-    arguments
-        .next()
-        .context("usage: bench_validate rtl|spill|validate FILE TIMES")
+    arguments.next().context(
+        "usage: bench_validate rtl|spill|validate|live|colour|check|refused FILE TIMES",
+    )
 }
 
 /// The next argument as a number.

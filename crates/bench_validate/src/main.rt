@@ -1,8 +1,11 @@
-//! The passes up to the validator, again and again, for bench/validate.sh: `bench_validate TASK FILE TIMES`.
+//! The passes up to the validator, again and again, for bench/validate.sh, bench/colour.sh and bench/refused.py: `bench_validate TASK FILE
+//! TIMES`.
 //!
 //! FILE is a text of C; its first function is taken. The text is read and checked once. `rtl` makes the function's RTL so many times,
-//! `spill` makes LTL of each besides, and `validate` validates that too. It prints how many nodes the RTL has. So what one step costs is
-//! the difference of two tasks. `arguments` reads the command line.
+//! `spill` makes LTL of each besides, with a slot for each value, and `validate` validates that too. `live` drops what nobody needs from the
+//! RTL and takes live sets, `colour` makes LTL by them, and `check` validates that too. It prints how many nodes the RTL has. So what one
+//! step costs is the difference of two tasks. `refused` takes all functions, and prints how many of them have registers that are refused.
+//! `arguments` reads the command line.
 #![tactic(auto)]
 
 mod arguments;
@@ -10,7 +13,9 @@ mod arguments;
 use anyhow::{Result, bail};
 use arguments::{next_argument, next_number};
 use cc_cminor::to_cminor;
-use cc_colour::spill_all;
+use cc_colour::{colour, spill_all};
+use cc_live::{drop_faint, liveness};
+use cc_ltl::Ltl;
 use cc_rtl::{RtlPair, to_rtl};
 use cc_syntax::parse;
 use cc_typing::{TypedUnit, check};
@@ -30,6 +35,10 @@ fn main(rt: HostRuntime) -> Result<()> {
         "rtl" => rtl(rt.alloc(), &unit, times)?,
         "spill" => spill(rt.alloc(), &unit, times)?,
         "validate" => validated(rt.alloc(), &unit, times)?,
+        "live" => live(rt.alloc(), &unit, times)?,
+        "colour" => coloured(rt.alloc(), &unit, times)?,
+        "check" => checked_colours(rt.alloc(), &unit, times)?,
+        "refused" => refused(rt.alloc(), &unit)?,
         _ => bail!("no such task"),
     };
     println!(rt; "{nodes}")?;
@@ -81,16 +90,83 @@ fn validated(alloc: Global, unit: &Arc<TypedUnit>, times: u32) -> Result<usize> 
     for _ in 0..times {
         let pair = first_rtl(alloc, unit)?;
         let ltl = spill_all(alloc, pair.code())?;
-        match validate(alloc, pair, ltl) {
-            Ok(pair) => {
-                nodes = pair.code().blocks().len();
-                drop(pair);
-            }
-            Err(Refused { pair, fault }) => {
-                drop(pair);
-                return Err(fault.into());
-            }
+        nodes = ltl.blocks().len();
+        if !is_accepted(alloc, pair, ltl)? {
+            bail!("refused");
         }
     }
     Ok(nodes)
+}
+
+fn live(alloc: Global, unit: &Arc<TypedUnit>, times: u32) -> Result<usize> {
+    let mut nodes = 0;
+    for _ in 0..times {
+        let mut pair = first_rtl(alloc, unit)?;
+        drop_faint(alloc, &mut pair)?;
+        let live = liveness(alloc, pair.code())?;
+        nodes = live.as_slice().len();
+        drop(live);
+        drop(pair);
+    }
+    Ok(nodes)
+}
+
+fn coloured(alloc: Global, unit: &Arc<TypedUnit>, times: u32) -> Result<usize> {
+    let mut nodes = 0;
+    for _ in 0..times {
+        let mut pair = first_rtl(alloc, unit)?;
+        let ltl = in_registers(alloc, &mut pair)?;
+        nodes = ltl.blocks().len();
+        drop(ltl);
+        drop(pair);
+    }
+    Ok(nodes)
+}
+
+fn checked_colours(alloc: Global, unit: &Arc<TypedUnit>, times: u32) -> Result<usize> {
+    let mut nodes = 0;
+    for _ in 0..times {
+        let mut pair = first_rtl(alloc, unit)?;
+        let ltl = in_registers(alloc, &mut pair)?;
+        nodes = ltl.blocks().len();
+        if !is_accepted(alloc, pair, ltl)? {
+            bail!("refused");
+        }
+    }
+    Ok(nodes)
+}
+
+// LTL by registers, once what nobody needs is dropped.
+fn in_registers(alloc: Global, pair: &mut RtlPair) -> Result<Ltl> {
+    drop_faint(alloc, pair)?;
+    let live = liveness(alloc, pair.code())?;
+    let ltl = colour(alloc, pair.code(), &live)?;
+    drop(live);
+    Ok(ltl)
+}
+
+fn is_accepted(alloc: Global, pair: RtlPair, ltl: Ltl) -> Result<bool> {
+    match validate(alloc, pair, ltl) {
+        Ok(pair) => {
+            drop(pair);
+            Ok(true)
+        }
+        Err(Refused { pair, .. }) => {
+            drop(pair);
+            Ok(false)
+        }
+    }
+}
+
+// How many functions have registers that are refused.
+fn refused(alloc: Global, unit: &Arc<TypedUnit>) -> Result<usize> {
+    let mut count = 0usize;
+    for function in 0..unit.functions() {
+        let mut pair = to_rtl(alloc, to_cminor(alloc, unit, function)?)?;
+        let ltl = in_registers(alloc, &mut pair)?;
+        if !is_accepted(alloc, pair, ltl)? {
+            count = count.saturating_add(1);
+        }
+    }
+    Ok(count)
 }

@@ -1,0 +1,184 @@
+//! The allocator: webs, their interferences, the order of Chaitin and Briggs, registers by wishes, slots, blocks.
+//!
+//! First all webs are whole. Those for which a slot over the calls is cheaper than a saved register are cut at calls, and so are later
+//! those that calls keep and that got no register. Where a value in a slot has to go through a register and none is free, all is chosen
+//! anew with two registers that no web gets.
+
+use crate::blocks::{Placed, blocks};
+use crate::interference::{Code, Graph, Partner, Web};
+use crate::live::Live;
+use crate::nodes::{Shape, next_places, sole_places, weights};
+use crate::order::colouring_order;
+use crate::places::Places;
+use crate::registers::only;
+use crate::select::{Choice, SAVING};
+use crate::spill::spill_all;
+use crate::webs::{Cuts, Webs};
+use cc_live::Liveness;
+use cc_ltl::{Block, Ltl};
+use cc_rtl::Rtl;
+use std::alloc::{AllocError, Global};
+
+/// How often webs are cut anew.
+const ROUNDS: u32 = 3;
+
+/// LTL for the function, in which pseudo-registers share registers, and have slots only where these don't suffice. Live sets are to be
+/// given; whatever they are, there is an answer. Where something is too large for it, the answer is that of `spill_all`.
+pub fn colour(alloc: Global, rtl: &Rtl, live: &Liveness) -> Result<Ltl, AllocError> {
+    let next = next_places(alloc, rtl)?;
+    let sole = sole_places(alloc, next.as_slice())?;
+    let weights = weights(alloc, next.as_slice())?;
+    let shape = Shape {
+        rtl,
+        live: Live::of(live),
+        next: next.as_slice(),
+        sole: sole.as_slice(),
+        weights: weights.as_slice(),
+    };
+    match coloured(alloc, &shape)? {
+        Some(ltl) => Ok(ltl),
+        None => spill_all(alloc, rtl),
+    }
+}
+
+fn coloured(alloc: Global, shape: &Shape<'_>) -> Result<Option<Ltl>, AllocError> {
+    match Webs::of(alloc, shape, None)? {
+        None => Ok(None),
+        Some(webs) => coloured_whole(alloc, Code { shape, webs: &webs }),
+    }
+}
+
+// The whole webs of a function, with their graph.
+#[derive(Clone, Copy)]
+struct Whole<'a> {
+    code: Code<'a>,
+    graph: &'a Graph,
+}
+
+fn coloured_whole(alloc: Global, code: Code<'_>) -> Result<Option<Ltl>, AllocError> {
+    let graph = Graph::of(alloc, code)?;
+    let whole = Whole {
+        code,
+        graph: &graph,
+    };
+    let mut cut = Vec::new(alloc);
+    for web in &graph.webs {
+        cut.push(is_cheap_to_cut(web))?;
+    }
+    for round in 1..=ROUNDS {
+        let answer = coloured_cut(alloc, whole, cut.as_mut_slice(), round < ROUNDS)?;
+        if let Some(ltl) = answer {
+            return Ok(Some(ltl));
+        }
+    }
+    Ok(None)
+}
+
+// Whether to keep a web over its calls costs less by a slot than by a saved register.
+fn is_cheap_to_cut(web: &Web) -> bool {
+    let mut moves = 0u32;
+    for wish in &web.wishes {
+        if let Partner::Register(_) = wish.partner {
+            moves = moves.saturating_add(wish.weight);
+        }
+    }
+    let by_slot = web.kept.saturating_add(web.kept.min(web.set));
+    web.kept > 0 && by_slot <= moves.saturating_add(SAVING)
+}
+
+// The same with some webs cut. Where more are to be cut, these are marked, and there is no answer; where the pieces are too many, nothing
+// is marked.
+fn coloured_cut(
+    alloc: Global,
+    whole: Whole<'_>,
+    cut: &mut [bool],
+    may_cut: bool,
+) -> Result<Option<Ltl>, AllocError> {
+    let cuts = Cuts {
+        whole: whole.code.webs,
+        cut,
+    };
+    match Webs::of(alloc, whole.code.shape, Some(cuts))? {
+        None => {
+            for is_cut in cut.iter_mut() {
+                *is_cut = false;
+            }
+            Ok(None)
+        }
+        Some(webs) => {
+            let shape = whole.code.shape;
+            let code = Code { shape, webs: &webs };
+            coloured_pieces(alloc, whole, code, cut, may_cut)
+        }
+    }
+}
+
+fn coloured_pieces(
+    alloc: Global,
+    whole: Whole<'_>,
+    code: Code<'_>,
+    cut: &mut [bool],
+    may_cut: bool,
+) -> Result<Option<Ltl>, AllocError> {
+    let graph = Graph::of(alloc, code)?;
+    let origins = code.webs.origins(alloc, whole.code.webs)?;
+    for reserved in [0, only(28) | only(29)] {
+        let order = colouring_order(alloc, &graph, reserved)?;
+        let choice = Choice::of(alloc, &graph, order.as_slice(), reserved)?;
+        if may_cut
+            && cut_more(
+                whole.graph,
+                &choice,
+                order.as_slice(),
+                origins.as_slice(),
+                cut,
+            )
+        {
+            drop(choice);
+            return Ok(None);
+        }
+        let places = Places::of(alloc, code, &graph, whole.graph, choice, origins.as_slice())?;
+        let placed = Placed {
+            code,
+            places: &places,
+        };
+        if let Some(blocks) = blocks(alloc, placed)? {
+            return Ok(function(places.count(), code.shape.rtl.entry(), blocks));
+        }
+    }
+    Ok(None)
+}
+
+// Marks the whole webs that calls keep and of which a piece was to have a register and has none. Whether there is such a one.
+fn cut_more(
+    whole: &Graph,
+    choice: &Choice,
+    order: &[u32],
+    origins: &[u32],
+    cut: &mut [bool],
+) -> bool {
+    let mut any = false;
+    for web in order {
+        if choice.register(*web).is_none()
+            && let Some(origin) = origins.get(*web as usize)
+            && let Some(known) = whole.webs.get(*origin as usize)
+            && let Some(is_cut) = cut.get_mut(*origin as usize)
+            && known.kept > 0
+            && !*is_cut
+        {
+            *is_cut = true;
+            any = true;
+        }
+    }
+    any
+}
+
+fn function(slots: u16, entry: u32, blocks: Vec<Block>) -> Option<Ltl> {
+    match Ltl::new(slots, entry, blocks) {
+        Ok(ltl) => Some(ltl),
+        Err(blocks) => {
+            drop(blocks);
+            None
+        }
+    }
+}

@@ -1,0 +1,490 @@
+//! The blocks of LTL, once each web has its place.
+//!
+//! An operand in a register is taken where it is, and a result put where it belongs. One in a slot goes through a register that holds
+//! nothing else there. What a call, a read, a write or a return takes and gives is moved all at once, and so are the parameters.
+
+use crate::interference::Code;
+use crate::nodes::{beside_constant, operands, result};
+use crate::parallel::{Transfer, in_parallel, push_move};
+use crate::places::Places;
+use crate::registers::{
+    DESTROYED, Place, RESULT, Registers, argument_register, first_free, numbered, only,
+};
+use crate::webs::{Crossing, Crossings};
+use cc_ltl::{Block, Move, Moves, Operation, Register};
+use cc_rtl::{Labelled, Node};
+use std::alloc::{AllocError, Global};
+
+/// What blocks are made of.
+#[derive(Clone, Copy)]
+pub struct Placed<'a> {
+    pub code: Code<'a>,
+    pub places: &'a Places<'a>,
+}
+
+/// A word that goes from its slot to a register in front of the node before the one that takes it.
+#[derive(Clone, Copy)]
+struct Early {
+    slot: u16,
+    register: u8,
+}
+
+impl Placed<'_> {
+    // What a node takes from a slot beside a constant of the node in front of it. It is fetched in front of both, so that these two stay
+    // neighbours.
+    fn early(self, at: usize) -> Option<Early> {
+        let shape = self.code.shape;
+        let nodes = shape.rtl.nodes();
+        let constant = match nodes.get(shape.sole_before(at)?)?.node {
+            Node::Const { to, .. } => to,
+            _ => return None,
+        };
+        let beside = beside_constant(&nodes.get(at)?.node, constant)?;
+        self.places.register(self.code.at(at, constant)?)?;
+        match self.places.place(self.code.at(at, beside)?)? {
+            Place::Slot(slot) => {
+                let taken = self.places.registers(self.code.webs.in_front(at));
+                let register = first_free(taken)?;
+                Some(Early { slot, register })
+            }
+            Place::Register(_) => None,
+        }
+    }
+}
+
+impl Placed<'_> {
+    // The move of what a call cuts to its slot; none where it is there already or stays in a register that the call keeps.
+    fn leaving(self, crossing: Crossing) -> Option<Transfer> {
+        let places = self.places;
+        let kept = places.kept_register(crossing.before).is_some()
+            && places.register(crossing.behind).is_some();
+        if !crossing.is_cut() || kept || !places.is_dirty(crossing.before) {
+            return None;
+        }
+        let from = Place::Register(places.register(crossing.before)?);
+        let to = Place::Slot(places.slot(crossing.before)?);
+        Some(Transfer { to, from })
+    }
+
+    // The move of what a call cuts to its register behind the call, where it has one.
+    fn coming_back(self, crossing: Crossing) -> Option<Transfer> {
+        let places = self.places;
+        if !crossing.is_cut() {
+            return None;
+        }
+        let to = Place::Register(places.register(crossing.behind)?);
+        let from = match places.kept_register(crossing.before) {
+            Some(kept) => Place::Register(kept),
+            None => Place::Slot(places.slot(crossing.before)?),
+        };
+        Some(Transfer { to, from })
+    }
+}
+
+/// A block that is being made: its node, its moves, the registers that hold something in front of the operation, and whether a register
+/// was wanted where none was free; room for moves that are to be done all at once, and for what crosses a call.
+#[derive(Drop)]
+struct Draft<'a> {
+    placed: Placed<'a>,
+    at: usize,
+    before: Vec<Move>,
+    after: Vec<Move>,
+    taken: Registers,
+    short: bool,
+    pending: Vec<Transfer>,
+    crossings: Crossings,
+}
+
+/// All blocks, or None where a register was wanted and none was free.
+pub fn blocks(alloc: Global, placed: Placed<'_>) -> Result<Option<Vec<Block>>, AllocError> {
+    let mut blocks = Vec::new(alloc);
+    for (at, labelled) in placed.code.shape.rtl.nodes().iter().enumerate() {
+        match block(alloc, placed, at, labelled)? {
+            Some(block) => blocks.push(block)?,
+            None => {
+                drop(blocks);
+                return Ok(None);
+            }
+        }
+    }
+    Ok(Some(blocks))
+}
+
+fn block(
+    alloc: Global,
+    placed: Placed<'_>,
+    at: usize,
+    labelled: &Labelled,
+) -> Result<Option<Block>, AllocError> {
+    let mut draft = Draft {
+        placed,
+        at,
+        before: Vec::new(alloc),
+        after: Vec::new(alloc),
+        taken: placed.places.registers(placed.code.webs.in_front(at)),
+        short: false,
+        pending: Vec::new(alloc),
+        crossings: Crossings::new(alloc),
+    };
+    let operation = draft.draw(labelled)?;
+    let Draft {
+        before,
+        after,
+        short,
+        ..
+    } = draft;
+    if short {
+        return Ok(None);
+    }
+    Ok(Some(Block {
+        label: labelled.label,
+        before: moves(alloc, before),
+        operation,
+        after: moves(alloc, after),
+    }))
+}
+
+// Moves of a block; none where there are more than a block has.
+fn moves(alloc: Global, moves: Vec<Move>) -> Moves {
+    match Moves::new(moves) {
+        Ok(moves) => moves,
+        Err(moves) => {
+            drop(moves);
+            no_moves(alloc)
+        }
+    }
+}
+
+fn no_moves(alloc: Global) -> Moves {
+    match Moves::new(Vec::new(alloc)) {
+        Ok(moves) => moves,
+        Err(_) => unreachable!(),
+    }
+}
+
+impl Draft<'_> {
+    // Where a register that is live in front of the node is.
+    fn operand(&self, register: u32) -> Option<Place> {
+        let web = self.placed.code.at(self.at, register)?;
+        self.placed.places.place(web)
+    }
+
+    // Where the node's result is to be, if it is live behind the node.
+    fn result(&self) -> Option<Place> {
+        let web = self.placed.code.webs.result(self.at)?;
+        if self.placed.code.behind(self.at).contains(&web) {
+            self.placed.places.place(web)
+        } else {
+            None
+        }
+    }
+
+    // The registers of what is live behind the node.
+    fn taken_behind(&self) -> Registers {
+        self.placed
+            .places
+            .registers(self.placed.code.behind(self.at))
+    }
+
+    // A register that is in no set.
+    fn free(&mut self, taken: Registers) -> u8 {
+        match first_free(taken) {
+            Some(register) => register,
+            None => {
+                self.short = true;
+                31
+            }
+        }
+    }
+
+    fn move_before(&mut self, to: Place, from: Place) -> Result<(), AllocError> {
+        push_move(&mut self.before, Transfer { to, from })
+    }
+
+    fn move_after(&mut self, to: Place, from: Place) -> Result<(), AllocError> {
+        push_move(&mut self.after, Transfer { to, from })
+    }
+
+    // A move that is to be done at once with others.
+    fn pend(&mut self, to: Place, from: Place) -> Result<(), AllocError> {
+        self.pending.push(Transfer { to, from })?;
+        Ok(())
+    }
+
+    // Does these moves in front of the operation, or behind it. No register of `kept` is changed beside.
+    fn do_before(&mut self, kept: Registers) -> Result<(), AllocError> {
+        if !in_parallel(&mut self.pending, kept, &mut self.before)? {
+            self.short = true;
+        }
+        Ok(())
+    }
+
+    fn do_after(&mut self, kept: Registers) -> Result<(), AllocError> {
+        if !in_parallel(&mut self.pending, kept, &mut self.after)? {
+            self.short = true;
+        }
+        Ok(())
+    }
+
+    // Fetches what the node behind a constant takes beside it.
+    fn fetch_early(&mut self) -> Result<(), AllocError> {
+        let shape = self.placed.code.shape;
+        if let Some(behind) = shape.behind(self.at)
+            && let Some(early) = self.placed.early(behind)
+        {
+            let to = Place::Register(early.register);
+            self.move_before(to, Place::Slot(early.slot))?;
+        }
+        Ok(())
+    }
+
+    // The register where the operation takes its left operand, which may have been fetched already.
+    fn take_left(&mut self, register: u32) -> Result<Register, AllocError> {
+        match self.placed.early(self.at) {
+            Some(early) => {
+                self.taken |= only(early.register);
+                Ok(numbered(early.register))
+            }
+            None => self.take(register),
+        }
+    }
+
+    // The register where the operation takes an operand.
+    fn take(&mut self, register: u32) -> Result<Register, AllocError> {
+        match self.operand(register) {
+            Some(Place::Register(register)) => Ok(numbered(register)),
+            Some(Place::Slot(slot)) => {
+                let to = self.free(self.taken);
+                self.taken |= only(to);
+                self.move_before(Place::Register(to), Place::Slot(slot))?;
+                Ok(numbered(to))
+            }
+            None => Ok(numbered(31)),
+        }
+    }
+
+    // The register where the operation puts its result.
+    fn give(&mut self) -> Result<Register, AllocError> {
+        match self.result() {
+            Some(Place::Register(register)) => Ok(numbered(register)),
+            Some(Place::Slot(slot)) => {
+                let from = self.free(self.taken_behind());
+                self.move_after(Place::Slot(slot), Place::Register(from))?;
+                Ok(numbered(from))
+            }
+            None => Ok(numbered(self.free(self.taken_behind()))),
+        }
+    }
+
+    fn take_parameters(&mut self, parameters: u32) -> Result<(), AllocError> {
+        for parameter in 0..parameters.min(22) {
+            if let Some(to) = self.operand(parameter)
+                && let Some(register) = argument_register(parameter as usize)
+            {
+                self.pend(to, Place::Register(register))?;
+            }
+        }
+        self.do_before(self.taken)
+    }
+
+    fn take_arguments(&mut self, arguments: &[u32]) -> Result<(), AllocError> {
+        let mut kept = self.taken_behind() | (self.taken & !DESTROYED);
+        for (number, argument) in arguments.iter().enumerate() {
+            if let Some(register) = argument_register(number) {
+                kept |= only(register);
+                if let Some(from) = self.operand(*argument) {
+                    self.pend(Place::Register(register), from)?;
+                }
+            }
+        }
+        self.do_before(kept)
+    }
+
+    // Fills the list of what crosses a call.
+    fn find_crossings(&mut self) -> Result<(), AllocError> {
+        let code = self.placed.code;
+        code.webs
+            .crossings(code.shape, self.at, &mut self.crossings)
+    }
+
+    // What a call cuts goes to its slot in front of the call, unless it is there already or stays in a register that the call keeps.
+    fn leave(&mut self) -> Result<(), AllocError> {
+        for crossing in &self.crossings.all {
+            if let Some(transfer) = self.placed.leaving(*crossing) {
+                push_move(&mut self.before, transfer)?;
+            }
+        }
+        Ok(())
+    }
+
+    // Behind a call, its result and what it cuts go where they belong.
+    fn come_back(&mut self) -> Result<(), AllocError> {
+        if let Some(to) = self.result() {
+            self.pend(to, Place::Register(RESULT))?;
+        }
+        for crossing in &self.crossings.all {
+            if let Some(transfer) = self.placed.coming_back(*crossing) {
+                self.pending.push(transfer)?;
+            }
+        }
+        self.do_after(self.taken_behind())
+    }
+
+    // An operand goes to the register where results are.
+    fn take_word(&mut self, register: u32) -> Result<(), AllocError> {
+        let to = Place::Register(RESULT);
+        match self.operand(register) {
+            Some(from) if !from.is(to) => self.move_before(to, from),
+            _ => Ok(()),
+        }
+    }
+
+    // The result goes where it is to be from the register where results are.
+    fn give_word(&mut self) -> Result<(), AllocError> {
+        let from = Place::Register(RESULT);
+        match self.result() {
+            Some(to) if !from.is(to) => self.move_after(to, from),
+            _ => Ok(()),
+        }
+    }
+
+    // A move of RTL needs moves alone: two from slot to slot.
+    fn copy(&mut self, register: u32) -> Result<(), AllocError> {
+        match (self.result(), self.operand(register)) {
+            (Some(to), Some(from)) => self.copy_place(to, from),
+            _ => Ok(()),
+        }
+    }
+
+    fn copy_place(&mut self, to: Place, from: Place) -> Result<(), AllocError> {
+        if to.is(from) {
+            return Ok(());
+        }
+        if let (Place::Slot(_), Place::Slot(_)) = (to, from) {
+            let between = Place::Register(self.free(self.taken | self.taken_behind()));
+            self.move_before(between, from)?;
+            return self.move_before(to, between);
+        }
+        self.move_before(to, from)
+    }
+
+    // The moves of a block, and its operation.
+    fn draw(&mut self, labelled: &Labelled) -> Result<Operation, AllocError> {
+        let rtl = self.placed.code.shape.rtl;
+        if labelled.label == rtl.entry() {
+            self.take_parameters(rtl.parameters())?;
+        }
+        let used = match &labelled.node {
+            Node::Call { arguments, .. } => {
+                self.find_crossings()?;
+                self.leave()?;
+                self.take_arguments(arguments.as_slice())?;
+                self.come_back()?;
+                nothing_used()
+            }
+            Node::Move { from, .. } => {
+                self.copy(*from)?;
+                nothing_used()
+            }
+            Node::Read { .. } => {
+                self.give_word()?;
+                nothing_used()
+            }
+            Node::Write { from, .. } | Node::Return { from } => {
+                self.take_word(*from)?;
+                nothing_used()
+            }
+            node => self.used(node)?,
+        };
+        Ok(operation(&labelled.node, used))
+    }
+
+    // The registers of an operation that may have any.
+    fn used(&mut self, node: &Node) -> Result<Used, AllocError> {
+        let mut used = nothing_used();
+        let [first, second] = operands(node);
+        if let Some(first) = first {
+            used.first = self.take_left(first)?;
+        }
+        if let Some(second) = second {
+            used.second = self.take(second)?;
+        }
+        if let Node::Const { .. } = node {
+            self.fetch_early()?;
+        }
+        if result(node).is_some() {
+            used.to = self.give()?;
+        }
+        Ok(used)
+    }
+}
+
+/// The registers of an operation: of its operands in their order, and of its result. Of what it has not, any.
+#[derive(Clone, Copy)]
+struct Used {
+    first: Register,
+    second: Register,
+    to: Register,
+}
+
+fn nothing_used() -> Used {
+    let any = numbered(31);
+    Used {
+        first: any,
+        second: any,
+        to: any,
+    }
+}
+
+// The operation of a node on these registers.
+fn operation(node: &Node, used: Used) -> Operation {
+    match node {
+        Node::Nop { next } | Node::Move { next, .. } => Operation::Nop { next: *next },
+        Node::Const { word, next, .. } => Operation::Const {
+            to: used.to,
+            word: *word,
+            next: *next,
+        },
+        Node::Unary { operator, next, .. } => Operation::Unary {
+            operator: *operator,
+            to: used.to,
+            from: used.first,
+            next: *next,
+        },
+        Node::Binary { operator, next, .. } => Operation::Binary {
+            operator: *operator,
+            to: used.to,
+            left: used.first,
+            right: used.second,
+            next: *next,
+        },
+        Node::Load { object, next, .. } => Operation::Load {
+            object: *object,
+            to: used.to,
+            index: used.first,
+            next: *next,
+        },
+        Node::Store { object, next, .. } => Operation::Store {
+            object: *object,
+            index: used.first,
+            from: used.second,
+            next: *next,
+        },
+        Node::Call { function, next, .. } => Operation::Call {
+            function: *function,
+            next: *next,
+        },
+        Node::Read { next, .. } => Operation::Read { next: *next },
+        Node::Write { next, .. } => Operation::Write { next: *next },
+        Node::Branch {
+            if_nonzero,
+            if_zero,
+            ..
+        } => Operation::Branch {
+            from: used.first,
+            if_nonzero: *if_nonzero,
+            if_zero: *if_zero,
+        },
+        Node::Return { .. } => Operation::Return,
+    }
+}

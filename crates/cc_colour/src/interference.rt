@@ -1,0 +1,315 @@
+//! Which webs want different locations, and what each web would like.
+//!
+//! A web interferes with every web that is live behind a node that sets it, but for the one that a move copies into it. What nodes
+//! overwrite by themselves, as a call most registers, is forbidden to what is live behind them. A web that is passed, returned or copied
+//! wishes for the register or the web that would save a move, by how often that move would be done.
+
+use crate::bits::Matrix;
+use crate::nodes::{Shape, beside_constant, operands};
+use crate::registers::{DESTROYED, RESULT, Registers, SERVICE, argument_register, only};
+use crate::webs::{Crossing, Crossings, Webs};
+use cc_rtl::Node;
+use std::alloc::{AllocError, Global};
+
+/// What a web would share a register with.
+#[derive(Clone, Copy)]
+pub enum Partner {
+    Register(u8),
+    Web(u32),
+}
+
+/// A wish, and how many moves it would save.
+#[derive(Clone, Copy)]
+pub struct Wish {
+    pub partner: Partner,
+    pub weight: u32,
+}
+
+/// What is known of a web: the registers that it cannot have; how often it is read or set, and set alone; how often a call keeps it, or it
+/// is a piece behind a call or in front of one; its wishes.
+#[derive(Drop)]
+pub struct Web {
+    pub forbidden: Registers,
+    pub cost: u32,
+    pub set: u32,
+    pub kept: u32,
+    pub entered: u32,
+    pub left: u32,
+    pub wishes: Vec<Wish>,
+}
+
+impl Web {
+    /// What a register would save where calls do not cut the web: each time that it is read or set, but not the moves from and to its
+    /// slot at calls. What nothing sets has its word in the slot already.
+    pub fn saves(&self) -> u32 {
+        let stores = if self.set > 0 { self.left } else { 0 };
+        self.cost
+            .saturating_sub(self.entered)
+            .saturating_sub(stores)
+    }
+}
+
+/// A function and its webs.
+#[derive(Clone, Copy)]
+pub struct Code<'a> {
+    pub shape: &'a Shape<'a>,
+    pub webs: &'a Webs,
+}
+
+impl<'a> Code<'a> {
+    /// The web of a register that is live in front of a node.
+    pub fn at(self, node: usize, register: u32) -> Option<u32> {
+        self.webs.at(self.shape, node, register)
+    }
+
+    /// The webs that are live behind a node, where it is no branch.
+    pub fn behind(self, node: usize) -> &'a [u32] {
+        match self.shape.behind(node) {
+            Some(behind) => self.webs.in_front(behind),
+            None => &[],
+        }
+    }
+}
+
+/// Webs and the interferences between them.
+#[derive(Drop)]
+pub struct Graph {
+    pub edges: Matrix,
+    pub webs: Vec<Web>,
+}
+
+impl Graph {
+    /// That of a function.
+    pub fn of(alloc: Global, code: Code<'_>) -> Result<Graph, AllocError> {
+        let mut graph = Graph::empty(alloc, code.webs.count())?;
+        graph.add_nodes(alloc, code)?;
+        Ok(graph)
+    }
+
+    // That of so many webs of which nothing is known.
+    fn empty(alloc: Global, count: u32) -> Result<Graph, AllocError> {
+        let mut graph = Graph {
+            edges: Matrix::new(alloc, count)?,
+            webs: Vec::new(alloc),
+        };
+        for _ in 0..count {
+            graph.webs.push(no_web(alloc))?;
+        }
+        Ok(graph)
+    }
+
+    fn add_nodes(&mut self, alloc: Global, code: Code<'_>) -> Result<(), AllocError> {
+        let mut crossings = Crossings::new(alloc);
+        for (at, labelled) in code.shape.rtl.nodes().iter().enumerate() {
+            self.count_reads(code, at, &labelled.node);
+            code.webs.crossings(code.shape, at, &mut crossings)?;
+            self.add_crossings(code, at, crossings.all.as_slice());
+            self.add_node(code, at, &labelled.node)?;
+            if labelled.label == code.shape.rtl.entry() {
+                self.add_entry(code, at)?;
+            }
+        }
+        Ok(())
+    }
+
+    // Parameters are set all at once, in front of the entry.
+    fn add_entry(&mut self, code: Code<'_>, at: usize) -> Result<(), AllocError> {
+        for parameter in 0..code.shape.rtl.parameters().min(22) {
+            if let Some(web) = code.at(at, parameter) {
+                self.count_set(web, 1);
+                self.add_edges(code.webs.in_front(at), web, None);
+                self.wish_for(Some(web), argument_register(parameter as usize), 1)?;
+            }
+        }
+        Ok(())
+    }
+
+    fn add_node(&mut self, code: Code<'_>, at: usize, node: &Node) -> Result<(), AllocError> {
+        if let Some(web) = code.webs.result(at) {
+            self.count_set(web, code.shape.weight(at));
+            self.add_edges(code.behind(at), web, copied(code, at, node));
+        }
+        self.forbid_overwritten(code, at, node);
+        self.add_wishes(code, at, node)
+    }
+
+    // What a call cuts is set behind it; what it keeps whole can be in no register that it destroys.
+    fn add_crossings(&mut self, code: Code<'_>, at: usize, crossings: &[Crossing]) {
+        let weight = code.shape.weight(at);
+        for crossing in crossings {
+            if crossing.is_cut() {
+                self.add_edges(code.behind(at), crossing.behind, None);
+                self.count_crossing(*crossing, weight);
+            } else {
+                self.count_kept(crossing.before, weight);
+            }
+        }
+    }
+
+    // What is set interferes with what is live behind, but for what it is a copy of.
+    fn add_edges(&mut self, behind: &[u32], set: u32, copied: Option<u32>) {
+        for web in behind {
+            if *web != set && Some(*web) != copied {
+                self.edges.put(set, *web);
+            }
+        }
+    }
+
+    // What a read or a write overwrites by itself is forbidden to what is live behind it, but for its result, and for the word that it
+    // takes there.
+    fn forbid_overwritten(&mut self, code: Code<'_>, at: usize, node: &Node) {
+        let behind = code.behind(at);
+        match node {
+            Node::Read { .. } => {
+                let set = code.webs.result(at);
+                self.forbid_all(behind, set, only(RESULT) | only(SERVICE));
+            }
+            Node::Write { from, .. } => {
+                self.forbid_all(behind, code.at(at, *from), only(RESULT));
+                self.forbid_all(behind, None, only(SERVICE));
+            }
+            _ => {}
+        }
+    }
+
+    fn forbid_all(&mut self, webs: &[u32], but: Option<u32>, registers: Registers) {
+        for web in webs {
+            if Some(*web) != but
+                && let Some(known) = self.webs.get_mut(*web as usize)
+            {
+                known.forbidden |= registers;
+            }
+        }
+    }
+
+    fn add_wishes(&mut self, code: Code<'_>, at: usize, node: &Node) -> Result<(), AllocError> {
+        let weight = code.shape.weight(at);
+        let set = code.webs.result(at);
+        match node {
+            Node::Move { from, .. } => self.wish_both(code.at(at, *from), set, weight),
+            Node::Call { arguments, .. } => {
+                for (number, argument) in arguments.as_slice().iter().enumerate() {
+                    let web = code.at(at, *argument);
+                    self.wish_for(web, argument_register(number), weight)?;
+                }
+                self.wish_for(set, Some(RESULT), weight)
+            }
+            Node::Read { .. } => self.wish_for(set, Some(RESULT), weight),
+            Node::Write { from, .. } | Node::Return { from } => {
+                self.wish_for(code.at(at, *from), Some(RESULT), weight)
+            }
+            Node::Const { to, .. } => self.wish_both(set, overwriting(code, at, *to), weight),
+            _ => Ok(()),
+        }
+    }
+
+    fn wish_for(
+        &mut self,
+        web: Option<u32>,
+        register: Option<u8>,
+        weight: u32,
+    ) -> Result<(), AllocError> {
+        match (web, register) {
+            (Some(web), Some(register)) => self.wish(web, Partner::Register(register), weight),
+            _ => Ok(()),
+        }
+    }
+
+    fn wish_both(
+        &mut self,
+        one: Option<u32>,
+        other: Option<u32>,
+        weight: u32,
+    ) -> Result<(), AllocError> {
+        match (one, other) {
+            (Some(one), Some(other)) if one != other => {
+                self.wish(one, Partner::Web(other), weight)?;
+                self.wish(other, Partner::Web(one), weight)
+            }
+            _ => Ok(()),
+        }
+    }
+
+    fn wish(&mut self, web: u32, partner: Partner, weight: u32) -> Result<(), AllocError> {
+        if let Some(known) = self.webs.get_mut(web as usize) {
+            known.wishes.push(Wish { partner, weight })?;
+        }
+        Ok(())
+    }
+
+    fn count_reads(&mut self, code: Code<'_>, at: usize, node: &Node) {
+        for register in operands(node) {
+            if let Some(register) = register {
+                self.count_read(code, at, register);
+            }
+        }
+        if let Node::Call { arguments, .. } = node {
+            for register in arguments.as_slice() {
+                self.count_read(code, at, *register);
+            }
+        }
+    }
+
+    fn count_read(&mut self, code: Code<'_>, at: usize, register: u32) {
+        if let Some(web) = code.at(at, register)
+            && let Some(known) = self.webs.get_mut(web as usize)
+        {
+            known.cost = known.cost.saturating_add(code.shape.weight(at));
+        }
+    }
+
+    fn count_set(&mut self, web: u32, weight: u32) {
+        if let Some(known) = self.webs.get_mut(web as usize) {
+            known.cost = known.cost.saturating_add(weight);
+            known.set = known.set.saturating_add(weight);
+        }
+    }
+
+    // What a call keeps can be in no register that it destroys.
+    fn count_kept(&mut self, web: u32, weight: u32) {
+        if let Some(known) = self.webs.get_mut(web as usize) {
+            known.forbidden |= DESTROYED;
+            known.kept = known.kept.saturating_add(weight);
+        }
+    }
+
+    fn count_crossing(&mut self, crossing: Crossing, weight: u32) {
+        if let Some(known) = self.webs.get_mut(crossing.before as usize) {
+            known.left = known.left.saturating_add(weight);
+        }
+        if let Some(known) = self.webs.get_mut(crossing.behind as usize) {
+            known.entered = known.entered.saturating_add(weight);
+        }
+    }
+}
+
+fn no_web(alloc: Global) -> Web {
+    Web {
+        forbidden: 0,
+        cost: 0,
+        set: 0,
+        kept: 0,
+        entered: 0,
+        left: 0,
+        wishes: Vec::new(alloc),
+    }
+}
+
+// The web that a move copies.
+fn copied(code: Code<'_>, at: usize, node: &Node) -> Option<u32> {
+    match node {
+        Node::Move { from, .. } => code.at(at, *from),
+        _ => None,
+    }
+}
+
+// The web that the node behind a constant sets, where it reads the constant for the last time and an instruction has it as immediate.
+fn overwriting(code: Code<'_>, at: usize, constant: u32) -> Option<u32> {
+    let behind = code.shape.behind(at)?;
+    let node = &code.shape.rtl.nodes().get(behind)?.node;
+    beside_constant(node, constant)?;
+    if code.at(code.shape.behind(behind)?, constant).is_some() {
+        return None;
+    }
+    code.webs.result(behind)
+}

@@ -1,0 +1,245 @@
+//! What a node reads, what it writes, where it leads, and how often it may be done.
+//!
+//! Nodes are known by their places in the list of a function's nodes, from 0 on.
+
+use crate::live::Live;
+use cc_rtl::{Labelled, Node, Rtl};
+use cc_words::Binary;
+use std::alloc::{AllocError, Global};
+
+/// The places that a node leads to: two for a branch, none for a return.
+pub type Next = [Option<usize>; 2];
+
+/// A function as allocation sees it, before any web.
+#[derive(Clone, Copy)]
+pub struct Shape<'a> {
+    pub rtl: &'a Rtl,
+    pub live: Live<'a>,
+    pub next: &'a [Next],
+    pub sole: &'a [Option<usize>],
+    pub weights: &'a [u32],
+}
+
+impl Shape<'_> {
+    /// The places that a node leads to.
+    pub fn next_of(&self, node: usize) -> Next {
+        self.next.get(node).copied().unwrap_or([None, None])
+    }
+
+    /// The place that a node leads to, where it is no branch.
+    pub fn behind(&self, node: usize) -> Option<usize> {
+        match self.next_of(node) {
+            [first, None] => first,
+            [_, Some(_)] => None,
+        }
+    }
+
+    /// The one place that leads to a node; None where several do, or none.
+    pub fn sole_before(&self, node: usize) -> Option<usize> {
+        self.sole.get(node).copied().flatten()
+    }
+
+    /// How often a node may be done.
+    pub fn weight(&self, node: usize) -> u32 {
+        self.weights.get(node).copied().unwrap_or(1)
+    }
+
+    /// The register that a call sets, where there is one, and the place behind it; None for another node.
+    pub fn call(&self, node: usize) -> Option<(Option<u32>, usize)> {
+        let behind = self.behind(node)?;
+        match &self.rtl.nodes().get(node)?.node {
+            Node::Call { to, .. } => Some((*to, behind)),
+            _ => None,
+        }
+    }
+}
+
+/// Where each node leads.
+pub fn next_places(alloc: Global, rtl: &Rtl) -> Result<Vec<Next>, AllocError> {
+    let nodes = rtl.nodes();
+    let mut all = Vec::new(alloc);
+    for labelled in nodes {
+        let (first, second) = labels(&labelled.node);
+        all.push([place_of(nodes, first), place_of(nodes, second)])?;
+    }
+    Ok(all)
+}
+
+/// The one place that leads to each node, None where several do, or none.
+pub fn sole_places(alloc: Global, next: &[Next]) -> Result<Vec<Option<usize>>, AllocError> {
+    let mut sole = vec![in alloc; None; next.len()]?;
+    let mut is_led_to = vec![in alloc; false; next.len()]?;
+    for (at, places) in next.iter().enumerate() {
+        for place in *places {
+            if let Some(place) = place {
+                lead_to(sole.as_mut_slice(), is_led_to.as_mut_slice(), at, place);
+            }
+        }
+    }
+    Ok(sole)
+}
+
+fn lead_to(sole: &mut [Option<usize>], is_led_to: &mut [bool], at: usize, place: usize) {
+    if let Some(before) = sole.get_mut(place)
+        && let Some(is_led_to) = is_led_to.get_mut(place)
+    {
+        *before = if *is_led_to { None } else { Some(at) };
+        *is_led_to = true;
+    }
+}
+
+// The place of a label, by halving.
+fn place_of(nodes: &[Labelled], label: Option<u32>) -> Option<usize> {
+    let label = label?;
+    nodes.binary_search_by(|n| n.label.cmp(&label)).ok()
+}
+
+fn labels(node: &Node) -> (Option<u32>, Option<u32>) {
+    match node {
+        Node::Nop { next }
+        | Node::Const { next, .. }
+        | Node::Move { next, .. }
+        | Node::Unary { next, .. }
+        | Node::Binary { next, .. }
+        | Node::Load { next, .. }
+        | Node::Store { next, .. }
+        | Node::Call { next, .. }
+        | Node::Read { next, .. }
+        | Node::Write { next, .. } => (Some(*next), None),
+        Node::Branch {
+            if_nonzero,
+            if_zero,
+            ..
+        } => (Some(*if_nonzero), Some(*if_zero)),
+        Node::Return { .. } => (None, None),
+    }
+}
+
+/// The pseudo-register that a node writes.
+pub fn result(node: &Node) -> Option<u32> {
+    match node {
+        Node::Const { to, .. }
+        | Node::Move { to, .. }
+        | Node::Unary { to, .. }
+        | Node::Binary { to, .. }
+        | Node::Load { to, .. }
+        | Node::Read { to, .. } => Some(*to),
+        Node::Call { to, .. } => *to,
+        Node::Nop { .. }
+        | Node::Store { .. }
+        | Node::Write { .. }
+        | Node::Branch { .. }
+        | Node::Return { .. } => None,
+    }
+}
+
+/// The pseudo-registers that a node other than a call reads, in their order: two at most.
+pub fn operands(node: &Node) -> [Option<u32>; 2] {
+    match node {
+        Node::Move { from: one, .. }
+        | Node::Unary { from: one, .. }
+        | Node::Load { index: one, .. }
+        | Node::Write { from: one, .. }
+        | Node::Branch { from: one, .. }
+        | Node::Return { from: one } => [Some(*one), None],
+        Node::Binary {
+            left: one,
+            right: two,
+            ..
+        }
+        | Node::Store {
+            index: one,
+            from: two,
+            ..
+        } => [Some(*one), Some(*two)],
+        Node::Nop { .. } | Node::Const { .. } | Node::Read { .. } | Node::Call { .. } => {
+            [None, None]
+        }
+    }
+}
+
+/// How often each node may be done: 1, and ten times as often for each loop round it, four loops at most. A loop is what lies between
+/// a node and the last node behind it that leads back to it.
+pub fn weights(alloc: Global, next: &[Next]) -> Result<Vec<u32>, AllocError> {
+    let mut weights = vec![in alloc; 1; next.len()]?;
+    let ends = loop_ends(alloc, next)?;
+    let mut leaves = vec![in alloc; 0u32; next.len()]?;
+    put_weights(
+        ends.as_slice(),
+        leaves.as_mut_slice(),
+        weights.as_mut_slice(),
+    );
+    Ok(weights)
+}
+
+// Puts how often each node may be done, by the ends of the loops that begin at each node. Counts how many end at each.
+fn put_weights(ends: &[Option<usize>], leaves: &mut [u32], weights: &mut [u32]) {
+    let mut depth = 0u32;
+    for (at, weight) in weights.iter_mut().enumerate() {
+        if let Some(end) = ends.get(at).copied().flatten() {
+            depth = depth.saturating_add(1);
+            if let Some(count) = leaves.get_mut(end) {
+                *count = count.saturating_add(1);
+            }
+        }
+        *weight = ten_to(depth);
+        depth = depth.saturating_sub(leaves.get(at).copied().unwrap_or(0));
+    }
+}
+
+// The last node that leads back to each node, where there is one.
+fn loop_ends(alloc: Global, next: &[Next]) -> Result<Vec<Option<usize>>, AllocError> {
+    let mut ends = vec![in alloc; None; next.len()]?;
+    for (at, heads) in next.iter().enumerate() {
+        for head in *heads {
+            put_end(ends.as_mut_slice(), at, head);
+        }
+    }
+    Ok(ends)
+}
+
+fn put_end(ends: &mut [Option<usize>], at: usize, head: Option<usize>) {
+    if let Some(head) = head
+        && head <= at
+        && let Some(end) = ends.get_mut(head)
+    {
+        *end = Some(at);
+    }
+}
+
+fn ten_to(depth: u32) -> u32 {
+    match depth {
+        0 => 1,
+        1 => 10,
+        2 => 100,
+        3 => 1_000,
+        _ => 10_000,
+    }
+}
+
+/// What an operation takes from another register than this one, where it takes a constant from this one that its instruction may have as
+/// immediate.
+pub fn beside_constant(node: &Node, constant: u32) -> Option<u32> {
+    match node {
+        Node::Binary {
+            operator,
+            left,
+            right,
+            ..
+        } => {
+            if *right == constant && *left != constant && has_immediate(*operator) {
+                Some(*left)
+            } else {
+                None
+            }
+        }
+        _ => None,
+    }
+}
+
+fn has_immediate(operator: Binary) -> bool {
+    match operator {
+        Binary::Mul | Binary::DivS | Binary::DivU | Binary::RemS | Binary::RemU => false,
+        _ => true,
+    }
+}

@@ -1,0 +1,143 @@
+//! In which order webs get their registers (Chaitin, Briggs).
+//!
+//! A web with fewer interferences than it has registers gets one, whatever the others have: it is taken out, and each web that it
+//! interfered with has one interference less. Where none is left of these, the web whose slot would cost least for each interference is
+//! taken out, in the hope that some of the others will share a register. Registers are then chosen in the opposite order. A web to which a
+//! register would save nothing is taken out first, and gets none.
+
+use crate::interference::{Graph, Web};
+use crate::registers::{ALL, Registers};
+use std::alloc::{AllocError, Global};
+
+/// The webs in the order in which they get their registers. `reserved` are the registers that none gets.
+pub fn colouring_order(
+    alloc: Global,
+    graph: &Graph,
+    reserved: Registers,
+) -> Result<Vec<u32>, AllocError> {
+    let mut left = Left::of(alloc, graph, reserved)?;
+    let by_cost = left.by_cost(alloc)?;
+    left.find_easy(by_cost.as_slice())?;
+    let mut hard = by_cost.iter();
+    let mut order = Vec::new(alloc);
+    for _ in 0..graph.webs.len().saturating_mul(2) {
+        let web = match left.easy.pop() {
+            Some(web) => web,
+            None => match hard.next() {
+                Some(web) => *web,
+                None => break,
+            },
+        };
+        if left.take_out(web)? {
+            order.push(web)?;
+        }
+    }
+    order.reverse();
+    Ok(order)
+}
+
+// The webs that are left: how many others of them each interferes with, which are taken out, and those that get a register for sure.
+#[derive(Drop)]
+struct Left<'a> {
+    graph: &'a Graph,
+    reserved: Registers,
+    degrees: Vec<u32>,
+    taken_out: Vec<bool>,
+    easy: Vec<u32>,
+    beside: Vec<u32>,
+}
+
+impl<'a> Left<'a> {
+    fn of(alloc: Global, graph: &'a Graph, reserved: Registers) -> Result<Left<'a>, AllocError> {
+        let mut left = Left {
+            graph,
+            reserved,
+            degrees: degrees(alloc, graph)?,
+            taken_out: vec![in alloc; false; graph.webs.len()]?,
+            easy: Vec::new(alloc),
+            beside: Vec::new(alloc),
+        };
+        let mut web = 0u32;
+        for known in &graph.webs {
+            if known.saves() == 0 {
+                left.take_out(web)?;
+            }
+            web = web.saturating_add(1);
+        }
+        left.easy.clear();
+        Ok(left)
+    }
+
+    // Takes a web out. Whether it was not out before.
+    fn take_out(&mut self, web: u32) -> Result<bool, AllocError> {
+        match self.taken_out.get_mut(web as usize) {
+            Some(out) if !*out => *out = true,
+            _ => return Ok(false),
+        }
+        self.graph.edges.members(web, &mut self.beside)?;
+        for other in &self.beside {
+            if let Some(known) = self.graph.webs.get(*other as usize)
+                && let Some(degree) = self.degrees.get_mut(*other as usize)
+            {
+                if *degree == choices(known, self.reserved) {
+                    self.easy.push(*other)?;
+                }
+                *degree = degree.saturating_sub(1);
+            }
+        }
+        Ok(true)
+    }
+
+    // The webs that are left, those first whose slot would cost least for each interference.
+    fn by_cost(&self, alloc: Global) -> Result<Vec<u32>, AllocError> {
+        let mut keys = Vec::new(alloc);
+        let mut web = 0u32;
+        for (known, degree) in self.graph.webs.iter().zip(self.degrees.iter()) {
+            if self.taken_out.get(web as usize) == Some(&false) {
+                let cost = u64::from(known.saves()).saturating_mul(64);
+                let shared = u64::from(*degree).saturating_add(1);
+                keys.push((cost / shared.max(1), web))?;
+            }
+            web = web.saturating_add(1);
+        }
+        keys.sort()?;
+        let mut sorted = Vec::new(alloc);
+        for (_, web) in &keys {
+            sorted.push(*web)?;
+        }
+        Ok(sorted)
+    }
+
+    // The webs that get a register for sure, those last that cost least.
+    fn find_easy(&mut self, by_cost: &[u32]) -> Result<(), AllocError> {
+        for web in by_cost.iter().rev() {
+            if let Some(known) = self.graph.webs.get(*web as usize)
+                && let Some(degree) = self.degrees.get(*web as usize)
+                && *degree < choices(known, self.reserved)
+            {
+                self.easy.push(*web)?;
+            }
+        }
+        Ok(())
+    }
+}
+
+// How many registers a web may have.
+fn choices(web: &Web, reserved: Registers) -> u32 {
+    (ALL & !web.forbidden & !reserved).count_ones()
+}
+
+// How many others each web interferes with.
+fn degrees(alloc: Global, graph: &Graph) -> Result<Vec<u32>, AllocError> {
+    let mut degrees = Vec::new(alloc);
+    let mut web = 0u32;
+    for _ in &graph.webs {
+        let mut degree = 0u32;
+        for word in graph.edges.row(web) {
+            degree = degree.saturating_add(word.count_ones());
+        }
+        degrees.push(degree)?;
+        web = web.saturating_add(1);
+    }
+    Ok(degrees)
+}

@@ -1,0 +1,124 @@
+//! Points: a pseudo-register in front of a node where it is live. A point's number counts the bits of the rows in front of it.
+
+use crate::live::Live;
+use std::alloc::{AllocError, Global};
+
+/// The points of a function: the number of the first of each node, and behind them how many there are.
+#[derive(Drop)]
+pub struct Points {
+    firsts: Vec<usize>,
+}
+
+impl Points {
+    /// Those of so many nodes.
+    pub fn of(alloc: Global, nodes: usize, live: Live<'_>) -> Result<Points, AllocError> {
+        let mut firsts = Vec::new(alloc);
+        let mut count = 0usize;
+        for node in 0..nodes {
+            firsts.push(count)?;
+            for word in 0..live.words() {
+                count = count.saturating_add(ones(live.word(node, word)));
+            }
+        }
+        firsts.push(count)?;
+        Ok(Points { firsts })
+    }
+
+    /// How many there are.
+    pub fn count(&self) -> usize {
+        self.firsts.last().copied().unwrap_or(0)
+    }
+
+    /// The first point of a node, and behind the last node the number of all.
+    pub fn first(&self, node: usize) -> usize {
+        self.firsts.get(node).copied().unwrap_or(usize::MAX)
+    }
+
+    /// The point of a register that is live in front of a node.
+    pub fn point(&self, live: Live<'_>, node: usize, register: u32) -> Option<usize> {
+        let place = register as usize / 64;
+        let bits = live.word(node, place);
+        let bit = 1u64 << (register % 64);
+        if bits & bit == 0 {
+            return None;
+        }
+        let mut point = self.first(node);
+        for word in 0..place.min(live.words()) {
+            point = point.saturating_add(ones(live.word(node, word)));
+        }
+        Some(point.saturating_add(ones(bits & bit.wrapping_sub(1))))
+    }
+
+    /// Fills a list with the two points of each register that is live in front of both nodes, but for one register.
+    pub fn common(
+        &self,
+        live: Live<'_>,
+        node: usize,
+        behind: usize,
+        but: Option<u32>,
+        into: &mut Vec<(usize, usize)>,
+    ) -> Result<(), AllocError> {
+        into.clear();
+        let mut row = Row {
+            first: self.first(node),
+            bits: 0,
+        };
+        let mut other = Row {
+            first: self.first(behind),
+            bits: 0,
+        };
+        for word in 0..live.words() {
+            row.bits = live.word(node, word);
+            other.bits = live.word(behind, word);
+            add_common(row, other, !bit_in(but, word), into)?;
+            row.first = row.first.saturating_add(ones(row.bits));
+            other.first = other.first.saturating_add(ones(other.bits));
+        }
+        Ok(())
+    }
+}
+
+// One word of a row, and the point of its first bit.
+#[derive(Clone, Copy)]
+struct Row {
+    first: usize,
+    bits: u64,
+}
+
+impl Row {
+    // The point of a bit, of which the bits below are given.
+    fn point(self, below: u64) -> usize {
+        self.first.saturating_add(ones(self.bits & below))
+    }
+}
+
+fn ones(word: u64) -> usize {
+    word.count_ones() as usize
+}
+
+// The bit of a register in one word of a row.
+fn bit_in(register: Option<u32>, word: usize) -> u64 {
+    match register {
+        Some(register) if register as usize / 64 == word => 1 << (register % 64),
+        _ => 0,
+    }
+}
+
+// Adds the points of the bits that two words have in common.
+fn add_common(
+    row: Row,
+    other: Row,
+    mask: u64,
+    into: &mut Vec<(usize, usize)>,
+) -> Result<(), AllocError> {
+    let mut rest = row.bits & other.bits & mask;
+    for _ in 0..64 {
+        if rest == 0 {
+            break;
+        }
+        let below = (rest & rest.wrapping_neg()).wrapping_sub(1);
+        into.push((row.point(below), other.point(below)))?;
+        rest &= rest.wrapping_sub(1);
+    }
+    Ok(())
+}

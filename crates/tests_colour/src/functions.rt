@@ -1,0 +1,75 @@
+// From a text to a function's RTL without what nobody needs, and to its registers.
+
+use cc_cminor::to_cminor;
+use cc_colour::colour;
+use cc_live::{drop_faint, liveness};
+use cc_ltl::Ltl;
+use cc_rtl::{RtlPair, to_rtl};
+use cc_syntax::parse;
+use cc_typing::{TypedUnit, check};
+use cc_validate::{Refused, validate};
+use std::alloc::Global;
+use std::sync::Arc;
+use std::test::Fail;
+
+/// A text's typed unit.
+pub fn unit_of(alloc: Global, text: &[u8]) -> Result<Arc<TypedUnit>, Fail> {
+    let parsed = parse(alloc, text)?;
+    let unit = check(alloc, parsed)?;
+    Ok(Arc::new(alloc, unit)?)
+}
+
+/// The RTL of one function, without what nobody needs.
+pub fn pair_of(alloc: Global, unit: &Arc<TypedUnit>, function: usize) -> Result<RtlPair, Fail> {
+    if function >= unit.functions() {
+        return Err(Fail::from("no such function"));
+    }
+    let cminor = to_cminor(alloc, unit, function)?;
+    let mut pair = to_rtl(alloc, cminor)?;
+    drop_faint(alloc, &mut pair)?;
+    Ok(pair)
+}
+
+/// Its LTL in registers.
+pub fn coloured(alloc: Global, pair: &RtlPair) -> Result<Ltl, Fail> {
+    let live = liveness(alloc, pair.code())?;
+    let ltl = colour(alloc, pair.code(), &live)?;
+    drop(live);
+    Ok(ltl)
+}
+
+/// The LTL of the first function of a text.
+pub fn first_coloured(alloc: Global, text: &[u8]) -> Result<Ltl, Fail> {
+    let unit = unit_of(alloc, text)?;
+    let pair = pair_of(alloc, &unit, 0)?;
+    let ltl = coloured(alloc, &pair)?;
+    drop(pair);
+    Ok(ltl)
+}
+
+/// Whether the validator takes the registers of one function of a unit.
+pub fn is_accepted(alloc: Global, unit: &Arc<TypedUnit>, function: usize) -> Result<bool, Fail> {
+    let pair = pair_of(alloc, unit, function)?;
+    let ltl = coloured(alloc, &pair)?;
+    match validate(alloc, pair, ltl) {
+        Ok(pair) => {
+            drop(pair);
+            Ok(true)
+        }
+        Err(Refused { pair, .. }) => {
+            drop(pair);
+            Ok(false)
+        }
+    }
+}
+
+/// Whether it takes those of all functions of a text.
+pub fn all_are_accepted(alloc: Global, text: &[u8]) -> Result<bool, Fail> {
+    let unit = unit_of(alloc, text)?;
+    for function in 0..unit.functions() {
+        if !is_accepted(alloc, &unit, function)? {
+            return Ok(false);
+        }
+    }
+    Ok(true)
+}
