@@ -167,4 +167,5 @@ def main():
     return 1 if other else 0
 
 
-sys.exit(main())
+if __name__ == "__main__":
+    sys.exit(main())

@@ -15,7 +15,7 @@ use Rattle.cc_ltl.specs.Registers.{IsAllocatable}
 use Rattle.cc_ltl.specs.Ltl.{Locations, put}
 use Rattle.cc_linear.specs.declared.item.Item as linear
 use Rattle.cc_linear.specs.declared.item.Item.TheVariants.{Jump, IfNonzero, IfZero, Copy, Const, Unary, Binary, Load, Store, Read, Write}
-use Rattle.cc_linear.specs.Linear.{at_items, linear_move, place as items_from}
+use Rattle.cc_linear.specs.Linear.{at_items, linear_move, place}
 use Rattle.cc_rv32.specs.declared.instr.Instr.{Instr}
 use Rattle.cc_rv32.specs.declared.instr.Instr.TheVariants as instr
 use Rattle.cc_rv32.specs.declared.instr.Instr.TheVariants.{Branch, Ecall, Lui, Op, OpImm, Shift}
@@ -23,16 +23,18 @@ use Rattle.cc_rv32.specs.declared.instr.BranchOperation.{BranchOperation}
 use Rattle.cc_rv32.specs.declared.instr.BranchOperation.TheVariants.{Beq, Bne}
 use Rattle.cc_rv32.specs.declared.instr.ImmediateOperation.TheVariants.{Addi, Sltiu}
 use Rattle.cc_rv32.specs.declared.instr.ShiftOperation.TheVariants.{Slli}
-use Rattle.cc_rv32.specs.declared.instr.Operation as operation
 use Rattle.cc_rv32.specs.declared.instr.Operation.TheVariants as operations
 use Rattle.cc_rv32.specs.Machine as machine
 use Rattle.cc_rv32.specs.Machine.{Continues, State, Traps, branches, computed, execute, is_accessible, is_taken, puts, with_register, with_word}
 use Rattle.cc_emit.specs.declared.item.Item.TheVariants.{Go, Plain}
+use Rattle.cc_emit.specs.declared.step.Step.{Step}
+use Rattle.cc_emit.specs.declared.step.Step.TheVariants.{One}
 use Rattle.cc_emit.specs.Contract.{Code, IsPlace, Path, Shares}
 use Rattle.cc_emit.specs.Frames.{Frame}
-use Rattle.cc_emit.specs.Emission.{Direct, NonzeroOf, Recipe, ZeroOf, ZeroOfExchanged, addi, branch_items, branch_size, distance, high, low, prologue_size, recipe, recipe_items, recipe_size, unary_instr}
+use Rattle.cc_emit.specs.Emission.{Direct, NonzeroOf, Recipe, ZeroOf, ZeroOfExchanged, addi, branch_items, branch_size, const_items, const_size, distance, high, low, prologue_size, recipe, recipe_items, recipe_size, unary_instr}
 use Rattle.cc_emit.proofs.Fine.{IsTarget}
 use Rattle.cc_emit.proofs.Basics.{in_stack, in_globals, high_low, high_word, first_word, eqb_yes, eqb_says, same_first, got}
+use Rattle.cc_emit.proofs.Stepping.{items_behind, steps_from, place_stands}
 use Rattle.cc_emit.proofs.Places.{DistanceIs, Nears, distance_is, stays_near}
 use Rattle.cc_emit.proofs.Recipes.{IsRight, recipe_right, binary_word, unary_right, unary_executes}
 use Rattle.cc_emit.proofs.Standing.{long_of, Site, Standing, Stands, near, labels, machine_step, first_items, standing_tail, standing_from, step_at, jump_step}
@@ -40,7 +42,7 @@ use Rattle.cc_emit.proofs.Saving.{load_step, store_step}
 use Rattle.cc_emit.proofs.Within.{Within, with_element, within_set, within_scratch, within_pc, within_slot, within_store, within_read, within_write, low_stack}
 
 -- the machine comes to where these items stand
-pub record Reaches (x : Site) (next : List linear.Item) (l : Locations) (h : World) (s : State) : Type 0 where
+pub record Reaches (x : Site) (next : List Step) (l : Locations) (h : World) (s : State) : Type 0 where
   pub more : ℕ
   pub to : State
   pub path : Path x.code (suc more) s to
@@ -51,57 +53,78 @@ pub record Reaches (x : Site) (next : List linear.Item) (l : Locations) (h : Wor
   pub within : Within x l h to
 
 -- one move of Linear, with the words that it takes
-pub record Stepped (x : Site) (ops : List linear.Item) (l : Locations) (h : World) (s : State) : Type 0 where
+pub record Stepped (x : Site) (ops : List Step) (l : Locations) (h : World) (s : State) : Type 0 where
   pub front : List ℕ
   pub are_words : AreWords front
-  pub next : List linear.Item
+  pub next : List Step
   pub locations : Locations
   pub world : World
-  pub moves : (ws : List ℕ) → linear_move x.meaning.arity x.items (at_items ops l h (front ++ ws)) ≡ Goes (at_items next locations world ws)
+  pub moves : (ws : List ℕ) → linear_move x.meaning.arity (items_behind x.steps) (at_items (items_behind ops) l h (front ++ ws)) ≡ Goes (at_items (items_behind next) locations world ws)
   pub reaches : Reaches x next locations world s
 
 -- or none, since it goes wrong
-abbrev pub Case : (x : Site) (ops : List linear.Item) (l : Locations) (h : World) (s : State) → Type 0
-Case x ops l h s = Stepped x ops l h s ⊎ ((ws : List ℕ) → linear_move x.meaning.arity x.items (at_items ops l h ws) ≡ Fails)
+abbrev pub Case : (x : Site) (ops : List Step) (l : Locations) (h : World) (s : State) → Type 0
+Case x ops l h s = Stepped x ops l h s ⊎ ((ws : List ℕ) → linear_move x.meaning.arity (items_behind x.steps) (at_items (items_behind ops) l h ws) ≡ Fails)
 
-reach_more : (x : Site) (next : List linear.Item) (l : Locations) (h : World) (s u : State) → machine_step x.code s ≡ Continues u → Reaches x next l h u → Reaches x next l h s
+reach_more : (x : Site) (next : List Step) (l : Locations) (h : World) (s u : State) → machine_step x.code s ≡ Continues u → Reaches x next l h u → Reaches x next l h s
 reach_more x next l h s u e r = record { more = suc r.more; to = r.to; path = (u, e, r.path); long = r.long; offset = r.offset; at = r.at; standing = r.standing; within = r.within }
 
--- the last instruction
-reach_by : (x : Site) (next : List linear.Item) (l : Locations) (h : World) (s t : State) (v b : ℕ) → machine_step x.code s ≡ Continues t → t.pc ≡ x.place + 4 * b → Standing x v b next → Within x l h t → Reaches x next l h s
-reach_by x next l h s t v b e at st w = record { more = 0; to = t; path = (t, e, refl); long = v; offset = b; at = at; standing = st; within = w }
+-- the machine comes to an item of the piece
+pub record Walked (x : Site) (l : Locations) (h : World) (s : State) (b : ℕ) : Type 0 where
+  pub more : ℕ
+  pub to : State
+  pub path : Path x.code (suc more) s to
+  pub at : to.pc ≡ x.place + 4 * b
+  pub within : Within x l h to
+
+pub reaches_of : (x : Site) (next : List Step) (l : Locations) (h : World) (s : State) (v b : ℕ) → Walked x l h s b → Standing x v b next → Reaches x next l h s
+reaches_of x next l h s v b r st = record { more = r.more; to = r.to; path = r.path; long = v; offset = b; at = r.at; standing = st; within = r.within }
+
+pub walk_more : (x : Site) (l : Locations) (h : World) (s u : State) (b : ℕ) → machine_step x.code s ≡ Continues u → Walked x l h u b → Walked x l h s b
+walk_more x l h s u b e r = record { more = suc r.more; to = r.to; path = (u, e, r.path); at = r.at; within = r.within }
+
+pub walk_by : (x : Site) (l : Locations) (h : World) (s t : State) (b : ℕ) → machine_step x.code s ≡ Continues t → t.pc ≡ x.place + 4 * b → Within x l h t → Walked x l h s b
+walk_by x l h s t b e at w = record { more = 0; to = t; path = (t, e, refl); at = at; within = w }
 
 -- the last instruction sets a register
-reach_set : (x : Site) (next : List linear.Item) (l : Locations) (h : World) (s : State) (p q b d v : ℕ) (i : Instr) → s.pc ≡ p → x.code p ≡ Some i → p + 4 ≡ x.place + 4 * b → execute i s ≡ puts d v s → IsTarget x.frame d → v < 2 ^ 32 → Standing x q b next → Within x l h s → Reaches x next (put (Register d) v l) h s
+walk_set : (x : Site) (l : Locations) (h : World) (s : State) (p b d v : ℕ) (i : Instr) → s.pc ≡ p → x.code p ≡ Some i → p + 4 ≡ x.place + 4 * b → execute i s ≡ puts d v s → IsTarget x.frame d → v < 2 ^ 32 → Within x l h s → Walked x (put (Register d) v l) h s b
+walk_set x l h s p b d v i e f g k u lt w =
+    walk_by x (put (Register d) v l) h s (record s { pc = s.pc + 4; registers = with_register s.registers d v }) b (step_at x.code s p i e f ∙ k) (ap (λ n. n + 4) e ∙ g) (within_set x l h s (s.pc + 4) d v u lt w)
+
+-- the last instruction
+reach_by : (x : Site) (next : List Step) (l : Locations) (h : World) (s t : State) (v b : ℕ) → machine_step x.code s ≡ Continues t → t.pc ≡ x.place + 4 * b → Standing x v b next → Within x l h t → Reaches x next l h s
+reach_by x next l h s t v b e at st w = record { more = 0; to = t; path = (t, e, refl); long = v; offset = b; at = at; standing = st; within = w }
+
+pub reach_set : (x : Site) (next : List Step) (l : Locations) (h : World) (s : State) (p q b d v : ℕ) (i : Instr) → s.pc ≡ p → x.code p ≡ Some i → p + 4 ≡ x.place + 4 * b → execute i s ≡ puts d v s → IsTarget x.frame d → v < 2 ^ 32 → Standing x q b next → Within x l h s → Reaches x next (put (Register d) v l) h s
 reach_set x next l h s p q b d v i e f g k u lt st w =
     reach_by x next (put (Register d) v l) h s (record s { pc = s.pc + 4; registers = with_register s.registers d v }) q b (step_at x.code s p i e f ∙ k) (ap (λ n. n + 4) e ∙ g) st (within_set x l h s (s.pc + 4) d v u lt w)
 
 -- an item that is done
-stepped : (x : Site) (ops next : List linear.Item) (l k : Locations) (h g : World) (s : State) → ((ws : List ℕ) → linear_move x.meaning.arity x.items (at_items ops l h ws) ≡ Goes (at_items next k g ws)) → Reaches x next k g s → Stepped x ops l h s
+pub stepped : (x : Site) (ops next : List Step) (l k : Locations) (h g : World) (s : State) → ((ws : List ℕ) → linear_move x.meaning.arity (items_behind x.steps) (at_items (items_behind ops) l h ws) ≡ Goes (at_items (items_behind next) k g ws)) → Reaches x next k g s → Stepped x ops l h s
 stepped x ops next l k h g s moves r = record { front = []; are_words = tt; next = next; locations = k; world = g; moves = moves; reaches = r }
 
-abbrev Given : (x : Site) (w a : ℕ) (ops : List linear.Item) (l : Locations) (h : World) (s : State) → Type 0
+abbrev pub Given : (x : Site) (w a : ℕ) (ops : List Step) (l : Locations) (h : World) (s : State) → Type 0
 Given x w a ops l h s = (s.pc ≡ x.place + 4 * a) × Standing x w a ops × Within x l h s
 
-word_of_register : (x : Site) (l : Locations) (h : World) (s : State) (r : ℕ) → IsAllocatable r → Within x l h s → l (Register r) < 2 ^ 32
+pub word_of_register : (x : Site) (l : Locations) (h : World) (s : State) (r : ℕ) → IsAllocatable r → Within x l h s → l (Register r) < 2 ^ 32
 word_of_register x l h s r u w = let e = w.same r u in let b = w.sound.registers r in omega arith
 
 -- ---- jumps and branches
 
 -- the function's items stand behind its prologue
 abbrev pub StandsWhole : Site → Type 0
-StandsWhole x = Standing x 0 (prologue_size x.frame) x.items
+StandsWhole x = Standing x 0 (prologue_size x.frame) x.steps
 
 -- to a label
-reach_jump : (x : Site) (p n : ℕ) (l : Locations) (h : World) (s : State) → s.pc ≡ p → IsPlace p → x.code p ≡ Some (instr.Jal 0 ((x.place + 4 * labels x n + (2 ^ 32 - p)) % 2 ^ 32)) → StandsWhole x → Within x l h s → Reaches x (items_from x.items n) l h s
+reach_jump : (x : Site) (p n : ℕ) (l : Locations) (h : World) (s : State) → s.pc ≡ p → IsPlace p → x.code p ≡ Some (instr.Jal 0 ((x.place + 4 * labels x n + (2 ^ 32 - p)) % 2 ^ 32)) → StandsWhole x → Within x l h s → Reaches x (steps_from x.steps n) l h s
 reach_jump x p n l h s e from f all w =
     let b = labels x n in
-    let target = standing_from x n 0 (prologue_size x.frame) x.items all in
-    reach_by x (items_from x.items n) l h s (record s { pc = x.place + 4 * b }) _ b (jump_step x.code s p (x.place + 4 * b) e from target.from f) refl target (within_pc x l h s (x.place + 4 * b) w)
+    let target = standing_from x n 0 (prologue_size x.frame) x.steps all in
+    reach_by x (steps_from x.steps n) l h s (record s { pc = x.place + 4 * b }) _ b (jump_step x.code s p (x.place + 4 * b) e from target.from f) refl target (within_pc x l h s (x.place + 4 * b) w)
 
-pub jump_case : (x : Site) (w a n : ℕ) (rest : List linear.Item) (l : Locations) (h : World) (s : State) → Given x w a (Jump n ∷ rest) l h s → StandsWhole x → Stepped x (Jump n ∷ rest) l h s
+pub jump_case : (x : Site) (w a n : ℕ) (rest : List Step) (l : Locations) (h : World) (s : State) → Given x w a (One (Jump n) ∷ rest) l h s → StandsWhole x → Stepped x (One (Jump n) ∷ rest) l h s
 jump_case x w a n rest l h s (e, st, inside) all =
-    stepped x (Jump n ∷ rest) (items_from x.items n) l l h h s (λ ws. refl) (reach_jump x (x.place + 4 * a) n l h s e st.from (first_items x w a (Jump n) rest st).0 all inside)
+    stepped x (One (Jump n) ∷ rest) (steps_from x.steps n) l l h h s (λ ws. ap (λ is. Goes (at_items is l h ws)) (place_stands x.steps n)) (reach_jump x (x.place + 4 * a) n l h s e st.from (first_items x w a (One (Jump n)) rest st).0 all inside)
 
 -- a branch goes on at one of two places
 branch_step : (code : Code) (s : State) (p q : ℕ) (i : Instr) (t : Bool) → s.pc ≡ p → q % 4 ≡ 0 → code p ≡ Some i → (to : ℕ) → execute i s ≡ branches t to s → (t ≡ true → to ≡ q) → machine_step code s ≡ Continues (record s { pc = if t then q else p + 4 })
@@ -110,8 +133,8 @@ branch_step code s p q i true e z f to k there =
 branch_step code s p q i false e z f to k there = step_at code s p i e f ∙ k ∙ ap (λ n. Continues (record s { pc = n + 4 })) e
 
 -- the long form: the branch over the jump, then the jump or not
-over_reaches : (x : Site) (v a n : ℕ) (next rest : List linear.Item) (l : Locations) (h : World) (s : State) (i : Instr) (t : Bool) → s.pc ≡ x.place + 4 * a → Within x l h s → IsPlace (x.place + 4 * a) → Standing x v (a + 2) rest → StandsWhole x
-    → Stands x (x.place + 4 * a) (Plain i ∷ Go (labels x n) ∷ []) → execute i s ≡ branches t (add s.pc 8) s → (if t then rest else items_from x.items n) ≡ next → Reaches x next l h s
+over_reaches : (x : Site) (v a n : ℕ) (next rest : List Step) (l : Locations) (h : World) (s : State) (i : Instr) (t : Bool) → s.pc ≡ x.place + 4 * a → Within x l h s → IsPlace (x.place + 4 * a) → Standing x v (a + 2) rest → StandsWhole x
+    → Stands x (x.place + 4 * a) (Plain i ∷ Go (labels x n) ∷ []) → execute i s ≡ branches t (add s.pc 8) s → (if t then rest else steps_from x.steps n) ≡ next → Reaches x next l h s
 over_reaches x v a n next rest l h s i true e inside p st all f k same =
     let q = p.to in
     let z = p.aligned in
@@ -132,17 +155,17 @@ offset_arrives place a b y pc p q n (inl d) e = let x = p.to in let z = q.to in 
 offset_arrives place a b y pc p q n (inr d) e = let x = p.to in let z = q.to in let u = n.0 in let v = n.1 in let g = d.0 in let k = d.1 in omega arith
 
 -- the short form
-short_reaches : (x : Site) (v a n : ℕ) (next rest : List linear.Item) (l : Locations) (h : World) (s : State) (i : Instr) (t : Bool) → s.pc ≡ x.place + 4 * a → Within x l h s → IsPlace (x.place + 4 * a) → Standing x v (a + 1) rest → StandsWhole x
-    → Nears a (labels x n) → Stands x (x.place + 4 * a) (Plain i ∷ []) → execute i s ≡ branches t (add s.pc (distance a (labels x n))) s → (if t then items_from x.items n else rest) ≡ next → Reaches x next l h s
+short_reaches : (x : Site) (v a n : ℕ) (next rest : List Step) (l : Locations) (h : World) (s : State) (i : Instr) (t : Bool) → s.pc ≡ x.place + 4 * a → Within x l h s → IsPlace (x.place + 4 * a) → Standing x v (a + 1) rest → StandsWhole x
+    → Nears a (labels x n) → Stands x (x.place + 4 * a) (Plain i ∷ []) → execute i s ≡ branches t (add s.pc (distance a (labels x n))) s → (if t then steps_from x.steps n else rest) ≡ next → Reaches x next l h s
 short_reaches x v a n next rest l h s i true e inside p st all nears f k same =
     let b = labels x n in
-    let target = standing_from x n 0 (prologue_size x.frame) x.items all in
+    let target = standing_from x n 0 (prologue_size x.frame) x.steps all in
     let there = offset_arrives x.place a b (distance a b) s.pc p target.from nears (distance_is a b) e in
     let one = branch_step x.code s (x.place + 4 * a) (x.place + 4 * b) i true e target.from.aligned f.0 (add s.pc (distance a b)) k (λ t. there) in
     reach_by x next l h s (record s { pc = x.place + 4 * b }) _ b one refl (subst (Standing x _ b) same target) (within_pc x l h s (x.place + 4 * b) inside)
 short_reaches x v a n next rest l h s i false e inside p st all nears f k same =
     let b = labels x n in
-    let target = standing_from x n 0 (prologue_size x.frame) x.items all in
+    let target = standing_from x n 0 (prologue_size x.frame) x.steps all in
     let there = offset_arrives x.place a b (distance a b) s.pc p target.from nears (distance_is a b) e in
     let one = branch_step x.code s (x.place + 4 * a) (x.place + 4 * b) i false e target.from.aligned f.0 (add s.pc (distance a b)) k (λ t. there) in
     reach_by x next l h s (record s { pc = x.place + 4 * a + 4 }) v (a + 1) one (omega arith) (subst (Standing x v (a + 1)) same st) (within_pc x l h s (x.place + 4 * a + 4) inside)
@@ -152,31 +175,36 @@ if_not true p q = refl
 if_not false p q = refl
 
 -- a branch in either form; the opposite one is taken where it is not
-branch_reaches : (x : Site) (v a n : ℕ) (next rest : List linear.Item) (l : Locations) (h : World) (s : State) (o c : BranchOperation) (r : ℕ) (t is : Bool) → s.pc ≡ x.place + 4 * a → Within x l h s → IsPlace (x.place + 4 * a) → Standing x v (a + branch_size is) rest → StandsWhole x
-    → (is ≡ true → Nears a (labels x n)) → Stands x (x.place + 4 * a) (branch_items is o c r a (labels x n)) → is_taken o (s.registers r) (s.registers 0) ≡ t → is_taken c (s.registers r) (s.registers 0) ≡ not t → (if t then items_from x.items n else rest) ≡ next → Reaches x next l h s
+branch_reaches : (x : Site) (v a n : ℕ) (next rest : List Step) (l : Locations) (h : World) (s : State) (o c : BranchOperation) (r : ℕ) (t is : Bool) → s.pc ≡ x.place + 4 * a → Within x l h s → IsPlace (x.place + 4 * a) → Standing x v (a + branch_size is) rest → StandsWhole x
+    → (is ≡ true → Nears a (labels x n)) → Stands x (x.place + 4 * a) (branch_items is o c r a (labels x n)) → is_taken o (s.registers r) (s.registers 0) ≡ t → is_taken c (s.registers r) (s.registers 0) ≡ not t → (if t then steps_from x.steps n else rest) ≡ next → Reaches x next l h s
 branch_reaches x v a n next rest l h s o c r t true e inside p st all nears f taken opposite same =
     short_reaches x v a n next rest l h s (Branch o r 0 (distance a (labels x n))) t e inside p st all (nears refl) f (ap (λ b. branches b (add s.pc (distance a (labels x n))) s) taken) same
 branch_reaches x v a n next rest l h s o c r t false e inside p st all nears f taken opposite same =
-    over_reaches x v a n next rest l h s (Branch c r 0 8) (not t) e inside p st all f (ap (λ b. branches b (add s.pc 8) s) opposite) (if_not t rest (items_from x.items n) ∙ same)
+    over_reaches x v a n next rest l h s (Branch c r 0 8) (not t) e inside p st all f (ap (λ b. branches b (add s.pc 8) s) opposite) (if_not t rest (steps_from x.steps n) ∙ same)
 
 zero_test : (x : Site) (l : Locations) (h : World) (s : State) (r : ℕ) → IsAllocatable r → Within x l h s → (s.registers r == s.registers 0) ≡ (l (Register r) == 0)
 zero_test x l h s r u w = ap₂ (λ p q. p == q) (sym (w.same r u)) w.sound.zero
 
-pub if_zero_case : (x : Site) (w a r n : ℕ) (rest : List linear.Item) (l : Locations) (h : World) (s : State) → Given x w a (IfZero r n ∷ rest) l h s → StandsWhole x → Stepped x (IfZero r n ∷ rest) l h s
+-- where one goes on
+stands_either : (t : Bool) (is ks : List linear.Item) (xs ys : List Step) → is ≡ items_behind xs → ks ≡ items_behind ys → (if t then is else ks) ≡ items_behind (if t then xs else ys)
+stands_either true is ks xs ys p q = p
+stands_either false is ks xs ys p q = q
+
+pub if_zero_case : (x : Site) (w a r n : ℕ) (rest : List Step) (l : Locations) (h : World) (s : State) → Given x w a (One (IfZero r n) ∷ rest) l h s → StandsWhole x → Stepped x (One (IfZero r n) ∷ rest) l h s
 if_zero_case x w a r n rest l h s (e, st, inside) all =
     let t = l (Register r) == 0 in
-    let next : List linear.Item = if t then items_from x.items n else rest in
+    let next : List Step = if t then steps_from x.steps n else rest in
     let test = zero_test x l h s r st.fine.0 inside in
-    stepped x (IfZero r n ∷ rest) next l l h h s (λ ws. refl)
-    (branch_reaches x _ a n next rest l h s Beq Bne r t (near x w n) e inside st.from (standing_tail x w a (IfZero r n) rest st) all (stays_near x.frame x.items (IfZero r n ∷ rest) w a n st.seen) (first_items x w a (IfZero r n) rest st) test (ap not test) refl)
+    stepped x (One (IfZero r n) ∷ rest) next l l h h s (λ ws. ap (λ is. Goes (at_items is l h ws)) (stands_either t (place (items_behind x.steps) n) (items_behind rest) (steps_from x.steps n) rest (place_stands x.steps n) refl))
+    (branch_reaches x _ a n next rest l h s Beq Bne r t (near x w n) e inside st.from (standing_tail x w a (One (IfZero r n)) rest st) all (stays_near x.frame x.steps (One (IfZero r n) ∷ rest) w a n st.seen) (first_items x w a (One (IfZero r n)) rest st) test (ap not test) refl)
 
-pub if_nonzero_case : (x : Site) (w a r n : ℕ) (rest : List linear.Item) (l : Locations) (h : World) (s : State) → Given x w a (IfNonzero r n ∷ rest) l h s → StandsWhole x → Stepped x (IfNonzero r n ∷ rest) l h s
+pub if_nonzero_case : (x : Site) (w a r n : ℕ) (rest : List Step) (l : Locations) (h : World) (s : State) → Given x w a (One (IfNonzero r n) ∷ rest) l h s → StandsWhole x → Stepped x (One (IfNonzero r n) ∷ rest) l h s
 if_nonzero_case x w a r n rest l h s (e, st, inside) all =
     let t = l (Register r) == 0 in
-    let next : List linear.Item = if t then rest else items_from x.items n in
+    let next : List Step = if t then rest else steps_from x.steps n in
     let test = zero_test x l h s r st.fine.0 inside in
-    stepped x (IfNonzero r n ∷ rest) next l l h h s (λ ws. refl)
-    (branch_reaches x _ a n next rest l h s Bne Beq r (not t) (near x w n) e inside st.from (standing_tail x w a (IfNonzero r n) rest st) all (stays_near x.frame x.items (IfNonzero r n ∷ rest) w a n st.seen) (first_items x w a (IfNonzero r n) rest st) (ap not test) (test ∙ sym (not_not t)) (if_not t (items_from x.items n) rest))
+    stepped x (One (IfNonzero r n) ∷ rest) next l l h h s (λ ws. ap (λ is. Goes (at_items is l h ws)) (stands_either t (items_behind rest) (place (items_behind x.steps) n) rest (steps_from x.steps n) refl (place_stands x.steps n)))
+    (branch_reaches x _ a n next rest l h s Bne Beq r (not t) (near x w n) e inside st.from (standing_tail x w a (One (IfNonzero r n)) rest st) all (stays_near x.frame x.steps (One (IfNonzero r n) ∷ rest) w a n st.seen) (first_items x w a (One (IfNonzero r n)) rest st) (ap not test) (test ∙ sym (not_not t)) (if_not t (steps_from x.steps n) rest))
   where
     not_not : (b : Bool) → not (not b) ≡ b
     not_not true = refl
@@ -184,7 +212,7 @@ if_nonzero_case x w a r n rest l h s (e, st, inside) all =
 
 -- ---- registers
 
-behind_1 : (place a : ℕ) → place + 4 * a + 4 ≡ place + 4 * (a + 1)
+pub behind_1 : (place a : ℕ) → place + 4 * a + 4 ≡ place + 4 * (a + 1)
 behind_1 place a = omega arith
 
 behind_2 : (place a : ℕ) → place + 4 * a + 4 + 4 ≡ place + 4 * (a + 2)
@@ -194,76 +222,78 @@ behind_4 : (place a : ℕ) → place + 4 * a + 4 + 4 + 4 + 4 ≡ place + 4 * (a 
 behind_4 place a = omega arith
 
 -- a word, by the parts that are not zero
-const_reaches : (x : Site) (v a to word : ℕ) (no_high no_low : Bool) (rest : List linear.Item) (l : Locations) (h : World) (s : State) → s.pc ≡ x.place + 4 * a → Within x l h s → IsTarget x.frame to → word < 2 ^ 32 → (no_high ≡ true → high word ≡ 0) → (no_low ≡ true → low word ≡ 0)
-    → Standing x v (a + (if no_high then 1 else if no_low then 1 else 2)) rest
+const_walks_by : (x : Site) (a to word : ℕ) (no_high no_low : Bool) (l : Locations) (h : World) (s : State) → s.pc ≡ x.place + 4 * a → Within x l h s → IsTarget x.frame to → word < 2 ^ 32 → (no_high ≡ true → high word ≡ 0) → (no_low ≡ true → low word ≡ 0)
     → Stands x (x.place + 4 * a) (if no_high then addi to 0 (low word) ∷ [] else if no_low then Plain (Lui to (high word)) ∷ [] else Plain (Lui 5 (high word)) ∷ addi to 5 (low word) ∷ [])
-    → Reaches x rest (put (Register to) word l) h s
-const_reaches x v a to word true no_low rest l h s e inside u lt is_high is_low st f =
+    → Walked x (put (Register to) word l) h s (a + (if no_high then 1 else if no_low then 1 else 2))
+const_walks_by x a to word true no_low l h s e inside u lt is_high is_low f =
     let zero = inside.sound.zero in
     let none = is_high refl in
     let both = high_low word lt in
     let value : add (s.registers 0) (low word) ≡ word = omega arith in
-    reach_set x rest l h s (x.place + 4 * a) v (a + 1) to word (OpImm Addi to 0 (low word)) e f.0 (behind_1 x.place a) (ap (λ n. puts to n s) value) u lt st inside
-const_reaches x v a to word false true rest l h s e inside u lt is_high is_low st f =
+    walk_set x l h s (x.place + 4 * a) (a + 1) to word (OpImm Addi to 0 (low word)) e f.0 (behind_1 x.place a) (ap (λ n. puts to n s) value) u lt inside
+const_walks_by x a to word false true l h s e inside u lt is_high is_low f =
     let none = is_low refl in
     let both = high_low word lt in
     let small = high_word word in
     let value : high word * 2 ^ 12 ≡ word = omega arith in
-    reach_set x rest l h s (x.place + 4 * a) v (a + 1) to word (Lui to (high word)) e f.0 (behind_1 x.place a) (ap (λ n. puts to n s) value) u lt st inside
-const_reaches x v a to word false false rest l h s e inside u lt is_high is_low st f =
+    walk_set x l h s (x.place + 4 * a) (a + 1) to word (Lui to (high word)) e f.0 (behind_1 x.place a) (ap (λ n. puts to n s) value) u lt inside
+const_walks_by x a to word false false l h s e inside u lt is_high is_low f =
     let up = high word * 2 ^ 12 in
     let s5 : State = record s { pc = s.pc + 4; registers = with_register s.registers 5 up } in
     let w5 = within_scratch x l h s (s.pc + 4) 5 up (omega arith) (omega arith) (high_word word) inside in
-    reach_more x rest (put (Register to) word l) h s s5 (step_at x.code s (x.place + 4 * a) (Lui 5 (high word)) e f.0)
-    (reach_set x rest l h s5 (x.place + 4 * a + 4) v (a + 2) to word (OpImm Addi to 5 (low word)) (ap (λ n. n + 4) e) f.1.0 (behind_2 x.place a) (ap (λ n. puts to n s5) (high_low word lt)) u lt st w5)
+    walk_more x (put (Register to) word l) h s s5 (a + 2) (step_at x.code s (x.place + 4 * a) (Lui 5 (high word)) e f.0)
+    (walk_set x l h s5 (x.place + 4 * a + 4) (a + 2) to word (OpImm Addi to 5 (low word)) (ap (λ n. n + 4) e) f.1.0 (behind_2 x.place a) (ap (λ n. puts to n s5) (high_low word lt)) u lt w5)
 
-pub const_case : (x : Site) (w a to word : ℕ) (rest : List linear.Item) (l : Locations) (h : World) (s : State) → Given x w a (Const to word ∷ rest) l h s → Stepped x (Const to word ∷ rest) l h s
+pub const_walks : (x : Site) (a to word : ℕ) (l : Locations) (h : World) (s : State) → s.pc ≡ x.place + 4 * a → Within x l h s → IsTarget x.frame to → word < 2 ^ 32 → Stands x (x.place + 4 * a) (const_items to word) → Walked x (put (Register to) word l) h s (a + const_size word)
+const_walks x a to word l h s e inside u lt f = const_walks_by x a to word (high word == 0) (low word == 0) l h s e inside u lt (eqb_says (high word) 0) (eqb_says (low word) 0) f
+
+pub const_case : (x : Site) (w a to word : ℕ) (rest : List Step) (l : Locations) (h : World) (s : State) → Given x w a (One (Const to word) ∷ rest) l h s → Stepped x (One (Const to word) ∷ rest) l h s
 const_case x w a to word rest l h s (e, st, inside) =
     let fine = st.fine.0 in
-    stepped x (Const to word ∷ rest) rest l (put (Register to) word l) h h s (λ ws. refl)
-    (const_reaches x _ a to word (high word == 0) (low word == 0) rest l h s e inside fine.0 fine.1 (eqb_says (high word) 0) (eqb_says (low word) 0) (standing_tail x w a (Const to word) rest st) (first_items x w a (Const to word) rest st))
+    stepped x (One (Const to word) ∷ rest) rest l (put (Register to) word l) h h s (λ ws. refl)
+    (reaches_of x rest (put (Register to) word l) h s _ (a + const_size word) (const_walks x a to word l h s e inside fine.0 fine.1 (first_items x w a (One (Const to word)) rest st)) (standing_tail x w a (One (Const to word)) rest st))
 
-pub unary_case : (x : Site) (w a to b : ℕ) (o : unary.Unary) (rest : List linear.Item) (l : Locations) (h : World) (s : State) → Given x w a (Unary o to b ∷ rest) l h s → Stepped x (Unary o to b ∷ rest) l h s
+pub unary_case : (x : Site) (w a to b : ℕ) (o : unary.Unary) (rest : List Step) (l : Locations) (h : World) (s : State) → Given x w a (One (Unary o to b) ∷ rest) l h s → Stepped x (One (Unary o to b) ∷ rest) l h s
 unary_case x w a to b o rest l h s (e, st, inside) =
     let fine = st.fine.0 in
     let v = apply_unary o (l (Register b)) in
     let r = unary_right o (s.registers b) (inside.sound.registers b) in
     let same : execute (unary_instr o to b) s ≡ puts to v s = unary_executes o to b s inside.sound.zero ∙ ap (λ n. puts to n s) (r.0 ∙ ap (apply_unary o) (sym (inside.same b fine.1))) in
-    stepped x (Unary o to b ∷ rest) rest l (put (Register to) v l) h h s (λ ws. refl)
-    (reach_set x rest l h s (x.place + 4 * a) _ (a + 1) to v (unary_instr o to b) e (first_items x w a (Unary o to b) rest st).0 (behind_1 x.place a) same fine.0 (subst (λ n. apply_unary o n < 2 ^ 32) (sym (inside.same b fine.1)) r.1) (standing_tail x w a (Unary o to b) rest st) inside)
+    stepped x (One (Unary o to b) ∷ rest) rest l (put (Register to) v l) h h s (λ ws. refl)
+    (reach_set x rest l h s (x.place + 4 * a) _ (a + 1) to v (unary_instr o to b) e (first_items x w a (One (Unary o to b)) rest st).0 (behind_1 x.place a) same fine.0 (subst (λ n. apply_unary o n < 2 ^ 32) (sym (inside.same b fine.1)) r.1) (standing_tail x w a (One (Unary o to b)) rest st) inside)
 
 -- x5, then a question about it
-asked : (x : Site) (w a to p q v t : ℕ) (o : operation.Operation) (i : Instr) (rest : List linear.Item) (l : Locations) (h : World) (s : State) → s.pc ≡ x.place + 4 * a → Standing x w (a + 2) rest → Within x l h s → Stands x (x.place + 4 * a) (Plain (Op o 5 p q) ∷ Plain i ∷ []) → computed o (s.registers p) (s.registers q) ≡ t → t < 2 ^ 32
-    → ((u : State) → u.registers 5 ≡ t → u.registers 0 ≡ 0 → execute i u ≡ puts to v u) → IsTarget x.frame to → v < 2 ^ 32 → Reaches x rest (put (Register to) v l) h s
-asked x w a to p q v t o i rest l h s e st inside items value b5 question u lt =
+pub asked : (x : Site) (w a to v t : ℕ) (i j : Instr) (rest : List Step) (l : Locations) (h : World) (s : State) → s.pc ≡ x.place + 4 * a → Standing x w (a + 2) rest → Within x l h s → Stands x (x.place + 4 * a) (Plain i ∷ Plain j ∷ []) → execute i s ≡ puts 5 t s → t < 2 ^ 32
+    → ((u : State) → u.registers 5 ≡ t → u.registers 0 ≡ 0 → execute j u ≡ puts to v u) → IsTarget x.frame to → v < 2 ^ 32 → Reaches x rest (put (Register to) v l) h s
+asked x w a to v t i j rest l h s e st inside items value b5 question u lt =
     let s5 : State = record s { pc = s.pc + 4; registers = with_register s.registers 5 t } in
     let w5 = within_scratch x l h s (s.pc + 4) 5 t (omega arith) (omega arith) b5 inside in
-    reach_more x rest (put (Register to) v l) h s s5 (step_at x.code s (x.place + 4 * a) (Op o 5 p q) e items.0 ∙ ap (λ n. puts 5 n s) value)
-    (reach_set x rest l h s5 (x.place + 4 * a + 4) w (a + 2) to v i (ap (λ n. n + 4) e) items.1.0 (behind_2 x.place a) (question s5 refl w5.sound.zero) u lt st w5)
+    reach_more x rest (put (Register to) v l) h s s5 (step_at x.code s (x.place + 4 * a) i e items.0 ∙ value)
+    (reach_set x rest l h s5 (x.place + 4 * a + 4) w (a + 2) to v j (ap (λ n. n + 4) e) items.1.0 (behind_2 x.place a) (question s5 refl w5.sound.zero) u lt st w5)
 
-recipe_reaches : (x : Site) (w a to b c v : ℕ) (k : Recipe) (rest : List linear.Item) (l : Locations) (h : World) (s : State) → s.pc ≡ x.place + 4 * a → Standing x w (a + recipe_size k) rest → Within x l h s → Stands x (x.place + 4 * a) (recipe_items k to b c) → IsTarget x.frame to → IsAllocatable b → IsAllocatable c
+recipe_reaches : (x : Site) (w a to b c v : ℕ) (k : Recipe) (rest : List Step) (l : Locations) (h : World) (s : State) → s.pc ≡ x.place + 4 * a → Standing x w (a + recipe_size k) rest → Within x l h s → Stands x (x.place + 4 * a) (recipe_items k to b c) → IsTarget x.frame to → IsAllocatable b → IsAllocatable c
     → IsRight k (l (Register b)) (l (Register c)) v → v < 2 ^ 32 → Reaches x rest (put (Register to) v l) h s
 recipe_reaches x w a to b c v (Direct i) rest l h s e st inside items u ub uc right lt =
     let value : computed i (s.registers b) (s.registers c) ≡ v = ap₂ (computed i) (sym (inside.same b ub)) (sym (inside.same c uc)) ∙ right in
     reach_set x rest l h s (x.place + 4 * a) w (a + 1) to v (Op i to b c) e items.0 (behind_1 x.place a) (ap (λ n. puts to n s) value) u lt st inside
 recipe_reaches x w a to b c v (ZeroOf i) rest l h s e st inside items u ub uc right lt =
-    asked x w a to b c v (computed i (l (Register b)) (l (Register c))) i (OpImm Sltiu to 5 1) rest l h s e st inside items (ap₂ (computed i) (sym (inside.same b ub)) (sym (inside.same c uc))) right.0 (λ t p z. ap (λ n. puts to (lt_u n 1) t) p ∙ ap (λ n. puts to n t) right.1) u lt
+    asked x w a to v (computed i (l (Register b)) (l (Register c))) (Op i 5 b c) (OpImm Sltiu to 5 1) rest l h s e st inside items (ap₂ (λ m n. puts 5 (computed i m n) s) (sym (inside.same b ub)) (sym (inside.same c uc))) right.0 (λ t p z. ap (λ n. puts to (lt_u n 1) t) p ∙ ap (λ n. puts to n t) right.1) u lt
 recipe_reaches x w a to b c v (ZeroOfExchanged i) rest l h s e st inside items u ub uc right lt =
-    asked x w a to c b v (computed i (l (Register c)) (l (Register b))) i (OpImm Sltiu to 5 1) rest l h s e st inside items (ap₂ (computed i) (sym (inside.same c uc)) (sym (inside.same b ub))) right.0 (λ t p z. ap (λ n. puts to (lt_u n 1) t) p ∙ ap (λ n. puts to n t) right.1) u lt
+    asked x w a to v (computed i (l (Register c)) (l (Register b))) (Op i 5 c b) (OpImm Sltiu to 5 1) rest l h s e st inside items (ap₂ (λ m n. puts 5 (computed i m n) s) (sym (inside.same c uc)) (sym (inside.same b ub))) right.0 (λ t p z. ap (λ n. puts to (lt_u n 1) t) p ∙ ap (λ n. puts to n t) right.1) u lt
 recipe_reaches x w a to b c v (NonzeroOf i) rest l h s e st inside items u ub uc right lt =
-    asked x w a to b c v (computed i (l (Register b)) (l (Register c))) i (Op operations.Sltu to 0 5) rest l h s e st inside items (ap₂ (computed i) (sym (inside.same b ub)) (sym (inside.same c uc))) right.0 (λ t p z. ap₂ (λ n k. puts to (lt_u k n) t) p z ∙ ap (λ n. puts to n t) right.1) u lt
+    asked x w a to v (computed i (l (Register b)) (l (Register c))) (Op i 5 b c) (Op operations.Sltu to 0 5) rest l h s e st inside items (ap₂ (λ m n. puts 5 (computed i m n) s) (sym (inside.same b ub)) (sym (inside.same c uc))) right.0 (λ t p z. ap₂ (λ n k. puts to (lt_u k n) t) p z ∙ ap (λ n. puts to n t) right.1) u lt
 
-binary_at : (x : Site) (w a to b c : ℕ) (o : binary.Binary) (rest : List linear.Item) (l : Locations) (h : World) (s : State) → Given x w a (Binary o to b c ∷ rest) l h s → (z : Option ℕ) → apply_binary o (l (Register b)) (l (Register c)) ≡ z → Case x (Binary o to b c ∷ rest) l h s
-binary_at x w a to b c o rest l h s given None is = inr (λ ws. ap (λ z. tried z (λ q. Goes (at_items rest (put (Register to) q l) h ws))) is)
+binary_at : (x : Site) (w a to b c : ℕ) (o : binary.Binary) (rest : List Step) (l : Locations) (h : World) (s : State) → Given x w a (One (Binary o to b c) ∷ rest) l h s → (z : Option ℕ) → apply_binary o (l (Register b)) (l (Register c)) ≡ z → Case x (One (Binary o to b c) ∷ rest) l h s
+binary_at x w a to b c o rest l h s given None is = inr (λ ws. ap (λ z. tried z (λ q. Goes (at_items (items_behind rest) (put (Register to) q l) h ws))) is)
 binary_at x w a to b c o rest l h s (e, st, inside) (Some v) is =
     let fine = st.fine.0 in
     let wb = word_of_register x l h s b fine.1 inside in
     let wc = word_of_register x l h s c fine.2 inside in
     let right = recipe_right o (l (Register b)) (l (Register c)) v wb wc is in
-    inl (stepped x (Binary o to b c ∷ rest) rest l (put (Register to) v l) h h s (λ ws. ap (λ z. tried z (λ q. Goes (at_items rest (put (Register to) q l) h ws))) is)
-    (recipe_reaches x _ a to b c v (recipe o) rest l h s e (standing_tail x w a (Binary o to b c) rest st) inside (first_items x w a (Binary o to b c) rest st) fine.0 fine.1 fine.2 right (binary_word o (l (Register b)) (l (Register c)) v wb wc is)))
+    inl (stepped x (One (Binary o to b c) ∷ rest) rest l (put (Register to) v l) h h s (λ ws. ap (λ z. tried z (λ q. Goes (at_items (items_behind rest) (put (Register to) q l) h ws))) is)
+    (recipe_reaches x _ a to b c v (recipe o) rest l h s e (standing_tail x w a (One (Binary o to b c)) rest st) inside (first_items x w a (One (Binary o to b c)) rest st) fine.0 fine.1 fine.2 right (binary_word o (l (Register b)) (l (Register c)) v wb wc is)))
 
-pub binary_case : (x : Site) (w a to b c : ℕ) (o : binary.Binary) (rest : List linear.Item) (l : Locations) (h : World) (s : State) → Given x w a (Binary o to b c ∷ rest) l h s → Case x (Binary o to b c ∷ rest) l h s
+pub binary_case : (x : Site) (w a to b c : ℕ) (o : binary.Binary) (rest : List Step) (l : Locations) (h : World) (s : State) → Given x w a (One (Binary o to b c) ∷ rest) l h s → Case x (One (Binary o to b c) ∷ rest) l h s
 binary_case x w a to b c o rest l h s given = binary_at x w a to b c o rest l h s given (apply_binary o (l (Register b)) (l (Register c))) refl
 
 -- ---- moves
@@ -276,32 +306,32 @@ slot_address x l h s i lt w =
     let z = x.aligned in
     (in_stack (s.registers 2 + 4 * i) (omega arith) (omega arith) (omega arith), omega arith)
 
-pub copy_case : (x : Site) (w a : ℕ) (m : Move) (rest : List linear.Item) (l : Locations) (h : World) (s : State) → Given x w a (Copy m ∷ rest) l h s → Stepped x (Copy m ∷ rest) l h s
+pub copy_case : (x : Site) (w a : ℕ) (m : Move) (rest : List Step) (l : Locations) (h : World) (s : State) → Given x w a (One (Copy m) ∷ rest) l h s → Stepped x (One (Copy m) ∷ rest) l h s
 copy_case x w a (Between to b) rest l h s (e, st, inside) =
     let fine = st.fine.0 in
     let q = inside.same b fine.1 in
     let lt = inside.sound.registers b in
     let same : add (s.registers b) 0 ≡ l (Register b) = omega arith in
-    stepped x (Copy (Between to b) ∷ rest) rest l (put (Register to) (l (Register b)) l) h h s (λ ws. refl)
-    (reach_set x rest l h s (x.place + 4 * a) _ (a + 1) to (l (Register b)) (OpImm Addi to b 0) e (first_items x w a (Copy (Between to b)) rest st).0 (behind_1 x.place a) (ap (λ n. puts to n s) same) fine.0 (omega arith) (standing_tail x w a (Copy (Between to b)) rest st) inside)
+    stepped x (One (Copy (Between to b)) ∷ rest) rest l (put (Register to) (l (Register b)) l) h h s (λ ws. refl)
+    (reach_set x rest l h s (x.place + 4 * a) _ (a + 1) to (l (Register b)) (OpImm Addi to b 0) e (first_items x w a (One (Copy (Between to b))) rest st).0 (behind_1 x.place a) (ap (λ n. puts to n s) same) fine.0 (omega arith) (standing_tail x w a (One (Copy (Between to b))) rest st) inside)
 copy_case x w a (Reload to i) rest l h s (e, st, inside) =
     let fine = st.fine.0 in
     let at = s.registers 2 + 4 * i in
     let ok = slot_address x l h s i fine.1 inside in
     let v = l (Slot i) in
     let value : s.memory at ≡ v = sym (inside.slots i fine.1) in
-    let step = load_step x.code s (x.place + 4 * a) to 2 (4 * i) at e (first_items x w a (Copy (Reload to i)) rest st).0 ok.1 ok.0 ∙ ap (λ n. puts to n s) value in
+    let step = load_step x.code s (x.place + 4 * a) to 2 (4 * i) at e (first_items x w a (One (Copy (Reload to i))) rest st).0 ok.1 ok.0 ∙ ap (λ n. puts to n s) value in
     let lt = inside.sound.memory at in
-    stepped x (Copy (Reload to i) ∷ rest) rest l (put (Register to) v l) h h s (λ ws. refl)
-    (reach_by x rest (put (Register to) v l) h s (record s { pc = s.pc + 4; registers = with_register s.registers to v }) _ (a + 1) step (ap (λ n. n + 4) e ∙ behind_1 x.place a) (standing_tail x w a (Copy (Reload to i)) rest st) (within_set x l h s (s.pc + 4) to v fine.0 (omega arith) inside))
+    stepped x (One (Copy (Reload to i)) ∷ rest) rest l (put (Register to) v l) h h s (λ ws. refl)
+    (reach_by x rest (put (Register to) v l) h s (record s { pc = s.pc + 4; registers = with_register s.registers to v }) _ (a + 1) step (ap (λ n. n + 4) e ∙ behind_1 x.place a) (standing_tail x w a (One (Copy (Reload to i))) rest st) (within_set x l h s (s.pc + 4) to v fine.0 (omega arith) inside))
 copy_case x w a (Spill i b) rest l h s (e, st, inside) =
     let fine = st.fine.0 in
     let at = s.registers 2 + 4 * i in
     let ok = slot_address x l h s i fine.0 inside in
     let v = l (Register b) in
-    let step = store_step x.code s (x.place + 4 * a) 2 b (4 * i) at e (first_items x w a (Copy (Spill i b)) rest st).0 ok.1 ok.0 ∙ ap (λ n. Continues (record s { pc = s.pc + 4; memory = with_word s.memory at n })) (sym (inside.same b fine.1)) in
-    stepped x (Copy (Spill i b) ∷ rest) rest l (put (Slot i) v l) h h s (λ ws. refl)
-    (reach_by x rest (put (Slot i) v l) h s (record s { pc = s.pc + 4; memory = with_word s.memory at v }) _ (a + 1) step (ap (λ n. n + 4) e ∙ behind_1 x.place a) (standing_tail x w a (Copy (Spill i b)) rest st) (within_slot x l h s (s.pc + 4) i v fine.0 (word_of_register x l h s b fine.1 inside) inside))
+    let step = store_step x.code s (x.place + 4 * a) 2 b (4 * i) at e (first_items x w a (One (Copy (Spill i b))) rest st).0 ok.1 ok.0 ∙ ap (λ n. Continues (record s { pc = s.pc + 4; memory = with_word s.memory at n })) (sym (inside.same b fine.1)) in
+    stepped x (One (Copy (Spill i b)) ∷ rest) rest l (put (Slot i) v l) h h s (λ ws. refl)
+    (reach_by x rest (put (Slot i) v l) h s (record s { pc = s.pc + 4; memory = with_word s.memory at v }) _ (a + 1) step (ap (λ n. n + 4) e ∙ behind_1 x.place a) (standing_tail x w a (One (Copy (Spill i b))) rest st) (within_slot x l h s (s.pc + 4) i v fine.0 (word_of_register x l h s b fine.1 inside) inside))
 
 -- ---- objects
 
@@ -327,7 +357,7 @@ within_element x l h s i b w =
     within_scratch x l h (uppered (shifted s i) b) (s.pc + 4 + 4 + 4) 5 _ (omega arith) (omega arith) (omega arith) two
 
 -- the three instructions before a load or a store
-element_reaches : (x : Site) (next : List linear.Item) (k : Locations) (g : World) (s : State) (p i b : ℕ) → s.pc ≡ p → x.code p ≡ Some (Shift Slli 5 i 2) → x.code (p + 4) ≡ Some (Lui 6 (high b)) → x.code (p + 4 + 4) ≡ Some (Op operations.Add 5 5 6) → Reaches x next k g (at_element s i b) → Reaches x next k g s
+element_reaches : (x : Site) (next : List Step) (k : Locations) (g : World) (s : State) (p i b : ℕ) → s.pc ≡ p → x.code p ≡ Some (Shift Slli 5 i 2) → x.code (p + 4) ≡ Some (Lui 6 (high b)) → x.code (p + 4 + 4) ≡ Some (Op operations.Add 5 5 6) → Reaches x next k g (at_element s i b) → Reaches x next k g s
 element_reaches x next k g s p i b e f1 f2 f3 r =
     let u = shifted s i in
     let v = uppered u b in
@@ -346,7 +376,7 @@ element_address x l h s g i u lt w =
     let small : b < 2 ^ 32 = omega arith in
     sum_address (s.registers i) b (high b * 2 ^ 12) (low b) (high_low b small) (let e = w.same i u in omega arith) ∙ ap (λ n. b + 4 * n) (sym (w.same i u))
 
-element_accessible : (x : Site) (h : World) (s : State) (g i : ℕ) → i < length (object_words h g) → Shares x.layout s h → is_accessible 4 (x.layout.base g + 4 * i) ≡ true
+pub element_accessible : (x : Site) (h : World) (s : State) (g i : ℕ) → i < length (object_words h g) → Shares x.layout s h → is_accessible 4 (x.layout.base g + 4 * i) ≡ true
 element_accessible x h s g i lt sh =
     let y = x.layout in
     let to = y.to g in
@@ -355,10 +385,10 @@ element_accessible x h s g i lt sh =
     let long = long_of x.meaning.objects h sh.sizes g in
     in_globals (y.base g + 4 * i) (omega arith) (omega arith) (omega arith)
 
-load_at : (x : Site) (w a g to i : ℕ) (rest : List linear.Item) (l : Locations) (h : World) (s : State) → Given x w a (Load g to i ∷ rest) l h s → (z : Option ℕ) → element h g (l (Register i)) ≡ z → Case x (Load g to i ∷ rest) l h s
-load_at x w a g to i rest l h s given None is = inr (λ ws. ap (λ z. tried z (λ q. Goes (at_items rest (put (Register to) q l) h ws))) is)
+load_at : (x : Site) (w a g to i : ℕ) (rest : List Step) (l : Locations) (h : World) (s : State) → Given x w a (One (Load g to i) ∷ rest) l h s → (z : Option ℕ) → element h g (l (Register i)) ≡ z → Case x (One (Load g to i) ∷ rest) l h s
+load_at x w a g to i rest l h s given None is = inr (λ ws. ap (λ z. tried z (λ q. Goes (at_items (items_behind rest) (put (Register to) q l) h ws))) is)
 load_at x w a g to i rest l h s (e, st, inside) (Some v) is =
-    let items = first_items x w a (Load g to i) rest st in
+    let items = first_items x w a (One (Load g to i)) rest st in
     let fine = st.fine.0 in
     let n = l (Register i) in
     let there = got (object_words h g) n v is in
@@ -371,17 +401,17 @@ load_at x w a g to i rest l h s (e, st, inside) (Some v) is =
     let value : s.memory at ≡ v = inside.shares.globals g n (omega arith) ∙ there.1 in
     let lv : v < 2 ^ 32 = (let q = inside.sound.memory at in omega arith) in
     let step = load_step x.code u (x.place + 4 * a + 4 + 4 + 4) to 5 (low b) at (ap (λ n. n + 4 + 4 + 4) e) items.1.1.1.0 (element_address x l h s g i fine.1 lt inside) (element_accessible x h s g n lt inside.shares) ∙ ap (λ n. puts to n u) value in
-    inl (stepped x (Load g to i ∷ rest) rest l (put (Register to) v l) h h s (λ ws. ap (λ z. tried z (λ q. Goes (at_items rest (put (Register to) q l) h ws))) is)
+    inl (stepped x (One (Load g to i) ∷ rest) rest l (put (Register to) v l) h h s (λ ws. ap (λ z. tried z (λ q. Goes (at_items (items_behind rest) (put (Register to) q l) h ws))) is)
     (element_reaches x rest (put (Register to) v l) h s (x.place + 4 * a) i b e items.0 items.1.0 items.1.1.0
-    (reach_by x rest (put (Register to) v l) h u (record u { pc = u.pc + 4; registers = with_register u.registers to v }) _ (a + 4) step (ap (λ n. n + 4 + 4 + 4 + 4) e ∙ behind_4 x.place a) (standing_tail x w a (Load g to i) rest st) (within_set x l h u (u.pc + 4) to v fine.0 lv wu))))
+    (reach_by x rest (put (Register to) v l) h u (record u { pc = u.pc + 4; registers = with_register u.registers to v }) _ (a + 4) step (ap (λ n. n + 4 + 4 + 4 + 4) e ∙ behind_4 x.place a) (standing_tail x w a (One (Load g to i)) rest st) (within_set x l h u (u.pc + 4) to v fine.0 lv wu))))
 
-pub load_case : (x : Site) (w a g to i : ℕ) (rest : List linear.Item) (l : Locations) (h : World) (s : State) → Given x w a (Load g to i ∷ rest) l h s → Case x (Load g to i ∷ rest) l h s
+pub load_case : (x : Site) (w a g to i : ℕ) (rest : List Step) (l : Locations) (h : World) (s : State) → Given x w a (One (Load g to i) ∷ rest) l h s → Case x (One (Load g to i) ∷ rest) l h s
 load_case x w a g to i rest l h s given = load_at x w a g to i rest l h s given (element h g (l (Register i))) refl
 
-store_at : (x : Site) (w a g i r : ℕ) (rest : List linear.Item) (l : Locations) (h : World) (s : State) → Given x w a (Store g i r ∷ rest) l h s → (z : Option ℕ) → element h g (l (Register i)) ≡ z → Case x (Store g i r ∷ rest) l h s
-store_at x w a g i r rest l h s given None is = inr (λ ws. ap (λ z. tried (option_map (λ old. with_element h g (l (Register i)) (l (Register r))) z) (λ k. Goes (at_items rest l k ws))) is)
+store_at : (x : Site) (w a g i r : ℕ) (rest : List Step) (l : Locations) (h : World) (s : State) → Given x w a (One (Store g i r) ∷ rest) l h s → (z : Option ℕ) → element h g (l (Register i)) ≡ z → Case x (One (Store g i r) ∷ rest) l h s
+store_at x w a g i r rest l h s given None is = inr (λ ws. ap (λ z. tried (option_map (λ old. with_element h g (l (Register i)) (l (Register r))) z) (λ k. Goes (at_items (items_behind rest) l k ws))) is)
 store_at x w a g i r rest l h s (e, st, inside) (Some v) is =
-    let items = first_items x w a (Store g i r) rest st in
+    let items = first_items x w a (One (Store g i r)) rest st in
     let fine = st.fine.0 in
     let n = l (Register i) in
     let lt = (got (object_words h g) n v is).0 in
@@ -391,11 +421,11 @@ store_at x w a g i r rest l h s (e, st, inside) (Some v) is =
     let u = at_element s i b in
     let wu = within_element x l h s i b inside in
     let step = store_step x.code u (x.place + 4 * a + 4 + 4 + 4) 5 r (low b) at (ap (λ n. n + 4 + 4 + 4) e) items.1.1.1.0 (element_address x l h s g i fine.0 lt inside) (element_accessible x h s g n lt inside.shares) ∙ ap (λ n. Continues (record u { pc = u.pc + 4; memory = with_word u.memory at n })) (sym (wu.same r fine.1)) in
-    inl (stepped x (Store g i r ∷ rest) rest l l h k s (λ ws. ap (λ z. tried (option_map (λ old. with_element h g (l (Register i)) (l (Register r))) z) (λ k. Goes (at_items rest l k ws))) is)
+    inl (stepped x (One (Store g i r) ∷ rest) rest l l h k s (λ ws. ap (λ z. tried (option_map (λ old. with_element h g (l (Register i)) (l (Register r))) z) (λ k. Goes (at_items (items_behind rest) l k ws))) is)
     (element_reaches x rest l k s (x.place + 4 * a) i b e items.0 items.1.0 items.1.1.0
-    (reach_by x rest l k u (record u { pc = u.pc + 4; memory = with_word u.memory at (l (Register r)) }) _ (a + 4) step (ap (λ n. n + 4 + 4 + 4 + 4) e ∙ behind_4 x.place a) (standing_tail x w a (Store g i r) rest st) (within_store x l h u (u.pc + 4) g n (l (Register r)) lt (word_of_register x l h s r fine.1 inside) wu))))
+    (reach_by x rest l k u (record u { pc = u.pc + 4; memory = with_word u.memory at (l (Register r)) }) _ (a + 4) step (ap (λ n. n + 4 + 4 + 4 + 4) e ∙ behind_4 x.place a) (standing_tail x w a (One (Store g i r)) rest st) (within_store x l h u (u.pc + 4) g n (l (Register r)) lt (word_of_register x l h s r fine.1 inside) wu))))
 
-pub store_case : (x : Site) (w a g i r : ℕ) (rest : List linear.Item) (l : Locations) (h : World) (s : State) → Given x w a (Store g i r ∷ rest) l h s → Case x (Store g i r ∷ rest) l h s
+pub store_case : (x : Site) (w a g i r : ℕ) (rest : List Step) (l : Locations) (h : World) (s : State) → Given x w a (One (Store g i r) ∷ rest) l h s → Case x (One (Store g i r) ∷ rest) l h s
 store_case x w a g i r rest l h s given = store_at x w a g i r rest l h s given (element h g (l (Register i))) refl
 
 -- ---- input and output
@@ -417,10 +447,10 @@ number_within : (x : Site) (l : Locations) (h : World) (s : State) (n : ℕ) →
 unfolding numbered
 number_within x l h s n lt w = within_set x l h s (s.pc + 4) 17 n (not_kept x.frame 17 (omega arith) (omega arith)) lt w
 
-pub write_case : (x : Site) (w a : ℕ) (rest : List linear.Item) (l : Locations) (h : World) (s : State) → Given x w a (Write ∷ rest) l h s → Stepped x (Write ∷ rest) l h s
+pub write_case : (x : Site) (w a : ℕ) (rest : List Step) (l : Locations) (h : World) (s : State) → Given x w a (One (Write) ∷ rest) l h s → Stepped x (One (Write) ∷ rest) l h s
 unfolding numbered
 write_case x w a rest l h s (e, st, inside) =
-    let items = first_items x w a Write rest st in
+    let items = first_items x w a (One Write) rest st in
     let u = numbered s 1 in
     let wu = number_within x l h s 1 (omega arith) inside in
     let k = put (Register 17) 1 l in
@@ -435,13 +465,13 @@ write_case x w a rest l h s (e, st, inside) =
       world = after_write v h;
       moves = λ ws. refl;
       reaches = reach_more x rest k (after_write v h) s u (number_step x l h s (x.place + 4 * a) 1 e (omega arith) items.0 inside)
-          (reach_by x rest k (after_write v h) u t _ (a + 2) step (ap (λ n. n + 4 + 4) e ∙ behind_2 x.place a) (standing_tail x w a Write rest st) (within_pc x k (after_write v h) (record u { output = u.output ++ (v ∷ []) }) (u.pc + 4) (within_write x k h u v wu)));
+          (reach_by x rest k (after_write v h) u t _ (a + 2) step (ap (λ n. n + 4 + 4) e ∙ behind_2 x.place a) (standing_tail x w a (One Write) rest st) (within_pc x k (after_write v h) (record u { output = u.output ++ (v ∷ []) }) (u.pc + 4) (within_write x k h u v wu)));
     }
 
-pub read_case : (x : Site) (w a : ℕ) (rest : List linear.Item) (l : Locations) (h : World) (s : State) → Given x w a (Read ∷ rest) l h s → Stepped x (Read ∷ rest) l h s
+pub read_case : (x : Site) (w a : ℕ) (rest : List Step) (l : Locations) (h : World) (s : State) → Given x w a (One (Read) ∷ rest) l h s → Stepped x (One (Read) ∷ rest) l h s
 unfolding numbered
 read_case x w a rest l h s (e, st, inside) =
-    let items = first_items x w a Read rest st in
+    let items = first_items x w a (One Read) rest st in
     let u = numbered s 2 in
     let wu = number_within x l h s 2 (omega arith) inside in
     let v = next_word h in
@@ -459,5 +489,5 @@ read_case x w a rest l h s (e, st, inside) =
       world = after_read h;
       moves = λ ws. refl;
       reaches = reach_more x rest k (after_read h) s u (number_step x l h s (x.place + 4 * a) 2 e (omega arith) items.0 inside)
-          (reach_by x rest k (after_read h) u t _ (a + 2) step (ap (λ n. n + 4 + 4) e ∙ behind_2 x.place a) (standing_tail x w a Read rest st) (within_read x k h (record u { pc = u.pc + 4; registers = with_register u.registers 10 v }) set_v));
+          (reach_by x rest k (after_read h) u t _ (a + 2) step (ap (λ n. n + 4 + 4) e ∙ behind_2 x.place a) (standing_tail x w a (One Read) rest st) (within_read x k h (record u { pc = u.pc + 4; registers = with_register u.registers 10 v }) set_v));
     }

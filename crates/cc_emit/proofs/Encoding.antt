@@ -3,6 +3,7 @@
 use Rattle.std.proofs.Common.{◌≡◌, ℕ, ◌+◌, ◌-◌, ◌*◌, ◌<◌, ◌≤◌, ◌^◌, List, [], ◌∷◌, ◌++◌, true, false, Bool, length, refl, inl, inr, arith}
 use Rattle.std.specs.Prelude.{if◌then◌else◌, ◌==◌}
 use Rattle.std.proofs.lemmas.List.{length-append}
+use Rattle.cc_words.specs.Words.{neg}
 use Rattle.cc_words.specs.declared.operators.Unary as unary
 use Rattle.cc_words.specs.declared.operators.Unary.TheVariants.{Neg, Complement, IsZero}
 use Rattle.cc_runs.specs.Meaning.{Meaning}
@@ -11,16 +12,22 @@ use Rattle.cc_ltl.specs.declared.operation.Move.TheVariants.{Between, Reload, Sp
 use Rattle.cc_linear.specs.declared.item.Item as linear
 use Rattle.cc_linear.specs.declared.item.Item.TheVariants.{Label, Jump, IfNonzero, IfZero, Copy, Const, Unary, Binary, Load, Store, Call, Read, Write, Return}
 use Rattle.cc_rv32.specs.declared.instr.Instr.TheVariants.{Lui}
+use Rattle.cc_rv32.specs.declared.instr.Operation.TheVariants as operation
+use Rattle.cc_rv32.specs.declared.instr.ImmediateOperation.TheVariants.{Addi, Sltiu}
 use Rattle.cc_rv32.specs.declared.instr.BranchOperation.{BranchOperation}
 use Rattle.cc_rv32.specs.declared.instr.BranchOperation.TheVariants.{Beq, Bne}
 use Rattle.cc_rv32.specs.Fields.{IsImmediate}
 use Rattle.cc_rv32.specs.Table.{IsEncodable}
 use Rattle.cc_emit.specs.declared.item.Item.{Item}
 use Rattle.cc_emit.specs.declared.item.Item.TheVariants.{Plain}
+use Rattle.cc_emit.specs.declared.step.Immediate as immediate
+use Rattle.cc_emit.specs.declared.step.Immediate.TheVariants as immediates
+use Rattle.cc_emit.specs.declared.step.Step.{Step}
+use Rattle.cc_emit.specs.declared.step.Step.TheVariants.{One, Immediate, LoadAt, StoreAt}
 use Rattle.cc_emit.specs.Contract.{AreFit}
 use Rattle.cc_emit.specs.Frames.{Frame, frame_size}
-use Rattle.cc_emit.specs.Emission.{Direct, NonzeroOf, Recipe, ZeroOf, ZeroOfExchanged, addi, branch_items, emitted, epilogue, framed_items, high, is_near, items_of, long_size, low, move_item, prologue, prologue_size, recipe, recipe_items, restoring, saving, short_place, size, stack_moved, stack_moved_size, unary_instr}
-use Rattle.cc_emit.proofs.Fine.{AreFine, AreSavable, IsFine, IsFineMove, IsFrame, IsSavable}
+use Rattle.cc_emit.specs.Emission.{Direct, NonzeroOf, NonzeroOfImmediate, OnZero, Recipe, ShiftBy, WithImmediate, WordRecipe, ZeroOf, ZeroOfExchanged, ZeroOfImmediate, addi, branch_items, const_items, element_at, emitted, epilogue, framed_items, high, is_near, items_of, items_of_one, kept_items, load_at, long_size, low, move_item, prologue, prologue_size, recipe, recipe_items, restoring, saving, short_place, size, stack_moved, store_at, stack_moved_size, unary_instr, word_recipe, word_recipe_items}
+use Rattle.cc_emit.proofs.Fine.{AreFineSteps, AreSavable, IsFine, IsFineStep, IsFineMove, IsFrame, IsSavable}
 use Rattle.cc_emit.proofs.Basics.{LowIs, low_is, eqb_denies}
 use Rattle.cc_emit.proofs.Places.{AreSeen, Nears, length_saving, length_stack_moved, near_offset, seen_first, seen_next, short_place_le, stays_near}
 
@@ -96,7 +103,7 @@ module _ (functions long : ℕ) where
   move_encodable f (Reload to slot) is u = (let t = u.0.0 in let lt = u.1 in let small = is.small in ((omega arith, omega arith, (omega arith, omega arith)), tt))
   move_encodable f (Spill slot from) is u = (let p = u.1 in let lt = u.0 in let small = is.small in ((omega arith, omega arith, (omega arith, omega arith)), tt))
 
-  one_fit : (meaning : Meaning) (base : ℕ → ℕ) (f : Frame) (near : ℕ → Bool) (labels : ℕ → ℕ) (a : ℕ) (i : linear.Item) → meaning.functions ≡ functions → IsFrame f → IsFine meaning f i → ((l : ℕ) → near l ≡ true → Nears a (labels l)) → ((l : ℕ) → labels l ≤ long) → Fit (items_of base f near labels a i)
+  one_fit : (meaning : Meaning) (base : ℕ → ℕ) (f : Frame) (near : ℕ → Bool) (labels : ℕ → ℕ) (a : ℕ) (i : linear.Item) → meaning.functions ≡ functions → IsFrame f → IsFine meaning f i → ((l : ℕ) → near l ≡ true → Nears a (labels l)) → ((l : ℕ) → labels l ≤ long) → Fit (items_of_one base f near labels a i)
   one_fit meaning base f near labels a (Label label) e is u n le = tt
   one_fit meaning base f near labels a (Jump to) e is u n le = (le to, tt)
   one_fit meaning base f near labels a (IfNonzero from to) e is u n le = branch_fit (near to) Bne Beq from a (labels to) u.1 (n to) (le to)
@@ -112,16 +119,67 @@ module _ (functions long : ℕ) where
   one_fit meaning base f near labels a Write e is u n le = ((omega arith, omega arith, (omega arith, omega arith)), (tt, tt))
   one_fit meaning base f near labels a Return e is u n le = epilogue_fit f is
 
-  emitted_fit : (meaning : Meaning) (base : ℕ → ℕ) (f : Frame) (all : List linear.Item) (w a : ℕ) (items : List linear.Item) → meaning.functions ≡ functions → IsFrame f → AreFine meaning f items → AreSeen f all items w a → ((l : ℕ) → short_place f (is_near f all) 0 (prologue_size f) all l ≤ long)
+  -- what a recipe's instruction has to hold
+  abbrev HasRoom : WordRecipe → Type 0
+  HasRoom (WithImmediate i n) = IsImmediate n
+  HasRoom (ShiftBy i n) = n < 32
+  HasRoom (OnZero i) = Unit {0}
+  HasRoom (ZeroOfImmediate i n) = IsImmediate n
+  HasRoom (NonzeroOfImmediate i n) = IsImmediate n
+
+  room_if : (b : Bool) (j k : WordRecipe) → HasRoom j → HasRoom k → HasRoom (if b then j else k)
+  room_if true j k p q = p
+  room_if false j k p q = q
+
+  has_room : (o : immediate.Immediate) (w : ℕ) → HasRoom (word_recipe o w)
+  has_room immediates.Add w = low_fits w
+  has_room immediates.Sub w = low_fits _
+  has_room immediates.Shl w = omega arith
+  has_room immediates.ShrS w = omega arith
+  has_room immediates.ShrU w = omega arith
+  has_room immediates.And w = low_fits w
+  has_room immediates.Or w = low_fits w
+  has_room immediates.Xor w = low_fits w
+  has_room immediates.Eq w = room_if (w == 0) (WithImmediate Sltiu 1) (ZeroOfImmediate Addi (low (neg w))) (omega arith, omega arith) (low_fits _)
+  has_room immediates.Ne w = room_if (w == 0) (OnZero operation.Sltu) (NonzeroOfImmediate Addi (low (neg w))) tt (low_fits _)
+  has_room immediates.LtS w = low_fits w
+  has_room immediates.LtU w = low_fits w
+  has_room immediates.LeS w = low_fits _
+  has_room immediates.LeU w = low_fits _
+  has_room immediates.GtS w = tt
+  has_room immediates.GtU w = tt
+  has_room immediates.GeS w = low_fits w
+  has_room immediates.GeU w = low_fits w
+
+  word_recipe_fit : (k : WordRecipe) (to a : ℕ) → HasRoom k → to < 32 → a < 32 → Fit (word_recipe_items k to a)
+  word_recipe_fit (WithImmediate i n) to a u t p = ((t, p, u), tt)
+  word_recipe_fit (ShiftBy i n) to a u t p = ((t, p, u), tt)
+  word_recipe_fit (OnZero i) to a u t p = ((t, omega arith, p), tt)
+  word_recipe_fit (ZeroOfImmediate i n) to a u t p = ((omega arith, p, u), ((t, omega arith, (omega arith, omega arith)), tt))
+  word_recipe_fit (NonzeroOfImmediate i n) to a u t p = ((omega arith, p, u), ((t, omega arith, omega arith), tt))
+
+  kept_fit : (b : Bool) (r w : ℕ) → r < 32 → Fit (if b then [] else const_items r w)
+  kept_fit true r w t = tt
+  kept_fit false r w t = const_fit (high w == 0) (low w == 0) r w t
+
+  step_fit : (meaning : Meaning) (base : ℕ → ℕ) (f : Frame) (near : ℕ → Bool) (labels : ℕ → ℕ) (a : ℕ) (s : Step) → meaning.functions ≡ functions → IsFrame f → IsFineStep meaning f s → ((l : ℕ) → near l ≡ true → Nears a (labels l)) → ((l : ℕ) → labels l ≤ long) → Fit (items_of base f near labels a s)
+  step_fit meaning base f near labels a (One i) e is u n le = one_fit meaning base f near labels a i e is u n le
+  step_fit meaning base f near labels a (Immediate o to from word) e is u n le = word_recipe_fit (word_recipe o word) to from (has_room o word) u.0.0.1 u.1.1
+  step_fit meaning base f near labels a (LoadAt object to index word) e is u n le =
+      append_fit (kept_items to index word) (load_at to (element_at (base object) word)) (kept_fit (to == index) index word u.1.0.1) ((omega arith, omega arith), ((u.0.0.1, omega arith, low_fits _), tt))
+  step_fit meaning base f near labels a (StoreAt object index word from) e is u n le =
+      append_fit (const_items index word) (store_at from (element_at (base object) word)) (const_fit (high word == 0) (low word == 0) index word u.0.0.1) ((omega arith, omega arith), ((omega arith, u.2.1, low_fits _), tt))
+
+  emitted_fit : (meaning : Meaning) (base : ℕ → ℕ) (f : Frame) (all : List Step) (w a : ℕ) (items : List Step) → meaning.functions ≡ functions → IsFrame f → AreFineSteps meaning f items → AreSeen f all items w a → ((l : ℕ) → short_place f (is_near f all) 0 (prologue_size f) all l ≤ long)
       → Fit (emitted base f (is_near f all) (short_place f (is_near f all) 0 (prologue_size f) all) w a items)
   emitted_fit meaning base f all w a [] e is u seen le = tt
   emitted_fit meaning base f all w a (i ∷ items) e is u seen le =
       let near = is_near f all in
       let labels = short_place f near 0 (prologue_size f) all in
-      append_fit (items_of base f (near w) labels a i) _ (one_fit meaning base f (near w) labels a i e is u.0 (λ l. stays_near f all (i ∷ items) w a l seen) le)
+      append_fit (items_of base f (near w) labels a i) _ (step_fit meaning base f (near w) labels a i e is u.0 (λ l. stays_near f all (i ∷ items) w a l seen) le)
       (emitted_fit meaning base f all (w + long_size f i) (a + size f (near w) i) items e is u.1 (seen_next f all i items w a seen) le)
 
-pub framed_fit : (meaning : Meaning) (base : ℕ → ℕ) (f : Frame) (all : List linear.Item) → IsFrame f → AreFine meaning f all → AreFit meaning.functions (length (framed_items base f all)) (framed_items base f all)
+pub framed_fit : (meaning : Meaning) (base : ℕ → ℕ) (f : Frame) (all : List Step) → IsFrame f → AreFineSteps meaning f all → AreFit meaning.functions (length (framed_items base f all)) (framed_items base f all)
 framed_fit meaning base f all is u =
     let near = is_near f all in
     let labels = short_place f near 0 (prologue_size f) all in

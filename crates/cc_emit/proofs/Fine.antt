@@ -1,5 +1,6 @@
 -- What emission asks of a frame and of items: that a frame saves what is written, and that items name what there is.
-use Rattle.std.specs.Prelude.{◌≡◌, ℕ, ◌+◌, ◌<◌, ◌≤◌, ◌⊎◌, List, [], ◌∷◌, length}
+use Rattle.std.specs.Prelude.{◌≡◌, ℕ, ◌+◌, ◌<◌, ◌≤◌, ◌⊎◌, true, List, [], ◌∷◌, length}
+use Rattle.std.specs.List.{AllByRecursion}
 use Rattle.cc_runs.specs.Meaning.{Meaning}
 use Rattle.cc_ltl.specs.declared.operation.Move.{Move}
 use Rattle.cc_ltl.specs.declared.operation.Move.TheVariants.{Between, Reload, Spill}
@@ -7,8 +8,11 @@ use Rattle.cc_ltl.specs.Registers.{IsAllocatable}
 use Rattle.cc_ltl.specs.Ltl.{IsWord}
 use Rattle.cc_linear.specs.declared.item.Item as linear
 use Rattle.cc_linear.specs.declared.item.Item.TheVariants.{Label, Jump, IfNonzero, IfZero, Copy, Const, Unary, Binary, Load, Store, Call, Read, Write, Return}
+use Rattle.cc_emit.specs.declared.step.Step.{Step}
+use Rattle.cc_emit.specs.declared.step.Step.TheVariants.{One, Immediate, LoadAt, StoreAt}
 use Rattle.cc_emit.specs.Contract.{IsKept}
 use Rattle.cc_emit.specs.Frames.{Frame}
+use Rattle.cc_emit.specs.Steps.{has_word}
 
 abbrev pub Member : ℕ → List ℕ → Type 0
 Member r [] = ⊥
@@ -53,5 +57,14 @@ IsFine meaning f Write = Unit {0}
 IsFine meaning f Return = Unit {0}
 
 abbrev pub AreFine : Meaning → Frame → List linear.Item → Type 0
-AreFine meaning f [] = Unit {0}
-AreFine meaning f (i ∷ items) = IsFine meaning f i × AreFine meaning f items
+AreFine meaning f items = AllByRecursion (IsFine meaning f) items
+
+-- a step's items are fine, and where an operator and a constant are one, its instruction has the word
+abbrev pub IsFineStep : Meaning → Frame → Step → Type 0
+IsFineStep meaning f (One item) = IsFine meaning f item
+IsFineStep meaning f (Immediate o to from word) = IsTarget f to × IsAllocatable from × IsWord word × (from ≡ to → ⊥) × (has_word o word ≡ true)
+IsFineStep meaning f (LoadAt object to index word) = IsTarget f to × IsTarget f index × IsWord word
+IsFineStep meaning f (StoreAt object index word from) = IsTarget f index × IsWord word × IsAllocatable from
+
+abbrev pub AreFineSteps : Meaning → Frame → List Step → Type 0
+AreFineSteps meaning f ss = AllByRecursion (IsFineStep meaning f) ss

@@ -2,6 +2,8 @@
 pub mod Fine
 -- reads behind writes, and words
 pub mod Basics
+-- steps and the items that they stand for
+pub mod Stepping
 -- sizes and places, and near branches
 pub mod Places
 -- where items stand in the code
@@ -14,6 +16,8 @@ pub mod Saving
 pub mod Recipes
 -- what stands for each item of Linear
 pub mod Cases
+-- what stands for two items
+pub mod Neighbours
 -- calls and returns
 pub mod Returning
 -- the simulation
@@ -26,6 +30,8 @@ pub mod Encoding
 pub mod Pieces
 -- the code: which registers are saved
 pub mod Kept
+-- the code: steps one after the other
+pub mod Walking
 -- the code: the table of labels
 pub mod Tabling
 -- the code: places from the end are places

@@ -9,14 +9,17 @@ use Rattle.cc_typing.specs.Scope.{FileScope, file_scope_behind, first_file_scope
 use Rattle.cc_typing.specs.declared.rule.Offence.{Offence}
 use Rattle.cc_meaning.specs.Meaning.{Function, functions, functions_from, text_of}
 use Rattle.cc_meaning.specs.Numbered.{arity_in, objects_in}
-use Rattle.cc_linear.specs.Linear.{labels, IsItem, IsLinear}
+use Rattle.cc_runs.specs.Tracks.{TracksForAll}
+use Rattle.cc_linear.specs.Linear.{labels, IsItem, IsLinear, linear_move, linear_output, linear_start}
 use Rattle.cc_linear.specs.Pair as above
 use Rattle.cc_emit.specs.Contract.{IsPiece}
 use Rattle.cc_emit.specs.Objects.{object_address}
 use Rattle.cc_emit.specs.Frames.{frame_of}
+use Rattle.cc_emit.specs.Steps.{steps}
 use Rattle.cc_emit.specs.Emission.{framed_items}
 use Rattle.cc_emit.specs.Piece.{AreOf, IsPieceOfUnit, pair_items}
 use Rattle.cc_emit.proofs.Choosing.{is_frame, are_fine}
+use Rattle.cc_emit.proofs.Stepping.{steps_fine, steps_stand}
 use Rattle.cc_emit.proofs.Encoding.{framed_fit}
 use Rattle.cc_emit.proofs.Emitted.{framed_meets}
 
@@ -62,15 +65,16 @@ items_do p limits linear keeps meaning is layout in_order =
     let fits : AllByRecursion (IsItem p.slots meaning.functions (labels p.code)) p.code = subst (λ n. AllByRecursion (IsItem p.slots n (labels p.code)) p.code) (sym is.functions) linear.fit in
     let few : (g : ℕ) → meaning.arity g ≤ 8 = λ g. subst (λ (arity : ℕ → ℕ). arity g ≤ 8) (sym is.arity) (few_parameters tree limits g) in
     let frame = frame_of p.slots p.code in
-    let fine = are_fine meaning (labels p.code) p.slots p.code few fits in
+    let ss = steps p.code in
+    let fine = steps_fine meaning frame p.code (are_fine meaning (labels p.code) p.slots p.code few fits) in
     let framed = is_frame p.slots p.code linear.few in
     let rate = keeps.0 in
-    let piece : IsPiece meaning layout p.function (framed_items layout.base frame p.code) = record {
+    let piece : IsPiece meaning layout p.function (framed_items layout.base frame ss) = record {
       rate = rate + rate;
-      meets = framed_meets meaning layout p.function rate frame p.code (keeps.1 meaning is) framed fine;
-      fit = framed_fit meaning layout.base frame p.code framed fine;
+      meets = framed_meets meaning layout p.function rate frame ss (subst (λ items. TracksForAll meaning p.function rate (linear_move meaning.arity items) linear_output (linear_start p.slots items)) (sym (steps_stand p.code)) (keeps.1 meaning is)) framed fine;
+      fit = framed_fit meaning layout.base frame ss framed fine;
     } in
-    subst (λ (b : ℕ → ℕ). IsPiece meaning layout p.function (framed_items b frame p.code)) base piece
+    subst (λ (b : ℕ → ℕ). IsPiece meaning layout p.function (framed_items b frame ss)) base piece
 
 -- with what `LinearPair::code` says of a pair, and the limits of its unit
 pub piece_of : (p : above.Pair) → IsTyped (above.tree_of p) → IsWithinLimits (above.tree_of p) → p.function < length (functions (above.tree_of p)) → IsLinear p.slots (length (functions (above.tree_of p))) p.code → above.KeepsUp (above.tree_of p) p.function p.slots p.code

@@ -6,14 +6,15 @@ use Rattle.std.proofs.lemmas.Bool.Decides.{nat_tests}
 use Rattle.std.proofs.lemmas.List.{length-append}
 use Rattle.cc_linear.specs.declared.item.Item as linear
 use Rattle.cc_linear.specs.declared.item.Item.TheVariants.{Label, Jump, IfNonzero, IfZero, Copy, Const, Unary, Binary, Load, Store, Call, Read, Write, Return}
-use Rattle.cc_linear.specs.Linear.{place}
 use Rattle.cc_rv32.specs.Fields.{IsBranchOffset}
 use Rattle.cc_rv32.specs.declared.instr.BranchOperation.{BranchOperation}
 use Rattle.cc_rv32.specs.declared.instr.Instr.TheVariants.{Jalr}
 use Rattle.cc_emit.specs.declared.item.Item.{Item}
 use Rattle.cc_emit.specs.declared.item.Item.TheVariants.{Plain}
+use Rattle.cc_emit.specs.declared.step.Step.{Step}
+use Rattle.cc_emit.specs.declared.step.Step.TheVariants.{One, Immediate, LoadAt, StoreAt}
 use Rattle.cc_emit.specs.Frames.{Frame, frame_size}
-use Rattle.cc_emit.specs.Emission.{Recipe, Direct, ZeroOf, ZeroOfExchanged, NonzeroOf, high, low, stack_moved, stack_moved_size, restoring, saving, epilogue, prologue_size, recipe, recipe_items, recipe_size, branch_items, branch_size, items_of, size, long_size, distance, reaches, is_label, is_near, long_place, short_place, emitted}
+use Rattle.cc_emit.specs.Emission.{Recipe, Direct, ZeroOf, ZeroOfExchanged, NonzeroOf, WordRecipe, WithImmediate, ShiftBy, OnZero, ZeroOfImmediate, NonzeroOfImmediate, word_recipe, word_recipe_items, word_recipe_size, high, low, stack_moved, stack_moved_size, restoring, saving, epilogue, prologue_size, recipe, recipe_items, recipe_size, branch_items, branch_size, const_items, const_size, kept_items, kept_size, element_at, load_at, store_at, items_of_one, items_of, size_of_one, size, long_size, distance, reaches, is_label, is_near, long_place, short_place, emitted}
 
 -- ---- sizes
 
@@ -50,64 +51,72 @@ recipe_size_is (ZeroOf i) to a b = refl
 recipe_size_is (ZeroOfExchanged i) to a b = refl
 recipe_size_is (NonzeroOf i) to a b = refl
 
+word_recipe_size_is : (k : WordRecipe) (to a : ℕ) → length (word_recipe_items k to a) ≡ word_recipe_size k
+word_recipe_size_is (WithImmediate i n) to a = refl
+word_recipe_size_is (ShiftBy i n) to a = refl
+word_recipe_size_is (OnZero i) to a = refl
+word_recipe_size_is (ZeroOfImmediate i n) to a = refl
+word_recipe_size_is (NonzeroOfImmediate i n) to a = refl
+
 branch_size_is : (near : Bool) (taken opposite : BranchOperation) (r a to : ℕ) → length (branch_items near taken opposite r a to) ≡ branch_size near
 branch_size_is near taken opposite r a to = long_if near _ _ 1 2 refl refl
 
-pub size_is : (base : ℕ → ℕ) (f : Frame) (near : ℕ → Bool) (labels : ℕ → ℕ) (a : ℕ) (i : linear.Item) → length (items_of base f near labels a i) ≡ size f near i
-size_is base f near labels a (Label n) = refl
-size_is base f near labels a (Jump n) = refl
-size_is base f near labels a (IfNonzero r n) = branch_size_is (near n) _ _ r a (labels n)
-size_is base f near labels a (IfZero r n) = branch_size_is (near n) _ _ r a (labels n)
-size_is base f near labels a (Copy m) = refl
-size_is base f near labels a (Const to w) = long_if (high w == 0) _ _ 1 (if low w == 0 then 1 else 2) refl (long_if (low w == 0) _ _ 1 2 refl refl)
-size_is base f near labels a (Unary o to b) = refl
-size_is base f near labels a (Binary o to b c) = recipe_size_is (recipe o) to b c
-size_is base f near labels a (Load g to i) = refl
-size_is base f near labels a (Store g i b) = refl
-size_is base f near labels a (Call g) = refl
-size_is base f near labels a Read = refl
-size_is base f near labels a Write = refl
-size_is base f near labels a Return = length_epilogue f
+pub const_size_is : (to w : ℕ) → length (const_items to w) ≡ const_size w
+const_size_is to w = long_if (high w == 0) _ _ 1 (if low w == 0 then 1 else 2) refl (long_if (low w == 0) _ _ 1 2 refl refl)
+
+one_size_is : (base : ℕ → ℕ) (f : Frame) (near : ℕ → Bool) (labels : ℕ → ℕ) (a : ℕ) (i : linear.Item) → length (items_of_one base f near labels a i) ≡ size_of_one f near i
+one_size_is base f near labels a (Label n) = refl
+one_size_is base f near labels a (Jump n) = refl
+one_size_is base f near labels a (IfNonzero r n) = branch_size_is (near n) _ _ r a (labels n)
+one_size_is base f near labels a (IfZero r n) = branch_size_is (near n) _ _ r a (labels n)
+one_size_is base f near labels a (Copy m) = refl
+one_size_is base f near labels a (Const to w) = const_size_is to w
+one_size_is base f near labels a (Unary o to b) = refl
+one_size_is base f near labels a (Binary o to b c) = recipe_size_is (recipe o) to b c
+one_size_is base f near labels a (Load g to i) = refl
+one_size_is base f near labels a (Store g i b) = refl
+one_size_is base f near labels a (Call g) = refl
+one_size_is base f near labels a Read = refl
+one_size_is base f near labels a Write = refl
+one_size_is base f near labels a Return = length_epilogue f
+
+pub kept_size_is : (to r w : ℕ) → length (kept_items to r w) ≡ kept_size to r w
+kept_size_is to r w = long_if (to == r) [] (const_items r w) 0 (const_size w) refl (const_size_is r w)
+
+pub size_is : (base : ℕ → ℕ) (f : Frame) (near : ℕ → Bool) (labels : ℕ → ℕ) (a : ℕ) (s : Step) → length (items_of base f near labels a s) ≡ size f near s
+size_is base f near labels a (One i) = one_size_is base f near labels a i
+size_is base f near labels a (Immediate o to b w) = word_recipe_size_is (word_recipe o w) to b
+size_is base f near labels a (LoadAt g to i w) = length-append (kept_items to i w) (load_at to (element_at (base g) w)) ∙ ap (λ n. n + 2) (kept_size_is to i w)
+size_is base f near labels a (StoreAt g i w b) = length-append (const_items i w) (store_at b (element_at (base g) w)) ∙ ap (λ n. n + 2) (const_size_is i w)
 
 branch_size_le : (near : Bool) → branch_size near ≤ 2
 branch_size_le true = omega arith
 branch_size_le false = omega arith
 
--- in its long form an item is no shorter
-pub size_le : (f : Frame) (near : ℕ → Bool) (i : linear.Item) → size f near i ≤ long_size f i
-size_le f near (Label n) = omega arith
-size_le f near (Jump n) = omega arith
-size_le f near (IfNonzero r n) = branch_size_le (near n)
-size_le f near (IfZero r n) = branch_size_le (near n)
-size_le f near (Copy m) = omega arith
-size_le f near (Const to w) = omega arith
-size_le f near (Unary o to b) = omega arith
-size_le f near (Binary o to b c) = omega arith
-size_le f near (Load g to i) = omega arith
-size_le f near (Store g i b) = omega arith
-size_le f near (Call g) = omega arith
-size_le f near Read = omega arith
-size_le f near Write = omega arith
-size_le f near Return = omega arith
+-- in its long form a step is no shorter
+one_size_le : (f : Frame) (near : ℕ → Bool) (i : linear.Item) → size_of_one f near i ≤ long_size f (One i)
+one_size_le f near (Label n) = omega arith
+one_size_le f near (Jump n) = omega arith
+one_size_le f near (IfNonzero r n) = branch_size_le (near n)
+one_size_le f near (IfZero r n) = branch_size_le (near n)
+one_size_le f near (Copy m) = omega arith
+one_size_le f near (Const to w) = omega arith
+one_size_le f near (Unary o to b) = omega arith
+one_size_le f near (Binary o to b c) = omega arith
+one_size_le f near (Load g to i) = omega arith
+one_size_le f near (Store g i b) = omega arith
+one_size_le f near (Call g) = omega arith
+one_size_le f near Read = omega arith
+one_size_le f near Write = omega arith
+one_size_le f near Return = omega arith
+
+pub size_le : (f : Frame) (near : ℕ → Bool) (s : Step) → size f near s ≤ long_size f s
+size_le f near (One i) = one_size_le f near i
+size_le f near (Immediate o to b w) = omega arith
+size_le f near (LoadAt g to i w) = omega arith
+size_le f near (StoreAt g i w b) = omega arith
 
 -- ---- places
-
--- the items from a label's place on are those from the first item on that is the label
-pub place_is : (i : linear.Item) (items : List linear.Item) (l : ℕ) → place (i ∷ items) l ≡ (if is_label l i then i ∷ items else place items l)
-place_is (Label n) items l = refl
-place_is (Jump n) items l = refl
-place_is (IfNonzero r n) items l = refl
-place_is (IfZero r n) items l = refl
-place_is (Copy m) items l = refl
-place_is (Const to w) items l = refl
-place_is (Unary o to b) items l = refl
-place_is (Binary o to b c) items l = refl
-place_is (Load g to i) items l = refl
-place_is (Store g i b) items l = refl
-place_is (Call g) items l = refl
-place_is Read items l = refl
-place_is Write items l = refl
-place_is Return items l = refl
 
 -- the place of a label is behind w and a, by no more in the second pass than in the first
 record IsAhead (w a long short : ℕ) : Type 0 where
@@ -122,7 +131,7 @@ ahead_if false w a long short h = h
 further : (w a v b long short : ℕ) → w ≤ v → a ≤ b → b + w ≤ v + a → IsAhead v b long short → IsAhead w a long short
 further w a v b long short p q r h = let x = h.longer in let y = h.shorter in let z = h.apart in record { longer = omega arith; shorter = omega arith; apart = omega arith }
 
-is_ahead : (f : Frame) (near : ℕ → ℕ → Bool) (w a : ℕ) (items : List linear.Item) (l : ℕ) → IsAhead w a (long_place f w items l) (short_place f near w a items l)
+is_ahead : (f : Frame) (near : ℕ → ℕ → Bool) (w a : ℕ) (items : List Step) (l : ℕ) → IsAhead w a (long_place f w items l) (short_place f near w a items l)
 is_ahead f near w a [] l = record { longer = omega arith; shorter = omega arith; apart = omega arith }
 is_ahead f near w a (i ∷ items) l =
     let le = size_le f (near w) i in
@@ -130,25 +139,25 @@ is_ahead f near w a (i ∷ items) l =
     ahead_if (is_label l i) w a _ _ (further w a (w + long_size f i) (a + size f (near w) i) _ _ (omega arith) (omega arith) (omega arith) next)
 
 -- where a label of all items is, seen from items that stand at w and a: in front, or among them
-abbrev pub IsSeen : Frame → (all items : List linear.Item) → (w a : ℕ) → (l : ℕ) → Type 0
+abbrev pub IsSeen : Frame → (all items : List Step) → (w a : ℕ) → (l : ℕ) → Type 0
 IsSeen f all items w a l =
     ((long_place f 0 all l ≤ w) × (short_place f (is_near f all) 0 (prologue_size f) all l ≤ a) × (a + long_place f 0 all l ≤ w + short_place f (is_near f all) 0 (prologue_size f) all l))
     ⊎ ((long_place f 0 all l ≡ long_place f w items l) × (short_place f (is_near f all) 0 (prologue_size f) all l ≡ short_place f (is_near f all) w a items l))
 
 -- so of each label
-abbrev pub AreSeen : Frame → (all items : List linear.Item) → (w a : ℕ) → Type 0
+abbrev pub AreSeen : Frame → (all items : List Step) → (w a : ℕ) → Type 0
 AreSeen f all items w a = (l : ℕ) → IsSeen f all items w a l
 
-pub seen_first : (f : Frame) (all : List linear.Item) → AreSeen f all all 0 (prologue_size f)
+pub seen_first : (f : Frame) (all : List Step) → AreSeen f all all 0 (prologue_size f)
 seen_first f all l = inr (refl, refl)
 
-seen_by : (f : Frame) (all : List linear.Item) (i : linear.Item) (items : List linear.Item) (w a l : ℕ) (b : Bool) → long_place f 0 all l ≡ (if b then w else long_place f (w + long_size f i) items l)
+seen_by : (f : Frame) (all : List Step) (i : Step) (items : List Step) (w a l : ℕ) (b : Bool) → long_place f 0 all l ≡ (if b then w else long_place f (w + long_size f i) items l)
     → short_place f (is_near f all) 0 (prologue_size f) all l ≡ (if b then a else short_place f (is_near f all) (w + long_size f i) (a + size f (is_near f all w) i) items l)
     → IsSeen f all items (w + long_size f i) (a + size f (is_near f all w) i) l
 seen_by f all i items w a l true p q = let le = size_le f (is_near f all w) i in inl (omega arith, omega arith, omega arith)
 seen_by f all i items w a l false p q = inr (p, q)
 
-pub seen_next : (f : Frame) (all : List linear.Item) (i : linear.Item) (items : List linear.Item) (w a : ℕ) → AreSeen f all (i ∷ items) w a → AreSeen f all items (w + long_size f i) (a + size f (is_near f all w) i)
+pub seen_next : (f : Frame) (all : List Step) (i : Step) (items : List Step) (w a : ℕ) → AreSeen f all (i ∷ items) w a → AreSeen f all items (w + long_size f i) (a + size f (is_near f all w) i)
 seen_next f all i items w a seen l =
     elim (seen l) [ inl h ↦ (let le = size_le f (is_near f all w) i in let x = h.0 in let y = h.1 in let z = h.2 in inl (omega arith, omega arith, omega arith)) | inr h ↦ seen_by f all i items w a l (is_label l i) h.0 h.1 ]
 
@@ -164,13 +173,13 @@ near_by : (w a long short : ℕ) → Nears w long → ((long ≤ w) × (short �
 near_by w a long short n (inl h) = let x = h.0 in let y = h.1 in let z = h.2 in let u = n.0 in let v = n.1 in (omega arith, omega arith)
 near_by w a long short n (inr h) = let x = h.longer in let y = h.shorter in let z = h.apart in let u = n.0 in let v = n.1 in (omega arith, omega arith)
 
-seen_ahead : (f : Frame) (all items : List linear.Item) (w a l : ℕ) → IsSeen f all items w a l
+seen_ahead : (f : Frame) (all items : List Step) (w a l : ℕ) → IsSeen f all items w a l
     → ((long_place f 0 all l ≤ w) × (short_place f (is_near f all) 0 (prologue_size f) all l ≤ a) × (a + long_place f 0 all l ≤ w + short_place f (is_near f all) 0 (prologue_size f) all l)) ⊎ IsAhead w a (long_place f 0 all l) (short_place f (is_near f all) 0 (prologue_size f) all l)
 seen_ahead f all items w a l (inl h) = inl h
 seen_ahead f all items w a l (inr h) = inr (subst (λ n. IsAhead w a n (short_place f (is_near f all) 0 (prologue_size f) all l)) (sym h.0) (subst (IsAhead w a (long_place f w items l)) (sym h.1) (is_ahead f (is_near f all) w a items l)))
 
 -- a branch that is near by the first pass
-pub stays_near : (f : Frame) (all items : List linear.Item) (w a l : ℕ) → AreSeen f all items w a → is_near f all w l ≡ true → Nears a (short_place f (is_near f all) 0 (prologue_size f) all l)
+pub stays_near : (f : Frame) (all items : List Step) (w a l : ℕ) → AreSeen f all items w a → is_near f all w l ≡ true → Nears a (short_place f (is_near f all) 0 (prologue_size f) all l)
 stays_near f all items w a l seen e = near_by w a (long_place f 0 all l) _ (reaches_says w (long_place f 0 all l) e) (seen_ahead f all items w a l (seen l))
 
 -- the offset of such a branch: what it is, and that the instruction can hold it
@@ -193,7 +202,7 @@ place_if : (b : Bool) (a x y : ℕ) → a ≤ y → x ≤ y → (if b then a els
 place_if true a x y p q = p
 place_if false a x y p q = q
 
-pub short_place_le : (base : ℕ → ℕ) (f : Frame) (near : ℕ → ℕ → Bool) (labels : ℕ → ℕ) (w a : ℕ) (items : List linear.Item) (l : ℕ) → short_place f near w a items l ≤ a + length (emitted base f near labels w a items)
+pub short_place_le : (base : ℕ → ℕ) (f : Frame) (near : ℕ → ℕ → Bool) (labels : ℕ → ℕ) (w a : ℕ) (items : List Step) (l : ℕ) → short_place f near w a items l ≤ a + length (emitted base f near labels w a items)
 short_place_le base f near labels w a [] l = omega arith
 short_place_le base f near labels w a (i ∷ items) l =
     let first = items_of base f (near w) labels a i in

@@ -1,17 +1,24 @@
 -- What each operator's instructions compute.
-use Rattle.std.proofs.Common.{◌≡◌, ℕ, ◌-◌, ◌^◌, ◌<◌, Some, true, false, Bool, refl, sym, ap, ◌∙◌, arith, mod-eq_of_lt}
-use Rattle.std.specs.Prelude.{if◌then◌else◌, ◌==◌, unwrap_or}
+use Rattle.std.proofs.Common.{◌≡◌, ℕ, ◌+◌, ◌-◌, ◌%◌, ◌^◌, ◌<◌, Some, true, false, Bool, refl, sym, ap, ◌∙◌, inl, inr, arith, mod-eq_of_lt}
+use Rattle.std.specs.Prelude.{if◌then◌else◌, ◌==◌, ◌&&◌, not, nat_lt, unwrap_or}
 use Rattle.std.proofs.lemmas.Bool.Decides.{nat_tests}
-use Rattle.cc_words.specs.Words.{IsWord, lt_u, shl, shr_s, shr_u, sub, truth_value, xor}
+use Rattle.std.proofs.lemmas.Int.{ints}
+use Rattle.cc_words.specs.Words.{IsWord, add, and, eq, le_s, le_u, lt_s, lt_u, ne, neg, or, shl, shr_s, shr_u, sub, truth_value, xor}
 use Rattle.cc_words.specs.Operators.{apply_unary, apply_binary}
 use Rattle.cc_words.specs.declared.operators.Unary as unary
 use Rattle.cc_words.specs.declared.operators.Unary.TheVariants.{Neg, Complement, IsZero}
 use Rattle.cc_words.specs.declared.operators.Binary as binary
 use Rattle.cc_words.specs.declared.operators.Binary.TheVariants.{Add, Sub, Mul, DivS, DivU, RemS, RemU, Shl, ShrS, ShrU, And, Or, Xor, Eq, Ne, LtS, LtU, LeS, LeU}
-use Rattle.cc_words.proofs.Laws.{is_zero-lt_u, eq-sub, ne-sub, le_s-lt_s, le_u-lt_u, complement-xor, IsWord-add, IsWord-sub, IsWord-mul, IsWord-neg, IsWord-div_s, IsWord-div_u, IsWord-rem_s, IsWord-rem_u, IsWord-shl, IsWord-shr_s, IsWord-shr_u, IsWord-and, IsWord-or, IsWord-xor, IsWord-eq, IsWord-ne, IsWord-lt_s, IsWord-lt_u, IsWord-le_s, IsWord-le_u, IsWord-is_zero, IsWord-complement}
+use Rattle.cc_words.proofs.Laws.{is_zero-lt_u, sub_is, eq-sub, ne-sub, le_s-lt_s, le_u-lt_u, complement-xor, IsWord-add, IsWord-sub, IsWord-mul, IsWord-neg, IsWord-div_s, IsWord-div_u, IsWord-rem_s, IsWord-rem_u, IsWord-shl, IsWord-shr_s, IsWord-shr_u, IsWord-and, IsWord-or, IsWord-xor, IsWord-eq, IsWord-ne, IsWord-lt_s, IsWord-lt_u, IsWord-le_s, IsWord-le_u, IsWord-is_zero, IsWord-complement}
 use Rattle.cc_rv32.specs.declared.instr.Operation.TheVariants as operation
-use Rattle.cc_rv32.specs.Machine.{State, computed, execute, puts}
-use Rattle.cc_emit.specs.Emission.{Direct, NonzeroOf, Recipe, ZeroOf, ZeroOfExchanged, recipe, unary_instr}
+use Rattle.cc_rv32.specs.declared.instr.ImmediateOperation.TheVariants.{Addi, Sltiu}
+use Rattle.cc_rv32.specs.Machine.{State, computed, execute, immediate_operation, puts, shift_operation}
+use Rattle.cc_emit.specs.declared.step.Immediate as immediate
+use Rattle.cc_emit.specs.declared.step.Immediate.TheVariants as immediates
+use Rattle.cc_emit.specs.Steps.{is_short, has_word}
+use Rattle.cc_emit.specs.Emission.{Direct, NonzeroOf, NonzeroOfImmediate, OnZero, Recipe, ShiftBy, WithImmediate, WordRecipe, ZeroOf, ZeroOfExchanged, ZeroOfImmediate, low, recipe, unary_instr, word_recipe}
+use Rattle.cc_emit.proofs.Basics.{LowIs, eqb_denies, eqb_says, low_is}
+use Rattle.cc_emit.proofs.Stepping.{is_exchanged, operator_of}
 
 -- a recipe gives a word v
 abbrev pub IsRight : Recipe → (a b v : ℕ) → Type 0
@@ -96,3 +103,122 @@ pub unary_right : (o : unary.Unary) (w : ℕ) → IsWord w → (unary_by o w ≡
 unary_right Neg w h = (refl, IsWord-neg w)
 unary_right Complement w h = (sym (complement-xor w h), IsWord-complement w)
 unary_right IsZero w h = (sym (is_zero-lt_u w), IsWord-is_zero w)
+
+-- ---- a register and a word
+
+-- a recipe gives a word v of a register's word
+abbrev pub IsRightWord : WordRecipe → (a v : ℕ) → Type 0
+IsRightWord (WithImmediate i n) a v = computed (immediate_operation i) a n ≡ v
+IsRightWord (ShiftBy i n) a v = computed (shift_operation i) a n ≡ v
+IsRightWord (OnZero i) a v = computed i 0 a ≡ v
+IsRightWord (ZeroOfImmediate i n) a v = (computed (immediate_operation i) a n < 2 ^ 32) × (lt_u (computed (immediate_operation i) a n) 1 ≡ v)
+IsRightWord (NonzeroOfImmediate i n) a v = (computed (immediate_operation i) a n < 2 ^ 32) × (lt_u 0 (computed (immediate_operation i) a n) ≡ v)
+
+short_says : (w : ℕ) → is_short w ≡ true → (w + 2 ^ 11) % 2 ^ 32 < 2 ^ 12
+short_says w e = grind (arith, nat_tests)
+
+short_is : (w x : ℕ) → IsWord w → (w + 2 ^ 11) % 2 ^ 32 < 2 ^ 12 → LowIs w x → x ≡ w
+short_is w x b lt (inl h) = omega arith
+short_is w x b lt (inr h) = omega arith
+
+-- a short word is its lower part
+low_short : (w : ℕ) → IsWord w → is_short w ≡ true → low w ≡ w
+low_short w b e = short_is w (low w) b (short_says w e) (low_is w)
+
+sub_neg : (a w : ℕ) → IsWord a → IsWord w → sub a w ≡ add a (neg w)
+sub_neg a w p q = let d = sub_is a w p q in let n = sub_is 0 w (omega arith) q in omega arith
+
+shl_by : (a w : ℕ) → nat_lt w 32 ≡ true → shl a w ≡ Some (computed operation.Sll a (w % 32))
+shl_by a w e = grind (arith, nat_tests, mod-eq_of_lt)
+
+shr_s_by : (a w : ℕ) → nat_lt w 32 ≡ true → shr_s a w ≡ Some (computed operation.Sra a (w % 32))
+shr_s_by a w e = grind (arith, nat_tests, mod-eq_of_lt)
+
+shr_u_by : (a w : ℕ) → nat_lt w 32 ≡ true → shr_u a w ≡ Some (computed operation.Srl a (w % 32))
+shr_u_by a w e = grind (arith, nat_tests, mod-eq_of_lt)
+
+-- ---- comparisons with a word
+
+next_s : (a w : ℕ) → IsWord a → IsWord w → (w ≡ 2 ^ 31 - 1 → ⊥) → le_s a w ≡ lt_s a (add w 1)
+next_s a w p q other = grind (arith, ints)
+
+next_u : (a w : ℕ) → IsWord a → IsWord w → (w ≡ 2 ^ 32 - 1 → ⊥) → le_u a w ≡ lt_u a (add w 1)
+next_u a w p q other = grind (arith, nat_tests)
+
+le_s_by : (a w : ℕ) → IsWord a → IsWord w → is_short (add w 1) ≡ true → le_s a w ≡ lt_s a (low (add w 1))
+le_s_by a w p q e =
+    let short = short_says (add w 1) e in
+    next_s a w p q (λ f. omega arith) ∙ ap (lt_s a) (sym (low_short (add w 1) (IsWord-add w 1) e))
+
+le_u_by : (a w : ℕ) → IsWord a → IsWord w → (is_short (add w 1) && not (w == 2 ^ 32 - 1)) ≡ true → le_u a w ≡ lt_u a (low (add w 1))
+le_u_by a w p q e =
+    let both = both_true (is_short (add w 1)) (not (w == 2 ^ 32 - 1)) e in
+    next_u a w p q (eqb_denies w (2 ^ 32 - 1) (denied _ both.1)) ∙ ap (lt_u a) (sym (low_short (add w 1) (IsWord-add w 1) both.0))
+  where
+    both_true : (b c : Bool) → (b && c) ≡ true → (b ≡ true) × (c ≡ true)
+    both_true true c f = (refl, f)
+    both_true false c f = absurd (cc)
+
+    denied : (b : Bool) → not b ≡ true → b ≡ false
+    denied true f = absurd (cc)
+    denied false f = refl
+
+-- a difference, by the word's negative
+minus : (a w : ℕ) → IsWord a → IsWord w → is_short (neg w) ≡ true → sub a w ≡ add a (low (neg w))
+minus a w p q e = sub_neg a w p q ∙ ap (add a) (sym (low_short (neg w) (IsWord-neg w) e))
+
+eq_by : (a w : ℕ) (b : Bool) → IsWord a → IsWord w → is_short (neg w) ≡ true → (w == 0) ≡ b → IsRightWord (if b then WithImmediate Sltiu 1 else ZeroOfImmediate Addi (low (neg w))) a (eq a w)
+eq_by a w true p q e z = sym (is_zero-lt_u a) ∙ ap (eq a) (sym (eqb_says w 0 z))
+eq_by a w false p q e z = (IsWord-add a _, ap (λ n. lt_u n 1) (sym (minus a w p q e)) ∙ sym (is_zero-lt_u (sub a w)) ∙ sym (eq-sub a w p q))
+
+not_zero : (a : ℕ) → lt_u 0 a ≡ ne a 0
+not_zero a = grind (arith, nat_tests)
+
+ne_by : (a w : ℕ) (b : Bool) → IsWord a → IsWord w → is_short (neg w) ≡ true → (w == 0) ≡ b → IsRightWord (if b then OnZero operation.Sltu else NonzeroOfImmediate Addi (low (neg w))) a (ne a w)
+ne_by a w true p q e z = not_zero a ∙ ap (ne a) (sym (eqb_says w 0 z))
+ne_by a w false p q e z = (IsWord-add a _, ap (lt_u 0) (sym (minus a w p q e)) ∙ sym (ne-sub a w p q))
+
+-- ---- what the operators give
+
+-- an operator's operands, where the word is the right one or the left one
+abbrev pub left_one : (exchanged : Bool) → (a w : ℕ) → ℕ
+left_one x a w = if x then w else a
+
+abbrev pub right_one : (exchanged : Bool) → (a w : ℕ) → ℕ
+right_one x a w = if x then a else w
+
+-- an operator on a register's word and a word has a value, and its instructions give it
+pub record Gives (o : immediate.Immediate) (a w : ℕ) : Type 0 where
+  pub value : ℕ
+  pub applied : apply_binary (operator_of o) (left_one (is_exchanged o) a w) (right_one (is_exchanged o) a w) ≡ Some value
+  pub right : IsRightWord (word_recipe o w) a value
+
+gives : (o : immediate.Immediate) (a w v : ℕ) → apply_binary (operator_of o) (left_one (is_exchanged o) a w) (right_one (is_exchanged o) a w) ≡ Some v → IsRightWord (word_recipe o w) a v → Gives o a w
+gives o a w v e r = record { value = v; applied = e; right = r }
+
+pub immediate_gives : (o : immediate.Immediate) (a w : ℕ) → IsWord a → IsWord w → has_word o w ≡ true → Gives o a w
+immediate_gives immediates.Add a w p q e = gives immediates.Add a w (add a w) refl (ap (add a) (low_short w q e))
+immediate_gives immediates.Sub a w p q e = gives immediates.Sub a w (sub a w) refl (sym (minus a w p q e))
+immediate_gives immediates.Shl a w p q e = gives immediates.Shl a w _ (shl_by a w e) refl
+immediate_gives immediates.ShrS a w p q e = gives immediates.ShrS a w _ (shr_s_by a w e) refl
+immediate_gives immediates.ShrU a w p q e = gives immediates.ShrU a w _ (shr_u_by a w e) refl
+immediate_gives immediates.And a w p q e = gives immediates.And a w (and a w) refl (ap (and a) (low_short w q e))
+immediate_gives immediates.Or a w p q e = gives immediates.Or a w (or a w) refl (ap (or a) (low_short w q e))
+immediate_gives immediates.Xor a w p q e = gives immediates.Xor a w (xor a w) refl (ap (xor a) (low_short w q e))
+immediate_gives immediates.Eq a w p q e = gives immediates.Eq a w (eq a w) refl (eq_by a w (w == 0) p q e refl)
+immediate_gives immediates.Ne a w p q e = gives immediates.Ne a w (ne a w) refl (ne_by a w (w == 0) p q e refl)
+immediate_gives immediates.LtS a w p q e = gives immediates.LtS a w (lt_s a w) refl (ap (lt_s a) (low_short w q e))
+immediate_gives immediates.LtU a w p q e = gives immediates.LtU a w (lt_u a w) refl (ap (lt_u a) (low_short w q e))
+immediate_gives immediates.LeS a w p q e = gives immediates.LeS a w (le_s a w) refl (sym (le_s_by a w p q e))
+immediate_gives immediates.LeU a w p q e = gives immediates.LeU a w (le_u a w) refl (sym (le_u_by a w p q e))
+immediate_gives immediates.GtS a w p q e = gives immediates.GtS a w (lt_s w a) refl (ap (λ n. lt_s n a) (sym (eqb_says w 0 e)))
+immediate_gives immediates.GtU a w p q e = gives immediates.GtU a w (lt_u w a) refl (ap (λ n. lt_u n a) (sym (eqb_says w 0 e)))
+immediate_gives immediates.GeS a w p q e =
+    gives immediates.GeS a w (le_s w a) refl (IsWord-lt_s a (low w), turned _ ∙ ap (λ n. 1 - lt_s a n) (low_short w q e) ∙ sym (le_s-lt_s w a))
+immediate_gives immediates.GeU a w p q e =
+    gives immediates.GeU a w (le_u w a) refl (IsWord-lt_u a (low w), turned _ ∙ ap (λ n. 1 - lt_u a n) (low_short w q e) ∙ sym (le_u-lt_u w a))
+
+-- and the value is a word
+pub gives_word : (o : immediate.Immediate) (x : Bool) (a w v : ℕ) → IsWord a → IsWord w → apply_binary (operator_of o) (left_one x a w) (right_one x a w) ≡ Some v → IsWord v
+gives_word o true a w v p q e = binary_word (operator_of o) w a v q p e
+gives_word o false a w v p q e = binary_word (operator_of o) a w v p q e

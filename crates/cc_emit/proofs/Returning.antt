@@ -9,10 +9,11 @@ use Rattle.cc_runs.specs.Unknown.{survives}
 use Rattle.cc_ltl.specs.declared.location.Location.TheVariants.{Register, Slot}
 use Rattle.cc_ltl.specs.Registers.{IsAllocatable}
 use Rattle.cc_ltl.specs.Ltl.{Locations, put, words_from}
-use Rattle.cc_linear.specs.declared.item.Item as linear
 use Rattle.cc_linear.specs.declared.item.Item.TheVariants.{Return}
 use Rattle.cc_rv32.specs.declared.instr.Instr.TheVariants.{Jal, Jalr}
 use Rattle.cc_rv32.specs.Machine.{Continues, State, Traps, jumps, stack_from, stack_to, with_register}
+use Rattle.cc_emit.specs.declared.step.Step.{Step}
+use Rattle.cc_emit.specs.declared.step.Step.TheVariants.{One}
 use Rattle.cc_emit.specs.Contract.{Code, ComesBack, Enters, IsKept, IsPlace, IsSound, Passes, Path, Placed, Shares}
 use Rattle.cc_emit.specs.Frames.{Frame, frame_size}
 use Rattle.cc_emit.specs.Emission.{prologue, prologue_size, restoring, saving, stack_moved, stack_moved_size}
@@ -44,7 +45,7 @@ not_saved r (inr (inl e)) = ((λ q. omega arith), (λ k. elim k [ inl b ↦ omeg
 not_saved r (inr (inr e)) = ((λ q. omega arith), (λ k. elim k [ inl b ↦ omega arith | inr b ↦ omega arith ]))
 
 -- the return: the saved registers are read back, the frame given up
-pub return_path : (x : Site) (w a : ℕ) (rest : List linear.Item) (l : Locations) (h : World) (s : State) → IsSound x.from → x.from.registers 1 % 4 ≡ 0 → s.pc ≡ x.place + 4 * a → Standing x w a (Return ∷ rest) → Within x l h s
+pub return_path : (x : Site) (w a : ℕ) (rest : List Step) (l : Locations) (h : World) (s : State) → IsSound x.from → x.from.registers 1 % 4 ≡ 0 → s.pc ≡ x.place + 4 * a → Standing x w a (One Return ∷ rest) → Within x l h s
     → (n : ℕ) × (t : State) × Path x.code n s t × ComesBack x.layout x.from (record { value = l (Register 10); world = h }) t
 return_path x w a rest l h s sound back e st inside =
     let f = x.frame in
@@ -52,7 +53,7 @@ return_path x w a rest l h s sound back e st inside =
     let sv = x.is_frame.savable in
     let o = 4 * f.slots in
     let move = stack_moved f (frame_size f) in
-    let both = placed_append x.code x.places x.place (x.place + 4 * a) (restoring o rs) _ (first_items x w a Return rest st) in
+    let both = placed_append x.code x.places x.place (x.place + 4 * a) (restoring o rs) _ (first_items x w a (One Return) rest st) in
     let ends = placed_append x.code x.places x.place (x.place + 4 * a + 4 * length (restoring o rs)) move _ both.1 in
     let stack = inside.stack in
     let from = low_stack x l h s inside in

@@ -7,15 +7,15 @@ use Rattle.cc_rv32.specs.declared.instr.Instr.TheVariants.{Jal}
 use Rattle.cc_rv32.specs.Machine.{Continues, State, Traps, Turn, execute, executed, stack_from, stack_to, with_register}
 use Rattle.cc_runs.specs.World.{World, object_words}
 use Rattle.cc_runs.specs.Meaning.{Meaning}
-use Rattle.cc_linear.specs.declared.item.Item as linear
-use Rattle.cc_linear.specs.Linear.{place as items_from}
 use Rattle.cc_emit.specs.declared.item.Item.{Item}
+use Rattle.cc_emit.specs.declared.step.Step.{Step}
 use Rattle.cc_emit.specs.Contract.{Code, IsPlace, Layout, Path, Placed}
 use Rattle.cc_emit.specs.Frames.{Frame, frame_size}
 use Rattle.cc_emit.specs.Emission.{prologue_size, emitted, items_of, size, long_size, is_label, is_near, long_place, short_place}
-use Rattle.cc_emit.proofs.Fine.{AreFine, IsFrame}
+use Rattle.cc_emit.proofs.Fine.{AreFineSteps, IsFrame}
 use Rattle.cc_emit.proofs.Basics.{eqb_yes, with_zero}
-use Rattle.cc_emit.proofs.Places.{AreSeen, size_is, place_is, seen_next}
+use Rattle.cc_emit.proofs.Stepping.{steps_from}
+use Rattle.cc_emit.proofs.Places.{AreSeen, size_is, seen_next}
 
 -- one instruction of some code
 abbrev pub machine_step : Code → State → Turn
@@ -34,7 +34,7 @@ pub record Site : Type 0 where
   pub meaning : Meaning
   pub layout : Layout meaning.objects
   pub frame : Frame
-  pub items : List linear.Item
+  pub steps : List Step
   pub code : Code
   pub places : ℕ → ℕ
   pub place : ℕ
@@ -56,27 +56,27 @@ long_of objects h e g = sym (long_at h.globals g) ∙ ap (λ o. get_or o g 0) e
     long_at (x ∷ xs) (suc g) = long_at xs g
 
 abbrev pub near : Site → (long label : ℕ) → Bool
-near x = is_near x.frame x.items
+near x = is_near x.frame x.steps
 
 abbrev pub labels : Site → ℕ → ℕ
-labels x = short_place x.frame (near x) 0 (prologue_size x.frame) x.items
+labels x = short_place x.frame (near x) 0 (prologue_size x.frame) x.steps
 
-abbrev pub items_at : Site → (w a : ℕ) → List linear.Item → List Item
+abbrev pub items_at : Site → (w a : ℕ) → List Step → List Item
 items_at x w a ops = emitted x.layout.base x.frame (near x) (labels x) w a ops
 
-abbrev pub items_for : Site → (w a : ℕ) → linear.Item → List Item
+abbrev pub items_for : Site → (w a : ℕ) → Step → List Item
 items_for x w a op = items_of x.layout.base x.frame (near x w) (labels x) a op
 
 abbrev pub Stands : Site → ℕ → List Item → Type 0
 Stands x p items = Placed x.code x.places x.place p items
 
--- these items stand from an item of the piece on, w in the first pass
-pub record Standing (x : Site) (w a : ℕ) (ops : List linear.Item) : Type 0 where
+-- the items of these steps stand from an item of the piece on, w in the first pass
+pub record Standing (x : Site) (w a : ℕ) (ops : List Step) : Type 0 where
   pub placed : Stands x (x.place + 4 * a) (items_at x w a ops)
   pub from : IsPlace (x.place + 4 * a)
   pub to : IsPlace (x.place + 4 * a + 4 * length (items_at x w a ops))
-  pub fine : AreFine x.meaning x.frame ops
-  pub seen : AreSeen x.frame x.items ops w a
+  pub fine : AreFineSteps x.meaning x.frame ops
+  pub seen : AreSeen x.frame x.steps ops w a
 
 pub placed_append : (code : Code) (places : ℕ → ℕ) (place a : ℕ) (xs ys : List Item) → Placed code places place a (xs ++ ys) → Placed code places place a xs × Placed code places place (a + 4 * length xs) ys
 placed_append code places place a [] ys p = (tt, subst (λ n. Placed code places place n ys) (let e : a ≡ a + 4 * 0 = omega arith in e) p)
@@ -89,12 +89,12 @@ pub between : (a b c : ℕ) → IsPlace a → IsPlace c → a ≤ b → b ≤ c 
 between a b c p q le lt z = let from = p.from in let to = q.to in record { aligned = z; from = omega arith; to = omega arith }
 
 -- the items of the first one
-pub first_items : (x : Site) (w a : ℕ) (op : linear.Item) (ops : List linear.Item) → Standing x w a (op ∷ ops) → Stands x (x.place + 4 * a) (items_for x w a op)
+pub first_items : (x : Site) (w a : ℕ) (op : Step) (ops : List Step) → Standing x w a (op ∷ ops) → Stands x (x.place + 4 * a) (items_for x w a op)
 first_items x w a op ops st =
     (placed_append x.code x.places x.place (x.place + 4 * a) (items_for x w a op) (items_at x (w + long_size x.frame op) (a + size x.frame (near x w) op) ops) st.placed).0
 
 -- the items behind it
-pub standing_tail : (x : Site) (w a : ℕ) (op : linear.Item) (ops : List linear.Item) → Standing x w a (op ∷ ops) → Standing x (w + long_size x.frame op) (a + size x.frame (near x w) op) ops
+pub standing_tail : (x : Site) (w a : ℕ) (op : Step) (ops : List Step) → Standing x w a (op ∷ ops) → Standing x (w + long_size x.frame op) (a + size x.frame (near x w) op) ops
 standing_tail x w a op ops st =
     let b = a + size x.frame (near x w) op in
     let first = items_for x w a op in
@@ -110,21 +110,20 @@ standing_tail x w a op ops st =
       from = between (x.place + 4 * a) (x.place + 4 * b) _ st.from to (omega arith) (omega arith) (omega arith);
       to = to;
       fine = st.fine.1;
-      seen = seen_next x.frame x.items op ops w a st.seen;
+      seen = seen_next x.frame x.steps op ops w a st.seen;
     }
 
-stands_if : (x : Site) (t : Bool) (v w a b : ℕ) (os ps : List linear.Item) → Standing x v a os → Standing x w b ps → Standing x (if t then v else w) (if t then a else b) (if t then os else ps)
+stands_if : (x : Site) (t : Bool) (v w a b : ℕ) (os ps : List Step) → Standing x v a os → Standing x w b ps → Standing x (if t then v else w) (if t then a else b) (if t then os else ps)
 stands_if x true v w a b os ps p q = p
 stands_if x false v w a b os ps p q = q
 
--- the items from a label on stand where the label does
-pub standing_from : (x : Site) (l w a : ℕ) (ops : List linear.Item) → Standing x w a ops → Standing x (long_place x.frame w ops l) (short_place x.frame (near x) w a ops l) (items_from ops l)
+-- the steps from a label on stand where the label does
+pub standing_from : (x : Site) (l w a : ℕ) (ops : List Step) → Standing x w a ops → Standing x (long_place x.frame w ops l) (short_place x.frame (near x) w a ops l) (steps_from ops l)
 standing_from x l w a [] st = st
 standing_from x l w a (op ∷ ops) st =
     let v = w + long_size x.frame op in
     let b = a + size x.frame (near x w) op in
-    subst (Standing x (long_place x.frame w (op ∷ ops) l) (short_place x.frame (near x) w a (op ∷ ops) l)) (sym (place_is op ops l))
-    (stands_if x (is_label l op) w (long_place x.frame v ops l) a (short_place x.frame (near x) v b ops l) (op ∷ ops) (items_from ops l) st (standing_from x l v b ops (standing_tail x w a op ops st)))
+    stands_if x (is_label l op) w (long_place x.frame v ops l) a (short_place x.frame (near x) v b ops l) (op ∷ ops) (steps_from ops l) st (standing_from x l v b ops (standing_tail x w a op ops st))
 
 -- ---- single steps
 

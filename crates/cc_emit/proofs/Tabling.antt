@@ -1,5 +1,5 @@
 -- The table of labels, an item more at a time, from the back.
-use Rattle.std.proofs.Common.{◌≡◌, ℕ, zero, suc, ◌+◌, ◌-◌, ◌*◌, ◌<◌, ◌≤◌, List, [], ◌∷◌, false, length, get_or, set, drop, replicate, refl, sym, ap, ◌∙◌, subst, inl, inr, arith}
+use Rattle.std.proofs.Common.{◌≡◌, ℕ, zero, suc, ◌+◌, ◌-◌, ◌*◌, ◌<◌, ◌≤◌, List, [], ◌∷◌, Some, false, length, get_or, set, drop, replicate, refl, sym, ap, ◌∙◌, subst, inl, inr, arith}
 use Rattle.std.specs.Prelude.{if◌then◌else◌}
 use Rattle.std.specs.List.{AllByRecursion}
 use Rattle.std.proofs.lemmas.List.{get_or-set_same, get_or-set_other, length-set, get_or-replicate, length-replicate, drop_more, drop_all}
@@ -7,9 +7,11 @@ use Rattle.std.proofs.lemmas.Bool.Decides.{eqb_tells}
 use Rattle.cc_linear.specs.declared.item.Item as linear
 use Rattle.cc_linear.specs.declared.item.Item.TheVariants.{Label}
 use Rattle.cc_linear.specs.Linear.{labels}
+use Rattle.cc_emit.specs.declared.step.Step.{Step}
+use Rattle.cc_emit.specs.declared.step.Step.TheVariants.{One}
 use Rattle.cc_emit.specs.Frames.{Frame}
 use Rattle.cc_emit.specs.Emission.{size, long_size, is_label}
-use Rattle.cc_emit.specs.internal.Behind.{long_behind, near_behind, behind, label_behind, IsTable}
+use Rattle.cc_emit.specs.internal.Behind.{long_behind, near_behind, behind, label_behind, label_of, IsTable}
 
 -- ---- how many labels a table needs
 
@@ -29,10 +31,10 @@ pub no_labels : (f : Frame) (first : List ℕ) (count : ℕ) → IsTable f first
 no_labels f first count = record { long = length-replicate count 0; each = λ l lt. get_or-replicate count l 0 0 lt }
 
 -- a label is noted where it stands
-pub label_noted : (f : Frame) (first : List ℕ) (count n : ℕ) (items : List linear.Item) (table : List ℕ) → n < count → IsTable f first items count table
-    → IsTable f first (Label n ∷ items) count (set table n (behind f first (Label n ∷ items)))
+pub label_noted : (f : Frame) (first : List ℕ) (count n : ℕ) (items : List Step) (table : List ℕ) → n < count → IsTable f first items count table
+    → IsTable f first (One (Label n) ∷ items) count (set table n (behind f first (One (Label n) ∷ items)))
 label_noted f first count n items table lt t =
-    let b = behind f first (Label n ∷ items) in
+    let b = behind f first (One (Label n) ∷ items) in
     record {
       long = length-set table n b ∙ t.long;
       each = λ l ll. elim (eqb_tells n l) [
@@ -42,27 +44,31 @@ label_noted f first count n items table lt t =
     }
 
 -- one past the table is not
-pub label_past : (f : Frame) (first : List ℕ) (count n : ℕ) (items : List linear.Item) (table : List ℕ) → count ≤ n → IsTable f first items count table → IsTable f first (Label n ∷ items) count table
+pub label_past : (f : Frame) (first : List ℕ) (count n : ℕ) (items : List Step) (table : List ℕ) → count ≤ n → IsTable f first items count table → IsTable f first (One (Label n) ∷ items) count table
 label_past f first count n items table le t = record {
   long = t.long;
   each = λ l ll. elim (eqb_tells n l) [
     | inl e ↦ absurd (let q = e.1 in omega arith)
-    | inr e ↦ (t.each l ll ∙ sym (ap (λ c. if c then behind f first (Label n ∷ items) else label_behind f first items l) e.0))
+    | inr e ↦ (t.each l ll ∙ sym (ap (λ c. if c then behind f first (One (Label n) ∷ items) else label_behind f first items l) e.0))
   ];
 }
 
-abbrev pub IsNoLabel : linear.Item → Type 0
+abbrev pub IsNoLabel : Step → Type 0
 IsNoLabel item = (l : ℕ) → is_label l item ≡ false
 
-pub other_past : (f : Frame) (first : List ℕ) (count : ℕ) (item : linear.Item) (items : List linear.Item) (table : List ℕ) → IsNoLabel item → IsTable f first items count table → IsTable f first (item ∷ items) count table
+pub other_past : (f : Frame) (first : List ℕ) (count : ℕ) (item : Step) (items : List Step) (table : List ℕ) → IsNoLabel item → IsTable f first items count table → IsTable f first (item ∷ items) count table
 other_past f first count item items table none t = record { long = t.long; each = λ l lt. t.each l lt ∙ sym (ap (λ c. if c then behind f first (item ∷ items) else label_behind f first items l) (none l)) }
 
-no_label : (item : linear.Item) → ((n : ℕ) → item ≡ Label n → ⊥) → IsNoLabel item
-no_label (Label n) f l = absurd (f n refl)
+pub no_label : (item : Step) → ((n : ℕ) → label_of item ≡ Some n → ⊥) → IsNoLabel item
+no_label (One (Label n)) f l = absurd (f n refl)
 no_label _ f l = refl
 
+pub label_says : (item : Step) (n : ℕ) → Some n ≡ label_of item → item ≡ One (Label n)
+label_says (One (Label m)) n e = ap (λ k. One (Label k)) (let z : m ≡ n = cc in z)
+label_says _ n e = absurd (cc)
+
 -- the items from number `at` on are in the table
-pub record Filled (f : Frame) (first : List ℕ) (code : List linear.Item) (count at here all : ℕ) (table : List ℕ) : Type 0 where
+pub record Filled (f : Frame) (first : List ℕ) (code : List Step) (count at here all : ℕ) (table : List ℕ) : Type 0 where
   pub within : at ≤ length code
   pub here_is : here ≡ long_behind f (drop at code)
   pub all_is : all ≡ behind f first (drop at code)
@@ -70,7 +76,7 @@ pub record Filled (f : Frame) (first : List ℕ) (code : List linear.Item) (coun
   pub few : here + 15 * at ≤ 15 * length code
   pub few_all : all + 15 * at ≤ 15 * length code
 
-pub filled_first : (f : Frame) (first : List ℕ) (code : List linear.Item) (count : ℕ) (table : List ℕ) → table ≡ replicate count 0 → Filled f first code count (length code) 0 0 table
+pub filled_first : (f : Frame) (first : List ℕ) (code : List Step) (count : ℕ) (table : List ℕ) → table ≡ replicate count 0 → Filled f first code count (length code) 0 0 table
 filled_first f first code count table e =
     let none = drop_all (length code) code (omega arith) in
     record {
@@ -83,19 +89,19 @@ filled_first f first code count table e =
     }
 
 -- the item before number `at`
-abbrev pub At : (code : List linear.Item) (at : ℕ) → linear.Item → Type 0
+abbrev pub At : (code : List Step) (at : ℕ) → Step → Type 0
 At code at item = (0 < at) × (item ≡ get_or code (at - 1) item)
 
-rest_more : (code : List linear.Item) (at : ℕ) (item : linear.Item) → at ≤ length code → At code at item → drop (at - 1) code ≡ item ∷ drop at code
+rest_more : (code : List Step) (at : ℕ) (item : Step) → at ≤ length code → At code at item → drop (at - 1) code ≡ item ∷ drop at code
 rest_more code at item le (pos, is) =
     let n : at - 1 + 1 ≡ at = omega arith in
     drop_more code (at - 1) item (omega arith) ∙ ap (λ x. x ∷ drop (at - 1 + 1) code) (sym is) ∙ ap (λ i. item ∷ drop i code) n
 
-pub is_label_at : (code : List linear.Item) (at : ℕ) (item : linear.Item) (n : ℕ) → item ≡ get_or code at item → item ≡ Label n → Label n ≡ get_or code at (Label n)
+pub is_label_at : (code : List Step) (at : ℕ) (item : Step) (n : ℕ) → item ≡ get_or code at item → item ≡ One (Label n) → One (Label n) ≡ get_or code at (One (Label n))
 is_label_at code at item n is e = subst (λ x. x ≡ get_or code at x) e is
 
 -- one item more
-filled_more : (f : Frame) (first : List ℕ) (code : List linear.Item) (count at here all here' all' : ℕ) (item : linear.Item) (table table' : List ℕ) → Filled f first code count at here all table → At code at item
+filled_more : (f : Frame) (first : List ℕ) (code : List Step) (count at here all here' all' : ℕ) (item : Step) (table table' : List ℕ) → Filled f first code count at here all table → At code at item
     → here' ≡ here + long_size f item → all' ≡ all + size f (near_behind first here') item → long_size f item ≤ 15 → size f (near_behind first here') item ≤ 15
     → (here' ≡ long_behind f (item ∷ drop at code) → all' ≡ behind f first (item ∷ drop at code) → IsTable f first (item ∷ drop at code) count table') → Filled f first code count (at - 1) here' all' table'
 filled_more f first code count at here all here' all' item table table' o a eh ea lh la t =
@@ -116,25 +122,25 @@ filled_more f first code count at here all here' all' item table table' o a eh e
       few_all = omega arith;
     }
 
-pub filled_label : (f : Frame) (first : List ℕ) (code : List linear.Item) (count at here all here' all' n : ℕ) (table : List ℕ) → Filled f first code count at here all table → At code at (Label n)
-    → here' ≡ here + long_size f (Label n) → all' ≡ all + size f (near_behind first here') (Label n) → n < length table → Filled f first code count (at - 1) here' all' (set table n all')
+pub filled_label : (f : Frame) (first : List ℕ) (code : List Step) (count at here all here' all' n : ℕ) (table : List ℕ) → Filled f first code count at here all table → At code at (One (Label n))
+    → here' ≡ here + long_size f (One (Label n)) → all' ≡ all + size f (near_behind first here') (One (Label n)) → n < length table → Filled f first code count (at - 1) here' all' (set table n all')
 filled_label f first code count at here all here' all' n table o a eh ea lt =
     let long = o.of_table.long in
-    filled_more f first code count at here all here' all' (Label n) table (set table n all') o a eh ea (omega arith) (omega arith)
-    (λ h e. subst (λ m. IsTable f first (Label n ∷ drop at code) count (set table n m)) (sym e) (label_noted f first count n (drop at code) table (omega arith) o.of_table))
+    filled_more f first code count at here all here' all' (One (Label n)) table (set table n all') o a eh ea (omega arith) (omega arith)
+    (λ h e. subst (λ m. IsTable f first (One (Label n) ∷ drop at code) count (set table n m)) (sym e) (label_noted f first count n (drop at code) table (omega arith) o.of_table))
 
-pub filled_past : (f : Frame) (first : List ℕ) (code : List linear.Item) (count at here all here' all' n : ℕ) (table : List ℕ) → Filled f first code count at here all table → At code at (Label n)
-    → here' ≡ here + long_size f (Label n) → all' ≡ all + size f (near_behind first here') (Label n) → length table ≤ n → Filled f first code count (at - 1) here' all' table
+pub filled_past : (f : Frame) (first : List ℕ) (code : List Step) (count at here all here' all' n : ℕ) (table : List ℕ) → Filled f first code count at here all table → At code at (One (Label n))
+    → here' ≡ here + long_size f (One (Label n)) → all' ≡ all + size f (near_behind first here') (One (Label n)) → length table ≤ n → Filled f first code count (at - 1) here' all' table
 filled_past f first code count at here all here' all' n table o a eh ea le =
     let long = o.of_table.long in
-    filled_more f first code count at here all here' all' (Label n) table table o a eh ea (omega arith) (omega arith) (λ h e. label_past f first count n (drop at code) table (omega arith) o.of_table)
+    filled_more f first code count at here all here' all' (One (Label n)) table table o a eh ea (omega arith) (omega arith) (λ h e. label_past f first count n (drop at code) table (omega arith) o.of_table)
 
-pub filled_other : (f : Frame) (first : List ℕ) (code : List linear.Item) (count at here all here' all' : ℕ) (item : linear.Item) (table : List ℕ) → Filled f first code count at here all table → At code at item
+pub filled_other : (f : Frame) (first : List ℕ) (code : List Step) (count at here all here' all' : ℕ) (item : Step) (table : List ℕ) → Filled f first code count at here all table → At code at item
     → here' ≡ here + long_size f item → all' ≡ all + size f (near_behind first here') item → long_size f item ≤ 15 → size f (near_behind first here') item ≤ 15
-    → ((n : ℕ) → item ≡ Label n → ⊥) → Filled f first code count (at - 1) here' all' table
+    → ((n : ℕ) → label_of item ≡ Some n → ⊥) → Filled f first code count (at - 1) here' all' table
 filled_other f first code count at here all here' all' item table o a eh ea lh la none =
     filled_more f first code count at here all here' all' item table table o a eh ea lh la (λ h e. other_past f first count item (drop at code) table (no_label item none) o.of_table)
 
-pub filled_all : (f : Frame) (first : List ℕ) (code : List linear.Item) (count at here all : ℕ) (table : List ℕ) → Filled f first code count at here all table → at ≤ 0 → IsTable f first code count table × (all ≡ behind f first code)
+pub filled_all : (f : Frame) (first : List ℕ) (code : List Step) (count at here all : ℕ) (table : List ℕ) → Filled f first code count at here all table → at ≤ 0 → IsTable f first code count table × (all ≡ behind f first code)
 filled_all f first code count zero here all table o le = (o.of_table, o.all_is)
 filled_all f first code count (suc at) here all table o le = absurd (omega arith)

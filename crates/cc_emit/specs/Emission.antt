@@ -1,7 +1,8 @@
--- The code of a function: which items stand for its Linear, and in which order.
+-- The code of a function: which items stand for its steps, and in which order.
 -- A place is a number of items of the piece before it. Which branches are near is known from a first pass, in which each branch takes
 -- two items; a second pass has the places of labels with each branch as long as it is.
 use Rattle.std.specs.Prelude.{ℕ, ◌+◌, ◌-◌, ◌*◌, ◌/◌, ◌%◌, ◌^◌, Bool, false, ◌&&◌, ◌==◌, nat_lt, nat_le, if◌then◌else◌, List, [], ◌∷◌, ◌++◌, length}
+use Rattle.cc_words.specs.Words.{add, neg}
 use Rattle.cc_words.specs.declared.operators.Unary as unary
 use Rattle.cc_words.specs.declared.operators.Unary.TheVariants.{Neg, Complement, IsZero}
 use Rattle.cc_words.specs.declared.operators.Binary as binary
@@ -14,8 +15,10 @@ use Rattle.cc_rv32.specs.declared.instr.Instr.{Instr}
 use Rattle.cc_rv32.specs.declared.instr.Instr.TheVariants as instr
 use Rattle.cc_rv32.specs.declared.instr.Operation.{Operation}
 use Rattle.cc_rv32.specs.declared.instr.Operation.TheVariants as operation
-use Rattle.cc_rv32.specs.declared.instr.ImmediateOperation.TheVariants.{Addi, Sltiu, Xori}
-use Rattle.cc_rv32.specs.declared.instr.ShiftOperation.TheVariants.{Slli}
+use Rattle.cc_rv32.specs.declared.instr.ImmediateOperation.{ImmediateOperation}
+use Rattle.cc_rv32.specs.declared.instr.ImmediateOperation.TheVariants.{Addi, Slti, Sltiu, Xori, Ori, Andi}
+use Rattle.cc_rv32.specs.declared.instr.ShiftOperation.{ShiftOperation}
+use Rattle.cc_rv32.specs.declared.instr.ShiftOperation.TheVariants.{Slli, Srli, Srai}
 use Rattle.cc_rv32.specs.declared.instr.LoadOperation.TheVariants.{Lw}
 use Rattle.cc_rv32.specs.declared.instr.StoreOperation.TheVariants.{Sw}
 use Rattle.cc_rv32.specs.declared.instr.BranchOperation.{BranchOperation}
@@ -23,7 +26,12 @@ use Rattle.cc_rv32.specs.declared.instr.BranchOperation.TheVariants.{Beq, Bne}
 use Rattle.cc_emit.specs.declared.item.Item.{Item}
 use Rattle.cc_emit.specs.declared.item.Item.TheVariants as item
 use Rattle.cc_emit.specs.declared.item.Item.TheVariants.{Plain, Go}
+use Rattle.cc_emit.specs.declared.step.Immediate as immediate
+use Rattle.cc_emit.specs.declared.step.Immediate.TheVariants as immediates
+use Rattle.cc_emit.specs.declared.step.Step.{Step}
+use Rattle.cc_emit.specs.declared.step.Step.TheVariants.{One, Immediate, LoadAt, StoreAt}
 use Rattle.cc_emit.specs.Frames.{Frame, frame_size, frame_of}
+use Rattle.cc_emit.specs.Steps.{steps}
 
 -- ---- instructions
 
@@ -139,23 +147,87 @@ branch_items near taken opposite r place to =
     if near then Plain (instr.Branch taken r 0 (distance place to)) ∷ []
     else Plain (instr.Branch opposite r 0 8) ∷ Go to ∷ []
 
--- the items of one item at a place; `base` has the objects' addresses, `labels` the labels' places, `near` says whether a branch from
--- here to a label is near
-abbrev pub items_of : (base : ℕ → ℕ) → Frame → (near : ℕ → Bool) → (labels : ℕ → ℕ) → (place : ℕ) → linear.Item → List Item
-items_of base f near labels place (Label label) = []
-items_of base f near labels place (Jump to) = Go (labels to) ∷ []
-items_of base f near labels place (IfNonzero from to) = branch_items (near to) Bne Beq from place (labels to)
-items_of base f near labels place (IfZero from to) = branch_items (near to) Beq Bne from place (labels to)
-items_of base f near labels place (Copy m) = move_item m ∷ []
-items_of base f near labels place (Const to word) = const_items to word
-items_of base f near labels place (Unary operator to from) = Plain (unary_instr operator to from) ∷ []
-items_of base f near labels place (Binary operator to left right) = recipe_items (recipe operator) to left right
-items_of base f near labels place (Load object to index) = indexed (base object) index (load_word to 5 (low (base object)) ∷ [])
-items_of base f near labels place (Store object index from) = indexed (base object) index (store_word 5 from (low (base object)) ∷ [])
-items_of base f near labels place (Call function) = item.Call function ∷ []
-items_of base f near labels place Read = service 2
-items_of base f near labels place Write = service 1
-items_of base f near labels place Return = epilogue f
+-- the items of one item of Linear at a place; `base` has the objects' addresses, `labels` the labels' places, `near` says whether a
+-- branch from here to a label is near
+abbrev pub items_of_one : (base : ℕ → ℕ) → Frame → (near : ℕ → Bool) → (labels : ℕ → ℕ) → (place : ℕ) → linear.Item → List Item
+items_of_one base f near labels place (Label label) = []
+items_of_one base f near labels place (Jump to) = Go (labels to) ∷ []
+items_of_one base f near labels place (IfNonzero from to) = branch_items (near to) Bne Beq from place (labels to)
+items_of_one base f near labels place (IfZero from to) = branch_items (near to) Beq Bne from place (labels to)
+items_of_one base f near labels place (Copy m) = move_item m ∷ []
+items_of_one base f near labels place (Const to word) = const_items to word
+items_of_one base f near labels place (Unary operator to from) = Plain (unary_instr operator to from) ∷ []
+items_of_one base f near labels place (Binary operator to left right) = recipe_items (recipe operator) to left right
+items_of_one base f near labels place (Load object to index) = indexed (base object) index (load_word to 5 (low (base object)) ∷ [])
+items_of_one base f near labels place (Store object index from) = indexed (base object) index (store_word 5 from (low (base object)) ∷ [])
+items_of_one base f near labels place (Call function) = item.Call function ∷ []
+items_of_one base f near labels place Read = service 2
+items_of_one base f near labels place Write = service 1
+items_of_one base f near labels place Return = epilogue f
+
+-- ---- what stands for two items of Linear
+
+-- how an operator on a register and a word is made: by one instruction with an immediate, by a shift, or by one instruction on 0 and the
+-- register; or by asking whether the word that an instruction with an immediate gives is zero, or whether it is not
+pub data WordRecipe : Type 0 where
+  WithImmediate : ImmediateOperation → (immediate : ℕ) → WordRecipe
+  ShiftBy : ShiftOperation → (count : ℕ) → WordRecipe
+  OnZero : Operation → WordRecipe
+  ZeroOfImmediate : ImmediateOperation → (immediate : ℕ) → WordRecipe
+  NonzeroOfImmediate : ImmediateOperation → (immediate : ℕ) → WordRecipe
+
+abbrev pub word_recipe : immediate.Immediate → (word : ℕ) → WordRecipe
+word_recipe immediates.Add w = WithImmediate Addi (low w)
+word_recipe immediates.Sub w = WithImmediate Addi (low (neg w))
+word_recipe immediates.Shl w = ShiftBy Slli (w % 32)
+word_recipe immediates.ShrS w = ShiftBy Srai (w % 32)
+word_recipe immediates.ShrU w = ShiftBy Srli (w % 32)
+word_recipe immediates.And w = WithImmediate Andi (low w)
+word_recipe immediates.Or w = WithImmediate Ori (low w)
+word_recipe immediates.Xor w = WithImmediate Xori (low w)
+-- equal to 0: less than 1, as unsigned; equal to another word: the difference is 0
+word_recipe immediates.Eq w = if w == 0 then WithImmediate Sltiu 1 else ZeroOfImmediate Addi (low (neg w))
+-- not equal to 0: 0 is less, as unsigned; to another word: the difference is not 0
+word_recipe immediates.Ne w = if w == 0 then OnZero operation.Sltu else NonzeroOfImmediate Addi (low (neg w))
+word_recipe immediates.LtS w = WithImmediate Slti (low w)
+word_recipe immediates.LtU w = WithImmediate Sltiu (low w)
+-- at most the word: less than the next one
+word_recipe immediates.LeS w = WithImmediate Slti (low (add w 1))
+word_recipe immediates.LeU w = WithImmediate Sltiu (low (add w 1))
+-- more than the word, which is 0: 0 is less
+word_recipe immediates.GtS w = OnZero operation.Slt
+word_recipe immediates.GtU w = OnZero operation.Sltu
+-- at least the word: not less than it
+word_recipe immediates.GeS w = ZeroOfImmediate Slti (low w)
+word_recipe immediates.GeU w = ZeroOfImmediate Sltiu (low w)
+
+abbrev pub word_recipe_items : WordRecipe → (to from : ℕ) → List Item
+word_recipe_items (WithImmediate o n) to a = Plain (instr.OpImm o to a n) ∷ []
+word_recipe_items (ShiftBy o n) to a = Plain (instr.Shift o to a n) ∷ []
+word_recipe_items (OnZero o) to a = Plain (instr.Op o to 0 a) ∷ []
+word_recipe_items (ZeroOfImmediate o n) to a = Plain (instr.OpImm o 5 a n) ∷ Plain (instr.OpImm Sltiu to 5 1) ∷ []
+word_recipe_items (NonzeroOfImmediate o n) to a = Plain (instr.OpImm o 5 a n) ∷ Plain (instr.Op operation.Sltu to 0 5) ∷ []
+
+-- the address of an element whose number is known
+abbrev pub element_at : (base number : ℕ) → ℕ
+element_at base number = (base + 4 * number) % 2 ^ 32
+
+abbrev pub load_at : (to address : ℕ) → List Item
+load_at to address = Plain (instr.Lui 5 (high address)) ∷ load_word to 5 (low address) ∷ []
+
+abbrev pub store_at : (from address : ℕ) → List Item
+store_at from address = Plain (instr.Lui 5 (high address)) ∷ store_word 5 from (low address) ∷ []
+
+-- the constant in its register, where the word that is loaded does not overwrite it
+abbrev pub kept_items : (to register word : ℕ) → List Item
+kept_items to r w = if to == r then [] else const_items r w
+
+-- the items of a step at a place
+abbrev pub items_of : (base : ℕ → ℕ) → Frame → (near : ℕ → Bool) → (labels : ℕ → ℕ) → (place : ℕ) → Step → List Item
+items_of base f near labels place (One item) = items_of_one base f near labels place item
+items_of base f near labels place (Immediate operator to from word) = word_recipe_items (word_recipe operator word) to from
+items_of base f near labels place (LoadAt object to index word) = kept_items to index word ++ load_at to (element_at (base object) word)
+items_of base f near labels place (StoreAt object index word from) = const_items index word ++ store_at from (element_at (base object) word)
 
 -- ---- how many items that are
 
@@ -178,64 +250,80 @@ recipe_size (NonzeroOf o) = 2
 abbrev pub branch_size : (near : Bool) → ℕ
 branch_size near = if near then 1 else 2
 
-abbrev pub size : Frame → (near : ℕ → Bool) → linear.Item → ℕ
-size f near (Label label) = 0
-size f near (Jump to) = 1
-size f near (IfNonzero from to) = branch_size (near to)
-size f near (IfZero from to) = branch_size (near to)
-size f near (Copy m) = 1
-size f near (Const to word) = const_size word
-size f near (Unary operator to from) = 1
-size f near (Binary operator to left right) = recipe_size (recipe operator)
-size f near (Load object to index) = 4
-size f near (Store object index from) = 4
-size f near (Call function) = 1
-size f near Read = 2
-size f near Write = 2
-size f near Return = length f.saved + stack_moved_size f + 1
+abbrev pub size_of_one : Frame → (near : ℕ → Bool) → linear.Item → ℕ
+size_of_one f near (Label label) = 0
+size_of_one f near (Jump to) = 1
+size_of_one f near (IfNonzero from to) = branch_size (near to)
+size_of_one f near (IfZero from to) = branch_size (near to)
+size_of_one f near (Copy m) = 1
+size_of_one f near (Const to word) = const_size word
+size_of_one f near (Unary operator to from) = 1
+size_of_one f near (Binary operator to left right) = recipe_size (recipe operator)
+size_of_one f near (Load object to index) = 4
+size_of_one f near (Store object index from) = 4
+size_of_one f near (Call function) = 1
+size_of_one f near Read = 2
+size_of_one f near Write = 2
+size_of_one f near Return = length f.saved + stack_moved_size f + 1
+
+abbrev pub word_recipe_size : WordRecipe → ℕ
+word_recipe_size (WithImmediate o n) = 1
+word_recipe_size (ShiftBy o n) = 1
+word_recipe_size (OnZero o) = 1
+word_recipe_size (ZeroOfImmediate o n) = 2
+word_recipe_size (NonzeroOfImmediate o n) = 2
+
+abbrev pub kept_size : (to register word : ℕ) → ℕ
+kept_size to r w = if to == r then 0 else const_size w
+
+abbrev pub size : Frame → (near : ℕ → Bool) → Step → ℕ
+size f near (One item) = size_of_one f near item
+size f near (Immediate operator to from word) = word_recipe_size (word_recipe operator word)
+size f near (LoadAt object to index word) = kept_size to index word + 2
+size f near (StoreAt object index word from) = const_size word + 2
 
 -- with each branch in its long form
-abbrev pub long_size : Frame → linear.Item → ℕ
-long_size f i = size f (λ label. false) i
+abbrev pub long_size : Frame → Step → ℕ
+long_size f s = size f (λ label. false) s
 
 -- ---- where labels stand
 
-abbrev pub is_label : (label : ℕ) → linear.Item → Bool
-is_label label (Label other) = other == label
-is_label label i = false
+abbrev pub is_label : (label : ℕ) → Step → Bool
+is_label label (One (Label other)) = other == label
+is_label label s = false
 
--- in the first pass, in items from this place on; their end, where the label stands nowhere
-abbrev pub long_place : Frame → (place : ℕ) → List linear.Item → (label : ℕ) → ℕ
+-- in the first pass, in steps from this place on; their end, where the label stands nowhere
+abbrev pub long_place : Frame → (place : ℕ) → List Step → (label : ℕ) → ℕ
 long_place f place [] label = place
-long_place f place (i ∷ items) label = if is_label label i then place else long_place f (place + long_size f i) items label
+long_place f place (s ∷ steps) label = if is_label label s then place else long_place f (place + long_size f s) steps label
 
 -- whether a branch reaches one place from another: by -4096 to 4092 bytes
 abbrev pub reaches : (from to : ℕ) → Bool
 reaches from to = nat_le from (to + 1024) && nat_lt to (from + 1024)
 
 -- whether a branch is near, by its place in the first pass, where the function's items begin at place 0
-abbrev pub is_near : Frame → List linear.Item → (long label : ℕ) → Bool
-is_near f items long label = reaches long (long_place f 0 items label)
+abbrev pub is_near : Frame → List Step → (long label : ℕ) → Bool
+is_near f steps long label = reaches long (long_place f 0 steps label)
 
--- in the second pass, in items from this place on; `long` is their place in the first pass
-abbrev pub short_place : Frame → (near : (long label : ℕ) → Bool) → (long place : ℕ) → List linear.Item → (label : ℕ) → ℕ
+-- in the second pass, in steps from this place on; `long` is their place in the first pass
+abbrev pub short_place : Frame → (near : (long label : ℕ) → Bool) → (long place : ℕ) → List Step → (label : ℕ) → ℕ
 short_place f near long place [] label = place
-short_place f near long place (i ∷ items) label =
-    if is_label label i then place else short_place f near (long + long_size f i) (place + size f (near long) i) items label
+short_place f near long place (s ∷ steps) label =
+    if is_label label s then place else short_place f near (long + long_size f s) (place + size f (near long) s) steps label
 
 -- ---- the code
 
--- what stands for items from these places on
-abbrev pub emitted : (base : ℕ → ℕ) → Frame → (near : (long label : ℕ) → Bool) → (labels : ℕ → ℕ) → (long place : ℕ) → List linear.Item → List Item
+-- what stands for steps from these places on
+abbrev pub emitted : (base : ℕ → ℕ) → Frame → (near : (long label : ℕ) → Bool) → (labels : ℕ → ℕ) → (long place : ℕ) → List Step → List Item
 emitted base f near labels long place [] = []
-emitted base f near labels long place (i ∷ items) =
-    items_of base f (near long) labels place i ++ emitted base f near labels (long + long_size f i) (place + size f (near long) i) items
+emitted base f near labels long place (s ∷ steps) =
+    items_of base f (near long) labels place s ++ emitted base f near labels (long + long_size f s) (place + size f (near long) s) steps
 
 -- in a frame
-abbrev pub framed_items : (base : ℕ → ℕ) → Frame → List linear.Item → List Item
-framed_items base f items =
-    prologue f ++ emitted base f (is_near f items) (short_place f (is_near f items) 0 (prologue_size f) items) 0 (prologue_size f) items
+abbrev pub framed_items : (base : ℕ → ℕ) → Frame → List Step → List Item
+framed_items base f steps =
+    prologue f ++ emitted base f (is_near f steps) (short_place f (is_near f steps) 0 (prologue_size f) steps) 0 (prologue_size f) steps
 
 -- the code of a function with so many slots
 abbrev pub function_items : (base : ℕ → ℕ) → (slots : ℕ) → List linear.Item → List Item
-function_items base slots items = framed_items base (frame_of slots items) items
+function_items base slots items = framed_items base (frame_of slots items) (steps items)

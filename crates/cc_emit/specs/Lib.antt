@@ -4,6 +4,8 @@ pub mod Contract
 pub mod Objects
 -- the frame of a function
 pub mod Frames
+-- which neighbours are emitted as one
+pub mod Steps
 -- the items of a function's code
 pub mod Emission
 -- what a piece keeps

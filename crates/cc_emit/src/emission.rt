@@ -1,25 +1,27 @@
-//! The items of a function's code: those that stand for one item of Linear, and those of all behind the prologue.
+//! The items of a function's code: those that stand for one step, and those of all steps behind the prologue.
 
 ghost use Rattle.std.specs.Prelude.{◌≡◌, ◌≤◌, ◌<◌, ◌^◌, ◌++◌, ◌∷◌, [], ℕ, true, length, get_or, OnOk, IfOk};
 ghost use Rattle.std.specs.List.{AllByRecursion};
 ghost use Rattle.cc_ltl.specs.Registers.{most_slots};
 ghost use Rattle.cc_linear.specs.Linear.{labels, IsItem};
 ghost use Rattle.cc_rv32.specs.Fields.{IsBranchOffset};
-ghost use Rattle.cc_emit.specs.Emission.{items_of, branch_items, move_item, indexed, service, distance, reaches, prologue, framed_items, function_items};
+ghost use Rattle.cc_emit.specs.Emission.{items_of_one, items_of, branch_items, move_item, indexed, element_at, load_at, store_at, service, distance, reaches, prologue, framed_items, function_items};
 ghost use Rattle.cc_emit.specs.declared.item.Item.TheVariants.{Plain};
+ghost use Rattle.cc_emit.specs.declared.step.Step.TheVariants.{One};
 ghost use Rattle.cc_emit.specs.internal.Bases.{base_in};
 ghost use Rattle.cc_emit.specs.internal.Behind.{near_behind, place_from, behind, ArePlaces, LeadsBelow};
 
 use crate::bases::Bases;
-use crate::constants::put_constant;
+use crate::constants::{put_constant, put_kept};
 use crate::frame::Frame;
 use crate::instructions::{
     OTHER_SCRATCH, SCRATCH, SERVICE, STACK, ZERO, add_immediate, branch, four_times, high, load,
     load_upper, low, operate, put, put_item, serve, store,
 };
 use crate::item::Item;
-use crate::operators::{put_binary, unary};
-use crate::tables::{Places, long_size};
+use crate::operators::{put_binary, put_immediate, unary};
+use crate::step::{Step, steps};
+use crate::tables::{Places, label_count, long_size};
 use cc_linear::Item as LinearItem;
 use cc_ltl::Move;
 use cc_rv32::instr::{BranchOperation, Instr, Operation};
@@ -53,6 +55,31 @@ fn put_indexed(items: &mut Vec<Item>, base: u32, index: u8, access: Instr) -> Re
         operate(Operation::Add, SCRATCH, SCRATCH, OTHER_SCRATCH),
     )?;
     put(items, access)
+}
+
+// The address of an element whose number is known.
+fn element_at(base: u32, number: u32) -> u32
+    ensures { result ≡ element_at base number }
+{
+    base.wrapping_add(number.wrapping_mul(4))
+}
+
+// Puts a load from an address.
+fn put_load_at(items: &mut Vec<Item>, to: u8, address: u32) -> Result<(), AllocError>
+    requires { to < 32 }
+    ensures { OnOk result (items.new.items ≡ items.old.items ++ load_at to address) }
+{
+    put(items, load_upper(SCRATCH, high(address)))?;
+    put(items, load(to, SCRATCH, low(address)))
+}
+
+// Puts a store to an address.
+fn put_store_at(items: &mut Vec<Item>, from: u8, address: u32) -> Result<(), AllocError>
+    requires { from < 32 }
+    ensures { OnOk result (items.new.items ≡ items.old.items ++ store_at from address) }
+{
+    put(items, load_upper(SCRATCH, high(address)))?;
+    put(items, store(SCRATCH, from, low(address)))
 }
 
 // Puts a call of one of the machine's services.
@@ -99,8 +126,8 @@ fn put_branch(
     }
 }
 
-/// Puts the items of one item of Linear that has so many from it on, with each branch long; `bases` has the objects' addresses.
-pub(crate) fn put_items_of(
+// Puts the items of one item of Linear that has so many from it on, with each branch long; `bases` has the objects' addresses.
+fn put_items_of_one(
     items: &mut Vec<Item>,
     frame: &Frame,
     places: &Places,
@@ -108,10 +135,10 @@ pub(crate) fn put_items_of(
     here: usize,
     item: LinearItem,
 ) -> Result<(), AllocError>
-    requires known { LeadsBelow (length places.now.second.items) item }
+    requires known { LeadsBelow (length places.now.second.items) (One item) }
     requires within { (label : ℕ) → label < length places.now.second.items → get_or places.now.second.items label 0 ≤ places.now.end }
     requires reach { (label : ℕ) → label < length places.now.second.items → near_behind places.now.first.items here label ≡ true → reaches (length items.old.items) (place_from places.now.second.items places.now.end label) ≡ true }
-    ensures { OnOk result (items.new.items ≡ items.old.items ++ items_of (base_in bases.now) frame.now (near_behind places.now.first.items here) (place_from places.now.second.items places.now.end) (length items.old.items) item) }
+    ensures { OnOk result (items.new.items ≡ items.old.items ++ items_of_one (base_in bases.now) frame.now (near_behind places.now.first.items here) (place_from places.now.second.items places.now.end) (length items.old.items) item) }
 {
     match item {
         LinearItem::Label { .. } => Ok(()),
@@ -172,24 +199,67 @@ pub(crate) fn put_items_of(
     }
 }
 
+// Puts the items of a step that has so many from it on, with each branch long; `bases` has the objects' addresses.
+fn put_items_of(
+    items: &mut Vec<Item>,
+    frame: &Frame,
+    places: &Places,
+    bases: &Bases,
+    here: usize,
+    step: Step,
+) -> Result<(), AllocError>
+    requires known { LeadsBelow (length places.now.second.items) step }
+    requires within { (label : ℕ) → label < length places.now.second.items → get_or places.now.second.items label 0 ≤ places.now.end }
+    requires reach { (label : ℕ) → label < length places.now.second.items → near_behind places.now.first.items here label ≡ true → reaches (length items.old.items) (place_from places.now.second.items places.now.end label) ≡ true }
+    ensures { OnOk result (items.new.items ≡ items.old.items ++ items_of (base_in bases.now) frame.now (near_behind places.now.first.items here) (place_from places.now.second.items places.now.end) (length items.old.items) step) }
+{
+    match step {
+        Step::One(item) => put_items_of_one(items, frame, places, bases, here, item),
+        Step::Immediate {
+            operator,
+            to,
+            from,
+            word,
+        } => put_immediate(items, operator, to.number(), from.number(), word),
+        Step::LoadAt {
+            object,
+            to,
+            index,
+            word,
+        } => {
+            put_kept(items, to, index, word)?;
+            put_load_at(items, to.number(), element_at(bases.of(object), word))
+        }
+        Step::StoreAt {
+            object,
+            index,
+            word,
+            from,
+        } => {
+            put_constant(items, index.number(), word)?;
+            put_store_at(items, from.number(), element_at(bases.of(object), word))
+        }
+    }
+}
+
 // Puts the items of a function behind its prologue.
 fn put_code(
     items: &mut Vec<Item>,
     frame: &Frame,
     places: &Places,
     bases: &Bases,
-    code: &[LinearItem],
+    steps: &[Step],
 ) -> Result<(), AllocError>
     requires opened { items.old.items ≡ prologue frame.now }
-    requires places { ArePlaces frame.now code.now places.now.first.items places.now.second.items places.now.end }
-    requires long { places.now.long ≡ behind frame.now [] code.now }
-    requires leads { AllByRecursion (LeadsBelow (length places.now.first.items)) code.now }
-    ensures { OnOk result (items.new.items ≡ framed_items (base_in bases.now) frame.now code.now) }
+    requires places { ArePlaces frame.now steps.now places.now.first.items places.now.second.items places.now.end }
+    requires long { places.now.long ≡ behind frame.now [] steps.now }
+    requires leads { AllByRecursion (LeadsBelow (length places.now.first.items)) steps.now }
+    ensures { OnOk result (items.new.items ≡ framed_items (base_in bases.now) frame.now steps.now) }
 {
     let mut here = places.long();
-    for item in code {
-        put_items_of(items, frame, places, bases, here, *item)?;
-        here -= long_size(frame, item);
+    for step in steps {
+        put_items_of(items, frame, places, bases, here, *step)?;
+        here -= long_size(frame, step);
     }
     Ok(())
 }
@@ -207,9 +277,10 @@ pub(crate) fn function_items(
     ensures { IfOk result (λ items. items.items ≡ function_items (base_in bases.now) slots code.now) }
 {
     let frame = Frame::new(alloc, slots, code)?;
-    let places = Places::new(alloc, &frame, code)?;
+    let steps = steps(alloc, code)?;
+    let places = Places::new(alloc, &frame, steps.as_slice(), label_count(code))?;
     let mut items = Vec::new(alloc);
     frame.put_prologue(&mut items)?;
-    put_code(&mut items, &frame, &places, bases, code)?;
+    put_code(&mut items, &frame, &places, bases, steps.as_slice())?;
     Ok(items)
 }

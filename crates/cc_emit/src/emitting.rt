@@ -13,8 +13,8 @@ use std::sync::Arc;
 /// The most items of Linear that are emitted. No memory holds more.
 const MOST_ITEMS: usize = 1 << 59;
 
-/// The code of a function of a unit, as its items: those of `specs/Emission.antt`, which take at most 15 for an item of Linear. That the
-/// machine does with them what the function does belongs to the answer's type.
+/// The code of a function of a unit, as its items: those of `specs/Emission.antt`, at most 15 for an item of Linear or for two of them.
+/// That the machine does with them what the function does belongs to the answer's type.
 ///
 /// It fails only for want of memory (40); the pair is gone then.
 pub fn emit(alloc: Global, pair: LinearPair) -> Result<Piece, AllocError>

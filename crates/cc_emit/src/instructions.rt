@@ -92,18 +92,28 @@ pub(crate) fn add_immediate(to: u8, from: u8, word: u32) -> Instr
     operate_immediate(ImmediateOperation::Addi, to, from, word)
 }
 
+/// A register shifted by 0 to 31 bits.
+pub(crate) fn shift(operation: ShiftOperation, to: u8, from: u8, bits: u8) -> Instr
+    requires to { to < 32 }
+    requires from { from < 32 }
+    requires bits { bits < 32 }
+    ensures { result ≡ Shift operation to from bits }
+{
+    Instr::Shift {
+        operation,
+        rd: Register::new(to),
+        rs1: Register::new(from),
+        count: ShiftCount::new(bits),
+    }
+}
+
 /// A register times 4.
 pub(crate) fn four_times(to: u8, from: u8) -> Instr
     requires to { to < 32 }
     requires from { from < 32 }
     ensures { result ≡ Shift Slli to from 2 }
 {
-    Instr::Shift {
-        operation: ShiftOperation::Slli,
-        rd: Register::new(to),
-        rs1: Register::new(from),
-        count: ShiftCount::new(2),
-    }
+    shift(ShiftOperation::Slli, to, from, 2)
 }
 
 /// The word at a register plus an offset.

@@ -1,12 +1,17 @@
-//! Operators: each is one instruction on its operands, or asks of one's result whether it is 0.
+//! Operators: each is one instruction on its operands, or asks of one's result whether it is 0. So it is on a word that is known, where an
+//! instruction's immediate can be that word.
 
-ghost use Rattle.std.specs.Prelude.{◌≡◌, ◌<◌, ◌≤◌, ◌++◌, OnOk};
-ghost use Rattle.cc_emit.specs.Emission.{recipe, recipe_size, recipe_items, unary_instr, Direct, ZeroOf, NonzeroOf};
+ghost use Rattle.std.specs.Prelude.{◌≡◌, ◌<◌, ◌≤◌, ◌%◌, ◌++◌, OnOk};
+ghost use Rattle.cc_emit.specs.Emission.{recipe, recipe_size, recipe_items, word_recipe, word_recipe_size, word_recipe_items, unary_instr, low, Direct, ZeroOf, NonzeroOf, WithImmediate, ShiftBy, ZeroOfImmediate};
+ghost use Rattle.cc_emit.specs.declared.step.Immediate.TheVariants.{Eq, Ne};
 
-use crate::instructions::{SCRATCH, ZERO, operate, operate_immediate, put};
+use crate::instructions::{
+    SCRATCH, ZERO, add_immediate, low, operate, operate_immediate, put, shift,
+};
 use crate::item::Item;
-use cc_rv32::instr::{ImmediateOperation, Instr, Operation};
-use cc_words::{Binary, Unary};
+use crate::step::Immediate;
+use cc_rv32::instr::{ImmediateOperation, Instr, Operation, ShiftOperation};
+use cc_words::{Binary, Unary, add, sub};
 use std::alloc::AllocError;
 
 /// The instruction of an operator on one word.
@@ -134,4 +139,145 @@ fn put_nonzero_of(
 {
     put(items, operate(operation, SCRATCH, left, right))?;
     put(items, operate(Operation::Sltu, to, ZERO, SCRATCH))
+}
+
+/// How many items an operator on a register and a word takes.
+pub(crate) fn immediate_size(operator: Immediate, word: u32) -> usize
+    ensures answer { result ≡ word_recipe_size (word_recipe operator word) }
+    ensures few { result ≤ 2 }
+{
+    match operator {
+        Immediate::Eq | Immediate::Ne => { if word == 0 { 1 } else { 2 } }
+        Immediate::GeS | Immediate::GeU => 2,
+        Immediate::Add
+        | Immediate::Sub
+        | Immediate::Shl
+        | Immediate::ShrS
+        | Immediate::ShrU
+        | Immediate::And
+        | Immediate::Or
+        | Immediate::Xor
+        | Immediate::LtS
+        | Immediate::LtU
+        | Immediate::LeS
+        | Immediate::LeU
+        | Immediate::GtS
+        | Immediate::GtU => 1,
+    }
+}
+
+/// Puts the items of an operator on a register and a word.
+pub(crate) fn put_immediate(
+    items: &mut Vec<Item>,
+    operator: Immediate,
+    to: u8,
+    from: u8,
+    word: u32,
+) -> Result<(), AllocError>
+    requires to { to < 32 }
+    requires from { from < 32 }
+    ensures { OnOk result (items.new.items ≡ items.old.items ++ word_recipe_items (word_recipe operator word) to from) }
+{
+    match operator {
+        Immediate::Add => put_with(items, ImmediateOperation::Addi, to, from, word),
+        Immediate::Sub => put_with(items, ImmediateOperation::Addi, to, from, sub(0, word)),
+        Immediate::Shl => put_shift(items, ShiftOperation::Slli, to, from, word),
+        Immediate::ShrS => put_shift(items, ShiftOperation::Srai, to, from, word),
+        Immediate::ShrU => put_shift(items, ShiftOperation::Srli, to, from, word),
+        Immediate::And => put_with(items, ImmediateOperation::Andi, to, from, word),
+        Immediate::Or => put_with(items, ImmediateOperation::Ori, to, from, word),
+        Immediate::Xor => put_with(items, ImmediateOperation::Xori, to, from, word),
+        Immediate::Eq => put_equal(items, to, from, word),
+        Immediate::Ne => put_unequal(items, to, from, word),
+        Immediate::LtS => put_with(items, ImmediateOperation::Slti, to, from, word),
+        Immediate::LtU => put_with(items, ImmediateOperation::Sltiu, to, from, word),
+        Immediate::LeS => put_with(items, ImmediateOperation::Slti, to, from, add(word, 1)),
+        Immediate::LeU => put_with(items, ImmediateOperation::Sltiu, to, from, add(word, 1)),
+        Immediate::GtS => put(items, operate(Operation::Slt, to, ZERO, from)),
+        Immediate::GtU => put(items, operate(Operation::Sltu, to, ZERO, from)),
+        Immediate::GeS => put_zero_with(items, ImmediateOperation::Slti, to, from, word),
+        Immediate::GeU => put_zero_with(items, ImmediateOperation::Sltiu, to, from, word),
+    }
+}
+
+// One instruction with an immediate.
+fn put_with(
+    items: &mut Vec<Item>,
+    operation: ImmediateOperation,
+    to: u8,
+    from: u8,
+    word: u32,
+) -> Result<(), AllocError>
+    requires to { to < 32 }
+    requires from { from < 32 }
+    ensures { OnOk result (items.new.items ≡ items.old.items ++ word_recipe_items (WithImmediate operation (low word)) to from) }
+{
+    put(items, operate_immediate(operation, to, from, low(word)))
+}
+
+// A shift.
+fn put_shift(
+    items: &mut Vec<Item>,
+    operation: ShiftOperation,
+    to: u8,
+    from: u8,
+    word: u32,
+) -> Result<(), AllocError>
+    requires to { to < 32 }
+    requires from { from < 32 }
+    ensures { OnOk result (items.new.items ≡ items.old.items ++ word_recipe_items (ShiftBy operation (word % 32)) to from) }
+{
+    put(items, shift(operation, to, from, (word % 32) as u8))
+}
+
+// Whether what an instruction with an immediate gives is 0.
+fn put_zero_with(
+    items: &mut Vec<Item>,
+    operation: ImmediateOperation,
+    to: u8,
+    from: u8,
+    word: u32,
+) -> Result<(), AllocError>
+    requires to { to < 32 }
+    requires from { from < 32 }
+    ensures { OnOk result (items.new.items ≡ items.old.items ++ word_recipe_items (ZeroOfImmediate operation (low word)) to from) }
+{
+    put(
+        items,
+        operate_immediate(operation, SCRATCH, from, low(word)),
+    )?;
+    put(
+        items,
+        operate_immediate(ImmediateOperation::Sltiu, to, SCRATCH, 1),
+    )
+}
+
+// Whether a register's word is this one.
+fn put_equal(items: &mut Vec<Item>, to: u8, from: u8, word: u32) -> Result<(), AllocError>
+    requires to { to < 32 }
+    requires from { from < 32 }
+    ensures { OnOk result (items.new.items ≡ items.old.items ++ word_recipe_items (word_recipe Eq word) to from) }
+{
+    if word == 0 {
+        put(
+            items,
+            operate_immediate(ImmediateOperation::Sltiu, to, from, 1),
+        )
+    } else {
+        put_zero_with(items, ImmediateOperation::Addi, to, from, sub(0, word))
+    }
+}
+
+// Whether it is another.
+fn put_unequal(items: &mut Vec<Item>, to: u8, from: u8, word: u32) -> Result<(), AllocError>
+    requires to { to < 32 }
+    requires from { from < 32 }
+    ensures { OnOk result (items.new.items ≡ items.old.items ++ word_recipe_items (word_recipe Ne word) to from) }
+{
+    if word == 0 {
+        put(items, operate(Operation::Sltu, to, ZERO, from))
+    } else {
+        put(items, add_immediate(SCRATCH, from, low(sub(0, word))))?;
+        put(items, operate(Operation::Sltu, to, ZERO, SCRATCH))
+    }
 }

@@ -2,16 +2,18 @@
 //! known where it is needed. A first table takes each branch for long; by it a branch is near or far. A second one has the places with
 //! each branch as long as it is.
 
-ghost use Rattle.std.specs.Prelude.{◌≡◌, ◌≤◌, ◌<◌, ◌^◌, length, get_or, ℕ, List, [], ◌∷◌, IfOk};
+ghost use Rattle.std.specs.Prelude.{◌≡◌, ◌≤◌, ◌<◌, ◌^◌, length, get_or, ℕ, List, [], ◌∷◌, false, IfOk};
 ghost use Rattle.std.specs.List.{AllByRecursion};
 ghost use Rattle.cc_linear.specs.declared.item.Item.{Item};
+ghost use Rattle.cc_emit.specs.declared.step.Step.TheVariants.{One};
 ghost use Rattle.cc_linear.specs.Linear.{labels};
-ghost use Rattle.cc_emit.specs.Emission.{size, long_size, reaches};
-ghost use Rattle.cc_emit.specs.internal.Behind.{near_behind, behind, IsTable, ArePlaces, place_from};
+ghost use Rattle.cc_emit.specs.Emission.{size_of_one, kept_size, size, long_size, reaches};
+ghost use Rattle.cc_emit.specs.internal.Behind.{near_behind, behind, label_of, IsTable, ArePlaces, place_from};
 
-use crate::constants::constant_size;
+use crate::constants::{constant_size, kept_size};
 use crate::frame::Frame;
-use crate::operators::binary_size;
+use crate::operators::{binary_size, immediate_size};
+use crate::step::Step;
 use cc_linear::Item as LinearItem;
 use std::alloc::{AllocError, Global};
 
@@ -26,20 +28,20 @@ pub(crate) struct Places {
 }
 
 impl Places {
-    /// Those of these items.
+    /// Those of these steps, for the labels below a number.
     pub(crate) fn new(
         alloc: Global,
         frame: &Frame,
-        code: &[LinearItem],
+        steps: &[Step],
+        count: usize,
     ) -> Result<Places, AllocError>
-        requires { length code.now ≤ 2 ^ 59 }
-        ensures places { IfOk result (λ p. ArePlaces frame.now code.now p.first.items p.second.items p.end) }
-        ensures long { IfOk result (λ p. p.long ≡ behind frame.now [] code.now) }
-        ensures all_labels { IfOk result (λ p. AllByRecursion (λ label. label < length p.first.items) (labels code.now)) }
+        requires { length steps.now ≤ 2 ^ 59 }
+        ensures places { IfOk result (λ p. ArePlaces frame.now steps.now p.first.items p.second.items p.end) }
+        ensures long { IfOk result (λ p. p.long ≡ behind frame.now [] steps.now) }
+        ensures labels { IfOk result (λ p. length p.first.items ≡ count) }
     {
-        let count = label_count(code);
-        let (first, long) = table(alloc, frame, code, count, &[])?;
-        let (second, behind) = table(alloc, frame, code, count, first.as_slice())?;
+        let (first, long) = table(alloc, frame, steps, count, &[])?;
+        let (second, behind) = table(alloc, frame, steps, count, first.as_slice())?;
         let end = frame.prologue_size() + behind;
         Ok(Places {
             first,
@@ -73,8 +75,8 @@ impl Places {
     }
 }
 
-// A number that is above each label of these items.
-fn label_count(code: &[LinearItem]) -> usize
+/// A number that is above each label of these items.
+pub(crate) fn label_count(code: &[LinearItem]) -> usize
     ensures { AllByRecursion (λ label. label < result) (labels code.now) }
 {
     let mut count = 0;
@@ -115,9 +117,9 @@ fn is_near(first: &[usize], here: usize, label: u32) -> bool
     }
 }
 
-/// How many items an item of Linear takes where each branch is long: at most 15.
-pub(crate) fn long_size(frame: &Frame, item: &LinearItem) -> usize
-    ensures answer { result ≡ long_size frame.now item.now }
+// How many items an item of Linear takes where each branch is long: at most 15.
+fn long_size_of_one(frame: &Frame, item: &LinearItem) -> usize
+    ensures answer { result ≡ size_of_one frame.now (λ label. false) item.now }
     ensures few { result ≤ 15 }
 {
     match item {
@@ -137,16 +139,55 @@ pub(crate) fn long_size(frame: &Frame, item: &LinearItem) -> usize
     }
 }
 
+/// How many items a step takes where each branch is long: at most 15.
+pub(crate) fn long_size(frame: &Frame, step: &Step) -> usize
+    ensures answer { result ≡ long_size frame.now step.now }
+    ensures few { result ≤ 15 }
+{
+    match step {
+        Step::One(item) => long_size_of_one(frame, item),
+        Step::Immediate { operator, word, .. } => immediate_size(*operator, *word),
+        Step::LoadAt {
+            to,
+            index,
+            word,
+            ..
+        } => kept_size(*to, *index, *word) + 2,
+        Step::StoreAt { word, .. } => constant_size(*word) + 2,
+    }
+}
+
 // How many items an item of Linear takes, where so many come from it on: at most 15.
-fn size(frame: &Frame, first: &[usize], here: usize, item: &LinearItem) -> usize
-    ensures answer { result ≡ size frame.now (near_behind first.now here) item.now }
+fn size_of_one(frame: &Frame, first: &[usize], here: usize, item: &LinearItem) -> usize
+    ensures answer { result ≡ size_of_one frame.now (near_behind first.now here) item.now }
     ensures few { result ≤ 15 }
 {
     match item {
         LinearItem::IfNonzero { to, .. } | LinearItem::IfZero { to, .. } => {
             if is_near(first, here, *to) { 1 } else { 2 }
         }
-        _ => long_size(frame, item),
+        _ => long_size_of_one(frame, item),
+    }
+}
+
+// How many items a step takes, where so many come from it on: at most 15.
+fn size(frame: &Frame, first: &[usize], here: usize, step: &Step) -> usize
+    ensures answer { result ≡ size frame.now (near_behind first.now here) step.now }
+    ensures few { result ≤ 15 }
+{
+    match step {
+        Step::One(item) => size_of_one(frame, first, here, item),
+        _ => long_size(frame, step),
+    }
+}
+
+// The label that a step is, where it is one.
+fn label_of(step: &Step) -> Option<u32>
+    ensures { result ≡ label_of step.now }
+{
+    match step {
+        Step::One(LinearItem::Label { label }) => Some(*label),
+        _ => None,
     }
 }
 
@@ -154,27 +195,27 @@ fn size(frame: &Frame, first: &[usize], here: usize, item: &LinearItem) -> usize
 fn table(
     alloc: Global,
     frame: &Frame,
-    code: &[LinearItem],
+    steps: &[Step],
     count: usize,
     first: &[usize],
 ) -> Result<(Vec<usize>, usize), AllocError>
-    requires { length code.now ≤ 2 ^ 59 }
-    ensures table { IfOk result (λ t. IsTable frame.now first.now code.now count t.0.items) }
-    ensures whole { IfOk result (λ t. t.1 ≡ behind frame.now first.now code.now) }
+    requires { length steps.now ≤ 2 ^ 59 }
+    ensures table { IfOk result (λ t. IsTable frame.now first.now steps.now count t.0.items) }
+    ensures whole { IfOk result (λ t. t.1 ≡ behind frame.now first.now steps.now) }
     ensures few { IfOk result (λ t. t.1 < 2 ^ 63) }
 {
     let mut labels = vec![in alloc; 0; count]?;
     let mut here = 0;
     let mut behind = 0;
-    let mut at = code.len();
+    let mut at = steps.len();
     while at > 0 {
         at -= 1;
-        let item = &code[at];
-        here += long_size(frame, item);
-        behind += size(frame, first, here, item);
-        if let LinearItem::Label { label } = item {
-            if (*label as usize) < labels.len() {
-                labels[*label as usize] = behind;
+        let step = &steps[at];
+        here += long_size(frame, step);
+        behind += size(frame, first, here, step);
+        if let Some(label) = label_of(step) {
+            if (label as usize) < labels.len() {
+                labels[label as usize] = behind;
             }
         }
     }

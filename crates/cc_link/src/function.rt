@@ -10,9 +10,11 @@ ghost use Rattle.cc_link.specs.Compile.{IsNameAt, IsPieceRefusal};
 
 use crate::piece_fault::PieceFault;
 use cc_cminor::{CminorPair, to_cminor};
-use cc_colour::spill_all;
+use cc_colour::{colour, spill_all};
 use cc_emit::{Piece, emit};
 use cc_linear::linearise;
+use cc_live::{drop_faint, liveness};
+use cc_ltl::Ltl;
 use cc_rtl::{RtlFault, RtlPair, to_rtl};
 use cc_typing::TypedUnit;
 use cc_validate::{LtlPair, Refused, ValidateFault, validate};
@@ -28,8 +30,18 @@ fn name_of(unit: &TypedUnit, function: usize) -> (usize, usize)
     (name.at, name.bytes.len())
 }
 
-// LTL that the validator accepts.
-fn allocated(alloc: Global, pair: RtlPair) -> Result<LtlPair, ValidateFault>
+// LTL by registers, once the nodes that nobody needs have gone.
+fn coloured(alloc: Global, pair: &mut RtlPair) -> Result<Ltl, AllocError>
+    ensures unit { pair.new.unit ≡ pair.old.unit }
+    ensures function { pair.new.function ≡ pair.old.function }
+{
+    drop_faint(alloc, pair)?;
+    let live = liveness(alloc, pair.code())?;
+    colour(alloc, pair.code(), &live)
+}
+
+// Validated LTL in which each pseudo-register has a slot of its own.
+fn spilled(alloc: Global, pair: RtlPair) -> Result<LtlPair, ValidateFault>
     ensures unit { IfOk result (λ made. made.unit ≡ pair.unit) }
     ensures function { IfOk result (λ made. made.function ≡ pair.function) }
 {
@@ -39,6 +51,37 @@ fn allocated(alloc: Global, pair: RtlPair) -> Result<LtlPair, ValidateFault>
             Err(Refused { pair, fault }) => {
                 drop(pair);
                 Err(fault)
+            }
+        },
+        Err(_) => {
+            drop(pair);
+            Err(ValidateFault::OutOfMemory)
+        }
+    }
+}
+
+// LTL that the validator accepts: by registers, and with a slot for each value only where it refuses that.
+fn allocated(alloc: Global, mut pair: RtlPair) -> Result<LtlPair, ValidateFault>
+    ensures unit { IfOk result (λ made. made.unit ≡ pair.unit) }
+    ensures function { IfOk result (λ made. made.function ≡ pair.function) }
+{
+    match coloured(alloc, &mut pair) {
+        Ok(ltl) => match validate(alloc, pair, ltl) {
+            Ok(made) => Ok(made),
+            Err(
+                Refused {
+                    pair,
+                    fault: ValidateFault::Unvalidated { .. },
+                },
+            ) => spilled(alloc, pair),
+            Err(
+                Refused {
+                    pair,
+                    fault: ValidateFault::OutOfMemory,
+                },
+            ) => {
+                drop(pair);
+                Err(ValidateFault::OutOfMemory)
             }
         },
         Err(_) => {

@@ -1,7 +1,9 @@
-//! Tests of the compiler from text to run: the worked rows, the pieces of a unit in every order, each refusal, the limits, and eight
-//! programs whose words are gcc's.
+//! Tests of the compiler from text to run: the worked rows, the pieces of a unit in every order, each refusal, the limits, comparisons with
+//! constants, and eight programs whose words are gcc's.
 #![tactic(auto)]
 
+#[cfg(test)]
+mod comparisons;
 #[cfg(test)]
 mod helpers;
 #[cfg(test)]
@@ -11,9 +13,13 @@ mod numbered;
 #[cfg(test)]
 mod orders;
 #[cfg(test)]
+mod padded;
+#[cfg(test)]
 mod programs;
 #[cfg(test)]
 mod refusals;
+#[cfg(test)]
+mod registers;
 #[cfg(test)]
 mod rows;
 #[cfg(test)]

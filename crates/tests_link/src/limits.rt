@@ -1,10 +1,15 @@
 // What is at a limit, and past it.
 
-use super::helpers::{Part, Run, runs, text_of};
-use super::numbered::{deep, large, many};
-use cc_link::{BuildFault, LinkFault, compile};
+use super::helpers::{Part, Run, image_runs, runs, text_of};
+use super::numbered::{deep, many};
+use super::orders::shared_unit;
+use super::padded::{blocks, padded};
+use super::rows::{LONG, WORDS};
+use cc_link::{CompiledUnit, LinkFault};
 use cc_rv32::outcome::MachineOutcome;
+use cc_typing::TypedUnit;
 use std::alloc::Global;
+use std::sync::Arc;
 use std::test::Fail;
 
 // A run without input that writes one word and ends with 0.
@@ -103,76 +108,111 @@ fn writes_zeros(alloc: Global, parts: &[Part<'_>], count: usize) -> Result<bool,
     right
 }
 
-// Whether the image of a text has so many words of code; 0 stands for 25.
-fn has_words(alloc: Global, text: &[u8], words: usize) -> bool {
-    match compile(alloc, text) {
+// How many words of code the image has that linking answers, and whether it runs so; none where it is too large.
+fn words_of(
+    alloc: Global,
+    linked: Result<CompiledUnit, LinkFault>,
+    run: Run<'_>,
+) -> Result<Option<(usize, bool)>, Fail> {
+    match linked {
         Ok(unit) => {
-            let found = unit.stored().image.code.words().len();
+            let words = unit.stored().image.code.words().len();
+            let right = image_runs(alloc, &unit, run);
             drop(unit);
-            found == words
+            Ok(Some((words, right?)))
         }
-        Err(BuildFault::Link(LinkFault::ImageTooLarge)) => words == 0,
-        Err(fault) => {
-            drop(fault);
-            false
-        }
+        Err(LinkFault::ImageTooLarge) => Ok(None),
+        Err(fault) => Err(Fail::from(fault)),
     }
 }
 
-// By hand, with each value in a slot: `x++` has the constant 0 twice and 1 (2 words each), a load (6), a sum (4) and a store (6), 22 words.
-// `x = 4096` has two constants and a store, 10 words, `x = 4097` one more. A function has 6 more words: it moves x2 and back, puts 0 into a
-// slot and from there into x10, and returns. So 63 functions of 94 sums, `main` with 15, and the head's 3 words leave 71.
-#[test]
-fn most_words_of_code(rt: HostRuntime) -> Result<(), Fail> {
-    let most = large(rt.alloc(), 6, 1)?;
-    let past = large(rt.alloc(), 5, 2)?;
-    let fits = has_words(rt.alloc(), most.as_slice(), 131_072);
-    let refused = has_words(rt.alloc(), past.as_slice(), 0);
+// The image's words with so many moves in front of the first three blocks of `main`.
+fn long_main(
+    alloc: Global,
+    unit: &Arc<TypedUnit>,
+    third: usize,
+) -> Result<Option<(usize, bool)>, Fail> {
     let run = Run {
-        input: &[],
-        steps: 10_000,
-        words: &[],
+        input: WORDS,
+        steps: 1_000_000,
+        words: &[0, 300],
         outcome: MachineOutcome::Exited(0),
     };
-    let right = runs(rt.alloc(), most.as_slice(), run);
-    drop(most);
-    drop(past);
-    let right = right?;
-    assert!(rt; fits && refused && right);
+    let linked = padded(alloc, unit, &[(0, 60_000), (1, 60_000), (2, third)])?;
+    words_of(alloc, linked, run)
+}
+
+// Exactly 131,072 words, and one more.
+fn most_words(alloc: Global, unit: &Arc<TypedUnit>) -> Result<bool, Fail> {
+    let Some((words, true)) = long_main(alloc, unit, 0)? else {
+        return Ok(false);
+    };
+    let rest = 131_072usize.saturating_sub(words);
+    Ok(
+        words > 120_000
+            && long_main(alloc, unit, rest)? == Some((131_072, true))
+            && long_main(alloc, unit, rest.saturating_add(1))?.is_none()
+            && long_main(alloc, unit, 60_000)?.is_none(),
+    )
+}
+
+#[test]
+fn most_words_of_code(rt: HostRuntime) -> Result<(), Fail> {
+    let unit = shared_unit(rt.alloc(), LONG.as_bytes())?;
+    let right = most_words(rt.alloc(), &unit);
+    drop(unit);
+    assert!(rt; right?);
     Ok(())
 }
 
-// Whether a loop around a long part of `if` writes the right word. It goes three times round, and once through the part.
-fn branches_over(alloc: Global, times: usize, word: i32) -> Result<bool, Fail> {
-    let parts = [
-        ("int x;int main(void){int i;for(i=0;i<3;i++)if(i==1){", 1),
-        ("x++;", times),
-        ("}else x=x+1000;write_word(x);}", 1),
-    ];
-    let text = text_of(alloc, &parts)?;
-    let words = [word];
-    let right = runs(alloc, text.as_slice(), writes_one(&words, 100_000));
-    drop(text);
-    right
+// A loop that goes three times round, and once through its inner part, with a branch over each part and a jump back.
+const LOOP: &str =
+    "int x;int main(void){int i;for(i=0;i<3;i++)if(i==1){x=x+5;}else x=x+1000;write_word(x);}";
+
+// How many moves in front of that block make the image run wrong, of those about which the branches over it begin to be too short: they
+// reach 1,023 words on and 1,024 back.
+fn first_wrong(
+    alloc: Global,
+    unit: &Arc<TypedUnit>,
+    block: usize,
+) -> Result<Option<(usize, usize)>, Fail> {
+    let run = Run {
+        input: &[],
+        steps: 100_000,
+        words: &[2_005],
+        outcome: MachineOutcome::Exited(0),
+    };
+    for moves in 980..1_028 {
+        let linked = padded(alloc, unit, &[(block, moves)])?;
+        match words_of(alloc, linked, run)? {
+            Some((_, true)) => {}
+            _ => return Ok(Some((block, moves))),
+        }
+    }
+    Ok(None)
 }
 
-/// How often the part has `x++`, and the word: a branch reaches over 46 of them and not over 47.
-static PARTS: [(usize, i32); 8] = [
-    (1, 2_001),
-    (44, 2_044),
-    (45, 2_045),
-    (46, 2_046),
-    (47, 2_047),
-    (48, 2_048),
-    (100, 2_100),
-    (600, 2_600),
-];
+// The same of three blocks: within the inner part, and around it.
+fn first_wrong_of_all(
+    alloc: Global,
+    unit: &Arc<TypedUnit>,
+) -> Result<Option<(usize, usize)>, Fail> {
+    let count = blocks(alloc, unit, 0)?;
+    for block in [count / 4, count / 2, (count / 4).saturating_mul(3)] {
+        let wrong = first_wrong(alloc, unit, block)?;
+        if wrong.is_some() {
+            return Ok(wrong);
+        }
+    }
+    Ok(None)
+}
 
 #[test]
 fn branches_near_and_far(rt: HostRuntime) -> Result<(), Fail> {
-    for (times, word) in PARTS.iter() {
-        let right = branches_over(rt.alloc(), *times, *word)?;
-        assert!(rt; right, "{times}");
-    }
+    let unit = shared_unit(rt.alloc(), LOOP.as_bytes())?;
+    let wrong = first_wrong_of_all(rt.alloc(), &unit);
+    drop(unit);
+    let wrong = wrong?;
+    assert!(rt; wrong.is_none(), "{wrong:?}");
     Ok(())
 }

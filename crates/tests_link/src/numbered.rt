@@ -53,20 +53,15 @@ pub fn many(alloc: Global) -> Result<Vec<u8>, AllocError> {
     Ok(text)
 }
 
-/// 63 functions of 2,074 words of code, and a `main` that sets an object so often to a word whose constant takes one word of code, and so
-/// often to one whose constant takes two.
-pub fn large(alloc: Global, short: usize, long: usize) -> Result<Vec<u8>, AllocError> {
+/// A `main` that reads 250 variables and writes their sum.
+pub fn summed(alloc: Global) -> Result<Vec<u8>, AllocError> {
     let mut text = Vec::new(alloc);
-    append(&mut text, "int x;", 1)?;
-    for number in 0..63u32 {
-        append_number(alloc, &mut text, "void f", number, "(void){")?;
-        append(&mut text, "x++;", 94)?;
-        append(&mut text, "}", 1)?;
-    }
     append(&mut text, "int main(void){", 1)?;
-    append(&mut text, "x++;", 15)?;
-    append(&mut text, "x=4096;", short)?;
-    append(&mut text, "x=4097;", long)?;
-    append(&mut text, "}", 1)?;
+    append_numbers(alloc, &mut text, "int v", 250, "=read_word();")?;
+    append(&mut text, "write_word(v0", 1)?;
+    for number in 1..250u32 {
+        append_number(alloc, &mut text, "+v", number, "")?;
+    }
+    append(&mut text, ");}", 1)?;
     Ok(text)
 }

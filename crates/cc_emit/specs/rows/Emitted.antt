@@ -1,11 +1,15 @@
--- Worked emission, by computation: the code of a function item for item, its run on the machine, and where a branch is near.
-use Rattle.std.specs.Prelude.{ℕ, zero, suc, ◌+◌, ◌-◌, ◌/◌, ◌≡◌, refl, true, false, if◌then◌else◌, ◌==◌, nat_le, List, [], ◌∷◌, map, None, slice_get}
-use Rattle.cc_words.specs.declared.operators.Binary.TheVariants.{Add, Sub}
+-- Worked emission, by computation: the code of a function item for item, its run on the machine, neighbours as one step, comparisons with
+-- a constant, and where a branch is near.
+use Rattle.std.specs.Prelude.{ℕ, zero, suc, ◌+◌, ◌-◌, ◌*◌, ◌/◌, ◌≡◌, refl, true, false, if◌then◌else◌, ◌==◌, nat_le, List, [], ◌∷◌, map, None, slice_get}
+use Rattle.cc_words.specs.declared.operators.Binary.TheVariants.{Add, Sub, ShrS, Ne, Eq, LtS, LtU, LeS, LeU}
 use Rattle.cc_ltl.specs.declared.operation.Move.TheVariants.{Reload, Spill}
 use Rattle.cc_linear.specs.declared.item.Item as linear
 use Rattle.cc_linear.specs.declared.item.Item.TheVariants.{Label, Jump, IfZero, Copy, Const, Binary, Load, Store, Call, Write, Return}
 use Rattle.cc_rv32.specs.declared.instr.Instr.{Instr}
-use Rattle.cc_rv32.specs.declared.instr.Instr.TheVariants.{Jalr}
+use Rattle.cc_rv32.specs.declared.instr.Instr.TheVariants.{Jalr, Lui, Op, OpImm, Shift}
+use Rattle.cc_rv32.specs.declared.instr.Operation.TheVariants as operation
+use Rattle.cc_rv32.specs.declared.instr.ImmediateOperation.TheVariants.{Slti, Sltiu}
+use Rattle.cc_rv32.specs.declared.instr.ShiftOperation.TheVariants.{Srai}
 use Rattle.cc_rv32.specs.Table.{encoding_of}
 use Rattle.cc_rv32.specs.Machine.{State, Turn, Continues, Exits, Traps, executed}
 use Rattle.cc_emit.specs.declared.item.Item.{Item}
@@ -77,6 +81,25 @@ bare_words = refl
 calling : function_items (λ g. 0) 0 (Call 3 ∷ Return ∷ [])
     ≡ addi 2 2 0xfffffffc ∷ store_word 2 1 0 ∷ item.Call 3 ∷ load_word 1 2 0 ∷ addi 2 2 4 ∷ Plain (Jalr 0 1 0) ∷ []
 calling = refl
+
+-- ---- neighbours as one step
+
+-- a constant, and what overwrites its register; with a label between, another register, or no room for the word there are two steps
+pairs : function_items (λ g. 0x200000 + 2048 * g) 0
+    (Const 7 5 ∷ Binary Add 7 10 7 ∷ Const 7 5 ∷ Binary Sub 7 10 7 ∷ Const 7 31 ∷ Binary ShrS 7 10 7 ∷ Const 7 32 ∷ Binary ShrS 7 10 7 ∷ Const 7 5 ∷ Label 1 ∷ Binary Add 7 10 7 ∷ Const 7 5 ∷ Binary Add 10 10 7 ∷ Const 7 2048 ∷ Binary Sub 7 10 7 ∷ Const 7 1
+    ∷ Load 1 7 7 ∷ Const 7 1 ∷ Load 1 10 7 ∷ Const 7 1 ∷ Store 1 7 7 ∷ [])
+    ≡ addi 7 10 5 ∷ addi 7 10 0xfffffffb ∷ Plain (Shift Srai 7 10 31) ∷ addi 7 0 32 ∷ Plain (Op operation.Sra 7 10 7) ∷ addi 7 0 5 ∷ Plain (Op operation.Add 7 10 7) ∷ addi 7 0 5 ∷ Plain (Op operation.Add 10 10 7) ∷ addi 7 10 0xfffff800 ∷ Plain (Lui 5 0x201)
+    ∷ load_word 7 5 0xfffff804 ∷ addi 7 0 1 ∷ Plain (Lui 5 0x201) ∷ load_word 10 5 0xfffff804 ∷ addi 7 0 1 ∷ Plain (Lui 5 0x201) ∷ store_word 5 7 0xfffff804 ∷ []
+pairs = refl
+
+-- comparisons: less than 2047, and at most 2046 and 2047, of which the last has no room; at most 2^32 - 2 and 2^32 - 1, unsigned, of which
+-- the last has no next word; less than 2^32 - 2048, unsigned; equal to 0, and not to 7; more than 0 and than 1; at least 5
+compared : function_items (λ g. 0) 0
+    (Const 7 2047 ∷ Binary LtS 7 10 7 ∷ Const 7 2046 ∷ Binary LeS 7 10 7 ∷ Const 7 2047 ∷ Binary LeS 7 10 7 ∷ Const 7 0xfffffffe ∷ Binary LeU 7 10 7 ∷ Const 7 0xffffffff ∷ Binary LeU 7 10 7 ∷ Const 7 0xfffff800 ∷ Binary LtU 7 10 7 ∷ Const 7 0 ∷ Binary Eq 7 10 7 ∷ Const 7 7
+    ∷ Binary Ne 7 10 7 ∷ Const 7 0 ∷ Binary LtS 7 7 10 ∷ Const 7 1 ∷ Binary LtS 7 7 10 ∷ Const 7 5 ∷ Binary LeS 7 7 10 ∷ [])
+    ≡ Plain (OpImm Slti 7 10 2047) ∷ Plain (OpImm Slti 7 10 2047) ∷ addi 7 0 2047 ∷ Plain (Op operation.Slt 5 7 10) ∷ Plain (OpImm Sltiu 7 5 1) ∷ Plain (OpImm Sltiu 7 10 0xffffffff) ∷ addi 7 0 0xffffffff ∷ Plain (Op operation.Sltu 5 7 10) ∷ Plain (OpImm Sltiu 7 5 1)
+    ∷ Plain (OpImm Sltiu 7 10 0xfffff800) ∷ Plain (OpImm Sltiu 7 10 1) ∷ addi 5 10 0xfffffff9 ∷ Plain (Op operation.Sltu 7 0 5) ∷ Plain (Op operation.Slt 7 0 10) ∷ addi 7 0 1 ∷ Plain (Op operation.Slt 7 7 10) ∷ Plain (OpImm Slti 5 10 5) ∷ Plain (OpImm Sltiu 7 5 1) ∷ []
+compared = refl
 
 -- ---- how many items a constant takes: 2047, 2048, 4096, -2048, -2049, 0x12345678
 

@@ -1,7 +1,22 @@
-use Rattle.std.proofs.Common.{ap, ◌∙◌}
+use Rattle.std.proofs.Common.{rules, ◌≡◌, ◌<◌, length, sym, ap, ◌∙◌, subst}
+use Rattle.std.specs.List.{AllByRecursion}
+use Rattle.cc_linear.specs.Linear.{labels}
+use Rattle.cc_emit.specs.Steps.{steps}
 use Rattle.cc_emit.specs.Emission.{framed_items}
 use Rattle.cc_emit.specs.internal.Bases.{base_in}
+use Rattle.cc_emit.specs.internal.Behind.{LeadsBelow}
+use Rattle.cc_emit.proofs.Bridging.{leads_all}
 use Rattle.cc_emit.proofs.emission.function_items.Goals as goal
 
+pub put_code-requires-clause-leads : goal.put_code-requires-clause-leads
+put_code-requires-clause-leads c =
+    let code = c.args.code.now in
+    let count = length c.in_ok-places.places.first.items in
+    let same : c.as_slice-2.result.now ≡ steps code = search rules in
+    let below : AllByRecursion (λ label. label < count) (labels code) = subst (λ n. AllByRecursion (λ label. label < n) (labels code)) (sym c.in_ok-places.ensures.labels) c.label_count.ensures in
+    subst (AllByRecursion (LeadsBelow count)) (sym same) (leads_all count c.args.slots c.requires.fit.0 (labels code) code below c.requires.fit.1)
+
 pub returns : goal.returns
-returns c = c.in_ok-put_code.ensures ∙ ap (λ f. framed_items (base_in c.args.bases.now) f c.args.code.now) c.in_ok-frame.ensures
+returns c =
+    let same : c.as_slice-2.result.now ≡ steps c.args.code.now = search rules in
+    c.in_ok-put_code.ensures ∙ ap (framed_items (base_in c.args.bases.now) c.in_ok-frame.frame) same ∙ ap (λ f. framed_items (base_in c.args.bases.now) f (steps c.args.code.now)) c.in_ok-frame.ensures

@@ -3,5 +3,5 @@ use Rattle.cc_emit.specs.internal.Bases.{base_in}
 use Rattle.cc_emit.proofs.Bridging.{Emitting}
 use Rattle.cc_emit.proofs.emission.put_code.Given as goal
 
-abbrev pub invariant-loop-item : goal.invariant-loop-item
-invariant-loop-item l = Emitting (base_in l.bases) l.frame l.code l.item-index l.here l.items.items
+abbrev pub invariant-loop-step : goal.invariant-loop-step
+invariant-loop-step l = Emitting (base_in l.bases) l.frame l.steps l.step-index l.here l.items.items

@@ -1,0 +1,169 @@
+// Commits of compiled units, what refuses them, and crashes.
+use super::script::Line::{
+    Ack, Add, Begin, Crash, Done, Recover, Refuse, Replace, SyncBody, SyncGate, Take, Withdraw,
+    WriteBody, WriteGate,
+};
+use super::script::{Line, events, leaves};
+use cc_build::{CcBuild, run};
+use cc_core::state::State;
+use std::alloc::Global;
+use std::test::Fail;
+
+/// Its input times 7.
+const SEVEN: &str = "int main(void){write_word(read_word()*7);return 0;}";
+
+/// The factorial of its input, in two functions.
+const FACTORIAL: &str =
+    "int f(int n){if(n<2)return 1;return n*f(n-1);}int main(void){write_word(f(read_word()));return 0;}";
+
+const BROKEN: &str = "int main(void){return 0}";
+
+const UNKNOWN: &str = "int main(void){return totl;}";
+
+// The worked table: two clients add `a`, with sources of their own; the second is first.
+const TWO_CLIENTS: [(Line, u32); 20] = [
+    (Add(1, b'a', SEVEN), 0),
+    (Add(2, b'a', FACTORIAL), 0),
+    (Take(1, 1, 0), 0),
+    (Take(2, 2, 0), 0),
+    (Take(3, 2, 1), 0),
+    // a function of the other source, and the source's other function
+    (Done(2, SEVEN, 0), 29),
+    (Done(2, FACTORIAL, 1), 29),
+    (Done(3, FACTORIAL, 1), 0),
+    (Begin(2), 29),
+    (Done(2, FACTORIAL, 0), 0),
+    (Begin(2), 0),
+    (Done(1, SEVEN, 0), 0),
+    (Begin(1), 29),
+    (WriteBody, 0),
+    (SyncBody, 0),
+    (WriteGate, 0),
+    (Ack(2), 29),
+    (SyncGate, 0),
+    (Ack(2), 1),
+    (Begin(1), 31),
+];
+
+#[test]
+fn two_clients_add_one_name(rt: HostRuntime) -> Result<(), Fail> {
+    let alloc = rt.alloc();
+    let state = State::new(alloc, CcBuild {}, 4000)?;
+    assert!(rt; leaves(alloc, state, &TWO_CLIENTS, b'a', Some((FACTORIAL, 720)))?);
+    Ok(())
+}
+
+// A source's own fault, a function's, and the map's; then one unit in another's place, and none.
+const REFUSED: [(Line, u32); 27] = [
+    (Add(1, b'a', BROKEN), 0),
+    (Begin(1), 5),
+    (Add(1, b'a', UNKNOWN), 0),
+    (Begin(1), 11),
+    (Replace(1, b'a', SEVEN), 0),
+    (Take(1, 1, 0), 0),
+    (Done(1, SEVEN, 0), 0),
+    (Begin(1), 32),
+    (Add(1, b'a', FACTORIAL), 0),
+    (Take(1, 1, 1), 0),
+    (Take(2, 1, 0), 0),
+    (Done(1, FACTORIAL, 1), 0),
+    (Refuse(2, 22), 0),
+    (Begin(1), 22),
+    (Add(1, b'a', SEVEN), 0),
+    (Take(1, 1, 0), 0),
+    (Done(1, SEVEN, 0), 0),
+    (Begin(1), 0),
+    (WriteBody, 0),
+    (SyncBody, 0),
+    (WriteGate, 0),
+    (SyncGate, 0),
+    (Ack(1), 1),
+    (Add(2, b'a', SEVEN), 0),
+    (Take(1, 2, 0), 0),
+    (Done(1, SEVEN, 0), 0),
+    (Begin(2), 31),
+];
+
+#[test]
+fn refused(rt: HostRuntime) -> Result<(), Fail> {
+    let alloc = rt.alloc();
+    let state = State::new(alloc, CcBuild {}, 4000)?;
+    assert!(rt; leaves(alloc, state, &REFUSED, b'a', Some((SEVEN, 42)))?);
+    Ok(())
+}
+
+// The unit is acknowledged; then another is to take its place.
+const REPLACED: [Line; 16] = [
+    Add(1, b'a', SEVEN),
+    Take(1, 1, 0),
+    Done(1, SEVEN, 0),
+    Begin(1),
+    WriteBody,
+    SyncBody,
+    WriteGate,
+    SyncGate,
+    Ack(1),
+    Replace(1, b'a', FACTORIAL),
+    Take(1, 1, 0),
+    Take(2, 1, 1),
+    Done(1, FACTORIAL, 0),
+    Done(2, FACTORIAL, 1),
+    Begin(1),
+    WriteBody,
+];
+
+// The state after the first of these events.
+fn played(alloc: Global, lines: &[Line]) -> Result<State<CcBuild>, Fail> {
+    let events = events(alloc, lines)?;
+    let state = State::new(alloc, CcBuild {}, 4000)?;
+    Ok(run(alloc, state, events)?)
+}
+
+// The old unit stays where a crash comes before the gate is written, whichever bytes the disk had in flight.
+#[test]
+fn crash_before_the_gate(rt: HostRuntime) -> Result<(), Fail> {
+    let alloc = rt.alloc();
+    for byte in [0x00, 0x5a, 0xa5, 0xff] {
+        let state = played(alloc, &REPLACED)?;
+        let last = [(Crash(byte), 0), (Recover, 0)];
+        assert!(rt; leaves(alloc, state, &last, b'a', Some((SEVEN, 42)))?);
+    }
+    Ok(())
+}
+
+// Within the write of the gate it may leave either: the old unit where the byte is not an open gate's, else the new one.
+#[test]
+fn crash_in_the_gate(rt: HostRuntime) -> Result<(), Fail> {
+    let alloc = rt.alloc();
+    for (byte, wanted) in [(0x00, (SEVEN, 42)), (0xa5, (FACTORIAL, 720))] {
+        let state = played(alloc, &REPLACED)?;
+        let last = [
+            (SyncBody, 0),
+            (WriteGate, 0),
+            (Crash(byte), 0),
+            (Recover, 0),
+        ];
+        assert!(rt; leaves(alloc, state, &last, b'a', Some(wanted))?);
+    }
+    Ok(())
+}
+
+// A unit that was withdrawn, and acknowledged, is gone after a crash.
+#[test]
+fn withdrawn(rt: HostRuntime) -> Result<(), Fail> {
+    let alloc = rt.alloc();
+    let state = played(alloc, &REPLACED[..9])?;
+    let last = [
+        (Withdraw(1, b'a'), 0),
+        (Begin(1), 0),
+        (WriteBody, 0),
+        (SyncBody, 0),
+        (WriteGate, 0),
+        (SyncGate, 0),
+        (Ack(1), 1),
+        (Crash(0xa5), 0),
+        (Recover, 0),
+    ];
+    assert!(rt; leaves(alloc, state, &last, b'a', None)?);
+    Ok(())
+}

@@ -1,0 +1,234 @@
+// Comparisons with a constant: how many instructions they take, and what they give at the edges of what an instruction can hold.
+
+use super::helpers::{Run, runs, text_of};
+use cc_link::compile;
+use cc_rv32::outcome::MachineOutcome;
+use std::alloc::Global;
+use std::test::Fail;
+
+/// The mask of the immediate, the function and the opcode of an instruction.
+const IMMEDIATE: u32 = 0xfff0_707f;
+
+/// That of the functions, the first register and the opcode.
+const FIRST: u32 = 0xfe0f_f07f;
+
+/// A condition on `a`, how many instructions it takes, and the mask and bits of one of them, by the tables of the standard: slti has opcode
+/// 0010011 and funct3 010, sltiu 011, addi 000; slt has opcode 0110011, funct3 010 and funct7 0, sltu 011, here both with x0 first. A mask
+/// of 0 where the constant is in a register.
+static FORMS: [(&str, usize, u32, u32); 19] = [
+    ("a<10", 1, IMMEDIATE, 0x00a0_2013),
+    ("a<=10", 1, IMMEDIATE, 0x00b0_2013),
+    ("a>=10", 2, IMMEDIATE, 0x00a0_2013),
+    ("a>0", 1, FIRST, 0x0000_2033),
+    ("a==0", 1, IMMEDIATE, 0x0010_3013),
+    ("a!=0", 1, FIRST, 0x0000_3033),
+    ("a==7", 2, IMMEDIATE, 0xff90_0013),
+    ("a!=7", 2, IMMEDIATE, 0xff90_0013),
+    ("a<2047", 1, IMMEDIATE, 0x7ff0_2013),
+    ("a<2048", 3, 0, 0),
+    ("a<=2047", 3, 0, 0),
+    ("a==2048", 2, IMMEDIATE, 0x8000_0013),
+    ("a<10u", 1, IMMEDIATE, 0x00a0_3013),
+    ("a<=10u", 1, IMMEDIATE, 0x00b0_3013),
+    ("a>=10u", 2, IMMEDIATE, 0x00a0_3013),
+    ("a>0u", 1, FIRST, 0x0000_3033),
+    ("a<4294965248u", 1, IMMEDIATE, 0x8000_3013),
+    ("a<=4294967294u", 1, IMMEDIATE, 0xfff0_3013),
+    ("a<=4294967295u", 3, 0, 0),
+];
+
+// How many instructions a text's image has, and whether one of them has these bits under a mask.
+fn instructions(alloc: Global, text: &[u8], mask: u32, bits: u32) -> Result<(usize, bool), Fail> {
+    let unit = compile(alloc, text)?;
+    let mut count = 0usize;
+    let mut has = false;
+    for word in unit.stored().image.code.words() {
+        count = count.saturating_add(1);
+        has = has || *word & mask == bits;
+    }
+    drop(unit);
+    Ok((count, has))
+}
+
+// The same of a program that asks for a condition.
+fn asked(alloc: Global, condition: &str, mask: u32, bits: u32) -> Result<(usize, bool), Fail> {
+    let text = text_of(
+        alloc,
+        &[
+            ("int main(void){int a=read_word();if(", 1),
+            (condition, 1),
+            (")write_word(1);}", 1),
+        ],
+    )?;
+    let found = instructions(alloc, text.as_slice(), mask, bits);
+    drop(text);
+    found
+}
+
+#[test]
+fn instructions_of_comparisons(rt: HostRuntime) -> Result<(), Fail> {
+    let (least, _) = asked(rt.alloc(), "a", 0, 0)?;
+    for (condition, more, mask, bits) in FORMS.iter() {
+        let (count, has) = asked(rt.alloc(), condition, *mask, *bits)?;
+        assert!(rt; count == least.saturating_add(*more), "{condition} {count}");
+        assert!(rt; has, "{condition}");
+    }
+    Ok(())
+}
+
+/// A type, a constant, words of input, the first telling how many more there are, and how each of them compares: 1 for <, 2 for <=, 4
+/// for >, 8 for >=, 16 for ==, 32 for !=, so less 35, the same 26, more 44 (C99 6.5.8, 6.5.9).
+static EDGES: [(&str, &str, &[u32], &[i32]); 19] = [
+    (
+        "int",
+        "0",
+        &[4, 0, 1, 0xffff_ffff, 0x8000_0000],
+        &[26, 44, 35, 35],
+    ),
+    ("int", "7", &[4, 6, 7, 8, 0xffff_fff9], &[35, 26, 44, 35]),
+    (
+        "int",
+        "2046",
+        &[4, 2045, 2046, 2047, 0xffff_f800],
+        &[35, 26, 44, 35],
+    ),
+    (
+        "int",
+        "2047",
+        &[4, 2046, 2047, 2048, 0xffff_f7ff],
+        &[35, 26, 44, 35],
+    ),
+    (
+        "int",
+        "2048",
+        &[4, 2047, 2048, 2049, 0xffff_f800],
+        &[35, 26, 44, 35],
+    ),
+    (
+        "int",
+        "(int)4294967295u",
+        &[4, 0xffff_fffe, 0xffff_ffff, 0, 0x8000_0000],
+        &[35, 26, 44, 35],
+    ),
+    (
+        "int",
+        "(int)4294965248u",
+        &[4, 0xffff_f7ff, 0xffff_f800, 0xffff_f801, 2048],
+        &[35, 26, 44, 44],
+    ),
+    (
+        "int",
+        "(int)4294965247u",
+        &[4, 0xffff_f7fe, 0xffff_f7ff, 0xffff_f800, 2049],
+        &[35, 26, 44, 44],
+    ),
+    (
+        "int",
+        "2147483647",
+        &[3, 0x7fff_fffe, 0x7fff_ffff, 0x8000_0000],
+        &[35, 26, 35],
+    ),
+    (
+        "int",
+        "(int)2147483648u",
+        &[3, 0x8000_0000, 0x8000_0001, 0x7fff_ffff],
+        &[26, 44, 44],
+    ),
+    ("unsigned", "0", &[3, 0, 1, 0xffff_ffff], &[26, 44, 44]),
+    (
+        "unsigned",
+        "1",
+        &[4, 0, 1, 2, 0xffff_ffff],
+        &[35, 26, 44, 44],
+    ),
+    (
+        "unsigned",
+        "2047",
+        &[4, 2046, 2047, 2048, 0xffff_f800],
+        &[35, 26, 44, 44],
+    ),
+    (
+        "unsigned",
+        "2048",
+        &[4, 2047, 2048, 2049, 0xffff_f800],
+        &[35, 26, 44, 44],
+    ),
+    (
+        "unsigned",
+        "2147483647",
+        &[3, 0x7fff_fffe, 0x7fff_ffff, 0x8000_0000],
+        &[35, 26, 44],
+    ),
+    (
+        "unsigned",
+        "4294965247u",
+        &[4, 0xffff_f7fe, 0xffff_f7ff, 0xffff_f800, 2049],
+        &[35, 26, 44, 35],
+    ),
+    (
+        "unsigned",
+        "4294965248u",
+        &[4, 0xffff_f7ff, 0xffff_f800, 0xffff_f801, 2048],
+        &[35, 26, 44, 35],
+    ),
+    (
+        "unsigned",
+        "4294967294u",
+        &[4, 0xffff_fffd, 0xffff_fffe, 0xffff_ffff, 0],
+        &[35, 26, 44, 35],
+    ),
+    (
+        "unsigned",
+        "4294967295u",
+        &[4, 0xffff_fffe, 0xffff_ffff, 0, 0x7fff_ffff],
+        &[35, 26, 35, 35],
+    ),
+];
+
+// Whether a program that compares each word with a constant writes these.
+fn compares<'a>(
+    alloc: Global,
+    kind: &'a str,
+    constant: &'a str,
+    input: &[u32],
+    words: &[i32],
+) -> Result<bool, Fail> {
+    let text = text_of(
+        alloc,
+        &[
+            ("int main(void){int n=read_word();while(n){", 1),
+            (kind, 1),
+            (" a=read_word();int r=0;if(a<", 1),
+            (constant, 1),
+            (")r=r+1;if(a<=", 1),
+            (constant, 1),
+            (")r=r+2;if(a>", 1),
+            (constant, 1),
+            (")r=r+4;if(a>=", 1),
+            (constant, 1),
+            (")r=r+8;if(a==", 1),
+            (constant, 1),
+            (")r=r+16;if(a!=", 1),
+            (constant, 1),
+            (")r=r+32;write_word(r);n=n-1;}}", 1),
+        ],
+    )?;
+    let run = Run {
+        input,
+        steps: 1000,
+        words,
+        outcome: MachineOutcome::Exited(0),
+    };
+    let right = runs(alloc, text.as_slice(), run);
+    drop(text);
+    right
+}
+
+#[test]
+fn comparisons_at_the_edges(rt: HostRuntime) -> Result<(), Fail> {
+    for (kind, constant, input, words) in EDGES.iter() {
+        let right = compares(rt.alloc(), kind, constant, input, words)?;
+        assert!(rt; right, "{kind} {constant}");
+    }
+    Ok(())
+}

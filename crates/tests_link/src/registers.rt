@@ -1,0 +1,86 @@
+// Values in registers and in slots, and nothing computed that nobody needs.
+
+use super::helpers::{Run, runs};
+use super::numbered::summed;
+use cc_link::compile;
+use cc_rv32::outcome::MachineOutcome;
+use std::alloc::{AllocError, Global};
+use std::test::Fail;
+
+// The words from 1 to 250.
+fn numbers(alloc: Global) -> Result<Vec<u32>, AllocError> {
+    let mut words = Vec::new(alloc);
+    for word in 1..251u32 {
+        words.push(word)?;
+    }
+    Ok(words)
+}
+
+// Whether the sum of 250 variables is written.
+fn sums(alloc: Global) -> Result<bool, Fail> {
+    let text = summed(alloc)?;
+    let input = numbers(alloc)?;
+    let run = Run {
+        input: input.as_slice(),
+        steps: 100_000,
+        words: &[31_375],
+        outcome: MachineOutcome::Exited(0),
+    };
+    let right = runs(alloc, text.as_slice(), run);
+    drop(text);
+    drop(input);
+    right
+}
+
+#[test]
+fn two_hundred_and_fifty_variables(rt: HostRuntime) -> Result<(), Fail> {
+    assert!(rt; sums(rt.alloc())?);
+    Ok(())
+}
+
+// mul by the table of the standard: opcode 0110011, funct3 000, funct7 0000001.
+fn is_product(word: u32) -> bool {
+    word & 0xfe00_707f == 0x0200_0033
+}
+
+// How many instructions of a text's image are mul.
+fn products(alloc: Global, text: &str) -> Result<usize, Fail> {
+    let unit = compile(alloc, text.as_bytes())?;
+    let mut count = 0usize;
+    for word in unit.stored().image.code.words() {
+        if is_product(*word) {
+            count = count.saturating_add(1);
+        }
+    }
+    drop(unit);
+    Ok(count)
+}
+
+/// Texts, and how many products are left in their code: what nobody needs has gone, and what only that read.
+static PRODUCTS: [(&str, usize); 4] = [
+    (
+        "int main(void){int x=read_word();int y=x*7;write_word(x);}",
+        0,
+    ),
+    (
+        "int main(void){int x=read_word();int y=x*7;write_word(y);}",
+        1,
+    ),
+    (
+        "int main(void){int x=read_word();int y=x*7;int z=y*x;write_word(x);}",
+        0,
+    ),
+    (
+        "int main(void){int x=read_word();int y=1;while(x){y=y*x;x--;}write_word(x);}",
+        0,
+    ),
+];
+
+#[test]
+fn products_that_nobody_needs(rt: HostRuntime) -> Result<(), Fail> {
+    for (text, wanted) in PRODUCTS.iter() {
+        let found = products(rt.alloc(), text)?;
+        assert!(rt; found == *wanted, "{text} {found}");
+    }
+    Ok(())
+}
