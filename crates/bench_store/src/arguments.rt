@@ -5,7 +5,7 @@ use std::env::Args;
 
 /// The next argument, or an error where there is none.
 pub fn next_argument(arguments: &mut Args) -> Result<String> {
-    arguments.next().context("usage: bench_store make|add|count|read|open|write FILE [NUMBER..]")
+    arguments.next().context("usage: bench_store make|add|count|open|write FILE [NUMBER..]")
 }
 
 /// The next argument as a number.

@@ -2,8 +2,8 @@
 //!
 //! `make FILE AREA` makes the file and formats it, with areas of AREA bytes. `add FILE COUNT SOURCE WORDS` adds COUNT units, or as
 //! many as fit, each with SOURCE bytes of source and WORDS words of code, and prints the number of each once it is acknowledged.
-//! `count FILE SOURCE WORDS` prints how many there are, where they are those. `read FILE TIMES` reads the file so many times,
-//! `open FILE TIMES` opens the library on it.
+//! `count FILE SOURCE WORDS` prints how many there are, where they are those. `open FILE TIMES` opens the library on the file and
+//! reads the file so many times each, in turn, and prints the least time of each in nanoseconds.
 //! `write FILE OFFSET LENGTH` writes so many bytes from that offset on, and prints the number of the answer, 0 for Ok.
 //! `arguments` reads the command line, `units` makes units and their names.
 #![tactic(auto)]
@@ -19,6 +19,7 @@ use cc_library::{Library, LibraryFault};
 use std::env::{self, Args};
 use std::fs;
 use std::sync::Arc;
+use std::time::Instant;
 use units::{name_of, next_unit};
 
 fn main(rt: HostRuntime) -> Result<()> {
@@ -30,7 +31,6 @@ fn main(rt: HostRuntime) -> Result<()> {
         "make" => make(&rt, file.as_str(), next_number(&mut arguments)?),
         "add" => add(&rt, file.as_str(), &mut arguments),
         "count" => count(&rt, file.as_str(), &mut arguments),
-        "read" => read(&rt, file.as_str(), next_number(&mut arguments)?),
         "open" => open(&rt, file.as_str(), next_number(&mut arguments)?),
         "write" => write(&rt, file.as_str(), &mut arguments),
         _ => bail!("no such task"),
@@ -85,19 +85,21 @@ fn count(rt: &HostRuntime, path: &str, arguments: &mut Args) -> Result<()> {
     Ok(())
 }
 
-fn read(rt: &HostRuntime, path: &str, times: u32) -> Result<()> {
+// What is opened or read is let go after its time was taken.
+fn open(rt: &HostRuntime, path: &str, times: u32) -> Result<()> {
+    let mut opening = u128::MAX;
+    let mut reading = u128::MAX;
     for _ in 0..times {
+        let start = Instant::now(rt)?;
+        let library = opened(rt, path)?;
+        opening = opening.min(start.elapsed(rt)?.as_nanos());
+        drop(library);
+        let start = Instant::now(rt)?;
         let bytes = fs::read(rt, path)?;
+        reading = reading.min(start.elapsed(rt)?.as_nanos());
         drop(bytes);
     }
-    Ok(())
-}
-
-fn open(rt: &HostRuntime, path: &str, times: u32) -> Result<()> {
-    for _ in 0..times {
-        let library = opened(rt, path)?;
-        drop(library);
-    }
+    println!(rt; "{opening} {reading}")?;
     Ok(())
 }
 

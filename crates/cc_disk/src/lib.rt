@@ -2,7 +2,7 @@
 //!
 //! `disk` has the trait `Disk` and its fault, `cell` one byte of the model, `memory` the disk in memory, `file` the disk
 //! on a file, `fuse` the disk that fails on purpose, `history` and `count` what contracts alone remember.
-//! It hands out `Disk`, `DiskFault`, `Cell`, `MemoryDisk`, `FileDisk`, `FuseDisk` and `FuseMode`.
+//! It hands out `Disk`, `DiskFault`, `Cell`, `MemoryDisk`, `FileDisk`, `FuseDisk`, `FuseMode` and `History`.
 #![tactic(auto)]
 
 mod cell;
@@ -17,4 +17,5 @@ pub use cell::Cell;
 pub use disk::{Disk, DiskFault};
 pub use file::FileDisk;
 pub use fuse::{FuseDisk, FuseMode};
+pub use history::History;
 pub use memory::MemoryDisk;

@@ -1,18 +1,29 @@
 // The body of one record.
-ghost use Rattle.std.specs.Prelude.{◌≡◌, List, ℕ};
+ghost use Rattle.std.specs.Prelude.{◌≡◌, ◌^◌, ◌<◌, ◌++◌, List, ℕ, length, IfOk, OnOk};
+ghost use Rattle.std.specs.Int.{w32, to_le_bytes};
+ghost use Rattle.cc_journal.specs.Commit.{behind_gate};
 
+use crate::commit::CLOSED;
+use std::alloc::{AllocError, Global};
 use std::marker::Model;
 
 /// The bytes of one record. A clause reads it as a list.
 #[derive(Drop)]
 pub struct Body {
     bytes: Vec<u8>,
+    // Whether `bytes` also has what stands around the body in a record: its length before it and a closed gate behind it.
+    is_framed: bool,
 }
 
 impl Model for Body {
+    ghost use Rattle.std.specs.Prelude.{List, ℕ};
+    ghost use Rattle.cc_journal.specs.internal.Framed.{body_in, IsFramed};
+
     ghost Value = { List ℕ };
 
-    ghost view = { λ b. b.bytes.items };
+    ghost view = { λ b. body_in b.is_framed b.bytes.items };
+
+    ghost invariant = { λ b. IsFramed b.is_framed b.bytes.items };
 }
 
 impl Body {
@@ -20,13 +31,27 @@ impl Body {
     pub fn new(bytes: Vec<u8>) -> Body
         ensures { result ≡ bytes.items }
     {
-        Body { bytes }
+        let is_framed = false;
+        Body { bytes, is_framed }
+    }
+
+    /// The body of these bytes, which are all that stands behind the gate of its record: its length as four bytes, the lowest
+    /// first, the body, and the next gate, 0. Such a body is appended without a copy. It takes no memory.
+    pub fn from_framed(bytes: Vec<u8>) -> Body
+        requires { (body : List ℕ) × (length body < 2 ^ 32) × (bytes.items ≡ behind_gate body) }
+        ensures { (body : List ℕ) → bytes.items ≡ behind_gate body → result ≡ body }
+    {
+        let is_framed = true;
+        Body { bytes, is_framed }
     }
 
     /// Its bytes.
     pub fn as_slice(&self) -> &[u8]
         ensures { result.now ≡ self.now }
     {
+        if self.is_framed {
+            return &self.bytes[4..self.bytes.len() - 1];
+        }
         &self.bytes
     }
 
@@ -34,7 +59,47 @@ impl Body {
     pub fn into_vec(self) -> Vec<u8>
         ensures { result.items ≡ self }
     {
-        let Body { bytes } = self;
+        let Body {
+            mut bytes,
+            is_framed,
+        } = self;
+        if is_framed {
+            let end = bytes.len() - 5;
+            bytes.rotate_left(4);
+            bytes.truncate(end);
+        }
         bytes
     }
+
+    // What stands behind the gate of its record. Where it was made without that, this is a copy.
+    pub(crate) fn into_framed(self, alloc: Global) -> Result<Vec<u8>, AllocError>
+        requires { length self < 2 ^ 32 }
+        ensures { IfOk result (λ bytes. bytes.items ≡ behind_gate self) }
+    {
+        let Body { bytes, is_framed } = self;
+        if is_framed {
+            return Ok(bytes);
+        }
+        framed(alloc, &bytes)
+    }
+}
+
+// What stands behind the gate of the record with this body.
+pub(crate) fn framed(alloc: Global, body: &[u8]) -> Result<Vec<u8>, AllocError>
+    requires { length body.now < 2 ^ 32 }
+    ensures { IfOk result (λ bytes. bytes.items ≡ behind_gate body.now) }
+{
+    let mut bytes = Vec::with_capacity(alloc, body.len() + 5)?;
+    put_body(&mut bytes, body)?;
+    bytes.push(CLOSED)?;
+    Ok(bytes)
+}
+
+// Adds the length of a body, and the body.
+pub(crate) fn put_body(bytes: &mut Vec<u8>, body: &[u8]) -> Result<(), AllocError>
+    requires { length body.now < 2 ^ 32 }
+    ensures { OnOk result (bytes.new.items ≡ bytes.old.items ++ (to_le_bytes w32 (length body.now) ++ body.now)) }
+{
+    bytes.extend_from_slice(&(body.len() as u32).to_le_bytes())?;
+    bytes.extend_from_slice(body)
 }

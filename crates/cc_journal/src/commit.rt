@@ -1,14 +1,13 @@
 // One commit: how records get onto the disk. Bytes are written where they count for nothing yet, and synced; then one byte
 // is written that puts them in force, and synced. So a crash at any moment leaves the old records or the new ones. An
 // `append` and a `rewrite` differ in which bytes these are alone.
-ghost use Rattle.std.specs.Prelude.{◌≡◌, ◌+◌, ◌*◌, ◌^◌, ◌<◌, ◌≤◌, ◌++◌, [], ◌∷◌, List, ℕ, IsTrue, length, IfOk, OnOk, is_ok, if◌then◌else◌};
+ghost use Rattle.std.specs.Prelude.{◌≡◌, ◌+◌, ◌*◌, ◌^◌, ◌<◌, ◌≤◌, ◌++◌, List, ℕ, IsTrue, length, IfOk, OnOk, is_ok, if◌then◌else◌};
 ghost use Rattle.cc_disk.specs.Images.{LeavesAlone, LeavesOnly};
-ghost use Rattle.std.specs.Int.{w32, to_le_bytes};
-ghost use Rattle.cc_journal.specs.Format.{records, room_of};
+ghost use Rattle.cc_journal.specs.Format.{open_gate, records, room_of};
 ghost use Rattle.cc_journal.specs.Commit.{append_commit, rewrite_commit, area_begin, other_area, behind_gate, IsCommitted};
 ghost use Rattle.cc_journal.specs.internal.Commit.{IsMidCommit};
 
-use crate::body::Body;
+use crate::body::{Body, framed, put_body};
 use crate::reading::HEADER;
 use cc_disk::{Disk, DiskFault};
 use std::alloc::{AllocError, Global};
@@ -46,15 +45,38 @@ impl Commit {
         requires fits { gate + 1 < 2 ^ 64 }
         ensures { IfOk result (λ c. c ≡ append_commit gate body.now) }
     {
-        let mut bytes = Vec::with_capacity(alloc, body.len() + 5)?;
-        put_body(&mut bytes, body)?;
-        bytes.push(CLOSED)?;
-        Ok(Commit {
+        Ok(Commit::behind(gate, framed(alloc, body)?))
+    }
+
+    // The same of a body that is handed over, and that can be taken out of it again. Where the body has what stands around
+    // it, it takes no memory.
+    pub(crate) fn of_body(alloc: Global, gate: usize, body: Body) -> Result<Commit, AllocError>
+        requires short { length body < 2 ^ 32 }
+        requires fits { gate + 1 < 2 ^ 64 }
+        ensures { IfOk result (λ c. c ≡ append_commit gate body) }
+    {
+        Ok(Commit::behind(gate, body.into_framed(alloc)?))
+    }
+
+    // The commit that writes these bytes behind the closed gate at that offset, and then opens the gate.
+    fn behind(gate: usize, bytes: Vec<u8>) -> Commit
+        requires { gate + 1 < 2 ^ 64 }
+        ensures { result ≡ record { offset = gate + 1; bytes = bytes.items; deciding_offset = gate; deciding_byte = open_gate } }
+    {
+        Commit {
             offset: gate + 1,
             bytes,
             deciding_offset: gate,
             deciding_byte: OPEN,
-        })
+        }
+    }
+
+    // The body of the record that it puts, where it is an append.
+    pub(crate) fn into_body(self) -> Body
+        requires { (gate : ℕ) × (body : List ℕ) × (length body < 2 ^ 32) × (self ≡ append_commit gate body) }
+        ensures { (gate : ℕ) (body : List ℕ) → self ≡ append_commit gate body → result ≡ body }
+    {
+        Body::from_framed(self.bytes)
     }
 
     /// The commit that makes these the records of a disk whose area byte is that one, with areas of `area` bytes: first all
@@ -138,15 +160,6 @@ fn other_area(area_byte: u8) -> u8
     ensures small { result ≤ 1 }
 {
     if area_byte % 2 == 0 { 1 } else { 0 }
-}
-
-// Adds the length of a body, and the body.
-fn put_body(bytes: &mut Vec<u8>, body: &[u8]) -> Result<(), AllocError>
-    requires { length body.now < 2 ^ 32 }
-    ensures { OnOk result (bytes.new.items ≡ bytes.old.items ++ (to_le_bytes w32 (length body.now) ++ body.now)) }
-{
-    bytes.extend_from_slice(&(body.len() as u32).to_le_bytes())?;
-    bytes.extend_from_slice(body)
 }
 
 // Adds the records with these bodies, one after the other.

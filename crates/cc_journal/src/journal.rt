@@ -5,10 +5,9 @@ ghost use Rattle.cc_journal.specs.Format.{HasAreaByte, HoldsAlone, HoldsOldOrNew
 ghost use Rattle.cc_journal.specs.Commit.{IsCommitted, append_commit, area_begin, rewrite_commit};
 ghost use Rattle.cc_journal.specs.Answers.{AppendAnswers, CommitAnswers, OpenFaults};
 
-use crate::body::Body;
-use crate::commit::{Commit, make};
+use crate::body::{Body, framed};
 use crate::fault::JournalFault;
-use crate::reading::{Found, HEADER, find_records};
+use crate::log::Log;
 use cc_disk::Disk;
 use std::alloc::{AllocError, Global};
 use std::marker::Model;
@@ -19,23 +18,19 @@ use std::marker::Model;
 /// journal is closed. While it is not closed, every image of an honest disk has these records alone.
 #[derive(Drop)]
 pub struct Journal<D: Disk> {
-    disk: D,
+    log: Log<D>,
     bodies: Vec<Body>,
-    // Where the area in use begins, its size, and how many of its bytes the records take.
-    start: usize,
-    area: usize,
-    used: usize,
-    closed: bool,
 }
 
 impl<D: Disk> Model for Journal<D> {
-    ghost use Rattle.cc_journal.specs.Journal.{View, IsKept};
+    ghost use Rattle.std.specs.Prelude.{◌≡◌};
+    ghost use Rattle.cc_journal.specs.Journal.{View};
 
     ghost Value = { View D };
 
-    ghost view = { λ j. record { disk = j.disk; area = j.area; bodies = j.bodies.items; closed = j.closed } };
+    ghost view = { λ j. j.log };
 
-    ghost invariant = { λ j. IsKept D.honest (D.size j.disk) (D.seen j.disk) (D.may_leave j.disk) j.start j.area j.used j.bodies.items j.closed };
+    ghost invariant = { λ j. j.bodies.items ≡ j.log.bodies };
 }
 
 impl<D: Disk> Journal<D> {
@@ -43,7 +38,7 @@ impl<D: Disk> Journal<D> {
     ///
     /// Refusals, in this order, with the disk handed back: 35 where the device failed in the call, 38 where there is no
     /// right header, 37 where an open record does not fit its area. 40 where memory ran out.
-    pub fn open(alloc: Global, mut disk: D) -> Result<Journal<D>, (JournalFault, D)>
+    pub fn open(alloc: Global, disk: D) -> Result<Journal<D>, (JournalFault, D)>
         // What was found, of an honest disk, and every image then has it alone.
         ensures records { IfOk result (λ j. IsTrue D.honest → HoldsRecords (D.seen disk) j.area j.bodies) }
         ensures kept { IfOk result (λ j. IsTrue D.honest → (image : List ℕ) → D.may_leave j.disk image → HoldsAlone image j.area j.bodies) }
@@ -63,24 +58,9 @@ impl<D: Disk> Journal<D> {
             (λ j. IsTrue D.honest → OnlyReads D.seen D.may_leave D.moment D.left_since disk j.disk)
             (λ e. IsTrue D.honest → OnlyReads D.seen D.may_leave D.moment D.left_since disk e.1) }
     {
-        match find_records(alloc, &mut disk) {
-            Ok(found) => {
-                let Found {
-                    bodies,
-                    start,
-                    area,
-                    used,
-                } = found;
-                Ok(Journal {
-                    disk,
-                    bodies,
-                    start,
-                    area,
-                    used,
-                    closed: false,
-                })
-            }
-            Err(fault) => Err((fault, disk)),
+        match Log::open(alloc, disk) {
+            Ok((log, bodies)) => Ok(Journal { log, bodies }),
+            Err(refused) => Err(refused),
         }
     }
 
@@ -90,6 +70,8 @@ impl<D: Disk> Journal<D> {
         ensures kept { IsTrue D.honest → self.now.closed ≡ false
             → (image : List ℕ) → D.may_leave self.now.disk image → HoldsAlone image self.now.area self.now.bodies }
     {
+        // What the log promises of its images.
+        let _ = self.log.is_closed();
         &self.bodies
     }
 
@@ -123,17 +105,13 @@ impl<D: Disk> Journal<D> {
         ensures moments { IsTrue D.honest → self.old.closed ≡ false
             → LeavesOnly D.moment D.left_since self.old.disk self.new.disk (HoldsOldOrNew self.old.area self.old.bodies body.now) }
     {
-        if self.closed {
-            return Err(JournalFault::Closed);
-        }
-        if self.area - self.used < body.len() + 6 {
-            return Err(JournalFault::Full);
-        }
-        let kept = Vec::from_slice(alloc, body)?;
-        self.append_body(alloc, Body::new(kept))
+        self.log.takes(body.len())?;
+        let bytes = framed(alloc, body)?;
+        self.append_body(alloc, Body::from_framed(bytes))
     }
 
-    /// The same as `append`, of a body that is handed over: it is not copied to be kept. Every refusal gives it up.
+    /// The same as `append`, of a body that is handed over: it is not copied to be kept, and a body made by
+    /// `Body::from_framed` not to be written either. Every refusal gives it up.
     pub fn append_body(&mut self, alloc: Global, body: Body) -> Result<(), JournalFault>
         ensures answers { AppendAnswers self.old.closed self.old.area self.old.bodies body (D.failures self.old.disk) (D.failures self.new.disk) result }
         ensures size { D.size self.new.disk ≡ D.size self.old.disk }
@@ -158,27 +136,12 @@ impl<D: Disk> Journal<D> {
         ensures moments { IsTrue D.honest → self.old.closed ≡ false
             → LeavesOnly D.moment D.left_since self.old.disk self.new.disk (HoldsOldOrNew self.old.area self.old.bodies body) }
     {
-        if self.closed {
-            return Err(JournalFault::Closed);
-        }
-        let length = body.as_slice().len();
-        if self.area - self.used < length + 6 {
-            return Err(JournalFault::Full);
-        }
+        self.log.takes(body.as_slice().len())?;
         // All growths come before the first device call.
-        let gate = self.start + self.used;
-        let commit = prepare(alloc, &mut self.bodies, gate, body.as_slice())?;
-        match make(&mut self.disk, &commit) {
-            Ok(()) => {
-                self.used += length + 5;
-                self.bodies.push(body).unwrap();
-                Ok(())
-            }
-            Err(_) => {
-                self.closed = true;
-                Err(JournalFault::DiskFault)
-            }
-        }
+        self.bodies.reserve(1)?;
+        let kept = self.log.append(alloc, body)?;
+        self.bodies.push(kept).unwrap();
+        Ok(())
     }
 
     /// Makes these the records, in the place of all others. At Ok they are kept: every crash from then on leaves them, and
@@ -212,85 +175,15 @@ impl<D: Disk> Journal<D> {
         ensures moments { IsTrue D.honest → self.old.closed ≡ false
             → LeavesOnly D.moment D.left_since self.old.disk self.new.disk (HoldsOneOf self.old.area self.old.bodies bodies.items) }
     {
-        if self.closed {
-            // No device call: what the disk holds is not known before it is opened again.
-            return Err(JournalFault::Closed);
-        }
-        let Some(used) = bytes_taken(&bodies, self.area) else {
-            return Err(JournalFault::Full);
-        };
-        // All growths come before the first device call.
-        let commit = Commit::rewrite(alloc, side(self.start), self.area, &bodies)?;
-        match make(&mut self.disk, &commit) {
-            Ok(()) => {
-                self.start = commit.offset();
-                self.used = used;
-                self.bodies = bodies;
-                Ok(())
-            }
-            Err(_) => {
-                self.closed = true;
-                Err(JournalFault::DiskFault)
-            }
-        }
+        self.bodies = self.log.rewrite(alloc, bodies)?;
+        Ok(())
     }
 
     /// The disk, as the calls so far left it. It takes no memory.
     pub fn into_disk(self) -> D
         ensures { result ≡ self.disk }
     {
-        let Journal {
-            disk,
-            bodies: _,
-            start: _,
-            area: _,
-            used: _,
-            closed: _,
-        } = self;
-        disk
+        let Journal { log, bodies: _ } = self;
+        log.into_disk()
     }
-}
-
-// What an `append` takes of memory beside the record to keep: the bytes to write, and room for the record.
-fn prepare(
-    alloc: Global,
-    bodies: &mut Vec<Body>,
-    gate: usize,
-    body: &[u8],
-) -> Result<Commit, AllocError>
-    requires short { length body.now < 2 ^ 32 }
-    requires fits { gate + 1 < 2 ^ 64 }
-    ensures commit { IfOk result (λ commit. commit ≡ append_commit gate body.now) }
-    ensures room { OnOk result (vec_len bodies.new + 1 ≤ vec_capacity bodies.new) }
-    ensures same { bodies.new.items ≡ bodies.old.items }
-    ensures len { vec_len bodies.new ≡ vec_len bodies.old }
-{
-    let commit = Commit::append(alloc, gate, body)?;
-    bodies.reserve(1)?;
-    Ok(commit)
-}
-
-// The area byte of the area that begins at that offset.
-fn side(start: usize) -> u8
-    ensures first { start ≡ 16 → result ≡ 0 }
-    ensures second { start ≢ 16 → result ≡ 1 }
-{
-    if start == HEADER { 0 } else { 1 }
-}
-
-// How many bytes these records take, where they and their closed gate fit an area of that many bytes.
-fn bytes_taken(bodies: &[Body], area: usize) -> Option<usize>
-    requires { 1 ≤ area }
-    ensures taken { IfSome result (λ used. (used ≡ length (records bodies.now)) × (room_of bodies.now ≤ area)) }
-    ensures full { IsNone result → area < room_of bodies.now }
-{
-    let mut left = area - 1;
-    for body in bodies {
-        let length = body.as_slice().len();
-        if left < 5 || left - 5 < length {
-            return None;
-        }
-        left -= length + 5;
-    }
-    Some(area - 1 - left)
 }

@@ -1,9 +1,9 @@
 //! A journal that keeps what it acknowledged through a power cut in the middle of any write.
 //!
 //! `formatting` makes an empty journal on a disk, `commit` gets records onto it, `reading` reads the records of a disk,
-//! `window` reads ahead for it, `journal` has the journal's type with its calls, `body` the bytes of one record, `fault`
-//! the refusals.
-//! It hands out `format`, `Journal`, `Body`, `Commit` and `JournalFault`.
+//! `window` reads ahead for it, `log` has the calls over a disk, `journal` the same with the records in memory, `body` the
+//! bytes of one record, `fault` the refusals.
+//! It hands out `format`, `Log`, `Journal`, `Body`, `Commit`, `CLOSED` and `JournalFault`.
 #![tactic(auto)]
 
 mod body;
@@ -11,11 +11,13 @@ mod commit;
 mod fault;
 mod formatting;
 mod journal;
+mod log;
 mod reading;
 mod window;
 
 pub use body::Body;
-pub use commit::Commit;
+pub use commit::{CLOSED, Commit};
 pub use fault::JournalFault;
 pub use formatting::format;
 pub use journal::Journal;
+pub use log::Log;

@@ -9,3 +9,4 @@ pub mod Opening
 pub mod Running
 pub mod Compacting
 mod Sizes
+pub mod Front

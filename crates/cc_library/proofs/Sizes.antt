@@ -3,7 +3,9 @@ use Rattle.std.proofs.Common.{◌≡◌, ℕ, ◌+◌, ◌*◌, List, [], ◌∷
 use Rattle.std.specs.Int.{w32, to_le_bytes}
 use Rattle.std.specs.List.{flat_map}
 use Rattle.cc_unit.specs.declared.unit.StoredUnit.{StoredUnit}
-use Rattle.cc_library.specs.Body.{bytes_field, words_field, unit_fields}
+use Rattle.std.specs.Prelude.{Option}
+use Rattle.cc_library.specs.declared.command.Kind.{Kind}
+use Rattle.cc_library.specs.Body.{body_bytes, bytes_field, words_field, unit_fields, unit_part}
 
 four : (n : ℕ) → length (to_le_bytes w32 n) ≡ 4
 four n = refl
@@ -30,3 +32,6 @@ unit_long unit =
       length-append (to_le_bytes w32 (length code)) (flat_map (to_le_bytes w32) code),
       length-append (to_le_bytes w32 (length globals)) (flat_map (to_le_bytes w32) globals),
     )
+
+pub body_long : (kind : Kind) (name : List ℕ) (unit : Option StoredUnit) → length (body_bytes kind name unit) ≡ 3 + length name + length (unit_part unit)
+body_long kind name unit = omega (arith, length-append name (unit_part unit))

@@ -98,11 +98,10 @@ one_more bodies units body command l s ok =
     subst (λ (m : Units). LeadTo empty (bodies ++ body ∷ []) (after m command)) (sym l.map_is)
     (pushed empty bodies l.commands body command l.spelled l.accepted s (subst (λ (m : Units). IsOk (apply m command)) l.map_is ok))
 
-pub stands_after : (bodies : List (List ℕ)) (units : Units) (body written : List ℕ) (command : Command) (more : List (List ℕ)) (new : Units) → StandFor bodies units → Spells body command → IsOk (apply units command)
-    → written ≡ body → more ≡ bodies ++ written ∷ [] → new ≡ after units command → StandFor more new
-stands_after bodies units body written command more new stand spelled ok same added is =
-    let all : bodies ++ body ∷ [] ≡ more = ap (λ (b : List ℕ). bodies ++ b ∷ []) (sym same) ∙ sym added in
-    subst (λ (m : Units). StandFor more m) (sym is) (subst (λ (bs : List (List ℕ)). StandFor bs (after units command)) all (one_more bodies units body command stand spelled ok))
+pub stands_after : (bodies : List (List ℕ)) (units : Units) (body : List ℕ) (command : Command) (more : List (List ℕ)) (new : Units) → StandFor bodies units → Spells body command → IsOk (apply units command)
+    → more ≡ bodies ++ body ∷ [] → new ≡ after units command → StandFor more new
+stands_after bodies units body command more new stand spelled ok added is =
+    subst (λ (m : Units). StandFor more m) (sym is) (subst (λ (bs : List (List ℕ)). StandFor bs (after units command)) (sym added) (one_more bodies units body command stand spelled ok))
 
 pub stands_still : (bodies : List (List ℕ)) (units : Units) (same : List (List ℕ)) (new : Units) → StandFor bodies units → same ≡ bodies → new ≡ units → StandFor same new
 stands_still bodies units same new stand bodies_are is = subst (λ (m : Units). StandFor same m) (sym is) (subst (λ (bs : List (List ℕ)). StandFor bs units) (sym bodies_are) stand)

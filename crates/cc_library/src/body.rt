@@ -8,6 +8,7 @@ ghost use Rattle.cc_library.specs.Body.{HasUnit, HoldsUnit, IsUnit, Spells, body
 
 use crate::command::{Command, Kind};
 use crate::name::Name;
+use cc_journal::{Body, CLOSED};
 use cc_unit::StoredUnit;
 use std::alloc::{AllocError, Global};
 
@@ -26,37 +27,79 @@ pub fn command_body(
     ensures name { OnOk result (IsTrue (is_name name.now)) }
     ensures unit { OnOk result (HoldsUnit (option_map (λ u. u.now) unit.entry)) }
 {
-    let bytes = name.bytes();
-    // All the room is taken at once.
-    let mut body = Vec::with_capacity(alloc, body_length(bytes, unit))?;
-    body.extend_from_slice(&[1, kind.number(), bytes.len() as u8])?;
-    body.extend_from_slice(bytes)?;
-    if let Some(unit) = unit {
-        put_unit(&mut body, unit)?;
-    }
-    Ok(body)
+    Ok(framed_body(alloc, kind, name, unit)?.into_vec())
 }
 
 /// The body of the record of a command.
 pub fn body_of_command(alloc: Global, command: &Command) -> Result<Vec<u8>, AllocError>
     ensures { IfOk result (λ body. Spells body.items command.now) }
 {
+    Ok(framed_body_of_command(alloc, command)?.into_vec())
+}
+
+// The same as `body_of_command`, with what stands around the body in its record: it is written and kept without a copy.
+pub(crate) fn framed_body_of_command(alloc: Global, command: &Command) -> Result<Body, AllocError>
+    ensures { IfOk result (λ body. Spells body command.now) }
+{
     match command {
-        Command::Add(name, unit) => command_body(alloc, Kind::Add, name, Some(unit.stored())),
-        Command::Replace(name, unit) => command_body(
+        Command::Add(name, unit) => framed_body(alloc, Kind::Add, name, Some(unit.stored())),
+        Command::Replace(name, unit) => framed_body(
             alloc,
             Kind::Replace,
             name,
             Some(unit.stored()),
         ),
-        Command::Withdraw(name) => command_body(alloc, Kind::Withdraw, name, None),
+        Command::Withdraw(name) => framed_body(alloc, Kind::Withdraw, name, None),
     }
+}
+
+// The same as `command_body`, with what stands around the body in its record.
+pub(crate) fn framed_body(
+    alloc: Global,
+    kind: Kind,
+    name: &Name,
+    unit: Option<&StoredUnit>,
+) -> Result<Body, AllocError>
+    requires { HasUnit kind (option_map (λ u. u.now) unit) }
+    ensures spelled { IfOk result (λ body. body ≡ body_bytes kind name.now (option_map (λ u. u.now) unit.entry)) }
+    ensures name { OnOk result (IsTrue (is_name name.now)) }
+    ensures unit { OnOk result (HoldsUnit (option_map (λ u. u.now) unit.entry)) }
+{
+    let length = body_length(name.bytes(), unit);
+    // All the room is taken at once: for the body, its length in front of it, and the gate behind it.
+    let mut bytes = Vec::with_capacity(alloc, length + 5)?;
+    bytes.extend_from_slice(&(length as u32).to_le_bytes())?;
+    put_command(&mut bytes, kind, name, unit)?;
+    bytes.push(CLOSED)?;
+    Ok(Body::from_framed(bytes))
+}
+
+// Adds the body of a command.
+fn put_command(
+    body: &mut Vec<u8>,
+    kind: Kind,
+    name: &Name,
+    unit: Option<&StoredUnit>,
+) -> Result<(), AllocError>
+    requires { HasUnit kind (option_map (λ u. u.now) unit) }
+    ensures put { OnOk result (body.new.items ≡ body.old.items ++ body_bytes kind name.now (option_map (λ u. u.now) unit.entry)) }
+    ensures name { OnOk result (IsTrue (is_name name.now)) }
+    ensures unit { OnOk result (HoldsUnit (option_map (λ u. u.now) unit.entry)) }
+{
+    let bytes = name.bytes();
+    body.extend_from_slice(&[1, kind.number(), bytes.len() as u8])?;
+    body.extend_from_slice(bytes)?;
+    if let Some(unit) = unit {
+        put_unit(body, unit)?;
+    }
+    Ok(())
 }
 
 // How many bytes the body of a command with this name takes.
 fn body_length(name: &[u8], unit: Option<&StoredUnit>) -> usize
     requires { length name.now < 256 }
-    ensures { result ≡ 3 + length name.now + length (unit_part (option_map (λ u. u.now) unit.entry)) }
+    ensures length { result ≡ 3 + length name.now + length (unit_part (option_map (λ u. u.now) unit.entry)) }
+    ensures small { result + 5 < 2 ^ 32 }
 {
     match unit {
         Some(unit) => 3 + name.len() + unit_length(unit),
@@ -68,7 +111,7 @@ fn body_length(name: &[u8], unit: Option<&StoredUnit>) -> usize
 #[tactic(auto, using(crate::proofs::Sizes::unit_long))]
 fn unit_length(unit: &StoredUnit) -> usize
     ensures length { result ≡ length (unit_fields unit.now) }
-    ensures small { result < 2 ^ 32 }
+    ensures small { result < 2 ^ 20 }
 {
     let source = unit.source.bytes().len();
     let code = unit.image.code.words().len();

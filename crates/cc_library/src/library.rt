@@ -15,7 +15,7 @@ ghost use Rattle.cc_library.specs.Answers.{OpenFaults, ChangeAnswers, ChangeLeav
 ghost use Rattle.cc_library.specs.Runs.{AreDone, AreEdited, EditAnswers, EditLeaves, HadNoRoom, IsEdited, IsRefused, RecoversAmong, Stopped, after_edit, records_after};
 ghost use Rattle.cc_library.specs.internal.Steps.{IsOldOrNew, IsMidEdit};
 
-use crate::body::body_of_command;
+use crate::body::framed_body_of_command;
 use crate::command::{Command, Edit};
 use crate::fault::LibraryFault;
 use crate::name::Name;
@@ -23,7 +23,7 @@ use crate::replaying::replay;
 use crate::unit::SharedUnit;
 use crate::units::UnitMap;
 use cc_disk::Disk;
-use cc_journal::{Journal, JournalFault};
+use cc_journal::{JournalFault, Log};
 use cc_unit::StoredUnit;
 use std::alloc::{AllocError, Global};
 use std::marker::Model;
@@ -35,9 +35,9 @@ use std::sync::Arc;
 /// stand for, and whether the library is closed.
 #[derive(Drop)]
 pub struct Library<D: Disk> {
-    journal: Journal<D>,
+    log: Log<D>,
     units: UnitMap,
-    // Whether the journal is closed.
+    // Whether the log is closed.
     closed: bool,
 }
 
@@ -51,9 +51,9 @@ impl<D: Disk> Model for Library<D> {
 
     ghost coded = { view_code D.code (map.code (coded_list coded_ℕ) stored.the_row.coded) };
 
-    ghost view = { λ l. record { disk = l.journal.disk; area = l.journal.area; bodies = l.journal.bodies; units = l.units; closed = l.closed } };
+    ghost view = { λ l. record { disk = l.log.disk; area = l.log.area; bodies = l.log.bodies; units = l.units; closed = l.closed } };
 
-    ghost invariant = { λ l. IsKept l.journal.bodies l.units l.closed l.journal.closed };
+    ghost invariant = { λ l. IsKept l.log.bodies l.units l.closed l.log.closed };
 }
 
 impl<D: Disk> Library<D> {
@@ -83,15 +83,19 @@ impl<D: Disk> Library<D> {
             (λ l. IsTrue D.honest → OnlyReads D.seen D.may_leave D.moment D.left_since disk l.disk)
             (λ e. IsTrue D.honest → OnlyReads D.seen D.may_leave D.moment D.left_since disk e.1) }
     {
-        match Journal::open(alloc, disk) {
-            Ok(journal) => match replay(alloc, journal.records()) {
-                Ok(units) => Ok(Library {
-                    journal,
-                    units,
-                    closed: false,
-                }),
-                Err(fault) => Err((fault, journal.into_disk())),
-            },
+        match Log::open(alloc, disk) {
+            Ok((log, bodies)) => {
+                let replayed = replay(alloc, &bodies);
+                drop(bodies);
+                match replayed {
+                    Ok(units) => Ok(Library {
+                        log,
+                        units,
+                        closed: false,
+                    }),
+                    Err(fault) => Err((fault, log.into_disk())),
+                }
+            }
             Err((fault, disk)) => Err((LibraryFault::from(fault), disk)),
         }
     }
@@ -219,11 +223,11 @@ impl<D: Disk> Library<D> {
         ensures { result ≡ self.disk }
     {
         let Library {
-            journal,
+            log,
             units: _,
             closed: _,
         } = self;
-        journal.into_disk()
+        log.into_disk()
     }
 
     /// Does each edit in turn, opens the disk again after each 35, and stops where that opening is refused. It gives the
@@ -260,8 +264,8 @@ impl<D: Disk> Library<D> {
             ⊎ Stopped D.honest D.failures D.seen D.may_leave self edits.items result.1.items e.0 e.1) }
         ensures size { MatchResult result.0 (λ l. D.size l.disk ≡ D.size self.disk) (λ e. D.size e.1 ≡ D.size self.disk) }
     {
-        // What the journal promises of its images, before the first edit.
-        let _ = self.journal.records();
+        // What the log promises of its images, before the first edit.
+        let _ = self.log.is_closed();
         let Ok(mut numbers) = Vec::with_capacity(alloc, edits.len()) else {
             return (
                 Err((LibraryFault::OutOfMemory, self.into_disk())),
@@ -277,8 +281,8 @@ impl<D: Disk> Library<D> {
                 Err(refused) => return (Err(refused), numbers),
             }
         }
-        // What the journal promises of its images.
-        let _ = library.journal.records();
+        // What the log promises of its images.
+        let _ = library.log.is_closed();
         (Ok(library), numbers)
     }
 
@@ -291,8 +295,8 @@ impl<D: Disk> Library<D> {
             (λ l. LeavesOnly D.moment D.left_since self.disk l.disk (IsMidEdit self.units edit result.0))
             (λ e. LeavesOnly D.moment D.left_since self.disk e.1 (IsMidEdit self.units edit result.0)) }
     {
-        // What the journal promises of its images, for the edits that end before a device call.
-        let _ = self.journal.records();
+        // What the log promises of its images, for the edits that end before a device call.
+        let _ = self.log.is_closed();
         match self.perform(alloc, edit) {
             Ok(()) => (0, Ok(self)),
             Err(fault) => match fault {
@@ -320,7 +324,7 @@ impl<D: Disk> Library<D> {
         }
     }
 
-    // The records once more, one Add per name: all growths are made, then the journal decides.
+    // The records once more, one Add per name: all growths are made, then the log decides.
     fn write_anew(&mut self, alloc: Global) -> Result<(), LibraryFault>
         ensures answers { CompactAnswers self.old (D.failures self.old.disk) (D.failures self.new.disk) result }
         ensures leaves { CompactLeaves self.old self.new result }
@@ -329,14 +333,17 @@ impl<D: Disk> Library<D> {
             → LeavesOnly D.moment D.left_since self.old.disk self.new.disk
             (IsOldOrNew self.old.area self.old.bodies self.old.units (compacted self.old.units) self.old.units) }
     {
-        // What the journal promises of its images, for the calls that end before a device call.
-        let _ = self.journal.records();
+        // What the log promises of its images, for the calls that end before a device call.
+        let _ = self.log.is_closed();
         if self.closed {
             return Err(LibraryFault::Closed);
         }
         let bodies = self.units.bodies(alloc)?;
-        match self.journal.rewrite(alloc, bodies) {
-            Ok(()) => Ok(()),
+        match self.log.rewrite(alloc, bodies) {
+            Ok(kept) => {
+                drop(kept);
+                Ok(())
+            }
             Err(fault) => {
                 self.closed = fault == JournalFault::DiskFault;
                 Err(LibraryFault::from(fault))
@@ -344,7 +351,7 @@ impl<D: Disk> Library<D> {
         }
     }
 
-    // One change: the map is asked, all growths are made, then the journal decides.
+    // One change: the map is asked, all growths are made, then the log decides.
     fn change(&mut self, alloc: Global, command: Command) -> Result<(), LibraryFault>
         ensures answers { ChangeAnswers self.old command (D.failures self.old.disk) (D.failures self.new.disk) result }
         ensures leaves { ChangeLeaves command self.old self.new result }
@@ -354,8 +361,8 @@ impl<D: Disk> Library<D> {
             → LeavesOnly D.moment D.left_since self.old.disk self.new.disk
             (IsOldOrNew self.old.area self.old.bodies self.old.units (self.old.bodies ++ body_of command ∷ []) (after self.old.units command)) }
     {
-        // What the journal promises of its images, for the calls that end before a device call.
-        let _ = self.journal.records();
+        // What the log promises of its images, for the calls that end before a device call.
+        let _ = self.log.is_closed();
         if self.closed {
             drop(command);
             return Err(LibraryFault::Closed);
@@ -371,10 +378,11 @@ impl<D: Disk> Library<D> {
                 return Err(LibraryFault::Absent);
             }
         }
-        let body = body_of_command(alloc, &command)?;
+        let body = framed_body_of_command(alloc, &command)?;
         self.units.begin(&command)?;
-        match self.journal.append_body(alloc, cc_journal::Body::new(body)) {
-            Ok(()) => {
+        match self.log.append(alloc, body) {
+            Ok(kept) => {
+                drop(kept);
                 self.units.finish(command);
                 Ok(())
             }

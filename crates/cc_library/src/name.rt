@@ -1,4 +1,4 @@
-ghost use Rattle.std.specs.Prelude.{◌≡◌, ◌↔◌, IsOk, IfOk, IsTrue, length, ◌≤◌};
+ghost use Rattle.std.specs.Prelude.{◌≡◌, ◌↔◌, IsOk, IfOk, IsTrue, length, get_or, ◌≤◌};
 ghost use Rattle.std.specs.Ordering.{nat_cmp, as_partial_cmp, eq_by_cmp};
 ghost use Rattle.std.specs.Cmp.Lexicographic.{slice_cmp};
 ghost use Rattle.std.specs.Cmp.{partial_order_from_own_ties};
@@ -6,6 +6,7 @@ ghost use Rattle.std.specs.Cmp.Rules.{comparing};
 ghost use Rattle.std.proofs.Common.{rules};
 ghost use Rattle.std.specs.List.{list_all};
 ghost use Rattle.cc_library.specs.Name.{is_name, is_name_byte, is_small_letter};
+ghost use Rattle.cc_library.specs.internal.Front.{front_number};
 
 use crate::fault::NameFault;
 use std::cmp::Ordering;
@@ -20,17 +21,21 @@ pub const NAME_BYTES: usize = 32;
 pub struct Name {
     bytes: [u8; 32],
     len: usize,
+    // Its first eight bytes as one number, the first the highest, and zeros where it is shorter: most names differ there.
+    front: u64,
 }
 
 impl Model for Name {
     ghost use Rattle.std.specs.Prelude.{◌≤◌, ℕ, List, take, IsTrue};
+    ghost use Rattle.std.specs.Prelude.{◌≡◌};
     ghost use Rattle.cc_library.specs.Name.{is_name};
+    ghost use Rattle.cc_library.specs.internal.Front.{front_number};
 
     ghost Value = { List ℕ };
 
     ghost view = { λ n. take n.len n.bytes };
 
-    ghost invariant = { λ n. (n.len ≤ 32) × IsTrue (is_name (take n.len n.bytes)) };
+    ghost invariant = { λ n. (n.len ≤ 32) × IsTrue (is_name (take n.len n.bytes)) × (n.front ≡ front_number 0 8 (take n.len n.bytes)) };
 }
 
 fn is_letter(byte: u8) -> bool
@@ -60,6 +65,29 @@ fn are_name(bytes: &[u8]) -> bool
     }
 }
 
+// The byte at that index, 0 behind the last.
+fn byte_or_zero(bytes: &[u8], i: usize) -> u8
+    ensures { result ≡ get_or bytes.now i 0 }
+{
+    if i < bytes.len() { bytes[i] } else { 0 }
+}
+
+// The first eight bytes as one number, the first the highest, and zeros where there are fewer.
+fn front_of(bytes: &[u8]) -> u64
+    ensures { result ≡ front_number 0 8 bytes.now }
+{
+    u64::from_be_bytes([
+        byte_or_zero(bytes, 0),
+        byte_or_zero(bytes, 1),
+        byte_or_zero(bytes, 2),
+        byte_or_zero(bytes, 3),
+        byte_or_zero(bytes, 4),
+        byte_or_zero(bytes, 5),
+        byte_or_zero(bytes, 6),
+        byte_or_zero(bytes, 7),
+    ])
+}
+
 impl Name {
     /// The name with these bytes, or 33 `BadName` where they are none. It takes no memory.
     pub fn new(bytes: &[u8]) -> Result<Name, NameFault>
@@ -76,6 +104,7 @@ impl Name {
         Ok(Name {
             bytes: kept,
             len: bytes.len(),
+            front: front_of(bytes),
         })
     }
 
@@ -123,6 +152,11 @@ impl Ord for Name {
     ghost matches_eq = { Prim.search (comparing, rules) };
 
     fn cmp(&self, other: &Name) -> Ordering {
-        self.bytes().cmp(other.bytes())
+        let mine = self.bytes();
+        let theirs = other.bytes();
+        if self.front != other.front {
+            return self.front.cmp(&other.front);
+        }
+        mine.cmp(theirs)
     }
 }

@@ -1,5 +1,5 @@
 // Reading a command from the body of a record.
-ghost use Rattle.std.specs.Prelude.{◌≡◌, ◌≤◌, List, ℕ, length, IfOk};
+ghost use Rattle.std.specs.Prelude.{◌≡◌, ◌≤◌, ◌*◌, List, ℕ, length, drop, IfOk};
 ghost use Rattle.cc_library.specs.declared.command.Command.{Command};
 ghost use Rattle.cc_library.specs.Body.{Spells};
 ghost use Rattle.cc_library.specs.internal.Reading.{byte_in, taken, number_in, words_in, words_field_in, source_in, name_in, unit_in, kind_in, command_in};
@@ -171,15 +171,29 @@ fn words_at(alloc: Global, count: u32, bytes: &[u8]) -> Result<(Vec<u32>, &[u8])
     ensures given { Gives (λ x. (x.0.items, x.1.now)) result (words_in count bytes.now) }
     ensures counted { IfOk result (λ x. length x.0.items ≡ count) }
 {
-    // The room for all words is taken at once, and for no more than there can be.
-    let mut words = Vec::with_capacity(alloc, (count as usize).min(bytes.len() / 4))?;
-    let mut rest = bytes;
-    for _ in 0..count {
-        let (word, after) = number_at(rest)?;
-        words.push(word)?;
-        rest = after;
-    }
+    let count = count as usize;
+    let (_, rest) = bytes_at(4 * count, bytes)?;
+    // The words are read into their room: a call of the vector for each would take longer than its bytes.
+    let mut words = Vec::with_capacity(alloc, count)?;
+    words.resize(count, 0)?;
+    fill_from(&mut words, bytes);
     Ok((words, rest))
+}
+
+// Reads the words at the front of these bytes, as many as there is room for, each from four bytes, the lowest first.
+fn fill_from(words: &mut [u32], bytes: &[u8])
+    requires { 4 * length words.old ≤ length bytes.now }
+    ensures read { words_in (length words.old) bytes.now ≡ Some (words.new, drop (4 * length words.old) bytes.now) }
+    ensures counted { length words.new ≡ length words.old }
+{
+    for i in 0..words.len() {
+        words[i] = u32::from_le_bytes([
+            bytes[4 * i],
+            bytes[4 * i + 1],
+            bytes[4 * i + 2],
+            bytes[4 * i + 3],
+        ]);
+    }
 }
 
 fn number_at(bytes: &[u8]) -> Result<(u32, &[u8]), ReadFault>

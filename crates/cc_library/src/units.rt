@@ -10,7 +10,7 @@ ghost use Rattle.cc_library.specs.Compact.{adds_of};
 ghost use Rattle.cc_library.specs.Recovered.{AreSpelled};
 ghost use Rattle.cc_library.specs.internal.Halves.{begun, finished, undone};
 
-use crate::body::command_body;
+use crate::body::framed_body;
 use crate::command::{Command, Kind};
 use crate::name::Name;
 use crate::unit::SharedUnit;
@@ -86,8 +86,8 @@ impl UnitMap {
     {
         let mut bodies = Vec::new(alloc);
         for (name, unit) in self.units.iter() {
-            let body = command_body(alloc, Kind::Add, name, Some(unit.stored()))?;
-            bodies.push(Body::new(body))?;
+            let body = framed_body(alloc, Kind::Add, name, Some(unit.stored()))?;
+            bodies.push(body)?;
         }
         Ok(bodies)
     }

@@ -1,9 +1,9 @@
 //! Tests of the disk and the journal, from outside: worked rows, every point of failure, and disks that lie.
 //!
 //! `helpers` makes disks and reads them back, `sparse` is a disk of any size that is not honest, `disks` tests the disks of
-//! `cc_disk`, `files` the one on a file, `rows` has the worked rows of the journal, `largest` the largest area, `sweep` fails
-//! the device at each call of appends in turn, `moves` at each call of a rewrite, `hostile` opens disks that nobody formatted
-//! so, `random` disks of random bytes, `ahead` records that reading ahead cuts in two.
+//! `cc_disk`, `files` the one on a file, `rows` has the worked rows of the journal, `logs` those of a log, `largest` the largest
+//! area, `sweep` fails the device at each call of appends in turn, `moves` at each call of a rewrite, `hostile` opens disks that
+//! nobody formatted so, `random` disks of random bytes, `ahead` records that reading ahead cuts in two.
 #![tactic(auto)]
 
 #[cfg(test)]
@@ -18,6 +18,8 @@ mod helpers;
 mod hostile;
 #[cfg(test)]
 mod largest;
+#[cfg(test)]
+mod logs;
 #[cfg(test)]
 mod moves;
 #[cfg(test)]

@@ -1,40 +1,57 @@
-use Rattle.std.proofs.Common.{◌≡◌, ◌<◌, ◌≤◌, [], ◌∷◌, ◌++◌, false, IsTrue, refl, subst, arith}
+-- Without a device call the records stay, as the log says of itself; where one was made, the log's clauses are the journal's.
+use Rattle.std.proofs.Common.{◌≡◌, ◌+◌, ◌<◌, ◌≤◌, List, ℕ, [], ◌∷◌, ◌++◌, length, false, IsTrue, Err, refl, subst, arith}
 use Rattle.std.proofs.lemmas.Result.{err_from_is_err_and}
 use Rattle.cc_disk.specs.Images.{LeavesOnly}
 use Rattle.cc_journal.specs.Format.{HoldsOldOrNew, room_of}
+use Rattle.cc_journal.specs.Answers.{AppendAnswers}
 use Rattle.cc_journal.specs.Journal.{View}
-use Rattle.cc_journal.proofs.Kept.{room_push, still}
+use Rattle.cc_journal.specs.declared.fault.JournalFault.TheVariants.{DiskFault}
 use Rattle.cc_journal.proofs.journal.Journal.append.Goals as goal
 
--- without a device call
-
-pub returns-then-self-body-clause-answers : goal.returns-then-self-body-clause-answers
-returns-then-self-body-clause-answers g c =
+pub returns-in_err-takes-clause-answers : goal.returns-in_err-takes-clause-answers
+returns-in_err-takes-clause-answers g c =
     let i = c.self.inside in
     let body = c.args.body.now in
-    let room = room_push i.bodies.items body i.used c.self.invariant.taken in
-    subst (λ (v : View g.row.D.Denot). (v.closed ≡ false) × (v.area < room_of (v.bodies ++ body ∷ [])) × (g.D.Disk.failures v.disk ≡ g.D.Disk.failures v.disk)) c.self.view_is
-    (c.if-self.false, omega (arith, room, c.self.invariant.fits, c.self.invariant.taken), refl)
-
-pub returns-then-self-body-clause-moments : goal.returns-then-self-body-clause-moments
-returns-then-self-body-clause-moments g c =
-    let D = g.D.Disk in
-    let i = c.self.inside in
-    subst (λ (v : View g.row.D.Denot). IsTrue D.honest → v.closed ≡ false → LeavesOnly D.moment D.left_since v.disk v.disk (HoldsOldOrNew v.area v.bodies c.args.body.now)) c.self.view_is
-    (λ h not_closed. still D.honest D.size D.seen D.may_leave D.moment D.left_since i.disk i.start i.area i.used i.bodies.items i.closed c.self.invariant c.args.body.now (λ image left. g.met.D.Disk.only_now i.disk image h left) h not_closed)
-
-pub returns-in_err-kept-clause-answers : goal.returns-in_err-kept-clause-answers
-returns-in_err-kept-clause-answers g c =
-    let i = c.self.inside in
-    let body = c.args.body.now in
-    let room = room_push i.bodies.items body i.used c.self.invariant.taken in
     let p = err_from_is_err_and c.from_residual.result c.from_residual.ensures.1 in
     rw (p.1, p.2)
-    (subst (λ (v : View g.row.D.Denot). (v.closed ≡ false) × (room_of (v.bodies ++ body ∷ []) ≤ v.area) × (g.D.Disk.failures v.disk ≡ g.D.Disk.failures v.disk)) c.self.view_is (c.if-self.false, omega (arith, room), refl))
+    (subst (λ (v : View g.row.D.Denot). AppendAnswers {T = Unit {0}} v.closed v.area v.bodies body (g.D.Disk.failures v.disk) (g.D.Disk.failures v.disk) (Err c.in_err-takes.field-0.0)) c.self.view_is
+    (c.in_err-takes.ensures.answers body (g.D.Disk.failures i.log.disk) refl))
 
-pub returns-in_err-kept-clause-moments : goal.returns-in_err-kept-clause-moments
-returns-in_err-kept-clause-moments g c =
+pub returns-in_err-takes-clause-closes : goal.returns-in_err-takes-clause-closes
+returns-in_err-takes-clause-closes g c = λ e.
+    let i = c.self.inside in
+    let body = c.args.body.now in
+    let p = err_from_is_err_and c.from_residual.result c.from_residual.ensures.1 in
+    let fault : c.in_err-takes.field-0.0 ≡ DiskFault = cc in
+    let none = subst (λ k. AppendAnswers {T = Unit {0}} i.log.closed i.log.area i.log.bodies body 0 0 (Err k)) fault (c.in_err-takes.ensures.answers body 0 refl) in
+    absurd (omega (arith, none.2))
+
+pub returns-in_err-takes-clause-moments : goal.returns-in_err-takes-clause-moments
+returns-in_err-takes-clause-moments g c =
+    let D = g.D.Disk in
+    let body = c.args.body.now in
+    subst (λ (v : View g.row.D.Denot). IsTrue D.honest → v.closed ≡ false → LeavesOnly D.moment D.left_since v.disk v.disk (HoldsOldOrNew v.area v.bodies body)) c.self.view_is
+    (λ h not_closed. c.takes.ensures.still h not_closed body)
+
+pub returns-in_err-bytes-clause-answers : goal.returns-in_err-bytes-clause-answers
+returns-in_err-bytes-clause-answers g c =
+    let i = c.self.inside in
+    let body = c.args.body.now in
+    let p = err_from_is_err_and c.from_residual-in_err-bytes.result c.from_residual-in_err-bytes.ensures.1 in
+    rw (p.1, p.2)
+    (subst (λ (v : View g.row.D.Denot). (v.closed ≡ false) × (room_of (v.bodies ++ body ∷ []) ≤ v.area) × (g.D.Disk.failures v.disk ≡ g.D.Disk.failures v.disk)) c.self.view_is
+    (c.in_ok-takes.ensures.answers body (g.D.Disk.failures i.log.disk) refl))
+
+pub returns-in_err-bytes-clause-moments : goal.returns-in_err-bytes-clause-moments
+returns-in_err-bytes-clause-moments g c =
     let D = g.D.Disk in
     let i = c.self.inside in
-    subst (λ (v : View g.row.D.Denot). IsTrue D.honest → v.closed ≡ false → LeavesOnly D.moment D.left_since v.disk v.disk (HoldsOldOrNew v.area v.bodies c.args.body.now)) c.self.view_is
-    (λ h not_closed. still D.honest D.size D.seen D.may_leave D.moment D.left_since i.disk i.start i.area i.used i.bodies.items i.closed c.self.invariant c.args.body.now (λ image left. g.met.D.Disk.only_now i.disk image h left) h not_closed)
+    let body = c.args.body.now in
+    subst (λ (v : View g.row.D.Denot). IsTrue D.honest → v.closed ≡ false → LeavesOnly D.moment D.left_since v.disk v.disk (HoldsOldOrNew v.area v.bodies body)) c.self.view_is
+    (λ h not_closed. c.takes.ensures.still h not_closed body)
+
+pub framed-requires : goal.framed-requires
+framed-requires g c = omega (arith, c.in_ok-takes.ensures.short)
+
+pub from_framed-requires : goal.from_framed-requires
+from_framed-requires g c = (c.args.body.now, omega (arith, c.in_ok-takes.ensures.short), c.in_ok-bytes.ensures)

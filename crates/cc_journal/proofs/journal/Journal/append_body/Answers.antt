@@ -1,117 +1,51 @@
-use Rattle.std.proofs.Common.{◌≡◌, ◌+◌, ◌<◌, ◌≤◌, ℕ, List, [], ◌∷◌, ◌++◌, length, false, IsTrue, refl, ap, ◌∙◌, subst, arith}
+-- Without a device call the records stay, as the log says of itself; where one was made, the log's clauses are the journal's.
+use Rattle.std.proofs.Common.{◌≡◌, ◌+◌, ◌<◌, ◌≤◌, List, ℕ, [], ◌∷◌, ◌++◌, length, false, IsTrue, Err, refl, sym, ap, subst, arith}
 use Rattle.std.proofs.lemmas.Result.{err_from_is_err_and}
-use Rattle.std.proofs.lemmas.Grind.{common_steps}
-use Rattle.cc_disk.specs.Images.{IsWritten, LeavesOnly}
-use Rattle.cc_journal.specs.Format.{HoldsOldOrNew, record_bytes, room_of}
-use Rattle.cc_journal.specs.Commit.{append_commit}
+use Rattle.cc_disk.specs.Images.{LeavesOnly}
+use Rattle.cc_journal.specs.Format.{HoldsOldOrNew, room_of}
+use Rattle.cc_journal.specs.Answers.{AppendAnswers}
 use Rattle.cc_journal.specs.Journal.{View}
-use Rattle.cc_journal.proofs.Kept.{kept_alone, room_push, still, in_commit, appended_bytes, kept_more}
+use Rattle.cc_journal.specs.declared.fault.JournalFault.TheVariants.{DiskFault}
 use Rattle.cc_journal.proofs.journal.Journal.append_body.Goals as goal
 
--- without a device call
-
-pub returns-then-self-length-clause-answers : goal.returns-then-self-length-clause-answers
-returns-then-self-length-clause-answers g c =
+pub returns-in_err-takes-clause-answers : goal.returns-in_err-takes-clause-answers
+returns-in_err-takes-clause-answers g c =
     let i = c.self.inside in
-    let long : length c.as_slice-length.result.now ≡ length c.args.body = ap length c.as_slice-length.ensures in
     let body = c.args.body in
-    let room = room_push i.bodies.items body i.used c.self.invariant.taken in
-    subst (λ (v : View g.row.D.Denot). (v.closed ≡ false) × (v.area < room_of (v.bodies ++ body ∷ [])) × (g.D.Disk.failures v.disk ≡ g.D.Disk.failures v.disk)) c.self.view_is
-    (c.if-self.false, omega (arith, room, long, c.self.invariant.fits, c.self.invariant.taken), refl)
-
-pub returns-then-self-length-clause-moments : goal.returns-then-self-length-clause-moments
-returns-then-self-length-clause-moments g c =
-    let D = g.D.Disk in
-    let i = c.self.inside in
-    subst (λ (v : View g.row.D.Denot). IsTrue D.honest → v.closed ≡ false → LeavesOnly D.moment D.left_since v.disk v.disk (HoldsOldOrNew v.area v.bodies c.args.body)) c.self.view_is
-    (λ h not_closed. still D.honest D.size D.seen D.may_leave D.moment D.left_since i.disk i.start i.area i.used i.bodies.items i.closed c.self.invariant c.args.body (λ image left. g.met.D.Disk.only_now i.disk image h left) h not_closed)
-
-pub returns-in_err-commit-clause-answers : goal.returns-in_err-commit-clause-answers
-returns-in_err-commit-clause-answers g c =
-    let i = c.self.inside in
-    let long : length c.as_slice-length.result.now ≡ length c.args.body = ap length c.as_slice-length.ensures in
-    let body = c.args.body in
-    let room = room_push i.bodies.items body i.used c.self.invariant.taken in
     let p = err_from_is_err_and c.from_residual.result c.from_residual.ensures.1 in
     rw (p.1, p.2)
-    (subst (λ (v : View g.row.D.Denot). (v.closed ≡ false) × (room_of (v.bodies ++ body ∷ []) ≤ v.area) × (g.D.Disk.failures i.disk ≡ g.D.Disk.failures v.disk)) c.self.view_is (c.if-self.false, omega (arith, room, long), refl))
+    (subst (λ (v : View g.row.D.Denot). AppendAnswers {T = Unit {0}} v.closed v.area v.bodies body (g.D.Disk.failures v.disk) (g.D.Disk.failures v.disk) (Err c.in_err-takes.field-0.0)) c.self.view_is
+    (c.in_err-takes.ensures.answers body (g.D.Disk.failures i.log.disk) (sym (ap length c.as_slice.ensures))))
 
-pub returns-in_err-commit-clause-moments : goal.returns-in_err-commit-clause-moments
-returns-in_err-commit-clause-moments g c =
-    let D = g.D.Disk in
+pub returns-in_err-takes-clause-closes : goal.returns-in_err-takes-clause-closes
+returns-in_err-takes-clause-closes g c = λ e.
     let i = c.self.inside in
-    subst (λ (v : View g.row.D.Denot). IsTrue D.honest → v.closed ≡ false → LeavesOnly D.moment D.left_since v.disk i.disk (HoldsOldOrNew v.area v.bodies c.args.body)) c.self.view_is
-    (λ h not_closed. still D.honest D.size D.seen D.may_leave D.moment D.left_since i.disk i.start i.area i.used i.bodies.items i.closed c.self.invariant c.args.body (λ image left. g.met.D.Disk.only_now i.disk image h left) h not_closed)
-
--- the device failed
-
-pub returns-in-Err-clause-answers : goal.returns-in-Err-clause-answers
-returns-in-Err-clause-answers g c =
-    let i = c.self.inside in
-    let long : length c.as_slice-length.result.now ≡ length c.args.body = ap length c.as_slice-length.ensures in
     let body = c.args.body in
-    let room = room_push i.bodies.items body i.used c.self.invariant.taken in
-    subst (λ (v : View g.row.D.Denot). (v.closed ≡ false) × (room_of (v.bodies ++ body ∷ []) ≤ v.area) × (g.D.Disk.failures c.make.new.disk ≡ g.D.Disk.failures v.disk + 1)) c.self.view_is
-    (c.if-self.false, omega (arith, room, long), c.in-Err.ensures.failures)
+    let p = err_from_is_err_and c.from_residual.result c.from_residual.ensures.1 in
+    let fault : c.in_err-takes.field-0.0 ≡ DiskFault = cc in
+    let none = subst (λ k. AppendAnswers {T = Unit {0}} i.log.closed i.log.area i.log.bodies body 0 0 (Err k)) fault (c.in_err-takes.ensures.answers body 0 (sym (ap length c.as_slice.ensures))) in
+    absurd (omega (arith, none.2))
 
-pub returns-in-Err-clause-moments : goal.returns-in-Err-clause-moments
-returns-in-Err-clause-moments g c =
+pub returns-in_err-takes-clause-moments : goal.returns-in_err-takes-clause-moments
+returns-in_err-takes-clause-moments g c =
     let D = g.D.Disk in
-    let i = c.self.inside in
-    let long : length c.as_slice-length.result.now ≡ length c.args.body = ap length c.as_slice-length.ensures in
-    let is : c.in_ok-commit.commit ≡ append_commit (i.start + i.used) c.args.body = c.in_ok-commit.ensures.commit ∙ ap (λ (l : List ℕ). append_commit (i.start + i.used) l) c.as_slice.ensures in
-    subst (λ (v : View g.row.D.Denot). IsTrue D.honest → v.closed ≡ false → LeavesOnly D.moment D.left_since v.disk c.make.new.disk (HoldsOldOrNew v.area v.bodies c.args.body)) c.self.view_is
-    (λ h not_closed. in_commit D.honest D.size D.seen D.may_leave D.moment D.left_since i.disk i.start i.area i.used i.bodies.items i.closed c.self.invariant c.args.body c.make.new.disk c.in_ok-commit.commit is (omega (arith, long)) h not_closed (c.in-Err.ensures.moments h))
-
--- the record was added
-
-pub returns-in-Ok-clause-answers : goal.returns-in-Ok-clause-answers
-returns-in-Ok-clause-answers g c =
-    let i = c.self.inside in
-    let long : length c.as_slice-length.result.now ≡ length c.args.body = ap length c.as_slice-length.ensures in
     let body = c.args.body in
-    let room = room_push i.bodies.items body i.used c.self.invariant.taken in
-    subst (λ (v : View g.row.D.Denot). (v.closed ≡ false) × (room_of (v.bodies ++ body ∷ []) ≤ v.area) × (g.D.Disk.failures c.make.new.disk ≡ g.D.Disk.failures v.disk)) c.self.view_is
-    (c.if-self.false, omega (arith, room, long), c.in-Ok.ensures.failures)
+    subst (λ (v : View g.row.D.Denot). IsTrue D.honest → v.closed ≡ false → LeavesOnly D.moment D.left_since v.disk v.disk (HoldsOldOrNew v.area v.bodies body)) c.self.view_is
+    (λ h not_closed. c.takes.ensures.still h not_closed body)
 
-pub returns-in-Ok-clause-moments : goal.returns-in-Ok-clause-moments
-returns-in-Ok-clause-moments g c =
-    let D = g.D.Disk in
+pub returns-in_err-reserve-clause-answers : goal.returns-in_err-reserve-clause-answers
+returns-in_err-reserve-clause-answers g c =
     let i = c.self.inside in
-    let long : length c.as_slice-length.result.now ≡ length c.args.body = ap length c.as_slice-length.ensures in
-    let is : c.in_ok-commit.commit ≡ append_commit (i.start + i.used) c.args.body = c.in_ok-commit.ensures.commit ∙ ap (λ (l : List ℕ). append_commit (i.start + i.used) l) c.as_slice.ensures in
-    subst (λ (v : View g.row.D.Denot). IsTrue D.honest → v.closed ≡ false → LeavesOnly D.moment D.left_since v.disk c.make.new.disk (HoldsOldOrNew v.area v.bodies c.args.body)) c.self.view_is
-    (λ h not_closed. in_commit D.honest D.size D.seen D.may_leave D.moment D.left_since i.disk i.start i.area i.used i.bodies.items i.closed c.self.invariant c.args.body c.make.new.disk c.in_ok-commit.commit is (omega (arith, long)) h not_closed (c.in-Ok.ensures.moments h))
-
-pub invariant_of-self-in-Ok-1 : goal.invariant_of-self-in-Ok-1
-invariant_of-self-in-Ok-1 g c =
-    let D = g.D.Disk in
-    let i = c.self.inside in
-    let long : length c.as_slice-length.result.now ≡ length c.args.body = ap length c.as_slice-length.ensures in
-    let is : c.in_ok-commit.commit ≡ append_commit (i.start + i.used) c.args.body = c.in_ok-commit.ensures.commit ∙ ap (λ (l : List ℕ). append_commit (i.start + i.used) l) c.as_slice.ensures in
-    let pushed : c.push.new.self.items ≡ i.bodies.items ++ c.args.body ∷ [] = grind (arith, common_steps) in
-    kept_more D.honest D.size D.seen D.may_leave D.moment D.left_since i.disk i.start i.area i.used i.bodies.items i.closed c.self.invariant c.args.body c.make.new.disk c.in_ok-commit.commit c.push.new.self.items _ is pushed (omega (arith, long)) (omega (arith, long)) c.make.ensures.size c.if-self.false c.in-Ok.ensures.committed c.in-Ok.ensures.alone
-
-pub returns-in-Ok-clause-kept : goal.returns-in-Ok-clause-kept
-returns-in-Ok-clause-kept g c =
-    let D = g.D.Disk in
-    let i = c.self.inside in
-    let long : length c.as_slice-length.result.now ≡ length c.args.body = ap length c.as_slice-length.ensures in
-    let is : c.in_ok-commit.commit ≡ append_commit (i.start + i.used) c.args.body = c.in_ok-commit.ensures.commit ∙ ap (λ (l : List ℕ). append_commit (i.start + i.used) l) c.as_slice.ensures in
-    let pushed : c.push.new.self.items ≡ i.bodies.items ++ c.args.body ∷ [] = grind (arith, common_steps) in
-    let kept = kept_more D.honest D.size D.seen D.may_leave D.moment D.left_since i.disk i.start i.area i.used i.bodies.items i.closed c.self.invariant c.args.body c.make.new.disk c.in_ok-commit.commit c.push.new.self.items (i.used + (length c.args.body + 5)) is pushed refl (omega (arith, long)) c.make.ensures.size c.if-self.false c.in-Ok.ensures.committed c.in-Ok.ensures.alone in
-    λ h image now. kept_alone _ _ _ (D.may_leave c.make.new.disk) _ _ _ _ _ kept h c.if-self.false image now
-
-pub returns-in-Ok-clause-bytes : goal.returns-in-Ok-clause-bytes
-returns-in-Ok-clause-bytes g c =
-    let D = g.D.Disk in
-    let i = c.self.inside in
-    let long : length c.as_slice-length.result.now ≡ length c.args.body = ap length c.as_slice-length.ensures in
-    let is : c.in_ok-commit.commit ≡ append_commit (i.start + i.used) c.args.body = c.in_ok-commit.ensures.commit ∙ ap (λ (l : List ℕ). append_commit (i.start + i.used) l) c.as_slice.ensures in
     let body = c.args.body in
-    subst (λ (v : View g.row.D.Denot). IsTrue D.honest → (offset : ℕ) × IsWritten (D.seen v.disk) offset (record_bytes body ++ 0 ∷ []) (D.seen c.make.new.disk)) c.self.view_is
-    (λ h. (
-      i.start + i.used,
-      appended_bytes D.honest D.size D.seen D.may_leave D.moment D.left_since i.disk i.start i.area i.used i.bodies.items i.closed c.self.invariant body
-          c.make.new.disk c.in_ok-commit.commit is (omega (arith, long)) h c.if-self.false (c.in-Ok.ensures.committed h),
-    ))
+    let p = err_from_is_err_and c.from_residual-in_err-reserve.result c.from_residual-in_err-reserve.ensures.1 in
+    rw (p.1, p.2)
+    (subst (λ (v : View g.row.D.Denot). (v.closed ≡ false) × (room_of (v.bodies ++ body ∷ []) ≤ v.area) × (g.D.Disk.failures i.log.disk ≡ g.D.Disk.failures v.disk)) c.self.view_is
+    (c.in_ok-takes.ensures.answers body (g.D.Disk.failures i.log.disk) (sym (ap length c.as_slice.ensures))))
+
+pub returns-in_err-reserve-clause-moments : goal.returns-in_err-reserve-clause-moments
+returns-in_err-reserve-clause-moments g c =
+    let D = g.D.Disk in
+    let i = c.self.inside in
+    let body = c.args.body in
+    subst (λ (v : View g.row.D.Denot). IsTrue D.honest → v.closed ≡ false → LeavesOnly D.moment D.left_since v.disk i.log.disk (HoldsOldOrNew v.area v.bodies body)) c.self.view_is
+    (λ h not_closed. c.takes.ensures.still h not_closed body)

@@ -19,8 +19,8 @@ pub returns-in_err-bodies-clause-moments : goal.returns-in_err-bodies-clause-mom
 returns-in_err-bodies-clause-moments g c =
     let D = g.D.Disk in
     let i = c.self.inside in
-    quiet_edit (λ v. compacted v.units) (λ v. v.units) D.honest D.moment D.left_since D.may_leave i.journal i.units i.closed c.args.self.now c.self.view_is c.self.invariant.stand c.self.invariant.same c.records.ensures.kept
-    (λ h image left. g.met.D.Disk.only_now i.journal.disk image h left) c.args.self.now.disk (sym (ap (λ (v : View g.row.D.Denot). v.disk) c.self.view_is))
+    quiet_edit (λ v. compacted v.units) (λ v. v.units) D.honest D.moment D.left_since D.may_leave i.log i.units i.closed c.args.self.now c.self.view_is c.self.invariant.stand c.self.invariant.same c.is_closed.ensures.kept
+    (λ h image left. g.met.D.Disk.only_now i.log.disk image h left) c.args.self.now.disk (sym (ap (λ (v : View g.row.D.Denot). v.disk) c.self.view_is))
 
 pub invariant_of-self : goal.invariant_of-self
 invariant_of-self g c =
@@ -36,7 +36,7 @@ returns-in-Ok-clause-answers g c =
     let i = c.self.inside in
     let is : c.in_ok-bodies.bodies.items ≡ compacted i.units = spelled_bodies _ _ c.in_ok-bodies.ensures in
     subst (λ (v : View g.row.D.Denot). (v.closed ≡ false) × (room_of (compacted v.units) ≤ v.area) × (D.failures c.rewrite.new.self.disk ≡ D.failures v.disk)) c.self.view_is
-    (c.if-self.false, subst (λ (l : List (List ℕ)). room_of l ≤ i.journal.area) is c.in-Ok.ensures.answers.1, c.in-Ok.ensures.answers.2)
+    (c.if-self.false, subst (λ (l : List (List ℕ)). room_of l ≤ i.log.area) is c.in-Ok.ensures.answers.1, c.in-Ok.ensures.answers.2)
 
 pub returns-in-Ok-clause-leaves : goal.returns-in-Ok-clause-leaves
 returns-in-Ok-clause-leaves g c =
@@ -53,8 +53,8 @@ returns-in-Ok-clause-moments g c =
     let items = c.in_ok-bodies.bodies.items in
     let is : items ≡ compacted i.units = spelled_bodies _ _ c.in_ok-bodies.ensures in
     subst (λ (v : View g.row.D.Denot). IsTrue D.honest → v.closed ≡ false → LeavesOnly D.moment D.left_since v.disk c.rewrite.new.self.disk (IsOldOrNew v.area v.bodies v.units (compacted v.units) v.units)) c.self.view_is
-    (λ h not_closed. subst (λ (l : List (List ℕ)). LeavesOnly D.moment D.left_since i.journal.disk c.rewrite.new.self.disk (IsOldOrNew i.journal.area i.journal.bodies i.units l i.units)) is
-    (rewritten D.moment D.left_since i.journal.disk c.rewrite.new.self.disk i.journal.area i.journal.bodies items i.units c.self.invariant.stand (adds_stand i.units items c.in_ok-bodies.ensures)
+    (λ h not_closed. subst (λ (l : List (List ℕ)). LeavesOnly D.moment D.left_since i.log.disk c.rewrite.new.self.disk (IsOldOrNew i.log.area i.log.bodies i.units l i.units)) is
+    (rewritten D.moment D.left_since i.log.disk c.rewrite.new.self.disk i.log.area i.log.bodies items i.units c.self.invariant.stand (adds_stand i.units items c.in_ok-bodies.ensures)
     (c.in-Ok.ensures.moments h (sym c.self.invariant.same ∙ not_closed))))
 
 pub returns-in-Err-clause-answers : goal.returns-in-Err-clause-answers
@@ -64,7 +64,7 @@ returns-in-Err-clause-answers g c =
     let is : c.in_ok-bodies.bodies.items ≡ compacted i.units = spelled_bodies _ _ c.in_ok-bodies.ensures in
     subst (λ (f : LibraryFault). CompactAnswers {T = Unit {0}} c.args.self.now (D.failures c.args.self.now.disk) (D.failures c.rewrite.new.self.disk) (Err f)) (sym c.from.ensures)
     (subst (λ (v : View g.row.D.Denot). CompactAnswers {T = Unit {0}} v (D.failures v.disk) (D.failures c.rewrite.new.self.disk) (Err (fault_of c.in-Err.fault))) c.self.view_is
-    (compact_refused c.in-Err.fault i.journal i.units i.closed c.in_ok-bodies.bodies.items (D.failures i.journal.disk) (D.failures c.rewrite.new.self.disk) is c.self.invariant.same c.in-Err.ensures.answers))
+    (compact_refused c.in-Err.fault i.log i.units i.closed c.in_ok-bodies.bodies.items (D.failures i.log.disk) (D.failures c.rewrite.new.self.disk) is c.self.invariant.same c.in-Err.ensures.answers))
 
 pub returns-in-Err-clause-moments : goal.returns-in-Err-clause-moments
 returns-in-Err-clause-moments g c =
@@ -73,6 +73,6 @@ returns-in-Err-clause-moments g c =
     let items = c.in_ok-bodies.bodies.items in
     let is : items ≡ compacted i.units = spelled_bodies _ _ c.in_ok-bodies.ensures in
     subst (λ (v : View g.row.D.Denot). IsTrue D.honest → v.closed ≡ false → LeavesOnly D.moment D.left_since v.disk c.rewrite.new.self.disk (IsOldOrNew v.area v.bodies v.units (compacted v.units) v.units)) c.self.view_is
-    (λ h not_closed. subst (λ (l : List (List ℕ)). LeavesOnly D.moment D.left_since i.journal.disk c.rewrite.new.self.disk (IsOldOrNew i.journal.area i.journal.bodies i.units l i.units)) is
-    (rewritten D.moment D.left_since i.journal.disk c.rewrite.new.self.disk i.journal.area i.journal.bodies items i.units c.self.invariant.stand (adds_stand i.units items c.in_ok-bodies.ensures)
+    (λ h not_closed. subst (λ (l : List (List ℕ)). LeavesOnly D.moment D.left_since i.log.disk c.rewrite.new.self.disk (IsOldOrNew i.log.area i.log.bodies i.units l i.units)) is
+    (rewritten D.moment D.left_since i.log.disk c.rewrite.new.self.disk i.log.area i.log.bodies items i.units c.self.invariant.stand (adds_stand i.units items c.in_ok-bodies.ensures)
     (c.in-Err.ensures.moments h (sym c.self.invariant.same ∙ not_closed))))

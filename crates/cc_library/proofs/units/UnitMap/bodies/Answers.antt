@@ -23,9 +23,9 @@ loop-name-preserved c =
     let inv = c.loop-name.invariant in
     let e : List ℕ × StoredUnit = (c.in-Some.name.now, c.in-Some.unit.now) in
     let unit : c.deref.result.now ≡ c.in-Some.unit.now = c.deref.ensures ∙ c.stored.ensures in
-    let one : Spells c.new.result (Add c.in-Some.name.now c.in-Some.unit.now) =
-    subst (λ (u : StoredUnit). Spells c.new.result (Add c.in-Some.name.now u)) unit (record { spelled = c.new.ensures ∙ c.in_ok-body.ensures.spelled; command_is = (c.in_ok-body.ensures.name, c.in_ok-body.ensures.unit) }) in (
+    let one : Spells c.in_ok-body.body (Add c.in-Some.name.now c.in-Some.unit.now) =
+    subst (λ (u : StoredUnit). Spells c.in_ok-body.body (Add c.in-Some.name.now u)) unit (record { spelled = c.in_ok-body.ensures.spelled; command_is = (c.in_ok-body.ensures.name, c.in_ok-body.ensures.unit) }) in (
       inv.0 ++ e ∷ [],
       append_assoc inv.0 (e ∷ []) c.next.new.self ∙ ap (λ it. inv.0 ++ it) (sym c.in-Some.ensures.steps) ∙ inv.1,
-      subst (λ (l : List (List ℕ)). AreSpelled l (adds (inv.0 ++ e ∷ []))) (sym c.in_ok-push.ensures.items) (spelled_push c.loop-name.bodies.items inv.0 c.new.result e inv.2 one),
+      subst (λ (l : List (List ℕ)). AreSpelled l (adds (inv.0 ++ e ∷ []))) (sym c.in_ok-push.ensures.items) (spelled_push c.loop-name.bodies.items inv.0 c.in_ok-body.body e inv.2 one),
     )

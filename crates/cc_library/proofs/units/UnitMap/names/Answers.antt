@@ -14,7 +14,7 @@ loop-name-init c =
 pub loop-name-preserved : goal.loop-name-preserved
 loop-name-preserved c =
     let g = c.in_ok-clone.ensures.cases in
-    let same : c.in_ok-clone.field-0 ≡ c.in-Some.name.now = sym g.3 ∙ ap (λ n. take n g.1.bytes) g.4.1 ∙ ap (λ b. take g.0.len b) g.4.0 ∙ g.2 in
+    let same : c.in_ok-clone.field-0 ≡ c.in-Some.name.now = sym g.3 ∙ ap (λ n. take n g.1.bytes) g.4.1.0 ∙ ap (λ b. take g.0.len b) g.4.0 ∙ g.2 in
     ap (λ names. names ++ c.next.new.self) c.in_ok-push.ensures.items ∙ append_assoc c.loop-name.names.items (c.in_ok-clone.field-0 ∷ []) c.next.new.self
     ∙ ap (λ name. c.loop-name.names.items ++ (name ∷ c.next.new.self)) same ∙ ap (λ it. c.loop-name.names.items ++ it) (sym c.in-Some.ensures.steps) ∙ c.loop-name.invariant
 

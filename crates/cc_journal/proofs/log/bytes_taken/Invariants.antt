@@ -1,6 +1,6 @@
 use Rattle.std.proofs.Common.{◌≡◌, ◌+◌, ◌≤◌, length, drop}
 use Rattle.cc_journal.specs.Format.{records}
-use Rattle.cc_journal.proofs.journal.bytes_taken.Given as goal
+use Rattle.cc_journal.proofs.log.bytes_taken.Given as goal
 
 -- what is left of the area, with the records so far, is all of it but for the closed gate
 abbrev pub invariant-loop-body : goal.invariant-loop-body

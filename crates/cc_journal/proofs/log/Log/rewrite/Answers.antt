@@ -1,10 +1,10 @@
-use Rattle.std.proofs.Common.{◌≡◌, ◌≤◌, ℕ, List, false, IsTrue, length, ap, ◌∙◌, subst}
+use Rattle.std.proofs.Common.{◌≡◌, ◌≤◌, ℕ, List, false, IsTrue, length, sym, ap, ◌∙◌, subst}
 use Rattle.cc_disk.specs.Images.{LeavesOnly}
-use Rattle.cc_journal.specs.Format.{HasAreaByte, HoldsOneOf, records, room_of}
+use Rattle.cc_journal.specs.Format.{HasAreaByte, HoldsAlone, HoldsOneOf, records, room_of}
 use Rattle.cc_journal.specs.Commit.{IsCommitted, rewrite_commit}
-use Rattle.cc_journal.specs.Journal.{View}
+use Rattle.cc_journal.specs.Journal.{IsKept, View}
 use Rattle.cc_journal.proofs.Kept.{kept_alone, still_either, in_rewrite, rewritten_bytes, kept_rewritten}
-use Rattle.cc_journal.proofs.journal.Journal.rewrite.Goals as goal
+use Rattle.cc_journal.proofs.log.Log.rewrite.Goals as goal
 
 -- without a device call
 
@@ -32,8 +32,10 @@ invariant_of-self g c =
     let is : c.in_ok-commit.commit ≡ rewrite_commit c.side.result i.area more = c.in_ok-commit.ensures ∙ ap (λ (l : List (List ℕ)). rewrite_commit c.side.result i.area l) c.deref-2.ensures.value in
     let room : room_of more ≤ i.area = subst (λ (l : List (List ℕ)). room_of l ≤ i.area) c.deref.ensures.value c.in-Some.ensures.taken.1 in
     let taken : c.in-Some.used ≡ length (records more) = c.in-Some.ensures.taken.0 ∙ ap (λ (l : List (List ℕ)). length (records l)) c.deref.ensures.value in
-    kept_rewritten D.honest D.size D.seen D.may_leave D.moment D.left_since i.disk i.start i.area i.used i.bodies.items i.closed c.self.invariant more c.make.new.disk c.in_ok-commit.commit c.side.result is c.side.ensures.first c.side.ensures.second room c.if-self.false
-    c.offset-self-inside.result c.in-Some.used c.offset-self-inside.ensures taken c.make.ensures.size c.in-Ok.ensures.committed c.in-Ok.ensures.alone
+    let told_is : c.told-self-inside.result.items ≡ more = c.told-self-inside.ensures ∙ c.deref-in-Ok.ensures.value in
+    subst (λ (l : List (List ℕ)). IsKept D.honest (D.size c.make.new.disk) (D.seen c.make.new.disk) (D.may_leave c.make.new.disk) c.offset-self-inside.result i.area c.in-Some.used l i.closed) (sym told_is)
+    (kept_rewritten D.honest D.size D.seen D.may_leave D.moment D.left_since i.disk i.start i.area i.used i.bodies.items i.closed c.self.invariant more c.make.new.disk c.in_ok-commit.commit c.side.result is c.side.ensures.first c.side.ensures.second room c.if-self.false
+    c.offset-self-inside.result c.in-Some.used c.offset-self-inside.ensures taken c.make.ensures.size c.in-Ok.ensures.committed c.in-Ok.ensures.alone)
 
 pub returns-in-Ok-clause-kept : goal.returns-in-Ok-clause-kept
 returns-in-Ok-clause-kept g c =
@@ -43,9 +45,10 @@ returns-in-Ok-clause-kept g c =
     let is : c.in_ok-commit.commit ≡ rewrite_commit c.side.result i.area more = c.in_ok-commit.ensures ∙ ap (λ (l : List (List ℕ)). rewrite_commit c.side.result i.area l) c.deref-2.ensures.value in
     let room : room_of more ≤ i.area = subst (λ (l : List (List ℕ)). room_of l ≤ i.area) c.deref.ensures.value c.in-Some.ensures.taken.1 in
     let taken : c.in-Some.used ≡ length (records more) = c.in-Some.ensures.taken.0 ∙ ap (λ (l : List (List ℕ)). length (records l)) c.deref.ensures.value in
+    let told_is : c.told-self-inside.result.items ≡ more = c.told-self-inside.ensures ∙ c.deref-in-Ok.ensures.value in
     let kept = kept_rewritten D.honest D.size D.seen D.may_leave D.moment D.left_since i.disk i.start i.area i.used i.bodies.items i.closed c.self.invariant more c.make.new.disk c.in_ok-commit.commit c.side.result is c.side.ensures.first c.side.ensures.second room c.if-self.false
     c.offset-self-inside.result c.in-Some.used c.offset-self-inside.ensures taken c.make.ensures.size c.in-Ok.ensures.committed c.in-Ok.ensures.alone in
-    λ h image now. kept_alone _ _ _ (D.may_leave c.make.new.disk) _ _ _ _ _ kept h c.if-self.false image now
+    λ h image now. subst (λ (l : List (List ℕ)). HoldsAlone image i.area l) (sym told_is) (kept_alone _ _ _ (D.may_leave c.make.new.disk) _ _ _ _ _ kept h c.if-self.false image now)
 
 pub returns-in-Ok-clause-bytes : goal.returns-in-Ok-clause-bytes
 returns-in-Ok-clause-bytes g c =

@@ -2,7 +2,7 @@ use Rattle.std.proofs.Common.{◌≡◌, List, ℕ, false, IsTrue, subst}
 use Rattle.cc_journal.specs.Format.{HoldsAlone}
 use Rattle.cc_journal.specs.Journal.{View}
 use Rattle.cc_journal.proofs.Kept.{kept_alone}
-use Rattle.cc_journal.proofs.journal.Journal.records.Goals as goal
+use Rattle.cc_journal.proofs.log.Log.is_closed.Goals as goal
 
 pub returns-clause-kept : goal.returns-clause-kept
 returns-clause-kept g c =

@@ -1,0 +1,287 @@
+// The log: where records stand on a disk, and how they get there. It knows no body: who needs the bodies keeps them.
+ghost use Rattle.std.specs.Prelude.{◌≡◌, ◌≢◌, ◌⊎◌, ◌+◌, ◌*◌, ◌^◌, ◌<◌, ◌≤◌, ◌++◌, [], ◌∷◌, List, ℕ, true, false, IsTrue, IsNone, length, IfOk, IfErr, IfSome, MatchResult, OnOk, OnErr, IsErrOf, vec_len, vec_capacity};
+ghost use Rattle.cc_disk.specs.Images.{IsWritten, LeavesAlone, LeavesOnly, OnlyReads};
+ghost use Rattle.cc_journal.specs.Format.{HasAreaByte, HoldsAlone, HoldsOldOrNew, HoldsOneOf, HoldsRecords, IsArea, record_bytes, records, room_of};
+ghost use Rattle.cc_journal.specs.Commit.{IsCommitted, append_commit, area_begin, rewrite_commit};
+ghost use Rattle.cc_journal.specs.Answers.{AppendAnswers, CommitAnswers, OpenFaults};
+
+use crate::body::Body;
+use crate::commit::{Commit, make};
+use crate::fault::JournalFault;
+use crate::reading::{Found, HEADER, find_records};
+use cc_disk::{Disk, History};
+use std::alloc::{AllocError, Global};
+use std::marker::Model;
+
+/// Records on a disk, each of which is kept through a power cut once its `append` has answered Ok. It takes no memory for
+/// them: a `Journal` is a log that has its records in memory too.
+///
+/// A clause sees the disk, the size of an area in bytes, the records (`bodies`, the oldest first), and whether the
+/// log is closed. While it is not closed, every image of an honest disk has these records alone.
+#[derive(Drop)]
+pub struct Log<D: Disk> {
+    disk: D,
+    // What its records are, for contracts alone.
+    bodies: History<Body>,
+    // Where the area in use begins, its size, and how many of its bytes the records take.
+    start: usize,
+    area: usize,
+    used: usize,
+    closed: bool,
+}
+
+impl<D: Disk> Model for Log<D> {
+    ghost use Rattle.cc_journal.specs.Journal.{View, IsKept};
+
+    ghost Value = { View D };
+
+    ghost view = { λ j. record { disk = j.disk; area = j.area; bodies = j.bodies.items; closed = j.closed } };
+
+    ghost invariant = { λ j. IsKept D.honest (D.size j.disk) (D.seen j.disk) (D.may_leave j.disk) j.start j.area j.used j.bodies.items j.closed };
+}
+
+impl<D: Disk> Log<D> {
+    /// Opens the log on a disk: syncs it, then reads its records, which it hands out.
+    ///
+    /// Refusals, in this order, with the disk handed back: 35 where the device failed in the call, 38 where there is no
+    /// right header, 37 where an open record does not fit its area. 40 where memory ran out.
+    pub fn open(alloc: Global, mut disk: D) -> Result<(Log<D>, Vec<Body>), (JournalFault, D)>
+        // The records that it hands out are its own.
+        ensures handed { IfOk result (λ x. x.1.items ≡ x.0.bodies) }
+
+        // What was found, of an honest disk, and every image then has it alone.
+        ensures records { IfOk result (λ x. IsTrue D.honest → HoldsRecords (D.seen disk) x.0.area x.0.bodies) }
+        ensures kept { IfOk result (λ x. IsTrue D.honest → (image : List ℕ) → D.may_leave x.0.disk image → HoldsAlone image x.0.area x.0.bodies) }
+        ensures open { IfOk result (λ x. x.0.closed ≡ false) }
+
+        // Of every kind of disk: there is room for the areas and for the records, and a small disk is no library.
+        ensures room { IfOk result (λ x. IsArea (D.size disk) x.0.area × (room_of x.0.bodies ≤ x.0.area)) }
+        ensures small { D.size disk < 144 → IfErr result (λ e. (e.0 ≡ JournalFault.DiskFault) ⊎ (e.0 ≡ JournalFault.NotALibrary)) }
+
+        // When each refusal comes.
+        ensures sound { IfOk result (λ x. D.failures x.0.disk ≡ D.failures disk) }
+        ensures refused { IfErr result (λ e. OpenFaults D.honest (D.seen disk) (D.failures disk) (D.failures e.1) e.0) }
+
+        // The disk has the same size and the same bytes, and no crash leaves anything new.
+        ensures size { MatchResult result (λ x. D.size x.0.disk ≡ D.size disk) (λ e. D.size e.1 ≡ D.size disk) }
+        ensures reads { MatchResult result
+            (λ x. IsTrue D.honest → OnlyReads D.seen D.may_leave D.moment D.left_since disk x.0.disk)
+            (λ e. IsTrue D.honest → OnlyReads D.seen D.may_leave D.moment D.left_since disk e.1) }
+    {
+        match find_records(alloc, &mut disk) {
+            Ok(found) => {
+                let Found {
+                    bodies,
+                    start,
+                    area,
+                    used,
+                } = found;
+                let log = Log {
+                    disk,
+                    bodies: told(&bodies),
+                    start,
+                    area,
+                    used,
+                    closed: false,
+                };
+                Ok((log, bodies))
+            }
+            Err(fault) => Err((fault, disk)),
+        }
+    }
+
+    /// Whether it is closed. It takes no memory.
+    pub fn is_closed(&self) -> bool
+        ensures closed { result ≡ self.now.closed }
+        ensures kept { IsTrue D.honest → self.now.closed ≡ false
+            → (image : List ℕ) → D.may_leave self.now.disk image → HoldsAlone image self.now.area self.now.bodies }
+    {
+        // Nothing but opening the disk again opens it.
+        self.closed
+    }
+
+    // Whether a record with a body of so many bytes would be taken now: 36 where the log is closed, then 34 where it does not
+    // fit.
+    pub(crate) fn takes(&self, count: usize) -> Result<(), JournalFault>
+        ensures answers { (body : List ℕ) (failures : ℕ) → length body ≡ count
+            → AppendAnswers self.now.closed self.now.area self.now.bodies body failures failures result }
+        ensures short { OnOk result (count < 2 ^ 30) }
+        // Where no call is made, every image has the records.
+        ensures still { IsTrue D.honest → self.now.closed ≡ false
+            → (body : List ℕ) → LeavesOnly D.moment D.left_since self.now.disk self.now.disk (HoldsOldOrNew self.now.area self.now.bodies body) }
+    {
+        if self.closed {
+            return Err(JournalFault::Closed);
+        }
+        let left = self.area - self.used;
+        if left < 6 {
+            return Err(JournalFault::Full);
+        }
+        if left - 6 < count {
+            return Err(JournalFault::Full);
+        }
+        Ok(())
+    }
+
+    /// Adds a record with this body, which it hands back. At Ok it is kept: every crash from then on leaves it. A body made
+    /// by `Body::from_framed` is not copied.
+    ///
+    /// Refusals, in this order: 36 where the log is closed; 34 where the record does not fit, 5 bytes and its body
+    /// beside the records and the closed gate; then 40 where memory ran out, and up to here no device call is made and
+    /// nothing changes; 35 where the device failed in the call, after which the log is closed, and its disk has the
+    /// old records or the old and the new one. Every refusal gives the body up.
+    pub fn append(&mut self, alloc: Global, body: Body) -> Result<Body, JournalFault>
+        ensures answers { AppendAnswers self.old.closed self.old.area self.old.bodies body (D.failures self.old.disk) (D.failures self.new.disk) result }
+        ensures size { D.size self.new.disk ≡ D.size self.old.disk }
+        ensures area { self.new.area ≡ self.old.area }
+
+        // At Ok the record stands after the old ones, and every image has them alone.
+        ensures added { OnOk result (self.new.bodies ≡ self.old.bodies ++ body ∷ []) }
+        ensures handed { IfOk result (λ kept. kept ≡ body) }
+        ensures open { OnOk result (self.new.closed ≡ false) }
+        ensures kept { OnOk result (IsTrue D.honest
+            → (image : List ℕ) → D.may_leave self.new.disk image → HoldsAlone image self.new.area self.new.bodies) }
+
+        // The bytes of the disk change in one range alone: it has the record, its gate open, and a closed gate after it.
+        ensures bytes { OnOk result (IsTrue D.honest → (offset : ℕ)
+            × IsWritten (D.seen self.old.disk) offset (record_bytes body ++ 0 ∷ []) (D.seen self.new.disk)) }
+
+        // A refusal leaves the records; without a device call it leaves all, after 35 the log is closed.
+        ensures leaves { OnErr result (self.new.bodies ≡ self.old.bodies) }
+        ensures untouched { IfErr result (λ e. e ≢ JournalFault.DiskFault → self.new ≡ self.old) }
+        ensures closes { IsErrOf result JournalFault.DiskFault → self.new.closed ≡ true }
+
+        // A crash at any moment of the call leaves the old records, or the old and the new one.
+        ensures moments { IsTrue D.honest → self.old.closed ≡ false
+            → LeavesOnly D.moment D.left_since self.old.disk self.new.disk (HoldsOldOrNew self.old.area self.old.bodies body) }
+    {
+        if self.closed {
+            return Err(JournalFault::Closed);
+        }
+        let length = body.as_slice().len();
+        if self.area - self.used < length + 6 {
+            return Err(JournalFault::Full);
+        }
+        // All growths come before the first device call.
+        let gate = self.start + self.used;
+        let commit = Commit::of_body(alloc, gate, body)?;
+        match make(&mut self.disk, &commit) {
+            Ok(()) => {
+                let kept = commit.into_body();
+                self.used += length + 5;
+                self.bodies = self.bodies.and(&kept);
+                Ok(kept)
+            }
+            Err(_) => {
+                self.closed = true;
+                Err(JournalFault::DiskFault)
+            }
+        }
+    }
+
+    /// Makes these the records, in the place of all others, and hands them back. At Ok they are kept: every crash from then on
+    /// leaves them, and no others. They are written into the area that is not in use, which is in use from then on.
+    ///
+    /// Refusals, in this order: 36 where the log is closed; 34 where the records and their closed gate do not fit an
+    /// area; then 40 where memory ran out, and up to here no device call is made and nothing changes; 35 where the device
+    /// failed in the call, after which the log is closed, and its disk has the old records or the new ones. Every
+    /// refusal gives the new ones up.
+    pub fn rewrite(&mut self, alloc: Global, bodies: Vec<Body>) -> Result<Vec<Body>, JournalFault>
+        ensures answers { CommitAnswers self.old.closed self.old.area bodies.items (D.failures self.old.disk) (D.failures self.new.disk) result }
+        ensures size { D.size self.new.disk ≡ D.size self.old.disk }
+        ensures area { self.new.area ≡ self.old.area }
+
+        // At Ok these are the records, and every image has them alone.
+        ensures rewritten { OnOk result (self.new.bodies ≡ bodies.items) }
+        ensures handed { IfOk result (λ kept. kept.items ≡ bodies.items) }
+        ensures open { OnOk result (self.new.closed ≡ false) }
+        ensures kept { OnOk result (IsTrue D.honest
+            → (image : List ℕ) → D.may_leave self.new.disk image → HoldsAlone image self.new.area self.new.bodies) }
+
+        // The bytes of the disk are those of the one commit, by the area byte that it had.
+        ensures bytes { OnOk result (IsTrue D.honest → (area_byte : ℕ) × HasAreaByte (D.seen self.old.disk) area_byte self.old.area
+            × IsCommitted (rewrite_commit area_byte self.old.area bodies.items) (D.seen self.old.disk) (D.seen self.new.disk)) }
+
+        // A refusal leaves the records; without a device call it leaves all, after 35 the log is closed.
+        ensures leaves { OnErr result (self.new.bodies ≡ self.old.bodies) }
+        ensures untouched { IfErr result (λ e. e ≢ JournalFault.DiskFault → self.new ≡ self.old) }
+        ensures closes { IsErrOf result JournalFault.DiskFault → self.new.closed ≡ true }
+
+        // A crash at any moment of the call leaves the old records, or the new ones.
+        ensures moments { IsTrue D.honest → self.old.closed ≡ false
+            → LeavesOnly D.moment D.left_since self.old.disk self.new.disk (HoldsOneOf self.old.area self.old.bodies bodies.items) }
+    {
+        if self.closed {
+            // No device call: what the disk holds is not known before it is opened again.
+            return Err(JournalFault::Closed);
+        }
+        let Some(used) = bytes_taken(&bodies, self.area) else {
+            return Err(JournalFault::Full);
+        };
+        // All growths come before the first device call.
+        let commit = Commit::rewrite(alloc, side(self.start), self.area, &bodies)?;
+        match make(&mut self.disk, &commit) {
+            Ok(()) => {
+                self.start = commit.offset();
+                self.used = used;
+                self.bodies = told(&bodies);
+                Ok(bodies)
+            }
+            Err(_) => {
+                self.closed = true;
+                Err(JournalFault::DiskFault)
+            }
+        }
+    }
+
+    /// The disk, as the calls so far left it. It takes no memory.
+    pub fn into_disk(self) -> D
+        ensures { result ≡ self.disk }
+    {
+        let Log {
+            disk,
+            bodies: _,
+            start: _,
+            area: _,
+            used: _,
+            closed: _,
+        } = self;
+        disk
+    }
+}
+
+// These bodies, for contracts alone: it does nothing at run time.
+fn told(bodies: &[Body]) -> History<Body>
+    ensures { result.items ≡ bodies.now }
+{
+    let mut history = History::new();
+    for body in bodies {
+        history = history.and(body);
+    }
+    history
+}
+
+// The area byte of the area that begins at that offset.
+fn side(start: usize) -> u8
+    ensures first { start ≡ 16 → result ≡ 0 }
+    ensures second { start ≢ 16 → result ≡ 1 }
+{
+    if start == HEADER { 0 } else { 1 }
+}
+
+// How many bytes these records take, where they and their closed gate fit an area of that many bytes.
+fn bytes_taken(bodies: &[Body], area: usize) -> Option<usize>
+    requires { 1 ≤ area }
+    ensures taken { IfSome result (λ used. (used ≡ length (records bodies.now)) × (room_of bodies.now ≤ area)) }
+    ensures full { IsNone result → area < room_of bodies.now }
+{
+    let mut left = area - 1;
+    for body in bodies {
+        let length = body.as_slice().len();
+        if left < 5 || left - 5 < length {
+            return None;
+        }
+        left -= length + 5;
+    }
+    Some(area - 1 - left)
+}
