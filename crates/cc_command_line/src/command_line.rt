@@ -4,7 +4,7 @@ ghost use Rattle.std.specs.Prelude.{◌≤◌, IfOk, IfSome};
 ghost use Rattle.cc_command_line.specs.Task.{IsWithinLimits};
 
 use clap::error::ErrorKind;
-use clap::{Arg, ArgMatches, Command, Error};
+use clap::{Arg, ArgAction, ArgMatches, Command, Error};
 use std::alloc::{AllocError, Global};
 use std::convert::AsStr;
 
@@ -12,6 +12,8 @@ use std::convert::AsStr;
 pub const MOST_STEPS: u64 = 1_000_000_000;
 
 const STEPS_RULE: &str = "STEPS is a decimal number from 0 to 1000000000";
+
+const QUIET: &str = "quiet";
 
 const WORD_RULE: &str =
     "WORD is a decimal number from 0 to 4294967295; a negative number is written as its value modulo 4294967296, \
@@ -95,10 +97,16 @@ fn with_part<'a>(
 
 fn command<'a>(alloc: Global) -> Result<Command<'a>, AllocError> {
     let check = "Say `ok`, or the first fault of the program";
+    let quiet = Arg::new(alloc, QUIET)
+        .long(QUIET)
+        .action(ArgAction::SetTrue)
+        .global(true)
+        .help("Explain no fault on standard error");
     let whole = Command::new(alloc, "cclib")
         .version("0.1.0")
         .about("Reads a C program from standard input: checks, interprets, compiles and runs it")
         .subcommand_required(true)
+        .arg(quiet)?
         .subcommand(plain_command(alloc, "check", check))?;
     let whole = with_part(whole, runner_command(alloc, &INTERPRET))?;
     let whole = with_part(whole, runner_command(alloc, &RUN))?;
@@ -192,14 +200,35 @@ fn task_of(alloc: Global, matches: &ArgMatches<'_>) -> Result<Task, Error>
     }
 }
 
+/// What a command line asks for: a task, and whether no fault of it is to be explained.
+#[derive(Drop)]
+pub struct Request {
+    pub task: Task,
+    pub is_quiet: bool,
+}
+
 /// Reads the command line, whose first word is the program's name.
 ///
 /// The error is clap's: its text goes to standard error and its status is 2, but for a text of help.
+pub fn read_request<'a, S: AsStr>(alloc: Global, words: &'a [S]) -> Result<Request, Error>
+    ensures { IfOk result (λ request. IsWithinLimits request.task) }
+{
+    let matches = command(alloc)?.try_get_matches_from(words)?;
+    let is_quiet = matches.get_flag(QUIET);
+    let task = task_of(alloc, &matches);
+    drop(matches);
+    match task {
+        Ok(task) => Ok(Request { task, is_quiet }),
+        Err(error) => Err(error),
+    }
+}
+
+/// The task that a command line asks for, as `read_request` reads it.
 pub fn line<'a, S: AsStr>(alloc: Global, words: &'a [S]) -> Result<Task, Error>
     ensures { IfOk result IsWithinLimits }
 {
-    let matches = command(alloc)?.try_get_matches_from(words)?;
-    let task = task_of(alloc, &matches);
-    drop(matches);
-    task
+    match read_request(alloc, words) {
+        Ok(Request { task, is_quiet: _ }) => Ok(task),
+        Err(error) => Err(error),
+    }
 }

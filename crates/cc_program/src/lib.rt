@@ -1,15 +1,16 @@
 //! The work of the program: a task, done over any reader and writer.
 //!
 //! `source` reads the text, `answer` has the answer to a task for a text, `work` does a task, `fault` has every refusal with its
-//! line. Which words ask for which task is the matter of `cc_command_line`, what a text means that of the crates of the language.
-//! Hands out `answer_for`, `perform`, their types, and the definitions that the contracts name (`specs/`).
+//! line, `explain` what a person is told besides. Which words ask for which task is the matter of `cc_command_line`, what a text means that of the crates of the language.
+//! Hands out `answer_for`, `perform`, `perform_and_explain`, their types, and the definitions that the contracts name (`specs/`).
 #![tactic(auto)]
 
 mod answer;
+mod explain;
 mod fault;
 mod source;
 mod work;
 
 pub use answer::{Answer, answer_for};
 pub use fault::Fault;
-pub use work::perform;
+pub use work::{perform, perform_and_explain};

@@ -3,6 +3,7 @@
 ghost use Rattle.std.specs.Prelude.{◌≤◌};
 
 use super::answer::{Answer, answer_for};
+use super::explain::{explain_fault, explain_wrong};
 use super::fault::Fault;
 use super::source::read_source;
 use cc_command_line::Task;
@@ -56,41 +57,94 @@ fn write_answer<W: Write>(answer: &Answer, writer: &mut W) -> io::Result<()> {
     writer.flush()
 }
 
-// Does a task for a text: writes the answer, or the fault's line.
-fn tell<W: Write>(alloc: Global, task: &Task, text: &[u8], writer: &mut W) -> Result<(), Fault> {
+// Why the run went wrong that an answer tells of, where it did.
+fn cause_of(answer: &Answer) -> Option<Cause> {
+    match answer {
+        Answer::Ran(outcome) => match outcome.stop {
+            Stop::Wrong(cause) => Some(cause),
+            Stop::Going | Stop::Ended(_) => None,
+        },
+        Answer::Accepted | Answer::Executed(_, _) | Answer::Listed(_) => None,
+    }
+}
+
+// Does a task for a text: writes the answer, or the fault's line, and answers why the run went wrong, where it did.
+fn tell<W: Write>(
+    alloc: Global,
+    task: &Task,
+    text: &[u8],
+    writer: &mut W,
+) -> Result<Option<Cause>, Fault> {
     match answer_for(alloc, task, text) {
         Ok(answer) => {
             let written = write_answer(&answer, writer);
+            let cause = cause_of(&answer);
             drop(answer);
             match written {
-                Ok(()) => Ok(()),
+                Ok(()) => Ok(cause),
                 Err(_) => Err(Fault::Write),
             }
         }
         Err(fault) => {
             let _ = fault.write_line(text, writer);
+            let _ = writer.flush();
             Err(fault)
         }
     }
 }
 
+/// A text as far as it was read, and what a task told of it: the fault, or why the run went wrong, where it did.
+#[derive(Drop)]
+struct Performed {
+    text: Vec<u8>,
+    told: Result<Option<Cause>, Fault>,
+}
+
+// Does a task.
 fn try_perform<R: Read, W: Write>(
     alloc: Global,
     task: &Task,
     reader: &mut R,
     writer: &mut W,
-) -> Result<(), Fault> {
+) -> Performed {
     match read_source(alloc, reader) {
         Ok(text) => {
             let told = tell(alloc, task, text.as_slice(), writer);
-            drop(text);
-            told
+            Performed { text, told }
         }
         Err(fault) => {
             let _ = fault.write_line(b"", writer);
-            Err(fault)
+            let _ = writer.flush();
+            Performed {
+                text: Vec::new(alloc),
+                told: Err(fault),
+            }
         }
     }
+}
+
+// Explains what a task told of a text.
+fn explain<W: Write>(alloc: Global, task: &Task, performed: &Performed, writer: &mut W) {
+    let text = performed.text.as_slice();
+    let written = match &performed.told {
+        Ok(None) => Ok(()),
+        Ok(Some(cause)) => explain_wrong(alloc, task, text, *cause, writer),
+        Err(fault) => explain_fault(alloc, text, fault, writer),
+    };
+    let _ = written;
+    let _ = writer.flush();
+}
+
+// The status of a task that was done.
+fn status(performed: Performed) -> u8
+    ensures { result ≤ 1 }
+{
+    let status = match &performed.told {
+        Ok(_) => 0,
+        Err(_) => 1,
+    };
+    drop(performed);
+    status
 }
 
 /// Does a task: reads the text from `reader`, and writes the answer or the fault's line to `writer`.
@@ -107,13 +161,23 @@ pub fn perform<H: AllocGlobal, R: Read, W: Write>(
 {
     let performed = try_perform(rt.alloc(), &task, reader, writer);
     drop(task);
-    match performed {
-        Ok(()) => 0,
-        Err(Fault::Write) => 1,
-        Err(fault) => {
-            drop(fault);
-            let _ = writer.flush();
-            1
-        }
-    }
+    status(performed)
+}
+
+/// Does a task as `perform` does, and writes to `explanations` what helps a person with a fault or with a run that went wrong: the
+/// place, as editors read it, what was found there and what was wanted, and the line of the text. Of a write to `writer` that fails
+/// it says so. Where memory for an explanation runs out, or it can not be written, there is none; the status is the same.
+pub fn perform_and_explain<H: AllocGlobal, R: Read, W: Write, E: Write>(
+    rt: &H,
+    task: Task,
+    reader: &mut R,
+    writer: &mut W,
+    explanations: &mut E,
+) -> u8
+    ensures { result ≤ 1 }
+{
+    let performed = try_perform(rt.alloc(), &task, reader, writer);
+    explain(rt.alloc(), &task, &performed, explanations);
+    drop(task);
+    status(performed)
 }

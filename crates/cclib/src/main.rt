@@ -1,19 +1,22 @@
 // The program `cclib`: reads a C program from standard input, and checks, interprets, runs or lists it. How a command line is read is the
-// matter of `cc_command_line`, how a task is done that of `cc_program`.
+// matter of `cc_command_line`, how a task is done that of `cc_program`, what the stack needs that of `stack`.
 #![tactic(auto)]
 
-use cc_command_line::{Task, line, refused_bytes};
-use cc_program::{Fault, perform};
+mod stack;
+
+use cc_command_line::{Request, read_request, refused_bytes};
+use cc_program::{Fault, perform, perform_and_explain};
 use clap::Error;
 use clap::error::ErrorKind;
+use stack::reserve_stack;
 use std::alloc::AllocError;
-use std::io::{self, BufWriter};
+use std::io::{self, BufWriter, Write};
 use std::process::ExitCode;
 use std::rt::Env;
 
 /// Does what the command line asks; the status is 0 for an answer, 1 for a fault, 2 for a refused command line.
 fn main(rt: HostRuntime) -> ExitCode {
-    match run(&rt) {
+    match run(&rt, rt.stderr()) {
         Ok(status) => ExitCode::from(status),
         Err(_) => {
             let _ = Fault::OutOfMemory.write_line(b"", &mut io::writer(&rt));
@@ -23,14 +26,24 @@ fn main(rt: HostRuntime) -> ExitCode {
 }
 
 // Does a task; the error is want of memory before it began.
-fn start<R: AllocGlobal + Input + Print>(rt: &R, task: Task) -> Result<u8, AllocError> {
-    match BufWriter::new(rt.alloc(), io::writer(rt)) {
-        Ok(mut writer) => Ok(perform(rt, task, &mut rt.reader(), &mut writer)),
-        Err(_) => {
-            drop(task);
-            Err(AllocError)
-        }
+fn start<R: AllocGlobal + Input + Print, E: Write + Drop>(
+    rt: &R,
+    request: Request,
+    errors: E,
+) -> Result<u8, AllocError> {
+    let Request { task, is_quiet } = request;
+    let (Ok(mut writer), Ok(mut errors)) = (
+        BufWriter::new(rt.alloc(), io::writer(rt)),
+        BufWriter::new(rt.alloc(), errors),
+    ) else {
+        drop(task);
+        return Err(AllocError);
+    };
+    if is_quiet {
+        return Ok(perform(rt, task, &mut rt.reader(), &mut writer));
     }
+    let mut reader = rt.reader();
+    Ok(perform_and_explain(rt, task, &mut reader, &mut writer, &mut errors))
 }
 
 // Says why a command line is refused, or prints the help that it asks for.
@@ -43,7 +56,11 @@ fn refuse<R: Eprint + Print>(rt: &R, error: Error) -> Result<u8, AllocError> {
 }
 
 // The status; the error is want of memory before the task began.
-fn run<R: AllocGlobal + Env + Input + Print + Eprint>(rt: &R) -> Result<u8, AllocError> {
+fn run<R: AllocGlobal + Env + Input + Print + Eprint, E: Write + Drop>(
+    rt: &R,
+    errors: E,
+) -> Result<u8, AllocError> {
+    reserve_stack(rt.alloc())?;
     let words = match std::env::args(rt) {
         Ok(words) => words,
         Err(error) if error.kind() == io::ErrorKind::InvalidData => {
@@ -52,10 +69,10 @@ fn run<R: AllocGlobal + Env + Input + Print + Eprint>(rt: &R) -> Result<u8, Allo
         Err(_) => return Err(AllocError),
     };
     let words: Vec<String> = words.collect(rt.alloc())?;
-    let asked = line(rt.alloc(), words.as_slice());
+    let asked = read_request(rt.alloc(), words.as_slice());
     drop(words);
     match asked {
-        Ok(task) => start(rt, task),
+        Ok(request) => start(rt, request, errors),
         Err(error) => refuse(rt, error),
     }
 }

@@ -1,7 +1,7 @@
 // Readers and writers that fail.
 
 use cc_command_line::Task;
-use cc_program::perform;
+use cc_program::{perform, perform_and_explain};
 use std::io::{self, ErrorKind, Read, Write};
 
 /// Gives `l` at its first read, and fails from then on.
@@ -54,4 +54,34 @@ fn a_write_that_fails(rt: HostRuntime) {
     let status = perform(&rt, task, &mut reader, &mut writer);
     let Refuses = writer;
     assert!(rt; status == 1);
+}
+
+// Whether a task whose answer cannot be written says so to a person.
+fn says_that_a_write_failed<H: AllocGlobal>(rt: &H) -> bool {
+    let mut reader = b"int main(void){}".as_slice();
+    let mut writer = Refuses;
+    let mut told = Vec::new(rt.alloc());
+    let status = perform_and_explain(rt, Task::Check, &mut reader, &mut writer, &mut told);
+    let Refuses = writer;
+    status == 1 && told.as_slice() == b"cclib: the answer could not be written\n".as_slice()
+}
+
+#[test]
+fn a_write_that_fails_is_told(rt: HostRuntime) {
+    assert!(rt; says_that_a_write_failed(&rt));
+}
+
+// An explanation that cannot be written changes neither the fault's line nor the status.
+fn is_done_without_explanation<H: AllocGlobal>(rt: &H) -> bool {
+    let mut reader = b"x".as_slice();
+    let mut written = Vec::new(rt.alloc());
+    let mut told = Refuses;
+    let status = perform_and_explain(rt, Task::Check, &mut reader, &mut written, &mut told);
+    let Refuses = told;
+    status == 1 && written.as_slice() == b"fault 5 Unexpected at 1:1\n".as_slice()
+}
+
+#[test]
+fn an_explanation_that_fails(rt: HostRuntime) {
+    assert!(rt; is_done_without_explanation(&rt));
 }

@@ -1,7 +1,9 @@
-// Tests of the program's work: texts at their limits, texts that are refused, small programs, command lines, and readers and
+// Tests of the program's work: texts at their limits, texts that are refused, small programs, command lines, what is explained, and readers and
 // writers that fail, over readers and writers in memory. Expected lines come from the language's rules, worked by hand.
 #![tactic(auto)]
 
+#[cfg(test)]
+mod explanations;
 #[cfg(test)]
 mod faulty;
 #[cfg(test)]

@@ -1,6 +1,6 @@
 // The command line.
 
-use cc_command_line::{Task, line};
+use cc_command_line::{Request, Task, line, read_request, refused_bytes};
 use std::alloc::Global;
 
 fn asks_to_check(alloc: Global, words: &'static [&'static str]) -> bool {
@@ -93,4 +93,86 @@ fn refused_words(rt: HostRuntime) {
     for words in REFUSED.iter() {
         assert!(rt; is_refused(rt.alloc(), words));
     }
+}
+
+// Command lines, and whether each asks for quiet.
+static QUIET: [(&[&str], bool); 4] = [
+    (&["cclib", "check"], false),
+    (&["cclib", "--quiet", "check"], true),
+    (&["cclib", "run", "5", "--quiet", "1"], true),
+    (&["cclib", "interpret", "5", "1"], false),
+];
+
+fn asks_for_quiet(alloc: Global, words: &'static [&'static str]) -> Option<bool> {
+    match read_request(alloc, words) {
+        Ok(Request { task, is_quiet }) => {
+            drop(task);
+            Some(is_quiet)
+        }
+        Err(error) => {
+            drop(error);
+            None
+        }
+    }
+}
+
+#[test]
+fn quiet_words(rt: HostRuntime) {
+    for (words, is_quiet) in QUIET.iter() {
+        assert!(rt; asks_for_quiet(rt.alloc(), words) == Some(*is_quiet));
+    }
+}
+
+// Command lines, and a part of the text that is printed for each.
+static PRINTED: [(&[&str], &str); 7] = [
+    (&["cclib", "interpret", "+5"], "Usage: cclib interpret"),
+    (&["cclib", "run", "+5"], "Usage: cclib run"),
+    (&["cclib", "interpret", "5", "-1"], "as 4294967295 for -1"),
+    (&["cclib", "run", "5", "-1"], "as 4294967295 for -1"),
+    (&["cclib", "--version"], "cclib 0.1.0"),
+    (
+        &["cclib", "interpret", "--help"],
+        "cclib interpret 1000 < examples/quotient.c",
+    ),
+    (&["cclib", "check", "--help"], "--quiet"),
+];
+
+fn prints(alloc: Global, words: &'static [&'static str], part: &str) -> bool {
+    match line(alloc, words) {
+        Ok(task) => {
+            drop(task);
+            false
+        }
+        Err(error) => {
+            let text = error.to_string(alloc);
+            drop(error);
+            match text {
+                Ok(text) => text.as_str().contains(part),
+                Err(_) => false,
+            }
+        }
+    }
+}
+
+#[test]
+fn printed_texts(rt: HostRuntime) {
+    for (words, part) in PRINTED.iter() {
+        assert!(rt; prints(rt.alloc(), words, part), "for {part}");
+    }
+}
+
+fn is_a_refused_line(alloc: Global) -> bool {
+    match refused_bytes(alloc) {
+        Ok(error) => {
+            let refused = error.exit_code() == 2 && error.use_stderr();
+            drop(error);
+            refused
+        }
+        Err(_) => false,
+    }
+}
+
+#[test]
+fn words_that_are_no_text(rt: HostRuntime) {
+    assert!(rt; is_a_refused_line(rt.alloc()));
 }

@@ -1,0 +1,50 @@
+// What is told of a text, and how it is written.
+
+use super::excerpt::write_excerpt;
+use super::message::{Part, message};
+use cc_tokens::{Place, place_at};
+use std::alloc::{AllocError, Global};
+use std::io::{self, Write};
+
+/// What is told of a text: a message, and the offset of the byte that it is about, where it is about one. An offset past the text's
+/// end counts as its end.
+#[derive(Drop)]
+pub struct Diagnostic {
+    pub at: Option<usize>,
+    pub message: String,
+}
+
+impl Diagnostic {
+    /// Writes the message's line in the form that editors read, as `-:4:2: 'totl' is not declared`, and below it the line of the text
+    /// with a caret. A message about no byte has its line alone, as `-: the text has more than 65536 bytes`.
+    pub fn write<W: Write>(&self, text: &[u8], writer: &mut W) -> io::Result<()> {
+        let message = self.message.as_str();
+        let Some(at) = self.at else {
+            return writeln!(writer, "-: {message}");
+        };
+        let at = at.min(text.len());
+        let place = place_at(text, at);
+        let Place { line, column } = place;
+        writeln!(writer, "-:{line}:{column}: {message}")?;
+        write_excerpt(text, at, line, writer)
+    }
+}
+
+/// Words about the name of so many bytes that begins at an offset of a text, behind the name in quotes.
+///
+/// `AllocError` where memory for it runs out.
+pub fn of_name<'a>(
+    alloc: Global,
+    text: &'a [u8],
+    at: usize,
+    length: usize,
+    words: &'a str,
+) -> Result<Diagnostic, AllocError> {
+    let rest = text.get(at..).unwrap_or(b"");
+    let name = Part::Token(rest.get(..length).unwrap_or(rest));
+    let message = message(alloc, &[name, Part::Words(" "), Part::Words(words)])?;
+    Ok(Diagnostic {
+        at: Some(at),
+        message,
+    })
+}

@@ -1,0 +1,321 @@
+// Which tokens could stand in the place of one with which no text goes on.
+//
+// The parser itself is asked: the text before the token is parsed with a candidate behind it, and where the parser then misses
+// something only at the very end, the candidate could stand there. So what is told agrees with the grammar by the way it is found.
+// Of the text before only the external declaration is kept in which the token stands: those before it are whole.
+
+use cc_syntax::{Punctuator, SyntaxFault, Token, TokenKind, parse, place_at};
+use std::alloc::{AllocError, Global};
+
+/// What the parser answers where a candidate stands behind the text before a token.
+#[derive(Clone, Copy, PartialEq, Eq)]
+pub enum Reply {
+    /// The grammar goes on with it.
+    Accepted,
+    /// The grammar goes on with it, but a limit is passed.
+    PastLimit,
+    /// The grammar does not go on with it, or nothing is known.
+    Refused,
+}
+
+/// The external declaration in which a token stands, up to that token, and room for a candidate behind it.
+#[derive(Drop)]
+pub struct Prefix {
+    text: Vec<u8>,
+    length: usize,
+}
+
+/// Where in a text one goes over its tokens: how many braces are open, and whether the outermost one is that of a function's body.
+#[derive(Clone, Copy)]
+struct Outline {
+    start: usize,
+    depth: usize,
+    in_body: bool,
+    closed_parameters: bool,
+}
+
+impl Outline {
+    // Goes over one token.
+    fn pass(&mut self, token: Token) {
+        let kind = token.kind;
+        if matches!(kind, TokenKind::Punctuator(Punctuator::OpenBrace)) {
+            if self.depth == 0 {
+                self.in_body = self.closed_parameters;
+            }
+            self.depth = self.depth.saturating_add(1);
+        }
+        let is_end = matches!(kind, TokenKind::Punctuator(Punctuator::CloseBrace));
+        if is_end {
+            self.depth = self.depth.saturating_sub(1);
+        }
+        let is_semicolon = matches!(kind, TokenKind::Punctuator(Punctuator::Semicolon));
+        if self.depth == 0 && (is_semicolon || (is_end && self.in_body)) {
+            self.start = token.to;
+        }
+        self.closed_parameters = matches!(
+            kind,
+            TokenKind::Punctuator(Punctuator::CloseParenthesis)
+        );
+    }
+}
+
+// Where the external declaration begins in which a token stands: behind the one before it.
+fn start_of_external(tokens: &[Token], at: usize) -> usize {
+    let mut outline = Outline {
+        start: 0,
+        depth: 0,
+        in_body: false,
+        closed_parameters: false,
+    };
+    for token in tokens {
+        if token.from < at {
+            outline.pass(*token);
+        }
+    }
+    outline.start
+}
+
+impl Prefix {
+    /// The text before the token at an offset.
+    pub fn new(
+        alloc: Global,
+        text: &[u8],
+        tokens: &[Token],
+        at: usize,
+    ) -> Result<Prefix, AllocError> {
+        let start = start_of_external(tokens, at);
+        let before = text.get(start..at).unwrap_or(b"");
+        let mut text = Vec::from_slice(alloc, before)?;
+        text.push(b'\n')?;
+        let length = text.len();
+        Ok(Prefix { text, length })
+    }
+
+    /// What the parser answers where a candidate stands next.
+    pub fn ask(&mut self, alloc: Global, candidate: &str) -> Result<Reply, AllocError> {
+        self.text.truncate(self.length);
+        self.text.extend_from_slice(candidate.as_bytes())?;
+        let text = self.text.as_slice();
+        match parse(alloc, text) {
+            Ok(unit) => {
+                drop(unit);
+                Ok(Reply::Accepted)
+            }
+            Err(SyntaxFault::OutOfMemory) => Err(AllocError),
+            Err(SyntaxFault::Unexpected(place)) if place == place_at(text, text.len()) => Ok(
+                Reply::Accepted,
+            ),
+            Err(SyntaxFault::TooDeep(_)) => Ok(Reply::PastLimit),
+            Err(_) => Ok(Reply::Refused),
+        }
+    }
+
+    fn accepts(&mut self, alloc: Global, candidate: &str) -> Result<bool, AllocError> {
+        Ok(self.ask(alloc, candidate)? == Reply::Accepted)
+    }
+
+    fn fits(&mut self, alloc: Global, phrase: &Phrase) -> Result<bool, AllocError> {
+        for candidate in phrase.candidates {
+            if !self.accepts(alloc, candidate)? {
+                return Ok(false);
+            }
+        }
+        Ok(true)
+    }
+
+    // Adds the words of each phrase that fits.
+    fn add(
+        &mut self,
+        alloc: Global,
+        phrases: &[Phrase],
+        words: &mut Vec<&'static str>,
+    ) -> Result<(), AllocError> {
+        for phrase in phrases {
+            if self.fits(alloc, phrase)? {
+                words.push(phrase.words)?;
+            }
+        }
+        Ok(())
+    }
+
+    // Adds the words of the first beginning that fits, and answers what can be told besides.
+    fn add_beginning(
+        &mut self,
+        alloc: Global,
+        words: &mut Vec<&'static str>,
+    ) -> Result<Others, AllocError> {
+        for beginning in BEGINNINGS.iter() {
+            if self.fits(alloc, &beginning.phrase)? {
+                words.push(beginning.phrase.words)?;
+                return Ok(beginning.others);
+            }
+        }
+        Ok(Others::All)
+    }
+
+    /// Words for tokens that could stand next, none where nothing is known. Behind an operand, where operators could stand too, only
+    /// what ends the expression is told.
+    pub fn expected(&mut self, alloc: Global) -> Result<Vec<&'static str>, AllocError> {
+        let mut words: Vec<&'static str> = Vec::new(alloc);
+        let others = if self.accepts(alloc, "*")? {
+            Others::Ends
+        } else {
+            self.add_beginning(alloc, &mut words)?
+        };
+        self.add(alloc, others.phrases(), &mut words)?;
+        Ok(words)
+    }
+}
+
+/// What can be told of a place, and the candidates that all have to fit for it.
+#[derive(Clone, Copy)]
+struct Phrase {
+    words: &'static str,
+    candidates: &'static [&'static str],
+}
+
+/// What can be told of a place besides what begins there.
+#[derive(Clone, Copy)]
+enum Others {
+    /// What ends a block.
+    BlockEnd,
+    /// What ends an expression.
+    Ends,
+    /// Anything else.
+    All,
+}
+
+impl Others {
+    fn phrases(self) -> &'static [Phrase] {
+        match self {
+            Others::BlockEnd => &BLOCK_END,
+            Others::Ends => &ENDS,
+            Others::All => &OTHERS,
+        }
+    }
+}
+
+/// What can be told of what begins at a place, and what can be told of it besides.
+#[derive(Clone, Copy)]
+struct Beginning {
+    phrase: Phrase,
+    others: Others,
+}
+
+static ENDS: [Phrase; 6] = [
+    Phrase {
+        words: "','",
+        candidates: &[","],
+    },
+    Phrase {
+        words: "';'",
+        candidates: &[";"],
+    },
+    Phrase {
+        words: "')'",
+        candidates: &[")"],
+    },
+    Phrase {
+        words: "']'",
+        candidates: &["]"],
+    },
+    Phrase {
+        words: "'}'",
+        candidates: &["}"],
+    },
+    Phrase {
+        words: "':'",
+        candidates: &[":"],
+    },
+];
+
+static BLOCK_END: [Phrase; 1] = [Phrase {
+    words: "'}'",
+    candidates: &["}"],
+}];
+
+static OTHERS: [Phrase; 11] = [
+    Phrase {
+        words: "'while'",
+        candidates: &["while"],
+    },
+    Phrase {
+        words: "'='",
+        candidates: &["="],
+    },
+    Phrase {
+        words: "'('",
+        candidates: &["("],
+    },
+    Phrase {
+        words: "'['",
+        candidates: &["["],
+    },
+    Phrase {
+        words: "'{'",
+        candidates: &["{"],
+    },
+    Phrase {
+        words: "','",
+        candidates: &[","],
+    },
+    Phrase {
+        words: "';'",
+        candidates: &[";"],
+    },
+    Phrase {
+        words: "')'",
+        candidates: &[")"],
+    },
+    Phrase {
+        words: "']'",
+        candidates: &["]"],
+    },
+    Phrase {
+        words: "'}'",
+        candidates: &["}"],
+    },
+    Phrase {
+        words: "':'",
+        candidates: &[":"],
+    },
+];
+
+// The first one that fits is told.
+static BEGINNINGS: [Beginning; 5] = [
+    Beginning {
+        phrase: Phrase {
+            words: "a statement",
+            candidates: &["return", "x", "{"],
+        },
+        others: Others::BlockEnd,
+    },
+    Beginning {
+        phrase: Phrase {
+            words: "an expression",
+            candidates: &["x", "1", "("],
+        },
+        others: Others::Ends,
+    },
+    Beginning {
+        phrase: Phrase {
+            words: "a name",
+            candidates: &["x"],
+        },
+        others: Others::All,
+    },
+    Beginning {
+        phrase: Phrase {
+            words: "a type",
+            candidates: &["int", "unsigned"],
+        },
+        others: Others::All,
+    },
+    Beginning {
+        phrase: Phrase {
+            words: "'int'",
+            candidates: &["int"],
+        },
+        others: Others::All,
+    },
+];

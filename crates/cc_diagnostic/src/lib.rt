@@ -1,0 +1,32 @@
+//! What a person is told of a text besides its answer: of a fault what stands there and what was wanted, of a run that went wrong
+//! where and with which values.
+//!
+//! `diagnostic` is what is told and how it is written, with the line of the text that `excerpt` shows; `message` and
+//! `spelling` have what messages are made of, and how bytes of a text are shown. `lexical` and `syntax` tell of a text without a tree, `expected` which tokens could have stood there;
+//! `typing` tells of a tree that breaks a rule. `walk` goes over a tree with the names in scope (`names`); it notes what a name
+//! stood for, and writes instructions (`code`) that `replay` runs once more, to tell of a run that went wrong (`wrong`).
+//!
+//! The answers themselves are those of the crates below: what is told here rests on the text and the answer alone, and no promise
+//! rests on it. Each call is safe, ends, and refuses nothing but for want of memory.
+#![tactic(auto)]
+
+mod code;
+mod declarations;
+mod diagnostic;
+mod excerpt;
+mod expected;
+mod lexical;
+mod message;
+mod names;
+mod offset;
+mod replay;
+mod spelling;
+mod syntax;
+mod typing;
+mod walk;
+mod wrong;
+
+pub use diagnostic::{Diagnostic, of_name};
+pub use syntax::of_syntax;
+pub use typing::of_typing;
+pub use wrong::of_wrong;

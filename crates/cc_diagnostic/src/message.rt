@@ -1,0 +1,54 @@
+// Messages, made of parts.
+
+use super::spelling::{Look, Quoted, Shown};
+use cc_tokens::{Place, Scalar};
+use std::alloc::{AllocError, Global};
+use std::fmt;
+
+/// A part of a message.
+#[derive(Clone, Copy)]
+pub enum Part<'a> {
+    Words(&'a str),
+    /// A token, in quotes.
+    Token(&'a [u8]),
+    /// A name as it stands.
+    Name(&'a [u8]),
+    Count(usize),
+    /// A byte by its hexadecimal number.
+    Byte(u8),
+    /// A word as a number of a type.
+    Word(Scalar, u32),
+    Place(Place),
+}
+
+impl fmt::Display for Part<'_> {
+    fn fmt<W: fmt::Write>(&self, f: &mut fmt::Formatter<W>) -> fmt::Result {
+        match self {
+            Part::Words(words) => f.write_str(words),
+            Part::Token(bytes) => Quoted(bytes).fmt(f),
+            Part::Name(bytes) => {
+                let look = Look::Plain;
+                Shown { bytes, look }.fmt(f)
+            }
+            Part::Count(count) => write!(f, "{count}"),
+            Part::Byte(byte) => write!(f, "byte 0x{byte:02x}"),
+            Part::Word(Scalar::Int, word) => write!(f, "{}", word.cast_signed()),
+            Part::Word(Scalar::Unsigned, word) => write!(f, "{word}"),
+            Part::Place(Place { line, column }) => write!(f, "{line}:{column}"),
+        }
+    }
+}
+
+/// The message of these parts.
+pub fn message(alloc: Global, parts: &[Part<'_>]) -> Result<String, AllocError> {
+    let mut text = String::new(alloc);
+    for part in parts {
+        write!(text, "{part}")?;
+    }
+    Ok(text)
+}
+
+/// The message of these words.
+pub fn words(alloc: Global, words: &str) -> Result<String, AllocError> {
+    String::from_str(alloc, words)
+}

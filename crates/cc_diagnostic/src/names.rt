@@ -1,0 +1,104 @@
+// The names in scope, with where each was declared and where it leads.
+
+use cc_resolve::Extent;
+use cc_typing::{Bindings, Entity, READ_WORD, WRITE_WORD};
+use std::alloc::{AllocError, Global};
+
+/// Where a name leads.
+#[derive(Clone, Copy)]
+pub enum Lead {
+    /// The variable of the function with this number; its parameters come first.
+    Local(usize),
+    /// These words of the objects at file scope.
+    Words(Extent),
+    /// The function with this number, in the order of first declarations.
+    Function(usize),
+    /// A function that is built in.
+    Builtin,
+}
+
+/// What a name stands for, the offset of the name in its first declaration, none for what is built in, and where it leads.
+#[derive(Clone, Copy)]
+pub struct Standing<'a> {
+    pub entity: Entity<'a>,
+    pub at: Option<usize>,
+    pub lead: Lead,
+}
+
+/// The names in scope. Those from `inner` on belong to the innermost scope.
+#[derive(Drop)]
+pub struct Names<'a> {
+    bindings: Bindings<'a>,
+    standings: Vec<Standing<'a>>,
+    inner: usize,
+}
+
+impl<'a> Names<'a> {
+    /// No names.
+    pub fn new(alloc: Global) -> Names<'a> {
+        Names {
+            bindings: Bindings::new(alloc),
+            standings: Vec::new(alloc),
+            inner: 0,
+        }
+    }
+
+    /// Adds the functions that are built in.
+    pub fn add_builtins(&mut self) -> Result<(), AllocError> {
+        let (at, lead) = (None, Lead::Builtin);
+        self.declare(
+            READ_WORD,
+            Standing {
+                entity: Entity::ReadWord,
+                at,
+                lead,
+            },
+        )?;
+        self.declare(
+            WRITE_WORD,
+            Standing {
+                entity: Entity::WriteWord,
+                at,
+                lead,
+            },
+        )
+    }
+
+    /// Declares a name in the innermost scope.
+    pub fn declare(&mut self, name: &'a [u8], standing: Standing<'a>) -> Result<(), AllocError> {
+        self.standings.push(standing)?;
+        self.bindings.push(name, standing.entity)?;
+        Ok(())
+    }
+
+    /// What a name stands for.
+    pub fn find(&self, name: &[u8]) -> Option<Standing<'a>> {
+        let newest = self.bindings.find(name)?;
+        self.standings.get(newest.number).copied()
+    }
+
+    /// What a name stands for that the innermost scope declared.
+    pub fn find_inner(&self, name: &[u8]) -> Option<Standing<'a>> {
+        let newest = self.bindings.find(name)?;
+        if newest.number < self.inner {
+            return None;
+        }
+        self.standings.get(newest.number).copied()
+    }
+
+    /// Begins an inner scope, and answers where the one around it began, for the `close` that ends it.
+    pub fn open(&mut self) -> usize {
+        let around = self.inner;
+        self.inner = self.standings.len();
+        around
+    }
+
+    /// Ends the innermost scope, whose names go.
+    pub fn close(&mut self, around: usize) {
+        for _ in self.inner..self.standings.len() {
+            self.standings.pop();
+            self.bindings.pop();
+        }
+        self.inner = around;
+    }
+}

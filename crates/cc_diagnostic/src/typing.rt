@@ -1,0 +1,409 @@
+// What is told of a tree that breaks a rule or passes a limit.
+
+ghost use Rattle.std.specs.Prelude.{◌≡◌, ◌≤◌, length, is_some, IfOk, IfSome};
+ghost use Rattle.cc_typing.specs.Fault.{fault_place};
+
+use super::declarations::{Declaration, Declared, declarations, first_of, named_at};
+use super::diagnostic::Diagnostic;
+use super::message::{Part, message, words};
+use super::names::Standing;
+use super::offset::offset_in;
+use super::walk::{Note, Use, Walk};
+use cc_syntax::{Object, Signature, Unit, parse};
+use cc_tokens::{Place, SyntaxFault, place_at};
+use cc_typing::{Entity, TypeFault, array_length};
+use std::alloc::{AllocError, Global};
+
+/// A text in which a fault stands: the fault's offset, the word there, what the walk noted of it, and all that file scope declares.
+#[derive(Clone, Copy)]
+struct View<'a> {
+    text: &'a [u8],
+    at: usize,
+    word: &'a [u8],
+    done: Option<Use>,
+    standing: Option<Standing<'a>>,
+    inside: Option<&'a Signature>,
+    declarations: &'a [Declaration<'a>],
+}
+
+// The word that begins at an offset.
+fn word_at(text: &[u8], at: usize) -> &[u8] {
+    let rest = text.get(at..).unwrap_or(b"");
+    let length = rest
+        .iter()
+        .take_while(|b| b.is_ascii_alphanumeric() || **b == b'_')
+        .count();
+    rest.get(..length).unwrap_or(rest)
+}
+
+fn place_in(text: &[u8], at: usize) -> Place {
+    place_at(text, at.min(text.len()))
+}
+
+impl<'a> View<'a> {
+    fn word(&self) -> Part<'a> {
+        Part::Token(self.word)
+    }
+
+    // The name of the function in which the fault is.
+    fn function(&self) -> Part<'a> {
+        match self.inside {
+            Some(signature) => Part::Token(signature.name.bytes.as_slice()),
+            None => Part::Words("a function"),
+        }
+    }
+
+    // The offset of the first declaration of what the name stands for, where it is not built in.
+    fn declared_at(&self) -> Option<usize> {
+        match self.standing {
+            Some(standing) => standing.at,
+            None => None,
+        }
+    }
+
+    // The word, what is said of it, and a place.
+    fn with_place(&self, alloc: Global, said: &'a str, at: usize) -> Result<String, AllocError> {
+        let place = Part::Place(place_in(self.text, at));
+        message(alloc, &[self.word(), Part::Words(said), place])
+    }
+
+    // The word, and what is said of it.
+    fn with(&self, alloc: Global, said: &'a str) -> Result<String, AllocError> {
+        message(alloc, &[self.word(), Part::Words(said)])
+    }
+}
+
+// What a name stands for.
+fn kind(standing: Standing<'_>) -> &'static str {
+    match standing.entity {
+        Entity::Variable(_) => " is a variable",
+        Entity::Elements(_) => " is an array",
+        Entity::Function(_) | Entity::WriteWord | Entity::ReadWord => " is a function",
+    }
+}
+
+// What cannot be done with a name.
+fn not_done(done: Use) -> &'static str {
+    match done {
+        Use::Read => " and cannot be used as a value",
+        Use::Indexed => " and cannot be indexed",
+        Use::Written => " and cannot be assigned to",
+        Use::Called(_) => " and cannot be called",
+        Use::Declared | Use::Returned(_) | Use::Constant => " and cannot be used so",
+    }
+}
+
+// A name that is no name for what is done with it, or a constant expression that is none.
+fn misused(alloc: Global, view: &View<'_>) -> Result<String, AllocError> {
+    let (Some(done), Some(standing)) = (view.done, view.standing) else {
+        let told =
+            "this is no constant expression: it has a name or a call, or its value is not defined";
+        return words(alloc, told);
+    };
+    let kind = Part::Words(kind(standing));
+    let not_done = Part::Words(not_done(done));
+    match standing.at {
+        None => message(alloc, &[view.word(), kind, not_done]),
+        Some(at) => {
+            let declared = Part::Words(", declared at ");
+            let place = Part::Place(place_in(view.text, at));
+            message(
+                alloc,
+                &[
+                    view.word(),
+                    kind,
+                    declared,
+                    place,
+                    Part::Words(","),
+                    not_done,
+                ],
+            )
+        }
+    }
+}
+
+fn unknown(alloc: Global, view: &View<'_>) -> Result<String, AllocError> {
+    match first_of(view.declarations, view.word) {
+        Some(declaration) if declaration.name.at > view.at => {
+            view.with_place(alloc, " is declared only later, at ", declaration.name.at)
+        }
+        _ => view.with(alloc, " is not declared"),
+    }
+}
+
+// The offset of a definition of a function with the word's name that stands before it.
+fn definition_before(view: &View<'_>) -> Option<usize> {
+    for declaration in view.declarations {
+        let name = declaration.name;
+        if name.at < view.at
+            && name.bytes.as_slice() == view.word
+            && matches!(declaration.declared, Declared::Definition(_))
+        {
+            return Some(name.at);
+        }
+    }
+    None
+}
+
+// Whether a definition of a function is named at the fault.
+fn is_definition(view: &View<'_>) -> bool {
+    match named_at(view.declarations, view.at) {
+        Some(declaration) => matches!(declaration.declared, Declared::Definition(_)),
+        None => false,
+    }
+}
+
+// A second declaration of what is built in, as this.
+fn built_in(alloc: Global, view: &View<'_>, declared: &'static str) -> Result<String, AllocError> {
+    let refused = if is_definition(view) {
+        ", and cannot be defined"
+    } else {
+        ", and cannot be declared otherwise"
+    };
+    message(
+        alloc,
+        &[
+            view.word(),
+            Part::Words(" is built in, as "),
+            Part::Words(declared),
+            Part::Words(refused),
+        ],
+    )
+}
+
+fn redeclared(alloc: Global, view: &View<'_>) -> Result<String, AllocError> {
+    if is_definition(view)
+        && let Some(at) = definition_before(view)
+    {
+        return view.with_place(alloc, " is already defined at ", at);
+    }
+    let Some(standing) = view.standing else {
+        return view.with(alloc, " is already declared");
+    };
+    let at = standing.at.unwrap_or(0);
+    match standing.entity {
+        Entity::WriteWord => built_in(alloc, view, "void write_word(int)"),
+        Entity::ReadWord => built_in(alloc, view, "int read_word(void)"),
+        Entity::Function(_) => view.with_place(alloc, " is declared otherwise at ", at),
+        Entity::Variable(_) | Entity::Elements(_) => {
+            view.with_place(alloc, " is already declared at ", at)
+        }
+    }
+}
+
+// How many parameters what a name stands for has.
+fn parameters(standing: Standing<'_>) -> usize {
+    match standing.entity {
+        Entity::Function(signature) => signature.parameters.len(),
+        Entity::WriteWord => 1,
+        Entity::ReadWord | Entity::Variable(_) | Entity::Elements(_) => 0,
+    }
+}
+
+// An array whose length or list is wrong.
+fn wrong_length(alloc: Global, view: &View<'_>, object: &Object) -> Result<String, AllocError> {
+    let Object::Array(_, length, values) = object else {
+        return view.with(alloc, " has a wrong length");
+    };
+    let values = values.as_slice();
+    let count = array_length(length, values).unwrap_or(0);
+    if length.is_none() {
+        return view.with(alloc, " has neither a length nor initialisers");
+    }
+    if count == 0 {
+        return view.with(alloc, " has a length below 1");
+    }
+    let given = Part::Count(values.len());
+    let count = Part::Count(count);
+    let for_length = Part::Words(" initialisers for its length of ");
+    message(
+        alloc,
+        &[view.word(), Part::Words(" has "), given, for_length, count],
+    )
+}
+
+// A call with so many arguments.
+fn wrong_call(
+    alloc: Global,
+    view: &View<'_>,
+    taken: usize,
+    given: usize,
+) -> Result<String, AllocError> {
+    let arguments = if taken == 1 {
+        " argument, "
+    } else {
+        " arguments, "
+    };
+    message(
+        alloc,
+        &[
+            view.word(),
+            Part::Words(" takes "),
+            Part::Count(taken),
+            Part::Words(arguments),
+            Part::Count(given),
+            Part::Words(" given"),
+        ],
+    )
+}
+
+fn wrong_count(alloc: Global, view: &View<'_>) -> Result<String, AllocError> {
+    if let (Some(Use::Called(given)), Some(standing)) = (view.done, view.standing) {
+        return wrong_call(alloc, view, parameters(standing), given);
+    }
+    match named_at(view.declarations, view.at) {
+        Some(declaration) => match declaration.declared {
+            Declared::Object(object) => wrong_length(alloc, view, object),
+            Declared::Declaration(_) | Declared::Definition(_) => {
+                view.with(alloc, " has a wrong count")
+            }
+        },
+        None => view.with(alloc, " has a wrong count"),
+    }
+}
+
+fn bad_return(alloc: Global, view: &View<'_>) -> Result<String, AllocError> {
+    let told = match view.done {
+        Some(Use::Returned(true)) => " is void and cannot return a value",
+        _ => " has to return a value",
+    };
+    message(alloc, &[view.function(), Part::Words(told)])
+}
+
+fn no_main(alloc: Global, view: &View<'_>) -> Result<String, AllocError> {
+    match first_of(view.declarations, b"main") {
+        None => words(alloc, "there is no int main(void)"),
+        Some(declaration) => {
+            let place = Part::Place(place_in(view.text, declaration.name.at));
+            let told = Part::Words(" is no definition of int main(void)");
+            message(alloc, &[Part::Words("'main' at "), place, told])
+        }
+    }
+}
+
+fn undefined(alloc: Global, view: &View<'_>) -> Result<String, AllocError> {
+    match view.declared_at() {
+        Some(at) => view.with_place(alloc, " is called and never defined, only declared at ", at),
+        None => view.with(alloc, " is called and never defined"),
+    }
+}
+
+fn too_many_of_function(
+    alloc: Global,
+    view: &View<'_>,
+    signature: &Signature,
+) -> Result<String, AllocError> {
+    let count = signature.parameters.len();
+    if count <= 8 {
+        return view.with(
+            alloc,
+            " is the 65th function that is defined, at most 64 are allowed",
+        );
+    }
+    let allowed = Part::Words(" parameters, at most 8 are allowed");
+    message(
+        alloc,
+        &[
+            view.word(),
+            Part::Words(" has "),
+            Part::Count(count),
+            allowed,
+        ],
+    )
+}
+
+fn too_many(alloc: Global, view: &View<'_>) -> Result<String, AllocError> {
+    match named_at(view.declarations, view.at) {
+        Some(declaration) => match declaration.declared {
+            Declared::Declaration(signature) | Declared::Definition(signature) => {
+                too_many_of_function(alloc, view, signature)
+            }
+            Declared::Object(_) => view.with(
+                alloc,
+                " is too many: all objects at file scope have at most 65536 words together",
+            ),
+        },
+        None => {
+            let local = Part::Words(" is the 257th local of ");
+            let allowed = Part::Words(", at most 256 are allowed");
+            message(alloc, &[view.word(), local, view.function(), allowed])
+        }
+    }
+}
+
+fn message_of(alloc: Global, view: &View<'_>, fault: &TypeFault) -> Result<String, AllocError> {
+    match fault {
+        TypeFault::Unknown(_) => unknown(alloc, view),
+        TypeFault::Redeclared(_) => redeclared(alloc, view),
+        TypeFault::WrongKind(_) | TypeFault::BadAssign(_) => misused(alloc, view),
+        TypeFault::WrongCount(_) => wrong_count(alloc, view),
+        TypeFault::VoidValue(_) => view.with(alloc, " is void: its call has no value to use"),
+        TypeFault::BadReturn(_) => bad_return(alloc, view),
+        TypeFault::BadBreak(_) => view.with(alloc, " stands outside a loop"),
+        TypeFault::NoMain(_) => no_main(alloc, view),
+        TypeFault::Undefined(_) => undefined(alloc, view),
+        TypeFault::TooMany(_) => too_many(alloc, view),
+        TypeFault::OutOfMemory => words(alloc, "memory ran out"),
+    }
+}
+
+// What is told of a fault of a unit at an offset.
+fn of_unit(alloc: Global, unit: &Unit, fault: &TypeFault, at: usize) -> Result<String, AllocError> {
+    let mut walk = Walk::new(alloc, Vec::new(alloc), Some(at))?;
+    walk.externals(unit.externals())?;
+    let note = walk.note;
+    drop(walk);
+    let declarations = declarations(alloc, unit.externals())?;
+    let text = unit.text();
+    let mut view = View {
+        text,
+        at,
+        word: word_at(text, at),
+        done: None,
+        standing: None,
+        inside: None,
+        declarations: declarations.as_slice(),
+    };
+    if let Some(
+        Note {
+            done,
+            standing,
+            inside,
+        },
+    ) = note
+    {
+        view.done = Some(done);
+        view.standing = standing;
+        view.inside = inside;
+    }
+    message_of(alloc, &view, fault)
+}
+
+/// What is told of the fault that `check` answers for the tree of a text: the name, what it stands for and where that was first
+/// declared, the counts, or the limit that was passed. Nothing for a text without a tree.
+///
+/// `AllocError` where memory for it runs out.
+pub fn of_typing(
+    alloc: Global,
+    text: &[u8],
+    fault: &TypeFault,
+) -> Result<Option<Diagnostic>, AllocError>
+    // It stands in the text exactly where the fault does.
+    ensures placed { IfOk result (λ some. IfSome some (λ told. is_some told.at ≡ is_some (fault_place fault.now))) }
+    ensures within { IfOk result (λ some. IfSome some (λ told. IfSome told.at (λ at. at ≤ length text.now))) }
+{
+    let at = offset_in(text, fault.place());
+    match parse(alloc, text) {
+        Ok(unit) => {
+            let message = of_unit(alloc, &unit, fault, at.unwrap_or(usize::MAX));
+            drop(unit);
+            let message = message?;
+            Ok(Some(Diagnostic { at, message }))
+        }
+        Err(SyntaxFault::OutOfMemory) => Err(AllocError),
+        Err(fault) => {
+            drop(fault);
+            Ok(None)
+        }
+    }
+}

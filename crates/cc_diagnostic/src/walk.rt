@@ -1,0 +1,139 @@
+// One walk over a tree in the order of its text, with the names in scope.
+//
+// It notes what stands at one offset of the text, and writes the instructions of each function. Of the operators that can go wrong
+// the tree does not keep the places; but they stand in the tree in the order of their tokens, so the walk takes the places of those
+// tokens one after the other. A tree that breaks rules is walked over as any other: what has no meaning becomes no instruction, or a
+// constant.
+
+mod expressions;
+mod statements;
+mod units;
+
+use super::code::{Function, Instruction};
+use super::names::{Names, Standing};
+use cc_syntax::{Identifier, Signature};
+use std::alloc::{AllocError, Global};
+
+/// What is done at an offset.
+#[derive(Clone, Copy)]
+pub enum Use {
+    /// A name is declared.
+    Declared,
+    /// A name is read as a value.
+    Read,
+    /// A name is indexed.
+    Indexed,
+    /// A name is written to.
+    Written,
+    /// A name is called, with so many arguments.
+    Called(usize),
+    /// A `return`, with a value or without.
+    Returned(bool),
+    /// A constant expression begins.
+    Constant,
+}
+
+/// What stands at an offset: what is done there, what the name stood for before, and in which function.
+#[derive(Clone, Copy)]
+pub struct Note<'a> {
+    pub done: Use,
+    pub standing: Option<Standing<'a>>,
+    pub inside: Option<&'a Signature>,
+}
+
+/// A walk: the names in scope, how many variables the function has so far, and the function; the places of operators that can go
+/// wrong, and how many of them were taken; the offset of which a note is wanted, and the note; and what is written. Jumps out of
+/// loops that have no goal yet are kept by the number of their instruction.
+#[derive(Drop)]
+pub struct Walk<'a> {
+    names: Names<'a>,
+    variables: usize,
+    inside: Option<&'a Signature>,
+    operators: Vec<usize>,
+    taken: usize,
+    wanted: Option<usize>,
+    breaks: Vec<usize>,
+    continues: Vec<usize>,
+    pub note: Option<Note<'a>>,
+    pub code: Vec<Instruction<'a>>,
+    pub functions: Vec<Function<'a>>,
+    // How many words the objects so far have.
+    words: usize,
+}
+
+impl<'a> Walk<'a> {
+    /// A walk before its first external declaration, over a text with operators at these offsets, that notes what stands at an offset.
+    pub fn new(
+        alloc: Global,
+        operators: Vec<usize>,
+        wanted: Option<usize>,
+    ) -> Result<Walk<'a>, AllocError> {
+        let mut names = Names::new(alloc);
+        names.add_builtins()?;
+        Ok(Walk {
+            names,
+            variables: 0,
+            inside: None,
+            operators,
+            taken: 0,
+            wanted,
+            breaks: Vec::new(alloc),
+            continues: Vec::new(alloc),
+            note: None,
+            code: Vec::new(alloc),
+            functions: Vec::new(alloc),
+            words: 0,
+        })
+    }
+
+    // Notes what stands at an offset, where it is the wanted one. What was noted first stays.
+    fn note(&mut self, at: usize, done: Use, standing: Option<Standing<'a>>) {
+        if self.wanted == Some(at) && self.note.is_none() {
+            self.note = Some(Note {
+                done,
+                standing,
+                inside: self.inside,
+            });
+        }
+    }
+
+    // What a name stands for, which is used here.
+    fn look_up(&mut self, name: &'a Identifier, done: Use) -> Option<Standing<'a>> {
+        let standing = self.names.find(name.bytes.as_slice());
+        self.note(name.at, done, standing);
+        standing
+    }
+
+    fn emit(&mut self, instruction: Instruction<'a>) -> Result<(), AllocError> {
+        self.code.push(instruction)?;
+        Ok(())
+    }
+
+    // Writes an instruction that a jump will replace, and answers its number.
+    fn open_jump(&mut self) -> Result<usize, AllocError> {
+        let number = self.code.len();
+        self.emit(Instruction::Drop)?;
+        Ok(number)
+    }
+
+    // Writes another instruction in the place of one.
+    fn replace(&mut self, number: usize, instruction: Instruction<'a>) {
+        if let Some(place) = self.code.get_mut(number) {
+            *place = instruction;
+        }
+    }
+
+    // The offset of the next operator that can go wrong.
+    fn next_operator(&mut self) -> usize {
+        let at = self.operators.get(self.taken).copied().unwrap_or(0);
+        self.taken = self.taken.saturating_add(1);
+        at
+    }
+
+    /// The number of the function of a name.
+    pub fn function(&self, name: &[u8]) -> Option<usize> {
+        self.functions
+            .iter()
+            .position(|function| function.name.bytes.as_slice() == name)
+    }
+}

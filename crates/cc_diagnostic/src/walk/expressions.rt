@@ -1,0 +1,323 @@
+// Expressions and actions.
+
+use super::{Use, Walk};
+use crate::code::{Element, Instruction, Operation};
+use crate::names::{Lead, Standing};
+use cc_resolve::{Extent, unary_operation};
+use cc_syntax::{
+    Action, AssignmentOperator, BinaryOperator, Expression, Identifier, StepOperator, Target,
+};
+use cc_tokens::Scalar;
+use cc_typing::{
+    Entity, applied_operator, binary_type, common_type, step_operator, unary_type, working_type,
+};
+use std::alloc::AllocError;
+
+/// What is written: a variable of the function, a word of the objects, an array's element whose index is pushed, or nothing.
+#[derive(Clone, Copy)]
+enum Slot<'a> {
+    Local(usize),
+    Global(usize),
+    Element(Element<'a>),
+    Nothing,
+}
+
+/// What is written, and the type of its value.
+#[derive(Clone, Copy)]
+struct Goal<'a> {
+    slot: Slot<'a>,
+    scalar: Scalar,
+}
+
+/// An operator that an assignment applies, and its offset.
+#[derive(Clone, Copy)]
+struct Applied {
+    operator: BinaryOperator,
+    at: usize,
+}
+
+// The type of the value of what a name stands for; `int` where it has none.
+fn scalar_of(standing: Option<Standing<'_>>) -> Scalar {
+    match standing {
+        None => Scalar::Int,
+        Some(standing) => match standing.entity {
+            Entity::Variable(scalar) | Entity::Elements(scalar) => scalar,
+            Entity::Function(signature) => signature.result.unwrap_or(Scalar::Int),
+            Entity::WriteWord | Entity::ReadWord => Scalar::Int,
+        },
+    }
+}
+
+// Where the words are to which a name leads; nowhere where it leads to none.
+fn extent_of(standing: Option<Standing<'_>>) -> Extent {
+    let nowhere = Extent {
+        offset: 0,
+        length: 0,
+    };
+    match standing {
+        None => nowhere,
+        Some(standing) => match standing.lead {
+            Lead::Words(extent) => extent,
+            Lead::Local(_) | Lead::Function(_) | Lead::Builtin => nowhere,
+        },
+    }
+}
+
+// What a name stands for, as what is written.
+fn slot_of<'a>(standing: Option<Standing<'_>>) -> Slot<'a> {
+    match standing {
+        None => Slot::Nothing,
+        Some(standing) => match standing.lead {
+            Lead::Local(number) => Slot::Local(number),
+            Lead::Words(extent) => Slot::Global(extent.offset),
+            Lead::Function(_) | Lead::Builtin => Slot::Nothing,
+        },
+    }
+}
+
+// What pushes the value of what a name stands for.
+fn load(standing: Option<Standing<'_>>) -> Instruction<'_> {
+    match slot_of(standing) {
+        Slot::Local(number) => Instruction::Local(number),
+        Slot::Global(offset) => Instruction::Global(offset),
+        Slot::Element(_) | Slot::Nothing => Instruction::Constant(0),
+    }
+}
+
+// What calls a name, of which the arguments are pushed.
+fn call_of<'a>(standing: Option<Standing<'_>>, name: &'a Identifier) -> Instruction<'a> {
+    match standing {
+        None => Instruction::Constant(0),
+        Some(standing) => match standing.entity {
+            Entity::ReadWord => Instruction::Read,
+            Entity::WriteWord => Instruction::Write,
+            Entity::Variable(_) | Entity::Elements(_) => Instruction::Constant(0),
+            Entity::Function(_) => match standing.lead {
+                Lead::Function(number) => Instruction::Call(number, name),
+                Lead::Local(_) | Lead::Words(_) | Lead::Builtin => Instruction::Constant(0),
+            },
+        },
+    }
+}
+
+impl<'a> Walk<'a> {
+    // The offset of an operator whose token comes next; 0 for one that cannot go wrong.
+    fn place_of(&mut self, operator: BinaryOperator) -> usize {
+        match operator {
+            BinaryOperator::Divide
+            | BinaryOperator::Remainder
+            | BinaryOperator::ShiftLeft
+            | BinaryOperator::ShiftRight => self.next_operator(),
+            _ => 0,
+        }
+    }
+
+    /// Writes what pushes the value of an expression, and answers its type.
+    #[cycle(expressions)]
+    pub fn expression(&mut self, tree: &'a Expression) -> Result<Scalar, AllocError> {
+        match tree {
+            Expression::Number(scalar, word) => {
+                self.emit(Instruction::Constant(*word))?;
+                Ok(*scalar)
+            }
+            Expression::Name(name) => {
+                let standing = self.look_up(name, Use::Read);
+                self.emit(load(standing))?;
+                Ok(scalar_of(standing))
+            }
+            Expression::Element(name, index) => {
+                let standing = self.look_up(name, Use::Indexed);
+                let index = self.expression(index)?;
+                self.emit(Instruction::Element(Element {
+                    array: name,
+                    extent: extent_of(standing),
+                    index,
+                }))?;
+                Ok(scalar_of(standing))
+            }
+            Expression::Call(name, all) => {
+                let all = all.as_slice();
+                let standing = self.look_up(name, Use::Called(all.len()));
+                self.arguments(all)?;
+                self.emit(call_of(standing, name))?;
+                Ok(scalar_of(standing))
+            }
+            Expression::Parenthesised(inner) => self.expression(inner),
+            Expression::Unary(operator, operand) => {
+                let scalar = self.expression(operand)?;
+                if let Some(operation) = unary_operation(*operator) {
+                    self.emit(Instruction::Unary(operation))?;
+                }
+                Ok(unary_type(*operator, scalar))
+            }
+            Expression::Cast(scalar, operand) => {
+                self.expression(operand)?;
+                Ok(*scalar)
+            }
+            Expression::Binary(operator, left, right) => {
+                let first = self.expression(left)?;
+                let middle = self.begin_binary(*operator)?;
+                let second = self.expression(right)?;
+                self.end_binary(*operator, middle, first, second)
+            }
+            Expression::Conditional(test, held, other) => {
+                self.expression(test)?;
+                let jump = self.open_jump()?;
+                let first = self.expression(held)?;
+                let skip = self.open_jump()?;
+                let goal = self.code.len();
+                self.replace(jump, Instruction::JumpIfZero(goal));
+                let second = self.expression(other)?;
+                let goal = self.code.len();
+                self.replace(skip, Instruction::Jump(goal));
+                Ok(common_type(first, second))
+            }
+        }
+    }
+
+    #[cycle(expressions)]
+    fn arguments(&mut self, trees: &'a [Expression]) -> Result<(), AllocError> {
+        for tree in trees {
+            self.expression(tree)?;
+        }
+        Ok(())
+    }
+
+    // Between the operands of a binary operator: where `&&` and `||` have to jump, or the offset of the operator.
+    fn begin_binary(&mut self, operator: BinaryOperator) -> Result<usize, AllocError> {
+        match operator {
+            BinaryOperator::LogicalAnd | BinaryOperator::LogicalOr => self.open_jump(),
+            _ => Ok(self.place_of(operator)),
+        }
+    }
+
+    // Behind the operands of a binary operator, of these types: its type.
+    fn end_binary(
+        &mut self,
+        operator: BinaryOperator,
+        middle: usize,
+        first: Scalar,
+        second: Scalar,
+    ) -> Result<Scalar, AllocError> {
+        match operator {
+            BinaryOperator::LogicalAnd | BinaryOperator::LogicalOr => {
+                self.emit(Instruction::Truth)?;
+                let end = self.code.len();
+                let jump = match operator {
+                    BinaryOperator::LogicalAnd => Instruction::AndThen(end),
+                    _ => Instruction::OrElse(end),
+                };
+                self.replace(middle, jump);
+            }
+            _ => self.emit(Instruction::Binary(Operation {
+                operator,
+                at: middle,
+                working: working_type(operator, first, second),
+                right: second,
+            }))?,
+        }
+        Ok(binary_type(operator, first, second))
+    }
+
+    /// Writes what does an action.
+    pub fn action(&mut self, tree: &'a Action) -> Result<(), AllocError> {
+        match tree {
+            Action::Assign(operator, target, right) => self.assignment(*operator, target, right),
+            Action::Step(operator, target) => self.step(*operator, target),
+            Action::Evaluate(tree) => {
+                self.expression(tree)?;
+                self.emit(Instruction::Drop)
+            }
+        }
+    }
+
+    fn assignment(
+        &mut self,
+        operator: AssignmentOperator,
+        target: &'a Target,
+        right: &'a Expression,
+    ) -> Result<(), AllocError> {
+        let goal = self.goal(target)?;
+        let applied = match applied_operator(operator) {
+            Some(operator) => Some(Applied {
+                operator,
+                at: self.place_of(operator),
+            }),
+            None => None,
+        };
+        let scalar = self.expression(right)?;
+        self.store(goal, applied, scalar)
+    }
+
+    // An increment or a decrement.
+    fn step(&mut self, operator: StepOperator, target: &'a Target) -> Result<(), AllocError> {
+        let goal = self.goal(target)?;
+        self.emit(Instruction::Constant(1))?;
+        let applied = match applied_operator(step_operator(operator)) {
+            Some(operator) => Some(Applied { operator, at: 0 }),
+            None => None,
+        };
+        self.store(goal, applied, Scalar::Int)
+    }
+
+    // What a target is, where the index of an element is pushed.
+    fn goal(&mut self, target: &'a Target) -> Result<Goal<'a>, AllocError> {
+        match target {
+            Target::Variable(name) => {
+                let standing = self.look_up(name, Use::Written);
+                Ok(Goal {
+                    slot: slot_of(standing),
+                    scalar: scalar_of(standing),
+                })
+            }
+            Target::Element(name, index) => {
+                let standing = self.look_up(name, Use::Indexed);
+                let index = self.expression(index)?;
+                let element = Element {
+                    array: name,
+                    extent: extent_of(standing),
+                    index,
+                };
+                Ok(Goal {
+                    slot: Slot::Element(element),
+                    scalar: scalar_of(standing),
+                })
+            }
+        }
+    }
+
+    // Takes a word of a type into what is written, or what an operator makes of the old value there and the word.
+    fn store(
+        &mut self,
+        goal: Goal<'a>,
+        applied: Option<Applied>,
+        right: Scalar,
+    ) -> Result<(), AllocError> {
+        if let Some(Applied { operator, at }) = applied {
+            self.old_value(goal.slot)?;
+            self.emit(Instruction::Binary(Operation {
+                operator,
+                at,
+                working: working_type(operator, goal.scalar, right),
+                right,
+            }))?;
+        }
+        self.emit(match goal.slot {
+            Slot::Local(number) => Instruction::SetLocal(number),
+            Slot::Global(offset) => Instruction::SetGlobal(offset),
+            Slot::Element(element) => Instruction::SetElement(element),
+            Slot::Nothing => Instruction::Drop,
+        })
+    }
+
+    // Puts the old value of what is written below the newest word.
+    fn old_value(&mut self, slot: Slot<'a>) -> Result<(), AllocError> {
+        match slot {
+            Slot::Local(number) => self.emit(Instruction::Local(number))?,
+            Slot::Global(offset) => self.emit(Instruction::Global(offset))?,
+            Slot::Element(element) => return self.emit(Instruction::ElementBelow(element)),
+            Slot::Nothing => self.emit(Instruction::Constant(0))?,
+        }
+        self.emit(Instruction::Swap)
+    }
+}

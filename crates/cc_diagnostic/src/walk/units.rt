@@ -1,0 +1,178 @@
+// External declarations.
+
+use super::{Use, Walk};
+use crate::code::{Function, Instruction};
+use crate::names::{Lead, Standing};
+use cc_resolve::Extent;
+use cc_syntax::{
+    ConstantExpression, External, Identifier, Object, Parameter, Signature, Statement,
+};
+use cc_tokens::Scalar;
+use cc_typing::{Entity, object_words};
+use std::alloc::AllocError;
+
+impl<'a> Walk<'a> {
+    // Declares a function where its name is new, and answers its number, where it is a function.
+    fn declare_function(&mut self, signature: &'a Signature) -> Result<Option<usize>, AllocError> {
+        let name = &signature.name;
+        let standing = self.names.find_inner(name.bytes.as_slice());
+        self.note(name.at, Use::Declared, standing);
+        if let Some(standing) = standing {
+            return Ok(match standing.lead {
+                Lead::Function(number) => Some(number),
+                Lead::Local(_) | Lead::Words(_) | Lead::Builtin => None,
+            });
+        }
+        let number = self.functions.len();
+        self.functions.push(Function {
+            name,
+            start: usize::MAX,
+            parameters: 0,
+            variables: 0,
+        })?;
+        self.names.declare(
+            name.bytes.as_slice(),
+            Standing {
+                entity: Entity::Function(signature),
+                at: Some(name.at),
+                lead: Lead::Function(number),
+            },
+        )?;
+        Ok(Some(number))
+    }
+
+    fn parameters(&mut self, trees: &'a [Parameter]) -> Result<(), AllocError> {
+        for tree in trees {
+            match &tree.name {
+                Some(name) => {
+                    self.variable(name, tree.scalar)?;
+                }
+                None => self.variables = self.variables.saturating_add(1),
+            }
+        }
+        Ok(())
+    }
+
+    // Writes a function's instructions.
+    fn body(
+        &mut self,
+        signature: &'a Signature,
+        statements: &'a [Statement],
+    ) -> Result<Function<'a>, AllocError> {
+        let name = &signature.name;
+        let parameters = signature.parameters.as_slice();
+        self.taken = self
+            .operators
+            .as_slice()
+            .iter()
+            .filter(|at| **at < name.at)
+            .count();
+        let start = self.code.len();
+        self.parameters(parameters)?;
+        self.statements(statements)?;
+        self.emit(Instruction::Constant(0))?;
+        self.emit(Instruction::Return)?;
+        Ok(Function {
+            name,
+            start,
+            parameters: parameters.len(),
+            variables: self.variables.saturating_sub(parameters.len()),
+        })
+    }
+
+    fn definition(
+        &mut self,
+        signature: &'a Signature,
+        statements: &'a [Statement],
+    ) -> Result<(), AllocError> {
+        let number = self.declare_function(signature)?;
+        let around = self.names.open();
+        self.inside = Some(signature);
+        self.variables = 0;
+        let function = self.body(signature, statements)?;
+        self.inside = None;
+        self.names.close(around);
+        if let Some(place) = self.functions.get_mut(number.unwrap_or(usize::MAX)) {
+            *place = function;
+        }
+        Ok(())
+    }
+
+    fn declaration(&mut self, signature: &'a Signature) -> Result<(), AllocError> {
+        self.declare_function(signature)?;
+        let around = self.names.open();
+        self.variables = 0;
+        self.parameters(signature.parameters.as_slice())?;
+        self.names.close(around);
+        Ok(())
+    }
+
+    fn constant(&mut self, tree: &ConstantExpression) {
+        self.note(tree.at, Use::Constant, None);
+    }
+
+    // Declares an object, which gets the next words.
+    fn declare_object(
+        &mut self,
+        name: &'a Identifier,
+        entity: Entity<'a>,
+        length: usize,
+    ) -> Result<(), AllocError> {
+        let bytes = name.bytes.as_slice();
+        let standing = self.names.find_inner(bytes);
+        self.note(name.at, Use::Declared, standing);
+        let offset = self.words;
+        self.words = offset.saturating_add(length);
+        self.names.declare(
+            bytes,
+            Standing {
+                entity,
+                at: Some(name.at),
+                lead: Lead::Words(Extent { offset, length }),
+            },
+        )
+    }
+
+    fn object(&mut self, scalar: Scalar, tree: &'a Object) -> Result<(), AllocError> {
+        let length = object_words(tree);
+        match tree {
+            Object::Single(name, initial) => {
+                self.declare_object(name, Entity::Variable(scalar), length)?;
+                if let Some(initial) = initial {
+                    self.constant(initial);
+                }
+            }
+            Object::Array(name, given, values) => {
+                self.declare_object(name, Entity::Elements(scalar), length)?;
+                if let Some(given) = given {
+                    self.constant(given);
+                }
+                for value in values.as_slice() {
+                    self.constant(value);
+                }
+            }
+        }
+        Ok(())
+    }
+
+    fn external(&mut self, tree: &'a External) -> Result<(), AllocError> {
+        match tree {
+            External::Declaration(signature) => self.declaration(signature),
+            External::Definition(signature, body) => self.definition(signature, body.as_slice()),
+            External::Objects(scalar, objects) => {
+                for object in objects.as_slice() {
+                    self.object(*scalar, object)?;
+                }
+                Ok(())
+            }
+        }
+    }
+
+    /// Goes over all external declarations of a unit.
+    pub fn externals(&mut self, trees: &'a [External]) -> Result<(), AllocError> {
+        for tree in trees {
+            self.external(tree)?;
+        }
+        Ok(())
+    }
+}

@@ -1,0 +1,104 @@
+// What is told to a person besides the answer: of a fault, and of a run that went wrong.
+
+use super::fault::Fault;
+use cc_command_line::Task;
+use cc_diagnostic::{Diagnostic, of_name, of_syntax, of_typing, of_wrong};
+use cc_link::{BuildFault, LinkFault, PieceFault};
+use cc_meaning::Cause;
+use std::alloc::{AllocError, Global};
+use std::io::{self, Write};
+
+// What is told of a fault that stands nowhere in the text.
+fn words_of(fault: &Fault) -> Option<&'static str> {
+    match fault {
+        Fault::Read => Some("the text could not be read"),
+        Fault::Write => Some("the answer could not be written"),
+        Fault::Build(BuildFault::Link(LinkFault::ImageTooLarge)) => {
+            Some("the image would have more than 131072 words of code")
+        }
+        _ if fault.number() == 40 => Some("memory ran out"),
+        _ => None,
+    }
+}
+
+// What is told of a function that is not compiled.
+fn of_piece(
+    alloc: Global,
+    text: &[u8],
+    fault: PieceFault,
+) -> Result<Option<Diagnostic>, AllocError> {
+    match fault {
+        PieceFault::FunctionTooLarge { at, length } => {
+            let words = "is too large to be compiled: it would have more than 4096 nodes of RTL";
+            Ok(Some(of_name(alloc, text, at, length, words)?))
+        }
+        PieceFault::Unvalidated { at, length, .. } => {
+            let words =
+                "is not compiled: it is not shown that its allocated code does what it does";
+            Ok(Some(of_name(alloc, text, at, length, words)?))
+        }
+        PieceFault::OutOfMemory => Ok(None),
+    }
+}
+
+// What is told of a fault in the text.
+fn of_fault(alloc: Global, text: &[u8], fault: &Fault) -> Result<Option<Diagnostic>, AllocError> {
+    match fault {
+        Fault::Syntax(fault) | Fault::Build(BuildFault::Syntax(fault)) => {
+            Ok(Some(of_syntax(alloc, text, fault)?))
+        }
+        Fault::Typing(fault) | Fault::Build(BuildFault::Typing(fault)) => {
+            of_typing(alloc, text, fault)
+        }
+        Fault::Build(BuildFault::Piece(fault)) => of_piece(alloc, text, *fault),
+        Fault::Build(BuildFault::Link(_))
+        | Fault::Meaning(_)
+        | Fault::OutOfMemory
+        | Fault::Read
+        | Fault::Write => Ok(None),
+    }
+}
+
+// Writes what is told, where there is something and memory for it.
+fn write_told<W: Write>(
+    told: Result<Option<Diagnostic>, AllocError>,
+    text: &[u8],
+    writer: &mut W,
+) -> io::Result<()> {
+    match told {
+        Ok(Some(diagnostic)) => diagnostic.write(text, writer),
+        Ok(None) | Err(_) => Ok(()),
+    }
+}
+
+/// Writes what is told of a fault of a text: its place with the line of the text, what was found there and what was wanted. Nothing
+/// where memory for that runs out.
+pub fn explain_fault<W: Write>(
+    alloc: Global,
+    text: &[u8],
+    fault: &Fault,
+    writer: &mut W,
+) -> io::Result<()> {
+    match words_of(fault) {
+        Some(words) => writeln!(writer, "cclib: {words}"),
+        None => write_told(of_fault(alloc, text, fault), text, writer),
+    }
+}
+
+/// Writes what is told of a task that answered that a text's run goes wrong for a cause: where, in which function and with which
+/// values. The run is done once more for that. Nothing where memory for it runs out.
+pub fn explain_wrong<W: Write>(
+    alloc: Global,
+    task: &Task,
+    text: &[u8],
+    cause: Cause,
+    writer: &mut W,
+) -> io::Result<()> {
+    match task {
+        Task::Interpret(steps, words) => {
+            let told = of_wrong(alloc, text, words.as_slice(), *steps, cause);
+            write_told(told, text, writer)
+        }
+        Task::Check | Task::Run(_, _) | Task::Asm => Ok(()),
+    }
+}

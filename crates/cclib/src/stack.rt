@@ -1,0 +1,48 @@
+// Room for the stack, taken before anything else.
+//
+// The system lets the stack of a process grow as it is used, and ends the process by a signal where a limit on its memory refuses that.
+// What the deepest text needs is bounded, since a text nests 64 levels and 512 tokens at most: 606 KiB were seen, for `run` of 62 loops
+// within one another around 508 times `~`. So 1 MiB is asked for once as any other memory, and given back, which shows that it is there;
+// and then the stack is used down to there, which takes it for good. Where it is not there, that is want of memory, and not a signal.
+
+use std::alloc::{AllocError, Global};
+
+/// How many blocks of the stack are taken, each of 4,096 bytes: more than the deepest text needs.
+const BLOCKS: usize = 256;
+
+// Whether so many blocks are free: takes them, uses them and gives them back.
+#[inline(never)]
+fn is_free(alloc: Global, blocks: usize) -> bool {
+    let mut room = Vec::new(alloc);
+    for _ in 0..blocks {
+        if room.push([1u8; 4096]).is_err() {
+            return false;
+        }
+    }
+    room.len() == blocks
+}
+
+// Uses so many blocks of the stack below this call; the byte that is put there.
+#[inline(never)]
+fn touch(blocks: usize, byte: u8) -> u8 {
+    let room = [byte; 4096];
+    if blocks == 0 {
+        return newest(&room);
+    }
+    let below = touch(blocks - 1, newest(&room));
+    // A use behind the call, so that the block stays until then.
+    if below == 0 { 0 } else { newest(&room) }
+}
+
+#[inline(never)]
+fn newest(room: &[u8]) -> u8 {
+    room.last().copied().unwrap_or(0)
+}
+
+/// Takes what the deepest text needs of the stack. `AllocError` where it is not there.
+pub fn reserve_stack(alloc: Global) -> Result<(), AllocError> {
+    if !is_free(alloc, BLOCKS) || touch(BLOCKS, 1) != 1 {
+        return Err(AllocError);
+    }
+    Ok(())
+}

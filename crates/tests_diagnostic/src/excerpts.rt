@@ -1,0 +1,133 @@
+// How the line of a text is shown, with the caret.
+
+use super::helpers::{tells, written};
+use cc_diagnostic::{Diagnostic, of_name};
+use std::alloc::{AllocError, Global};
+
+// Texts, and what is told of each.
+static LINES: [(&[u8], &str); 9] = [
+    // the middle one of three lines, and lines that end otherwise
+    (
+        b"int x;\nint main(void){y;}\nint z;\n",
+        "-:2:16: 'y' is not declared\n    2 | int main(void){y;}\n      |                ^\n",
+    ),
+    (
+        b"int main(void){\r\n  y;\r\n}\r\n",
+        "-:2:3: 'y' is not declared\n    2 |   y;\n      |   ^\n",
+    ),
+    // the end of the text, with an end of its line before it or none
+    (
+        b"int x",
+        "-:1:6: unexpected end of the text, expected '=', '(', '[', ',' or ';'\n    1 | int x\n      |      ^\n",
+    ),
+    (
+        b"int x;\n",
+        "-:2:1: there is no int main(void)\n    2 | \n      | ^\n",
+    ),
+    // tabs stay, so that the caret is below its byte
+    (
+        b"int main(void){\n\tint x;\ty;}",
+        "-:2:9: 'y' is not declared\n    2 | \tint x;\ty;}\n      | \t      \t^\n",
+    ),
+    // columns count bytes, the caret characters
+    (
+        b"int main(void){/*\xc3\xa9*/y;}",
+        "-:1:22: 'y' is not declared\n    1 | int main(void){/*\u{e9}*/y;}\n      |                     ^\n",
+    ),
+    // what is no UTF-8 is shown byte by byte, what would steer a terminal as a question mark
+    (
+        b"int main(void){/*\xe9\x1b\x9b*/y;}",
+        "-:1:23: 'y' is not declared\n    1 | int main(void){/*\u{e9}??*/y;}\n      |                       ^\n",
+    ),
+    (
+        b"int \x07main(void){}",
+        "-:1:5: byte 0x07 begins no token\n    1 | int ?main(void){}\n      |     ^\n",
+    ),
+    (
+        b"int \xc3\xa9;",
+        "-:1:5: byte 0xc3 begins no token\n    1 | int \u{e9};\n      |     ^\n",
+    ),
+];
+
+#[test]
+fn lines(rt: HostRuntime) {
+    for (i, (text, told)) in LINES.iter().enumerate() {
+        assert!(rt; tells(rt.alloc(), text, told.as_bytes()), "row {i}");
+    }
+}
+
+// Whether a name of so many bytes that is not declared is shown so, in quotes.
+fn shows_name(alloc: Global, length: usize, shown: usize, end: &str) -> Result<bool, AllocError> {
+    let mut text = String::from_str(alloc, "int main(void){\n")?;
+    let mut told = String::from_str(alloc, "-:2:1: '")?;
+    for i in 0..length {
+        text.push('n')?;
+        if i < shown {
+            told.push('n')?;
+        }
+    }
+    text.push_str(";\n}")?;
+    told.push_str(end)?;
+    told.push_str(" is not declared\n    2 | ")?;
+    for _ in 0..length {
+        told.push('n')?;
+    }
+    told.push_str(";\n      | ^\n")?;
+    Ok(tells(alloc, text.as_bytes(), told.as_bytes()))
+}
+
+#[test]
+fn long_names(rt: HostRuntime) {
+    assert!(rt; shows_name(rt.alloc(), 40, 40, "'") == Ok(true));
+    assert!(rt; shows_name(rt.alloc(), 41, 40, "...'") == Ok(true));
+}
+
+// Whether a diagnostic at an offset of a text is written so.
+fn writes(alloc: Global, text: &[u8], at: Option<usize>, told: &str) -> Result<bool, AllocError> {
+    let message = String::from_str(alloc, "this")?;
+    let lines = written(alloc, text, Some(Diagnostic { at, message }))?;
+    Ok(lines.as_slice() == told.as_bytes())
+}
+
+#[test]
+fn offsets(rt: HostRuntime) {
+    let text = b"a\nbc".as_slice();
+    let first = "-:1:1: this\n    1 | a\n      | ^\n";
+    let end = "-:2:3: this\n    2 | bc\n      |   ^\n";
+    assert!(rt; writes(rt.alloc(), text, Some(0), first) == Ok(true));
+    assert!(rt;
+        writes(
+            rt.alloc(),
+            text,
+            Some(1),
+            "-:1:2: this\n    1 | a\n      |  ^\n"
+        ) == Ok(true)
+    );
+    assert!(rt; writes(rt.alloc(), text, Some(4), end) == Ok(true));
+    assert!(rt; writes(rt.alloc(), text, Some(999), end) == Ok(true));
+    assert!(rt; writes(rt.alloc(), text, None, "-: this\n") == Ok(true));
+    assert!(rt;
+        writes(
+            rt.alloc(),
+            b"",
+            Some(0),
+            "-:1:1: this\n    1 | \n      | ^\n"
+        ) == Ok(true)
+    );
+}
+
+// Whether what is told of the name of so many bytes at an offset is written so.
+fn names(alloc: Global, at: usize, length: usize, told: &str) -> Result<bool, AllocError> {
+    let text = b"int f(void){}".as_slice();
+    let diagnostic = of_name(alloc, text, at, length, "is too large")?;
+    let lines = written(alloc, text, Some(diagnostic))?;
+    Ok(lines.as_slice() == told.as_bytes())
+}
+
+#[test]
+fn words_about_names(rt: HostRuntime) {
+    let f = "-:1:5: 'f' is too large\n    1 | int f(void){}\n      |     ^\n";
+    let past = "-:1:14: '' is too large\n    1 | int f(void){}\n      |              ^\n";
+    assert!(rt; names(rt.alloc(), 4, 1, f) == Ok(true));
+    assert!(rt; names(rt.alloc(), 99, 1, past) == Ok(true));
+}

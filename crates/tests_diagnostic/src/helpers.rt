@@ -1,0 +1,90 @@
+// What is told of a text, as it is written.
+
+use cc_diagnostic::{Diagnostic, of_syntax, of_typing, of_wrong};
+use cc_meaning::{Stop, interpret};
+use cc_syntax::{Unit, parse};
+use cc_typing::check;
+use std::alloc::{AllocError, Global};
+
+/// What is written of a diagnostic over a text, nothing where there is none.
+pub fn written(
+    alloc: Global,
+    text: &[u8],
+    diagnostic: Option<Diagnostic>,
+) -> Result<Vec<u8>, AllocError> {
+    let mut lines = Vec::new(alloc);
+    if let Some(diagnostic) = diagnostic {
+        let result = diagnostic.write(text, &mut lines);
+        drop(diagnostic);
+        if result.is_err() {
+            drop(lines);
+            return Err(AllocError);
+        }
+    }
+    Ok(lines)
+}
+
+fn of_unit(alloc: Global, text: &[u8], unit: Unit) -> Result<Vec<u8>, AllocError> {
+    match check(alloc, unit) {
+        Ok(typed) => {
+            drop(typed);
+            Ok(Vec::new(alloc))
+        }
+        Err(fault) => {
+            let told = of_typing(alloc, text, &fault);
+            drop(fault);
+            written(alloc, text, told?)
+        }
+    }
+}
+
+/// What is told of the first fault of a text; nothing for a program.
+pub fn told_of(alloc: Global, text: &[u8]) -> Result<Vec<u8>, AllocError> {
+    match parse(alloc, text) {
+        Ok(unit) => of_unit(alloc, text, unit),
+        Err(fault) => {
+            let told = of_syntax(alloc, text, &fault);
+            drop(fault);
+            written(alloc, text, Some(told?))
+        }
+    }
+}
+
+/// Whether this is told of the first fault of a text.
+pub fn tells(alloc: Global, text: &[u8], told: &[u8]) -> bool {
+    match told_of(alloc, text) {
+        Ok(found) => found.as_slice() == told,
+        Err(_) => false,
+    }
+}
+
+// How a program's run ends on these words of input, within so many steps; nothing for a text that is no program.
+fn stop_of(alloc: Global, text: &[u8], input: &[u32], steps: u64) -> Option<Stop> {
+    let unit = parse(alloc, text).ok()?;
+    let typed = check(alloc, unit).ok()?;
+    let outcome = interpret(alloc, &typed, input, steps);
+    drop(typed);
+    match outcome {
+        Ok(outcome) => Some(outcome.stop),
+        Err(fault) => {
+            drop(fault);
+            None
+        }
+    }
+}
+
+/// What is told of a run of a text that goes wrong; nothing for another one.
+pub fn told_of_run(
+    alloc: Global,
+    text: &[u8],
+    input: &[u32],
+    steps: u64,
+) -> Result<Vec<u8>, AllocError> {
+    match stop_of(alloc, text, input, steps) {
+        Some(Stop::Wrong(cause)) => {
+            let told = of_wrong(alloc, text, input, steps, cause)?;
+            written(alloc, text, told)
+        }
+        _ => Ok(Vec::new(alloc)),
+    }
+}
