@@ -145,16 +145,20 @@ too_deep s m tokens k x r c h past =
       plain_tokens-append r.placed (p ∷ []) ∙ ap (λ (z : List Lexeme). z ++ x ∷ []) r.same ∙ sym c.next,
     )
 
--- a token within the limits
-pub reach : (s m : State) (tokens : List Lexeme) (k : ℕ) (x : Lexeme) → Reached s (take k tokens) → IsCutAt tokens k x → step s x ≡ Some m → IsWithin (standing s x m) → Reached m (take (suc k) tokens)
-reach s m tokens k x r c h within =
+-- one token more within the limits
+pub reach_next : (s m : State) (xs : List Lexeme) (x : Lexeme) → Reached s xs → step s x ≡ Some m → IsWithin (standing s x m) → Reached m (xs ++ x ∷ [])
+reach_next s m xs x r h within =
     let p = standing s x m in
     record {
       placed = r.placed ++ p ∷ [];
       runs = runs-append start s m r.placed (p ∷ []) r.runs (m, h, refl, refl, refl);
       fine = all-append r.placed (p ∷ []) r.fine (within, tt);
-      same = plain_tokens-append r.placed (p ∷ []) ∙ ap (λ (z : List Lexeme). z ++ x ∷ []) r.same ∙ sym c.next;
+      same = plain_tokens-append r.placed (p ∷ []) ∙ ap (λ (z : List Lexeme). z ++ x ∷ []) r.same;
     }
+
+-- a token within the limits
+pub reach : (s m : State) (tokens : List Lexeme) (k : ℕ) (x : Lexeme) → Reached s (take k tokens) → IsCutAt tokens k x → step s x ≡ Some m → IsWithin (standing s x m) → Reached m (take (suc k) tokens)
+reach s m tokens k x r c h within = subst (λ (z : List Lexeme). Reached m z) (sym c.next) (reach_next s m (take k tokens) x r h within)
 
 pub at_start : Reached start []
 at_start = record { placed = []; runs = refl; fine = tt; same = refl }

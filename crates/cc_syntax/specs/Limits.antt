@@ -5,17 +5,24 @@ use Rattle.cc_tokens.specs.Token.{Lexeme}
 use Rattle.cc_syntax.specs.Tree.{External}
 use Rattle.cc_syntax.specs.Grammar.{Measured, SpellsUnit, plain_tokens, Spells, Begins}
 
--- a full expression has at most 512 tokens, and levels go to 64
+-- how many tokens a full expression may have
+abbrev pub most_tokens : ℕ
+most_tokens = 512
+
+-- the deepest level at which a statement or declaration may stand
+abbrev pub deepest_level : ℕ
+deepest_level = 64
+
 abbrev pub IsWithin : Measured → Type 0
-IsWithin p = (p.count ≤ 512) × (p.level ≤ 64)
+IsWithin p = (p.count ≤ most_tokens) × (p.level ≤ deepest_level)
 
 -- the tokens spell the tree, and the limits hold
 abbrev pub SpellsWithin : List Lexeme → List External → Type 0
 SpellsWithin tokens tree = (ts : List Measured) × SpellsUnit ts tree × AllByRecursion IsWithin ts × (plain_tokens ts ≡ tokens)
 
--- a token past a limit: after the 512th of a full expression, or the first of a statement or declaration below level 64
+-- a token past a limit: one more than a full expression may have, or the first of a statement or declaration that stands too deep
 abbrev pub PassesLimit : Measured → Type 0
-PassesLimit p = (512 < p.count) ⊎ (64 < p.level)
+PassesLimit p = (most_tokens < p.count) ⊎ (deepest_level < p.level)
 
 -- no unit begins with the tokens up to and with number k; the end of the text counts as a last token
 abbrev pub UnexpectedAt : List Lexeme → ℕ → Type 0

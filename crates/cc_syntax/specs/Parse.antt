@@ -6,7 +6,7 @@ use Rattle.cc_tokens.specs.declared.fault.SyntaxFault.TheVariants as fault
 use Rattle.cc_tokens.specs.Token.{Lexeme}
 use Rattle.cc_syntax.specs.Tree.{External}
 use Rattle.cc_tokens.specs.Place.{place_of}
-use Rattle.cc_tokens.specs.Tokens.{IsTokens, IsTokenRefusal}
+use Rattle.cc_tokens.specs.Tokens.{IsTokens, IsTokenRefusal, most_bytes}
 use Rattle.cc_syntax.specs.Limits.{SpellsWithin, UnexpectedAt, TooDeepAt, IsFineBefore}
 
 -- the text's tokens spell the tree, and the limits hold
@@ -26,7 +26,7 @@ place_at_token text tokens k = place_of text (offset_of text (slice_get tokens k
 
 -- the text has tokens, of which number k is the first that breaks the grammar or a limit, in the way that is named
 pub record BreaksAt (Breaks : List Lexeme → ℕ → Type 0) (text : List ℕ) (p : Place) : Type 0 where
-  pub fits : length text ≤ 65536
+  pub fits : length text ≤ most_bytes
   pub tokens : List Lexeme
   pub are : IsTokens text tokens
   pub number : ℕ
@@ -42,7 +42,7 @@ IsParseRefusal text f = IsTokenRefusal text f
 
 -- what `parse` may answer for a text, want of memory set aside: the tree that it spells, or why it has none
 abbrev pub IsParseAnswer : List ℕ → Result (List External) SyntaxFault → Type 0
-IsParseAnswer text (Ok tree) = (length text ≤ 65536) × SpellsText text tree
+IsParseAnswer text (Ok tree) = (length text ≤ most_bytes) × SpellsText text tree
 IsParseAnswer text (Err fault.OutOfMemory) = ⊥
 IsParseAnswer text (Err f) = IsParseRefusal text f
 

@@ -14,8 +14,8 @@ pub use ast::{
     Target, UnaryOperator,
 };
 pub use cc_tokens::{
-    Keyword, Place, Punctuator, Scalar, SyntaxFault, Token, TokenKind, place_at, tokens,
-    tokens_are_determined,
+    Flaw, Keyword, MOST_BYTES, Next, Place, Punctuator, Scalar, SyntaxFault, Token, TokenKind,
+    next_token, place_at, tokens, tokens_are_determined,
 };
-pub use parser::{parse, parse_is_determined, trees_are_determined};
+pub use parser::{DEEPEST_LEVEL, MOST_TOKENS, parse, parse_is_determined, trees_are_determined};
 pub use unit::Unit;

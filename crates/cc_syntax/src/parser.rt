@@ -18,7 +18,7 @@ mod stop;
 
 ghost use Rattle.std.specs.Prelude.{◌≡◌, ◌≤◌, length, IfOk, IfErr};
 ghost use Rattle.cc_tokens.specs.Token.{lexemes};
-ghost use Rattle.cc_tokens.specs.Tokens.{AreInOrder, IsTokens};
+ghost use Rattle.cc_tokens.specs.Tokens.{AreInOrder, IsTokens, most_bytes};
 ghost use Rattle.cc_syntax.specs.Erase.{external_trees};
 ghost use Rattle.cc_syntax.specs.internal.ParserView.{Refuses};
 ghost use Rattle.cc_syntax.specs.Parse.{SpellsText, IsParseRefusal, ParseAnswersAreOne, TextsHaveAnswers, place_at_token};
@@ -27,10 +27,11 @@ ghost use Rattle.cc_syntax.specs.Source.{source, UnitTree, AnswersTree};
 ghost use Rattle.cc_syntax.specs.internal.Answer.{IsParse};
 
 use crate::ast::External;
-use crate::parser::read::read_tokens;
+pub use crate::parser::read::{DEEPEST_LEVEL, MOST_TOKENS};
+use crate::parser::read::{read_text, read_tokens};
 use crate::parser::stop::Refusal;
 use crate::unit::Unit;
-use cc_tokens::{Place, SyntaxFault, Token, place_at, tokens};
+use cc_tokens::{MOST_BYTES, Place, SyntaxFault, Token, place_at, tokens};
 use std::alloc::Global;
 
 /// The place of a token, or of the end of the text.
@@ -47,7 +48,7 @@ fn place_of_token(text: &[u8], tokens: &[Token], number: usize) -> Place
 
 /// The answer for a text whose tokens were refused by the grammar or a limit, or because memory ran out.
 fn fault_of(text: &[u8], tokens: &[Token], refusal: Refusal) -> SyntaxFault
-    requires fits { length text.now ≤ 65536 }
+    requires fits { length text.now ≤ most_bytes }
     requires ordered { AreInOrder 0 tokens.now (length text.now) }
     requires tokens { IsTokens text.now (lexemes text.now tokens.now) }
     requires refused { Refuses (lexemes text.now tokens.now) refusal }
@@ -64,7 +65,7 @@ fn fault_of(text: &[u8], tokens: &[Token], refusal: Refusal) -> SyntaxFault
 
 /// A text and the external declarations that its tokens spell.
 fn unit_of(alloc: Global, text: &[u8], externals: Vec<External>) -> Result<Unit, SyntaxFault>
-    requires fits { length text.now ≤ 65536 }
+    requires fits { length text.now ≤ most_bytes }
     requires spelled { SpellsText text.now (external_trees externals.items) }
     ensures { IsParse text.now result }
 {
@@ -74,8 +75,8 @@ fn unit_of(alloc: Global, text: &[u8], externals: Vec<External>) -> Result<Unit,
     }
 }
 
-/// The answer for a text.
-fn parse_text(alloc: Global, text: &[u8]) -> Result<Unit, SyntaxFault>
+/// The answer for a text, by the list of its tokens.
+fn parse_list(alloc: Global, text: &[u8]) -> Result<Unit, SyntaxFault>
     ensures { IsParse text.now result }
 {
     let found = tokens(alloc, text)?;
@@ -85,17 +86,29 @@ fn parse_text(alloc: Global, text: &[u8]) -> Result<Unit, SyntaxFault>
     }
 }
 
+/// The answer for a text.
+fn parse_text(alloc: Global, text: &[u8]) -> Result<Unit, SyntaxFault>
+    ensures { IsParse text.now result }
+{
+    if text.len() <= MOST_BYTES {
+        if let Some(externals) = read_text(alloc, text) {
+            return unit_of(alloc, text, externals);
+        }
+    }
+    parse_list(alloc, text)
+}
+
 /// The tree that a text spells (C99 6.5 to 6.9, and the profile's grammar), with the text.
 ///
 /// Refusals: 7 and 1 to 4 as `tokens` has them; then 5 or 6 at the first token that has one: 5 where no unit begins with
 /// the tokens up to and with it (the end of the text counts as a last token), 6 where it is after the 512th token of a
 /// full expression, or begins a statement or declaration below level 64; 40 where memory ran out.
 pub fn parse(alloc: Global, text: &[u8]) -> Result<Unit, SyntaxFault>
-    ensures fits { IfOk result (λ _. length text.now ≤ 65536) }
+    ensures fits { IfOk result (λ _. length text.now ≤ most_bytes) }
     ensures text { IfOk result (λ u. (source u).text ≡ text.now) }
     ensures spelled { IfOk result (λ u. SpellsText text.now (source u).externals) }
     // Where the text spells a tree, that is the answer.
-    ensures only { (tree : UnitTree) → length text.now ≤ 65536 → SpellsText text.now tree → AnswersTree tree result }
+    ensures only { (tree : UnitTree) → length text.now ≤ most_bytes → SpellsText text.now tree → AnswersTree tree result }
     ensures refused { IfErr result (λ fault. IsParseRefusal text.now fault) }
 {
     parse_text(alloc, text)

@@ -3,6 +3,7 @@
 ghost use Rattle.std.specs.Prelude.{◌≡◌, ◌≤◌, length};
 ghost use Rattle.cc_syntax.specs.Erase.{external_trees};
 ghost use Rattle.cc_syntax.specs.Parse.{SpellsText};
+ghost use Rattle.cc_tokens.specs.Tokens.{most_bytes};
 
 use super::ast::External;
 
@@ -12,7 +13,7 @@ pub struct Unit {
     text: Vec<u8>,
     externals: Vec<External>,
     ghost spelled: { ∥ SpellsText text.items (external_trees externals.items) ∥₁ },
-    ghost fits: { length text.items ≤ 65536 },
+    ghost fits: { length text.items ≤ most_bytes },
 }
 
 impl Unit {
@@ -21,7 +22,7 @@ impl Unit {
     /// A text and a tree that it spells.
     pub(crate) fn new(text: Vec<u8>, externals: Vec<External>) -> Self
         requires spelled { SpellsText text.items (external_trees externals.items) }
-        requires fits { length text.items ≤ 65536 }
+        requires fits { length text.items ≤ most_bytes }
         ensures text { (source result).text ≡ text.items }
         ensures externals { (source result).externals ≡ external_trees externals.items }
     {
@@ -31,7 +32,7 @@ impl Unit {
     /// The text, byte for byte: 65,536 at most.
     pub fn text(&self) -> &[u8]
         ensures answer { result.now ≡ (source self.now).text }
-        ensures few { length result.now ≤ 65536 }
+        ensures few { length result.now ≤ most_bytes }
     {
         self.text.as_slice()
     }

@@ -11,18 +11,10 @@ use Rattle.cc_tokens.specs.declared.token.TokenKind.{TokenKind}
 use Rattle.cc_tokens.specs.Place.{place_of}
 use Rattle.cc_tokens.specs.Token.{lexeme, lexemes}
 use Rattle.cc_tokens.specs.Tokens.{Piece, blank, comment, token, piece_bytes, IsCut, tokens_of, IsTokens, FirstFlaw, IsFlawed, AreInOrder, IsTokenRefusal, flaw_fault}
+use Rattle.cc_tokens.specs.Reading.{FoundBefore}
 use Rattle.cc_tokens.specs.internal.Scan.{front_of}
 use Rattle.cc_tokens.proofs.Fronts.{StandsAt, IsFront, front_sound}
 use Rattle.cc_tokens.proofs.Cuts.{cut_more, bytes_more, tokens_more}
-
--- the tokens ts are found before the offset
-pub record FoundBefore (text : List ℕ) (ts : List Token) (at : ℕ) : Type 0 where
-  pub within : at ≤ length text
-  pub pieces : List Piece
-  pub cut : IsCut pieces text (drop at text)
-  pub consumed : at ≡ length (flat_map piece_bytes pieces)
-  pub tokens : lexemes text ts ≡ tokens_of 0 pieces
-  pub ordered : AreInOrder 0 ts at
 
 pub found_none : (text : List ℕ) → FoundBefore text [] 0
 found_none text = record { within = omega arith; pieces = []; cut = refl; consumed = refl; tokens = refl; ordered = omega arith }

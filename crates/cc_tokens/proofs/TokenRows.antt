@@ -12,7 +12,8 @@ use Rattle.cc_tokens.specs.declared.token.Punctuator.TheVariants.{Plus}
 use Rattle.cc_tokens.specs.Tokens.{IsTokens, FirstFlaw}
 use Rattle.cc_tokens.specs.internal.Scan.{front_of, offset_within, run_length, keyword_named, punctuator_at, base_of, suffix_of, constant_spelled}
 use Rattle.cc_tokens.proofs.Fronts.{IsFront, front_sound}
-use Rattle.cc_tokens.proofs.Found.{FoundBefore, found_none, found_blank, found_comment, found_token, found_all}
+use Rattle.cc_tokens.specs.Reading.{FoundBefore}
+use Rattle.cc_tokens.proofs.Found.{found_none, found_blank, found_comment, found_token, found_all}
 
 -- one step on a text, by what stands there
 module _ (text : List ℕ) (ts : List Token) (at : ℕ) (found : FoundBefore text ts at) (some : 0 < length (drop at text)) where

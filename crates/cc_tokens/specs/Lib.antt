@@ -10,5 +10,7 @@ pub mod Spelling
 pub mod Constant
 -- the tokens of a text, its first flaw where it has none, and why it is refused
 pub mod Tokens
+-- reading a text token by token
+pub mod Reading
 -- no promise rests on these
 pub mod internal

@@ -208,19 +208,23 @@ abbrev pub AreInOrder : (low : ℕ) → List Token → (high : ℕ) → Type 0
 AreInOrder low [] high = low ≤ high
 AreInOrder low (t ∷ ts) high = (low ≤ t.from) × (t.from < t.to) × AreInOrder t.to ts high
 
--- a text of at most 65,536 bytes, and the fault of its first flaw, at that flaw's place
+-- how many bytes a text may have
+abbrev pub most_bytes : ℕ
+most_bytes = 65536
+
+-- a text within that, and the fault of its first flaw, at that flaw's place
 pub record IsFlawFault (text : List ℕ) (fault : SyntaxFault) : Type 0 where
-  pub fits : length text ≤ 65536
+  pub fits : length text ≤ most_bytes
   pub flaw : Flaw
   pub at : ℕ
   pub first : FirstFlaw text flaw at
   pub is : fault ≡ flaw_fault flaw (place_of text at)
 
--- when a text has no tokens: 7 where it is longer than 65,536 bytes; where it isn't, the fault of its first flaw, or
+-- when a text has no tokens: 7 where it has more bytes; where it hasn't, the fault of its first flaw, or
 -- 40 where memory runs out
 abbrev pub IsTokenRefusal : List ℕ → SyntaxFault → Type 0
-IsTokenRefusal text fault.SourceTooLarge = 65536 < length text
-IsTokenRefusal text fault.OutOfMemory = length text ≤ 65536
+IsTokenRefusal text fault.SourceTooLarge = most_bytes < length text
+IsTokenRefusal text fault.OutOfMemory = length text ≤ most_bytes
 IsTokenRefusal text (fault.BadByte p) = IsFlawFault text (fault.BadByte p)
 IsTokenRefusal text (fault.UnclosedComment p) = IsFlawFault text (fault.UnclosedComment p)
 IsTokenRefusal text (fault.BadConstant p) = IsFlawFault text (fault.BadConstant p)

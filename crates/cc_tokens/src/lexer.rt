@@ -1,9 +1,11 @@
 // The tokens of a text, from its first byte to its last.
 
-ghost use Rattle.std.specs.Prelude.{◌≡◌, ◌<◌, ◌≤◌, length, IfOk, IfErr};
+ghost use Rattle.std.specs.Prelude.{◌≡◌, ◌<◌, ◌≤◌, List, length, IfOk, IfErr};
 ghost use Rattle.cc_tokens.specs.Place.{place_of};
+ghost use Rattle.cc_tokens.specs.declared.token.Token as token;
+ghost use Rattle.cc_tokens.specs.Reading.{FoundBefore, FoundNext, IsBehind};
 ghost use Rattle.cc_tokens.specs.Token.{lexemes};
-ghost use Rattle.cc_tokens.specs.Tokens.{IsTokens, AreInOrder, IsTokenRefusal, flaw_fault, TokensAreOne, TokensHaveNoFlaw, FirstFlawIsOne, TokensOrFlaw};
+ghost use Rattle.cc_tokens.specs.Tokens.{most_bytes, IsTokens, AreInOrder, IsTokenRefusal, flaw_fault, TokensAreOne, TokensHaveNoFlaw, FirstFlawIsOne, TokensOrFlaw};
 
 use super::fault::SyntaxFault;
 use super::flaw::Flaw;
@@ -13,7 +15,7 @@ use super::token::Token;
 use std::alloc::Global;
 
 /// The most bytes that a text may have.
-const LARGEST: usize = 65536;
+pub const MOST_BYTES: usize = 65536;
 
 // The fault of a flaw at an offset.
 fn fault_at(text: &[u8], flaw: Flaw, at: usize) -> SyntaxFault
@@ -29,34 +31,63 @@ fn fault_at(text: &[u8], flaw: Flaw, at: usize) -> SyntaxFault
     }
 }
 
-/// The tokens of a text, in order (C99 6.4 and the profile).
-///
-/// Refusals: 7 where the text has more than 65,536 bytes, before all others; then the first of 1 to 4 in the text, at
-/// its first byte: 1 a byte that begins no token, or a line splice in a comment, 2 a comment that is never closed, 3 a
-/// number that is no constant, 4 a constant past its type's range; 40 where memory for the tokens ran out.
-pub fn tokens(alloc: Global, text: &[u8]) -> Result<Vec<Token>, SyntaxFault>
-    ensures fits { IfOk result (λ ts. length text.now ≤ 65536) }
-    ensures ordered { IfOk result (λ ts. AreInOrder 0 ts.items (length text.now)) }
-    ensures answer { IfOk result (λ ts. IsTokens text.now (lexemes text.now ts.items)) }
-    ensures refused { IfErr result (λ fault. IsTokenRefusal text.now fault) }
+/// What comes next in a text, behind white space and comments.
+#[derive(Clone, Copy)]
+pub enum Next {
+    Token(Token),
+    /// No token up to the end of the text.
+    End,
+    /// No token: the first flaw of the text, and its offset.
+    Flawed(Flaw, usize),
+}
+
+/// The next token of a text from an offset on, behind the tokens before it, which takes no memory.
+pub fn next_token(text: &[u8], at: usize) -> Next
+    requires { at ≤ length text.now }
+    ensures found { (ts : List token.Token) → FoundBefore text.now ts at → FoundNext text.now ts result }
+    ensures behind { IsBehind at (length text.now) result }
 {
-    if text.len() > LARGEST {
-        return Err(SyntaxFault::SourceTooLarge);
-    }
-    let mut found = Vec::new(alloc);
-    let mut at = 0;
+    let mut at = at;
     while at < text.len() {
         match front_of(&text[at..]) {
             Front::Blank => at += 1,
             Front::Comment(n) => at += n,
             Front::Token(kind, n) => {
                 let to = at + n;
-                if found.push(Token { kind, from: at, to }).is_err() {
+                return Next::Token(Token { kind, from: at, to });
+            }
+            Front::Flawed(flaw, n) => return Next::Flawed(flaw, at + n),
+        }
+    }
+    Next::End
+}
+
+/// The tokens of a text, in order (C99 6.4 and the profile).
+///
+/// Refusals: 7 where the text has more than 65,536 bytes, before all others; then the first of 1 to 4 in the text, at
+/// its first byte: 1 a byte that begins no token, or a line splice in a comment, 2 a comment that is never closed, 3 a
+/// number that is no constant, 4 a constant past its type's range; 40 where memory for the tokens ran out.
+pub fn tokens(alloc: Global, text: &[u8]) -> Result<Vec<Token>, SyntaxFault>
+    ensures fits { IfOk result (λ ts. length text.now ≤ most_bytes) }
+    ensures ordered { IfOk result (λ ts. AreInOrder 0 ts.items (length text.now)) }
+    ensures answer { IfOk result (λ ts. IsTokens text.now (lexemes text.now ts.items)) }
+    ensures refused { IfErr result (λ fault. IsTokenRefusal text.now fault) }
+{
+    if text.len() > MOST_BYTES {
+        return Err(SyntaxFault::SourceTooLarge);
+    }
+    let mut found = Vec::new(alloc);
+    let mut at = 0;
+    while at < text.len() {
+        match next_token(text, at) {
+            Next::Token(token) => {
+                if found.push(token).is_err() {
                     return Err(SyntaxFault::OutOfMemory);
                 }
-                at = to;
+                at = token.to;
             }
-            Front::Flawed(flaw, n) => return Err(fault_at(text, flaw, at + n)),
+            Next::End => at = text.len(),
+            Next::Flawed(flaw, at) => return Err(fault_at(text, flaw, at)),
         }
     }
     Ok(found)

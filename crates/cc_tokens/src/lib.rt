@@ -2,7 +2,7 @@
 //! `token` has the types of tokens, `scalar` the types of numbers, `scan` what stands at the front of the bytes that are
 //! left, `lexer` the tokens of a whole text, `flaw` what keeps it from having them, `place` lines and columns, `fault` the
 //! refusals: those of the syntax too, so that one type answers both.
-//! Hands out `tokens`, `place_at`, the types, and the definitions that their contracts name (`specs/`).
+//! Hands out `tokens`, `next_token`, `place_at`, the types, and the definitions that their contracts name (`specs/`).
 #![tactic(auto)]
 
 mod fault;
@@ -14,7 +14,8 @@ mod scan;
 mod token;
 
 pub use fault::SyntaxFault;
-pub use lexer::{tokens, tokens_are_determined};
+pub use flaw::Flaw;
+pub use lexer::{MOST_BYTES, Next, next_token, tokens, tokens_are_determined};
 pub use place::{Place, place_at};
 pub use scalar::Scalar;
 pub use token::{Keyword, Punctuator, Token, TokenKind};

@@ -64,7 +64,7 @@ abbrev pub open_views : List open_statement.Open → List Open
 open_views os = reverse (map open_view os)
 
 abbrev pub body_view : body.Body → Inside
-body_view b = record { externals = external_trees b.externals.items; signature = signature_tree b.signature; finished = statements_of b.finished.items; opened = open_views b.open.items }
+body_view b = record { externals = external_trees b.file.value.externals.items; signature = signature_tree b.signature; finished = statements_of b.finished.items; opened = open_views b.open.items }
 
 abbrev pub spot_view : spot.Spot → Spot
 spot_view spots.Statement = AsStatement
@@ -83,11 +83,11 @@ position_view positions.Header = AsHeader
 abbrev pub purpose_view : purpose.Purpose → Purpose
 purpose_view (purposes.Perform p) = ToPerform (spot_view p)
 purpose_view (purposes.Assign op t p) = ToAssign op (target_tree t) (spot_view p)
-purpose_view (purposes.Step op n p) = ToStep op (name_tree n) (spot_view p)
+purpose_view (purposes.Step s) = ToStep s.value.operator (name_tree s.value.name) (spot_view s.value.spot)
 purpose_view (purposes.Return at) = ToReturn at
 purpose_view (purposes.Test t) = ToTest (test_view t)
 purpose_view (purposes.Continue a) = ToGoOn (beginning_tree a.value)
-purpose_view (purposes.Initialise w t ds n) = ToInitialise (position_view w) t (declarator_trees ds.items) (name_tree n)
+purpose_view (purposes.Initialise d) = ToInitialise (position_view d.value.position) d.value.scalar (declarator_trees d.value.declarators.items) (name_tree d.value.name)
 
 abbrev pub naming_view : naming.Naming → Naming
 naming_view n = record { scalar = n.scalar; objects = object_trees n.objects.items; name = name_tree n.name }
@@ -99,10 +99,10 @@ part_view (parts.Value size vs at) = ToValue (optional_constant size) (constant_
 
 abbrev pub context_view : context.Context → Context
 context_view (contexts.Body b p) = OfBody (body_view b.value) (purpose_view p)
-context_view (contexts.Object es n p) = OfObject (external_trees es.items) (naming_view n) (part_view p)
+context_view (contexts.Object f n p) = OfObject (external_trees f.value.externals.items) (naming_view n.value) (part_view p)
 
 abbrev pub full_view : full.Full → Full
-full_view f = record { context = context_view f.context.value; waiting = waiting_views f.waiting.items; count = f.count }
+full_view f = record { context = context_view f.context; waiting = waiting_views f.waiting.items; count = f.count }
 
 abbrev pub phase_view : phase.Phase → Phase
 phase_view phases.Operand = Operand
@@ -123,10 +123,10 @@ stage_view (stages.ForTesting a) = ForTesting (beginning_tree a.value)
 stage_view (stages.ForStepping a e) = ForStepping (beginning_tree a.value) (optional_tree e)
 stage_view (stages.LocalSign w t) = LocalSign (position_view w) t
 stage_view (stages.Declaring w t ds) = Declaring (position_view w) t (declarator_trees ds.items)
-stage_view (stages.Declared w t ds n) = HasDeclared (position_view w) t (declarator_trees ds.items) (name_tree n)
+stage_view (stages.Declared d) = HasDeclared (position_view d.value.position) d.value.scalar (declarator_trees d.value.declarators.items) (name_tree d.value.name)
 stage_view (stages.Stepping op p) = Stepping op (spot_view p)
-stage_view (stages.StepNamed op n p) = StepNamed op (name_tree n) (spot_view p)
-stage_view (stages.Stepped op t p k) = Stepped op (target_tree t) (spot_view p) k
+stage_view (stages.StepNamed s) = StepNamed s.value.operator (name_tree s.value.name) (spot_view s.value.spot)
+stage_view (stages.Stepped s) = Stepped s.value.operator (target_tree s.value.target) (spot_view s.value.spot) s.value.count
 
 abbrev pub outer_view : outer.Outer → Outer
 outer_view outers.Between = Between
@@ -141,18 +141,18 @@ outer_view (outers.ParameterTyped f t) = ParameterTyped (signature_tree f.value)
 outer_view (outers.ParameterNamed f) = ParameterNamed (signature_tree f.value)
 outer_view (outers.Headed f) = Headed (signature_tree f.value)
 outer_view (outers.ObjectNext t os) = ObjectNext t (object_trees os.items)
-outer_view (outers.ObjectNamed n) = ObjectNamed (naming_view n)
-outer_view (outers.Sizing n) = Sizing (naming_view n)
-outer_view (outers.Sized n size) = Sized (naming_view n) (optional_constant size)
-outer_view (outers.Initialising n) = Initialising (naming_view n)
-outer_view (outers.Listing n size) = Listing (naming_view n) (optional_constant size)
-outer_view (outers.Valuing n size vs) = Valuing (naming_view n) (optional_constant size) (constant_trees vs.items)
+outer_view (outers.ObjectNamed n) = ObjectNamed (naming_view n.value)
+outer_view (outers.Sizing n) = Sizing (naming_view n.value)
+outer_view (outers.Sized n size) = Sized (naming_view n.value) (optional_constant size)
+outer_view (outers.Initialising n) = Initialising (naming_view n.value)
+outer_view (outers.Listing n size) = Listing (naming_view n.value) (optional_constant size)
+outer_view (outers.Valuing v) = Valuing (naming_view v.value.naming.value) (optional_constant v.value.size) (constant_trees v.value.values.items)
 outer_view (outers.Listed t os) = Listed t (object_trees os.items)
 
 abbrev pub state_view : state.State → State
-state_view (states.File es o) = AtFile (external_trees es.items) (outer_view o)
-state_view (states.Body b s) = InBody (body_view b.value) (stage_view s)
-state_view (states.Full f p) = InFull (full_view f) (phase_view p)
+state_view (states.File f) = AtFile (external_trees f.value.externals.items) (outer_view f.value.next)
+state_view (states.Body b) = InBody (body_view b.value) (stage_view b.value.stage)
+state_view (states.Full f) = InFull (full_view f.value) (phase_view f.value.phase)
 
 -- what a function returned, seen by view, is what the parser gives, unless memory ran out
 abbrev pub Stops : {Y : Type 0} → stop.Stop → Option Y → Type 0

@@ -17,10 +17,14 @@ use crate::parser::settle::{
     begin_declaration, end_action, end_block, end_declaration, settle_body, settled_state,
     settled_unboxed, with_open,
 };
-use crate::parser::state::{Body, Context, Open, Position, Purpose, Spot, Stage, State, Test};
+use crate::parser::state::{
+    Body, Context, DeclaredName, Open, Position, Purpose, Spot, Stage, State, SteppedName,
+    SteppedTarget, Test, in_body,
+};
 use crate::parser::stop::Stop;
 use cc_tokens::{Scalar, Token};
 use std::alloc::Global;
+use std::mem::replace;
 
 /// The first token of an action.
 fn step_action(
@@ -36,7 +40,7 @@ fn step_action(
     ensures { Gives state_view result (action_step (body_view body.value) (spot_view spot) role (name_of (lexeme text.now token))) }
 {
     match role {
-        Role::Step(operator) => Ok(State::Body(body, Stage::Stepping(operator, spot))),
+        Role::Step(operator) => Ok(in_body(body, Stage::Stepping(operator, spot))),
         _ => {
             let context = Context::Body(body, Purpose::Perform(spot));
             step_first(alloc, context, role, text, token)
@@ -49,7 +53,7 @@ fn ending(alloc: Global, body: Box<Body>, statement: Statement) -> Result<State,
     ensures { Gives state_view result (Some (InBody (body_view body.value) (Ending (statement_tree statement)))) }
 {
     let statement = Box::new(alloc, statement)?;
-    Ok(State::Body(body, Stage::Ending(statement)))
+    Ok(in_body(body, Stage::Ending(statement)))
 }
 
 /// The first token of a statement or declaration, or the end of a block.
@@ -69,13 +73,13 @@ fn step_item(
         Role::OpenBrace => with_open(body, Open::Block(Vec::new(alloc))),
         Role::CloseBrace => end_block(alloc, body),
         Role::Semicolon => settled_unboxed(alloc, body, Statement::Perform(None)),
-        Role::Return => Ok(State::Body(body, Stage::Returning(at))),
+        Role::Return => Ok(in_body(body, Stage::Returning(at))),
         Role::Break => ending(alloc, body, Statement::Break(at)),
         Role::Continue => ending(alloc, body, Statement::Continue(at)),
-        Role::If => Ok(State::Body(body, Stage::Testing(Test::If))),
-        Role::While => Ok(State::Body(body, Stage::Testing(Test::While))),
+        Role::If => Ok(in_body(body, Stage::Testing(Test::If))),
+        Role::While => Ok(in_body(body, Stage::Testing(Test::While))),
         Role::Do => with_open(body, Open::Do),
-        Role::For => Ok(State::Body(body, Stage::ForOpening)),
+        Role::For => Ok(in_body(body, Stage::ForOpening)),
         Role::Int => {
             let stage = Stage::Declaring(Position::Local, Scalar::Int, Vec::new(alloc));
             begin_declaration(body, stage)
@@ -92,7 +96,7 @@ fn step_do(body: Box<Body>, statement: Box<Statement>, role: Role) -> Result<Sta
     ensures { Gives state_view result (do_step (body_view body.value) (statement_tree statement.value) role) }
 {
     match role {
-        Role::While => Ok(State::Body(body, Stage::Testing(Test::Do(statement)))),
+        Role::While => Ok(in_body(body, Stage::Testing(Test::Do(statement)))),
         _ => Err(Stop::Unexpected),
     }
 }
@@ -204,7 +208,7 @@ fn step_for_opening(body: Box<Body>, role: Role) -> Result<State, Stop>
     ensures { Gives state_view result (for_opening_step (body_view body.value) role) }
 {
     match role {
-        Role::OpenParenthesis => Ok(State::Body(body, Stage::ForStarting)),
+        Role::OpenParenthesis => Ok(in_body(body, Stage::ForStarting)),
         _ => Err(Stop::Unexpected),
     }
 }
@@ -224,15 +228,13 @@ fn step_for_starting(
     match role {
         Role::Semicolon => {
             let start = Box::new(alloc, Beginning::Action(None))?;
-            Ok(State::Body(body, Stage::ForTesting(start)))
+            Ok(in_body(body, Stage::ForTesting(start)))
         }
         Role::Int => {
             let stage = Stage::Declaring(Position::Header, Scalar::Int, Vec::new(alloc));
-            Ok(State::Body(body, stage))
+            Ok(in_body(body, stage))
         }
-        Role::SignWord(scalar) => {
-            Ok(State::Body(body, Stage::LocalSign(Position::Header, scalar)))
-        }
+        Role::SignWord(scalar) => { Ok(in_body(body, Stage::LocalSign(Position::Header, scalar))) }
         _ => step_action(alloc, body, Spot::Start, role, text, token),
     }
 }
@@ -251,7 +253,7 @@ fn step_for_testing(
     ensures { Gives state_view result (for_testing_step (body_view body.value) (beginning_tree start.value) role (name_of (lexeme text.now token))) }
 {
     match role {
-        Role::Semicolon => Ok(State::Body(body, Stage::ForStepping(start, None))),
+        Role::Semicolon => Ok(in_body(body, Stage::ForStepping(start, None))),
         _ => {
             let context = Context::Body(body, Purpose::Continue(start));
             step_first(alloc, context, role, text, token)
@@ -297,8 +299,13 @@ fn step_declaring(
     match role {
         Role::Identifier => {
             let name = identifier(alloc, text, token)?;
-            let stage = Stage::Declared(position, scalar, declarators, name);
-            Ok(State::Body(body, stage))
+            let declared = DeclaredName {
+                position,
+                scalar,
+                declarators,
+                name,
+            };
+            Ok(in_body(body, Stage::Declared(Box::new(alloc, declared)?)))
         }
         _ => Err(Stop::Unexpected),
     }
@@ -320,7 +327,7 @@ fn step_local_sign(
 {
     let declarators = Vec::new(alloc);
     match role {
-        Role::Int => Ok(State::Body(body, Stage::Declaring(position, scalar, declarators))),
+        Role::Int => Ok(in_body(body, Stage::Declaring(position, scalar, declarators))),
         _ => step_declaring(
             alloc,
             body,
@@ -338,24 +345,33 @@ fn step_local_sign(
 fn step_declared(
     alloc: Global,
     body: Box<Body>,
-    position: Position,
-    scalar: Scalar,
-    declarators: Vec<Declarator>,
-    name: Identifier,
+    declared: Box<DeclaredName>,
     role: Role,
 ) -> Result<State, Stop>
-    ensures { Gives state_view result (declared_step (body_view body.value) (position_view position) scalar (declarator_trees declarators.items) (name_tree name) role) }
+    ensures { Gives state_view result (declared_step (body_view body.value) (position_view declared.value.position) declared.value.scalar (declarator_trees declared.value.declarators.items) (name_tree declared.value.name) role) }
 {
     match role {
         Role::Assignment(AssignmentOperator::Plain) => {
-            let purpose = Purpose::Initialise(position, scalar, declarators, name);
+            let purpose = Purpose::Initialise(declared);
             begin_full(alloc, Context::Body(body, purpose), 0)
         }
         Role::Comma => {
+            let DeclaredName {
+                position,
+                scalar,
+                declarators,
+                name,
+            } = Box::into_inner(declared);
             let declarators = with_declarator(declarators, name, None)?;
-            Ok(State::Body(body, Stage::Declaring(position, scalar, declarators)))
+            Ok(in_body(body, Stage::Declaring(position, scalar, declarators)))
         }
         Role::Semicolon => {
+            let DeclaredName {
+                position,
+                scalar,
+                declarators,
+                name,
+            } = Box::into_inner(declared);
             let declarators = with_declarator(declarators, name, None)?;
             end_declaration(alloc, body, position, scalar, declarators)
         }
@@ -379,7 +395,14 @@ fn step_stepping(
 {
     match role {
         Role::Identifier => match identifier(alloc, text, token) {
-            Ok(name) => Ok(State::Body(body, Stage::StepNamed(operator, name, spot))),
+            Ok(name) => {
+                let stepped = SteppedName {
+                    operator,
+                    name,
+                    spot,
+                };
+                Ok(in_body(body, Stage::StepNamed(Box::new(alloc, stepped)?)))
+            }
             Err(error) => {
                 drop(body);
                 drop(spot);
@@ -398,19 +421,22 @@ fn step_stepping(
 fn step_step_named(
     alloc: Global,
     body: Box<Body>,
-    operator: StepOperator,
-    name: Identifier,
-    spot: Spot,
+    stepped: Box<SteppedName>,
     role: Role,
 ) -> Result<State, Stop>
-    ensures { Gives state_view result (step_named_step (body_view body.value) operator (name_tree name) (spot_view spot) role) }
+    ensures { Gives state_view result (step_named_step (body_view body.value) stepped.value.operator (name_tree stepped.value.name) (spot_view stepped.value.spot) role) }
 {
     match role {
         Role::OpenBracket => {
-            let context = Context::Body(body, Purpose::Step(operator, name, spot));
+            let context = Context::Body(body, Purpose::Step(stepped));
             begin_full(alloc, context, 3)
         }
         _ => {
+            let SteppedName {
+                operator,
+                name,
+                spot,
+            } = Box::into_inner(stepped);
             let action = Action::Step(operator, Target::Variable(name));
             end_action(alloc, body, spot, action, role)
         }
@@ -418,19 +444,20 @@ fn step_step_named(
 }
 
 /// A token of a function's body, outside of full expressions.
+#[inline(never)]
 pub fn step_body(
     alloc: Global,
     body: Box<Body>,
-    stage: Stage,
     role: Role,
     text: &[u8],
     token: Token,
 ) -> Result<State, Stop>
     requires order { token.from ≤ token.to }
     requires within { token.to ≤ length text.now }
-    ensures { Gives state_view result (body_step (body_view body.value) (stage_view stage) role (name_of (lexeme text.now token))) }
+    ensures { Gives state_view result (body_step (body_view body.value) (stage_view body.value.stage) role (name_of (lexeme text.now token))) }
 {
-    match stage {
+    let mut body = body;
+    match replace(&mut body.stage, Stage::Item) {
         Stage::Item => step_item(alloc, body, role, text, token),
         Stage::AfterThen(test, then) => step_else(alloc, body, test, then, role, text, token),
         Stage::AfterDo(statement) => step_do(body, statement, role),
@@ -456,16 +483,18 @@ pub fn step_body(
             text,
             token,
         ),
-        Stage::Declared(position, scalar, declarators, name) => {
-            step_declared(alloc, body, position, scalar, declarators, name, role)
-        }
+        Stage::Declared(declared) => step_declared(alloc, body, declared, role),
         Stage::Stepping(operator, spot) => {
             step_stepping(alloc, body, operator, spot, role, text, token)
         }
-        Stage::StepNamed(operator, name, spot) => {
-            step_step_named(alloc, body, operator, name, spot, role)
-        }
-        Stage::Stepped(operator, target, spot, _) => {
+        Stage::StepNamed(stepped) => step_step_named(alloc, body, stepped, role),
+        Stage::Stepped(stepped) => {
+            let SteppedTarget {
+                operator,
+                target,
+                spot,
+                count: _,
+            } = Box::into_inner(stepped);
             end_action(alloc, body, spot, Action::Step(operator, target), role)
         }
     }

@@ -4,8 +4,8 @@ ghost use Rattle.std.specs.Prelude.{◌≡◌, ◌≤◌, suc, [], ◌∷◌, �
 ghost use Rattle.std.specs.Option.{option_map};
 ghost use Rattle.cc_syntax.specs.Grammar.{precedence};
 ghost use Rattle.cc_syntax.specs.Erase.{name_tree, expression_tree, expressions_of, declarator_trees, optional_tree, external_trees, target_tree, object_tree, constant_tree, object_trees, constant_trees, optional_constant};
-ghost use Rattle.cc_syntax.specs.internal.Parser.{name_of, reduced, full_of, goes_on, begins_full, end_in_body, end_in_object, end_full, close, operate, ask, open_name, target_of, assign, step_target, operator_step, cast, call_of_none, operand_step, cast_step, cast_sign_step, full_step, first_step, declared, separated, end_list_value, Operand, Operator, Arguments, ToInitialise};
-ghost use Rattle.cc_syntax.specs.internal.ParserView.{waiting_view, waiting_views, context_view, full_view, phase_view, state_view, body_view, position_view, purpose_view, naming_view, part_view, Gives};
+ghost use Rattle.cc_syntax.specs.internal.Parser.{name_of, reduced, full_of, goes_on, begins_full, end_in_body, end_in_object, end_full, close, operate, ask, open_name, target_of, assign, step_target, operator_step, cast, call_of_none, operand_step, cast_step, cast_sign_step, full_step, first_step, declared, separated, end_list_value, Operand, Operator, Arguments, ToInitialise, AtFile, InBody, Valuing, Stepped};
+ghost use Rattle.cc_syntax.specs.internal.ParserView.{waiting_view, waiting_views, context_view, full_view, phase_view, state_view, body_view, position_view, purpose_view, naming_view, part_view, spot_view, Gives};
 ghost use Rattle.cc_syntax.specs.Tree.{Array};
 ghost use Rattle.cc_tokens.specs.Token.{lexeme};
 
@@ -19,11 +19,13 @@ use crate::parser::expression::{
 use crate::parser::role::Role;
 use crate::parser::settle::{end_action, end_declaration, end_test, settled_unboxed};
 use crate::parser::state::{
-    Body, Context, Full, Naming, Outer, Part, Phase, Position, Purpose, Stage, State, Waiting,
+    Body, Context, DeclaredName, File, Full, Naming, Outer, Part, Phase, Purpose, Spot, Stage,
+    State, SteppedName, SteppedTarget, Values, Waiting, at_file, in_body, in_full,
 };
 use crate::parser::stop::Stop;
 use cc_tokens::{Scalar, Token};
 use std::alloc::{AllocError, Global};
+use std::mem::replace;
 
 /// The identifier that a token is.
 pub fn identifier(alloc: Global, text: &[u8], token: Token) -> Result<Identifier, AllocError>
@@ -38,32 +40,24 @@ pub fn identifier(alloc: Global, text: &[u8], token: Token) -> Result<Identifier
 }
 
 /// A full expression with one more token.
-fn with_token(full: Full, phase: Phase) -> State
-    requires { full.count ≤ 512 }
-    ensures { Some (state_view result) ≡ goes_on (full_view full) (waiting_views full.waiting.items) (phase_view phase) }
+fn with_token(full: Box<Full>, phase: Phase) -> State
+    requires { full.value.count ≤ 512 }
+    ensures { Some (state_view result) ≡ goes_on (full_view full.value) (waiting_views full.value.waiting.items) (phase_view phase) }
 {
-    let count = full.count + 1;
-    State::Full(Full { count, ..full }, phase)
+    let mut full = full;
+    full.count += 1;
+    in_full(full, phase)
 }
 
 /// A full expression with one more token, after which one more part waits.
-fn with_waiting(full: Full, one: Waiting) -> Result<State, Stop>
-    requires { full.count ≤ 512 }
-    ensures { Gives state_view result (goes_on (full_view full) (waiting_view one ∷ waiting_views full.waiting.items) Operand) }
+fn with_waiting(full: Box<Full>, one: Waiting) -> Result<State, Stop>
+    requires { full.value.count ≤ 512 }
+    ensures { Gives state_view result (goes_on (full_view full.value) (waiting_view one ∷ waiting_views full.value.waiting.items) Operand) }
 {
-    let Full {
-        context,
-        mut waiting,
-        count,
-    } = full;
-    waiting.push(one)?;
-    let count = count + 1;
-    let full = Full {
-        context,
-        waiting,
-        count,
-    };
-    Ok(State::Full(full, Phase::Operand))
+    let mut full = full;
+    full.waiting.push(one)?;
+    full.count += 1;
+    Ok(in_full(full, Phase::Operand))
 }
 
 /// A full expression that begins, after so many of its tokens.
@@ -71,11 +65,12 @@ pub fn begin_full(alloc: Global, context: Context, count: usize) -> Result<State
     ensures { Gives state_view result (begins_full (context_view context) count) }
 {
     let full = Full {
-        context: Box::new(alloc, context)?,
+        context,
         waiting: Vec::new(alloc),
         count,
+        phase: Phase::Operand,
     };
-    Ok(State::Full(full, Phase::Operand))
+    Ok(State::Full(Box::new(alloc, full)?))
 }
 
 /// The declarators with one more at the end.
@@ -100,22 +95,22 @@ pub fn with_one(mut objects: Vec<Object>, object: Object) -> Result<Vec<Object>,
 
 /// The token after a complete object.
 pub fn end_object(
-    externals: Vec<External>,
+    file: Box<File>,
     scalar: Scalar,
     objects: Vec<Object>,
     role: Role,
 ) -> Result<State, Stop>
-    ensures { Gives state_view result (separated (external_trees externals.items) scalar (object_trees objects.items) role) }
+    ensures { Gives state_view result (separated (external_trees file.value.externals.items) scalar (object_trees objects.items) role) }
 {
-    let mut externals = externals;
+    let mut file = file;
     match role {
-        Role::Comma => Ok(State::File(externals, Outer::ObjectNext(scalar, objects))),
+        Role::Comma => Ok(at_file(file, Outer::ObjectNext(scalar, objects))),
         Role::Semicolon => {
-            externals.push(External::Objects(scalar, objects))?;
-            Ok(State::File(externals, Outer::Between))
+            file.externals.push(External::Objects(scalar, objects))?;
+            Ok(at_file(file, Outer::Between))
         }
         _ => {
-            drop(externals);
+            drop(file);
             drop(objects);
             Err(Stop::Unexpected)
         }
@@ -126,15 +121,18 @@ pub fn end_object(
 fn end_initialiser(
     alloc: Global,
     body: Box<Body>,
-    position: Position,
-    scalar: Scalar,
-    declarators: Vec<Declarator>,
-    name: Identifier,
+    declared: Box<DeclaredName>,
     initial: Box<Expression>,
     role: Role,
 ) -> Result<State, Stop>
-    ensures { Gives state_view result (end_in_body (body_view body.value) (ToInitialise (position_view position) scalar (declarator_trees declarators.items) (name_tree name)) 0 (expression_tree initial.value) role) }
+    ensures { Gives state_view result (end_in_body (body_view body.value) (ToInitialise (position_view declared.value.position) declared.value.scalar (declarator_trees declared.value.declarators.items) (name_tree declared.value.name)) 0 (expression_tree initial.value) role) }
 {
+    let DeclaredName {
+        position,
+        scalar,
+        declarators,
+        name,
+    } = Box::into_inner(declared);
     let declarators = match with_declarator(declarators, name, Some(initial)) {
         Ok(declarators) => declarators,
         Err(_) => {
@@ -143,12 +141,38 @@ fn end_initialiser(
         }
     };
     match role {
-        Role::Comma => Ok(State::Body(body, Stage::Declaring(position, scalar, declarators))),
+        Role::Comma => Ok(in_body(body, Stage::Declaring(position, scalar, declarators))),
         Role::Semicolon => end_declaration(alloc, body, position, scalar, declarators),
         _ => {
             drop(body);
             drop(declarators);
             Err(Stop::Unexpected)
+        }
+    }
+}
+
+/// The state after an increment or decrement of so many tokens.
+fn ended_step(
+    alloc: Global,
+    body: Box<Body>,
+    operator: StepOperator,
+    target: Target,
+    spot: Spot,
+    count: usize,
+) -> Result<State, Stop>
+    ensures { Gives state_view result (Some (InBody (body_view body.value) (Stepped operator (target_tree target) (spot_view spot) count))) }
+{
+    let stepped = SteppedTarget {
+        operator,
+        target,
+        spot,
+        count,
+    };
+    match Box::new(alloc, stepped) {
+        Ok(stepped) => Ok(in_body(body, Stage::Stepped(stepped))),
+        Err(_) => {
+            drop(body);
+            Err(Stop::Memory)
         }
     }
 }
@@ -173,15 +197,19 @@ fn end_body_part(
             let action = Action::Assign(operator, target, expression);
             end_action(alloc, body, spot, action, role)
         }
-        Purpose::Step(operator, name, spot) => match role {
+        Purpose::Step(stepped) => match role {
             Role::CloseBracket => {
+                let SteppedName {
+                    operator,
+                    name,
+                    spot,
+                } = Box::into_inner(stepped);
                 let target = Target::Element(name, expression);
-                Ok(State::Body(body, Stage::Stepped(operator, target, spot, count + 1)))
+                ended_step(alloc, body, operator, target, spot, count + 1)
             }
             _ => {
                 drop(body);
-                drop(name);
-                drop(spot);
+                drop(stepped);
                 drop(expression);
                 Err(Stop::Unexpected)
             }
@@ -208,7 +236,7 @@ fn end_body_part(
             }
         },
         Purpose::Continue(start) => match role {
-            Role::Semicolon => Ok(State::Body(body, Stage::ForStepping(start, Some(expression)))),
+            Role::Semicolon => Ok(in_body(body, Stage::ForStepping(start, Some(expression)))),
             _ => {
                 drop(body);
                 drop(start);
@@ -216,16 +244,7 @@ fn end_body_part(
                 Err(Stop::Unexpected)
             }
         },
-        Purpose::Initialise(position, scalar, declarators, name) => end_initialiser(
-            alloc,
-            body,
-            position,
-            scalar,
-            declarators,
-            name,
-            expression,
-            role,
-        ),
+        Purpose::Initialise(declared) => end_initialiser(alloc, body, declared, expression, role),
     }
 }
 
@@ -242,52 +261,77 @@ fn with_value(
 
 /// What is complete of a declaration of objects, with its last name as an array.
 pub fn with_array(
-    naming: Naming,
+    naming: Box<Naming>,
     size: Option<ConstantExpression>,
     values: Vec<ConstantExpression>,
 ) -> Result<Vec<Object>, AllocError>
-    ensures { IfOk result (λ os. object_trees os.items ≡ object_trees naming.objects.items ++ Array (name_tree naming.name) (optional_constant size) (constant_trees values.items) ∷ []) }
+    ensures { IfOk result (λ os. object_trees os.items ≡ object_trees naming.value.objects.items ++ Array (name_tree naming.value.name) (optional_constant size) (constant_trees values.items) ∷ []) }
 {
     let Naming {
         scalar: _,
         objects,
         name,
-    } = naming;
+    } = Box::into_inner(naming);
     with_one(objects, Object::Array(name, size, values))
+}
+
+/// The state in which a value of an array's list is due.
+pub fn listing(
+    alloc: Global,
+    file: Box<File>,
+    naming: Box<Naming>,
+    size: Option<ConstantExpression>,
+    values: Vec<ConstantExpression>,
+) -> Result<State, Stop>
+    ensures { Gives state_view result (Some (AtFile (external_trees file.value.externals.items) (Valuing (naming_view naming.value) (optional_constant size) (constant_trees values.items)))) }
+{
+    let values = Values {
+        naming,
+        size,
+        values,
+    };
+    match Box::new(alloc, values) {
+        Ok(values) => Ok(at_file(file, Outer::Valuing(values))),
+        Err(_) => {
+            drop(file);
+            Err(Stop::Memory)
+        }
+    }
 }
 
 /// The token after a value of an array's list.
 fn end_value(
-    externals: Vec<External>,
-    naming: Naming,
+    alloc: Global,
+    file: Box<File>,
+    naming: Box<Naming>,
     size: Option<ConstantExpression>,
     values: Vec<ConstantExpression>,
     value: ConstantExpression,
     role: Role,
 ) -> Result<State, Stop>
-    ensures { Gives state_view result (end_list_value (external_trees externals.items) (naming_view naming) (optional_constant size) (constant_trees values.items) (constant_tree value) role) }
+    ensures { Gives state_view result (end_list_value (external_trees file.value.externals.items) (naming_view naming.value) (optional_constant size) (constant_trees values.items) (constant_tree value) role) }
 {
     let scalar = naming.scalar;
     let values = match with_value(values, value) {
         Ok(values) => values,
         Err(_) => {
-            drop(externals);
+            drop(file);
             drop(naming);
             drop(size);
             return Err(Stop::Memory);
         }
     };
     match role {
-        Role::Comma => Ok(State::File(externals, Outer::Valuing(naming, size, values))),
+        Role::Comma => listing(alloc, file, naming, size, values),
         Role::CloseBrace => match with_array(naming, size, values) {
-            Ok(objects) => Ok(State::File(externals, Outer::Listed(scalar, objects))),
+            Ok(objects) => Ok(at_file(file, Outer::Listed(scalar, objects))),
             Err(_) => {
-                drop(externals);
+                drop(file);
                 Err(Stop::Memory)
             }
         },
         _ => {
-            drop(externals);
+            drop(file);
             drop(naming);
             drop(size);
             drop(values);
@@ -298,22 +342,23 @@ fn end_value(
 
 /// The token after a constant expression.
 fn end_object_part(
-    externals: Vec<External>,
-    naming: Naming,
+    alloc: Global,
+    file: Box<File>,
+    naming: Box<Naming>,
     part: Part,
     expression: Box<Expression>,
     role: Role,
 ) -> Result<State, Stop>
-    ensures { Gives state_view result (end_in_object (external_trees externals.items) (naming_view naming) (part_view part) (expression_tree expression.value) role) }
+    ensures { Gives state_view result (end_in_object (external_trees file.value.externals.items) (naming_view naming.value) (part_view part) (expression_tree expression.value) role) }
 {
     match part {
         Part::Size(at) => match role {
             Role::CloseBracket => {
                 let size = Some(ConstantExpression { at, expression });
-                Ok(State::File(externals, Outer::Sized(naming, size)))
+                Ok(at_file(file, Outer::Sized(naming, size)))
             }
             _ => {
-                drop(externals);
+                drop(file);
                 drop(naming);
                 drop(expression);
                 Err(Stop::Unexpected)
@@ -324,14 +369,14 @@ fn end_object_part(
                 scalar,
                 objects,
                 name,
-            } = naming;
+            } = Box::into_inner(naming);
             let value = ConstantExpression { at, expression };
             let objects = with_one(objects, Object::Single(name, Some(value)))?;
-            end_object(externals, scalar, objects, role)
+            end_object(file, scalar, objects, role)
         }
         Part::Value(size, values, at) => {
             let value = ConstantExpression { at, expression };
-            end_value(externals, naming, size, values, value, role)
+            end_value(alloc, file, naming, size, values, value, role)
         }
     }
 }
@@ -351,8 +396,8 @@ fn end_full_of(
         Context::Body(body, purpose) => {
             end_body_part(alloc, body, purpose, count, expression, role)
         }
-        Context::Object(externals, naming, part) => {
-            end_object_part(externals, naming, part, expression, role)
+        Context::Object(file, naming, part) => {
+            end_object_part(alloc, file, naming, part, expression, role)
         }
     }
 }
@@ -360,14 +405,14 @@ fn end_full_of(
 /// A closing token after an argument of a call.
 fn close_argument(
     alloc: Global,
-    full: Full,
+    full: Box<Full>,
     name: Identifier,
     arguments: Vec<Expression>,
     argument: Box<Expression>,
     role: Role,
 ) -> Result<State, Stop>
-    requires { full.count ≤ 512 }
-    ensures { Gives state_view result (close (full_view full) role (expression_tree argument.value, Arguments (name_tree name) (expressions_of arguments.items) ∷ waiting_views full.waiting.items)) }
+    requires { full.value.count ≤ 512 }
+    ensures { Gives state_view result (close (full_view full.value) role (expression_tree argument.value, Arguments (name_tree name) (expressions_of arguments.items) ∷ waiting_views full.value.waiting.items)) }
 {
     let arguments = match with_argument_of(arguments, argument) {
         Ok(arguments) => arguments,
@@ -396,9 +441,9 @@ fn close_argument(
 }
 
 /// A full expression in which a closing token has made a whole operand.
-fn close_boxed(alloc: Global, full: Full, whole: Expression) -> Result<State, Stop>
-    requires { full.count ≤ 512 }
-    ensures { Gives state_view result (goes_on (full_view full) (waiting_views full.waiting.items) (Operator (expression_tree whole))) }
+fn close_boxed(alloc: Global, full: Box<Full>, whole: Expression) -> Result<State, Stop>
+    requires { full.value.count ≤ 512 }
+    ensures { Gives state_view result (goes_on (full_view full.value) (waiting_views full.value.waiting.items) (Operator (expression_tree whole))) }
 {
     match boxed(alloc, whole) {
         Ok(whole) => Ok(with_token(full, Phase::Operator(whole))),
@@ -412,13 +457,13 @@ fn close_boxed(alloc: Global, full: Full, whole: Expression) -> Result<State, St
 /// A closing token after an expression, where this waits for it.
 fn close_waiting(
     alloc: Global,
-    full: Full,
+    full: Box<Full>,
     opening: Waiting,
     expression: Box<Expression>,
     role: Role,
 ) -> Result<State, Stop>
-    requires { full.count ≤ 512 }
-    ensures { Gives state_view result (close (full_view full) role (expression_tree expression.value, waiting_view opening ∷ waiting_views full.waiting.items)) }
+    requires { full.value.count ≤ 512 }
+    ensures { Gives state_view result (close (full_view full.value) role (expression_tree expression.value, waiting_view opening ∷ waiting_views full.value.waiting.items)) }
 {
     match opening {
         Waiting::Parenthesis => match role {
@@ -463,28 +508,42 @@ fn close_waiting(
     }
 }
 
+/// The token after a full expression in which nothing waits.
+fn end_waited(
+    alloc: Global,
+    full: Box<Full>,
+    expression: Box<Expression>,
+    role: Role,
+) -> Result<State, Stop>
+    requires { full.value.count ≤ 512 }
+    ensures { Gives state_view result (end_full (context_view full.value.context) full.value.count (expression_tree expression.value) role) }
+{
+    let Full {
+        context,
+        waiting,
+        count,
+        phase,
+    } = Box::into_inner(full);
+    drop(waiting);
+    drop(phase);
+    end_full_of(alloc, context, count, expression, role)
+}
+
 /// A closing token after an operand.
 fn step_close(
     alloc: Global,
-    full: Full,
+    full: Box<Full>,
     operand: Box<Expression>,
     role: Role,
 ) -> Result<State, Stop>
-    requires { full.count ≤ 512 }
-    ensures { Gives state_view result (close (full_view full) role (reduced 1 (waiting_views full.waiting.items) (expression_tree operand.value))) }
+    requires { full.value.count ≤ 512 }
+    ensures { Gives state_view result (close (full_view full.value) role (reduced 1 (waiting_views full.value.waiting.items) (expression_tree operand.value))) }
 {
     let mut full = full;
-    let inner = reduce(alloc, 1, &mut full.waiting, operand)?;
-    match full.waiting.pop() {
-        None => {
-            let Full {
-                context,
-                waiting,
-                count,
-            } = full;
-            drop(waiting);
-            end_full_of(alloc, Box::into_inner(context), count, inner, role)
-        }
+    let waiting = &mut full.waiting;
+    let inner = reduce(alloc, 1, waiting, operand)?;
+    match waiting.pop() {
+        None => end_waited(alloc, full, inner, role),
         Some(opening) => close_waiting(alloc, full, opening, inner, role),
     }
 }
@@ -492,12 +551,12 @@ fn step_close(
 /// A binary operator after an operand.
 fn step_binary(
     alloc: Global,
-    full: Full,
+    full: Box<Full>,
     operand: Box<Expression>,
     operator: BinaryOperator,
 ) -> Result<State, Stop>
-    requires { full.count ≤ 512 }
-    ensures { Gives state_view result (operate (full_view full) operator (reduced (precedence operator) (waiting_views full.waiting.items) (expression_tree operand.value))) }
+    requires { full.value.count ≤ 512 }
+    ensures { Gives state_view result (operate (full_view full.value) operator (reduced (precedence operator) (waiting_views full.value.waiting.items) (expression_tree operand.value))) }
 {
     let mut full = full;
     let left = reduce(alloc, precedence_of(operator), &mut full.waiting, operand)?;
@@ -505,9 +564,9 @@ fn step_binary(
 }
 
 /// A question mark after an operand.
-fn step_question(alloc: Global, full: Full, operand: Box<Expression>) -> Result<State, Stop>
-    requires { full.count ≤ 512 }
-    ensures { Gives state_view result (ask (full_view full) (reduced 2 (waiting_views full.waiting.items) (expression_tree operand.value))) }
+fn step_question(alloc: Global, full: Box<Full>, operand: Box<Expression>) -> Result<State, Stop>
+    requires { full.value.count ≤ 512 }
+    ensures { Gives state_view result (ask (full_view full.value) (reduced 2 (waiting_views full.value.waiting.items) (expression_tree operand.value))) }
 {
     let mut full = full;
     let test = reduce(alloc, 2, &mut full.waiting, operand)?;
@@ -531,26 +590,28 @@ fn target(expression: Box<Expression>) -> Option<Target>
 /// An assignment operator after an operand: it goes on with an action that begins with a target.
 fn step_assignment(
     alloc: Global,
-    full: Full,
+    full: Box<Full>,
     operand: Box<Expression>,
     operator: AssignmentOperator,
 ) -> Result<State, Stop>
-    requires { full.count ≤ 512 }
-    ensures { Gives state_view result (assign (full_view full) (expression_tree operand.value) operator (waiting_views full.waiting.items)) }
+    requires { full.value.count ≤ 512 }
+    ensures { Gives state_view result (assign (full_view full.value) (expression_tree operand.value) operator (waiting_views full.value.waiting.items)) }
 {
     let Full {
         context,
         waiting,
         count,
-    } = full;
+        phase,
+    } = Box::into_inner(full);
     let is_first = waiting.is_empty();
     drop(waiting);
+    drop(phase);
     if !is_first {
         drop(context);
         drop(operand);
         return Err(Stop::Unexpected);
     }
-    match Box::into_inner(context) {
+    match context {
         Context::Body(body, purpose) => match purpose {
             Purpose::Perform(spot) => match target(operand) {
                 Some(target) => {
@@ -579,28 +640,33 @@ fn step_assignment(
 }
 
 /// `++` or `--` after an operand: it ends an action that begins with a target.
-fn step_step(full: Full, operand: Box<Expression>, operator: StepOperator) -> Result<State, Stop>
-    requires { full.count ≤ 512 }
-    ensures { Gives state_view result (step_target (full_view full) (expression_tree operand.value) operator (waiting_views full.waiting.items)) }
+fn step_step(
+    alloc: Global,
+    full: Box<Full>,
+    operand: Box<Expression>,
+    operator: StepOperator,
+) -> Result<State, Stop>
+    requires { full.value.count ≤ 512 }
+    ensures { Gives state_view result (step_target (full_view full.value) (expression_tree operand.value) operator (waiting_views full.value.waiting.items)) }
 {
     let Full {
         context,
         waiting,
         count,
-    } = full;
+        phase,
+    } = Box::into_inner(full);
     let is_first = waiting.is_empty();
     drop(waiting);
+    drop(phase);
     if !is_first {
         drop(context);
         drop(operand);
         return Err(Stop::Unexpected);
     }
-    match Box::into_inner(context) {
+    match context {
         Context::Body(body, purpose) => match purpose {
             Purpose::Perform(spot) => match target(operand) {
-                Some(target) => {
-                    Ok(State::Body(body, Stage::Stepped(operator, target, spot, count + 1)))
-                }
+                Some(target) => { ended_step(alloc, body, operator, target, spot, count + 1) }
                 None => {
                     drop(body);
                     drop(spot);
@@ -623,9 +689,14 @@ fn step_step(full: Full, operand: Box<Expression>, operator: StepOperator) -> Re
 }
 
 /// A parenthesis or bracket after an operand, which is then a name.
-fn step_name(alloc: Global, full: Full, operand: Box<Expression>, role: Role) -> Result<State, Stop>
-    requires { full.count ≤ 512 }
-    ensures { Gives state_view result (open_name (full_view full) (expression_tree operand.value) role) }
+fn step_name(
+    alloc: Global,
+    full: Box<Full>,
+    operand: Box<Expression>,
+    role: Role,
+) -> Result<State, Stop>
+    requires { full.value.count ≤ 512 }
+    ensures { Gives state_view result (open_name (full_view full.value) (expression_tree operand.value) role) }
 {
     match Box::into_inner(operand) {
         Expression::Name(name) => match role {
@@ -646,12 +717,12 @@ fn step_name(alloc: Global, full: Full, operand: Box<Expression>, role: Role) ->
 /// A token after an operand.
 fn step_operator(
     alloc: Global,
-    full: Full,
+    full: Box<Full>,
     operand: Box<Expression>,
     role: Role,
 ) -> Result<State, Stop>
-    requires { full.count ≤ 512 }
-    ensures { Gives state_view result (operator_step (full_view full) (expression_tree operand.value) role) }
+    requires { full.value.count ≤ 512 }
+    ensures { Gives state_view result (operator_step (full_view full.value) (expression_tree operand.value) role) }
 {
     match role {
         Role::Plus => step_binary(alloc, full, operand, BinaryOperator::Add),
@@ -660,15 +731,15 @@ fn step_operator(
         Role::Question => step_question(alloc, full, operand),
         Role::OpenParenthesis | Role::OpenBracket => step_name(alloc, full, operand, role),
         Role::Assignment(operator) => step_assignment(alloc, full, operand, operator),
-        Role::Step(operator) => step_step(full, operand, operator),
+        Role::Step(operator) => step_step(alloc, full, operand, operator),
         _ => step_close(alloc, full, operand, role),
     }
 }
 
 /// A word of a type, directly after an opening parenthesis.
-fn begin_cast(full: Full, phase: Phase) -> Result<State, Stop>
-    requires { full.count ≤ 512 }
-    ensures { Gives state_view result (cast (full_view full) (phase_view phase) (waiting_views full.waiting.items)) }
+fn begin_cast(full: Box<Full>, phase: Phase) -> Result<State, Stop>
+    requires { full.value.count ≤ 512 }
+    ensures { Gives state_view result (cast (full_view full.value) (phase_view phase) (waiting_views full.value.waiting.items)) }
 {
     let mut full = full;
     match full.waiting.pop() {
@@ -683,9 +754,9 @@ fn begin_cast(full: Full, phase: Phase) -> Result<State, Stop>
 }
 
 /// The closing parenthesis of a call without arguments.
-fn end_call(alloc: Global, full: Full) -> Result<State, Stop>
-    requires { full.count ≤ 512 }
-    ensures { Gives state_view result (call_of_none (full_view full) (waiting_views full.waiting.items)) }
+fn end_call(alloc: Global, full: Box<Full>) -> Result<State, Stop>
+    requires { full.value.count ≤ 512 }
+    ensures { Gives state_view result (call_of_none (full_view full.value) (waiting_views full.value.waiting.items)) }
 {
     let mut full = full;
     match full.waiting.pop() {
@@ -707,15 +778,15 @@ fn end_call(alloc: Global, full: Full) -> Result<State, Stop>
 /// A token where an operand is due.
 fn step_operand(
     alloc: Global,
-    full: Full,
+    full: Box<Full>,
     role: Role,
     text: &[u8],
     token: Token,
 ) -> Result<State, Stop>
     requires order { token.from ≤ token.to }
     requires within { token.to ≤ length text.now }
-    requires count { full.count ≤ 512 }
-    ensures { Gives state_view result (operand_step (full_view full) role (name_of (lexeme text.now token))) }
+    requires count { full.value.count ≤ 512 }
+    ensures { Gives state_view result (operand_step (full_view full.value) role (name_of (lexeme text.now token))) }
 {
     match role {
         Role::Number(scalar, word) => {
@@ -738,9 +809,9 @@ fn step_operand(
 }
 
 /// A token after the type of a cast.
-fn step_cast(full: Full, scalar: Scalar, role: Role) -> Result<State, Stop>
-    requires { full.count ≤ 512 }
-    ensures { Gives state_view result (cast_step (full_view full) scalar role) }
+fn step_cast(full: Box<Full>, scalar: Scalar, role: Role) -> Result<State, Stop>
+    requires { full.value.count ≤ 512 }
+    ensures { Gives state_view result (cast_step (full_view full.value) scalar role) }
 {
     match role {
         Role::CloseParenthesis => with_waiting(full, Waiting::Cast(scalar)),
@@ -749,9 +820,9 @@ fn step_cast(full: Full, scalar: Scalar, role: Role) -> Result<State, Stop>
 }
 
 /// A token after `signed` or `unsigned` of a cast.
-fn step_cast_sign(full: Full, scalar: Scalar, role: Role) -> Result<State, Stop>
-    requires { full.count ≤ 512 }
-    ensures { Gives state_view result (cast_sign_step (full_view full) scalar role) }
+fn step_cast_sign(full: Box<Full>, scalar: Scalar, role: Role) -> Result<State, Stop>
+    requires { full.value.count ≤ 512 }
+    ensures { Gives state_view result (cast_sign_step (full_view full.value) scalar role) }
 {
     match role {
         Role::Int => Ok(with_token(full, Phase::CastType(scalar))),
@@ -762,18 +833,18 @@ fn step_cast_sign(full: Full, scalar: Scalar, role: Role) -> Result<State, Stop>
 /// A token of a full expression.
 pub fn step_full(
     alloc: Global,
-    full: Full,
-    phase: Phase,
+    full: Box<Full>,
     role: Role,
     text: &[u8],
     token: Token,
 ) -> Result<State, Stop>
     requires order { token.from ≤ token.to }
     requires within { token.to ≤ length text.now }
-    requires count { full.count ≤ 512 }
-    ensures { Gives state_view result (full_step (full_view full) (phase_view phase) role (name_of (lexeme text.now token))) }
+    requires count { full.value.count ≤ 512 }
+    ensures { Gives state_view result (full_step (full_view full.value) (phase_view full.value.phase) role (name_of (lexeme text.now token))) }
 {
-    match phase {
+    let mut full = full;
+    match replace(&mut full.phase, Phase::Operand) {
         Phase::Operand => step_operand(alloc, full, role, text, token),
         Phase::Operator(operand) => step_operator(alloc, full, operand, role),
         Phase::CastSign(scalar) => step_cast_sign(full, scalar, role),
@@ -794,9 +865,10 @@ pub fn step_first(
     ensures { Gives state_view result (first_step (context_view context) role (name_of (lexeme text.now token))) }
 {
     let full = Full {
-        context: Box::new(alloc, context)?,
+        context,
         waiting: Vec::new(alloc),
         count: 0,
+        phase: Phase::Operand,
     };
-    step_operand(alloc, full, role, text, token)
+    step_operand(alloc, Box::new(alloc, full)?, role, text, token)
 }

@@ -10,16 +10,19 @@ ghost use Rattle.cc_tokens.specs.Token.{lexeme};
 use crate::ast::{
     AssignmentOperator, ConstantExpression, External, Identifier, Object, Parameter, Signature,
 };
-use crate::parser::full::{begin_full, end_object, identifier, step_first, with_array, with_one};
+use crate::parser::full::{end_object, identifier, listing, step_first, with_array, with_one};
 use crate::parser::role::Role;
-use crate::parser::state::{Body, Context, Naming, Outer, Part, Stage, State};
+use crate::parser::state::{
+    Body, Context, File, Naming, Outer, Part, Stage, State, Values, at_file,
+};
 use crate::parser::stop::Stop;
 use cc_tokens::{Scalar, Token};
 use std::alloc::{AllocError, Global};
+use std::mem::replace;
 
 /// The first token of an external declaration.
-fn step_external(externals: Vec<External>, role: Role) -> Result<State, Stop>
-    ensures { Gives state_view result (external_step (external_trees externals.items) role) }
+fn step_external(file: Box<File>, role: Role) -> Result<State, Stop>
+    ensures { Gives state_view result (external_step (external_trees file.value.externals.items) role) }
 {
     let next = match role {
         Role::Int => Outer::Typed(Some(Scalar::Int)),
@@ -27,13 +30,13 @@ fn step_external(externals: Vec<External>, role: Role) -> Result<State, Stop>
         Role::Void => Outer::Typed(None),
         _ => return Err(Stop::Unexpected),
     };
-    Ok(State::File(externals, next))
+    Ok(at_file(file, next))
 }
 
 /// A name after a type or `void`.
 fn step_typed(
     alloc: Global,
-    externals: Vec<External>,
+    file: Box<File>,
     result_type: Option<Scalar>,
     role: Role,
     text: &[u8],
@@ -41,12 +44,12 @@ fn step_typed(
 ) -> Result<State, Stop>
     requires order { token.from ≤ token.to }
     requires within { token.to ≤ length text.now }
-    ensures { Gives state_view result (typed_step (external_trees externals.items) result_type role (name_of (lexeme text.now token))) }
+    ensures { Gives state_view result (typed_step (external_trees file.value.externals.items) result_type role (name_of (lexeme text.now token))) }
 {
     match role {
         Role::Identifier => {
             let name = identifier(alloc, text, token)?;
-            Ok(State::File(externals, Outer::Named(result_type, name)))
+            Ok(at_file(file, Outer::Named(result_type, name)))
         }
         _ => Err(Stop::Unexpected),
     }
@@ -55,7 +58,7 @@ fn step_typed(
 /// A token after `signed` or `unsigned`.
 fn step_result_sign(
     alloc: Global,
-    externals: Vec<External>,
+    file: Box<File>,
     scalar: Scalar,
     role: Role,
     text: &[u8],
@@ -63,33 +66,33 @@ fn step_result_sign(
 ) -> Result<State, Stop>
     requires order { token.from ≤ token.to }
     requires within { token.to ≤ length text.now }
-    ensures { Gives state_view result (result_sign_step (external_trees externals.items) scalar role (name_of (lexeme text.now token))) }
+    ensures { Gives state_view result (result_sign_step (external_trees file.value.externals.items) scalar role (name_of (lexeme text.now token))) }
 {
     match role {
-        Role::Int => Ok(State::File(externals, Outer::Typed(Some(scalar)))),
-        _ => step_typed(alloc, externals, Some(scalar), role, text, token),
+        Role::Int => Ok(at_file(file, Outer::Typed(Some(scalar)))),
+        _ => step_typed(alloc, file, Some(scalar), role, text, token),
     }
 }
 
 /// A token after the name of an object.
-fn step_object(externals: Vec<External>, naming: Naming, role: Role) -> Result<State, Stop>
-    ensures { Gives state_view result (object_step (external_trees externals.items) (naming_view naming) role) }
+fn step_object(file: Box<File>, naming: Box<Naming>, role: Role) -> Result<State, Stop>
+    ensures { Gives state_view result (object_step (external_trees file.value.externals.items) (naming_view naming.value) role) }
 {
     match role {
-        Role::OpenBracket => Ok(State::File(externals, Outer::Sizing(naming))),
+        Role::OpenBracket => Ok(at_file(file, Outer::Sizing(naming))),
         Role::Assignment(AssignmentOperator::Plain) => {
-            Ok(State::File(externals, Outer::Initialising(naming)))
+            Ok(at_file(file, Outer::Initialising(naming)))
         }
         _ => {
             let Naming {
                 scalar,
                 objects,
                 name,
-            } = naming;
+            } = Box::into_inner(naming);
             match with_one(objects, Object::Single(name, None)) {
-                Ok(objects) => end_object(externals, scalar, objects, role),
+                Ok(objects) => end_object(file, scalar, objects, role),
                 Err(_) => {
-                    drop(externals);
+                    drop(file);
                     Err(Stop::Memory)
                 }
             }
@@ -100,12 +103,12 @@ fn step_object(externals: Vec<External>, naming: Naming, role: Role) -> Result<S
 /// A token after the first name of an external declaration.
 fn step_named(
     alloc: Global,
-    externals: Vec<External>,
+    file: Box<File>,
     result_type: Option<Scalar>,
     name: Identifier,
     role: Role,
 ) -> Result<State, Stop>
-    ensures { Gives state_view result (named_step (external_trees externals.items) result_type (name_tree name) role) }
+    ensures { Gives state_view result (named_step (external_trees file.value.externals.items) result_type (name_tree name) role) }
 {
     match role {
         Role::OpenParenthesis => {
@@ -115,7 +118,7 @@ fn step_named(
                 parameters: Vec::new(alloc),
             };
             let signature = Box::new(alloc, signature)?;
-            Ok(State::File(externals, Outer::Parameters(signature)))
+            Ok(at_file(file, Outer::Parameters(signature)))
         }
         _ => match result_type {
             Some(scalar) => {
@@ -124,7 +127,7 @@ fn step_named(
                     objects: Vec::new(alloc),
                     name,
                 };
-                step_object(externals, naming, role)
+                step_object(file, Box::new(alloc, naming)?, role)
             }
             None => Err(Stop::Unexpected),
         },
@@ -132,62 +135,48 @@ fn step_named(
 }
 
 /// The first token of a parameter.
-fn step_parameter(
-    externals: Vec<External>,
-    signature: Box<Signature>,
-    role: Role,
-) -> Result<State, Stop>
-    ensures { Gives state_view result (parameter_step (external_trees externals.items) (signature_tree signature.value) role) }
+fn step_parameter(file: Box<File>, signature: Box<Signature>, role: Role) -> Result<State, Stop>
+    ensures { Gives state_view result (parameter_step (external_trees file.value.externals.items) (signature_tree signature.value) role) }
 {
     match role {
-        Role::Int => Ok(State::File(externals, Outer::ParameterTyped(signature, Scalar::Int))),
-        Role::SignWord(scalar) => {
-            Ok(State::File(externals, Outer::ParameterSign(signature, scalar)))
-        }
+        Role::Int => Ok(at_file(file, Outer::ParameterTyped(signature, Scalar::Int))),
+        Role::SignWord(scalar) => { Ok(at_file(file, Outer::ParameterSign(signature, scalar))) }
         _ => Err(Stop::Unexpected),
     }
 }
 
 /// A token after the opening parenthesis of a function's parameters.
-fn step_parameters(
-    externals: Vec<External>,
-    signature: Box<Signature>,
-    role: Role,
-) -> Result<State, Stop>
-    ensures { Gives state_view result (parameters_step (external_trees externals.items) (signature_tree signature.value) role) }
+fn step_parameters(file: Box<File>, signature: Box<Signature>, role: Role) -> Result<State, Stop>
+    ensures { Gives state_view result (parameters_step (external_trees file.value.externals.items) (signature_tree signature.value) role) }
 {
     match role {
-        Role::Void => Ok(State::File(externals, Outer::OnlyVoid(signature))),
-        Role::CloseParenthesis => Ok(State::File(externals, Outer::Headed(signature))),
-        _ => step_parameter(externals, signature, role),
+        Role::Void => Ok(at_file(file, Outer::OnlyVoid(signature))),
+        Role::CloseParenthesis => Ok(at_file(file, Outer::Headed(signature))),
+        _ => step_parameter(file, signature, role),
     }
 }
 
 /// The closing parenthesis after `void`.
-fn step_only_void(
-    externals: Vec<External>,
-    signature: Box<Signature>,
-    role: Role,
-) -> Result<State, Stop>
-    ensures { Gives state_view result (only_void_step (external_trees externals.items) (signature_tree signature.value) role) }
+fn step_only_void(file: Box<File>, signature: Box<Signature>, role: Role) -> Result<State, Stop>
+    ensures { Gives state_view result (only_void_step (external_trees file.value.externals.items) (signature_tree signature.value) role) }
 {
     match role {
-        Role::CloseParenthesis => Ok(State::File(externals, Outer::Headed(signature))),
+        Role::CloseParenthesis => Ok(at_file(file, Outer::Headed(signature))),
         _ => Err(Stop::Unexpected),
     }
 }
 
 /// A token after a parameter.
 fn step_parameter_named(
-    externals: Vec<External>,
+    file: Box<File>,
     signature: Box<Signature>,
     role: Role,
 ) -> Result<State, Stop>
-    ensures { Gives state_view result (parameter_named_step (external_trees externals.items) (signature_tree signature.value) role) }
+    ensures { Gives state_view result (parameter_named_step (external_trees file.value.externals.items) (signature_tree signature.value) role) }
 {
     match role {
-        Role::Comma => Ok(State::File(externals, Outer::ParameterNext(signature))),
-        Role::CloseParenthesis => Ok(State::File(externals, Outer::Headed(signature))),
+        Role::Comma => Ok(at_file(file, Outer::ParameterNext(signature))),
+        Role::CloseParenthesis => Ok(at_file(file, Outer::Headed(signature))),
         _ => Err(Stop::Unexpected),
     }
 }
@@ -229,7 +218,7 @@ fn named_parameter(
 /// A token after a parameter's type.
 fn step_parameter_typed(
     alloc: Global,
-    externals: Vec<External>,
+    file: Box<File>,
     signature: Box<Signature>,
     scalar: Scalar,
     role: Role,
@@ -238,20 +227,20 @@ fn step_parameter_typed(
 ) -> Result<State, Stop>
     requires order { token.from ≤ token.to }
     requires within { token.to ≤ length text.now }
-    ensures { Gives state_view result (parameter_typed_step (external_trees externals.items) (signature_tree signature.value) scalar role (name_of (lexeme text.now token))) }
+    ensures { Gives state_view result (parameter_typed_step (external_trees file.value.externals.items) (signature_tree signature.value) scalar role (name_of (lexeme text.now token))) }
 {
     match role {
         Role::Identifier => match named_parameter(alloc, signature, scalar, text, token) {
-            Ok(signature) => Ok(State::File(externals, Outer::ParameterNamed(signature))),
+            Ok(signature) => Ok(at_file(file, Outer::ParameterNamed(signature))),
             Err(_) => {
-                drop(externals);
+                drop(file);
                 Err(Stop::Memory)
             }
         },
         _ => match with_parameter_of(signature, scalar, None) {
-            Ok(signature) => step_parameter_named(externals, signature, role),
+            Ok(signature) => step_parameter_named(file, signature, role),
             Err(_) => {
-                drop(externals);
+                drop(file);
                 Err(Stop::Memory)
             }
         },
@@ -261,7 +250,7 @@ fn step_parameter_typed(
 /// A token after `signed` or `unsigned` of a parameter.
 fn step_parameter_sign(
     alloc: Global,
-    externals: Vec<External>,
+    file: Box<File>,
     signature: Box<Signature>,
     scalar: Scalar,
     role: Role,
@@ -270,11 +259,11 @@ fn step_parameter_sign(
 ) -> Result<State, Stop>
     requires order { token.from ≤ token.to }
     requires within { token.to ≤ length text.now }
-    ensures { Gives state_view result (parameter_sign_step (external_trees externals.items) (signature_tree signature.value) scalar role (name_of (lexeme text.now token))) }
+    ensures { Gives state_view result (parameter_sign_step (external_trees file.value.externals.items) (signature_tree signature.value) scalar role (name_of (lexeme text.now token))) }
 {
     match role {
-        Role::Int => Ok(State::File(externals, Outer::ParameterTyped(signature, scalar))),
-        _ => step_parameter_typed(alloc, externals, signature, scalar, role, text, token),
+        Role::Int => Ok(at_file(file, Outer::ParameterTyped(signature, scalar))),
+        _ => step_parameter_typed(alloc, file, signature, scalar, role, text, token),
     }
 }
 
@@ -288,34 +277,36 @@ fn are_named(parameters: &[Parameter]) -> bool
 /// A token after a function's parameters: the end of its declaration, or a body, for which each parameter has its name.
 fn step_headed(
     alloc: Global,
-    externals: Vec<External>,
+    file: Box<File>,
     signature: Box<Signature>,
     role: Role,
 ) -> Result<State, Stop>
-    ensures { Gives state_view result (headed_step (external_trees externals.items) (signature_tree signature.value) role) }
+    ensures { Gives state_view result (headed_step (external_trees file.value.externals.items) (signature_tree signature.value) role) }
 {
-    let mut externals = externals;
+    let mut file = file;
     match role {
         Role::Semicolon => {
-            externals.push(External::Declaration(Box::into_inner(signature)))?;
-            Ok(State::File(externals, Outer::Between))
+            file.externals
+                .push(External::Declaration(Box::into_inner(signature)))?;
+            Ok(at_file(file, Outer::Between))
         }
         Role::OpenBrace => {
             if !are_named(signature.parameters.as_slice()) {
-                drop(externals);
+                drop(file);
                 drop(signature);
                 return Err(Stop::Unexpected);
             }
             let body = Body {
-                externals,
+                file,
                 signature: Box::into_inner(signature),
                 finished: Vec::new(alloc),
                 open: Vec::new(alloc),
+                stage: Stage::Item,
             };
-            Ok(State::Body(Box::new(alloc, body)?, Stage::Item))
+            Ok(State::Body(Box::new(alloc, body)?))
         }
         _ => {
-            drop(externals);
+            drop(file);
             drop(signature);
             Err(Stop::Unexpected)
         }
@@ -325,7 +316,7 @@ fn step_headed(
 /// A further name of a declaration of objects.
 fn step_object_next(
     alloc: Global,
-    externals: Vec<External>,
+    file: Box<File>,
     scalar: Scalar,
     objects: Vec<Object>,
     role: Role,
@@ -334,7 +325,7 @@ fn step_object_next(
 ) -> Result<State, Stop>
     requires order { token.from ≤ token.to }
     requires within { token.to ≤ length text.now }
-    ensures { Gives state_view result (object_next_step (external_trees externals.items) scalar (object_trees objects.items) role (name_of (lexeme text.now token))) }
+    ensures { Gives state_view result (object_next_step (external_trees file.value.externals.items) scalar (object_trees objects.items) role (name_of (lexeme text.now token))) }
 {
     match role {
         Role::Identifier => {
@@ -344,10 +335,10 @@ fn step_object_next(
                 objects,
                 name,
             };
-            Ok(State::File(externals, Outer::ObjectNamed(naming)))
+            Ok(at_file(file, Outer::ObjectNamed(Box::new(alloc, naming)?)))
         }
         _ => {
-            drop(externals);
+            drop(file);
             drop(objects);
             Err(Stop::Unexpected)
         }
@@ -357,20 +348,20 @@ fn step_object_next(
 /// A token after the bracket of an array.
 fn step_sizing(
     alloc: Global,
-    externals: Vec<External>,
-    naming: Naming,
+    file: Box<File>,
+    naming: Box<Naming>,
     role: Role,
     text: &[u8],
     token: Token,
 ) -> Result<State, Stop>
     requires order { token.from ≤ token.to }
     requires within { token.to ≤ length text.now }
-    ensures { Gives state_view result (sizing_step (external_trees externals.items) (naming_view naming) role (name_of (lexeme text.now token))) }
+    ensures { Gives state_view result (sizing_step (external_trees file.value.externals.items) (naming_view naming.value) role (name_of (lexeme text.now token))) }
 {
     match role {
-        Role::CloseBracket => Ok(State::File(externals, Outer::Sized(naming, None))),
+        Role::CloseBracket => Ok(at_file(file, Outer::Sized(naming, None))),
         _ => {
-            let context = Context::Object(externals, naming, Part::Size(token.from));
+            let context = Context::Object(file, naming, Part::Size(token.from));
             step_first(alloc, context, role, text, token)
         }
     }
@@ -379,23 +370,23 @@ fn step_sizing(
 /// A token after the length of an array.
 fn step_sized(
     alloc: Global,
-    externals: Vec<External>,
-    naming: Naming,
+    file: Box<File>,
+    naming: Box<Naming>,
     size: Option<ConstantExpression>,
     role: Role,
 ) -> Result<State, Stop>
-    ensures { Gives state_view result (sized_step (external_trees externals.items) (naming_view naming) (optional_constant size) role) }
+    ensures { Gives state_view result (sized_step (external_trees file.value.externals.items) (naming_view naming.value) (optional_constant size) role) }
 {
     match role {
         Role::Assignment(AssignmentOperator::Plain) => {
-            Ok(State::File(externals, Outer::Listing(naming, size)))
+            Ok(at_file(file, Outer::Listing(naming, size)))
         }
         _ => {
             let scalar = naming.scalar;
             match with_array(naming, size, Vec::new(alloc)) {
-                Ok(objects) => end_object(externals, scalar, objects, role),
+                Ok(objects) => end_object(file, scalar, objects, role),
                 Err(_) => {
-                    drop(externals);
+                    drop(file);
                     Err(Stop::Memory)
                 }
             }
@@ -406,20 +397,17 @@ fn step_sized(
 /// The brace of an array's list.
 fn step_listing(
     alloc: Global,
-    externals: Vec<External>,
-    naming: Naming,
+    file: Box<File>,
+    naming: Box<Naming>,
     size: Option<ConstantExpression>,
     role: Role,
 ) -> Result<State, Stop>
-    ensures { Gives state_view result (listing_step (external_trees externals.items) (naming_view naming) (optional_constant size) role) }
+    ensures { Gives state_view result (listing_step (external_trees file.value.externals.items) (naming_view naming.value) (optional_constant size) role) }
 {
     match role {
-        Role::OpenBrace => {
-            let values = Vec::new(alloc);
-            Ok(State::File(externals, Outer::Valuing(naming, size, values)))
-        }
+        Role::OpenBrace => { listing(alloc, file, naming, size, Vec::new(alloc)) }
         _ => {
-            drop(externals);
+            drop(file);
             drop(naming);
             drop(size);
             Err(Stop::Unexpected)
@@ -429,15 +417,15 @@ fn step_listing(
 
 /// The closing brace of an array's list, after a comma.
 fn end_list_of(
-    externals: Vec<External>,
-    naming: Naming,
+    file: Box<File>,
+    naming: Box<Naming>,
     size: Option<ConstantExpression>,
     values: Vec<ConstantExpression>,
 ) -> Result<State, Stop>
-    ensures { Gives state_view result (end_list (external_trees externals.items) (naming_view naming) (optional_constant size) (constant_trees values.items)) }
+    ensures { Gives state_view result (end_list (external_trees file.value.externals.items) (naming_view naming.value) (optional_constant size) (constant_trees values.items)) }
 {
     if values.is_empty() {
-        drop(externals);
+        drop(file);
         drop(naming);
         drop(size);
         drop(values);
@@ -445,9 +433,9 @@ fn end_list_of(
     }
     let scalar = naming.scalar;
     match with_array(naming, size, values) {
-        Ok(objects) => Ok(State::File(externals, Outer::Listed(scalar, objects))),
+        Ok(objects) => Ok(at_file(file, Outer::Listed(scalar, objects))),
         Err(_) => {
-            drop(externals);
+            drop(file);
             Err(Stop::Memory)
         }
     }
@@ -456,73 +444,73 @@ fn end_list_of(
 /// The first token of a value of an array's list, or the end of the list.
 fn step_valuing(
     alloc: Global,
-    externals: Vec<External>,
-    naming: Naming,
-    size: Option<ConstantExpression>,
-    values: Vec<ConstantExpression>,
+    file: Box<File>,
+    list: Box<Values>,
     role: Role,
     text: &[u8],
     token: Token,
 ) -> Result<State, Stop>
     requires order { token.from ≤ token.to }
     requires within { token.to ≤ length text.now }
-    ensures { Gives state_view result (valuing_step (external_trees externals.items) (naming_view naming) (optional_constant size) (constant_trees values.items) role (name_of (lexeme text.now token))) }
+    ensures { Gives state_view result (valuing_step (external_trees file.value.externals.items) (naming_view list.value.naming.value) (optional_constant list.value.size) (constant_trees list.value.values.items) role (name_of (lexeme text.now token))) }
 {
+    let Values {
+        naming,
+        size,
+        values,
+    } = Box::into_inner(list);
     match role {
-        Role::CloseBrace => end_list_of(externals, naming, size, values),
+        Role::CloseBrace => end_list_of(file, naming, size, values),
         _ => {
             let part = Part::Value(size, values, token.from);
-            let context = Context::Object(externals, naming, part);
+            let context = Context::Object(file, naming, part);
             step_first(alloc, context, role, text, token)
         }
     }
 }
 
 /// A token at file scope, outside of full expressions.
+#[inline(never)]
 pub fn step_outer(
     alloc: Global,
-    externals: Vec<External>,
-    outer: Outer,
+    file: Box<File>,
     role: Role,
     text: &[u8],
     token: Token,
 ) -> Result<State, Stop>
     requires order { token.from ≤ token.to }
     requires within { token.to ≤ length text.now }
-    ensures { Gives state_view result (outer_step (external_trees externals.items) (outer_view outer) role (name_of (lexeme text.now token))) }
+    ensures { Gives state_view result (outer_step (external_trees file.value.externals.items) (outer_view file.value.next) role (name_of (lexeme text.now token))) }
 {
-    match outer {
-        Outer::Between => step_external(externals, role),
-        Outer::ResultSign(scalar) => {
-            step_result_sign(alloc, externals, scalar, role, text, token)
-        }
-        Outer::Typed(scalar) => step_typed(alloc, externals, scalar, role, text, token),
-        Outer::Named(scalar, name) => step_named(alloc, externals, scalar, name, role),
-        Outer::Parameters(signature) => step_parameters(externals, signature, role),
-        Outer::OnlyVoid(signature) => step_only_void(externals, signature, role),
-        Outer::ParameterNext(signature) => step_parameter(externals, signature, role),
+    let mut file = file;
+    match replace(&mut file.next, Outer::Between) {
+        Outer::Between => step_external(file, role),
+        Outer::ResultSign(scalar) => { step_result_sign(alloc, file, scalar, role, text, token) }
+        Outer::Typed(scalar) => step_typed(alloc, file, scalar, role, text, token),
+        Outer::Named(scalar, name) => step_named(alloc, file, scalar, name, role),
+        Outer::Parameters(signature) => step_parameters(file, signature, role),
+        Outer::OnlyVoid(signature) => step_only_void(file, signature, role),
+        Outer::ParameterNext(signature) => step_parameter(file, signature, role),
         Outer::ParameterSign(signature, scalar) => {
-            step_parameter_sign(alloc, externals, signature, scalar, role, text, token)
+            step_parameter_sign(alloc, file, signature, scalar, role, text, token)
         }
         Outer::ParameterTyped(signature, scalar) => {
-            step_parameter_typed(alloc, externals, signature, scalar, role, text, token)
+            step_parameter_typed(alloc, file, signature, scalar, role, text, token)
         }
-        Outer::ParameterNamed(signature) => step_parameter_named(externals, signature, role),
-        Outer::Headed(signature) => step_headed(alloc, externals, signature, role),
+        Outer::ParameterNamed(signature) => step_parameter_named(file, signature, role),
+        Outer::Headed(signature) => step_headed(alloc, file, signature, role),
         Outer::ObjectNext(scalar, objects) => {
-            step_object_next(alloc, externals, scalar, objects, role, text, token)
+            step_object_next(alloc, file, scalar, objects, role, text, token)
         }
-        Outer::ObjectNamed(naming) => step_object(externals, naming, role),
-        Outer::Sizing(naming) => step_sizing(alloc, externals, naming, role, text, token),
-        Outer::Sized(naming, size) => step_sized(alloc, externals, naming, size, role),
+        Outer::ObjectNamed(naming) => step_object(file, naming, role),
+        Outer::Sizing(naming) => step_sizing(alloc, file, naming, role, text, token),
+        Outer::Sized(naming, size) => step_sized(alloc, file, naming, size, role),
         Outer::Initialising(naming) => {
-            let context = Context::Object(externals, naming, Part::Single(token.from));
+            let context = Context::Object(file, naming, Part::Single(token.from));
             step_first(alloc, context, role, text, token)
         }
-        Outer::Listing(naming, size) => step_listing(alloc, externals, naming, size, role),
-        Outer::Valuing(naming, size, values) => {
-            step_valuing(alloc, externals, naming, size, values, role, text, token)
-        }
-        Outer::Listed(scalar, objects) => end_object(externals, scalar, objects, role),
+        Outer::Listing(naming, size) => step_listing(alloc, file, naming, size, role),
+        Outer::Valuing(list) => step_valuing(alloc, file, list, role, text, token),
+        Outer::Listed(scalar, objects) => end_object(file, scalar, objects, role),
     }
 }

@@ -8,7 +8,9 @@ ghost use Rattle.cc_syntax.specs.internal.ParserView.{open_view, open_views, bod
 
 use crate::ast::{Action, Beginning, Declarator, Expression, External, Statement};
 use crate::parser::role::Role;
-use crate::parser::state::{Body, Open, Outer, Position, Spot, Stage, State, Test};
+use crate::parser::state::{
+    Body, Open, Outer, Position, Spot, Stage, State, Test, at_file, in_body,
+};
 use crate::parser::stop::Stop;
 use cc_tokens::Scalar;
 use std::alloc::{AllocError, Global};
@@ -128,7 +130,7 @@ pub fn settled_state(
     ensures { Gives state_view result (settle (body_view body.value) (statement_tree statement.value)) }
 {
     let (body, stage) = settle_body(alloc, true, body, statement)?;
-    Ok(State::Body(body, stage))
+    Ok(in_body(body, stage))
 }
 
 /// The same of a statement that is not in a box yet.
@@ -148,7 +150,7 @@ pub fn settled_unboxed(alloc: Global, body: Box<Body>, statement: Statement) -> 
 pub fn with_open(body: Box<Body>, one: Open) -> Result<State, Stop>
     ensures { Gives state_view result (opens (body_view body.value) (open_view one)) }
 {
-    Ok(State::Body(with_one_open(body, one)?, Stage::Item))
+    Ok(in_body(with_one_open(body, one)?, Stage::Item))
 }
 
 /// The end of a declaration of locals.
@@ -165,7 +167,7 @@ pub fn end_declaration(
         Position::Local => settled_unboxed(alloc, body, Statement::Local(scalar, declarators)),
         Position::Header => {
             let start = Box::new(alloc, Beginning::Declaration(scalar, declarators))?;
-            Ok(State::Body(body, Stage::ForTesting(start)))
+            Ok(in_body(body, Stage::ForTesting(start)))
         }
     }
 }
@@ -192,7 +194,7 @@ pub fn end_action(
         Spot::Start => match role {
             Role::Semicolon => {
                 let start = Box::new(alloc, Beginning::Action(Some(action)))?;
-                Ok(State::Body(body, Stage::ForTesting(start)))
+                Ok(in_body(body, Stage::ForTesting(start)))
             }
             _ => {
                 drop(body);
@@ -227,7 +229,7 @@ pub fn end_test(
         Test::While => with_open(body, Open::While(condition)),
         Test::Do(statement) => {
             let statement = boxed(alloc, Statement::DoWhile(statement, condition))?;
-            Ok(State::Body(body, Stage::Ending(statement)))
+            Ok(in_body(body, Stage::Ending(statement)))
         }
     }
 }
@@ -240,14 +242,17 @@ pub fn end_block(alloc: Global, body: Box<Body>) -> Result<State, Stop>
     match body.open.pop() {
         None => {
             let Body {
-                mut externals,
+                mut file,
                 signature,
                 finished,
                 open,
+                stage,
             } = Box::into_inner(body);
             drop(open);
-            externals.push(External::Definition(signature, finished))?;
-            Ok(State::File(externals, Outer::Between))
+            drop(stage);
+            file.externals
+                .push(External::Definition(signature, finished))?;
+            Ok(at_file(file, Outer::Between))
         }
         Some(last) => match last {
             Open::Block(statements) => settled_unboxed(alloc, body, block(statements)),
@@ -265,7 +270,7 @@ pub fn begin_declaration(body: Box<Body>, stage: Stage) -> Result<State, Stop>
     ensures { Gives state_view result (declare (body_view body.value) (stage_view stage) (open_views body.value.open.items)) }
 {
     match body.open.last() {
-        None | Some(Open::Block(_)) => Ok(State::Body(body, stage)),
+        None | Some(Open::Block(_)) => Ok(in_body(body, stage)),
         Some(_) => {
             drop(body);
             drop(stage);

@@ -1,11 +1,17 @@
 // What the parser has read so far, and what may come next.
 
+ghost use Rattle.std.specs.Prelude.{◌≡◌};
+ghost use Rattle.cc_syntax.specs.Erase.{external_trees};
+ghost use Rattle.cc_syntax.specs.internal.Parser.{AtFile, InBody, InFull};
+ghost use Rattle.cc_syntax.specs.internal.ParserView.{state_view, outer_view, body_view, stage_view, full_view, phase_view};
+
 use crate::ast::{
     Action, AssignmentOperator, Beginning, BinaryOperator, ConstantExpression, Declarator,
     Expression, External, Identifier, Object, Signature, Statement, StepOperator, Target,
     UnaryOperator,
 };
 use cc_tokens::Scalar;
+use std::mem::replace;
 
 /// What waits for an operand to its right, or for a closing token.
 #[derive(Drop)]
@@ -34,14 +40,22 @@ pub enum Open {
     For(Box<Beginning>, Option<Box<Expression>>, Option<Action>),
 }
 
-/// A function's body so far: the external declarations before it, its finished statements, and those that are open, the
-/// innermost last.
+/// A text so far, at file scope: the external declarations that are complete, and what comes next.
+#[derive(Drop)]
+pub struct File {
+    pub externals: Vec<External>,
+    pub next: Outer,
+}
+
+/// A function's body so far: what stands before it, its finished statements, those that are open, the innermost last, and
+/// what comes next.
 #[derive(Drop)]
 pub struct Body {
-    pub externals: Vec<External>,
+    pub file: Box<File>,
     pub signature: Signature,
     pub finished: Vec<Statement>,
     pub open: Vec<Open>,
+    pub stage: Stage,
 }
 
 /// Where an action stands: it is a statement, or the first or the last part of a `for` header.
@@ -68,6 +82,32 @@ pub enum Position {
     Header,
 }
 
+/// A declaration of locals so far: those that are complete, and a name.
+#[derive(Drop)]
+pub struct DeclaredName {
+    pub position: Position,
+    pub scalar: Scalar,
+    pub declarators: Vec<Declarator>,
+    pub name: Identifier,
+}
+
+/// `++` or `--`, and the name behind it.
+#[derive(Drop)]
+pub struct SteppedName {
+    pub operator: StepOperator,
+    pub name: Identifier,
+    pub spot: Spot,
+}
+
+/// An increment or decrement, and of how many tokens.
+#[derive(Drop)]
+pub struct SteppedTarget {
+    pub operator: StepOperator,
+    pub target: Target,
+    pub spot: Spot,
+    pub count: usize,
+}
+
 /// What a full expression in a function's body is a part of.
 #[derive(Drop)]
 pub enum Purpose {
@@ -75,12 +115,12 @@ pub enum Purpose {
     Perform(Spot),
     Assign(AssignmentOperator, Target, Spot),
     /// The index of an element that is incremented or decremented.
-    Step(StepOperator, Identifier, Spot),
+    Step(Box<SteppedName>),
     Return(usize),
     Test(Test),
     /// The condition of a `for`.
     Continue(Box<Beginning>),
-    Initialise(Position, Scalar, Vec<Declarator>, Identifier),
+    Initialise(Box<DeclaredName>),
 }
 
 /// A declaration of objects so far: their type, those that are complete, and a name.
@@ -89,6 +129,14 @@ pub struct Naming {
     pub scalar: Scalar,
     pub objects: Vec<Object>,
     pub name: Identifier,
+}
+
+/// The list of the named array so far, and the array's length where it is given.
+#[derive(Drop)]
+pub struct Values {
+    pub naming: Box<Naming>,
+    pub size: Option<ConstantExpression>,
+    pub values: Vec<ConstantExpression>,
 }
 
 /// What a constant expression is of the named object, and the offset of its first token.
@@ -104,15 +152,16 @@ pub enum Part {
 #[derive(Drop)]
 pub enum Context {
     Body(Box<Body>, Purpose),
-    Object(Vec<External>, Naming, Part),
+    Object(Box<File>, Box<Naming>, Part),
 }
 
-/// A full expression so far: what waits, the latest last, and how many tokens it has.
+/// A full expression so far: what waits, the latest last, how many tokens it has, and what comes next.
 #[derive(Drop)]
 pub struct Full {
-    pub context: Box<Context>,
+    pub context: Context,
     pub waiting: Vec<Waiting>,
     pub count: usize,
+    pub phase: Phase,
 }
 
 /// What comes next in a full expression.
@@ -154,13 +203,13 @@ pub enum Stage {
     /// A name to declare.
     Declaring(Position, Scalar, Vec<Declarator>),
     /// `=`, a comma or a semicolon, after a declared name.
-    Declared(Position, Scalar, Vec<Declarator>, Identifier),
+    Declared(Box<DeclaredName>),
     /// A name, after `++` or `--`.
     Stepping(StepOperator, Spot),
     /// `[` or the end, after that name.
-    StepNamed(StepOperator, Identifier, Spot),
-    /// The end, after an increment or decrement of so many tokens.
-    Stepped(StepOperator, Target, Spot, usize),
+    StepNamed(Box<SteppedName>),
+    /// The end, after an increment or decrement.
+    Stepped(Box<SteppedTarget>),
 }
 
 /// What comes next at file scope.
@@ -191,25 +240,53 @@ pub enum Outer {
     /// A name, after a comma.
     ObjectNext(Scalar, Vec<Object>),
     /// `[`, `=`, a comma or a semicolon, after an object's name.
-    ObjectNamed(Naming),
+    ObjectNamed(Box<Naming>),
     /// A length or `]`.
-    Sizing(Naming),
+    Sizing(Box<Naming>),
     /// `=`, a comma or a semicolon, after `]`.
-    Sized(Naming, Option<ConstantExpression>),
+    Sized(Box<Naming>, Option<ConstantExpression>),
     /// The value of a single object.
-    Initialising(Naming),
+    Initialising(Box<Naming>),
     /// `{`.
-    Listing(Naming, Option<ConstantExpression>),
+    Listing(Box<Naming>, Option<ConstantExpression>),
     /// A value, or after a comma `}`.
-    Valuing(Naming, Option<ConstantExpression>, Vec<ConstantExpression>),
+    Valuing(Box<Values>),
     /// A comma or a semicolon, after a complete object.
     Listed(Scalar, Vec<Object>),
 }
 
-/// Where the parser stands between two tokens; at file scope, the external declarations that are complete.
+/// Where the parser stands between two tokens. It moves at each token, so it is small: what it has lies in boxes, which are
+/// changed in place.
 #[derive(Drop)]
 pub enum State {
-    File(Vec<External>, Outer),
-    Body(Box<Body>, Stage),
-    Full(Full, Phase),
+    File(Box<File>),
+    Body(Box<Body>),
+    Full(Box<Full>),
+}
+
+/// The state at file scope before what comes next.
+pub fn at_file(file: Box<File>, next: Outer) -> State
+    ensures { state_view result ≡ AtFile (external_trees file.value.externals.items) (outer_view next) }
+{
+    let mut file = file;
+    drop(replace(&mut file.next, next));
+    State::File(file)
+}
+
+/// The state in a function's body before what comes next.
+pub fn in_body(body: Box<Body>, stage: Stage) -> State
+    ensures { state_view result ≡ InBody (body_view body.value) (stage_view stage) }
+{
+    let mut body = body;
+    drop(replace(&mut body.stage, stage));
+    State::Body(body)
+}
+
+/// The state in a full expression before what comes next.
+pub fn in_full(full: Box<Full>, phase: Phase) -> State
+    ensures { state_view result ≡ InFull (full_view full.value) (phase_view phase) }
+{
+    let mut full = full;
+    drop(replace(&mut full.phase, phase));
+    State::Full(full)
 }

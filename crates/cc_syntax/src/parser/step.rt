@@ -28,9 +28,9 @@ pub fn step(
     ensures { Gives state_view result (role_step (state_view state) role (name_of (lexeme text.now token))) }
 {
     match state {
-        State::File(externals, outer) => step_outer(alloc, externals, outer, role, text, token),
-        State::Body(body, stage) => step_body(alloc, body, stage, role, text, token),
-        State::Full(full, phase) => step_full(alloc, full, phase, role, text, token),
+        State::File(file) => step_outer(alloc, file, role, text, token),
+        State::Body(body) => step_body(alloc, body, role, text, token),
+        State::Full(full) => step_full(alloc, full, role, text, token),
     }
 }
 
@@ -39,14 +39,14 @@ pub fn count_so_far(state: &State) -> usize
     ensures { result ≡ count_of (state_view state.now) }
 {
     match state {
-        State::File(_, _) => 0,
-        State::Body(_, stage) => match stage {
+        State::File(_) => 0,
+        State::Body(body) => match &body.stage {
             Stage::Stepping(_, _) => 1,
-            Stage::StepNamed(_, _, _) => 2,
-            Stage::Stepped(_, _, _, count) => *count,
+            Stage::StepNamed(_) => 2,
+            Stage::Stepped(stepped) => stepped.count,
             _ => 0,
         },
-        State::Full(full, _) => full.count,
+        State::Full(full) => full.count,
     }
 }
 
@@ -78,10 +78,10 @@ fn rest(statements: &[Open]) -> Option<usize>
     Some(0)
 }
 
-fn level_in(body: &Body, stage: &Stage, role: Role) -> usize
-    ensures { result ≡ stage_level (open_views body.now.open.items) (stage_view stage.now) role }
+fn level_in(body: &Body, role: Role) -> usize
+    ensures { result ≡ stage_level (open_views body.now.open.items) (stage_view body.now.stage) role }
 {
-    match stage {
+    match &body.stage {
         Stage::Item => level_behind(body.open.len(), role),
         Stage::AfterThen(_, _) => match role {
             Role::Else => 0,
@@ -103,11 +103,14 @@ pub fn level_begun(state: &State, role: Role) -> usize
     ensures { result ≡ role_level (state_view state.now) role }
 {
     match state {
-        State::File(_, Outer::Headed(_)) => match role {
-            Role::OpenBrace => 1,
+        State::File(file) => match &file.next {
+            Outer::Headed(_) => match role {
+                Role::OpenBrace => 1,
+                _ => 0,
+            },
             _ => 0,
         },
-        State::Body(body, stage) => level_in(body, stage, role),
-        _ => 0,
+        State::Body(body) => level_in(body, role),
+        State::Full(_) => 0,
     }
 }

@@ -1,5 +1,5 @@
 use Rattle.std.proofs.Common.{length, ◌-◌}
-use Rattle.cc_tokens.proofs.Found.{FoundBefore}
+use Rattle.cc_tokens.specs.Reading.{FoundBefore}
 use Rattle.cc_tokens.proofs.lexer.tokens.Given as goal
 
 abbrev pub invariant-loop-at : goal.invariant-loop-at

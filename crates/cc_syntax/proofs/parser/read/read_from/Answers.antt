@@ -7,13 +7,13 @@ use Rattle.cc_syntax.specs.Erase.{external_trees}
 use Rattle.cc_syntax.specs.internal.ParserView.{state_view}
 use Rattle.cc_syntax.proofs.TokenOrder.{in_order-at}
 use Rattle.cc_syntax.proofs.ReadsTokens.{stopped, past_limit, goes_on, finished, unfinished}
-use Rattle.cc_syntax.proofs.parser.read.read_tokens.Goals as goal
+use Rattle.cc_syntax.proofs.parser.read.read_from.Goals as goal
 
 pub advance-requires-clause-order : goal.advance-requires-clause-order
-advance-requires-clause-order c = (in_order-at c.args.tokens.now 0 (length c.args.text.now) c.loop-number.number (record { kind = Identifier; from = 0; to = 0 }) c.requires c.loop-number-test.true).0
+advance-requires-clause-order c = (in_order-at c.args.tokens.now 0 (length c.args.text.now) c.loop-number.number (record { kind = Identifier; from = 0; to = 0 }) c.requires.order c.loop-number-test.true).0
 
 pub advance-requires-clause-within : goal.advance-requires-clause-within
-advance-requires-clause-within c = (in_order-at c.args.tokens.now 0 (length c.args.text.now) c.loop-number.number (record { kind = Identifier; from = 0; to = 0 }) c.requires c.loop-number-test.true).1
+advance-requires-clause-within c = (in_order-at c.args.tokens.now 0 (length c.args.text.now) c.loop-number.number (record { kind = Identifier; from = 0; to = 0 }) c.requires.order c.loop-number-test.true).1
 
 pub returns-in-Err-Unexpected : goal.returns-in-Err-Unexpected
 returns-in-Err-Unexpected c =

@@ -3,7 +3,7 @@ use Rattle.cc_syntax.specs.internal.Parser.{count_of}
 use Rattle.cc_syntax.specs.internal.ParserView.{state_view}
 use Rattle.cc_tokens.specs.Token.{lexemes}
 use Rattle.cc_syntax.proofs.Verdict.{Reached}
-use Rattle.cc_syntax.proofs.parser.read.read_tokens.Given as goal
+use Rattle.cc_syntax.proofs.parser.read.read_from.Given as goal
 
 -- the tokens so far led to the state, within the limits
 abbrev pub invariant-loop-number : goal.invariant-loop-number
