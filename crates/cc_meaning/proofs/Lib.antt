@@ -33,6 +33,7 @@ pub mod Taking
 pub mod Calling
 pub mod Fetching
 pub mod Running
+pub mod Fusing
 pub mod Emitting
 pub mod WritingExpressions
 pub mod WritingActions

@@ -4,6 +4,8 @@ pub mod FormErase
 pub mod Emitted
 pub mod Writing
 pub mod FormMeaning
+pub mod Fusing
 pub mod Laid
 pub mod Shows
+pub mod FusedMeaning
 pub mod Ran

@@ -9,6 +9,7 @@
 mod emitter;
 mod fault;
 mod form;
+mod fused;
 mod interpreter;
 mod laws;
 mod operation;
@@ -17,6 +18,7 @@ mod run;
 mod writer;
 
 pub use fault::MeaningFault;
+pub use interpreter::MOST_OPEN;
 pub use laws::{
     calls_are_effects, calls_go_on, calls_keep_objects, functions_are_resolved,
     functions_have_meaning, names_have_numbers, programs_call_main, runs_go_on,

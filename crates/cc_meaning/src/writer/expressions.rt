@@ -4,6 +4,7 @@
 
 ghost use Rattle.std.specs.Prelude.{◌≡◌, ◌-◌, ◌<◌, ◌≤◌, ◌∷◌, ◌++◌, length, IfOk, OnOk};
 ghost use Rattle.cc_syntax.specs.Erase.{name_tree, expression_tree, expressions_of, optional_tree};
+ghost use Rattle.cc_syntax.specs.Tree as tree;
 ghost use Rattle.cc_typing.specs.Operators.{working_type};
 ghost use Rattle.cc_typing.specs.Scope.{found};
 ghost use Rattle.cc_typing.specs.Types.{variable_type, element_type, result_type, or_int, value_type};
@@ -141,28 +142,53 @@ pub fn expression(
             expression(names, code, operand)?;
             Ok(*scalar)
         }
-        // The operation is known once the types of both operands are: until then `Truth` stands in its place, and stays
-        // there for `&&` and `||`.
-        Expression::Binary(operator, left, right) => {
-            let behind = code.len();
-            code.emit(Instruction::Truth)?;
-            let second = expression(names, code, right)?;
-            skip_right(code, *operator, behind)?;
-            let first = expression(names, code, left)?;
-            operate(code, *operator, behind, first, second);
-            Ok(binary_type(*operator, first, second))
-        }
-        Expression::Conditional(condition, held, other) => {
-            let behind = code.len();
-            let second = expression(names, code, other)?;
-            let other_arm = code.len();
-            code.emit(Instruction::Jump(code.distance(behind)))?;
-            let first = expression(names, code, held)?;
-            code.emit(Instruction::JumpIfZero(code.distance(other_arm)))?;
-            expression(names, code, condition)?;
-            Ok(common_type(first, second))
-        }
+        Expression::Binary(operator, left, right) => binary(names, code, *operator, left, right),
+        Expression::Conditional(test, held, other) => conditional(names, code, test, held, other),
     }
+}
+
+// Both operands and the operation on them. It is known once the types of both are: until then `Truth` stands in its place, and
+// stays there for `&&` and `||`.
+#[cycle(expressions)]
+fn binary(
+    names: &Environment<'_>,
+    code: &mut Emitter,
+    operator: BinaryOperator,
+    left: &Expression,
+    right: &Expression,
+) -> Result<Scalar, AllocError>
+    ensures code { OnOk result (code.new ≡ expression_code names.now (tree.Binary operator (expression_tree left.now) (expression_tree right.now)) ++ code.old) }
+    ensures scalar { IfOk result (λ t. t ≡ value_type (types_in names.now) (tree.Binary operator (expression_tree left.now) (expression_tree right.now))) }
+{
+    let behind = code.len();
+    code.emit(Instruction::Truth)?;
+    let second = expression(names, code, right)?;
+    skip_right(code, operator, behind)?;
+    let first = expression(names, code, left)?;
+    operate(code, operator, behind, first, second);
+    Ok(binary_type(operator, first, second))
+}
+
+// A condition, and the value that it picks of two.
+#[cycle(expressions)]
+fn conditional(
+    names: &Environment<'_>,
+    code: &mut Emitter,
+    test: &Expression,
+    held: &Expression,
+    other: &Expression,
+) -> Result<Scalar, AllocError>
+    ensures code { OnOk result (code.new ≡ expression_code names.now (tree.Conditional (expression_tree test.now) (expression_tree held.now) (expression_tree other.now)) ++ code.old) }
+    ensures scalar { IfOk result (λ t. t ≡ value_type (types_in names.now) (tree.Conditional (expression_tree test.now) (expression_tree held.now) (expression_tree other.now))) }
+{
+    let behind = code.len();
+    let second = expression(names, code, other)?;
+    let other_arm = code.len();
+    code.emit(Instruction::Jump(code.distance(behind)))?;
+    let first = expression(names, code, held)?;
+    code.emit(Instruction::JumpIfZero(code.distance(other_arm)))?;
+    expression(names, code, test)?;
+    Ok(common_type(first, second))
 }
 
 // The arguments of a call, from the last to the first.

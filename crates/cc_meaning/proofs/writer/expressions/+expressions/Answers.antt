@@ -21,20 +21,16 @@ expression-returns-in_ok-arguments-in-Call-clause-code t c =
     let is = ap expression_tree c.in-Call.is ∙ expression_tree-call c.in-Call.name c.in-Call.all ∙ ap (λ (l : List Expression). tree.Call f (expressions_of l)) (sym c.as_slice-all.ensures.value) in
     call-code c.args.names.now f (expressions_of all) (expression_tree c.args.tree.now) c.args.code.now c.call.new.code c.arguments.new.code is c.in_ok-scalar-in-Call.ensures.code c.in_ok-arguments-in-Call.ensures
 
-pub expression-returns-in_ok-first-in-Binary-clause-code : goal.expression-returns-in_ok-first-in-Binary-clause-code
-expression-returns-in_ok-first-in-Binary-clause-code t c =
+pub binary-returns-clause-code : goal.binary-returns-clause-code
+binary-returns-clause-code t c =
     let v = c.args.names.now in
-    let op = c.in-Binary.operator in
-    let a = expression_tree c.deref-in-Binary-2.result.now in
-    let b = expression_tree c.deref-in-Binary.result.now in
-    let is : expression_tree c.args.tree.now ≡ tree.Binary op a b =
-    ap expression_tree c.in-Binary.is ∙ ap (λ (e : Expression). tree.Binary op (expression_tree e) (expression_tree c.in-Binary.right.value)) (sym c.deref-in-Binary-2.ensures)
-    ∙ ap (λ (e : Expression). tree.Binary op a (expression_tree e)) (sym c.deref-in-Binary.ensures) in
+    let op = c.args.operator in
+    let a = expression_tree c.args.left.now in
+    let b = expression_tree c.args.right.now in
     let o = operation op (working_type op (value_type (types_in v) a) (value_type (types_in v) b)) in
-    let done : c.operate.new.code ≡ operated (short_cut op 0) o c.len-behind.result c.expression-in-Binary-2.new.code =
+    let done : c.operate.new.code ≡ operated (short_cut op 0) o c.len-behind.result c.expression-2.new.code =
     c.operate.ensures
-    ∙ ap (λ (s : Scalar). operated (short_cut op 0) (operation op (working_type op s c.in_ok-second-in-Binary.second)) c.len-behind.result c.expression-in-Binary-2.new.code) c.in_ok-first-in-Binary.ensures.scalar
-    ∙ ap (λ (s : Scalar). operated (short_cut op 0) (operation op (working_type op (value_type (types_in v) a) s)) c.len-behind.result c.expression-in-Binary-2.new.code) c.in_ok-second-in-Binary.ensures.scalar in
-    joined-code o (expression_code v a) (expression_code v b) c.args.code.now c.expression-in-Binary.new.code c.skip_right.new.code c.expression-in-Binary-2.new.code c.operate.new.code c.len-behind.result
-    c.len-behind.ensures (c.in_ok-second-in-Binary.ensures.code ∙ ap (λ l. expression_code v b ++ l) c.in_ok-emit-in-Binary.ensures) c.in_ok-first-in-Binary.ensures.code op c.in_ok-skip_right-in-Binary.ensures done
-    ∙ sym (ap (λ e. expression_code v e ++ c.args.code.now) is)
+    ∙ ap (λ (s : Scalar). operated (short_cut op 0) (operation op (working_type op s c.in_ok-second.second)) c.len-behind.result c.expression-2.new.code) c.in_ok-first.ensures.scalar
+    ∙ ap (λ (s : Scalar). operated (short_cut op 0) (operation op (working_type op (value_type (types_in v) a) s)) c.len-behind.result c.expression-2.new.code) c.in_ok-second.ensures.scalar in
+    joined-code o (expression_code v a) (expression_code v b) c.args.code.now c.expression.new.code c.skip_right.new.code c.expression-2.new.code c.operate.new.code c.len-behind.result
+    c.len-behind.ensures (c.in_ok-second.ensures.code ∙ ap (λ l. expression_code v b ++ l) c.in_ok-emit.ensures) c.in_ok-first.ensures.code op c.in_ok-skip_right.ensures done

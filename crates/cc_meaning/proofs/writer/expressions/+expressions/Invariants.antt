@@ -1,4 +1,5 @@
-use Rattle.std.proofs.Common.{◌≡◌, ◌≤◌, ◌++◌, length, drop}
+use Rattle.std.proofs.Common.{max, ◌+◌, ◌*◌, ◌≡◌, ◌≤◌, ◌++◌, length, drop}
+use Rattle.cc_syntax.proofs.ast.Expression.TheLaws.{the_size}
 use Rattle.cc_syntax.specs.Erase.{expressions_of}
 use Rattle.cc_meaning.specs.internal.Form.{arguments_code}
 use Rattle.cc_meaning.proofs.writer.expressions.+expressions.Given as goal
@@ -12,3 +13,16 @@ invariant-arguments-loop-left l = record {
 
 abbrev pub decreases-arguments-loop-left : goal.decreases-arguments-loop-left
 decreases-arguments-loop-left l = l.left
+
+-- a part of an expression is less deep than it, and a function that takes some parts stands between
+abbrev pub decreases-expression : goal.decreases-expression
+decreases-expression l = 2 * the_size l.tree.now
+
+abbrev pub decreases-arguments : goal.decreases-arguments
+decreases-arguments l = 2 * goal.size-arguments l + 1
+
+abbrev pub decreases-binary : goal.decreases-binary
+decreases-binary l = 2 * max (the_size l.left.now) (the_size l.right.now) + 1
+
+abbrev pub decreases-conditional : goal.decreases-conditional
+decreases-conditional l = 2 * max (the_size l.test.now) (max (the_size l.held.now) (the_size l.other.now)) + 1
