@@ -11,13 +11,11 @@ ghost use Rattle.cc_emit.specs.Objects.{object_address};
 ghost use Rattle.cc_emit.specs.internal.Bases.{base_in, bases_from, address_behind};
 
 use cc_meaning::names_have_numbers;
+use cc_rv32::map::GLOBALS_FROM;
 use cc_syntax::{External, Object};
 use cc_typing::object_words;
 use std::alloc::{AllocError, Global};
 use std::marker::Model;
-
-/// Where the globals begin.
-const GLOBALS_FROM: u32 = 0x0020_0000;
 
 /// The address of each object, and the one behind the last. A clause sees the list.
 #[derive(Drop)]

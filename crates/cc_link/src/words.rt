@@ -12,15 +12,14 @@ use cc_emit::Item;
 use cc_rv32::encode::encode;
 use cc_rv32::image::{Code, MOST_CODE};
 use cc_rv32::instr::{ImmediateOperation, Instr};
+use cc_rv32::map::CODE_FROM;
 use cc_rv32::operand::{Immediate, JumpOffset, Register};
 use std::alloc::{AllocError, Global};
 
-// Where the code begins; how many words stand before the functions, and where those begin.
-const CODE_FROM: u32 = 0x0001_0000;
-
+// How many words stand before the functions, and where those begin.
 const HEAD_WORDS: usize = 3;
 
-const FUNCTIONS_FROM: u32 = 0x0001_000c;
+const FUNCTIONS_FROM: u32 = CODE_FROM + 12;
 
 /// Whether the code of these functions has at most 131,072 words.
 pub(crate) fn fits(bodies: &[&[Item]]) -> bool

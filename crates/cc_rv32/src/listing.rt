@@ -1,6 +1,7 @@
 //! The listing of an image: a line for each word of its code, with its address, the word and the instruction.
 
 ghost use Rattle.std.specs.Prelude.{◌≡◌, ◌++◌, ◌<◌, ◌≤◌, length, Some, IfOk, OnOk, string_bytes};
+ghost use Rattle.std.specs.Fmt.{decimal};
 ghost use Rattle.cc_rv32.specs.Table.{instruction_of};
 ghost use Rattle.cc_rv32.specs.Listing.{register_text, signed_text, operation_text, immediate_operation_text, shift_operation_text, load_operation_text, store_operation_text, branch_operation_text, instruction_text, word_text, hexadecimal, hexadecimal_digit, line, lines_from, listing};
 
@@ -11,7 +12,8 @@ use crate::instr::{
     BranchOperation, ImmediateOperation, Instr, LoadOperation, Operation, ShiftOperation,
     StoreOperation,
 };
-use crate::operand::{BranchOffset, Immediate, JumpOffset, Register};
+use crate::map::CODE_FROM;
+use crate::operand::{BranchOffset, Immediate, JumpOffset, Register, ShiftCount, UpperImmediate};
 use std::alloc::{AllocError, Global};
 use std::fmt;
 
@@ -48,6 +50,24 @@ impl fmt::Display for JumpOffset {
     fn fmt<W: fmt::Write>(&self, f: &mut fmt::Formatter<W>) -> fmt::Result {
         let value = self.word().cast_signed();
         write!(f, "{value}")
+    }
+}
+
+impl fmt::Display for ShiftCount {
+    ghost output = { λ c. Some (decimal c) };
+
+    fn fmt<W: fmt::Write>(&self, f: &mut fmt::Formatter<W>) -> fmt::Result {
+        let amount = self.amount();
+        write!(f, "{amount}")
+    }
+}
+
+impl fmt::Display for UpperImmediate {
+    ghost output = { λ i. Some (decimal i) };
+
+    fn fmt<W: fmt::Write>(&self, f: &mut fmt::Formatter<W>) -> fmt::Result {
+        let field = self.field();
+        write!(f, "{field}")
     }
 }
 
@@ -168,10 +188,7 @@ impl fmt::Display for Instr {
                 rd,
                 rs1,
                 count,
-            } => {
-                let amount = count.amount();
-                write!(f, "{operation} {rd}, {rs1}, {amount}")
-            }
+            } => write!(f, "{operation} {rd}, {rs1}, {count}"),
             Instr::Load {
                 operation,
                 rd,
@@ -190,14 +207,8 @@ impl fmt::Display for Instr {
                 rs2,
                 offset,
             } => write!(f, "{operation} {rs1}, {rs2}, {offset}"),
-            Instr::Lui { rd, immediate } => {
-                let field = immediate.field();
-                write!(f, "lui {rd}, {field}")
-            }
-            Instr::Auipc { rd, immediate } => {
-                let field = immediate.field();
-                write!(f, "auipc {rd}, {field}")
-            }
+            Instr::Lui { rd, immediate } => write!(f, "lui {rd}, {immediate}"),
+            Instr::Auipc { rd, immediate } => write!(f, "auipc {rd}, {immediate}"),
             Instr::Jal { rd, offset } => write!(f, "jal {rd}, {offset}"),
             Instr::Jalr { rd, rs1, offset } => write!(f, "jalr {rd}, {offset}({rs1})"),
             Instr::Ecall => write!(f, "ecall"),
@@ -222,7 +233,7 @@ fn listed(alloc: Global, code: &[u32]) -> Result<String, AllocError>
     ensures { IfOk result (λ text. string_bytes text ≡ lines_from 0x00010000 code.now) }
 {
     let mut text = String::new(alloc);
-    let mut address = 0x0001_0000;
+    let mut address = CODE_FROM;
     for word in code {
         push_line(&mut text, address, *word)?;
         address += 4;

@@ -6,10 +6,9 @@ ghost use Rattle.cc_rv32.specs.Machine.{with_part};
 ghost use Rattle.cc_rv32.specs.internal.Lowered.{word_in, part_in, whole_in, with_word_in, with_part_in, with_whole_in, stored_flat};
 
 use crate::execute::Next;
+use crate::map::GLOBALS_FROM;
 
-/// The address of the first global, and how many words of globals there are.
-pub(crate) const GLOBALS_FROM: u32 = 0x0020_0000;
-
+/// How many words of globals there are.
 pub(crate) const GLOBALS_WORDS: usize = 65_536;
 
 /// The lowest address of the stack, and how many words it has.
@@ -75,58 +74,43 @@ pub(crate) fn load_byte(globals: &[u32], stack: &[u32], address: u32) -> Option<
 
 /// Writes the word that the byte address lies in; a trap where there is none.
 #[inline(always)]
-fn set_word(globals: &mut [u32], stack: &mut [u32], address: u32, word: u32, at: usize) -> Next
+fn set_word(globals: &mut [u32], stack: &mut [u32], address: u32, word: u32) -> Next
     requires globals { length globals.old ≡ 65536 }
     requires stack { length stack.old ≡ 524288 }
-    requires at { at < 131072 }
-    ensures { (result, globals.new, stack.new) ≡ stored_flat at (with_word_in globals.old stack.old address word) globals.old stack.old }
+    ensures { (result, globals.new, stack.new) ≡ stored_flat (with_word_in globals.old stack.old address word) globals.old stack.old }
 {
     let index = (address.wrapping_sub(STACK_FROM) >> 2) as usize;
     if index < STACK_WORDS {
         stack[index] = word;
-        return Next::At(at + 1);
+        return Next::Follows;
     }
     let index = (address.wrapping_sub(GLOBALS_FROM) >> 2) as usize;
     if index < GLOBALS_WORDS {
         globals[index] = word;
-        return Next::At(at + 1);
+        return Next::Follows;
     }
     Next::Trap
 }
 
 /// Writes the word at an address that is a multiple of 4, else a trap.
 #[inline(always)]
-pub(crate) fn store_word(
-    globals: &mut [u32],
-    stack: &mut [u32],
-    address: u32,
-    word: u32,
-    at: usize,
-) -> Next
+pub(crate) fn store_word(globals: &mut [u32], stack: &mut [u32], address: u32, word: u32) -> Next
     requires globals { length globals.old ≡ 65536 }
     requires stack { length stack.old ≡ 524288 }
-    requires at { at < 131072 }
-    ensures { (result, globals.new, stack.new) ≡ stored_flat at (with_whole_in globals.old stack.old address word) globals.old stack.old }
+    ensures { (result, globals.new, stack.new) ≡ stored_flat (with_whole_in globals.old stack.old address word) globals.old stack.old }
 {
     if address % 4 != 0 {
         return Next::Trap;
     }
-    set_word(globals, stack, address, word, at)
+    set_word(globals, stack, address, word)
 }
 
 /// Writes the low half of the word at an even address, else a trap.
 #[inline(always)]
-pub(crate) fn store_half(
-    globals: &mut [u32],
-    stack: &mut [u32],
-    address: u32,
-    half: u32,
-    at: usize,
-) -> Next
+pub(crate) fn store_half(globals: &mut [u32], stack: &mut [u32], address: u32, half: u32) -> Next
     requires globals { length globals.old ≡ 65536 }
     requires stack { length stack.old ≡ 524288 }
-    requires at { at < 131072 }
-    ensures { (result, globals.new, stack.new) ≡ stored_flat at (with_part_in 2 globals.old stack.old address half) globals.old stack.old }
+    ensures { (result, globals.new, stack.new) ≡ stored_flat (with_part_in 2 globals.old stack.old address half) globals.old stack.old }
 {
     if address % 2 != 0 {
         return Next::Trap;
@@ -135,28 +119,21 @@ pub(crate) fn store_half(
         return Next::Trap;
     };
     let new = with_half(old, address % 4, half);
-    set_word(globals, stack, address, new, at)
+    set_word(globals, stack, address, new)
 }
 
 /// Writes the low byte of the word at an address.
 #[inline(always)]
-pub(crate) fn store_byte(
-    globals: &mut [u32],
-    stack: &mut [u32],
-    address: u32,
-    byte: u32,
-    at: usize,
-) -> Next
+pub(crate) fn store_byte(globals: &mut [u32], stack: &mut [u32], address: u32, byte: u32) -> Next
     requires globals { length globals.old ≡ 65536 }
     requires stack { length stack.old ≡ 524288 }
-    requires at { at < 131072 }
-    ensures { (result, globals.new, stack.new) ≡ stored_flat at (with_part_in 1 globals.old stack.old address byte) globals.old stack.old }
+    ensures { (result, globals.new, stack.new) ≡ stored_flat (with_part_in 1 globals.old stack.old address byte) globals.old stack.old }
 {
     let Some(old) = word(globals, stack, address) else {
         return Next::Trap;
     };
     let new = with_byte(old, address % 4, byte);
-    set_word(globals, stack, address, new, at)
+    set_word(globals, stack, address, new)
 }
 
 #[inline(always)]
