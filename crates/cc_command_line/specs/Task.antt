@@ -1,11 +1,14 @@
 -- What a task may be.
-use Rattle.std.specs.Prelude.{◌≤◌}
+use Rattle.std.specs.Prelude.{◌≤◌, ℕ}
 use Rattle.cc_command_line.specs.declared.command_line.Task.{Task}
 use Rattle.cc_command_line.specs.declared.command_line.Task.TheVariants.{Check, Interpret, Run, Asm}
 
--- a run takes at most 1,000,000,000 steps, or instructions
+-- how many steps a run may take, or instructions
+abbrev pub most_steps : ℕ
+most_steps = 1000000000
+
 abbrev pub IsWithinLimits : Task → Type 0
 IsWithinLimits Check = Unit {0}
-IsWithinLimits (Interpret steps words) = steps ≤ 1000000000
-IsWithinLimits (Run steps words) = steps ≤ 1000000000
+IsWithinLimits (Interpret steps words) = steps ≤ most_steps
+IsWithinLimits (Run steps words) = steps ≤ most_steps
 IsWithinLimits Asm = Unit {0}

@@ -8,7 +8,8 @@ use super::expected::{Prefix, Reply};
 use super::lexical::{bad_byte, bad_constant, constant_too_large};
 use super::message::{Part, message, words};
 use super::offset::offset_in;
-use cc_tokens::{Keyword, Punctuator, SyntaxFault, Token, TokenKind, tokens};
+use cc_syntax::{DEEPEST_LEVEL, MOST_TOKENS};
+use cc_tokens::{Keyword, MOST_BYTES, Punctuator, SyntaxFault, Token, TokenKind, tokens};
 use std::alloc::{AllocError, Global};
 
 // The words of a list, as `',', ';' or ')'`.
@@ -73,6 +74,11 @@ fn begins_header(tokens: &[Token], at: usize) -> bool {
         )
 }
 
+// What has more than a limit allows.
+fn more_than(alloc: Global, what: &str, most: usize, of: &str) -> Result<String, AllocError> {
+    format!(in alloc; "{what} more than {most} {of}")
+}
+
 // What is told of a token at which a limit of the grammar is passed: a statement or a declaration begins at it, or it is one more of
 // an expression.
 fn too_deep(alloc: Global, text: &[u8], at: usize) -> Result<String, AllocError> {
@@ -80,9 +86,9 @@ fn too_deep(alloc: Global, text: &[u8], at: usize) -> Result<String, AllocError>
     let mut prefix = Prefix::new(alloc, text, tokens.as_slice(), at)?;
     let reply = prefix.ask(alloc, "return")?;
     if reply == Reply::PastLimit || begins_header(tokens.as_slice(), at) {
-        words(alloc, "statements are nested more than 64 levels deep")
+        more_than(alloc, "statements are nested", DEEPEST_LEVEL, "levels deep")
     } else {
-        words(alloc, "the expression has more than 512 tokens")
+        more_than(alloc, "the expression has", MOST_TOKENS, "tokens")
     }
 }
 
@@ -100,7 +106,7 @@ fn message_at(
         SyntaxFault::ConstantTooLarge(_) => constant_too_large(alloc, text, at),
         SyntaxFault::Unexpected(_) => unexpected(alloc, text, at),
         SyntaxFault::TooDeep(_) => too_deep(alloc, text, at),
-        SyntaxFault::SourceTooLarge => { words(alloc, "the text has more than 65536 bytes") }
+        SyntaxFault::SourceTooLarge => more_than(alloc, "the text has", MOST_BYTES, "bytes"),
         SyntaxFault::OutOfMemory => words(alloc, "memory ran out"),
     }
 }

@@ -11,7 +11,9 @@ use super::offset::offset_in;
 use super::walk::{Note, Use, Walk};
 use cc_syntax::{Object, Signature, Unit, parse};
 use cc_tokens::{Place, SyntaxFault, place_at};
-use cc_typing::{Entity, TypeFault, array_length};
+use cc_typing::{
+    Entity, MOST_FUNCTIONS, MOST_LOCALS, MOST_PARAMETERS, MOST_WORDS, TypeFault, array_length,
+};
 use std::alloc::{AllocError, Global};
 
 /// A text in which a fault stands: the fault's offset, the word there, what the walk noted of it, and all that file scope declares.
@@ -294,22 +296,14 @@ fn too_many_of_function(
     signature: &Signature,
 ) -> Result<String, AllocError> {
     let count = signature.parameters.len();
-    if count <= 8 {
-        return view.with(
-            alloc,
-            " is the 65th function that is defined, at most 64 are allowed",
+    let name = view.word();
+    if count <= MOST_PARAMETERS {
+        let past = MOST_FUNCTIONS + 1;
+        return format!(in alloc;
+            "{name} is the {past}th function that is defined, at most {MOST_FUNCTIONS} are allowed"
         );
     }
-    let allowed = Part::Words(" parameters, at most 8 are allowed");
-    message(
-        alloc,
-        &[
-            view.word(),
-            Part::Words(" has "),
-            Part::Count(count),
-            allowed,
-        ],
-    )
+    format!(in alloc; "{name} has {count} parameters, at most {MOST_PARAMETERS} are allowed")
 }
 
 fn too_many(alloc: Global, view: &View<'_>) -> Result<String, AllocError> {
@@ -318,15 +312,19 @@ fn too_many(alloc: Global, view: &View<'_>) -> Result<String, AllocError> {
             Declared::Declaration(signature) | Declared::Definition(signature) => {
                 too_many_of_function(alloc, view, signature)
             }
-            Declared::Object(_) => view.with(
-                alloc,
-                " is too many: all objects at file scope have at most 65536 words together",
-            ),
+            Declared::Object(_) => {
+                let name = view.word();
+                format!(in alloc;
+                    "{name} is too many: all objects at file scope have at most {MOST_WORDS} words together"
+                )
+            }
         },
         None => {
-            let local = Part::Words(" is the 257th local of ");
-            let allowed = Part::Words(", at most 256 are allowed");
-            message(alloc, &[view.word(), local, view.function(), allowed])
+            let (name, function) = (view.word(), view.function());
+            let past = MOST_LOCALS + 1;
+            format!(in alloc;
+                "{name} is the {past}th local of {function}, at most {MOST_LOCALS} are allowed"
+            )
         }
     }
 }

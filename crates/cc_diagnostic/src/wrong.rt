@@ -5,7 +5,7 @@ use super::diagnostic::Diagnostic;
 use super::message::{Part, message};
 use super::replay::{Replay, Trouble, Wrong};
 use super::walk::Walk;
-use cc_meaning::Cause;
+use cc_meaning::{Cause, MOST_OPEN};
 use cc_resolve::lay_out;
 use cc_syntax::{BinaryOperator, Identifier, SyntaxFault, Unit, parse};
 use cc_tokens::{Punctuator, Scalar, Token, TokenKind, tokens};
@@ -103,8 +103,8 @@ fn of_depth<'a>(
     function: Part<'a>,
 ) -> Result<String, AllocError> {
     let name = Part::Token(name.bytes.as_slice());
-    let many = Part::Words(" would be the 1025th open call, in ");
-    message(alloc, &[Part::Words("this call of "), name, many, function])
+    let past = MOST_OPEN + 1;
+    format!(in alloc; "this call of {name} would be the {past}th open call, in {function}")
 }
 
 // The message of what goes wrong in a function.

@@ -3,22 +3,23 @@
 ghost use Rattle.std.specs.Prelude.{◌≤◌, IfOk, vec_len};
 
 use super::fault::Fault;
+use cc_tokens::MOST_BYTES;
 use std::alloc::Global;
 use std::io::Read;
 
 /// One byte more than a text may have: so many are read, that a longer text is seen to be one.
-const MOST_BYTES: usize = 65_537;
+const MOST_READ: usize = MOST_BYTES + 1;
 
-/// The bytes of a reader up to its end, or the first 65,537 of them.
+/// The bytes of a reader up to its end, or the first `MOST_READ` of them.
 ///
 /// `Read` where a read fails, `OutOfMemory` where there is no room for the bytes.
 pub fn read_source<R: Read>(alloc: Global, reader: &mut R) -> Result<Vec<u8>, Fault>
-    ensures { IfOk result (λ text. vec_len text ≤ MOST_BYTES) }
+    ensures { IfOk result (λ text. vec_len text ≤ MOST_READ) }
 {
     let mut text = Vec::new(alloc);
     let mut piece = [0u8; 4096];
-    while text.len() < MOST_BYTES {
-        let room = piece.len().min(MOST_BYTES - text.len());
+    while text.len() < MOST_READ {
+        let room = piece.len().min(MOST_READ - text.len());
         let Ok(count) = reader.read(&mut piece[..room]) else {
             return Err(Fault::Read);
         };

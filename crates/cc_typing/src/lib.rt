@@ -31,7 +31,9 @@ pub use checking::{check, check_is_determined};
 pub use constants::{array_length, constant_word};
 pub use entity::Entity;
 pub use fault::TypeFault;
-pub use limits::{local_count, object_words};
+pub use limits::{
+    MOST_FUNCTIONS, MOST_LOCALS, MOST_PARAMETERS, MOST_WORDS, local_count, object_words,
+};
 pub use operators::{
     applied_operator, binary_type, common_type, step_operator, unary_type, working_type,
 };

@@ -13,13 +13,17 @@ use super::rule::{Offence, Rule};
 use cc_syntax::{Beginning, Declarator, External, Identifier, Object, Signature, Statement};
 use std::alloc::AllocError;
 
-const MOST_PARAMETERS: usize = 8;
+/// The most parameters of a function.
+pub const MOST_PARAMETERS: usize = 8;
 
-const MOST_LOCALS: usize = 256;
+/// The most locals of a function, its parameters not counted.
+pub const MOST_LOCALS: usize = 256;
 
-const MOST_FUNCTIONS: usize = 64;
+/// The most functions that a unit may define.
+pub const MOST_FUNCTIONS: usize = 64;
 
-const MOST_WORDS: usize = 65536;
+/// The most words that all objects at file scope may have.
+pub const MOST_WORDS: usize = 65536;
 
 // How many names may stand, how many do, up to that, and where the first one past it is.
 #[derive(Clone, Copy)]

@@ -4,6 +4,7 @@ ghost use Rattle.std.specs.Prelude.{◌≡◌, ◌<◌, ◌≤◌, [], ◌∷◌
 ghost use Rattle.cc_syntax.specs.Source.{source};
 ghost use Rattle.cc_syntax.specs.Erase.{external_tree, external_trees};
 ghost use Rattle.cc_syntax.specs.Parse.{SpellsText};
+ghost use Rattle.cc_tokens.specs.Tokens.{most_bytes};
 ghost use Rattle.cc_typing.specs.internal.Counts.{defines};
 ghost use Rattle.cc_typing.specs.Typed.{IsTyped, IsWithinLimits, defined_names, definitions};
 ghost use Rattle.cc_typing.specs.Checked.{IsChecked};
@@ -74,7 +75,7 @@ impl TypedUnit {
     /// The text, byte for byte: 65,536 at most.
     pub fn text(&self) -> &[u8]
         ensures answer { result.now ≡ (source self.now).text }
-        ensures few { length result.now ≤ 65536 }
+        ensures few { length result.now ≤ most_bytes }
     {
         self.unit.text()
     }
