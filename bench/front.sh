@@ -1,8 +1,9 @@
 #!/usr/bin/env bash
 # Shows by ratios within one run, of processor time, that `check` is linear in the text's length and that a turn of a loop has
 # one price: 64 KiB of text against 8 KiB (8 is linear), and 10 million turns against 1 million (10 is linear). Then how fast
-# `check` is where `gcc -fsyntax-only` is 1 (more is faster), over 64 KiB of each kind, without the starts of both programs,
-# each the best of five; and the most memory of `check`, in bytes for each byte of text, without that of an empty text.
+# `check` is where `gcc -fsyntax-only` is 1 (more is faster), over 64 KiB of each kind, without the starts of both programs, the two
+# in turn and each the best of ROUNDS runs (40); and the most memory of `check`, in bytes for each byte of text, without that of an
+# empty text.
 # Run by hand; the program has to be built (./cclib --help). CCLIB names another program in its place.
 set -eu
 here=$(cd "$(dirname "$0")/.." && pwd)
@@ -59,28 +60,63 @@ for kind in statements blocks comments names objects functions; do
   s=$(millis 40 small); l=$(millis 40 large)
   echo "check, $kind: 8 KiB $s ms, 64 KiB $l ms; without the start of the program the ratio is $(python3 -c "print(round(($l-$base)/max(1,$s-$base),1))")"
 done
-# best RUNS COMMAND..: the least of five times
-best() { for _ in 1 2 3 4 5; do millis "$@"; done | sort -n | head -1; }
-# peak FILE: the most memory of `check` in KiB
-peak() { python3 - "$program" "$1" <<'P'
-import resource, subprocess, sys
-subprocess.run([sys.argv[1], "check"], stdin=open(sys.argv[2]), stdout=subprocess.DEVNULL)
-print(resource.getrusage(resource.RUSAGE_CHILDREN).ru_maxrss)
-P
+for kind in statements blocks comments names objects functions nested; do text "$kind" 65536 > "$work/$kind.c"; done
+# A process counts the memory of the one that it is made of, so a small one starts the program, and tells the most that it took.
+cat > "$work/peak.c" <<'C'
+#include <stdio.h>
+#include <sys/resource.h>
+#include <sys/wait.h>
+#include <unistd.h>
+int main(int count, char **words) {
+  struct rusage used;
+  pid_t child = fork();
+  if (child == 0) {
+    if (freopen(words[1], "r", stdin) && freopen("/dev/null", "w", stdout)) execv(words[2], words + 2);
+    _exit(127);
+  }
+  wait4(child, 0, 0, &used);
+  printf("%ld\n", used.ru_maxrss);
 }
-large() { "$program" check < "$work/large.c"; }
-others() { gcc -fsyntax-only -w "$1"; }
-ours=$(best 20 empty); theirs=$(best 20 others "$work/empty.c"); least=$(peak "$work/empty.c")
-ratios=
-for kind in statements blocks comments names objects functions nested; do
-  text "$kind" 65536 > "$work/large.c"
-  size=$(stat -c %s "$work/large.c")
-  l=$(best 20 large); g=$(best 20 others "$work/large.c")
-  ratio=$(python3 -c "print(round(($g-$theirs)/max(1,$l-$ours),2))")
-  echo "check, $kind: $ratio times as fast as gcc -fsyntax-only, $(( ($(peak "$work/large.c") - least) * 1024 / size )) bytes of memory for a byte of text"
-  if [ "$kind" != nested ]; then ratios="$ratios $ratio"; fi
-done
-echo "check: $(python3 -c "import math,sys; r=[float(x) for x in sys.argv[1:]]; print(round(math.exp(sum(map(math.log,r))/len(r)),2))" $ratios) times as fast as gcc -fsyntax-only (geometric mean of the six)"
+C
+gcc -O1 -o "$work/peak" "$work/peak.c"
+python3 - "$program" "$work" <<'P'
+import math, os, subprocess, sys
+
+program, work = sys.argv[1:]
+ROUNDS = int(os.environ.get("ROUNDS", 40))
+
+
+def peak(path):
+    """The most memory of `check`, in KiB."""
+    return int(subprocess.run([f"{work}/peak", path, program, "check"], capture_output=True, check=True).stdout)
+
+
+def seconds(words, path):
+    """The processor time of one run, its standard input that file."""
+    with open(path) as source, open(os.devnull, "w") as nothing:
+        child = subprocess.Popen(words, stdin=source, stdout=nothing, stderr=nothing)
+        _, child.returncode, used = os.wait4(child.pid, 0)
+    return used.ru_utime + used.ru_stime
+
+
+def least(path):
+    """The least time of `check` and of gcc, the two in turn."""
+    runs = [(seconds([program, "check"], path), seconds(["gcc", "-fsyntax-only", "-w", path], path)) for _ in range(ROUNDS)]
+    return [min(times) for times in zip(*runs)]
+
+
+start, ratios = least(f"{work}/empty.c"), []
+floor = peak(f"{work}/empty.c")
+for kind in ["statements", "blocks", "comments", "names", "objects", "functions", "nested"]:
+    path = f"{work}/{kind}.c"
+    mine, other = [time - before for time, before in zip(least(path), start)]
+    memory = (peak(path) - floor) * 1024 / os.path.getsize(path)
+    print(f"check, {kind}: {mine * 1000:.1f} ms, gcc -fsyntax-only {other * 1000:.1f} ms: {other / mine:.2f} times as fast; {memory:.0f} bytes of memory for a byte of text")
+    if kind != "nested":
+        ratios.append(other / mine)
+mean = math.exp(sum(map(math.log, ratios)) / len(ratios))
+print(f"check: {mean:.2f} times as fast as gcc -fsyntax-only (geometric mean of the six)")
+P
 for turns in 1000000 10000000; do
   echo "int main(void){int i;while(i<$turns){i=i+1;}return i;}" > "$work/loop$turns.c"
 done
