@@ -4,5 +4,7 @@ pub mod Plan
 pub mod Compiling
 -- what the headline says of every image of the disk
 pub mod Recovered
+-- the pieces of a compiled unit, as the core asks for them
+pub mod Built
 -- what serves private contracts
 pub mod internal

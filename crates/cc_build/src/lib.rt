@@ -6,8 +6,10 @@
 #![tactic(auto)]
 
 mod build;
+mod built;
 mod recovered;
 mod refusal;
 
+pub use built::made_units_are_built;
 pub use build::{CcBuild, plans_are_verdicts};
 pub use recovered::{headline, run};

@@ -128,7 +128,7 @@ recovers_to : (image : List ℕ) (o : Opened) → IsOpenedAt image o → Recover
 recovers_to image o at = subst (λ (l : List ℕ). Recovers l o.library) at.bytes (record { area = o.store.area; bodies = at.bodies; holds = at.holds; stand = at.stand })
 
 module _ {P : Type 0} (is_right : StoredUnit → Type 0) where
-  pub opened_begins : (image : List ℕ) (o : Opened) → IsOpenedAt image o → ((units : Units) → Recovers image units → EachUnit is_right units) → (acknowledged : List Numbered) → acknowledged ≡ []
+  pub opened_begins : (image : List ℕ) (o : Opened) → IsOpenedAt image o → ((units : Units) → Recovers image units → EachUnit is_right units) → (acknowledged : List Numbered) → acknowledged ≡ o.order
       → IsOpened {P = P} is_right (record { core = record { library = o.library; order = o.order; acknowledged = acknowledged; phase = Idle; store = o.store; upcoming = o.upcoming }; jobs = empty; workers = empty })
   opened_begins image o at right acknowledged none =
       let leads = order_leads at.bodies o.library o.order o.upcoming at.stand at.order in

@@ -7,7 +7,7 @@ use Rattle.std.specs.Ordering.{nat_cmp}
 use Rattle.std.specs.Cmp.{nat_cmp_total}
 use Rattle.std.specs.FinMap.{FinMap, get, insert, remove, empty, get-empty}
 use Rattle.std.proofs.lemmas.List.{length-replicate, length-set, length-map, take-append-drop, take_at, append_assoc}
-use Rattle.std.proofs.lemmas.List.Elements.{All-replicate, All-weaker, All-push, All-nil, Contains-append_left, Contains-push}
+use Rattle.std.proofs.lemmas.List.Elements.{All-replicate, All-weaker, All-push, All-nil, Contains-append_left, Contains-get_or, Contains-push}
 use Rattle.std.proofs.lemmas.Option.{slice_get_within}
 use Rattle.cc_disk.specs.declared.cell.Cell.{Cell}
 use Rattle.cc_disk.specs.Model.{bytes_of, crashed, IsImage}
@@ -323,9 +323,9 @@ module _ {P : Type 0} (rules : Rules P) (keeps : P → Type 0) where
             right = λ other library now recovered.
                 subst (EachUnit is_right) (sym (base.alone library (subst (λ (l : List ℕ). Recovers l library) (o.alone other now) recovered))) o.right;
             flying = λ client numbered due is. absurd (idle_not_committing client numbered due (sym o.phase ∙ is));
-            acked = subst (All (Contains s.core.order)) (sym o.acknowledged) (All-nil (Contains s.core.order));
+            acked = subst (All (Contains s.core.order)) (sym o.acknowledged) (λ k d within. Contains-get_or s.core.order k d within);
             rising = o.rising;
-            rising_acked = subst AreRising (sym o.acknowledged) (λ i j a b lt first second. absurd (cc));
+            rising_acked = subst AreRising (sym o.acknowledged) o.rising;
             below = o.below;
             disk = subst (λ phase. IsKept phase s.core.store s.core.order s.core.acknowledged) (sym o.phase) disk;
           };

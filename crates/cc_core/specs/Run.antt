@@ -35,6 +35,10 @@ use Rattle.cc_core.specs.Step.{Step, IsImpossible, IsStart, Advances, RewritesAl
 abbrev pub EachUnit : (StoredUnit → Type 0) → Units → Type 0
 EachUnit is_right library = (name : List ℕ) (unit : StoredUnit) → get library name ≡ Some unit → is_right unit
 
+-- a unit of this map, or a right one
+abbrev pub IsRightOr : (StoredUnit → Type 0) → Units → StoredUnit → Type 0
+IsRightOr is_right base unit = ((name : List ℕ) × (get base name ≡ Some unit)) ⊎ is_right unit
+
 -- the sequence numbers of these commands rise
 abbrev pub AreRising : List Numbered → Type 0
 AreRising numbered = (i j : ℕ) (a b : Numbered) → i < j → slice_get numbered i ≡ Some a → slice_get numbered j ≡ Some b → a.number.value < b.number.value
@@ -134,7 +138,7 @@ module _ {P : Type 0} where
   Run rules keeps old (event ∷ later) new = (mid : Contents P) × (Turn rules keeps old event mid × Run rules keeps mid later new)
 
   -- A disk of any size was opened, in either area: all is settled, and the records of its area stand for the live map, which is
-  -- the library of an order that some commands before made. That each unit of this base is right is a premise.
+  -- the library of an order that some commands before made. All of these are acknowledged. That each unit of this base is right is a premise.
   pub record IsOpened (is_right : StoredUnit → Type 0) (new : Contents P) : Type 0 where
     pub phase : new.core.phase ≡ Idle
     pub library : new.core.library ≡ library_of (commands new.core.order)
@@ -142,7 +146,7 @@ module _ {P : Type 0} where
     pub right : EachUnit is_right new.core.library
     pub rising : AreRising new.core.order
     pub below : (k : ℕ) (a : Numbered) → slice_get new.core.order k ≡ Some a → a.number.value < new.core.upcoming.value
-    pub acknowledged : new.core.acknowledged ≡ []
+    pub acknowledged : new.core.acknowledged ≡ new.core.order
     pub jobs : new.jobs ≡ empty
     pub workers : new.workers ≡ empty
     pub alone : LeavesAlone (bytes_of new.core.store.cells) (IsImage new.core.store.cells)

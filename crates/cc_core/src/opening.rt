@@ -25,12 +25,13 @@ pub(crate) struct Found {
 }
 
 /// What a run begins with on an opened disk: the disk, settled; the map that its records stand for; their commands, numbered from
-/// 0 on; and the number of the next Begin.
+/// 0 on, all of which are acknowledged; and the number of the next Begin.
 #[derive(Drop)]
 pub(crate) struct Opened {
     pub store: Store,
     pub library: UnitMap,
     pub order: Sequence<Numbered>,
+    pub acknowledged: Sequence<Numbered>,
     pub upcoming: SequenceNumber,
 }
 
@@ -76,13 +77,25 @@ fn bytes_taken(bodies: &[Body]) -> usize
     taken
 }
 
-// The commands that these records spell, numbered from 0 on, and the number after them. Where each of them spells one, only
+// The same commands once more.
+fn again(alloc: Global, order: &[Numbered]) -> Result<Sequence<Numbered>, AllocError>
+    ensures { IfOk result (λ copy. copy ≡ order.now) }
+{
+    let mut copy = Sequence::new(Vec::new(alloc));
+    for numbered in order {
+        copy.push(numbered.again()?)?;
+    }
+    Ok(copy)
+}
+
+// The commands that these records spell, numbered from 0 on, once more as those that are acknowledged, and the number after them. Where each of them spells one, only
 // memory can be refused.
 fn read_order(
     alloc: Global,
     bodies: &[Body],
-) -> Result<(Sequence<Numbered>, SequenceNumber), AllocError>
-    ensures { IfOk result (λ read. IsOrderOf bodies.now read.0 read.1) }
+) -> Result<(Sequence<Numbered>, Sequence<Numbered>, SequenceNumber), AllocError>
+    ensures order { IfOk result (λ read. IsOrderOf bodies.now read.0 read.2) }
+    ensures acknowledged { IfOk result (λ read. read.1 ≡ read.0) }
 {
     let mut order = Sequence::new(Vec::new(alloc));
     let mut upcoming = SequenceNumber::first();
@@ -96,7 +109,8 @@ fn read_order(
         })?;
         upcoming = upcoming.next();
     }
-    Ok((order, upcoming))
+    let acknowledged = again(alloc, order.as_slice())?;
+    Ok((order, acknowledged, upcoming))
 }
 
 /// Opens a disk as the beginning of a run. It refuses as the opening of a library does, and hands the disk back.
@@ -116,10 +130,11 @@ pub(crate) fn open(alloc: Global, disk: MemoryDisk) -> Result<Opened, (LibraryFa
     };
     // The records were replayed, so each is a command.
     match read_order(alloc, journal.records()) {
-        Ok((order, upcoming)) => Ok(Opened {
+        Ok((order, acknowledged, upcoming)) => Ok(Opened {
             store: Store::of_disk(journal.into_disk(), used),
             library,
             order,
+            acknowledged,
             upcoming,
         }),
         Err(_) => {

@@ -14,7 +14,7 @@ ghost use Rattle.cc_core.specs.declared.contents.Core.{Core};
 ghost use Rattle.cc_core.specs.declared.contents.Phase.TheVariants.{Idle, Crashed};
 ghost use Rattle.cc_core.specs.declared.ids.ClientId.{ClientId};
 ghost use Rattle.cc_core.specs.Step.{Step, IsImpossible, IsStart, RewritesAll, Reopens, StepsCore, commands};
-ghost use Rattle.cc_core.specs.Run.{Turn, Run, EachUnit, EachImageSurvives, EachImageIsRight, PutsCommand, HandsIn, AreRising, IsOpened, IsOrderOf, IsBeginning, IsOfCrash, PutsSource, Commits, LeavesRecord, Rewrites, LeavesCompacted, live};
+ghost use Rattle.cc_core.specs.Run.{Turn, Run, EachUnit, IsRightOr, EachImageSurvives, EachImageIsRight, PutsCommand, HandsIn, AreRising, IsOpened, IsOrderOf, IsBeginning, IsOfCrash, PutsSource, Commits, LeavesRecord, Rewrites, LeavesCompacted, live};
 
 use crate::build::Build;
 use crate::command::{Numbered, Reply};
@@ -108,12 +108,13 @@ impl<B: Build> State<B> {
                     store,
                     library,
                     order,
+                    acknowledged,
                     upcoming,
                 } = opened;
                 let core = Core {
                     library,
                     order,
-                    acknowledged: Sequence::new(Vec::new(alloc)),
+                    acknowledged,
                     phase: Phase::Idle,
                     store,
                     upcoming,
@@ -255,4 +256,13 @@ pub fn crash_law<B: Build>()
         → (reply : Option Reply) × (after : Contents B.Piece) × StepsCore RewritesAll new reply after }
     ensures leaves_compacted { (first new : Contents B.Piece) (events : List (Event B.Piece)) (after : Core)
         → IsBeginning B.is_right first → Run B.rules B.keeps first events new → Rewrites new.core after → LeavesCompacted new.core after }
+{}
+
+/// The crash law of any disk: in place of the units of a beginning being right, each is one of this base, or right. So nothing has to be known
+/// of the units that were found at an opening.
+pub fn crash_law_over<B: Build>()
+    ensures survives { (base : Units) (first new : Contents B.Piece) (events : List (Event B.Piece))
+        → IsBeginning (IsRightOr B.is_right base) first → Run B.rules B.keeps first events new → EachImageSurvives new.core }
+    ensures units { (base : Units) (first new : Contents B.Piece) (events : List (Event B.Piece))
+        → IsBeginning (IsRightOr B.is_right base) first → Run B.rules B.keeps first events new → EachImageIsRight (IsRightOr B.is_right base) new.core }
 {}

@@ -1,5 +1,5 @@
 -- What the type of a journal keeps, and how an `append` and a `rewrite` keep it.
-use Rattle.std.proofs.Common.{◌≡◌, ℕ, ◌≢◌, ◌+◌, ◌*◌, ◌%◌, ◌≤◌, Bool, false, inl, ⊎_elim, IsTrue, List, [], ◌∷◌, ◌++◌, length, sym, ap, ◌∙◌, subst, arith, append_assoc}
+use Rattle.std.proofs.Common.{◌≡◌, ℕ, ◌≢◌, ◌+◌, ◌*◌, ◌%◌, ◌≤◌, Bool, false, inl, ⊎_elim, IsTrue, List, [], ◌∷◌, ◌++◌, length, get_or, sym, ap, ◌∙◌, subst, arith, append_assoc}
 use Rattle.std.specs.Int.{w32, to_le_bytes}
 use Rattle.cc_disk.specs.Images.{IsWritten, LeavesAlone, LeavesOnly}
 use Rattle.cc_journal.specs.Format.{record_bytes, records, room_of, IsArea, HoldsAlone, HoldsOldOrNew, HoldsOneOf, HasAreaByte}
@@ -99,6 +99,13 @@ module _ {D : Type 0} (honest : Bool) (size : D → ℕ) (seen : D → List ℕ)
     rewritten_bytes h done =
         let holds = (kept.holds h not_closed).holds in
         (holds.area_byte, (_, holds.bytes), subst (λ (c : Commit). IsCommitted c (seen disk) (seen new)) (by_disk h) done)
+
+    -- what holds of the commit holds of the one by any area byte that the disk has: there is one alone
+    pub at_byte : (h : IsTrue honest) (area_byte : ℕ) (X : Commit → Type 0) → HasAreaByte (seen disk) area_byte area → X commit → X (rewrite_commit area_byte area more)
+    at_byte h area_byte X has it =
+        let holds = (kept.holds h not_closed).holds in
+        let same : area_byte ≡ holds.area_byte = sym (ap (λ (l : List ℕ). get_or l 0 0) has.1) ∙ ap (λ (l : List ℕ). get_or l 0 0) holds.bytes in
+        subst X (by_disk h ∙ ap (λ (b : ℕ). rewrite_commit b area more) (sym same)) it
 
     -- where it was done
     pub kept_rewritten : (begin taken : ℕ) → begin ≡ commit.offset → taken ≡ length (records more) → size new ≡ size disk

@@ -1,9 +1,9 @@
 -- How records get onto a disk. An `append` and a `rewrite` are each one commit, and the protocol core makes the same commits
 -- step by step: bytes are written where they count for nothing yet, and synced; then one byte is written that puts them in
 -- force, and synced.
-use Rattle.std.specs.Prelude.{ℕ, ◌+◌, ◌*◌, ◌%◌, List, [], ◌∷◌, ◌++◌, length}
+use Rattle.std.specs.Prelude.{ℕ, ◌⊎◌, ◌+◌, ◌*◌, ◌%◌, List, [], ◌∷◌, ◌++◌, length}
 use Rattle.std.specs.Int.{w32, to_le_bytes}
-use Rattle.cc_disk.specs.Images.{IsWritten}
+use Rattle.cc_disk.specs.Images.{IsWritten, DiffersWithin}
 use Rattle.cc_journal.specs.Format.{open_gate, records}
 
 -- one commit: the bytes of its first write and the offset from which they go, the offset of the byte that decides, and that byte
@@ -42,3 +42,10 @@ rewrite_commit area_byte area bodies = record {
 -- the bytes of a disk before a commit and after it
 abbrev pub IsCommitted : Commit → (old new : List ℕ) → Type 0
 IsCommitted c old new = (staged : List ℕ) × IsWritten old c.offset c.bytes staged × IsWritten staged c.deciding_offset (c.deciding_byte ∷ []) new
+
+-- What a commit that failed left: all images differ from the old bytes in the range of the first write alone, or all differ in the
+-- byte that decides alone from the old bytes with that write done.
+abbrev pub FailsIn : Commit → (old : List ℕ) (images : List ℕ → Type 0) → Type 0
+FailsIn c old images =
+    ((image : List ℕ) → images image → DiffersWithin c.offset (length c.bytes) old image)
+    ⊎ ((staged : List ℕ) × IsWritten old c.offset c.bytes staged × ((image : List ℕ) → images image → DiffersWithin c.deciding_offset 1 staged image))

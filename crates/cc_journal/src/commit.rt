@@ -1,10 +1,10 @@
 // One commit: how records get onto the disk. Bytes are written where they count for nothing yet, and synced; then one byte
 // is written that puts them in force, and synced. So a crash at any moment leaves the old records or the new ones. An
 // `append` and a `rewrite` differ in which bytes these are alone.
-ghost use Rattle.std.specs.Prelude.{◌≡◌, ◌+◌, ◌*◌, ◌^◌, ◌<◌, ◌≤◌, ◌++◌, List, ℕ, IsTrue, length, IfOk, OnOk, is_ok, if◌then◌else◌};
+ghost use Rattle.std.specs.Prelude.{◌≡◌, ◌+◌, ◌*◌, ◌^◌, ◌<◌, ◌≤◌, ◌++◌, List, ℕ, IsTrue, length, IfOk, OnErr, OnOk, is_ok, if◌then◌else◌};
 ghost use Rattle.cc_disk.specs.Images.{LeavesAlone, LeavesOnly};
 ghost use Rattle.cc_journal.specs.Format.{open_gate, records, room_of};
-ghost use Rattle.cc_journal.specs.Commit.{append_commit, rewrite_commit, area_begin, other_area, behind_gate, IsCommitted};
+ghost use Rattle.cc_journal.specs.Commit.{append_commit, rewrite_commit, area_begin, other_area, behind_gate, FailsIn, IsCommitted};
 ghost use Rattle.cc_journal.specs.internal.Commit.{IsMidCommit};
 
 use crate::body::{Body, framed, put_body};
@@ -141,6 +141,8 @@ pub fn make<D: Disk>(disk: &mut D, commit: &Commit) -> Result<(), DiskFault>
     ensures failures { D.failures disk.new ≡ (if is_ok result then D.failures disk.old else D.failures disk.old + 1) }
     ensures committed { OnOk result (IsTrue D.honest → IsCommitted commit.now (D.seen disk.old) (D.seen disk.new)) }
     ensures alone { OnOk result (IsTrue D.honest → LeavesAlone (D.seen disk.new) (D.may_leave disk.new)) }
+    // Where it failed, and how the disk is then.
+    ensures failed { OnErr result (IsTrue D.honest → LeavesAlone (D.seen disk.old) (D.may_leave disk.old) → FailsIn commit.now (D.seen disk.old) (D.may_leave disk.new)) }
     ensures moments { IsTrue D.honest → LeavesAlone (D.seen disk.old) (D.may_leave disk.old)
         → LeavesOnly D.moment D.left_since disk.old disk.new (IsMidCommit commit.now (D.seen disk.old)) }
 {

@@ -2,7 +2,7 @@
 ghost use Rattle.std.specs.Prelude.{◌≡◌, ◌≢◌, ◌⊎◌, ◌+◌, ◌*◌, ◌^◌, ◌<◌, ◌≤◌, ◌++◌, [], ◌∷◌, List, ℕ, true, false, IsTrue, IsNone, length, IfOk, IfErr, IfSome, MatchResult, OnOk, OnErr, IsErrOf, vec_len, vec_capacity};
 ghost use Rattle.cc_disk.specs.Images.{IsWritten, LeavesAlone, LeavesOnly, OnlyReads};
 ghost use Rattle.cc_journal.specs.Format.{HasAreaByte, HoldsAlone, HoldsOldOrNew, HoldsOneOf, HoldsRecords, IsArea, record_bytes, records, room_of};
-ghost use Rattle.cc_journal.specs.Commit.{IsCommitted, append_commit, area_begin, rewrite_commit};
+ghost use Rattle.cc_journal.specs.Commit.{FailsIn, IsCommitted, append_commit, area_begin, rewrite_commit};
 ghost use Rattle.cc_journal.specs.Answers.{AppendAnswers, CommitAnswers, OpenFaults};
 
 use crate::body::Body;
@@ -52,6 +52,7 @@ impl<D: Disk> Log<D> {
         // What was found, of an honest disk, and every image then has it alone.
         ensures records { IfOk result (λ x. IsTrue D.honest → HoldsRecords (D.seen disk) x.0.area x.0.bodies) }
         ensures kept { IfOk result (λ x. IsTrue D.honest → (image : List ℕ) → D.may_leave x.0.disk image → HoldsAlone image x.0.area x.0.bodies) }
+        ensures settled { IfOk result (λ x. IsTrue D.honest → LeavesAlone (D.seen x.0.disk) (D.may_leave x.0.disk)) }
         ensures open { IfOk result (λ x. x.0.closed ≡ false) }
 
         // Of every kind of disk: there is room for the areas and for the records, and a small disk is no library.
@@ -146,6 +147,15 @@ impl<D: Disk> Log<D> {
         ensures bytes { OnOk result (IsTrue D.honest → (offset : ℕ)
             × IsWritten (D.seen self.old.disk) offset (record_bytes body ++ 0 ∷ []) (D.seen self.new.disk)) }
 
+        // They are those of the one commit, by the area byte that it had, and all of them are settled.
+        ensures committed { OnOk result (IsTrue D.honest → (area_byte : ℕ) → HasAreaByte (D.seen self.old.disk) area_byte self.old.area
+            → IsCommitted (append_commit (area_begin area_byte self.old.area + length (records self.old.bodies)) body) (D.seen self.old.disk) (D.seen self.new.disk)
+            × LeavesAlone (D.seen self.new.disk) (D.may_leave self.new.disk)) }
+
+        // Where the device failed: how that commit left the disk.
+        ensures failed { IsErrOf result JournalFault.DiskFault → IsTrue D.honest → (area_byte : ℕ) → HasAreaByte (D.seen self.old.disk) area_byte self.old.area
+            → FailsIn (append_commit (area_begin area_byte self.old.area + length (records self.old.bodies)) body) (D.seen self.old.disk) (D.may_leave self.new.disk) }
+
         // A refusal leaves the records; without a device call it leaves all, after 35 the log is closed.
         ensures leaves { OnErr result (self.new.bodies ≡ self.old.bodies) }
         ensures untouched { IfErr result (λ e. e ≢ JournalFault.DiskFault → self.new ≡ self.old) }
@@ -201,6 +211,15 @@ impl<D: Disk> Log<D> {
         // The bytes of the disk are those of the one commit, by the area byte that it had.
         ensures bytes { OnOk result (IsTrue D.honest → (area_byte : ℕ) × HasAreaByte (D.seen self.old.disk) area_byte self.old.area
             × IsCommitted (rewrite_commit area_byte self.old.area bodies.items) (D.seen self.old.disk) (D.seen self.new.disk)) }
+
+        // That is so by any area byte that the disk has, and all of them are settled.
+        ensures committed { OnOk result (IsTrue D.honest → (area_byte : ℕ) → HasAreaByte (D.seen self.old.disk) area_byte self.old.area
+            → IsCommitted (rewrite_commit area_byte self.old.area bodies.items) (D.seen self.old.disk) (D.seen self.new.disk)
+            × LeavesAlone (D.seen self.new.disk) (D.may_leave self.new.disk)) }
+
+        // Where the device failed: how that commit left the disk.
+        ensures failed { IsErrOf result JournalFault.DiskFault → IsTrue D.honest → (area_byte : ℕ) → HasAreaByte (D.seen self.old.disk) area_byte self.old.area
+            → FailsIn (rewrite_commit area_byte self.old.area bodies.items) (D.seen self.old.disk) (D.may_leave self.new.disk) }
 
         // A refusal leaves the records; without a device call it leaves all, after 35 the log is closed.
         ensures leaves { OnErr result (self.new.bodies ≡ self.old.bodies) }

@@ -1,7 +1,9 @@
 -- Which answer a call of a library gives, when, and what it leaves. The failures are those that the disk has counted
 -- before the call and after it.
-use Rattle.std.specs.Prelude.{◌≡◌, ℕ, ◌+◌, ◌<◌, ◌≤◌, Bool, true, false, IsTrue, IsOk, List, ◌∷◌, ◌++◌, [], Option, Some, None, Result, Ok, Err}
-use Rattle.cc_journal.specs.Format.{HasHeader, room_of}
+use Rattle.std.specs.Prelude.{◌≡◌, length, ℕ, ◌+◌, ◌<◌, ◌≤◌, Bool, true, false, IsTrue, IsOk, List, ◌∷◌, ◌++◌, [], Option, Some, None, Result, Ok, Err}
+use Rattle.cc_disk.specs.Images.{LeavesAlone}
+use Rattle.cc_journal.specs.Commit.{Commit, FailsIn, IsCommitted, append_commit, area_begin, rewrite_commit}
+use Rattle.cc_journal.specs.Format.{HasAreaByte, HasHeader, HoldsRecords, records, room_of}
 use Rattle.cc_library.specs.declared.command.Command.{Command}
 use Rattle.cc_library.specs.declared.fault.LibraryFault.{LibraryFault}
 use Rattle.cc_library.specs.declared.fault.LibraryFault.TheVariants.{Exists, Absent, Full, DiskFault, Closed, Damaged, NotALibrary, OutOfMemory}
@@ -77,6 +79,26 @@ module _ {D : Type 0} where
   ChangeLeaves command old new (Err Damaged) = new ≡ old
   ChangeLeaves command old new (Err NotALibrary) = new ≡ old
 
+  -- the journal's commit of a command's record, on a disk with this area byte
+  abbrev pub commit_of : (area_byte : ℕ) → View D → Command → Commit
+  commit_of area_byte old command = append_commit (area_begin area_byte old.area + length (records old.bodies)) (body_of command)
+
+  -- what a change does to the bytes of an honest disk: at Ok that commit is made, all is settled, and the records are the library's;
+  -- after 35 it was left in its first write or in its last one
+  abbrev pub ChangesDisk : {T : Type 0} → (seen : D → List ℕ) (may_leave : D → List ℕ → Type 0) → Command → (old new : View D) → Result T LibraryFault → Type 0
+  ChangesDisk seen may_leave command old new (Ok done) =
+      HoldsRecords (seen new.disk) new.area new.bodies
+      × ((area_byte : ℕ) → HasAreaByte (seen old.disk) area_byte old.area → IsCommitted (commit_of area_byte old command) (seen old.disk) (seen new.disk) × LeavesAlone (seen new.disk) (may_leave new.disk))
+  ChangesDisk seen may_leave command old new (Err DiskFault) =
+      (area_byte : ℕ) → HasAreaByte (seen old.disk) area_byte old.area → FailsIn (commit_of area_byte old command) (seen old.disk) (may_leave new.disk)
+  ChangesDisk seen may_leave command old new (Err Closed) = Unit {0}
+  ChangesDisk seen may_leave command old new (Err Exists) = Unit {0}
+  ChangesDisk seen may_leave command old new (Err Absent) = Unit {0}
+  ChangesDisk seen may_leave command old new (Err Full) = Unit {0}
+  ChangesDisk seen may_leave command old new (Err OutOfMemory) = Unit {0}
+  ChangesDisk seen may_leave command old new (Err Damaged) = Unit {0}
+  ChangesDisk seen may_leave command old new (Err NotALibrary) = Unit {0}
+
   -- when `compact` has which answer: 36 exactly where the library was closed, then 34 exactly where the compacted records do not
   -- fit, then 35 exactly where the device failed
   abbrev pub CompactAnswers : {T : Type 0} → View D → (before after : ℕ) → Result T LibraryFault → Type 0
@@ -102,3 +124,22 @@ module _ {D : Type 0} where
   CompactLeaves old new (Err OutOfMemory) = new ≡ old
   CompactLeaves old new (Err Damaged) = new ≡ old
   CompactLeaves old new (Err NotALibrary) = new ≡ old
+
+  -- the journal's commit of the compacted records, on a disk with this area byte
+  abbrev pub rewrites_in : (area_byte : ℕ) → View D → Commit
+  rewrites_in area_byte old = rewrite_commit area_byte old.area (compacted old.units)
+
+  -- what `compact` does to the bytes of an honest disk
+  abbrev pub CompactsDisk : {T : Type 0} → (seen : D → List ℕ) (may_leave : D → List ℕ → Type 0) → (old new : View D) → Result T LibraryFault → Type 0
+  CompactsDisk seen may_leave old new (Ok done) =
+      HoldsRecords (seen new.disk) new.area new.bodies
+      × ((area_byte : ℕ) → HasAreaByte (seen old.disk) area_byte old.area → IsCommitted (rewrites_in area_byte old) (seen old.disk) (seen new.disk) × LeavesAlone (seen new.disk) (may_leave new.disk))
+  CompactsDisk seen may_leave old new (Err DiskFault) =
+      (area_byte : ℕ) → HasAreaByte (seen old.disk) area_byte old.area → FailsIn (rewrites_in area_byte old) (seen old.disk) (may_leave new.disk)
+  CompactsDisk seen may_leave old new (Err Closed) = Unit {0}
+  CompactsDisk seen may_leave old new (Err Exists) = Unit {0}
+  CompactsDisk seen may_leave old new (Err Absent) = Unit {0}
+  CompactsDisk seen may_leave old new (Err Full) = Unit {0}
+  CompactsDisk seen may_leave old new (Err OutOfMemory) = Unit {0}
+  CompactsDisk seen may_leave old new (Err Damaged) = Unit {0}
+  CompactsDisk seen may_leave old new (Err NotALibrary) = Unit {0}

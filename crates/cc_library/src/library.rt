@@ -3,7 +3,7 @@ ghost use Rattle.std.specs.Prelude.{◌≡◌, ◌⊎◌, ◌+◌, [], ◌∷◌
 ghost use Rattle.std.specs.Option.{option_map};
 ghost use Rattle.std.specs.Arc.{arc_value};
 ghost use Rattle.std.specs.FinMap as map;
-ghost use Rattle.cc_disk.specs.Images.{LeavesOnly, OnlyReads};
+ghost use Rattle.cc_disk.specs.Images.{LeavesAlone, LeavesOnly, OnlyReads};
 ghost use Rattle.cc_journal.specs.Format.{HoldsRecords};
 ghost use Rattle.cc_library.specs.declared.command.Command.{Command};
 ghost use Rattle.cc_library.specs.declared.command.Command.TheVariants as command;
@@ -11,7 +11,7 @@ ghost use Rattle.cc_library.specs.Apply.{after, after_all, library_of};
 ghost use Rattle.cc_library.specs.Body.{body_of};
 ghost use Rattle.cc_library.specs.Recovered.{Recovers, RecoversAlone, RecoversOneOf, StandFor};
 ghost use Rattle.cc_library.specs.Compact.{compacted};
-ghost use Rattle.cc_library.specs.Answers.{OpenFaults, ChangeAnswers, ChangeLeaves, CompactAnswers, CompactLeaves};
+ghost use Rattle.cc_library.specs.Answers.{OpenFaults, ChangesDisk, CompactsDisk, ChangeAnswers, ChangeLeaves, CompactAnswers, CompactLeaves};
 ghost use Rattle.cc_library.specs.Runs.{AreDone, AreEdited, EditAnswers, EditLeaves, HadNoRoom, IsEdited, IsRefused, RecoversAmong, Stopped, after_edit, records_after};
 ghost use Rattle.cc_library.specs.internal.Steps.{IsOldOrNew, IsMidEdit};
 
@@ -68,6 +68,7 @@ impl<D: Disk> Library<D> {
         ensures kept { IfOk result (λ l. IsTrue D.honest → (image : List ℕ) → D.may_leave l.disk image → RecoversAlone image l.units) }
         ensures records { IfOk result (λ l. IsTrue D.honest → HoldsRecords (D.seen disk) l.area l.bodies) }
         ensures stand { IfOk result (λ l. StandFor l.bodies l.units) }
+        ensures settled { IfOk result (λ l. IsTrue D.honest → LeavesAlone (D.seen l.disk) (D.may_leave l.disk)) }
         ensures open { IfOk result (λ l. l.closed ≡ false) }
 
         // A new journal has no records, and its map is empty.
@@ -115,6 +116,9 @@ impl<D: Disk> Library<D> {
         ensures leaves { ChangeLeaves (command.Add name (arc_value unit)) self.old self.new result }
         ensures size { D.size self.new.disk ≡ D.size self.old.disk }
 
+        // What becomes of the disk's bytes.
+        ensures disk { IsTrue D.honest → ChangesDisk D.seen D.may_leave (command.Add name (arc_value unit)) self.old self.new result }
+
         // At Ok every image recovers to the map after it.
         ensures kept { OnOk result (IsTrue D.honest → (image : List ℕ) → D.may_leave self.new.disk image → RecoversAlone image self.new.units) }
 
@@ -144,6 +148,9 @@ impl<D: Disk> Library<D> {
         ensures leaves { ChangeLeaves (command.Replace name (arc_value unit)) self.old self.new result }
         ensures size { D.size self.new.disk ≡ D.size self.old.disk }
 
+        // What becomes of the disk's bytes.
+        ensures disk { IsTrue D.honest → ChangesDisk D.seen D.may_leave (command.Replace name (arc_value unit)) self.old self.new result }
+
         // At Ok every image recovers to the map after it.
         ensures kept { OnOk result (IsTrue D.honest → (image : List ℕ) → D.may_leave self.new.disk image → RecoversAlone image self.new.units) }
 
@@ -168,6 +175,9 @@ impl<D: Disk> Library<D> {
         ensures leaves { ChangeLeaves (command.Withdraw name) self.old self.new result }
         ensures size { D.size self.new.disk ≡ D.size self.old.disk }
 
+        // What becomes of the disk's bytes.
+        ensures disk { IsTrue D.honest → ChangesDisk D.seen D.may_leave (command.Withdraw name) self.old self.new result }
+
         // At Ok every image recovers to the map after it.
         ensures kept { OnOk result (IsTrue D.honest → (image : List ℕ) → D.may_leave self.new.disk image → RecoversAlone image self.new.units) }
 
@@ -191,6 +201,8 @@ impl<D: Disk> Library<D> {
     pub fn compact(&mut self, alloc: Global) -> Result<(), LibraryFault>
         ensures answers { CompactAnswers self.old (D.failures self.old.disk) (D.failures self.new.disk) result }
         ensures leaves { CompactLeaves self.old self.new result }
+        // What becomes of the disk's bytes.
+        ensures disk { IsTrue D.honest → CompactsDisk D.seen D.may_leave self.old self.new result }
         ensures size { D.size self.new.disk ≡ D.size self.old.disk }
 
         // A crash at any moment of the call leaves the map.
@@ -328,6 +340,7 @@ impl<D: Disk> Library<D> {
     fn write_anew(&mut self, alloc: Global) -> Result<(), LibraryFault>
         ensures answers { CompactAnswers self.old (D.failures self.old.disk) (D.failures self.new.disk) result }
         ensures leaves { CompactLeaves self.old self.new result }
+        ensures disk { IsTrue D.honest → CompactsDisk D.seen D.may_leave self.old self.new result }
         ensures size { D.size self.new.disk ≡ D.size self.old.disk }
         ensures moments { IsTrue D.honest → self.old.closed ≡ false
             → LeavesOnly D.moment D.left_since self.old.disk self.new.disk
@@ -356,6 +369,7 @@ impl<D: Disk> Library<D> {
         ensures answers { ChangeAnswers self.old command (D.failures self.old.disk) (D.failures self.new.disk) result }
         ensures leaves { ChangeLeaves command self.old self.new result }
         ensures size { D.size self.new.disk ≡ D.size self.old.disk }
+        ensures disk { IsTrue D.honest → ChangesDisk D.seen D.may_leave command self.old self.new result }
         ensures kept { OnOk result (IsTrue D.honest → (image : List ℕ) → D.may_leave self.new.disk image → RecoversAlone image self.new.units) }
         ensures moments { IsTrue D.honest → self.old.closed ≡ false
             → LeavesOnly D.moment D.left_since self.old.disk self.new.disk

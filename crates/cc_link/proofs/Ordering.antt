@@ -4,7 +4,7 @@ use Rattle.std.proofs.lemmas.Bool.{cases_lt}
 use Rattle.std.proofs.lemmas.List.{drop_more}
 use Rattle.std.specs.Borrow.{Bor}
 use Rattle.cc_syntax.specs.Source.{source}
-use Rattle.cc_emit.specs.Piece.{Piece, IsPieceOfUnit}
+use Rattle.cc_emit.specs.Piece.{Piece}
 use Rattle.cc_link.specs.declared.fault.LinkFault.TheVariants.{Stranger}
 use Rattle.cc_link.specs.Linked.{same_bytes, stranger}
 use Rattle.cc_link.specs.internal.Lent.{lent_pieces}
@@ -29,10 +29,10 @@ lent_at [] i x d lt = absurd (omega arith)
 lent_at (p ∷ ps) zero x d lt = refl
 lent_at (p ∷ ps) (suc i) x d lt = lent_at ps i x d (omega arith)
 
-pub kept_next : (pieces : List (Bor Piece)) (at : ℕ) (x : Bor Piece) → at < length pieces → x ≡ get_or pieces at x → IsPieceOfUnit x.now → ((k : ℕ) (d : Piece) → k < at → IsPieceOfUnit (get_or (lent_pieces pieces) k d))
-    → (k : ℕ) (d : Piece) → k < at + 1 → IsPieceOfUnit (get_or (lent_pieces pieces) k d)
-kept_next pieces at x lt is piece kept k d low = by (cases_lt k at)
+pub kept_next : (Keeps : Piece → Type 0) (pieces : List (Bor Piece)) (at : ℕ) (x : Bor Piece) → at < length pieces → x ≡ get_or pieces at x → Keeps x.now → ((k : ℕ) (d : Piece) → k < at → Keeps (get_or (lent_pieces pieces) k d))
+    → (k : ℕ) (d : Piece) → k < at + 1 → Keeps (get_or (lent_pieces pieces) k d)
+kept_next Keeps pieces at x lt is piece kept k d low = by (cases_lt k at)
   where
-    by : (k < at) ⊎ (at ≤ k) → IsPieceOfUnit (get_or (lent_pieces pieces) k d)
+    by : (k < at) ⊎ (at ≤ k) → Keeps (get_or (lent_pieces pieces) k d)
     by (inl less) = kept k d less
-    by (inr more) = let e : at ≡ k = omega arith in subst (λ n. IsPieceOfUnit (get_or (lent_pieces pieces) n d)) e (subst IsPieceOfUnit (sym (lent_at pieces at x d lt ∙ ap (λ (b : Bor Piece). b.now) (sym is))) piece)
+    by (inr more) = let e : at ≡ k = omega arith in subst (λ n. Keeps (get_or (lent_pieces pieces) n d)) e (subst Keeps (sym (lent_at pieces at x d lt ∙ ap (λ (b : Bor Piece). b.now) (sym is))) piece)

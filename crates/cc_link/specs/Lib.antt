@@ -6,6 +6,8 @@ pub mod Link
 pub mod Linked
 -- that this unit agrees
 pub mod Laws
+-- what a compiled unit was made of
+pub mod Made
 -- the numbers of the faults
 pub mod Fault
 -- why a function has no piece, and why a text has no image

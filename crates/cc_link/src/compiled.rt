@@ -3,13 +3,14 @@
 ghost use Rattle.std.specs.Prelude.{◌≡◌};
 ghost use Rattle.std.specs.Arc.{arc_value};
 ghost use Rattle.cc_link.specs.Agree.{Agree};
+ghost use Rattle.cc_link.specs.Made.{IsMade};
 
 use cc_unit::StoredUnit;
 use std::marker::Model;
 use std::sync::Arc;
 
 /// A unit whose image agrees with its source: the source spells a program, and on every input the image's run follows the program's.
-/// That belongs to the type, so nobody holds a unit of which it is not true. Contracts see the unit as it is stored.
+/// That, and that pieces which were compiled link to it, belongs to the type, so nobody holds a unit of which it is not true. Contracts see the unit as it is stored.
 #[derive(Drop)]
 pub struct CompiledUnit {
     stored: Arc<StoredUnit>,
@@ -19,18 +20,20 @@ impl Model for CompiledUnit {
     ghost use Rattle.std.specs.Arc.{arc_value};
     ghost use Rattle.cc_unit.specs.declared.unit.StoredUnit.{StoredUnit};
     ghost use Rattle.cc_link.specs.Agree.{Agree};
+    ghost use Rattle.cc_link.specs.Made.{IsMade};
 
     ghost Value = { StoredUnit };
 
     ghost view = { λ c. arc_value c.stored };
 
-    ghost invariant = { λ c. Agree (arc_value c.stored).source (arc_value c.stored).image };
+    ghost invariant = { λ c. Agree (arc_value c.stored).source (arc_value c.stored).image × IsMade (arc_value c.stored) };
 }
 
 impl CompiledUnit {
     // The one place where a compiled unit is made.
     pub(crate) fn new(stored: Arc<StoredUnit>) -> CompiledUnit
-        requires { Agree (arc_value stored).source (arc_value stored).image }
+        requires agrees { Agree (arc_value stored).source (arc_value stored).image }
+        requires made { IsMade (arc_value stored) }
         ensures { result ≡ arc_value stored }
     {
         CompiledUnit { stored }
@@ -40,6 +43,7 @@ impl CompiledUnit {
     pub fn stored(&self) -> &Arc<StoredUnit>
         ensures answer { arc_value result.now ≡ self.now }
         ensures agrees { Agree self.now.source self.now.image }
+        ensures made { IsMade self.now }
     {
         &self.stored
     }

@@ -5,6 +5,7 @@
 ghost use Rattle.std.specs.Prelude.{◌≡◌, ◌⊎◌, List, [], None, Some, All, length, slice_index, IfOk, IfErr, IfNone, MatchOption};
 ghost use Rattle.cc_emit.specs.Piece.{IsPieceOfUnit};
 ghost use Rattle.cc_link.specs.declared.fault.LinkFault.TheVariants.{OutOfMemory};
+ghost use Rattle.cc_link.specs.Made.{IsCompiled};
 ghost use Rattle.cc_link.specs.Linked.{stranger, is_among, doubled, items_of, missing, in_order};
 ghost use Rattle.cc_link.specs.internal.Filling.{lent};
 ghost use Rattle.cc_link.specs.internal.Lent.{lent_pieces, functions_of};
@@ -18,11 +19,13 @@ use std::alloc::Global;
 pub(crate) fn stranger(text: &[u8], pieces: &[&Piece]) -> Option<LinkFault>
     ensures answer { result ≡ stranger text.now 0 (lent_pieces pieces.now) }
     ensures kept { IfNone result (All IsPieceOfUnit (lent_pieces pieces.now)) }
+    ensures compiled { IfNone result (All IsCompiled (lent_pieces pieces.now)) }
 {
     for (at, piece) in pieces.iter().enumerate() {
         let function = piece.function();
         let _kept = piece.items();
         let other: &TypedUnit = piece.unit();
+        let _externals = other.externals();
         if other.text() != text {
             return Some(LinkFault::Stranger { function, at });
         }

@@ -24,3 +24,4 @@ pub record IsOpenedAt (image : List ℕ) (opened : Opened) : Type 0 where
   pub stand : StandFor bodies opened.library
   pub used : opened.store.used ≡ length (records bodies)
   pub order : IsOrderOf bodies opened.order opened.upcoming
+  pub acknowledged : opened.acknowledged ≡ opened.order

@@ -26,5 +26,6 @@ returns-in-Ok-read_order-clause-answer c =
       area_byte = held.1 ∙ header.1;
       stand = found.stand;
       used = c.of_disk.ensures.used ∙ found.used_is;
-      order = subst (λ (bs : List (List ℕ)). IsOrderOf bs c.in-Ok-read_order.order c.in-Ok-read_order.upcoming) c.records.ensures.records c.in-Ok-read_order.ensures;
+      order = subst (λ (bs : List (List ℕ)). IsOrderOf bs c.in-Ok-read_order.order c.in-Ok-read_order.upcoming) c.records.ensures.records c.in-Ok-read_order.ensures.order;
+      acknowledged = c.in-Ok-read_order.ensures.acknowledged;
     }

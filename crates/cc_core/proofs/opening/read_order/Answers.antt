@@ -25,8 +25,8 @@ loop-body-preserved c =
     subst (λ (n : ℕ). IsReadTo bodies (drop (i + 1) bodies) c.push.new.self n) (sym (ap (λ (n : SequenceNumber). n.value) c.next-upcoming.ensures))
     (subst (λ (l : List Numbered). IsReadTo bodies (drop (i + 1) bodies) l (upcoming.value + 1)) (sym c.in_ok-push.ensures.ok) more)
 
-pub returns : goal.returns
-returns c =
+pub returns-clause-order : goal.returns-clause-order
+returns-clause-order c =
     let bodies = c.args.bodies.now in
     let at_end = c.loop-body-test.false in
     read_all bodies c.loop-body.order c.loop-body.upcoming

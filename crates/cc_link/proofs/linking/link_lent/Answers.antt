@@ -59,8 +59,8 @@ stored-made-requires-clause-stay c =
     let tree = c.externals-externals.ensures in
     stay_is s ps c.functions.result a b c.functions.ensures fs c.in-Ok.ensures.none o laws.tokens laws.trees laws.meanings laws.sized tree.spelled tree.typed tree.limits c.in_default.ensures.kept
 
-pub new-requires : goal.new-requires
-new-requires c =
+pub new-requires-clause-agrees : goal.new-requires-clause-agrees
+new-requires-clause-agrees c =
     let u = c.deref-unit.result.now in
     let s = source u in
     let ps = lent_pieces c.args.pieces.now in
@@ -72,6 +72,27 @@ new-requires c =
     subst (λ (l : List (Bor (List Item))). code_words (lent l) ≤ most_code) (c.as_slice.ensures.value ∙ sym c.as_slice-2.ensures.value) (c.if-not-fits.ensures.0 refl) in
     let tree = c.externals-externals.ensures in
     agree_is s ps c.functions.result a b c.functions.ensures fs c.in-Ok.ensures.none o c.linked_units_agree.ensures tree.spelled (record { typed = tree.typed; limits = tree.limits }) c.in_default.ensures.kept (arc_value c.in_ok-made.field-0) few c.in_ok-made.ensures
+
+pub new-requires-clause-made : goal.new-requires-clause-made
+new-requires-clause-made c =
+    let u = c.deref-unit.result.now in
+    let s = source u in
+    let ps = lent_pieces c.args.pieces.now in
+    let a : stranger s.text 0 ps ≡ None = sym (c.in_default.ensures.answer ∙ ap (λ (t : List ℕ). stranger t 0 ps) c.text.ensures.answer) in
+    let b : doubled [] 0 ps ≡ None = sym c.in_default-doubled.ensures in
+    let fs = c.as_slice-2.result.now in
+    let o : lent fs ≡ in_order ps 0 c.functions.result = ap (λ (l : List (Bor (List Item))). lent l) c.as_slice-2.ensures.value ∙ c.in-Ok.ensures.bodies in
+    let few : code_words (lent fs) ≤ most_code =
+    subst (λ (l : List (Bor (List Item))). code_words (lent l) ≤ most_code) (c.as_slice.ensures.value ∙ sym c.as_slice-2.ensures.value) (c.if-not-fits.ensures.0 refl) in
+    let tree = c.externals-externals.ensures in
+    record {
+      of = s;
+      spelled = tree.spelled;
+      checked = record { typed = tree.typed; limits = tree.limits };
+      pieces = ps;
+      compiled = c.in_default.ensures.compiled;
+      linked_is = answer_is s ps c.functions.result a b c.functions.ensures fs c.in-Ok.ensures.none o (arc_value c.in_ok-made.field-0) few c.in_ok-made.ensures;
+    }
 
 pub returns-clause-answer : goal.returns-clause-answer
 returns-clause-answer c =

@@ -1,12 +1,25 @@
-use Rattle.std.proofs.Common.{ap, ◌∙◌}
+use Rattle.std.proofs.Common.{◌≡◌, ap, subst, ◌∙◌}
+use Rattle.cc_syntax.specs.Parse.{SpellsText}
+use Rattle.cc_typing.specs.Checked.{IsChecked}
+use Rattle.cc_emit.specs.Piece.{IsPieceOfUnit}
+use Rattle.cc_link.specs.Made.{IsCompiled}
 use Rattle.cc_syntax.specs.Source.{source}
 use Rattle.cc_syntax.specs.declared.unit.Unit as parsed
 use Rattle.cc_link.proofs.Ordering.{stranger_next, kept_next}
 use Rattle.cc_link.proofs.order.stranger.Goals as goal
 
 pub loop-at-preserved : goal.loop-at-preserved
-loop-at-preserved c = record {
+loop-at-preserved c =
+    let one : c.deref-other.result.now ≡ c.index-pieces-at.result.now.unit = c.deref-other.ensures ∙ c.unit.ensures.answer in
+    let tree = c.externals-externals.ensures in
+    record {
   left = c.loop-at.invariant.left ∙ stranger_next c.args.text.now c.text.result.now c.loop-at.at c.args.pieces.now c.index-pieces-at.result c.loop-at-test.true c.index-pieces-at.is
       (c.text.ensures.answer ∙ ap (λ (u : parsed.Unit). (source u).text) (c.deref-other.ensures ∙ c.unit.ensures.answer)) c.if-ne.ensures;
-  kept = kept_next c.args.pieces.now c.loop-at.at c.index-pieces-at.result c.loop-at-test.true c.index-pieces-at.is c.items-kept.ensures.piece c.loop-at.invariant.kept;
+  kept = kept_next IsPieceOfUnit c.args.pieces.now c.loop-at.at c.index-pieces-at.result c.loop-at-test.true c.index-pieces-at.is c.items-kept.ensures.piece c.loop-at.invariant.kept;
+  compiled = kept_next IsCompiled c.args.pieces.now c.loop-at.at c.index-pieces-at.result c.loop-at-test.true c.index-pieces-at.is
+      (record {
+        spelled = subst (λ (u : parsed.Unit). ∥ SpellsText (source u).text (source u).externals ∥₁) one tree.spelled;
+        checked = subst (λ (u : parsed.Unit). IsChecked (source u)) one (record { typed = tree.typed; limits = tree.limits });
+        of_unit = c.items-kept.ensures.piece;
+      }) c.loop-at.invariant.compiled;
 }

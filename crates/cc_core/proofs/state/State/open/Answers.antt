@@ -7,12 +7,12 @@ use Rattle.cc_core.proofs.state.State.open.Goals as goal
 
 pub idle-requires : goal.idle-requires
 idle-requires g c =
-    inr (opened_begins {P = g.row.B-Piece.Denot} g.B.Build.is_right (bytes_of c.args.disk.cells) c.in-Ok.opened c.in-Ok.ensures.answer c.requires.right c.new-in-Ok.result (c.new-in-Ok.ensures ∙ c.new.ensures.items))
+    inr (opened_begins {P = g.row.B-Piece.Denot} g.B.Build.is_right (bytes_of c.args.disk.cells) c.in-Ok.opened c.in-Ok.ensures.answer c.requires.right c.in-Ok.opened.acknowledged c.in-Ok.ensures.answer.acknowledged)
 
 pub returns-in-Ok-clause-answer : goal.returns-in-Ok-clause-answer
 returns-in-Ok-clause-answer g c =
     subst (IsOpened {P = g.row.B-Piece.Denot} g.B.Build.is_right) (sym c.idle.ensures)
-    (opened_begins {P = g.row.B-Piece.Denot} g.B.Build.is_right (bytes_of c.args.disk.cells) c.in-Ok.opened c.in-Ok.ensures.answer c.requires.right c.new-in-Ok.result (c.new-in-Ok.ensures ∙ c.new.ensures.items))
+    (opened_begins {P = g.row.B-Piece.Denot} g.B.Build.is_right (bytes_of c.args.disk.cells) c.in-Ok.opened c.in-Ok.ensures.answer c.requires.right c.in-Ok.opened.acknowledged c.in-Ok.ensures.answer.acknowledged)
 
 pub returns-in-Ok-clause-order : goal.returns-in-Ok-clause-order
 returns-in-Ok-clause-order g c = λ area bodies holds.

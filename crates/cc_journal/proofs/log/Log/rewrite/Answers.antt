@@ -1,9 +1,9 @@
 use Rattle.std.proofs.Common.{◌≡◌, ◌≤◌, ℕ, List, false, IsTrue, length, sym, ap, ◌∙◌, subst}
-use Rattle.cc_disk.specs.Images.{LeavesOnly}
+use Rattle.cc_disk.specs.Images.{LeavesAlone, LeavesOnly}
 use Rattle.cc_journal.specs.Format.{HasAreaByte, HoldsAlone, HoldsOneOf, records, room_of}
-use Rattle.cc_journal.specs.Commit.{IsCommitted, rewrite_commit}
+use Rattle.cc_journal.specs.Commit.{Commit, FailsIn, IsCommitted, rewrite_commit}
 use Rattle.cc_journal.specs.Journal.{IsKept, View}
-use Rattle.cc_journal.proofs.Kept.{kept_alone, still_either, in_rewrite, rewritten_bytes, kept_rewritten}
+use Rattle.cc_journal.proofs.Kept.{kept_alone, still_either, in_rewrite, rewritten_bytes, kept_rewritten, at_byte}
 use Rattle.cc_journal.proofs.log.Log.rewrite.Goals as goal
 
 -- without a device call
@@ -79,3 +79,30 @@ returns-in-Err-clause-moments g c =
     let room : room_of more ≤ i.area = subst (λ (l : List (List ℕ)). room_of l ≤ i.area) c.deref.ensures.value c.in-Some.ensures.taken.1 in
     subst (λ (v : View g.row.D.Denot). IsTrue D.honest → v.closed ≡ false → LeavesOnly D.moment D.left_since v.disk c.make.new.disk (HoldsOneOf v.area v.bodies more)) c.self.view_is
     (λ h not_closed. in_rewrite D.honest D.size D.seen D.may_leave D.moment D.left_since i.disk i.start i.area i.used i.bodies.items i.closed c.self.invariant more c.make.new.disk c.in_ok-commit.commit c.side.result is c.side.ensures.first c.side.ensures.second room c.if-self.false h (c.in-Err.ensures.moments h))
+
+-- ---- what became of the bytes
+
+pub returns-in-Ok-clause-committed : goal.returns-in-Ok-clause-committed
+returns-in-Ok-clause-committed g c =
+    let D = g.D.Disk in
+    let i = c.self.inside in
+    let more = c.args.bodies.items in
+    let is : c.in_ok-commit.commit ≡ rewrite_commit c.side.result i.area more = c.in_ok-commit.ensures ∙ ap (λ (l : List (List ℕ)). rewrite_commit c.side.result i.area l) c.deref-2.ensures.value in
+    let room : room_of more ≤ i.area = subst (λ (l : List (List ℕ)). room_of l ≤ i.area) c.deref.ensures.value c.in-Some.ensures.taken.1 in
+    subst (λ (v : View g.row.D.Denot). IsTrue D.honest → (area_byte : ℕ) → HasAreaByte (D.seen v.disk) area_byte v.area → IsCommitted (rewrite_commit area_byte v.area more) (D.seen v.disk) (D.seen c.make.new.disk) × LeavesAlone (D.seen c.make.new.disk) (D.may_leave c.make.new.disk)) c.self.view_is
+    (λ h area_byte has. (
+      at_byte D.honest D.size D.seen D.may_leave D.moment D.left_since i.disk i.start i.area i.used i.bodies.items i.closed c.self.invariant more c.make.new.disk c.in_ok-commit.commit c.side.result is c.side.ensures.first c.side.ensures.second room c.if-self.false h area_byte
+          (λ (k : Commit). IsCommitted k (D.seen i.disk) (D.seen c.make.new.disk)) has (c.in-Ok.ensures.committed h),
+      c.in-Ok.ensures.alone h,
+    ))
+
+pub returns-in-Err-clause-failed : goal.returns-in-Err-clause-failed
+returns-in-Err-clause-failed g c =
+    let D = g.D.Disk in
+    let i = c.self.inside in
+    let more = c.args.bodies.items in
+    let is : c.in_ok-commit.commit ≡ rewrite_commit c.side.result i.area more = c.in_ok-commit.ensures ∙ ap (λ (l : List (List ℕ)). rewrite_commit c.side.result i.area l) c.deref-2.ensures.value in
+    let room : room_of more ≤ i.area = subst (λ (l : List (List ℕ)). room_of l ≤ i.area) c.deref.ensures.value c.in-Some.ensures.taken.1 in
+    λ failed. subst (λ (v : View g.row.D.Denot). IsTrue D.honest → (area_byte : ℕ) → HasAreaByte (D.seen v.disk) area_byte v.area → FailsIn (rewrite_commit area_byte v.area more) (D.seen v.disk) (D.may_leave c.make.new.disk)) c.self.view_is
+    (λ h area_byte has. at_byte D.honest D.size D.seen D.may_leave D.moment D.left_since i.disk i.start i.area i.used i.bodies.items i.closed c.self.invariant more c.make.new.disk c.in_ok-commit.commit c.side.result is c.side.ensures.first c.side.ensures.second room c.if-self.false h area_byte
+    (λ (k : Commit). FailsIn k (D.seen i.disk) (D.may_leave c.make.new.disk)) has (c.in-Err.ensures.failed h (c.self.invariant.alone h c.if-self.false)))

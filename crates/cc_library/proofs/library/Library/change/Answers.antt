@@ -1,11 +1,16 @@
 -- Without a device call every image recovers to the old map; during the `append` to the old one or to the one after it.
-use Rattle.std.proofs.Common.{◌≡◌, List, [], ◌∷◌, ◌++◌, ℕ, false, refl, IsTrue, sym, ◌∙◌, ap, subst}
+use Rattle.std.proofs.Common.{◌≡◌, ◌+◌, length, List, [], ◌∷◌, ◌++◌, ℕ, false, refl, IsTrue, sym, ◌∙◌, ap, subst}
 use Rattle.std.specs.Prelude.{IsOk, Err}
-use Rattle.cc_disk.specs.Images.{LeavesOnly}
+use Rattle.cc_disk.specs.Images.{LeavesAlone, LeavesOnly}
+use Rattle.cc_journal.specs.Commit.{FailsIn, IsCommitted, append_commit, area_begin}
+use Rattle.cc_journal.specs.Format.{HasAreaByte, HoldsRecords, records}
+use Rattle.cc_journal.specs.declared.fault.JournalFault.{JournalFault}
+use Rattle.cc_journal.specs.declared.fault.JournalFault.TheVariants as journal
+use Rattle.cc_library.specs.declared.command.Command.{Command}
 use Rattle.cc_library.specs.declared.fault.LibraryFault.{LibraryFault}
 use Rattle.cc_library.specs.Fault.{fault_of}
 use Rattle.cc_library.specs.Apply.{apply, after}
-use Rattle.cc_library.specs.Answers.{ChangeLeaves}
+use Rattle.cc_library.specs.Answers.{ChangeLeaves, ChangesDisk, commit_of}
 use Rattle.cc_library.specs.Body.{Spells, body_of}
 use Rattle.cc_library.specs.Recovered.{View}
 use Rattle.cc_library.specs.internal.Steps.{IsOldOrNew}
@@ -108,3 +113,37 @@ returns-in-Err-clause-leaves g c =
     (subst (λ (v : View g.row.D.Denot). ChangeLeaves {T = Unit {0}} c.args.command v new (Err (fault_of c.in-Err.fault))) c.self.view_is
     (leaves_err c.in-Err.fault c.args.command i.log c.append.new.self i.units c.undo.new.self i.closed c.eq-self-inside.result back c.in-Err.ensures.untouched c.in-Err.ensures.leaves c.append.ensures.area
     c.eq-self-inside.ensures c.if-self.false))
+
+-- ---- what became of the disk's bytes
+
+disk_err : {D : Type 0} (seen : D → List ℕ) (may_leave : D → List ℕ → Type 0) (command : Command) (old new : View D) (f : JournalFault)
+    → (f ≡ journal.DiskFault → (area_byte : ℕ) → HasAreaByte (seen old.disk) area_byte old.area → FailsIn (commit_of area_byte old command) (seen old.disk) (may_leave new.disk))
+    → ChangesDisk {T = Unit {0}} seen may_leave command old new (Err (fault_of f))
+disk_err seen may_leave command old new journal.DiskFault fails = fails refl
+disk_err seen may_leave command old new journal.Full fails = tt
+disk_err seen may_leave command old new journal.Closed fails = tt
+disk_err seen may_leave command old new journal.Damaged fails = tt
+disk_err seen may_leave command old new journal.NotALibrary fails = tt
+disk_err seen may_leave command old new journal.OutOfMemory fails = tt
+
+pub returns-in-Ok-clause-disk : goal.returns-in-Ok-clause-disk
+returns-in-Ok-clause-disk g c =
+    let D = g.D.Disk in
+    let a = c.append.new.self in
+    subst (λ (v : View g.row.D.Denot). IsTrue D.honest → HoldsRecords (D.seen a.disk) a.area a.bodies
+    × ((area_byte : ℕ) → HasAreaByte (D.seen v.disk) area_byte v.area → IsCommitted (commit_of area_byte v c.args.command) (D.seen v.disk) (D.seen a.disk) × LeavesAlone (D.seen a.disk) (D.may_leave a.disk))) c.self.view_is
+    (λ h. (
+      (c.in-Ok.ensures.kept h (D.seen a.disk) (g.met.D.Disk.seen_is_image a.disk h)).holds,
+      λ area_byte has. subst (λ (b : List ℕ). IsCommitted (append_commit (area_begin area_byte c.self.inside.log.area + length (records c.self.inside.log.bodies)) b) (D.seen c.self.inside.log.disk) (D.seen a.disk) × LeavesAlone (D.seen a.disk) (D.may_leave a.disk))
+          c.in_ok-body.ensures.spelled (c.in-Ok.ensures.committed h area_byte has),
+    ))
+
+pub returns-in-Err-clause-disk : goal.returns-in-Err-clause-disk
+returns-in-Err-clause-disk g c =
+    let D = g.D.Disk in
+    let new : View g.row.D.Denot = seen_as c.append.new.self c.undo.new.self c.eq-self-inside.result in
+    subst (λ (f : LibraryFault). IsTrue D.honest → ChangesDisk {T = Unit {0}} D.seen D.may_leave c.args.command c.args.self.now new (Err f)) (sym c.from.ensures)
+    (subst (λ (v : View g.row.D.Denot). IsTrue D.honest → ChangesDisk {T = Unit {0}} D.seen D.may_leave c.args.command v new (Err (fault_of c.in-Err.fault))) c.self.view_is
+    (λ h. disk_err D.seen D.may_leave c.args.command (record { disk = c.self.inside.log.disk; area = c.self.inside.log.area; bodies = c.self.inside.log.bodies; units = c.self.inside.units; closed = c.self.inside.closed }) new c.in-Err.fault
+    (λ p area_byte has. subst (λ (b : List ℕ). FailsIn (append_commit (area_begin area_byte c.self.inside.log.area + length (records c.self.inside.log.bodies)) b) (D.seen c.self.inside.log.disk) (D.may_leave new.disk))
+        c.in_ok-body.ensures.spelled (c.in-Err.ensures.failed (ap Err p) h area_byte has))))

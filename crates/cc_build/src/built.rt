@@ -1,0 +1,16 @@
+// What the type of a compiled unit keeps, as the protocol core asks for it.
+ghost use Rattle.cc_build.specs.Built.{MadeUnitsAreBuilt};
+
+use cc_meaning::programs_call_main;
+use cc_syntax::trees_are_determined;
+use cc_tokens::tokens_are_determined;
+
+/// The pieces of a compiled unit, in the order of definitions, are all of its source's, and give it: so a job with these pieces begins
+/// the commit of this unit.
+pub fn made_units_are_built()
+    ensures { MadeUnitsAreBuilt }
+{
+    tokens_are_determined();
+    trees_are_determined();
+    programs_call_main();
+}

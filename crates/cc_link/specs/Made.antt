@@ -1,0 +1,24 @@
+-- What a compiled unit was made of.
+use Rattle.std.specs.Prelude.{◌≡◌, List, All, Ok}
+use Rattle.cc_syntax.specs.Tree.{Source}
+use Rattle.cc_syntax.specs.Source.{source}
+use Rattle.cc_syntax.specs.Parse.{SpellsText}
+use Rattle.cc_typing.specs.Checked.{IsChecked}
+use Rattle.cc_unit.specs.declared.unit.StoredUnit.{StoredUnit}
+use Rattle.cc_emit.specs.Piece.{Piece, IsPieceOfUnit}
+use Rattle.cc_link.specs.Linked.{linked}
+
+-- what the types of a piece and of its unit keep
+pub record IsCompiled (piece : Piece) : Type 0 where
+  pub spelled : ∥ SpellsText (source piece.unit).text (source piece.unit).externals ∥₁
+  pub checked : IsChecked (source piece.unit)
+  pub of_unit : IsPieceOfUnit piece
+
+-- pieces that some calls have made, in whatever order, link to this unit
+pub record IsMade (unit : StoredUnit) : Type 0 where
+  pub of : Source
+  pub spelled : ∥ SpellsText of.text of.externals ∥₁
+  pub checked : IsChecked of
+  pub pieces : List Piece
+  pub compiled : All IsCompiled pieces
+  pub linked_is : linked of pieces ≡ Ok unit
