@@ -3,11 +3,11 @@
 # bench/code.sh [SIMULATOR COMPILER..]: where the command of a plain simulator of the machine and of a C compiler for it are given, the
 # compiler's words run there, unoptimised, and the ratio is our count by the compiler's: less than 1 is better than it, as in
 # bench/code.sh './rv32sim -d' clang --target=riscv32 or bench/code.sh './rv32sim -d' riscv64-unknown-elf-gcc
-# A count is exact, so other work on the machine changes nothing. The program has to be built (rt run in crates/bench_link).
+# A count is exact, so other work on the machine changes nothing. The program has to be built (rt run in crates/bench).
 set -eu
 top=$(cd "$(dirname "$0")/.." && pwd)
-program=$top/crates/bench_link/out/bench_link
-[ -x "$program" ] || { echo "code.sh: build the program first: (cd crates/bench_link && rt run)" >&2; exit 1; }
+program=$top/crates/bench/out/bench
+[ -x "$program" ] || { echo "code.sh: build the program first: (cd crates/bench && rt run)" >&2; exit 1; }
 work=$(mktemp -d)
 trap 'rm -rf "$work"' EXIT
 simulator=${1:-}

@@ -6,11 +6,11 @@
 # has. A step's time is the processor's, without that of the steps before it. The exponent is log(ratio of times) / log(ratio of nodes): 1 is
 # linear; the goal is 1.3 at most, and less than a second for the allocator and the validator at 4,096 nodes each.
 # Each is run ROUNDS times (3), in turn, and the best time counts. Shorter texts are done more often in one process, WORK (200,000)
-# nodes in all. The program has to be built (rt run in crates/bench_validate), or BENCH names one that is.
+# nodes in all. The program has to be built (rt run in crates/bench), or BENCH names one that is.
 set -eu
 top=$(cd "$(dirname "$0")/.." && pwd)
-program=${BENCH:-$top/crates/bench_validate/out/bench_validate}
-[ -x "$program" ] || { echo "colour.sh: build the program first: (cd crates/bench_validate && rt run)" >&2; exit 1; }
+program=${BENCH:-$top/crates/bench/out/bench}
+[ -x "$program" ] || { echo "colour.sh: build the program first: (cd crates/bench && rt run)" >&2; exit 1; }
 folder=$(mktemp -d)
 trap 'rm -rf "$folder"' EXIT
 rounds=${ROUNDS:-3} work=${WORK:-200000}
@@ -45,7 +45,7 @@ moves() {
     printf 'write_word(a+b+c+d+e+f+g+h);}return 0;}\n'
 }
 
-nodes_of() { "$program" rtl "$1" 1; }
+nodes_of() { "$program" passes rtl "$1" 1; }
 
 # timed NAME COMMAND..: adds the processor's seconds to that file
 timed() {
@@ -71,7 +71,7 @@ measure() {
     rm -f "$folder"/time.*
     for _ in $(seq "$rounds"); do
         for task in rtl live colour check; do
-            timed time.$task "$program" $task "$folder/text.c" $turns
+            timed time.$task "$program" passes $task "$folder/text.c" $turns
         done
     done
     awk -v n="$nodes" -v t="$turns" -v r="$(best time.rtl)" -v l="$(best time.live)" -v c="$(best time.colour)" -v v="$(best time.check)" \

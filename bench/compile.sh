@@ -2,11 +2,11 @@
 # How fast texts are compiled: lines a second of processor time, for the eight programs and for texts of 8 to 60 KiB, and how that grows.
 # bench/compile.sh [COMPILER..]: where the command of a C compiler is given, it compiles the same texts to objects, unoptimised, and the
 # ratio is our lines a second by its, net of the start of both on an empty main: more than 1 is faster. So bench/compile.sh gcc.
-# Each is done ROUNDS times (3), in turn, and the best counts. The program has to be built (rt run in crates/bench_link).
+# Each is done ROUNDS times (3), in turn, and the best counts. The program has to be built (rt run in crates/bench).
 set -eu
 top=$(cd "$(dirname "$0")/.." && pwd)
-program=$top/crates/bench_link/out/bench_link
-[ -x "$program" ] || { echo "compile.sh: build the program first: (cd crates/bench_link && rt run)" >&2; exit 1; }
+program=$top/crates/bench/out/bench
+[ -x "$program" ] || { echo "compile.sh: build the program first: (cd crates/bench && rt run)" >&2; exit 1; }
 work=$(mktemp -d)
 trap 'rm -rf "$work"' EXIT
 echo 'int main(void){}' > "$work/empty.c"

@@ -4,7 +4,7 @@
 kills.py [COUNT] [FOLDER] [SEED]: so many kills (1000), on a file in that folder (this one), from a seed (1). The process prints the
 number of each unit once its `add` has answered Ok. It is killed (SIGKILL) at a random moment of its first 50 milliseconds;
 then the library has to open, with all that was printed and at most one unit more. The file is made anew once it is full.
-The program has to be built (rt run in crates/bench_store)."""
+The program has to be built (rt run in crates/bench)."""
 
 import os
 import random
@@ -13,14 +13,14 @@ import sys
 import tempfile
 import time
 
-PROGRAM = os.path.join(os.path.dirname(os.path.abspath(__file__)), "../crates/bench_store/out/bench_store")
+PROGRAM = os.path.join(os.path.dirname(os.path.abspath(__file__)), "../crates/bench/out/bench")
 AREA = 1 << 20
 UNIT = ["200", "100"]
 
 
 def add(path, moment):
     """Adds units until the moment comes: how many numbers were printed, and the last."""
-    process = subprocess.Popen([PROGRAM, "add", path, "1000000", *UNIT], stdout=subprocess.PIPE)
+    process = subprocess.Popen([PROGRAM, "store", "add", path, "1000000", *UNIT], stdout=subprocess.PIPE)
     time.sleep(moment)
     process.kill()
     printed, _ = process.communicate()
@@ -38,12 +38,12 @@ def main():
         path = os.path.join(work, "disk")
         while killed < kills:
             if not os.path.exists(path):
-                subprocess.run([PROGRAM, "make", path, str(AREA)], check=True)
+                subprocess.run([PROGRAM, "store", "make", path, str(AREA)], check=True)
                 files, before = files + 1, 0
             numbers, status = add(path, chance.uniform(0, 0.05))
             if numbers != list(range(before, before + len(numbers))):
                 sys.exit(f"kills.py: after {before} units the process printed {numbers[:3]}..")
-            found = subprocess.run([PROGRAM, "count", path, *UNIT], capture_output=True, text=True)
+            found = subprocess.run([PROGRAM, "store", "count", path, *UNIT], capture_output=True, text=True)
             if found.returncode:
                 sys.exit(f"kills.py: after {killed} kills: {found.stderr}")
             count, kept = int(found.stdout), before + len(numbers)

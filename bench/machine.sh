@@ -8,7 +8,7 @@
 # The two run in turn, and the best of ROUNDS runs (5) counts. The program is built by `rt run` where it is missing.
 set -eu
 top=$(cd "$(dirname "$0")/.." && pwd)
-program=${PROGRAM:-$top/crates/bench_machine/out/bench_machine}
+program=${PROGRAM:-$top/crates/bench/out/bench}
 steps=300000000
 work=$(mktemp -d)
 trap 'rm -rf "$work"' EXIT
@@ -19,7 +19,7 @@ compiler=("$@")
 . "$top/bench/words.sh"
 
 if [ ! -x "$program" ]; then
-    (cd "$top/crates/bench_machine" && rt run -- data/sum.bin data/none.bin 100 > /dev/null)
+    (cd "$top/crates/bench" && rt run -- machine data/sum.bin data/none.bin 100 > /dev/null)
 fi
 
 # The words, in hexadecimal, as little-endian bytes.
@@ -45,7 +45,7 @@ timed() {
     mine=
     peer=
     for _ in $(seq "${ROUNDS:-5}"); do
-        mine=$(least "$(seconds "$work/ours" "$program" "$@")" "$mine")
+        mine=$(least "$(seconds "$work/ours" "$program" machine "$@")" "$mine")
         # shellcheck disable=SC2086
         [ -z "$simulator" ] || peer=$(least "$(seconds "$work/theirs" $simulator "$@")" "$peer")
     done

@@ -3,7 +3,7 @@
 
 refused.py [COUNT] [SEED]: so many programs (400), from a seed (1), each with ten functions beside those of bench/compare.py's programs. A
 function has up to eight parameters, up to 40 locals that may all be alive at once, loops, and calls of the functions before it. The text of a
-program with a refusal is printed. The program has to be built (rt run in crates/bench_validate), or BENCH names one that is."""
+program with a refusal is printed. The program has to be built (rt run in crates/bench), or BENCH names one that is."""
 
 import os
 import subprocess
@@ -12,7 +12,7 @@ import tempfile
 
 import compare
 
-PROGRAM = os.environ.get("BENCH") or os.path.join(os.path.dirname(os.path.abspath(__file__)), "../crates/bench_validate/out/bench_validate")
+PROGRAM = os.environ.get("BENCH") or os.path.join(os.path.dirname(os.path.abspath(__file__)), "../crates/bench/out/bench")
 FUNCTIONS = 10
 BEFORE, MAIN = compare.BEGIN.split("int main(void)")
 
@@ -61,7 +61,7 @@ def refusals(text, room):
     path = f"{room}/program.c"
     with open(path, "w", encoding="utf-8") as it:
         it.write(text)
-    ran = subprocess.run([PROGRAM, "refused", path, "1"], capture_output=True, check=False)
+    ran = subprocess.run([PROGRAM, "passes", "refused", path, "1"], capture_output=True, check=False)
     return int(ran.stdout) if ran.returncode == 0 else FUNCTIONS
 
 

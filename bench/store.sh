@@ -7,11 +7,11 @@
 # Opening: a library of 1,000 units against reading its file, in turn, TIMES times (200) in one process; the least time of each
 # call counts, and the ratio is ours by that of reading. What was opened or read is let go outside its time. The file has both
 # areas, of which opening reads one, and opening syncs twice besides.
-# The program has to be built (rt run in crates/bench_store).
+# The program has to be built (rt run in crates/bench).
 set -eu
 top=$(cd "$(dirname "$0")/.." && pwd)
-program=$top/crates/bench_store/out/bench_store
-[ -x "$program" ] || { echo "store.sh: build the program first: (cd crates/bench_store && rt run)" >&2; exit 1; }
+program=$top/crates/bench/out/bench
+[ -x "$program" ] || { echo "store.sh: build the program first: (cd crates/bench && rt run)" >&2; exit 1; }
 folder=$(mktemp -d "${1:-.}/store.XXXXXX")
 trap 'rm -rf "$folder"' EXIT
 rounds=${ROUNDS:-20} count=${COUNT:-500} times=${TIMES:-200}
@@ -42,16 +42,16 @@ commits() {
     area=$((length * count + 64))
     rm -f "$folder"/commits.*
     for round in $(seq "$rounds"); do
-        "$program" make "$folder/ours.disk" $area
-        "$program" make "$folder/plain.disk" $area
-        timed commits.ours.start "$program" add "$folder/ours.disk" 0 "$source" "$words"
+        "$program" store make "$folder/ours.disk" $area
+        "$program" store make "$folder/plain.disk" $area
+        timed commits.ours.start "$program" store add "$folder/ours.disk" 0 "$source" "$words"
         timed commits.plain.start "$folder/plain" "$folder/plain.disk" 0 "$length"
         # Each is the first in every second round.
         [ $((round % 2)) = 1 ] || timed commits.plain "$folder/plain" "$folder/plain.disk" "$count" "$length"
-        timed commits.ours "$program" add "$folder/ours.disk" "$count" "$source" "$words"
+        timed commits.ours "$program" store add "$folder/ours.disk" "$count" "$source" "$words"
         [ $((round % 2)) = 0 ] || timed commits.plain "$folder/plain" "$folder/plain.disk" "$count" "$length"
     done
-    [ "$("$program" count "$folder/ours.disk" "$source" "$words")" = "$count" ] || { echo "store.sh: not all were kept" >&2; exit 1; }
+    [ "$("$program" store count "$folder/ours.disk" "$source" "$words")" = "$count" ] || { echo "store.sh: not all were kept" >&2; exit 1; }
     local ours plain ours_busy plain_busy
     ours=$(less "$(best commits.ours wall)" "$(best commits.ours.start wall)")
     plain=$(less "$(best commits.plain wall)" "$(best commits.plain.start wall)")
@@ -64,10 +64,10 @@ commits() {
 opening() {
     local source=$1 words=$2 length ours reading
     length=$((3 + 8 + 4 + source + 4 + 4 * words + 4 + 5))
-    "$program" make "$folder/open.disk" $((length * 1000 + 1))
-    "$program" add "$folder/open.disk" 1000 "$source" "$words" > /dev/null
-    [ "$("$program" count "$folder/open.disk" "$source" "$words")" = 1000 ] || { echo "store.sh: not all were kept" >&2; exit 1; }
-    read -r ours reading < <("$program" open "$folder/open.disk" "$times")
+    "$program" store make "$folder/open.disk" $((length * 1000 + 1))
+    "$program" store add "$folder/open.disk" 1000 "$source" "$words" > /dev/null
+    [ "$("$program" store count "$folder/open.disk" "$source" "$words")" = 1000 ] || { echo "store.sh: not all were kept" >&2; exit 1; }
+    read -r ours reading < <("$program" store open "$folder/open.disk" "$times")
     echo "opening 1,000 units of $((length - 5)) bytes: $((ours / 1000)) us, $(ratio "$ours" "$reading") times reading the file of $(stat -c %s "$folder/open.disk") bytes"
 }
 

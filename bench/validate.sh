@@ -5,11 +5,11 @@
 # processor's, without that of the steps before it, and so without reading and making the RTL. The exponent is
 # log(ratio of times) / log(ratio of nodes): 1 is linear; the goal is 1.3 at most where the number of live registers is bounded.
 # Each is run ROUNDS times (3), in turn, and the best time counts. Shorter texts are done more often in one process, WORK (400,000)
-# nodes in all. The program has to be built (rt run in crates/bench_validate).
+# nodes in all. The program has to be built (rt run in crates/bench).
 set -eu
 top=$(cd "$(dirname "$0")/.." && pwd)
-program=$top/crates/bench_validate/out/bench_validate
-[ -x "$program" ] || { echo "validate.sh: build the program first: (cd crates/bench_validate && rt run)" >&2; exit 1; }
+program=$top/crates/bench/out/bench
+[ -x "$program" ] || { echo "validate.sh: build the program first: (cd crates/bench && rt run)" >&2; exit 1; }
 folder=$(mktemp -d)
 trap 'rm -rf "$folder"' EXIT
 rounds=${ROUNDS:-3} work=${WORK:-400000}
@@ -38,7 +38,7 @@ live() {
     printf 'return 0;}\n'
 }
 
-nodes_of() { "$program" rtl "$1" 1; }
+nodes_of() { "$program" passes rtl "$1" 1; }
 
 # timed NAME COMMAND..: adds the processor's seconds to that file
 timed() {
@@ -64,7 +64,7 @@ measure() {
     rm -f "$folder"/time.*
     for _ in $(seq "$rounds"); do
         for task in rtl spill validate; do
-            timed time.$task "$program" $task "$folder/text.c" $turns
+            timed time.$task "$program" passes $task "$folder/text.c" $turns
         done
     done
     awk -v n="$nodes" -v t="$turns" -v r="$(best time.rtl)" -v s="$(best time.spill)" -v v="$(best time.validate)" \

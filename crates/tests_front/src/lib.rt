@@ -1,10 +1,14 @@
-// Tests of the front's libraries: texts and their tokens, texts that are units and texts that are none, and each public
-// call once on its happy path. Expected values are worked by hand from the standard and the language's rules. The program's
-// own tests stand in `cclib`.
+//! Tests of the front's libraries: texts and their tokens, texts that are units and texts that are none, and each public
+//! call once on its happy path. Expected values are worked by hand from the standard and the language's rules.
+//!
+//! `words` has the operations on words, `diagnostic` what a person is told of a text. The program's own tests stand in
+//! `tests_program`.
 #![tactic(auto)]
 
 #[cfg(test)]
 mod calls;
+#[cfg(test)]
+mod diagnostic;
 #[cfg(test)]
 mod grammar;
 #[cfg(test)]
@@ -15,3 +19,5 @@ mod texts;
 mod tokens;
 #[cfg(test)]
 mod vectors;
+#[cfg(test)]
+mod words;

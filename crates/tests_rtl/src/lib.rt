@@ -1,12 +1,22 @@
-//! Tests of the way from C to RTL: each function of the worked programs goes through, a function is refused exactly where it has too
-//! many nodes, the text of some is what the rules of `docs/INTERMEDIATE.md` give by hand, and definitions of 64 KiB at the limits end
-//! in time.
+//! Tests of the way from C to RTL, from outside: each function of the worked programs goes through, a function is refused
+//! exactly where it has too many nodes, the text of some is what the rules of `docs/INTERMEDIATE.md` give by hand, and
+//! definitions of 64 KiB at the limits end in time.
+//!
+//! The languages beside it and what is known of its nodes have a module each: `cminor`, `ltl`, the solver in `flow`, live
+//! sets and dead nodes in `live`.
 #![tactic(auto)]
 
+#[cfg(test)]
+mod cminor;
+pub mod flow;
 #[cfg(test)]
 mod helpers;
 #[cfg(test)]
 mod limits;
+#[cfg(test)]
+mod live;
+#[cfg(test)]
+mod ltl;
 #[cfg(test)]
 mod shown;
 #[cfg(test)]

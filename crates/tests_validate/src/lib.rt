@@ -1,6 +1,8 @@
 //! Tests of the validator from outside: every single change of an allocation is refused, or is harmless by what small interpreters of RTL
 //! and LTL see. `texts` has the functions, `world` what an interpreter shares, `graph` and `located` the two interpreters, `changes` what is
 //! changed.
+//!
+//! `colour` has the tests of the allocator, whose judge the validator is, and `linear` those of what validated code becomes.
 #![tactic(auto)]
 
 #[cfg(test)]
@@ -8,7 +10,11 @@ mod bytes;
 #[cfg(test)]
 mod changes;
 #[cfg(test)]
+mod colour;
+#[cfg(test)]
 mod graph;
+#[cfg(test)]
+mod linear;
 #[cfg(test)]
 mod located;
 #[cfg(test)]

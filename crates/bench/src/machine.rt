@@ -1,0 +1,65 @@
+//! Running a program's words on the simulator, with the time that it took: for bench/machine.sh and bench/interpret.sh.
+
+use crate::arguments::{next_argument, next_of_task};
+use crate::words::file_words;
+use anyhow::{Context, Result};
+use cc_rv32::image::{Code, Globals, Image};
+use cc_rv32::machine::Machine;
+use cc_rv32::outcome::MachineOutcome;
+use std::env::Args;
+use std::time::Instant;
+
+/// The most words of input.
+const MOST_WORDS: u32 = 65_536;
+
+/// `machine CODE GLOBALS STEPS [WORD..]`: CODE and GLOBALS are files of little-endian words, and the WORDs are the program's input. It prints
+/// the words that the program writes, then `going`, `exited V` or `trapped`; on standard error, where the run was still going, the number of
+/// instructions and the seconds. So an endless loop is timed over exactly STEPS instructions.
+pub fn run(rt: &HostRuntime, arguments: &mut Args) -> Result<()> {
+    let code = file_words(rt, next_argument(arguments)?.as_str())?;
+    let globals = file_words(rt, next_argument(arguments)?.as_str())?;
+    let steps: u64 = next_argument(arguments)?
+        .as_str()
+        .parse()
+        .context("STEPS is no number")?;
+    let input = input(rt, arguments)?;
+    let code = Code::new(code)
+        .ok()
+        .context("CODE has no words, or too many")?;
+    let globals = Globals::new(globals)
+        .ok()
+        .context("GLOBALS has too many words")?;
+    let mut machine = Machine::new(rt.alloc(), &Image { code, globals }, input.as_slice())?;
+    let start = Instant::now(rt)?;
+    let outcome = machine.run(steps)?;
+    let seconds = start.elapsed(rt)?.as_secs_f64();
+    for word in machine.output() {
+        let value = word.cast_signed();
+        println!(rt; "{value}")?;
+    }
+    match outcome {
+        MachineOutcome::Going => {
+            println!(rt; "going")?;
+            eprintln!(rt; "{steps} {seconds}")?;
+        }
+        MachineOutcome::Exited(word) => {
+            let value = word.cast_signed();
+            println!(rt; "exited {value}")?;
+        }
+        MachineOutcome::Trapped => println!(rt; "trapped")?,
+    }
+    Ok(())
+}
+
+// The words up to the end of the task.
+fn input(rt: &HostRuntime, arguments: &mut Args) -> Result<Vec<u32>> {
+    let mut input = Vec::new(rt.alloc());
+    for _ in 0..MOST_WORDS {
+        let Some(word) = next_of_task(arguments) else {
+            break;
+        };
+        let word: u32 = word.as_str().parse().context("a WORD is no number")?;
+        input.push(word)?;
+    }
+    Ok(input)
+}

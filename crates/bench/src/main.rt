@@ -1,0 +1,50 @@
+//! What the scripts of bench/ run: `bench TASK WORD.. [, TASK WORD..]` does each task in turn. Words that are a comma alone stand
+//! between two tasks.
+//!
+//! `compile FILE TIMES` and `count FILE` compile a text or count what its image executes (`compiler`); `machine CODE GLOBALS STEPS
+//! [WORD..]` runs words on the simulator (`machine`); `passes TASK FILE TIMES` does the passes up to the validator (`passes`);
+//! `store TASK FILE [NUMBER..]` works on a library of units on a file (`store`). `arguments` reads the command line, `words` files
+//! of words, and `units` makes units and their names.
+#![tactic(auto)]
+
+mod arguments;
+mod compiler;
+mod machine;
+mod passes;
+mod store;
+mod units;
+mod words;
+
+use anyhow::{Result, bail};
+use arguments::{next_number, next_of_task};
+use std::env::{self, Args};
+
+/// The most tasks of one command line.
+const MOST_TASKS: u32 = 64;
+
+fn main(rt: HostRuntime) -> Result<()> {
+    let mut arguments = env::args(&rt)?;
+    let _program = arguments.next();
+    for _ in 0..MOST_TASKS {
+        match arguments.next() {
+            Some(task) => perform(&rt, task.as_str(), &mut arguments)?,
+            None => return Ok(()),
+        }
+    }
+    bail!("too many tasks")
+}
+
+fn perform(rt: &HostRuntime, task: &str, arguments: &mut Args) -> Result<()> {
+    match task {
+        "compile" => compiler::compile_again(rt, arguments)?,
+        "count" => compiler::count(rt, arguments)?,
+        "machine" => return machine::run(rt, arguments),
+        "passes" => passes::perform(rt, arguments)?,
+        "store" => store::perform(rt, arguments)?,
+        _ => bail!("usage: bench compile|count|machine|passes|store WORD.. [, TASK WORD..]"),
+    }
+    match next_of_task(arguments) {
+        Some(_more) => bail!("a task has too many words"),
+        None => Ok(()),
+    }
+}

@@ -1,0 +1,20 @@
+//! Tests of the library, from outside: its parts, worked rows, every point of failure, and disks that lie.
+//!
+//! `helpers` makes units, names and disks, `parts` tests names and the bytes of commands, `rows` has the worked rows,
+//! `sweep` fails the device at each call in turn, `hostile` opens disks that nobody formatted so, `random` disks with random
+//! records and bytes, `memory` refuses growths.
+
+#[cfg(test)]
+mod helpers;
+#[cfg(test)]
+mod hostile;
+#[cfg(test)]
+mod memory;
+#[cfg(test)]
+mod parts;
+#[cfg(test)]
+mod random;
+#[cfg(test)]
+mod rows;
+#[cfg(test)]
+mod sweep;

@@ -1,0 +1,82 @@
+// Names, and the bytes of commands.
+use crate::library::helpers::{name, unit};
+use cc_library::{Kind, Name, ReadFault, body_of_command, command_body, read_command};
+use std::alloc::Global;
+use std::test::Fail;
+
+// The body of Add of `a` with the source `int main(void){}`, one code word 0 and no global words.
+static ADD: [u8; 36] =
+    *b"\x01\x01\x01a\x10\x00\x00\x00int main(void){}\x01\x00\x00\x00\x00\x00\x00\x00\x00\x00\x00\x00";
+
+// The body of Withdraw of `a`.
+static WITHDRAW: [u8; 4] = *b"\x01\x03\x01a";
+
+#[test]
+fn names(rt: HostRuntime) {
+    let table: [(&[u8], bool); 9] = [
+        (b"a", true),
+        (b"a_9", true),
+        (&[b'a'; 32], true),
+        (b"", false),
+        (b"A", false),
+        (b"_a", false),
+        (b"9", false),
+        (b"aB", false),
+        (&[b'a'; 33], false),
+    ];
+    for (i, (bytes, right)) in table.iter().enumerate() {
+        assert!(rt; is_name(bytes) == *right, "row {i}");
+    }
+}
+
+// Whether these bytes are a name, and the name has them.
+fn is_name(bytes: &[u8]) -> bool {
+    match Name::new(bytes) {
+        Ok(name) => name.bytes() == bytes,
+        Err(_) => false,
+    }
+}
+
+// The body of Add of `a` with that source.
+fn add_body(alloc: Global) -> Result<Vec<u8>, Fail> {
+    let stored = unit(alloc, b"int main(void){}".as_slice(), 0)?;
+    Ok(command_body(alloc, Kind::Add, &name(b'a')?, Some(&stored))?)
+}
+
+// The body of the command that the bytes are.
+fn spelled_again(alloc: Global, bytes: &[u8]) -> Result<Vec<u8>, Fail> {
+    let command = read_command(alloc, bytes)?;
+    Ok(body_of_command(alloc, &command)?)
+}
+
+#[test]
+fn bodies(rt: HostRuntime) -> Result<(), Fail> {
+    assert!(rt; add_body(rt.alloc())?.as_slice() == ADD.as_slice());
+    assert!(rt; spelled_again(rt.alloc(), &ADD)?.as_slice() == ADD.as_slice());
+    assert!(rt; spelled_again(rt.alloc(), &WITHDRAW)?.as_slice() == WITHDRAW.as_slice());
+    Ok(())
+}
+
+// Whether these bytes are refused as no command.
+fn is_refused(alloc: Global, bytes: &[u8]) -> bool {
+    match read_command(alloc, bytes) {
+        Err(ReadFault::NoCommand) => true,
+        _ => false,
+    }
+}
+
+#[test]
+fn bytes_that_are_no_command(rt: HostRuntime) {
+    let table: [&[u8]; 7] = [
+        b"",
+        b"\x01\x03\x01",
+        b"\x02\x03\x01a",
+        b"\x01\x04\x01a",
+        b"\x01\x03\x01A",
+        b"\x01\x03\x01a\x00",
+        &ADD[..35],
+    ];
+    for (i, bytes) in table.iter().enumerate() {
+        assert!(rt; is_refused(rt.alloc(), bytes), "row {i}");
+    }
+}

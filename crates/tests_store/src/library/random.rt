@@ -1,0 +1,129 @@
+// Disks with random records and random bytes.
+use crate::library::helpers::{
+    Held, bytes_of, disk_of, formatted, next_byte, opened, recovers, refusal,
+};
+use cc_disk::MemoryDisk;
+use cc_library::Library;
+use std::alloc::Global;
+use std::test::Fail;
+
+// A command on `a` or `b`, by the byte of its kind, and the word of its unit.
+#[derive(Clone, Copy)]
+struct Random {
+    kind: u8,
+    letter: u8,
+    word: u8,
+}
+
+fn next_command(state: &mut u64) -> Random {
+    Random {
+        kind: 1 + next_byte(state) % 3,
+        letter: b'a' + next_byte(state) % 2,
+        word: next_byte(state),
+    }
+}
+
+// The record of a command, its gate open.
+fn put_record(bytes: &mut Vec<u8>, command: Random) -> Result<(), Fail> {
+    let Random { kind, letter, word } = command;
+    if kind == 3 {
+        bytes.extend_from_slice(&[0xa5, 4, 0, 0, 0, 1, 3, 1, letter])?;
+    } else {
+        bytes.extend_from_slice(&[
+            0xa5, 20, 0, 0, 0, 1, kind, 1, letter, 0, 0, 0, 0, 1, 0, 0, 0, word, 0, 0, 0, 0, 0, 0,
+            0,
+        ])?;
+    }
+    Ok(())
+}
+
+// What `a` and `b` stand for after a command, where it is accepted.
+fn after(held: Held, command: Random) -> Option<Held> {
+    let old = if command.letter == b'a' {
+        held.0
+    } else {
+        held.1
+    };
+    let new = match (command.kind, old.is_some()) {
+        (1, false) | (2, true) => Some(u32::from(command.word)),
+        (3, true) => None,
+        _ => return None,
+    };
+    Some(if command.letter == b'a' {
+        (new, held.1)
+    } else {
+        (held.0, new)
+    })
+}
+
+const AREA: u32 = 256;
+
+// The bytes of a disk with up to seven random records, and what the library has to be: none where a command is refused.
+fn random_records(alloc: Global, state: &mut u64) -> Result<(Vec<u8>, Option<Held>), Fail> {
+    let mut bytes = bytes_of(alloc, &mut formatted(alloc, AREA)?)?;
+    let size = bytes.len();
+    bytes.truncate(16);
+    let mut held = Some((None, None));
+    for _ in 0..next_byte(state) % 8 {
+        let command = next_command(state);
+        let next = held.and_then(|held| after(held, command));
+        // Most of those that are refused are left out.
+        if next.is_some() || next_byte(state) < 16 {
+            put_record(&mut bytes, command)?;
+            held = next;
+        }
+    }
+    bytes.resize(size, 0)?;
+    Ok((bytes, held))
+}
+
+#[test]
+fn random_records_stand_for_their_fold(rt: HostRuntime) -> Result<(), Fail> {
+    let alloc = rt.alloc();
+    let mut state = 1u64;
+    for i in 0..10_000u32 {
+        let (bytes, held) = random_records(alloc, &mut state)?;
+        let disk = disk_of(alloc, &bytes)?;
+        let right = match held {
+            Some(held) => recovers(alloc, disk, held)?,
+            None => refusal(alloc, disk) == 37,
+        };
+        assert!(rt; right, "disk {i}");
+    }
+    Ok(())
+}
+
+// Whether such a disk with up to four random bytes is refused with 37 or 38, or opened; and then compacted, opened again,
+// and the names are the same.
+fn is_opened_or_refused(alloc: Global, state: &mut u64) -> Result<bool, Fail> {
+    let (mut bytes, _) = random_records(alloc, state)?;
+    for _ in 0..1 + next_byte(state) % 4 {
+        let at = next_byte(state) as usize;
+        let byte = next_byte(state);
+        if at < bytes.len() {
+            bytes[at] = byte;
+        }
+    }
+    match Library::open(alloc, disk_of(alloc, &bytes)?) {
+        Ok(library) => keeps_its_names(alloc, library),
+        Err((fault, _)) => Ok(fault.number() == 37 || fault.number() == 38),
+    }
+}
+
+// Whether a library has the same names after `compact`, opened again.
+fn keeps_its_names(alloc: Global, mut library: Library<MemoryDisk>) -> Result<bool, Fail> {
+    let names = library.list(alloc)?;
+    // All records fit an area, so that fewer do.
+    library.compact(alloc)?;
+    let found = opened(alloc, library.into_disk())?.list(alloc)?;
+    Ok(found.as_slice() == names.as_slice())
+}
+
+#[test]
+fn random_bytes_are_opened_or_refused(rt: HostRuntime) -> Result<(), Fail> {
+    let mut state = 2u64;
+    for i in 0..10_000u32 {
+        assert!(rt; is_opened_or_refused(rt.alloc(), &mut state)?, "disk {i}");
+    }
+    Ok(())
+}

@@ -1,0 +1,227 @@
+// The worked rows of the library.
+use crate::library::helpers::{
+    Held, Step, bytes_of, does, edits, formatted, holds, opened, recovers, steps_done, word_unit,
+};
+use cc_disk::{Disk, FuseDisk, FuseMode, MemoryDisk};
+use cc_library::{Library, Name};
+use std::alloc::Global;
+use std::test::Fail;
+
+// The device calls of opening a library with one record: a sync, the header, the records, which are read ahead.
+const OPENING: u64 = 3;
+
+// Whether these steps on a new library with areas of that many bytes have these numbers, and its disk then holds these units.
+fn are_answered(
+    alloc: Global,
+    area: u32,
+    steps: &[(Step, u32)],
+    wanted: Held,
+) -> Result<bool, Fail> {
+    let mut library = opened(alloc, formatted(alloc, area)?)?;
+    for (step, number) in steps {
+        if does(alloc, &mut library, *step)? != *number {
+            return Ok(false);
+        }
+    }
+    recovers(alloc, library.into_disk(), wanted)
+}
+
+#[test]
+fn changes(rt: HostRuntime) -> Result<(), Fail> {
+    let steps = [
+        (Step::Add(b'a', 1), 0),
+        (Step::Add(b'a', 2), 31),
+        (Step::Withdraw(b'b'), 32),
+        (Step::Replace(b'a', 3), 0),
+    ];
+    assert!(rt; are_answered(rt.alloc(), 128, &steps, (Some(3), None))?);
+    Ok(())
+}
+
+#[test]
+fn a_full_area(rt: HostRuntime) -> Result<(), Fail> {
+    // Two records of 25 bytes and the closed gate leave 13 bytes: one Withdraw of 9 fits, a third unit does not.
+    let steps = [
+        (Step::Add(b'a', 1), 0),
+        (Step::Add(b'b', 2), 0),
+        (Step::Add(b'c', 3), 34),
+        (Step::Replace(b'a', 3), 34),
+        (Step::Withdraw(b'a'), 0),
+        (Step::Withdraw(b'b'), 34),
+    ];
+    assert!(rt; are_answered(rt.alloc(), 64, &steps, (None, Some(2)))?);
+    Ok(())
+}
+
+// The numbers of a run of steps on a new library, where it went to its end.
+fn run_numbers(alloc: Global, steps: &[Step]) -> Result<Vec<u32>, Fail> {
+    let edits = edits(alloc, steps)?;
+    let library = opened(alloc, formatted(alloc, 128)?)?;
+    let (left, numbers) = library.run(alloc, edits);
+    match left {
+        Ok(library) => {
+            drop(library);
+            Ok(numbers)
+        }
+        Err(refused) => {
+            drop(refused);
+            Err(Fail::from("the run stopped"))
+        }
+    }
+}
+
+#[test]
+fn the_same_through_run(rt: HostRuntime) -> Result<(), Fail> {
+    let steps = [
+        Step::Add(b'a', 1),
+        Step::Add(b'a', 2),
+        Step::Withdraw(b'b'),
+        Step::Replace(b'a', 3),
+        Step::Compact,
+    ];
+    assert!(rt; run_numbers(rt.alloc(), &steps)?.as_slice() == [0, 31, 32, 0, 0].as_slice());
+    Ok(())
+}
+
+// Whether these are those names, in order.
+fn are_names(names: &[Name], wanted: &[&[u8]]) -> bool {
+    names.len() == wanted.len()
+        && names
+            .iter()
+            .zip(wanted)
+            .all(|(name, bytes)| name.bytes() == *bytes)
+}
+
+// Adds a unit under that name: whether the answer is Ok.
+fn is_added<D: Disk>(alloc: Global, library: &mut Library<D>, name: &[u8]) -> Result<bool, Fail> {
+    let unit = word_unit(alloc, 0)?;
+    Ok(library.add(alloc, Name::new(name)?, unit).is_ok())
+}
+
+// The names that a library lists, once units were added under these.
+fn listed(alloc: Global, names: &[&[u8]]) -> Result<Vec<Name>, Fail> {
+    let mut library = opened(alloc, formatted(alloc, 256)?)?;
+    for name in names {
+        if !is_added(alloc, &mut library, name)? {
+            return Err(Fail::from("not added"));
+        }
+    }
+    Ok(library.list(alloc)?)
+}
+
+#[test]
+fn names_come_in_the_order_of_their_bytes(rt: HostRuntime) -> Result<(), Fail> {
+    let names = listed(rt.alloc(), &[b"b", b"a", b"ab", b"a_"])?;
+    assert!(rt; are_names(&names, &[b"a", b"a_", b"ab", b"b"]));
+    Ok(())
+}
+
+// A library with `a` added, on a disk of 144 bytes whose next calls meet a fuse.
+fn with_a(alloc: Global, passes: u64) -> Result<Library<FuseDisk<MemoryDisk>>, Fail> {
+    let mut library = opened(alloc, formatted(alloc, 64)?)?;
+    if steps_done(alloc, &mut library, &[Step::Add(b'a', 1)])? != 1 {
+        return Err(Fail::from("not added"));
+    }
+    opened(
+        alloc,
+        FuseDisk::new(library.into_disk(), passes, FuseMode::Within),
+    )
+}
+
+// The disk after an Add of `b` whose device calls meet the fuse once so many have passed, and a crash with that choice.
+fn torn(alloc: Global, passes: u64, choice: &[u8]) -> Result<MemoryDisk, Fail> {
+    let mut library = with_a(alloc, OPENING.saturating_add(passes))?;
+    if does(alloc, &mut library, Step::Add(b'b', 2))? != 35 {
+        return Err(Fail::from("the fuse was not met"));
+    }
+    Ok(library.into_disk().into_disk().crash(alloc, choice)?)
+}
+
+#[test]
+fn the_gate_decides(rt: HostRuntime) -> Result<(), Fail> {
+    let alloc = rt.alloc();
+    assert!(rt; recovers(alloc, torn(alloc, 2, &[0xa5; 144])?, (Some(1), Some(2)))?);
+    assert!(rt; recovers(alloc, torn(alloc, 2, &[0; 144])?, (Some(1), None))?);
+    Ok(())
+}
+
+#[test]
+fn a_torn_body_counts_for_nothing(rt: HostRuntime) -> Result<(), Fail> {
+    let alloc = rt.alloc();
+    // The record of `a` ends with byte 40, the gate of the next is byte 41. After it the crash leaves a whole record, Withdraw
+    // of `a`, and an open gate.
+    let mut choice = [0xa5u8; 144];
+    for (i, byte) in [4u8, 0, 0, 0, 1, 3, 1, b'a', 0xa5].iter().enumerate() {
+        if i < 9 {
+            choice[42 + i] = *byte;
+        }
+    }
+    assert!(rt; recovers(alloc, torn(alloc, 0, &choice)?, (Some(1), None))?);
+    Ok(())
+}
+
+// The row of `compact` over a fuse that passes two calls: the area byte is torn.
+#[test]
+fn a_torn_area_byte_keeps_the_map(rt: HostRuntime) -> Result<(), Fail> {
+    let alloc = rt.alloc();
+    let mut library = with_a(alloc, OPENING.saturating_add(2))?;
+    assert!(rt; does(alloc, &mut library, Step::Compact)? == 35);
+    let disk = library.into_disk().into_disk();
+    for byte in 0..=255u8 {
+        let crashed = disk.crash(alloc, &[byte])?;
+        assert!(rt;
+            recovers(alloc, crashed, (Some(1), None))?,
+            "area byte {byte}"
+        );
+    }
+    Ok(())
+}
+
+#[test]
+fn a_closed_library_still_answers_from_its_map(rt: HostRuntime) -> Result<(), Fail> {
+    let alloc = rt.alloc();
+    let mut library = with_a(alloc, OPENING.saturating_add(2))?;
+    assert!(rt; does(alloc, &mut library, Step::Compact)? == 35);
+    for step in [
+        Step::Compact,
+        Step::Add(b'b', 2),
+        Step::Replace(b'a', 2),
+        Step::Withdraw(b'a'),
+    ] {
+        assert!(rt; does(alloc, &mut library, step)? == 36);
+    }
+    assert!(rt; holds(alloc, &library, (Some(1), None))?);
+    // No call but the one that met the fuse reached the device.
+    assert!(rt; library.into_disk().failures() == 1);
+    Ok(())
+}
+
+#[test]
+fn compact_writes_one_add_per_name(rt: HostRuntime) -> Result<(), Fail> {
+    let alloc = rt.alloc();
+    let mut library = opened(alloc, formatted(alloc, 128)?)?;
+    let steps = [
+        Step::Add(b'b', 2),
+        Step::Add(b'a', 1),
+        Step::Withdraw(b'b'),
+        Step::Add(b'b', 4),
+        Step::Compact,
+    ];
+    assert!(rt; steps_done(alloc, &mut library, &steps)? == 5);
+    let bytes = bytes_of(alloc, &mut library.into_disk())?;
+    // Area B begins at 144: an Add of `a` and one of `b`, each of 25 bytes, and a closed gate.
+    for (offset, byte) in [
+        (0usize, 1u8),
+        (144, 0xa5),
+        (149, 1),
+        (150, 1),
+        (152, b'a'),
+        (169, 0xa5),
+        (175, 1),
+        (177, b'b'),
+        (194, 0),
+    ] {
+        assert!(rt; bytes.get(offset).copied() == Some(byte), "byte {offset}");
+    }
+    Ok(())
+}

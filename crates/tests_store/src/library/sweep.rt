@@ -1,0 +1,147 @@
+// Every point of failure of add, add, replace, compact, withdraw, in each mode, and a crash after it; and the same through
+// `run`.
+use crate::library::helpers::{
+    Held, Step, crash_leaves, edits, formatted, next_byte, opened, refusal, steps_done,
+};
+use cc_disk::{FuseDisk, FuseMode, MemoryDisk};
+use cc_library::Library;
+use std::alloc::Global;
+use std::test::Fail;
+
+// Three calls of opening an empty library, four of each change and of `compact`.
+const CALLS: u64 = 23;
+
+const STEPS: [Step; 5] = [
+    Step::Add(b'a', 1),
+    Step::Add(b'b', 2),
+    Step::Replace(b'a', 3),
+    Step::Compact,
+    Step::Withdraw(b'b'),
+];
+
+// What `a` and `b` stand for after so many of the steps.
+fn map_after(done: usize) -> Held {
+    match done {
+        0 => (None, None),
+        1 => (Some(1), None),
+        2 => (Some(1), Some(2)),
+        3 | 4 => (Some(3), Some(2)),
+        _ => (Some(3), None),
+    }
+}
+
+// A new library's disk whose calls meet a fuse.
+fn fused(alloc: Global, passes: u64, mode: FuseMode) -> Result<FuseDisk<MemoryDisk>, Fail> {
+    Ok(FuseDisk::new(formatted(alloc, 128)?, passes, mode))
+}
+
+// Does the steps until one is refused: the disk, and how many were done.
+fn changed(alloc: Global, disk: FuseDisk<MemoryDisk>) -> Result<(MemoryDisk, usize), Fail> {
+    match Library::open(alloc, disk) {
+        Ok(opened) => {
+            let mut library = opened;
+            let done = steps_done(alloc, &mut library, &STEPS)?;
+            Ok((library.into_disk().into_disk(), done))
+        }
+        Err((_, disk)) => Ok((disk.into_disk(), 0)),
+    }
+}
+
+// What a crash leaves where it may: one byte everywhere, or bytes that look random.
+fn choice(number: u64) -> [u8; 272] {
+    let mut choice = match number {
+        0 => [0; 272],
+        1 => [0xa5; 272],
+        _ => [0xff; 272],
+    };
+    let mut state = number;
+    if number > 2 {
+        for byte in choice.iter_mut() {
+            *byte = next_byte(&mut state);
+        }
+    }
+    choice
+}
+
+// Whether each crash leaves the map after what was done, or with one step more.
+fn is_right(alloc: Global, disk: &MemoryDisk, done: usize) -> Result<bool, Fail> {
+    for number in 0..9u64 {
+        let bytes = choice(number);
+        let old = crash_leaves(alloc, disk, &bytes, map_after(done))?;
+        let new = crash_leaves(alloc, disk, &bytes, map_after(done.saturating_add(1)))?;
+        if !old && !new {
+            return Ok(false);
+        }
+    }
+    Ok(true)
+}
+
+#[test]
+fn every_failure_and_a_crash(rt: HostRuntime) -> Result<(), Fail> {
+    let alloc = rt.alloc();
+    for passes in 0..CALLS + 1 {
+        for mode in [FuseMode::Once, FuseMode::Before, FuseMode::Within] {
+            let (disk, done) = changed(alloc, fused(alloc, passes, mode)?)?;
+            let right = (done == 5 || passes < CALLS) && is_right(alloc, &disk, done)?;
+            assert!(rt; right, "{passes} calls, {mode:?}");
+        }
+    }
+    Ok(())
+}
+
+// What a run of the steps over a fuse left: its disk, the fault with which it stopped (0: none), how many numbers it gave,
+// and how many of these are 35.
+#[derive(Drop)]
+struct Ran {
+    disk: MemoryDisk,
+    stopped: u32,
+    count: usize,
+    failed: usize,
+}
+
+fn run_over(alloc: Global, passes: u64, mode: FuseMode) -> Result<Ran, Fail> {
+    let edits = edits(alloc, &STEPS)?;
+    let library = opened(alloc, fused(alloc, passes, mode)?)?;
+    let (left, numbers) = library.run(alloc, edits);
+    let count = numbers.len();
+    let failed = numbers.iter().filter(|number| **number == 35).count();
+    drop(numbers);
+    let (disk, stopped) = match left {
+        Ok(library) => (library.into_disk().into_disk(), 0),
+        Err((fault, disk)) => (disk.into_disk(), fault.number()),
+    };
+    Ok(Ran {
+        disk,
+        stopped,
+        count,
+        failed,
+    })
+}
+
+#[test]
+fn a_run_goes_on_after_one_failure(rt: HostRuntime) -> Result<(), Fail> {
+    for passes in 3..CALLS + 1 {
+        let ran = run_over(rt.alloc(), passes, FuseMode::Once)?;
+        let right = ran.stopped == 0 && ran.count == 5 && ran.failed == usize::from(passes < CALLS);
+        assert!(rt;
+            right && refusal(rt.alloc(), ran.disk) == 0,
+            "{passes} calls"
+        );
+    }
+    Ok(())
+}
+
+#[test]
+fn a_run_stops_where_its_disk_is_not_opened_again(rt: HostRuntime) -> Result<(), Fail> {
+    for passes in 3..CALLS {
+        let ran = run_over(rt.alloc(), passes, FuseMode::Before)?;
+        // The last number is that of the step that met the fuse.
+        let done = ran.count.saturating_sub(1);
+        let right = ran.stopped == 35 && ran.failed == 1 && done as u64 == (passes - 3) / 4;
+        assert!(rt;
+            right && is_right(rt.alloc(), &ran.disk, done)?,
+            "{passes} calls"
+        );
+    }
+    Ok(())
+}
