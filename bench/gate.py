@@ -5,7 +5,7 @@
 
 The gate is `rt ci`, as `.ci/run` has it; it should be the only thing that the machine does. While it runs, this script looks
 four times a second at the toolchain's processes and adds up the processor seconds of each. Then it prints a row for each
-crate, in seconds of processor:
+crate, in seconds of processor, and writes the same to docs/GATE.md where the run passed (of the repository that the script stands in):
 
     lines   of src/, proofs left out
     P       a whole proof from nothing
@@ -25,9 +25,19 @@ import subprocess
 import sys
 import tempfile
 import time
+from datetime import date
 
 TOP = os.path.dirname(os.path.dirname(os.path.abspath(__file__)))
 TICK = os.sysconf("SC_CLK_TCK")
+
+# What docs/GATE.md says above the table.
+HEAD = """# What each crate costs the gate
+
+Written by `bench/gate.py` on {day}: one whole run of the gate in a fresh clone, from nothing. Seconds of processor: P a whole proof from
+nothing, `tests` the proof of the crate's tests, `first` the first must-fail edit, e each further one on average, n a check that changes
+nothing, `sum` all of these; `proof` is the wall clock's seconds of the proof beside others.
+
+"""
 
 
 class Process:
@@ -130,10 +140,8 @@ def main(folder):
     passed, wall, processes = watch(folder)
     names = below(folder)
     rows = {name: Row(folder, name, processes) for name in names}
-    print("| crate           |  lines |    P | tests | edits | first |    e |    n |   sum | proof |")
-    print("|---|---|---|---|---|---|---|---|---|---|")
-    for row in rows.values():
-        print(row.text())
+    said = ["| crate           |  lines |    P | tests | edits | first |    e |    n |   sum | proof |", "|---|---|---|---|---|---|---|---|---|---|"]
+    said += [row.text() for row in rows.values()]
     chains = {}
 
     def chain(name):
@@ -142,8 +150,15 @@ def main(folder):
         return chains[name]
 
     longest = max(names, key=lambda it: chain(it) + rows[it].edits_wall)
-    print(f"all crates: {sum(it.whole for it in rows.values()) / 60:.0f} processor minutes; all that the toolchain did: {sum(it.seconds for it in processes) / 60:.0f}")
-    print(f"wall clock: {wall / 60:.0f} minutes on {os.cpu_count()} processors; longest chain: to the edits of {longest}, {(chain(longest) + rows[longest].edits_wall) / 60:.0f} minutes")
+    said += [
+        "",
+        f"All crates: {sum(it.whole for it in rows.values()) / 60:.0f} processor minutes; all that the toolchain did: {sum(it.seconds for it in processes) / 60:.0f}.",
+        f"Wall clock: {wall / 60:.0f} minutes on {os.cpu_count()} processors; longest chain: to the edits of {longest}, {(chain(longest) + rows[longest].edits_wall) / 60:.0f} minutes.",
+    ]
+    print("\n".join(said))
+    if passed:
+        with open(f"{TOP}/docs/GATE.md", "w", encoding="utf-8") as file:
+            file.write(HEAD.format(day=date.today().isoformat()) + "\n".join(said) + "\n")
     print("passed" if passed else "NOT PASSED")
     if room:
         shutil.rmtree(room, ignore_errors=True)
