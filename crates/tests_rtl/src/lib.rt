@@ -3,7 +3,7 @@
 //! definitions of 64 KiB at the limits end in time.
 //!
 //! The languages beside it and what is known of its nodes have a module each: `cminor`, `ltl`, the solver in `flow`, live
-//! sets and dead nodes in `live`.
+//! sets and dead nodes in `live`, and the list of instructions in `list`.
 #![tactic(auto)]
 
 #[cfg(test)]
@@ -13,6 +13,8 @@ pub mod flow;
 mod helpers;
 #[cfg(test)]
 mod limits;
+#[cfg(test)]
+mod list;
 #[cfg(test)]
 mod live;
 #[cfg(test)]
