@@ -1,13 +1,14 @@
 #!/usr/bin/env python3
 """Which definitions a public contract rests on, and whether each stands in the room where a reader looks for it.
 
-    bench/rooms.py                     of every crate: definitions right in specs/ on which no public contract rests and no
-                                       type's model, and definitions of specs/internal/ on which a contract does
-    bench/rooms.py CRATE FUNCTION      what that function's contract rests on: the pages in reading order, with how many of
-                                       their lines, and how many lines in all
+    bench/rooms.py                              of every crate: definitions right in specs/ on which no public contract rests and
+                                                no type's model, definitions of specs/internal/ on which a contract or a public
+                                                type's model does, and contracts that rest on what stands in proofs/
+    bench/rooms.py CRATE FUNCTION [CLAUSE..]    what that function's contract rests on, or these clauses of it: the pages in
+                                                reading order, with how many of their lines, and how many lines in all
 
 It reads the text alone: names in clauses, followed through the `use` lines of the pages. What a Rust type is (`declared`)
-counts as code, and std's words are taken as known."""
+counts as code, and std's words are taken as known. Its status is 1 where it finds something misplaced."""
 import os
 import re
 import sys
@@ -17,7 +18,8 @@ WORD = re.compile(r"[^\s(){}\[\],;⟨⟩⟦⟧\"]+")
 DECLARATION = re.compile(r"(?:abbrev |opaque |unfoldable |pub |data |record )+([^\s(){}:]+)|([^\s(){}:=]+) : ")
 USE = re.compile(r"use (Rattle\.(\w+)\.specs\.[\w.]+?)(?:\.\{([^}]*)\}| as (\w+))(?: as (\w+))?[;\s]")
 PUBLIC = re.compile(r"^\s*pub (?:const )?(?:unsafe )?fn (\w+)")
-CLAUSE = re.compile(r"^\s*(?:ensures|requires)\*?\s")
+CLAUSE = re.compile(r"^\s*(?:ensures|requires)\*?\s+(?:(\w+)\s)?")
+PROOFS = re.compile(r"use Rattle\.(?!std\.)(\w+)\.proofs\.([\w.]+?)(?:\.\{([^}]*)\}| as (\w+))")
 
 
 class Page:
@@ -28,6 +30,7 @@ class Page:
         with open(path, encoding="utf-8") as file:
             self.text = file.read()
         self.names = names_in(self.text)
+        self.proved = proved_in(self.text)
         self.items = {}
         item, inside, comment = None, False, []
         for line in self.text.split("\n"):
@@ -65,6 +68,16 @@ def names_in(text):
         for it in filter(None, (names or "").split(",")):
             name, _, other = it.strip().partition(" as ")
             found[other or name] = (module, name)
+    return found
+
+
+def proved_in(text):
+    """Returns the names that a page takes out of proofs/ of this repository, each with the page that has it."""
+    found = {}
+    for crate, module, names, short in PROOFS.findall(re.sub(r"\n\s+", " ", text)):
+        for it in filter(None, [short, *(names or "").split(",")]):
+            name, _, other = it.strip().partition(" as ")
+            found[other or name] = f"{crate}/proofs/{module.replace('.', '/')}"
     return found
 
 
@@ -121,6 +134,15 @@ class Repository:
                 left += self.named("\n".join(page.items[it[2]]), page.names, page)
         return found
 
+    def taken_from_proofs(self, found):
+        """Returns which of these definitions name something of proofs/, with the page of it."""
+        taken = []
+        for it in sorted(found):
+            page = self.pages[it[0]][it[1]]
+            words = {word.partition(".")[0] for word in WORD.findall("\n".join(page.items[it[2]]))}
+            taken += [(it, page.proved[word]) for word in sorted(words & page.proved.keys())]
+        return taken
+
     def handed_out(self, crate):
         """Returns the modules that a crate hands out whole, and the names that it hands out one by one; None of a program, all of whose
         functions count."""
@@ -131,20 +153,21 @@ class Repository:
         names = " ".join(a or b for a, b in re.findall(r"pub use [\w:]+?::(?:\{([^}]*)\}|(\w+));", text))
         return set(re.findall(r"^pub mod (\w+);", text, re.M)), set(re.findall(r"\w+", names))
 
-    def contracts(self, crate, function=None, types=False):
-        """Returns the definitions that the public contracts of a crate name: of its functions, or of one; and what its types
-        are seen as and keep, if that is asked for."""
+    def contracts(self, crate, function=None, types=False, clauses=(), views=False):
+        """Returns the definitions that the public contracts of a crate name: of its functions, or of one, or of these clauses of
+        it; what its types are seen as and keep, if that is asked for; or what its public types are seen as."""
         found, (modules, handed) = set(), self.handed_out(crate)
         for at, _, files in os.walk(f"{TOP}/crates/{crate}/src"):
             for file in files:
                 with open(f"{at}/{file}", encoding="utf-8") as it:
                     text = it.read()
                 whole = modules is None or file == "lib.rt" or os.path.relpath(f"{at}/{file}", f"{TOP}/crates/{crate}/src")[:-3] in modules
-                names, name, taking, owner, of_trait, ghost = names_in(text), None, False, True, False, False
+                names, name, taking, owner, of_trait, ghost, view = names_in(text), None, False, True, False, False, False
+                is_asked, of_trait_only = True, False
                 for line in text.split("\n"):
                     block = re.match(r"(?:impl|pub trait|trait)\b(?:<.*?>)?\s*(.*?)\s*\{?$", line)
                     if block:
-                        of_trait = "trait" in line or " for " in line
+                        of_trait, of_trait_only = "trait" in line or " for " in line, "trait" in line
                         owner = whole or bool(set(re.findall(r"\w+", block[1])) & handed)
                     elif line.startswith("}"):
                         owner = True
@@ -154,18 +177,23 @@ class Repository:
                         is_public = begins and (whole or begins[1] in handed if is_free else owner)
                         name, taking = begins[1] if is_public else None, False
                     ghost = types and (bool(re.match(r"^\s*ghost (?!use)\w+", line)) or ghost)
-                    taking = bool(CLAUSE.match(line)) or taking and not re.match(r"^\s*[{}]?\s*$", line) and not line.rstrip().endswith("{")
-                    if taking and name is not None and function in (None, name) or ghost:
+                    view = views and owner and not of_trait_only and (bool(re.match(r"^\s*ghost (view|Value)\b", line)) or view)
+                    clause = CLAUSE.match(line)
+                    is_asked = not clauses or clause[1] in clauses if clause else is_asked
+                    taking = bool(clause) or taking and not re.match(r"^\s*[{}]?\s*$", line) and not line.rstrip().endswith("{")
+                    if taking and is_asked and name is not None and function in (None, name) and not views or ghost or view:
                         found |= self.named(line, names)
                     ghost = ghost and not line.rstrip().endswith((";", ","))
+                    view = view and not line.rstrip().endswith((";", ","))
         return found
 
 
-def show(repository, crate, function):
-    found = repository.rests_on(repository.contracts(crate, function))
+def show(repository, crate, function, *clauses):
+    found = repository.rests_on(repository.contracts(crate, function, clauses=clauses))
     whole = 0
     for it in repository.crates:
-        for name in reading_order(it):
+        order = reading_order(it)
+        for name in [*order, *sorted(repository.pages[it].keys() - set(order))]:
             page = repository.pages[it].get(name)
             items = [word for word in page.items if (it, name, word) in found] if page else []
             if items:
@@ -176,26 +204,40 @@ def show(repository, crate, function):
     apart = [it for it in found if it[1].startswith(("internal", "rows"))]
     for it in sorted(apart):
         print("and apart:", *it)
-    return 1 if apart else 0
+    taken = repository.taken_from_proofs(found)
+    for it, page in taken:
+        print("and out of proofs:", *it, "takes from", page)
+    return 1 if apart or taken or not found else 0
 
 
 def check(repository):
-    wrong, used, kept = 0, set(), set()
+    wrong, used, kept, seen = 0, set(), set(), set()
     for crate in repository.crates:
         used |= repository.rests_on(repository.contracts(crate))
+        seen |= repository.rests_on(repository.contracts(crate, views=True))
         kept |= repository.rests_on(repository.contracts(crate, types=True))
     for crate in repository.crates:
         for name, page in repository.pages[crate].items():
             is_apart = name.startswith(("internal.", "rows."))
             for item in page.items:
-                is_wrong = (crate, name, item) in used if is_apart else (crate, name, item) not in kept
-                if is_wrong:
+                it = (crate, name, item)
+                told = None
+                if is_apart and it in used:
+                    told = "a public contract rests on it"
+                elif is_apart and it in seen:
+                    told = "the model of a public type rests on it"
+                elif not is_apart and it not in kept:
+                    told = "no public contract rests on it"
+                if told:
                     wrong += 1
-                    print(f"{page.where()}: {item}: {'a public contract rests on it' if is_apart else 'no public contract rests on it'}")
+                    print(f"{page.where()}: {item}: {told}")
+    for it, page in repository.taken_from_proofs(used):
+        wrong += 1
+        print(f"{repository.pages[it[0]][it[1]].where()}: {it[2]}: a public contract rests on it, and it takes from {page}")
     print(f"{wrong} definitions in another room than their readers look for")
     return 1 if wrong else 0
 
 
 if __name__ == "__main__":
     every = Repository()
-    sys.exit(show(every, *sys.argv[1:3]) if len(sys.argv) > 2 else check(every))
+    sys.exit(show(every, *sys.argv[1:]) if len(sys.argv) > 2 else check(every))

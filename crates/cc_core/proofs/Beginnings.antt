@@ -9,7 +9,6 @@ use Rattle.std.proofs.lemmas.Option.{slice_get_within}
 use Rattle.cc_journal.specs.Format.{HoldsRecords, header, records}
 use Rattle.cc_journal.proofs.Bytes.{header_area}
 use Rattle.cc_journal.proofs.Records.{holds_same}
-use Rattle.cc_unit.specs.declared.unit.StoredUnit.{StoredUnit}
 use Rattle.cc_library.specs.declared.command.Command.{Command}
 use Rattle.cc_library.specs.declared.fault.LibraryFault.{LibraryFault}
 use Rattle.cc_library.specs.declared.fault.LibraryFault.TheVariants.{Exists, Absent, Full, DiskFault, Closed, Damaged, NotALibrary, OutOfMemory}
@@ -24,7 +23,7 @@ use Rattle.cc_core.specs.declared.contents.Phase.TheVariants.{Idle}
 use Rattle.cc_core.specs.declared.opening.Opened.{Opened}
 use Rattle.cc_core.specs.declared.sequence_number.SequenceNumber.{SequenceNumber}
 use Rattle.cc_core.specs.Step.{commands}
-use Rattle.cc_core.specs.Run.{EachUnit, IsOpened, IsOrderOf}
+use Rattle.cc_core.specs.Run.{IsOpened, IsOrderOf}
 use Rattle.cc_core.specs.internal.Opening.{IsOpenedAt}
 use Rattle.cc_core.proofs.Lists.{slice_get-push}
 
@@ -124,22 +123,21 @@ order_of image o at area bodies h =
     let there : HoldsRecords image o.store.area at.bodies = subst (λ (l : List ℕ). HoldsRecords l o.store.area at.bodies) at.bytes at.holds in
     subst (λ (bs : List (List ℕ)). IsOrderOf bs o.order o.upcoming) (holds_same image area o.store.area bodies at.bodies h there).1 at.order
 
-recovers_to : (image : List ℕ) (o : Opened) → IsOpenedAt image o → Recovers image o.library
+pub recovers_to : (image : List ℕ) (o : Opened) → IsOpenedAt image o → Recovers image o.library
 recovers_to image o at = subst (λ (l : List ℕ). Recovers l o.library) at.bytes (record { area = o.store.area; bodies = at.bodies; holds = at.holds; stand = at.stand })
 
-module _ {P : Type 0} (is_right : StoredUnit → Type 0) where
-  pub opened_begins : (image : List ℕ) (o : Opened) → IsOpenedAt image o → ((units : Units) → Recovers image units → EachUnit is_right units) → (acknowledged : List Numbered) → acknowledged ≡ o.order
-      → IsOpened {P = P} is_right (record { core = record { library = o.library; order = o.order; acknowledged = acknowledged; phase = Idle; store = o.store; upcoming = o.upcoming }; jobs = empty; workers = empty })
-  opened_begins image o at right acknowledged none =
+module _ {P : Type 0} where
+  pub opened_begins : (image : List ℕ) (o : Opened) → IsOpenedAt image o → (acknowledged : List Numbered) → acknowledged ≡ o.order
+      → IsOpened {P = P} (record { core = record { library = o.library; order = o.order; acknowledged = acknowledged; phase = Idle; store = o.store; upcoming = o.upcoming }; jobs = empty; workers = empty })
+  opened_begins image o at acknowledged same =
       let leads = order_leads at.bodies o.library o.order o.upcoming at.stand at.order in
       record {
         phase = refl;
         library = leads.0;
         accepted = leads.1;
-        right = right o.library (recovers_to image o at);
         rising = λ i j a b lt first second. let p = at.order.counted i a first in let q = at.order.counted j b second in omega arith;
         below = λ k a is. let p = at.order.counted k a is in let within = slice_get_within o.order k a is in let n = at.order.next in omega arith;
-        acknowledged = none;
+        acknowledged = same;
         jobs = refl;
         workers = refl;
         alone = at.alone;

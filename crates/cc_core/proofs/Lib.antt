@@ -12,3 +12,5 @@ pub mod Beginnings
 pub mod Reopening
 pub mod Sound
 pub mod Runs
+pub mod Anyhow
+pub mod Turns

@@ -12,6 +12,7 @@ use Rattle.cc_library.specs.Apply.{after}
 use Rattle.cc_library.specs.Body.{body_of}
 use Rattle.cc_library.specs.Compact.{compacted}
 use Rattle.cc_core.specs.declared.command.Request.{Request}
+use Rattle.cc_core.specs.declared.command.Request.TheVariants as request
 use Rattle.cc_core.specs.declared.command.Numbered.{Numbered}
 use Rattle.cc_core.specs.declared.command.Reply.{Reply}
 use Rattle.cc_core.specs.declared.command.Reply.TheVariants as replies
@@ -36,7 +37,7 @@ use Rattle.cc_core.specs.declared.ids.ClientId.{ClientId}
 use Rattle.cc_core.specs.declared.ids.PartIndex.{PartIndex}
 use Rattle.cc_core.specs.declared.ids.WorkerId.{WorkerId}
 use Rattle.cc_core.specs.Rules.{Rules}
-use Rattle.cc_core.specs.Job.{job_of, with_piece, all_there, verdict}
+use Rattle.cc_core.specs.Job.{planned, IsPlanned, with_piece, all_there, verdict}
 use Rattle.cc_core.specs.StoreState.{StoreState}
 use Rattle.cc_core.specs.Store.{stepped, due_after, FailsTo, first_written, rewrite_of, RewriteFailsTo, crashed_store, gate_of, with_cells}
 use Rattle.cc_core.specs.Step.{Step, IsImpossible, IsUp, IsFree, Submits, Takes, Begins, Begun, Advances, Fails, Acknowledges, RewritesAll, RewriteFails, Crashes, Reopens, StepsCore, EndsJob, EndsAll, FailsJob, FailsStep, jobs_begun, ticked, numbered_now}
@@ -184,9 +185,17 @@ answers_second A B (Err fault) old new none a = (
 -- ---- steps of clients and workers
 
 module _ {P : Type 0} where
-  pub submits : (rules : Rules P) (old : Contents P) (client : ClientId) (call : CallId) (request : Request) → IsUp old.core.phase → get old.jobs client.number ≡ None
-      → (reply : Option Reply) × (new : Contents P) × Submits rules client call request old reply new
-  submits rules old client call request up free = (None, record old { jobs = insert old.jobs client.number (job_of rules call request) }, record { up = up; free = free; silent = refl; new_is = refl })
+  -- each request has a plan, where each source has one
+  planned_some : (rules : Rules P) → ((source : List ℕ) → (plan : Result ℕ ℕ) × rules.plan source plan) → (asked : Request) → (plan : Result ℕ ℕ) × IsPlanned rules asked plan
+  planned_some rules plans (request.Add name source) = plans source
+  planned_some rules plans (request.Replace name source) = plans source
+  planned_some rules plans (request.Withdraw name) = (Ok 0, refl)
+
+  pub submits : (rules : Rules P) → ((source : List ℕ) → (plan : Result ℕ ℕ) × rules.plan source plan) → (old : Contents P) (client : ClientId) (call : CallId) (asked : Request) → IsUp old.core.phase → get old.jobs client.number ≡ None
+      → (reply : Option Reply) × (new : Contents P) × Submits rules client call asked old reply new
+  submits rules plans old client call asked up free =
+      let so = planned_some rules plans asked in
+      (None, record old { jobs = insert old.jobs client.number (planned call asked so.0) }, record { up = up; free = free; plan = so.0; planned_so = so.1; silent = refl; new_is = refl })
 
   pub takes : (old : Contents P) (worker : WorkerId) (client : ClientId) (part : PartIndex) (job : Job P) → get old.workers worker.number ≡ None → get old.jobs client.number ≡ Some job
       → slice_get job.pieces part.index ≡ Some Waiting → (reply : Option Reply) × (new : Contents P) × Takes worker client part old reply new

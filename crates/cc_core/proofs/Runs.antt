@@ -23,6 +23,7 @@ module _ {P : Type 0} (rules : Rules P) (keeps : P → Type 0) where
   Reached-step is_right old e (Ok reply) new reached a puts hands = record {
     first = reached.first;
     started = reached.started;
+    right = reached.right;
     events = reached.events ++ e ∷ [];
     run = Run-push _ reached.events old e new reached.run (inl (reply, a.0, puts, hands));
   }

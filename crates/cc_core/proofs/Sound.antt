@@ -49,14 +49,14 @@ use Rattle.cc_core.specs.declared.contents.Phase.TheVariants.{Idle, Committing, 
 use Rattle.cc_core.specs.declared.event.Event.{Event}
 use Rattle.cc_core.specs.declared.event.Event.TheVariants as event
 use Rattle.cc_core.specs.Rules.{Rules}
-use Rattle.cc_core.specs.Job.{planned, job_of, source_in, with_piece, closed, verdict}
+use Rattle.cc_core.specs.Job.{planned, IsPlanned, source_in, with_piece, closed, verdict}
 use Rattle.cc_core.specs.StoreState.{StoreState}
 use Rattle.cc_core.specs.Store.{IsFormatted, gate_of, stepped, due_after, first_written, rewrite_of, rewrite_stepped, RewriteFailsTo, crashed_store}
 use Rattle.cc_core.specs.Step.{Step, Begins, Begun, Advances, Fails, Acknowledges, RewritesAll, RewriteAdvances, RewriteFails, phase_after, Crashes, Reopens, StepsCore, IsUp, IsFree, IsStart, jobs_begun, ticked, numbered_now, commands}
 use Rattle.cc_core.specs.Run.{EachUnit, AreRising, live, EachImageSurvives, EachImageIsRight, PutsCommand, HandsIn, Turn, Run, IsBeginning, IsOpened, IsOfCrash, PutsSource, Commits, LeavesRecord, Rewrites, LeavesCompacted, Reached}
 use Rattle.cc_core.specs.internal.Ready.{IsFitting, IsRewrite, IsRecoverable, IsReady, IsReadyIn}
 use Rattle.cc_core.proofs.Lists.{slice_get-set, slice_get-push, slice_get-last, Contains-slice_get, All-slice_get, take-push}
-use Rattle.cc_core.proofs.Whole.{IsRightCommand, IsNamed, IsLawful, verdict_right, verdict_source, verdict_taken}
+use Rattle.cc_core.proofs.Whole.{IsRightCommand, IsNamed, IsLawful, IsOfSource, verdict_right, verdict_source, verdict_taken}
 use Rattle.cc_core.proofs.Orders.{found-insert, found-remove, no_push, EachUnit-empty, EachUnit-after, library-push, AreAccepted-push, AreAccepted-before, but_last-push}
 use Rattle.cc_core.proofs.Compacted.{compacted_fits, compacted_stands}
 use Rattle.cc_core.proofs.Rewrites.{whole, length-whole, first_within, rewrite_begins, rewrite_failed_images, done_held}
@@ -225,9 +225,9 @@ pub record IsSoundCore (is_right : StoredUnit → Type 0) (s : Core) : Type 0 wh
 
 module _ {P : Type 0} (rules : Rules P) (keeps : P → Type 0) where
   -- a fresh job's pieces all wait
-  planned_named : (call : CallId) (asked : Request) (plan : Result ℕ ℕ) → ((source : List ℕ) → source_in asked ≡ Some source → rules.plan source ≡ plan) → IsNamed rules keeps (planned {P = P} call asked plan)
+  planned_named : (call : CallId) (asked : Request) (plan : Result ℕ ℕ) → ((source : List ℕ) → source_in asked ≡ Some source → rules.plan source plan) → IsNamed rules keeps (planned {P = P} call asked plan)
   planned_named call asked (Ok n) plans = record {
-    counted = λ source from none. plans source from ∙ ap Ok (sym (length-replicate n Waiting));
+    counted = λ source from none. subst (λ (m : ℕ). rules.plan source (Ok m)) (sym (length-replicate n Waiting)) (plans source from);
     named = λ source from k p is. let h : Waiting ≡ Made p = All-slice_get (λ w. Waiting ≡ w) (replicate n Waiting) k (Made p) (All-replicate (λ w. Waiting ≡ w) n Waiting refl) is in absurd (cc);
     kept = λ k p is. let h : Waiting ≡ Made p = All-slice_get (λ w. Waiting ≡ w) (replicate n Waiting) k (Made p) (All-replicate (λ w. Waiting ≡ w) n Waiting refl) is in absurd (cc);
   }
@@ -237,10 +237,10 @@ module _ {P : Type 0} (rules : Rules P) (keeps : P → Type 0) where
     kept = λ k p is. absurd (cc);
   }
 
-  job_named : (call : CallId) (asked : Request) → IsNamed rules keeps (job_of rules call asked)
-  job_named call (request.Add name source) = planned_named call (request.Add name source) (rules.plan source) (λ s from. let same : source ≡ s = cc in ap rules.plan (sym same))
-  job_named call (request.Replace name source) = planned_named call (request.Replace name source) (rules.plan source) (λ s from. let same : source ≡ s = cc in ap rules.plan (sym same))
-  job_named call (request.Withdraw name) = planned_named call (request.Withdraw name) (Ok 0) (λ s from. absurd (cc))
+  job_named : (call : CallId) (asked : Request) (plan : Result ℕ ℕ) → IsPlanned rules asked plan → IsNamed rules keeps (planned call asked plan)
+  job_named call (request.Add name source) plan so = planned_named call (request.Add name source) plan (λ s from. let same : source ≡ s = cc in subst (λ (t : List ℕ). rules.plan t plan) same so)
+  job_named call (request.Replace name source) plan so = planned_named call (request.Replace name source) plan (λ s from. let same : source ≡ s = cc in subst (λ (t : List ℕ). rules.plan t plan) same so)
+  job_named call (request.Withdraw name) plan so = planned_named call (request.Withdraw name) plan (λ s from. absurd (cc))
 
   -- another progress of a piece, which names its source and index, and keeps what its type keeps, where it is made
   with_piece_named : (job : Job P) (part : PartIndex) (progress : Progress P) → IsNamed rules keeps job
@@ -248,7 +248,7 @@ module _ {P : Type 0} (rules : Rules P) (keeps : P → Type 0) where
       → ((p : P) → progress ≡ Made p → keeps p)
       → IsNamed rules keeps (with_piece job part progress)
   with_piece_named job part progress named right kept = record {
-    counted = λ source from none. named.counted source from none ∙ ap Ok (sym (length-set job.pieces part.index progress));
+    counted = λ source from none. subst (λ (n : ℕ). rules.plan source (Ok n)) (sym (length-set job.pieces part.index progress)) (named.counted source from none);
     named = λ source from k p is. elim (slice_get-set job.pieces part.index progress k (Made p) is) [
       | inl h ↦ let both = right source p from h.1 in (both.0, both.1 ∙ sym h.0)
       | inr h ↦ named.named source from k p h
@@ -301,8 +301,8 @@ module _ {P : Type 0} (rules : Rules P) (keeps : P → Type 0) where
       quiet = λ crashed. (st.jobs, st.workers);
     }
 
-    pub opened-IsSound : (s : Contents P) → IsOpened is_right s → IsSound is_right s
-    opened-IsSound s o =
+    pub opened-IsSound : (s : Contents P) → IsOpened s → EachUnit is_right s.core.library → IsSound is_right s
+    opened-IsSound s o units =
         let image = bytes_of s.core.store.cells in
         let held : HoldsIn s.core.store.area_byte s.core.store.area o.bodies image = record {
           holds = o.holds;
@@ -319,9 +319,9 @@ module _ {P : Type 0} (rules : Rules P) (keeps : P → Type 0) where
           core = record {
             replay = o.library ∙ sym (ap (λ phase. live phase s.core.order) o.phase);
             accepted = o.accepted;
-            units = o.right;
+            units = units;
             right = λ other library now recovered.
-                subst (EachUnit is_right) (sym (base.alone library (subst (λ (l : List ℕ). Recovers l library) (o.alone other now) recovered))) o.right;
+                subst (EachUnit is_right) (sym (base.alone library (subst (λ (l : List ℕ). Recovers l library) (o.alone other now) recovered))) units;
             flying = λ client numbered due is. absurd (idle_not_committing client numbered due (sym o.phase ∙ is));
             acked = subst (All (Contains s.core.order)) (sym o.acknowledged) (λ k d within. Contains-get_or s.core.order k d within);
             rising = o.rising;
@@ -631,7 +631,7 @@ module _ {P : Type 0} (rules : Rules P) (keeps : P → Type 0) where
     -- each step keeps it
     pub step_IsSound : (old : Contents P) (e : Event P) (reply : Option Reply) (new : Contents P) → IsSound is_right old → Step rules old e reply new → PutsCommand old.core new.core → HandsIn keeps e → IsSound is_right new
     step_IsSound old (event.Submit client call asked) reply new sound step puts hands =
-        subst (IsSound is_right) (sym step.new_is) (kept_IsSound old _ _ sound (AllNamed-insert old.jobs client.number _ sound.named (job_named call asked)) (λ crashed. subst IsUp crashed step.up))
+        subst (IsSound is_right) (sym step.new_is) (kept_IsSound old _ _ sound (AllNamed-insert old.jobs client.number _ sound.named (job_named call asked step.plan step.planned_so)) (λ crashed. subst IsUp crashed step.up))
     step_IsSound old (event.Take worker client part) reply new sound step puts hands =
         subst (IsSound is_right) (sym step.new_is)
         (kept_IsSound old _ _ sound (AllNamed-insert old.jobs client.number _ sound.named
@@ -688,13 +688,13 @@ module _ {P : Type 0} (rules : Rules P) (keeps : P → Type 0) where
     run_IsSound old (e ∷ events) new sound run = run_IsSound run.0 events new (turn_IsSound old e run.0 sound run.1.0) run.1.1
 
     -- it holds at each beginning
-    pub beginning-IsSound : (s : Contents P) → IsBeginning is_right s → IsSound is_right s
-    beginning-IsSound s (inl start) = start-IsSound start.0 s start.1
-    beginning-IsSound s (inr opened) = opened-IsSound s opened
+    pub beginning-IsSound : (s : Contents P) → IsBeginning s → EachUnit is_right s.core.library → IsSound is_right s
+    beginning-IsSound s (inl start) units = start-IsSound start.0 s start.1
+    beginning-IsSound s (inr opened) units = opened-IsSound s opened units
 
     -- so it holds of whatever is reached
     pub reached_IsSound : (s : Contents P) → Reached rules keeps is_right s → IsSound is_right s
-    reached_IsSound s reached = run_IsSound reached.first reached.events s (beginning-IsSound reached.first reached.started) reached.run
+    reached_IsSound s reached = run_IsSound reached.first reached.events s (beginning-IsSound reached.first reached.started reached.right) reached.run
 
     -- ---- what follows
 
@@ -764,12 +764,12 @@ module _ {P : Type 0} (rules : Rules P) (keeps : P → Type 0) where
     begun_source s client (Ok c) new begun = (c, refl, ap (λ (n : Core). n.order) begun.1)
     begun_source s client (Err refused) new begun = absurd (cc (begun.0))
 
-    pub puts_source : (client : ClientId) (s new : Contents P) → IsSound is_right s → PutsSource rules client s new
-    puts_source client s new sound step =
+    pub puts_source : IsOfSource rules keeps → (client : ClientId) (s new : Contents P) → IsSound is_right s → PutsSource rules client s new
+    puts_source of client s new sound step =
         let core = s.core in
         let v = verdict rules core.phase core.library core.store step.job in
         let b = begun_source core client v new.core step.begun in
-        (step.job, numbered_now core b.0, step.held, b.2, verdict_source rules keeps is_right law core.phase core.library core.store step.job b.0 (sound.named client.number step.job step.held) step.ready b.1)
+        (step.job, numbered_now core b.0, step.held, b.2, verdict_source rules keeps of core.phase core.library core.store step.job b.0 (sound.named client.number step.job step.held) step.ready b.1)
 
     -- the four device steps of a commit leave its record
     pub commits_leave : (client : ClientId) (numbered : Numbered) (s new : Core) → IsSoundCore is_right s → Commits client numbered s new → LeavesRecord numbered s new

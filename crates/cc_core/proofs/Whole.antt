@@ -87,13 +87,26 @@ accepted-taken phase library store (Err number) c is = absurd (cc)
 module _ {P : Type 0} (rules : Rules P) (keeps : P → Type 0) where
   -- a job's pieces are planned for its source, and each that was made names that source and its own index, and keeps what its type keeps
   pub record IsNamed (job : Job P) : Type 0 where
-    pub counted : (source : List ℕ) → source_in job.request ≡ Some source → job.refusal ≡ None → rules.plan source ≡ Ok (length job.pieces)
+    pub counted : (source : List ℕ) → source_in job.request ≡ Some source → job.refusal ≡ None → rules.plan source (Ok (length job.pieces))
     pub named : (source : List ℕ) → source_in job.request ≡ Some source → (k : ℕ) (p : P) → slice_get job.pieces k ≡ Some (Made p) → (rules.source_of p ≡ source) × (rules.part_of p ≡ k)
     pub kept : (k : ℕ) (p : P) → slice_get job.pieces k ≡ Some (Made p) → keeps p
 
-  -- the law that each build proves
+  -- what all pieces of a source give has this, for the source and the unit
+  abbrev pub Gives : (List ℕ → StoredUnit → Type 0) → Type 0
+  Gives has = (source : List ℕ) (pieces : List P) (unit : StoredUnit) → AreWhole rules source pieces → All keeps pieces → rules.unit source pieces ≡ Ok unit → has source unit
+
+  -- it is a right unit, and it is of the source: the law that each build proves has both
   abbrev pub IsLawful : (StoredUnit → Type 0) → Type 0
-  IsLawful is_right = (source : List ℕ) (pieces : List P) (unit : StoredUnit) → AreWhole rules source pieces → All keeps pieces → rules.unit source pieces ≡ Ok unit → (unit.source ≡ source) × is_right unit
+  IsLawful is_right = Gives (λ source unit. is_right unit)
+
+  abbrev pub IsOfSource : Type 0
+  IsOfSource = Gives (λ source unit. unit.source ≡ source)
+
+  pub lawful : (is_right : StoredUnit → Type 0) → Gives (λ source unit. (unit.source ≡ source) × is_right unit) → IsLawful is_right
+  lawful is_right law source pieces unit whole kept is = (law source pieces unit whole kept is).1
+
+  pub of_source : (is_right : StoredUnit → Type 0) → Gives (λ source unit. (unit.source ≡ source) × is_right unit) → IsOfSource
+  of_source is_right law source pieces unit whole kept is = (law source pieces unit whole kept is).0
 
   -- where all are there and none was refused, the pieces that were made are all of them, each at its index
   all_made : (ps : List (Progress P)) → IsTrue (all_there ps) → first_refused ps ≡ None
@@ -111,15 +124,15 @@ module _ {P : Type 0} (rules : Rules P) (keeps : P → Type 0) where
       made_at q ps rest zero p is = let same : q ≡ p = cc in ap (λ x. Some (Made x)) same
       made_at q ps rest (suc k) p is = rest k p is
 
-  -- a unit that a job's pieces give is right
-  built_right : (is_right : StoredUnit → Type 0) → IsLawful is_right → (job : Job P) (source : List ℕ) (unit : StoredUnit)
-      → IsNamed job → source_in job.request ≡ Some source → IsTrue (all_there job.pieces) → built rules job source ≡ Ok unit → (unit.source ≡ source) × is_right unit
-  built_right is_right law job source unit named from there is =
+  -- so a unit that a job's pieces give has it
+  built_has : (has : List ℕ → StoredUnit → Type 0) → Gives has → (job : Job P) (source : List ℕ) (unit : StoredUnit)
+      → IsNamed job → source_in job.request ≡ Some source → IsTrue (all_there job.pieces) → built rules job source ≡ Ok unit → has source unit
+  built_has has law job source unit named from there is =
       let first = unless-Ok job.refusal _ unit is in
       let second = unless-Ok (first_refused job.pieces) _ unit first.1 in
       let made = all_made job.pieces there second.0 in
       let whole : AreWhole rules source (made_pieces job.pieces) = record {
-        counted = named.counted source from first.0 ∙ ap Ok (sym made.0);
+        counted = subst (λ (n : ℕ). rules.plan source (Ok n)) (sym made.0) (named.counted source from first.0);
         named = λ k p at. named.named source from k p (made.1 k p at);
       } in
       let each : All keeps (made_pieces job.pieces) = All-each keeps (made_pieces job.pieces) (λ k p at. named.kept k p (made.1 k p at)) in
@@ -133,9 +146,9 @@ module _ {P : Type 0} (rules : Rules P) (keeps : P → Type 0) where
   command_right : (is_right : StoredUnit → Type 0) → IsLawful is_right → (job : Job P) (asked : Request) (c : Command)
       → job.request ≡ asked → IsNamed job → IsTrue (all_there job.pieces) → command_of rules job asked ≡ Ok c → IsRightCommand is_right c
   command_right is_right law job (request.Add name source) c asks named there is =
-      with_unit_right is_right (command.Add name) (λ u h. h) (built rules job source) c (λ u made. (built_right is_right law job source u named (ap source_in asks) there made).1) is
+      with_unit_right is_right (command.Add name) (λ u h. h) (built rules job source) c (λ u made. built_has (λ s v. is_right v) law job source u named (ap source_in asks) there made) is
   command_right is_right law job (request.Replace name source) c asks named there is =
-      with_unit_right is_right (command.Replace name) (λ u h. h) (built rules job source) c (λ u made. (built_right is_right law job source u named (ap source_in asks) there made).1) is
+      with_unit_right is_right (command.Replace name) (λ u h. h) (built rules job source) c (λ u made. built_has (λ s v. is_right v) law job source u named (ap source_in asks) there made) is
   command_right is_right law job (request.Withdraw name) c asks named there is =
       let same : command.Withdraw name ≡ c = cc in subst (IsRightCommand is_right) same tt
 
@@ -156,15 +169,15 @@ module _ {P : Type 0} (rules : Rules P) (keeps : P → Type 0) where
   with_unit_source make source makes (Ok u) c right is = let same : make u ≡ c = cc in ap command_source (sym same) ∙ makes u ∙ ap Some (right u refl)
   with_unit_source make source makes (Err number) c right is = absurd (cc)
 
-  command_has_source : (is_right : StoredUnit → Type 0) → IsLawful is_right → (job : Job P) (asked : Request) (c : Command)
+  command_has_source : IsOfSource → (job : Job P) (asked : Request) (c : Command)
       → job.request ≡ asked → IsNamed job → IsTrue (all_there job.pieces) → command_of rules job asked ≡ Ok c → command_source c ≡ source_in asked
-  command_has_source is_right law job (request.Add name source) c asks named there is =
-      with_unit_source (command.Add name) source (λ u. refl) (built rules job source) c (λ u made. (built_right is_right law job source u named (ap source_in asks) there made).0) is
-  command_has_source is_right law job (request.Replace name source) c asks named there is =
-      with_unit_source (command.Replace name) source (λ u. refl) (built rules job source) c (λ u made. (built_right is_right law job source u named (ap source_in asks) there made).0) is
-  command_has_source is_right law job (request.Withdraw name) c asks named there is = let same : command.Withdraw name ≡ c = cc in ap command_source (sym same)
+  command_has_source law job (request.Add name source) c asks named there is =
+      with_unit_source (command.Add name) source (λ u. refl) (built rules job source) c (λ u made. built_has (λ s v. v.source ≡ s) law job source u named (ap source_in asks) there made) is
+  command_has_source law job (request.Replace name source) c asks named there is =
+      with_unit_source (command.Replace name) source (λ u. refl) (built rules job source) c (λ u made. built_has (λ s v. v.source ≡ s) law job source u named (ap source_in asks) there made) is
+  command_has_source law job (request.Withdraw name) c asks named there is = let same : command.Withdraw name ≡ c = cc in ap command_source (sym same)
 
-  pub verdict_source : (is_right : StoredUnit → Type 0) → IsLawful is_right → (phase : Phase) (library : Units) (store : StoreState) (job : Job P) (c : Command)
+  pub verdict_source : IsOfSource → (phase : Phase) (library : Units) (store : StoreState) (job : Job P) (c : Command)
       → IsNamed job → IsTrue (all_there job.pieces) → verdict rules phase library store job ≡ Ok c → command_source c ≡ source_in job.request
-  verdict_source is_right law phase library store job c named there is =
-      command_has_source is_right law job job.request c refl named there (verdict_taken phase library store job c is).same
+  verdict_source law phase library store job c named there is =
+      command_has_source law job job.request c refl named there (verdict_taken phase library store job c is).same

@@ -30,3 +30,8 @@ refusal_number refusal.Closed = 36
 abbrev pub RefusesAs : {A : Type 0} → BuildFault → Result A ℕ → Type 0
 RefusesAs (build.Refused number) rule = rule ≡ Err number
 RefusesAs build.OutOfMemory rule = Unit {0}
+
+-- so too for the rule that says how many pieces a source has
+abbrev pub RefusesPlan : BuildFault → (Result ℕ ℕ → Type 0) → Type 0
+RefusesPlan (build.Refused number) answers = answers (Err number)
+RefusesPlan build.OutOfMemory answers = Unit {0}

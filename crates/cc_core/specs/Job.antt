@@ -1,5 +1,5 @@
 -- A client's job: how it begins, and what comes of it.
-use Rattle.std.specs.Prelude.{ℕ, Bool, true, false, List, [], ◌∷◌, slice_set, replicate, Option, Some, None, Result, Ok, Err, nat_le, if◌then◌else◌}
+use Rattle.std.specs.Prelude.{ℕ, ◌≡◌, Bool, true, false, List, [], ◌∷◌, slice_set, replicate, Option, Some, None, Result, Ok, Err, nat_le, if◌then◌else◌}
 use Rattle.std.specs.List.{list_all}
 use Rattle.std.specs.FinMap.{contains_key}
 use Rattle.cc_unit.specs.declared.unit.StoredUnit.{StoredUnit}
@@ -76,11 +76,11 @@ module _ {P : Type 0} where
   planned call asked (Ok pieces) = record { call = call; request = asked; refusal = None; pieces = replicate pieces Waiting }
   planned call asked (Err number) = record { call = call; request = asked; refusal = Some number; pieces = [] }
 
-  -- the job that a request begins; a withdrawal has no pieces
-  abbrev pub job_of : Rules P → CallId → Request → Job P
-  job_of rules call (request.Add name source) = planned call (request.Add name source) (rules.plan source)
-  job_of rules call (request.Replace name source) = planned call (request.Replace name source) (rules.plan source)
-  job_of rules call (request.Withdraw name) = planned call (request.Withdraw name) (Ok 0)
+  -- how many pieces a request has, or the number that refuses it: as its source's plan says; a withdrawal has no pieces
+  abbrev pub IsPlanned : Rules P → Request → Result ℕ ℕ → Type 0
+  IsPlanned rules (request.Add name source) plan = rules.plan source plan
+  IsPlanned rules (request.Replace name source) plan = rules.plan source plan
+  IsPlanned rules (request.Withdraw name) plan = plan ≡ Ok 0
 
   -- the job with another progress of one piece
   abbrev pub with_piece : Job P → PartIndex → Progress P → Job P

@@ -13,6 +13,8 @@ pub mod Job
 pub mod Step
 -- whole runs, and what holds after any of them
 pub mod Run
+-- how a run can go on
+pub mod Turns
 -- a worked commit and a worked rewrite, computed
 pub mod rows
 -- what serves proofs and private contracts

@@ -1,11 +1,13 @@
--- What a build does, apart from any code: its rules, and when pieces are all of a source's.
-use Rattle.std.specs.Prelude.{ℕ, ◌≡◌, List, length, slice_get, Some, Result, Ok}
+-- What a build does, apart from any code: its rules, when pieces are all of a source's, and when pieces give a unit.
+use Rattle.std.specs.Prelude.{ℕ, ◌≡◌, List, length, slice_get, Some, Result, Ok, All}
 use Rattle.cc_unit.specs.declared.unit.StoredUnit.{StoredUnit}
+use Rattle.cc_library.specs.declared.command.Command.{Command}
+use Rattle.cc_library.specs.declared.command.Command.TheVariants as command
 
 -- the rules of a build whose pieces are of the type P
-pub record Rules (P : Type 0) : Type 0 where
-  -- how many pieces a source has, or the number that refuses it
-  pub plan : List ℕ → Result ℕ ℕ
+pub record Rules (P : Type 0) : Type 1 where
+  -- a source has so many pieces, or is refused with this number; a build answers so for each source
+  pub plan : List ℕ → Result ℕ ℕ → Type 0
   -- the source that a piece names
   pub source_of : P → List ℕ
   -- which piece of its source a piece names, from 0
@@ -15,5 +17,18 @@ pub record Rules (P : Type 0) : Type 0 where
 
 -- the pieces are all that the source has, each at its index
 pub record AreWhole {P : Type 0} (rules : Rules P) (source : List ℕ) (pieces : List P) : Type 0 where
-  pub counted : rules.plan source ≡ Ok (length pieces)
+  pub counted : rules.plan source (Ok (length pieces))
   pub named : (k : ℕ) (piece : P) → slice_get pieces k ≡ Some piece → (rules.source_of piece ≡ source) × (rules.part_of piece ≡ k)
+
+-- pieces give this unit: all of its source's, each with what its type keeps
+pub record IsBuilt {P : Type 0} (rules : Rules P) (keeps : P → Type 0) (unit : StoredUnit) : Type 0 where
+  pub pieces : List P
+  pub whole : AreWhole rules unit.source pieces
+  pub kept : All keeps pieces
+  pub unit_is : rules.unit unit.source pieces ≡ Ok unit
+
+-- pieces give the unit of a command, where it has one
+abbrev pub HasBuilt : {P : Type 0} → Rules P → (P → Type 0) → Command → Type 0
+HasBuilt rules keeps (command.Add name unit) = IsBuilt rules keeps unit
+HasBuilt rules keeps (command.Replace name unit) = IsBuilt rules keeps unit
+HasBuilt rules keeps (command.Withdraw name) = Unit {0}

@@ -138,12 +138,11 @@ module _ {P : Type 0} where
   Run rules keeps old (event ∷ later) new = (mid : Contents P) × (Turn rules keeps old event mid × Run rules keeps mid later new)
 
   -- A disk of any size was opened, in either area: all is settled, and the records of its area stand for the live map, which is
-  -- the library of an order that some commands before made. All of these are acknowledged. That each unit of this base is right is a premise.
-  pub record IsOpened (is_right : StoredUnit → Type 0) (new : Contents P) : Type 0 where
+  -- the library of an order that some commands before made. All of these are acknowledged. Nothing is asked of the units that were found.
+  pub record IsOpened (new : Contents P) : Type 0 where
     pub phase : new.core.phase ≡ Idle
     pub library : new.core.library ≡ library_of (commands new.core.order)
     pub accepted : AreAccepted empty (commands new.core.order)
-    pub right : EachUnit is_right new.core.library
     pub rising : AreRising new.core.order
     pub below : (k : ℕ) (a : Numbered) → slice_get new.core.order k ≡ Some a → a.number.value < new.core.upcoming.value
     pub acknowledged : new.core.acknowledged ≡ new.core.order
@@ -157,8 +156,12 @@ module _ {P : Type 0} where
     pub used : new.core.store.used ≡ length (records bodies)
 
   -- a fresh disk or an opened one
-  abbrev pub IsBeginning : (StoredUnit → Type 0) → Contents P → Type 0
-  IsBeginning is_right new = ((area : ℕ) × IsStart area new) ⊎ IsOpened is_right new
+  abbrev pub IsBeginning : Contents P → Type 0
+  IsBeginning new = ((area : ℕ) × IsStart area new) ⊎ IsOpened new
+
+  -- any piece at all: where it stands for what pieces keep, workers may hand in what they like
+  abbrev pub IsAnyPiece : P → Type 0
+  IsAnyPiece piece = Unit {0}
 
   -- from a crash to the recovery these alone may happen
   abbrev pub IsOfCrash : Event P → Type 0
@@ -170,9 +173,10 @@ module _ {P : Type 0} where
       Begins rules client old None new → (job : Job P) × (numbered : Numbered) × (get old.jobs client.number ≡ Some job)
       × (new.core.order ≡ old.core.order ++ numbered ∷ []) × (command_source numbered.command ≡ source_in job.request)
 
-  -- some events lead to these contents from a beginning
+  -- some events lead to these contents from a beginning whose units are right
   pub record Reached (rules : Rules P) (keeps : P → Type 0) (is_right : StoredUnit → Type 0) (new : Contents P) : Type 0 where
     pub first : Contents P
-    pub started : IsBeginning is_right first
+    pub started : IsBeginning first
+    pub right : EachUnit is_right first.core.library
     pub events : List (Event P)
     pub run : Run rules keeps first events new

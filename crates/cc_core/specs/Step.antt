@@ -33,7 +33,7 @@ use Rattle.cc_core.specs.declared.contents.Phase.TheVariants.{Idle, Committing, 
 use Rattle.cc_core.specs.declared.event.Event.{Event}
 use Rattle.cc_core.specs.declared.event.Event.TheVariants as event
 use Rattle.cc_core.specs.Rules.{Rules}
-use Rattle.cc_core.specs.Job.{job_of, source_in, with_piece, all_there, verdict}
+use Rattle.cc_core.specs.Job.{planned, IsPlanned, source_in, with_piece, all_there, verdict}
 use Rattle.cc_core.specs.StoreState.{StoreState}
 use Rattle.cc_core.specs.Store.{IsFormatted, stepped, due_after, FailsTo, first_written, rewrite_of, rewrite_stepped, RewriteFailsTo, crashed_store}
 
@@ -190,8 +190,10 @@ module _ {P : Type 0} where
   pub record Submits (rules : Rules P) (client : ClientId) (call : CallId) (request : Request) (old : Contents P) (reply : Option Reply) (new : Contents P) : Type 0 where
     pub up : IsUp old.core.phase
     pub free : get old.jobs client.number ≡ None
+    pub plan : Result ℕ ℕ
+    pub planned_so : IsPlanned rules request plan
     pub silent : reply ≡ None
-    pub new_is : new ≡ record old { jobs = insert old.jobs client.number (job_of rules call request) }
+    pub new_is : new ≡ record old { jobs = insert old.jobs client.number (planned call request plan) }
 
   -- an idle worker takes a waiting piece of a client's job
   pub record Takes (worker : WorkerId) (client : ClientId) (part : PartIndex) (old : Contents P) (reply : Option Reply) (new : Contents P) : Type 0 where

@@ -2,7 +2,7 @@ ghost use Rattle.std.specs.Prelude.{◌≡◌, ◌↔◌, ℕ, List, Result, Ok,
 ghost use Rattle.std.specs.Arc.{arc_value};
 ghost use Rattle.cc_unit.specs.declared.unit.StoredUnit.{StoredUnit};
 ghost use Rattle.cc_core.specs.Rules.{Rules, AreWhole};
-ghost use Rattle.cc_core.specs.Fault.{RefusesAs};
+ghost use Rattle.cc_core.specs.Fault.{RefusesAs, RefusesPlan};
 
 use crate::fault::BuildFault;
 use cc_unit::StoredUnit;
@@ -25,8 +25,8 @@ pub trait Build: Drop {
 
     /// How many pieces a source has, any bytes; or the number that refuses it.
     fn plan(&self, alloc: Global, source: &[u8]) -> Result<u32, BuildFault>
-        ensures answer { IfOk result (λ pieces. rules.plan source.now ≡ Ok pieces) }
-        ensures refused { IfErr result (λ fault. RefusesAs fault (rules.plan source.now)) };
+        ensures answer { IfOk result (λ pieces. rules.plan source.now (Ok pieces)) }
+        ensures refused { IfErr result (λ fault. RefusesPlan fault (rules.plan source.now)) };
 
     /// Whether a piece names this source and this part of it. It takes no memory.
     fn names(&self, piece: &Self::Piece, source: &[u8], part: u32) -> bool
@@ -44,6 +44,9 @@ pub trait Build: Drop {
             (λ unit. rules.unit source.now (map (λ piece. piece.now) pieces.now) ≡ Ok (arc_value unit)) }
         ensures refused { IfErr result
             (λ fault. RefusesAs fault (rules.unit source.now (map (λ piece. piece.now) pieces.now))) };
+
+    // Each source has some number of pieces, or one that refuses it.
+    ghost planned: { (source : List ℕ) → (plan : Result ℕ ℕ) × rules.plan source plan };
 
     // The unit that all pieces of a source give, each with what it keeps, is of that source, and right for it.
     ghost law: { (source : List ℕ) (pieces : List Self.Piece) (unit : StoredUnit)

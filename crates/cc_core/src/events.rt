@@ -5,8 +5,8 @@ ghost use Rattle.cc_core.specs.declared.contents.Contents.{Contents};
 ghost use Rattle.cc_core.specs.declared.contents.Due.TheVariants as due;
 ghost use Rattle.cc_core.specs.declared.contents.Phase.TheVariants.{Committing};
 ghost use Rattle.cc_core.specs.declared.job.Job.{Job};
-ghost use Rattle.cc_core.specs.Fault.{RefusesAs};
-ghost use Rattle.cc_core.specs.Job.{job_of, planned, source_in, verdict, built, command_of, command_refusal, map_refusal, with_piece};
+ghost use Rattle.cc_core.specs.Fault.{RefusesAs, RefusesPlan};
+ghost use Rattle.cc_core.specs.Job.{IsPlanned, planned, source_in, verdict, built, command_of, command_refusal, map_refusal, with_piece};
 ghost use Rattle.cc_core.specs.internal.Answers.{Answers};
 ghost use Rattle.cc_library.specs.Body.{IsCommand};
 ghost use Rattle.cc_core.specs.internal.Ready.{IsReady};
@@ -32,22 +32,29 @@ use std::alloc::{AllocError, Global};
 /// What an event answers: a reply or none; 29 where it is not possible, 40 where memory was refused.
 pub(crate) type Answer = Result<Option<Reply>, CoreFault>;
 
-// The job of a request whose source has this plan.
+// How many pieces a request has, or the number that refuses it.
+fn plan_of<B: Build>(build: &B, alloc: Global, request: &Request) -> Result<u32, BuildFault>
+    ensures answer { IfOk result (λ pieces. IsPlanned B.rules request.now (Ok pieces)) }
+    ensures refused { IfErr result (λ fault. RefusesPlan fault (IsPlanned B.rules request.now)) }
+{
+    match request {
+        Request::Add(_, source) | Request::Replace(_, source) => {
+            build.plan(alloc, source.as_slice())
+        }
+        Request::Withdraw(_) => Ok(0),
+    }
+}
+
+// The job of a request, as it is planned.
 fn plan_job<B: Build>(
     build: &B,
     alloc: Global,
     call: CallId,
     request: Request,
 ) -> Result<Job<B::Piece>, AllocError>
-    ensures { IfOk result (λ job. job ≡ job_of B.rules call request) }
+    ensures { IfOk result (λ job. (plan : Result ℕ ℕ) × IsPlanned B.rules request plan × (job ≡ planned call request plan)) }
 {
-    let planned = match &request {
-        Request::Add(_, source) | Request::Replace(_, source) => {
-            build.plan(alloc, source.as_slice())
-        }
-        Request::Withdraw(_) => Ok(0),
-    };
-    let (refusal, count) = match planned {
+    let (refusal, count) = match plan_of(build, alloc, &request) {
         Ok(count) => (None, count),
         Err(BuildFault::Refused(number)) => (Some(number), 0),
         Err(BuildFault::OutOfMemory) => {

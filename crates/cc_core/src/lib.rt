@@ -4,8 +4,8 @@
 //! A device step may fail, the disk may crash at any event, and the library is opened again.
 //! `command`: what is asked and kept. `build`: what makes units. `job`, `table`, `store`, `contents`: what a state holds.
 //! `event`, `events`, `device`, `rewriting`, `recovery`: what may happen, and the step of each. `opening`: a disk as a beginning.
-//! `state`: the machine and its runs.
-//! It hands out `State`, `run_events`, `Event`, `Build`, and the types of requests, sequence numbers, replies and refusals.
+//! `state`: the machine and its runs. `laws`: what holds of every run, and how a run can go on.
+//! It hands out `State`, `run_events`, the laws, `Event`, `Build`, and the types of requests, sequence numbers, replies and refusals.
 #![tactic(auto)]
 
 pub mod build;
@@ -17,6 +17,7 @@ mod events;
 pub mod fault;
 pub mod ids;
 mod job;
+pub mod laws;
 mod opening;
 mod recovery;
 mod rewriting;

@@ -11,10 +11,9 @@ ghost use Rattle.cc_core.specs.declared.event.Event.{Event};
 ghost use Rattle.cc_core.specs.declared.command.Numbered.{Numbered};
 ghost use Rattle.cc_core.specs.declared.command.Reply.{Reply};
 ghost use Rattle.cc_core.specs.declared.contents.Core.{Core};
-ghost use Rattle.cc_core.specs.declared.contents.Phase.TheVariants.{Idle, Crashed};
-ghost use Rattle.cc_core.specs.declared.ids.ClientId.{ClientId};
-ghost use Rattle.cc_core.specs.Step.{Step, IsImpossible, IsStart, RewritesAll, Reopens, StepsCore, commands};
-ghost use Rattle.cc_core.specs.Run.{Turn, Run, EachUnit, IsRightOr, EachImageSurvives, EachImageIsRight, PutsCommand, HandsIn, AreRising, IsOpened, IsOrderOf, IsBeginning, IsOfCrash, PutsSource, Commits, LeavesRecord, Rewrites, LeavesCompacted, live};
+ghost use Rattle.cc_core.specs.declared.contents.Phase.TheVariants.{Idle};
+ghost use Rattle.cc_core.specs.Step.{Step, IsImpossible, IsStart, commands};
+ghost use Rattle.cc_core.specs.Run.{Turn, Run, EachUnit, EachImageSurvives, EachImageIsRight, PutsCommand, HandsIn, AreRising, IsOpened, IsOrderOf, IsBeginning, live};
 
 use crate::build::Build;
 use crate::command::{Numbered, Reply};
@@ -91,7 +90,7 @@ impl<B: Build> State<B> {
         disk: MemoryDisk,
     ) -> Result<State<B>, (LibraryFault, MemoryDisk)>
         requires right { (units : Units) → Recovers (bytes_of disk.cells) units → EachUnit B.is_right units }
-        ensures answer { IfOk result (λ state. IsOpened B.is_right state) }
+        ensures answer { IfOk result (λ state. IsOpened state) }
         ensures recovered { IfOk result (λ state. Recovers (bytes_of disk.cells) state.core.library) }
         ensures order { IfOk result (λ state. (area : ℕ) (bodies : List (List ℕ)) → HoldsRecords (bytes_of disk.cells) area bodies
             → IsOrderOf bodies state.core.order state.core.upcoming) }
@@ -127,7 +126,8 @@ impl<B: Build> State<B> {
 
     // A state in which nothing has happened yet, over this core.
     fn idle(alloc: Global, build: B, core: Core) -> State<B>
-        requires { IsBeginning {P = B.Piece} B.is_right (record { core = core; jobs = empty; workers = empty }) }
+        requires begins { IsBeginning {P = B.Piece} (record { core = core; jobs = empty; workers = empty }) }
+        requires right { EachUnit B.is_right core.library }
         ensures { result ≡ record { core = core; jobs = empty; workers = empty } }
     {
         State {
@@ -229,40 +229,3 @@ pub fn run_events<B: Build>(
     let _ = state.acked();
     Ok(state)
 }
-
-/// Whatever the events, from a fresh disk or an opened one: whatever a crash leaves of the disk survives so, its units are right,
-/// and the live map is what the order gives. In a crashed state the recovery is possible, and nothing else but another crash; a
-/// command that begins has the source that was handed in; and a commit leaves exactly the bytes of its record. Between two commits
-/// a rewrite is always possible, since it never takes more room than the records do, and it leaves one Add per name.
-pub fn crash_law<B: Build>()
-    ensures survives { (first new : Contents B.Piece) (events : List (Event B.Piece))
-        → IsBeginning B.is_right first → Run B.rules B.keeps first events new → EachImageSurvives new.core }
-    ensures right { (first new : Contents B.Piece) (events : List (Event B.Piece))
-        → IsBeginning B.is_right first → Run B.rules B.keeps first events new → EachImageIsRight B.is_right new.core }
-    ensures replay { (first new : Contents B.Piece) (events : List (Event B.Piece))
-        → IsBeginning B.is_right first → Run B.rules B.keeps first events new → new.core.library ≡ live new.core.phase new.core.order }
-    ensures recovers { (first new : Contents B.Piece) (events : List (Event B.Piece))
-        → IsBeginning B.is_right first → Run B.rules B.keeps first events new → new.core.phase ≡ Crashed
-        → (reply : Option Reply) × (after : Contents B.Piece) × StepsCore Reopens new reply after }
-    ensures quiet { (first new after : Contents B.Piece) (events : List (Event B.Piece)) (event : Event B.Piece) (reply : Option Reply)
-        → IsBeginning B.is_right first → Run B.rules B.keeps first events new → new.core.phase ≡ Crashed
-        → Step B.rules new event reply after → IsOfCrash event }
-    ensures source { (first new after : Contents B.Piece) (events : List (Event B.Piece)) (client : ClientId)
-        → IsBeginning B.is_right first → Run B.rules B.keeps first events new → PutsSource B.rules client new after }
-    ensures leaves_record { (first new : Contents B.Piece) (events : List (Event B.Piece)) (client : ClientId) (numbered : Numbered) (after : Core)
-        → IsBeginning B.is_right first → Run B.rules B.keeps first events new → Commits client numbered new.core after → LeavesRecord numbered new.core after }
-    ensures rewrites { (first new : Contents B.Piece) (events : List (Event B.Piece))
-        → IsBeginning B.is_right first → Run B.rules B.keeps first events new → new.core.phase ≡ Idle
-        → (reply : Option Reply) × (after : Contents B.Piece) × StepsCore RewritesAll new reply after }
-    ensures leaves_compacted { (first new : Contents B.Piece) (events : List (Event B.Piece)) (after : Core)
-        → IsBeginning B.is_right first → Run B.rules B.keeps first events new → Rewrites new.core after → LeavesCompacted new.core after }
-{}
-
-/// The crash law of any disk: in place of the units of a beginning being right, each is one of this base, or right. So nothing has to be known
-/// of the units that were found at an opening.
-pub fn crash_law_over<B: Build>()
-    ensures survives { (base : Units) (first new : Contents B.Piece) (events : List (Event B.Piece))
-        → IsBeginning (IsRightOr B.is_right base) first → Run B.rules B.keeps first events new → EachImageSurvives new.core }
-    ensures units { (base : Units) (first new : Contents B.Piece) (events : List (Event B.Piece))
-        → IsBeginning (IsRightOr B.is_right base) first → Run B.rules B.keeps first events new → EachImageIsRight (IsRightOr B.is_right base) new.core }
-{}

@@ -9,8 +9,8 @@ use Rattle.cc_linear.specs.Linear.{labels, IsItem, IsLinear}
 use Rattle.cc_linear.specs.Pair as above
 use Rattle.cc_emit.specs.declared.item.Item.{Item}
 use Rattle.cc_emit.specs.Objects.{object_address}
-use Rattle.cc_emit.specs.Emission.{function_items}
-use Rattle.cc_emit.specs.Piece.{IsPieceOfUnit, pair_items}
+use Rattle.cc_emit.specs.Emission.{pair_items, function_items}
+use Rattle.cc_emit.specs.Piece.{IsPieceOfUnit}
 use Rattle.cc_emit.specs.internal.Bases.{base_in}
 
 pub fit_handed : (p : above.Pair) (n slots : ℕ) (code : List linear.Item) → slots ≡ p.slots → code ≡ p.code → IsLinear p.slots n p.code → (functions : ℕ) × AllByRecursion (IsItem slots functions (labels code)) code

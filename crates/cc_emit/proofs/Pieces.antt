@@ -16,8 +16,8 @@ use Rattle.cc_emit.specs.Contract.{IsPiece}
 use Rattle.cc_emit.specs.Objects.{object_address}
 use Rattle.cc_emit.specs.Frames.{frame_of}
 use Rattle.cc_emit.specs.Steps.{steps}
-use Rattle.cc_emit.specs.Emission.{framed_items}
-use Rattle.cc_emit.specs.Piece.{AreOf, IsPieceOfUnit, pair_items}
+use Rattle.cc_emit.specs.Emission.{pair_items, framed_items}
+use Rattle.cc_emit.specs.Piece.{AreOf, IsPieceOfUnit}
 use Rattle.cc_emit.proofs.Choosing.{is_frame, are_fine}
 use Rattle.cc_emit.proofs.Stepping.{steps_fine, steps_stand}
 use Rattle.cc_emit.proofs.Encoding.{framed_fit}

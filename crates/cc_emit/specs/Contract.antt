@@ -57,18 +57,25 @@ abbrev pub Passes : List ℕ → ℕ → State → Type 0
 Passes [] r s = Unit {0}
 Passes (w ∷ ws) r s = (s.registers r ≡ w) × Passes ws (suc r) s
 
--- x8, x9, x18 to x27
+-- a register that a called function leaves as it was: x8, x9, x18 to x27
 abbrev pub IsKept : ℕ → Type 0
 IsKept r = ((8 ≤ r) × (r ≤ 9)) ⊎ ((18 ≤ r) × (r ≤ 27))
 
--- the machine at a function's first word, called where d calls are open
-pub record Enters (meaning : Meaning) (layout : Layout meaning.objects) (f d place : ℕ) (ws : List ℕ) (h : World) (s : State) : Type 0 where
+-- the most bytes of a function's frame, and the most calls that are open at once: so the stack has room for a frame of each
+abbrev pub largest_frame : ℕ
+largest_frame = 2032
+
+abbrev pub most_open : ℕ
+most_open = 1024
+
+-- the machine at a function's first word, called where `opened` calls are open
+pub record Enters (meaning : Meaning) (layout : Layout meaning.objects) (f opened place : ℕ) (ws : List ℕ) (h : World) (s : State) : Type 0 where
   pub is_call : IsCall meaning f ws h
   pub at : s.pc ≡ place
   pub sound : IsSound s
   pub back : s.registers 1 % 4 ≡ 0
   pub aligned : s.registers 2 % 4 ≡ 0
-  pub room : stack_from + 2032 * (1024 - d) ≤ s.registers 2
+  pub room : stack_from + largest_frame * (most_open - opened) ≤ s.registers 2
   pub top : s.registers 2 ≤ stack_to
   pub passes : Passes ws 10 s
   pub shares : Shares layout s h
@@ -83,29 +90,34 @@ pub record ComesBack {objects : List ℕ} (layout : Layout objects) (s : State) 
   pub kept : (r : ℕ) → IsKept r → t.registers r ≡ s.registers r
   pub above : (a : ℕ) → s.registers 2 ≤ a → t.memory a ≡ s.memory a
 
--- The machine from s does what the source does within n steps. Each c steps take an instruction at least; `spare` steps are paid elsewhere.
+-- The machine from s does what the source does within n steps, of which `left` are left where it gives an answer. Of the steps taken each c
+-- are paid by one of the m instructions, but for `spare` steps, which are paid elsewhere. So at a greater n more instructions are executed, and
+-- a run that never ends is matched by one that never does.
 abbrev pub Meets : {objects : List ℕ} (layout : Layout objects) → Code → (c spare n : ℕ) → State → Effect → Type 0
 Meets layout code c spare n s (Gives a left) = (m : ℕ) × (t : State) × Path code m s t × ComesBack layout s a t × (n ≤ left + spare + c * m)
 Meets layout code c spare n s (Unfinished o) = (m : ℕ) × (t : State) × Path code m s t × (t.output ≡ o) × (n ≤ spare + c * m)
 Meets layout code c spare n s (Failed o) = Unit {0}
 
--- each call from d open calls does what the source's does; the jump to it pays c steps
-abbrev pub CallsMeet : (meaning : Meaning) → Layout meaning.objects → Code → (ℕ → ℕ) → (c d : ℕ) → Type 0
-CallsMeet meaning layout code places c d =
-    (g : ℕ) (ws : List ℕ) (h : World) (s : State) (n : ℕ) → g < meaning.functions → Enters meaning layout g d (places g) ws h s → Meets layout code c c n s (meaning.call n d g ws h)
+-- each call from `opened` open calls does what the source's does; the jump to it pays the c steps that are spare
+abbrev pub CallsMeet : (meaning : Meaning) → Layout meaning.objects → Code → (ℕ → ℕ) → (c opened : ℕ) → Type 0
+CallsMeet meaning layout code places c opened =
+    (g : ℕ) (ws : List ℕ) (h : World) (s : State) (n : ℕ) → g < meaning.functions → Enters meaning layout g opened (places g) ws h s → Meets layout code c c n s (meaning.call n opened g ws h)
 
+-- an address at which code can stand: of a whole word, within the bytes that the memory map has for code
 pub record IsPlace (a : ℕ) : Type 0 where
   pub aligned : a % 4 ≡ 0
   pub from : 0x10000 ≤ a
   pub to : a < 0x100000
 
--- What a piece keeps: wherever it stands, at each number of open calls. What one instruction pays is left to the call of the function,
--- since a function without a frame may have executed none yet.
+-- What a piece keeps, wherever it stands, at each number of open calls: where the calls that it makes do what the source's do at c steps an
+-- instruction, its body does what the source's body does. Of the two `rate * c` below the first is how many steps an instruction pays
+-- then. The second is what is spare: the steps of one instruction more, which is left to the jump that called the function. For a function
+-- without a frame has nothing to execute on entry, so where the source's body has begun the machine may still stand at its first word.
 abbrev pub PieceMeets : (meaning : Meaning) → Layout meaning.objects → (function rate : ℕ) → List Item → Type 0
 PieceMeets meaning layout f rate items =
     (code : Code) (places : ℕ → ℕ) (place : ℕ) → IsPlace place → IsPlace (place + 4 * length items) → Placed code places place place items → ((g : ℕ) → g < meaning.functions → IsPlace (places g))
-    → (d c : ℕ) → d < 1024 → 1 ≤ c → CallsMeet meaning layout code places c (suc d)
-    → (ws : List ℕ) (h : World) (s : State) (n : ℕ) → Enters meaning layout f d place ws h s → Meets layout code (rate * c) (rate * c) n s (meaning.body n d f ws h)
+    → (opened c : ℕ) → opened < most_open → 1 ≤ c → CallsMeet meaning layout code places c (suc opened)
+    → (ws : List ℕ) (h : World) (s : State) (n : ℕ) → Enters meaning layout f opened place ws h s → Meets layout code (rate * c) (rate * c) n s (meaning.body n opened f ws h)
 
 -- an item that has a word, wherever the piece stands
 abbrev pub IsFit : (functions long : ℕ) → Item → Type 0
@@ -117,7 +129,8 @@ abbrev pub AreFit : (functions long : ℕ) → List Item → Type 0
 AreFit functions long [] = Unit {0}
 AreFit functions long (i ∷ is) = IsFit functions long i × AreFit functions long is
 
--- the items of a function's code do what it does
+-- The items of a function's code do what it does. A pair of the layers above keeps `follows`, which is its promise, and `keeps_up`, which only
+-- serves to go on from there; a piece keeps what serves to go on alone, and the promise is that of the linked image.
 pub record IsPiece (meaning : Meaning) (layout : Layout meaning.objects) (f : ℕ) (items : List Item) : Type 0 where
   pub rate : ℕ
   pub meets : PieceMeets meaning layout f rate items

@@ -9,6 +9,8 @@ use Rattle.cc_words.specs.declared.operators.Binary as binary
 use Rattle.cc_words.specs.declared.operators.Binary.TheVariants.{Add, Sub, Mul, DivS, DivU, RemS, RemU, Shl, ShrS, ShrU, And, Or, Xor, Eq, Ne, LtS, LtU, LeS, LeU}
 use Rattle.cc_ltl.specs.declared.operation.Move.{Move}
 use Rattle.cc_ltl.specs.declared.operation.Move.TheVariants.{Between, Reload, Spill}
+use Rattle.cc_meaning.specs.Numbered.{objects_in}
+use Rattle.cc_linear.specs.Pair as above
 use Rattle.cc_linear.specs.declared.item.Item as linear
 use Rattle.cc_linear.specs.declared.item.Item.TheVariants.{Label, Jump, IfNonzero, IfZero, Copy, Const, Unary, Binary, Load, Store, Call, Read, Write, Return}
 use Rattle.cc_rv32.specs.declared.instr.Instr.{Instr}
@@ -30,6 +32,7 @@ use Rattle.cc_emit.specs.declared.step.Immediate as immediate
 use Rattle.cc_emit.specs.declared.step.Immediate.TheVariants as immediates
 use Rattle.cc_emit.specs.declared.step.Step.{Step}
 use Rattle.cc_emit.specs.declared.step.Step.TheVariants.{One, Immediate, LoadAt, StoreAt}
+use Rattle.cc_emit.specs.Objects.{object_address}
 use Rattle.cc_emit.specs.Frames.{Frame, frame_size, frame_of}
 use Rattle.cc_emit.specs.Steps.{steps}
 
@@ -327,3 +330,7 @@ framed_items base f steps =
 -- the code of a function with so many slots
 abbrev pub function_items : (base : ℕ → ℕ) → (slots : ℕ) → List linear.Item → List Item
 function_items base slots items = framed_items base (frame_of slots items) (steps items)
+
+-- the items that a pair's code becomes, with the objects of its unit in order
+abbrev pub pair_items : above.Pair → List Item
+pair_items p = function_items (object_address (objects_in (above.tree_of p))) p.slots p.code

@@ -5,13 +5,11 @@ use Rattle.cc_syntax.specs.Source.{source}
 use Rattle.cc_syntax.specs.declared.unit.Unit as parsed
 use Rattle.cc_typing.specs.Typed.{IsTyped}
 use Rattle.cc_meaning.specs.Meaning.{functions}
-use Rattle.cc_meaning.specs.Numbered.{IsMeaningOf, objects_in}
+use Rattle.cc_meaning.specs.Numbered.{IsMeaningOf}
 use Rattle.cc_runs.specs.Meaning.{Meaning}
-use Rattle.cc_linear.specs.Pair as above
 use Rattle.cc_emit.specs.declared.item.Item.{Item}
 use Rattle.cc_emit.specs.Contract.{Layout, IsPiece}
-use Rattle.cc_emit.specs.Objects.{IsInOrder, object_address}
-use Rattle.cc_emit.specs.Emission.{function_items}
+use Rattle.cc_emit.specs.Objects.{IsInOrder}
 
 -- a piece as contracts see it: the unit, the function's number in the order of definitions, and the items of its code
 pub record Piece : Type 0 where
@@ -32,7 +30,3 @@ pub record IsPieceOfUnit (p : Piece) : Type 0 where
   pub typed : IsTyped (tree_of p)
   pub function : p.function < length (functions (tree_of p))
   pub items : AreOf (tree_of p) p.function p.items
-
--- the items that a pair's code becomes
-abbrev pub pair_items : above.Pair → List Item
-pair_items p = function_items (object_address (objects_in (above.tree_of p))) p.slots p.code

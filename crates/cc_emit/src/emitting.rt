@@ -1,7 +1,7 @@
 //! The pass: the piece of a pair of Linear.
 
 ghost use Rattle.std.specs.Prelude.{◌≡◌, IfOk};
-ghost use Rattle.cc_emit.specs.Piece.{pair_items};
+ghost use Rattle.cc_emit.specs.Emission.{pair_items};
 
 use crate::bases::Bases;
 use crate::emission::function_items;

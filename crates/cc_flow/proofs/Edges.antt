@@ -4,8 +4,8 @@ use Rattle.std.specs.declared.alloc.Global.{Global}
 use Rattle.std.proofs.lemmas.Bool.{cases_eq}
 use Rattle.std.proofs.lemmas.List.{get_or-set_same, get_or-set_other, length-set, set-get_or}
 use Rattle.std.proofs.lemmas.List.Elements.{All-set, All-push, All-get_or, Contains-append_left, Contains-push, Contains-push_cases}
-use Rattle.cc_flow.specs.Flow.{successors_of}
-use Rattle.cc_flow.specs.internal.Edges.{rows_of, AreEdges}
+use Rattle.cc_flow.specs.Flow.{successors_of, rows_of}
+use Rattle.cc_flow.specs.internal.Edges.{AreEdges}
 
 -- a row as a list
 pub row_is : (rows : List (Vec ℕ Global)) (i : ℕ) (d : Vec ℕ Global) → i < length rows → (get_or rows i d).items ≡ successors_of (rows_of rows) i

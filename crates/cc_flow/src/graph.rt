@@ -1,8 +1,7 @@
 //! Graphs whose nodes are numbers.
 
 ghost use Rattle.std.specs.Prelude.{◌≡◌, ℕ, ◌<◌, ◌++◌, ◌∷◌, [], All, Contains, length, replicate, slice_set, set, IfOk, IfErr};
-ghost use Rattle.cc_flow.specs.Flow.{successors_of};
-ghost use Rattle.cc_flow.specs.internal.Edges.{rows_of};
+ghost use Rattle.cc_flow.specs.Flow.{successors_of, rows_of};
 
 use std::alloc::{AllocError, Global};
 use std::marker::Model;
@@ -17,7 +16,8 @@ pub struct Graph {
 
 impl Model for Graph {
     ghost use Rattle.std.specs.Prelude.{List, ℕ};
-    ghost use Rattle.cc_flow.specs.internal.Edges.{AreEdges, rows_of};
+    ghost use Rattle.cc_flow.specs.internal.Edges.{AreEdges};
+    ghost use Rattle.cc_flow.specs.Flow.{rows_of};
 
     ghost Value = { List (List ℕ) };
 

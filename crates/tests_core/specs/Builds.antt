@@ -25,7 +25,10 @@ unit_of source (piece ∷ later) = linked source piece.0
 
 -- the rules of that build
 abbrev pub rules : Rules Seen
-rules = record { plan = plan; source_of = λ piece. piece.0.source; part_of = λ piece. piece.1; unit = unit_of }
+rules = record { plan = λ source answer. answer ≡ plan source; source_of = λ piece. piece.0.source; part_of = λ piece. piece.1; unit = unit_of }
+
+pub planned : (source : List ℕ) → (answer : Result ℕ ℕ) × rules.plan source answer
+planned source = (plan source, refl)
 
 -- the image has one code word, the length of the source
 abbrev pub is_right : StoredUnit → Type 0
@@ -54,7 +57,10 @@ law source (piece ∷ later) unit whole kept is =
 
 -- each source is refused with 11
 abbrev pub nothing : Rules Seen
-nothing = record { plan = λ source. Err 11; source_of = λ piece. piece.0.source; part_of = λ piece. piece.1; unit = λ source pieces. Err 11 }
+nothing = record { plan = λ source answer. answer ≡ Err 11; source_of = λ piece. piece.0.source; part_of = λ piece. piece.1; unit = λ source pieces. Err 11 }
+
+pub nothing_planned : (source : List ℕ) → (answer : Result ℕ ℕ) × nothing.plan source answer
+nothing_planned source = (Err 11, refl)
 
 -- any unit is right
 abbrev pub is_anything : StoredUnit → Type 0

@@ -1,5 +1,5 @@
 // Two builds: one whose units have to be right, and one of which anything is.
-ghost use Rattle.tests_core.specs.Builds.{rules, keeps, is_right, law, nothing, is_anything, nothing_law};
+ghost use Rattle.tests_core.specs.Builds.{rules, keeps, is_right, planned, law, nothing, is_anything, nothing_planned, nothing_law};
 
 use crate::piece::Piece;
 use cc_core::build::Build;
@@ -49,6 +49,8 @@ impl Build for FewPieces {
         Ok(Arc::try_clone(piece.unit())?)
     }
 
+    ghost planned = { planned };
+
     ghost law = { law };
 }
 
@@ -81,6 +83,8 @@ impl Build for Nothing {
     ) -> Result<Arc<StoredUnit>, BuildFault> {
         Err(BuildFault::Refused(11))
     }
+
+    ghost planned = { nothing_planned };
 
     ghost law = { nothing_law };
 }

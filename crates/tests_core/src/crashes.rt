@@ -4,7 +4,7 @@ use crate::script::Line::{
     Ack, Add, Begin, Crash, Done, Fails, Recover, SyncBody, SyncGate, Take, WriteBody, WriteGate,
 };
 use crate::script::{Line, ONE, TWO, fresh, leaves, run};
-use cc_core::state::crash_law;
+use cc_core::laws::{crash_law, survival_law, turn_law};
 use std::alloc::Global;
 use std::test::Fail;
 
@@ -129,8 +129,10 @@ fn an_empty_recovery(rt: HostRuntime) -> Result<(), Fail> {
     Ok(())
 }
 
-// The crash theorem holds of this build too.
+// The laws hold of this build too.
 #[test]
 fn whatever_a_crash_leaves() {
+    survival_law::<FewPieces>();
     crash_law::<FewPieces>();
+    turn_law::<FewPieces>();
 }

@@ -63,7 +63,7 @@ fn opened(alloc: Global) -> Result<State<FewPieces>, Fail> {
     }
 }
 
-// The disk's names are there, a third unit is committed, and a crash comes after it.
+// The disk's names are there, and both of its records count as acknowledged; a third unit is committed, and a crash comes after it.
 const ACKNOWLEDGED: [(Line, u32); 15] = [
     (Add(1, b'a', TWO), 0),
     (Take(1, 1, 0), 0),
@@ -122,13 +122,13 @@ const LOST: [(Line, u32); 13] = [
 #[test]
 fn a_third_unit(rt: HostRuntime) -> Result<(), Fail> {
     let alloc = rt.alloc();
-    assert!(rt; leaves(alloc, opened(alloc)?, &[], (Some(ONE), Some(TWO), None, 0))?);
+    assert!(rt; leaves(alloc, opened(alloc)?, &[], (Some(ONE), Some(TWO), None, 2))?);
     assert!(rt;
         leaves(
             alloc,
             opened(alloc)?,
             &ACKNOWLEDGED,
-            (Some(ONE), Some(TWO), Some(ONE), 1)
+            (Some(ONE), Some(TWO), Some(ONE), 3)
         )?
     );
     assert!(rt;
@@ -136,7 +136,7 @@ fn a_third_unit(rt: HostRuntime) -> Result<(), Fail> {
             alloc,
             opened(alloc)?,
             &TORN,
-            (Some(ONE), Some(TWO), Some(ONE), 0)
+            (Some(ONE), Some(TWO), Some(ONE), 2)
         )?
     );
     assert!(rt;
@@ -144,7 +144,7 @@ fn a_third_unit(rt: HostRuntime) -> Result<(), Fail> {
             alloc,
             opened(alloc)?,
             &LOST,
-            (Some(ONE), Some(TWO), None, 0)
+            (Some(ONE), Some(TWO), None, 2)
         )?
     );
     Ok(())
@@ -185,10 +185,10 @@ const WITHDRAWN: [(Line, u32); 11] = [
     (Begin(1), 32),
 ];
 
-// Whether the state has that unit, these events answer so, and leave none.
+// Whether the state has that unit, and its record counts as acknowledged; these events answer so, and leave none.
 fn withdraws(alloc: Global, state: &mut State<Nothing>) -> Result<bool, Fail> {
     let name = name_of(b'a')?;
-    if state.library().get(&name).is_none() {
+    if state.library().get(&name).is_none() || state.acked().len() != 1 {
         return Ok(false);
     }
     for (line, number) in &WITHDRAWN {
@@ -197,7 +197,7 @@ fn withdraws(alloc: Global, state: &mut State<Nothing>) -> Result<bool, Fail> {
             return Ok(false);
         }
     }
-    Ok(state.library().get(&name).is_none() && state.acked().len() == 1)
+    Ok(state.library().get(&name).is_none() && state.acked().len() == 2)
 }
 
 // Whether all that is so of a disk with these bytes.

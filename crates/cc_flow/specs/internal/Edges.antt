@@ -1,11 +1,6 @@
 -- The edges of a graph, kept in both directions.
-use Rattle.std.specs.Prelude.{◌≡◌, ℕ, ◌<◌, List, All, Contains, length, map, Vec}
-use Rattle.std.specs.declared.alloc.Global.{Global}
+use Rattle.std.specs.Prelude.{◌≡◌, ℕ, ◌<◌, List, All, Contains, length}
 use Rattle.cc_flow.specs.Flow.{IsGraph, successors_of}
-
--- rows as lists
-abbrev pub rows_of : List (Vec ℕ Global) → List (List ℕ)
-rows_of rows = map (λ row. row.items) rows
 
 -- one row a node in each direction; each end of an edge is a node; whoever leads to a node stands in its row of predecessors
 pub record AreEdges (successors predecessors : List (List ℕ)) : Type 0 where

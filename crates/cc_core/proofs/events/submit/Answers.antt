@@ -14,7 +14,7 @@ returns-in_err-job g c =
     let free : table.get c.args.contents.now.jobs c.args.client.number ≡ None = grind (arith, common_steps) in
     let e = c.from_residual.ensures in
     memory_answers (Submits g.B.Build.rules c.args.client c.args.call c.args.request c.args.contents.now) c.from_residual.result c.args.contents.now c.args.contents.now e.0 e.1
-    (submits g.B.Build.rules c.args.contents.now c.args.client c.args.call c.args.request up free) refl
+    (submits g.B.Build.rules g.met.B.Build.planned c.args.contents.now c.args.client c.args.call c.args.request up free) refl
 
 pub returns-in_err-put : goal.returns-in_err-put
 returns-in_err-put g c =
@@ -23,4 +23,4 @@ returns-in_err-put g c =
     let free : table.get c.args.contents.now.jobs c.args.client.number ≡ None = grind (arith, common_steps) in
     let e = c.from_residual-in_err-put.ensures in
     memory_answers (Submits g.B.Build.rules c.args.client c.args.call c.args.request c.args.contents.now) c.from_residual-in_err-put.result c.args.contents.now _ e.0 e.1
-    (submits g.B.Build.rules c.args.contents.now c.args.client c.args.call c.args.request up free) (ap (λ jobs. record c.args.contents.now { jobs = jobs }) c.in_err-put.ensures.err)
+    (submits g.B.Build.rules g.met.B.Build.planned c.args.contents.now c.args.client c.args.call c.args.request up free) (ap (λ jobs. record c.args.contents.now { jobs = jobs }) c.in_err-put.ensures.err)

@@ -1,7 +1,6 @@
 -- One row changes, as a list.
 use Rattle.std.proofs.Common.{◌≡◌, ◌++◌, ◌∷◌, [], ap, ◌∙◌, rules}
-use Rattle.cc_flow.specs.Flow.{successors_of}
-use Rattle.cc_flow.specs.internal.Edges.{rows_of}
+use Rattle.cc_flow.specs.Flow.{successors_of, rows_of}
 use Rattle.cc_flow.proofs.Edges.{row_is, row_set, row_kept}
 use Rattle.cc_flow.proofs.graph.push_in.Goals as goal
 

@@ -1,10 +1,12 @@
 -- Nothing has happened there, and the disk is formatted.
-use Rattle.std.proofs.Common.{inl, refl, ap, ◌∙◌}
+use Rattle.std.proofs.Common.{inl, refl, sym, ap, subst, ◌∙◌}
+use Rattle.cc_core.specs.Run.{EachUnit}
+use Rattle.cc_core.proofs.Orders.{EachUnit-empty}
 use Rattle.cc_core.specs.declared.sequence_number.SequenceNumber.{SequenceNumber}
 use Rattle.cc_core.proofs.state.State.new.Goals as goal
 
-pub idle-requires : goal.idle-requires
-idle-requires g c = inl (
+pub idle-requires-clause-begins : goal.idle-requires-clause-begins
+idle-requires-clause-begins g c = inl (
   c.args.area,
   record {
     library = c.new-2.ensures;
@@ -17,3 +19,6 @@ idle-requires g c = inl (
     upcoming = ap (λ (p : SequenceNumber). p.value) c.first.ensures;
   },
 )
+
+pub idle-requires-clause-right : goal.idle-requires-clause-right
+idle-requires-clause-right g c = subst (EachUnit g.B.Build.is_right) (sym c.new-2.ensures) (EachUnit-empty g.B.Build.is_right)

@@ -1,6 +1,7 @@
 -- A step goes on from what was reached, which has what a step needs; after an error the contents are the same.
 use Rattle.cc_core.proofs.Runs.{Reached-step}
 use Rattle.cc_core.proofs.Sound.{reached_IsSound, sound_ready}
+use Rattle.cc_core.proofs.Whole.{lawful}
 use Rattle.cc_core.proofs.state.State.step.Goals as goal
 
 pub take_step-requires : goal.take_step-requires
@@ -8,7 +9,7 @@ take_step-requires g c =
     let rules = g.B.Build.rules in
     let keeps = g.B.Build.keeps in
     let is_right = g.B.Build.is_right in
-    let law = g.met.B.Build.law in
+    let law = lawful rules keeps is_right g.met.B.Build.law in
     let s = c.self.inside.contents in
     sound_ready rules keeps is_right law s.core (reached_IsSound rules keeps is_right law s c.self.invariant).core
 

@@ -1,6 +1,7 @@
 -- The new edge stands in both directions, or only its predecessor is known.
 use Rattle.std.proofs.Common.{◌<◌, length, sym, subst}
-use Rattle.cc_flow.specs.internal.Edges.{rows_of, AreEdges}
+use Rattle.cc_flow.specs.internal.Edges.{AreEdges}
+use Rattle.cc_flow.specs.Flow.{rows_of}
 use Rattle.cc_flow.proofs.Edges.{with_predecessor, with_edge, more_in}
 use Rattle.cc_flow.proofs.graph.Graph.add_edge.Goals as goal
 

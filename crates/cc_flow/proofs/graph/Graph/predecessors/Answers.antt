@@ -1,7 +1,6 @@
 -- Whoever leads to a node stands in its row.
 use Rattle.std.proofs.Common.{sym, ap, ◌∙◌, subst, Contains}
-use Rattle.cc_flow.specs.Flow.{successors_of}
-use Rattle.cc_flow.specs.internal.Edges.{rows_of}
+use Rattle.cc_flow.specs.Flow.{successors_of, rows_of}
 use Rattle.cc_flow.proofs.graph.Graph.predecessors.Goals as goal
 
 pub returns-clause-leads : goal.returns-clause-leads

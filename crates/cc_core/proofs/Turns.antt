@@ -1,0 +1,353 @@
+-- How a run goes on. No event but a Begin lengthens the order; and a worker hands in the pieces that give a unit one after the other.
+use Rattle.std.proofs.Common.{◌≡◌, ◌⊎◌, ℕ, zero, suc, ◌+◌, ◌≤◌, inl, inr, Bool, true, false, cond, IsTrue, List, [], ◌∷◌, ◌++◌, length, map, take, Option, Some, None, Result, Ok, Err, refl, sym, ap, ◌∙◌, subst, arith, append_assoc, All}
+use Rattle.std.specs.Prelude.{slice_get, slice_set, replicate}
+use Rattle.std.specs.Ordering.{nat_cmp, eq_by_cmp, is_eq}
+use Rattle.std.specs.declared.cmp.Ordering.{Ordering}
+use Rattle.std.specs.declared.cmp.Ordering.TheVariants.{Less, Equal, Greater}
+use Rattle.std.specs.Cmp.{nat_cmp_total, eq_by_cmp_equiv}
+use Rattle.std.specs.FinMap.{FinMap, get, insert, remove, empty, get-empty, get-insert, get-remove, nat_cmp-IsAntisymmetric}
+use Rattle.std.proofs.lemmas.List.{append-nil, length-append, length-take}
+use Rattle.cc_unit.specs.declared.unit.StoredUnit.{StoredUnit}
+use Rattle.cc_library.specs.declared.command.Command.{Command}
+use Rattle.cc_library.specs.declared.command.Command.TheVariants as command
+use Rattle.cc_library.specs.Body.{IsCommand}
+use Rattle.cc_core.specs.declared.command.Numbered.{Numbered}
+use Rattle.cc_core.specs.declared.command.Reply.{Reply}
+use Rattle.cc_core.specs.declared.command.Request.{Request}
+use Rattle.cc_core.specs.declared.command.Request.TheVariants as request
+use Rattle.cc_core.specs.declared.contents.Contents.{Contents}
+use Rattle.cc_core.specs.declared.contents.Core.{Core}
+use Rattle.cc_core.specs.declared.event.Event.{Event}
+use Rattle.cc_core.specs.declared.event.Event.TheVariants as event
+use Rattle.cc_core.specs.declared.fault.Refusal.{Refusal}
+use Rattle.cc_core.specs.declared.ids.CallId.{CallId}
+use Rattle.cc_core.specs.declared.ids.ClientId.{ClientId}
+use Rattle.cc_core.specs.declared.ids.PartIndex.{PartIndex}
+use Rattle.cc_core.specs.declared.ids.WorkerId.{WorkerId}
+use Rattle.cc_core.specs.declared.job.Job.{Job}
+use Rattle.cc_core.specs.declared.job.Work.{Work}
+use Rattle.cc_core.specs.declared.job.Progress.{Progress}
+use Rattle.cc_core.specs.declared.job.Progress.TheVariants.{Waiting, Taken, Made, Refused}
+use Rattle.cc_core.specs.Rules.{Rules, IsBuilt, HasBuilt}
+use Rattle.cc_core.specs.Job.{planned, IsPlanned, source_in, unless, with_unit, with_piece, all_there, first_refused, made_pieces, built, command_of, verdict}
+use Rattle.cc_core.specs.Step.{Begun, IsUp, Step, jobs_begun, numbered_now}
+use Rattle.cc_core.specs.Run.{HandsIn, PutsCommand, Run, Turn}
+use Rattle.cc_core.specs.Turns.{BeginsSpelled, IsNoSubmit, IsNoTake, CanBeReady}
+use Rattle.cc_core.proofs.Lists.{All-slice_get}
+use Rattle.cc_core.proofs.Orders.{same_last}
+use Rattle.cc_core.proofs.Whole.{verdict_taken}
+
+-- ---- finite maps at their keys
+
+got_inserted : {X : Type 0} (m : FinMap nat_cmp X) (k : ℕ) (v : X) → get (insert m k v) k ≡ Some v
+got_inserted m k v = get-insert nat_cmp_total m k v k ∙ ap (λ b. cond b (Some v) (get m k)) ((eq_by_cmp_equiv nat_cmp_total).refl k)
+
+got_removed : {X : Type 0} (m : FinMap nat_cmp X) (k : ℕ) → get (remove m k) k ≡ None
+got_removed m k = get-remove nat_cmp_total m k k ∙ ap (λ b. cond b None (get m k)) ((eq_by_cmp_equiv nat_cmp_total).refl k)
+
+tied_at : (r : Ordering) → is_eq r ≡ true → r ≡ Equal
+tied_at Less e = absurd (cc)
+tied_at Equal e = refl
+tied_at Greater e = absurd (cc)
+
+-- keys are tied only where they are the same
+apart_or : (k n : ℕ) → (k ≡ n) ⊎ (eq_by_cmp nat_cmp k n ≡ false)
+apart_or k n = at (eq_by_cmp nat_cmp k n) refl
+  where
+    at : (b : Bool) → eq_by_cmp nat_cmp k n ≡ b → (k ≡ n) ⊎ (eq_by_cmp nat_cmp k n ≡ false)
+    at true tied = inl (nat_cmp-IsAntisymmetric k n (tied_at (nat_cmp k n) tied))
+    at false tied = inr tied
+
+other_inserted : {X : Type 0} (m : FinMap nat_cmp X) (n : ℕ) (v : X) (k : ℕ) → (k ≡ n → ⊥) → get (insert m n v) k ≡ get m k
+other_inserted m n v k apart =
+    elim (apart_or k n) [
+      | inl same ↦ absurd (apart same)
+      | inr tied ↦ get-insert nat_cmp_total m n v k ∙ ap (λ b. cond b (Some v) (get m k)) tied
+    ]
+
+-- where nothing stands, nothing stands after an insertion at a key where something stood, or after a removal
+none_put : {X : Type 0} (m : FinMap nat_cmp X) (n : ℕ) (v w : X) (k : ℕ) → get m n ≡ Some v → get m k ≡ None → get (insert m n w) k ≡ None
+none_put m n v w k there none = other_inserted m n w k (λ same. let h = sym (ap (get m) same) ∙ none in let never : Some v ≡ None = sym there ∙ h in absurd (cc)) ∙ none
+
+none_removed : {X : Type 0} (m : FinMap nat_cmp X) (n k : ℕ) → get m k ≡ None → get (remove m n) k ≡ None
+none_removed {X} m n k none = get-remove nat_cmp_total m n k ∙ at (eq_by_cmp nat_cmp k n)
+  where
+    at : (b : Bool) → cond b None (get m k) ≡ None
+    at true = refl
+    at false = none
+
+none_same : {X : Type 0} (m n : FinMap nat_cmp X) (k : ℕ) → n ≡ m → get m k ≡ None → get n k ≡ None
+none_same m n k same none = ap (λ l. get l k) same ∙ none
+
+none_empty : {X : Type 0} (m : FinMap nat_cmp X) (k : ℕ) → m ≡ empty → get m k ≡ None
+none_empty m k is = ap (λ l. get l k) is ∙ get-empty nat_cmp k
+
+-- ---- lists
+
+longer : {A : Type 0} (l : List A) (x : A) → l ≡ l ++ x ∷ [] → ⊥
+longer l x is = omega (arith, ap length is, length-append l (x ∷ []))
+
+longer_than : {A : Type 0} (l : List A) (n : ℕ) (x : A) → take n l ≡ l ++ x ∷ [] → ⊥
+longer_than l n x is = omega (arith, ap length is, length-append l (x ∷ []), short l n)
+  where
+    short : {A : Type 0} (l : List A) (n : ℕ) → length (take n l) ≤ length l
+    short [] zero = omega arith
+    short [] (suc n) = omega arith
+    short (y ∷ l) zero = omega arith
+    short (y ∷ l) (suc n) = let h = short l n in omega arith
+
+module _ {P : Type 0} where
+  -- some pieces are made, and the others wait
+  abbrev progress : List P → ℕ → List (Progress P)
+  progress front waiting = map (λ (p : P). Made p) front ++ replicate waiting Waiting
+
+  set_at : (front : List P) (x y : Progress P) (tail : List (Progress P)) → slice_set (map (λ (p : P). Made p) front ++ x ∷ tail) (length front) y ≡ map (λ (p : P). Made p) front ++ y ∷ tail
+  set_at [] x y tail = refl
+  set_at (p ∷ front) x y tail = ap (λ (l : List (Progress P)). Made p ∷ l) (set_at front x y tail)
+
+  get_at : (front : List P) (x : Progress P) (tail : List (Progress P)) → slice_get (map (λ (p : P). Made p) front ++ x ∷ tail) (length front) ≡ Some x
+  get_at [] x tail = refl
+  get_at (p ∷ front) x tail = get_at front x tail
+
+  made_push : (front : List P) (p : P) (tail : List (Progress P)) → map (λ (q : P). Made q) (front ++ p ∷ []) ++ tail ≡ map (λ (q : P). Made q) front ++ Made p ∷ tail
+  made_push [] p tail = refl
+  made_push (q ∷ front) p tail = ap (λ (l : List (Progress P)). Made q ∷ l) (made_push front p tail)
+
+  there_all : (ps : List P) → IsTrue (all_there (map (λ (p : P). Made p) ps))
+  there_all [] = refl
+  there_all (p ∷ ps) = there_all ps
+
+  none_refused : (ps : List P) → first_refused (map (λ (p : P). Made p) ps) ≡ None
+  none_refused [] = refl
+  none_refused (p ∷ ps) = none_refused ps
+
+  made_are : (ps : List P) → made_pieces (map (λ (p : P). Made p) ps) ≡ ps
+  made_are [] = refl
+  made_are (p ∷ ps) = ap (λ (l : List P). p ∷ l) (made_are ps)
+
+-- ---- turns
+
+module _ {P : Type 0} (rules : Rules P) where
+  -- what a step that begins no job does not do to the order
+  kept_order : (old : Contents P) (e : Event P) (reply : Option Reply) (new : Contents P) → ((client : ClientId) → e ≡ event.Begin client → ⊥) → Step rules old e reply new
+      → (numbered : Numbered) → new.core.order ≡ old.core.order ++ numbered ∷ [] → ⊥
+  kept_order old (event.Submit client call asked) reply new none step n is = longer old.core.order n (sym (ap (λ (s : Contents P). s.core.order) step.new_is) ∙ is)
+  kept_order old (event.Take worker client part) reply new none step n is = longer old.core.order n (sym (ap (λ (s : Contents P). s.core.order) step.new_is) ∙ is)
+  kept_order old (event.Done worker piece) reply new none step n is = longer old.core.order n (sym (ap (λ (s : Contents P). s.core.order) step.new_is) ∙ is)
+  kept_order old (event.Refuse worker number) reply new none step n is = longer old.core.order n (sym (ap (λ (s : Contents P). s.core.order) step.new_is) ∙ is)
+  kept_order old (event.Begin client) reply new none step n is = none client refl
+  kept_order old event.WriteBody reply new none step n is = longer old.core.order n (sym (ap (λ (c : Core). c.order) step.core_step.new_is) ∙ is)
+  kept_order old event.SyncBody reply new none step n is = longer old.core.order n (sym (ap (λ (c : Core). c.order) step.core_step.new_is) ∙ is)
+  kept_order old event.WriteGate reply new none step n is = longer old.core.order n (sym (ap (λ (c : Core). c.order) step.core_step.new_is) ∙ is)
+  kept_order old event.SyncGate reply new none step n is = longer old.core.order n (sym (ap (λ (c : Core). c.order) step.core_step.new_is) ∙ is)
+  kept_order old event.RewriteAll reply new none step n is = longer old.core.order n (sym (ap (λ (c : Core). c.order) step.core_step.new_is) ∙ is)
+  kept_order old event.SyncAll reply new none step n is = longer old.core.order n (sym (ap (λ (c : Core). c.order) step.core_step.new_is) ∙ is)
+  kept_order old event.WriteArea reply new none step n is = longer old.core.order n (sym (ap (λ (c : Core). c.order) step.core_step.new_is) ∙ is)
+  kept_order old event.SyncArea reply new none step n is = longer old.core.order n (sym (ap (λ (c : Core). c.order) step.core_step.new_is) ∙ is)
+  kept_order old event.Fail reply new none (inl step) n is = longer old.core.order n (sym (ap (λ (c : Core). c.order) step.1.core_step.new_is) ∙ is)
+  kept_order old event.Fail reply new none (inr step) n is = longer old.core.order n (sym (ap (λ (c : Core). c.order) step.core_step.new_is) ∙ is)
+  kept_order old (event.Ack client) reply new none step n is = longer old.core.order n (sym (ap (λ (c : Core). c.order) step.core_step.new_is) ∙ is)
+  kept_order old (event.Crash choice) reply new none step n is = longer old.core.order n (sym (ap (λ (c : Core). c.order) step.core_step.new_is) ∙ is)
+  kept_order old event.Recover reply new none step n is =
+      longer_than old.core.order step.core_step.longest.count n (sym step.core_step.longest.front ∙ sym (ap (λ (c : Core). c.order) step.core_step.new_is) ∙ is)
+
+  puts_begun : (old : Core) (client : ClientId) (v : Result Command Refusal) (reply : Option Reply) (new : Core) → ((d : Command) → v ≡ Ok d → IsCommand d) → Begun old client v reply new → PutsCommand old new
+  puts_begun old client (Ok d) reply new is_put begun numbered is =
+      let order : old.order ++ numbered_now old d ∷ [] ≡ old.order ++ numbered ∷ [] = sym (ap (λ (c : Core). c.order) begun.1) ∙ is in
+      let same = same_last old.order (numbered_now old d) old.order numbered order in
+      subst IsCommand (ap (λ (n : Numbered). n.command) same) (is_put d refl)
+  puts_begun old client (Err refused) reply new is_put begun numbered is = absurd (longer old.order numbered (sym (ap (λ (c : Core). c.order) begun.1) ∙ is))
+
+  -- a step puts commands with a spelling alone, where the one that begins has one
+  puts : (keeps : P → Type 0) (old : Contents P) (e : Event P) (reply : Option Reply) (new : Contents P) → BeginsSpelled rules old e → Step rules old e reply new → PutsCommand old.core new.core
+  puts keeps old (event.Begin client) reply new spelled step numbered is =
+      puts_begun old.core client (verdict rules old.core.phase old.core.library old.core.store step.job) reply new.core
+      (λ d so. spelled client step.job d refl step.held (verdict_taken rules keeps old.core.phase old.core.library old.core.store step.job d so).same) step.begun numbered is
+  puts keeps old (event.Submit client call asked) reply new spelled step numbered is = absurd (kept_order old (event.Submit client call asked) reply new (λ other e. absurd (cc)) step numbered is)
+  puts keeps old (event.Take worker client part) reply new spelled step numbered is = absurd (kept_order old (event.Take worker client part) reply new (λ other e. absurd (cc)) step numbered is)
+  puts keeps old (event.Done worker piece) reply new spelled step numbered is = absurd (kept_order old (event.Done worker piece) reply new (λ other e. absurd (cc)) step numbered is)
+  puts keeps old (event.Refuse worker number) reply new spelled step numbered is = absurd (kept_order old (event.Refuse worker number) reply new (λ other e. absurd (cc)) step numbered is)
+  puts keeps old event.WriteBody reply new spelled step numbered is = absurd (kept_order old event.WriteBody reply new (λ other e. absurd (cc)) step numbered is)
+  puts keeps old event.SyncBody reply new spelled step numbered is = absurd (kept_order old event.SyncBody reply new (λ other e. absurd (cc)) step numbered is)
+  puts keeps old event.WriteGate reply new spelled step numbered is = absurd (kept_order old event.WriteGate reply new (λ other e. absurd (cc)) step numbered is)
+  puts keeps old event.SyncGate reply new spelled step numbered is = absurd (kept_order old event.SyncGate reply new (λ other e. absurd (cc)) step numbered is)
+  puts keeps old event.RewriteAll reply new spelled step numbered is = absurd (kept_order old event.RewriteAll reply new (λ other e. absurd (cc)) step numbered is)
+  puts keeps old event.SyncAll reply new spelled step numbered is = absurd (kept_order old event.SyncAll reply new (λ other e. absurd (cc)) step numbered is)
+  puts keeps old event.WriteArea reply new spelled step numbered is = absurd (kept_order old event.WriteArea reply new (λ other e. absurd (cc)) step numbered is)
+  puts keeps old event.SyncArea reply new spelled step numbered is = absurd (kept_order old event.SyncArea reply new (λ other e. absurd (cc)) step numbered is)
+  puts keeps old event.Fail reply new spelled step numbered is = absurd (kept_order old event.Fail reply new (λ other e. absurd (cc)) step numbered is)
+  puts keeps old (event.Ack client) reply new spelled step numbered is = absurd (kept_order old (event.Ack client) reply new (λ other e. absurd (cc)) step numbered is)
+  puts keeps old (event.Crash choice) reply new spelled step numbered is = absurd (kept_order old (event.Crash choice) reply new (λ other e. absurd (cc)) step numbered is)
+  puts keeps old event.Recover reply new spelled step numbered is = absurd (kept_order old event.Recover reply new (λ other e. absurd (cc)) step numbered is)
+
+  pub step_turn : (keeps : P → Type 0) (old : Contents P) (e : Event P) (reply : Option Reply) (new : Contents P) → Step rules old e reply new → HandsIn keeps e → BeginsSpelled rules old e → Turn rules keeps old e new
+  step_turn keeps old e reply new step hands spelled = inl (reply, step, puts keeps old e reply new spelled step, hands)
+
+  pub Run-append : (keeps : P → Type 0) (a : Contents P) (es : List (Event P)) (b : Contents P) (fs : List (Event P)) (c : Contents P) → Run rules keeps a es b → Run rules keeps b fs c → Run rules keeps a (es ++ fs) c
+  Run-append keeps a [] b fs c first second = subst (λ (s : Contents P). Run rules keeps s fs c) first second
+  Run-append keeps a (e ∷ es) b fs c first second = (first.0, (first.1.0, Run-append keeps first.0 es b fs c first.1.1 second))
+
+  -- ---- jobs and workers
+
+  begun_none : (jobs new : FinMap nat_cmp (Job P)) (client : ClientId) (v : Result Command Refusal) (k : ℕ) → new ≡ jobs_begun jobs client v → get jobs k ≡ None → get new k ≡ None
+  begun_none jobs new client (Ok d) k is none = none_same jobs new k is none
+  begun_none jobs new client (Err refused) k is none = ap (λ l. get l k) is ∙ none_removed jobs client.number k none
+
+  pub no_job : (old : Contents P) (e : Event P) (reply : Option Reply) (new : Contents P) → Step rules old e reply new → IsNoSubmit e → (k : ℕ) → get old.jobs k ≡ None → get new.jobs k ≡ None
+  no_job old (event.Submit client call asked) reply new step not k none = absurd (not client call asked refl)
+  no_job old (event.Take worker client part) reply new step not k none = ap (λ (s : Contents P). get s.jobs k) step.new_is ∙ none_put old.jobs client.number step.job _ k step.held none
+  no_job old (event.Done worker piece) reply new step not k none = ap (λ (s : Contents P). get s.jobs k) step.new_is ∙ none_put old.jobs step.work.client.number step.job _ k step.held none
+  no_job old (event.Refuse worker number) reply new step not k none = ap (λ (s : Contents P). get s.jobs k) step.new_is ∙ none_put old.jobs step.work.client.number step.job _ k step.held none
+  no_job old (event.Begin client) reply new step not k none = begun_none old.jobs new.jobs client (verdict rules old.core.phase old.core.library old.core.store step.job) k step.jobs none
+  no_job old event.WriteBody reply new step not k none = none_same old.jobs new.jobs k step.jobs none
+  no_job old event.SyncBody reply new step not k none = none_same old.jobs new.jobs k step.jobs none
+  no_job old event.WriteGate reply new step not k none = none_same old.jobs new.jobs k step.jobs none
+  no_job old event.SyncGate reply new step not k none = none_same old.jobs new.jobs k step.jobs none
+  no_job old event.RewriteAll reply new step not k none = none_same old.jobs new.jobs k step.jobs none
+  no_job old event.SyncAll reply new step not k none = none_same old.jobs new.jobs k step.jobs none
+  no_job old event.WriteArea reply new step not k none = none_same old.jobs new.jobs k step.jobs none
+  no_job old event.SyncArea reply new step not k none = none_same old.jobs new.jobs k step.jobs none
+  no_job old event.Fail reply new (inl step) not k none = ap (λ l. get l k) step.1.jobs ∙ none_removed old.jobs step.0.number k none
+  no_job old event.Fail reply new (inr step) not k none = none_same old.jobs new.jobs k step.jobs none
+  no_job old (event.Ack client) reply new step not k none = ap (λ l. get l k) step.jobs ∙ none_removed old.jobs client.number k none
+  no_job old (event.Crash choice) reply new step not k none = none_empty new.jobs k step.jobs
+  no_job old event.Recover reply new step not k none = none_same old.jobs new.jobs k step.jobs none
+
+  pub no_work : (old : Contents P) (e : Event P) (reply : Option Reply) (new : Contents P) → Step rules old e reply new → IsNoTake e → (k : ℕ) → get old.workers k ≡ None → get new.workers k ≡ None
+  no_work old (event.Submit client call asked) reply new step not k none = ap (λ (s : Contents P). get s.workers k) step.new_is ∙ none
+  no_work old (event.Take worker client part) reply new step not k none = absurd (not worker client part refl)
+  no_work old (event.Done worker piece) reply new step not k none = ap (λ (s : Contents P). get s.workers k) step.new_is ∙ none_removed old.workers worker.number k none
+  no_work old (event.Refuse worker number) reply new step not k none = ap (λ (s : Contents P). get s.workers k) step.new_is ∙ none_removed old.workers worker.number k none
+  no_work old (event.Begin client) reply new step not k none = none_same old.workers new.workers k step.workers none
+  no_work old event.WriteBody reply new step not k none = none_same old.workers new.workers k step.workers none
+  no_work old event.SyncBody reply new step not k none = none_same old.workers new.workers k step.workers none
+  no_work old event.WriteGate reply new step not k none = none_same old.workers new.workers k step.workers none
+  no_work old event.SyncGate reply new step not k none = none_same old.workers new.workers k step.workers none
+  no_work old event.RewriteAll reply new step not k none = none_same old.workers new.workers k step.workers none
+  no_work old event.SyncAll reply new step not k none = none_same old.workers new.workers k step.workers none
+  no_work old event.WriteArea reply new step not k none = none_same old.workers new.workers k step.workers none
+  no_work old event.SyncArea reply new step not k none = none_same old.workers new.workers k step.workers none
+  no_work old event.Fail reply new (inl step) not k none = none_same old.workers new.workers k step.1.workers none
+  no_work old event.Fail reply new (inr step) not k none = none_same old.workers new.workers k step.workers none
+  no_work old (event.Ack client) reply new step not k none = none_same old.workers new.workers k step.workers none
+  no_work old (event.Crash choice) reply new step not k none = none_empty new.workers k step.workers
+  no_work old event.Recover reply new step not k none = none_same old.workers new.workers k step.workers none
+
+module _ {P : Type 0} (rules : Rules P) (keeps : P → Type 0) where
+  -- an event that begins no job, and hands in no piece but a kept one, is a turn
+  plain_turn : (old : Contents P) (e : Event P) (reply : Option Reply) (new : Contents P) → ((client : ClientId) → e ≡ event.Begin client → ⊥) → HandsIn keeps e → Step rules old e reply new → Turn rules keeps old e new
+  plain_turn old e reply new none hands step = step_turn rules keeps old e reply new step hands (λ client job c is. absurd (none client is))
+
+  -- ---- handing in a job with its pieces
+
+  abbrev job_at : CallId → Request → List (Progress P) → Job P
+  job_at call asked pieces = record { call = call; request = asked; refusal = None; pieces = pieces }
+
+  -- a worker has handed in the pieces of this job
+  record IsHandedIn (old : Contents P) (client : ClientId) (worker : WorkerId) (its : Job P) : Type 0 where
+    events : List (Event P)
+    new : Contents P
+    run : Run rules keeps old events new
+    core : new.core ≡ old.core
+    held : get new.jobs client.number ≡ Some its
+    others : (k : ℕ) → (k ≡ client.number → ⊥) → get new.jobs k ≡ get old.jobs k
+    idle : get new.workers worker.number ≡ None
+
+  -- where a client's job has its first pieces made and waits for these, the worker hands them in one after the other
+  hands_all : (old : Contents P) (client : ClientId) (worker : WorkerId) (call : CallId) (asked : Request) (source : List ℕ) (front rest : List P)
+      → source_in asked ≡ Some source → get old.jobs client.number ≡ Some (job_at call asked (progress front (length rest))) → get old.workers worker.number ≡ None
+      → ((k : ℕ) (q : P) → slice_get rest k ≡ Some q → (rules.source_of q ≡ source) × (rules.part_of q ≡ length front + k) × keeps q)
+      → IsHandedIn old client worker (job_at call asked (map (λ (p : P). Made p) (front ++ rest)))
+  hands_all old client worker call asked source front [] from held idle named = record {
+    events = [];
+    new = old;
+    run = refl;
+    core = refl;
+    held = held ∙ ap (λ (l : List (Progress P)). Some (job_at call asked l)) (append-nil (map (λ (p : P). Made p) front) ∙ ap (map (λ (p : P). Made p)) (sym (append-nil front)));
+    others = λ k apart. refl;
+    idle = idle;
+  }
+  hands_all old client worker call asked source front (p ∷ rest) from held idle named =
+      let part : PartIndex = record { index = length front } in
+      let its : Job P = job_at call asked (progress front (suc (length rest))) in
+      let taken : Job P = with_piece its part Taken in
+      let given : Job P = with_piece taken part (Made p) in
+      let work : Work = record { client = client; part = part } in
+      let s1 : Contents P = record old { jobs = insert old.jobs client.number taken; workers = insert old.workers worker.number work } in
+      let s2 : Contents P = record s1 { jobs = insert s1.jobs client.number given; workers = remove s1.workers worker.number } in
+      let at = named 0 p refl in
+      let takes : Turn rules keeps old (event.Take worker client part) s1 = plain_turn old (event.Take worker client part) None s1 (λ c e. absurd (cc)) (λ w q e. absurd (cc))
+      (record { job = its; idle = idle; held = held; waits = get_at front Waiting (replicate (length rest) Waiting); silent = refl; new_is = refl }) in
+      let finishes : Turn rules keeps s1 (event.Done worker p) s2 = plain_turn s1 (event.Done worker p) None s2 (λ c e. absurd (cc)) (λ w q e. let same : p ≡ q = cc in subst keeps same at.2)
+      (record { work = work; job = taken; busy = got_inserted old.workers worker.number work; held = got_inserted old.jobs client.number taken; source = from ∙ ap Some (sym at.0); part = at.1 ∙ omega arith; silent = refl; new_is = refl }) in
+      let given_is : given ≡ job_at call asked (progress (front ++ p ∷ []) (length rest)) =
+      ap (job_at call asked) (ap (λ (l : List (Progress P)). slice_set l (length front) (Made p)) (set_at front Waiting Taken (replicate (length rest) Waiting))
+      ∙ set_at front Taken (Made p) (replicate (length rest) Waiting) ∙ sym (made_push front p (replicate (length rest) Waiting))) in
+      let more : IsHandedIn s2 client worker (job_at call asked (map (λ (q : P). Made q) ((front ++ p ∷ []) ++ rest))) =
+      hands_all s2 client worker call asked source (front ++ p ∷ []) rest from (got_inserted s1.jobs client.number given ∙ ap Some given_is) (got_removed s1.workers worker.number)
+      (λ k q here. let it = named (suc k) q here in (it.0, it.1 ∙ omega (arith, length-append front (p ∷ [])), it.2)) in
+      record {
+        events = event.Take worker client part ∷ event.Done worker p ∷ more.events;
+        new = more.new;
+        run = (s1, (takes, (s2, (finishes, more.run))));
+        core = more.core;
+        held = more.held ∙ ap (λ (l : List P). Some (job_at call asked (map (λ (q : P). Made q) l))) (append_assoc front (p ∷ []) rest);
+        others = λ k apart. more.others k apart ∙ other_inserted s1.jobs client.number given k apart ∙ other_inserted old.jobs client.number taken k apart;
+        idle = more.idle;
+      }
+
+  -- the command of a job whose pieces are all made
+  built_is : (call : CallId) (asked : Request) (source : List ℕ) (pieces : List P) (unit : StoredUnit) → rules.unit source pieces ≡ Ok unit
+      → built rules (job_at call asked (map (λ (p : P). Made p) pieces)) source ≡ Ok unit
+  built_is call asked source pieces unit is =
+      ap (λ (r : Option ℕ). unless r (rules.unit source (made_pieces (map (λ (p : P). Made p) pieces)))) (none_refused pieces) ∙ ap (λ (l : List P). rules.unit source l) (made_are pieces) ∙ is
+
+  module _ (old : Contents P) (client : ClientId) (worker : WorkerId) (up : IsUp old.core.phase) (free : get old.jobs client.number ≡ None) (idle : get old.workers worker.number ≡ None) where
+    abbrev call : CallId
+    call = record { number = 0 }
+
+    abbrev submitted : Request → List (Progress P) → Contents P
+    submitted asked pieces = record old { jobs = insert old.jobs client.number (job_at call asked pieces) }
+
+    submits : (asked : Request) (n : ℕ) → IsPlanned rules asked (Ok n) → Turn rules keeps old (event.Submit client call asked) (submitted asked (replicate n Waiting))
+    submits asked n so =
+        plain_turn old (event.Submit client call asked) None (submitted asked (replicate n Waiting)) (λ c e. absurd (cc)) (λ w q e. absurd (cc))
+        (record { up = up; free = free; plan = Ok n; planned_so = so; silent = refl; new_is = refl })
+
+    with_source : (asked : Request) (c : Command) (unit : StoredUnit) → source_in asked ≡ Some unit.source → ((n : ℕ) → rules.plan unit.source (Ok n) → IsPlanned rules asked (Ok n))
+        → ((its : Job P) → built rules its unit.source ≡ Ok unit → command_of rules its asked ≡ Ok c) → IsBuilt rules keeps unit → CanBeReady rules keeps old client worker c
+    with_source asked c unit from plans gives b =
+        let first = submitted asked (replicate (length b.pieces) Waiting) in
+        let all : IsHandedIn first client worker (job_at call asked (map (λ (p : P). Made p) ([] ++ b.pieces))) =
+        hands_all first client worker call asked unit.source [] b.pieces from (got_inserted old.jobs client.number (job_at call asked (replicate (length b.pieces) Waiting))) idle
+        (λ k q here. let it = b.whole.named k q here in (it.0, it.1 ∙ omega arith, All-slice_get keeps b.pieces k q b.kept here)) in
+        record {
+          events = event.Submit client call asked ∷ all.events;
+          new = all.new;
+          run = (first, (submits asked (length b.pieces) (plans (length b.pieces) b.whole.counted), all.run));
+          core = all.core;
+          job = job_at call asked (map (λ (p : P). Made p) b.pieces);
+          held = all.held;
+          there = there_all b.pieces;
+          comes = gives (job_at call asked (map (λ (p : P). Made p) b.pieces)) (built_is call asked unit.source b.pieces unit b.unit_is);
+          others = λ k apart. all.others k apart ∙ other_inserted old.jobs client.number (job_at call asked (replicate (length b.pieces) Waiting)) k apart;
+          idle = all.idle;
+        }
+
+    pub can_be_ready : (c : Command) → HasBuilt rules keeps c → CanBeReady rules keeps old client worker c
+    can_be_ready (command.Add name unit) b =
+        with_source (request.Add name unit.source) (command.Add name unit) unit refl (λ n so. so) (λ its is. ap (with_unit (command.Add name)) is) b
+    can_be_ready (command.Replace name unit) b =
+        with_source (request.Replace name unit.source) (command.Replace name unit) unit refl (λ n so. so) (λ its is. ap (with_unit (command.Replace name)) is) b
+    can_be_ready (command.Withdraw name) b = record {
+      events = event.Submit client call (request.Withdraw name) ∷ [];
+      new = submitted (request.Withdraw name) [];
+      run = (submitted (request.Withdraw name) [], (submits (request.Withdraw name) 0 refl, refl));
+      core = refl;
+      job = job_at call (request.Withdraw name) [];
+      held = got_inserted old.jobs client.number (job_at call (request.Withdraw name) []);
+      there = refl;
+      comes = refl;
+      others = λ k apart. other_inserted old.jobs client.number (job_at call (request.Withdraw name) []) k apart;
+      idle = idle;
+    }

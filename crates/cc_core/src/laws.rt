@@ -1,0 +1,75 @@
+//! Laws of the protocol core, each the contract of a function that does nothing: what holds of every run, and how a run can go on.
+ghost use Rattle.std.specs.Prelude.{◌≡◌, ◌++◌, ℕ, Option, None, Some, List};
+ghost use Rattle.std.specs.FinMap.{get};
+ghost use Rattle.cc_library.specs.declared.command.Command.{Command};
+ghost use Rattle.cc_core.specs.declared.contents.Contents.{Contents};
+ghost use Rattle.cc_core.specs.declared.event.Event.{Event};
+ghost use Rattle.cc_core.specs.declared.command.Numbered.{Numbered};
+ghost use Rattle.cc_core.specs.declared.command.Reply.{Reply};
+ghost use Rattle.cc_core.specs.declared.contents.Core.{Core};
+ghost use Rattle.cc_core.specs.declared.contents.Phase.TheVariants.{Idle, Crashed};
+ghost use Rattle.cc_core.specs.declared.ids.ClientId.{ClientId};
+ghost use Rattle.cc_core.specs.declared.ids.WorkerId.{WorkerId};
+ghost use Rattle.cc_core.specs.Rules.{HasBuilt};
+ghost use Rattle.cc_core.specs.Step.{Step, RewritesAll, Reopens, StepsCore, IsUp};
+ghost use Rattle.cc_core.specs.Run.{Turn, Run, EachUnit, IsRightOr, EachImageSurvives, EachImageIsRight, HandsIn, IsBeginning, IsAnyPiece, IsOfCrash, PutsSource, Commits, LeavesRecord, Rewrites, LeavesCompacted, live};
+ghost use Rattle.cc_core.specs.Turns.{BeginsSpelled, IsNoSubmit, IsNoTake, CanBeReady};
+
+use crate::build::Build;
+
+/// Whatever the rules by which units are made, and whatever pieces workers hand in; and whatever the events, from a fresh disk or an opened
+/// one, with any units on it: whatever a crash leaves of the disk survives so, and the live map is what the order gives. In a crashed
+/// state the recovery is possible, and nothing else but another crash; and a commit leaves exactly the bytes of its record. Between two
+/// commits a rewrite is always possible, since it never takes more room than the records do, and it leaves one Add per name.
+pub fn survival_law<B: Build>()
+    ensures survives { (first new : Contents B.Piece) (events : List (Event B.Piece))
+        → IsBeginning first → Run B.rules IsAnyPiece first events new → EachImageSurvives new.core }
+    ensures replay { (first new : Contents B.Piece) (events : List (Event B.Piece))
+        → IsBeginning first → Run B.rules IsAnyPiece first events new → new.core.library ≡ live new.core.phase new.core.order }
+    ensures recovers { (first new : Contents B.Piece) (events : List (Event B.Piece))
+        → IsBeginning first → Run B.rules IsAnyPiece first events new → new.core.phase ≡ Crashed
+        → (reply : Option Reply) × (after : Contents B.Piece) × StepsCore Reopens new reply after }
+    ensures quiet { (first new after : Contents B.Piece) (events : List (Event B.Piece)) (event : Event B.Piece) (reply : Option Reply)
+        → IsBeginning first → Run B.rules IsAnyPiece first events new → new.core.phase ≡ Crashed
+        → Step B.rules new event reply after → IsOfCrash event }
+    ensures leaves_record { (first new : Contents B.Piece) (events : List (Event B.Piece)) (client : ClientId) (numbered : Numbered) (after : Core)
+        → IsBeginning first → Run B.rules IsAnyPiece first events new → Commits client numbered new.core after → LeavesRecord numbered new.core after }
+    ensures rewrites { (first new : Contents B.Piece) (events : List (Event B.Piece))
+        → IsBeginning first → Run B.rules IsAnyPiece first events new → new.core.phase ≡ Idle
+        → (reply : Option Reply) × (after : Contents B.Piece) × StepsCore RewritesAll new reply after }
+    ensures leaves_compacted { (first new : Contents B.Piece) (events : List (Event B.Piece)) (after : Core)
+        → IsBeginning first → Run B.rules IsAnyPiece first events new → Rewrites new.core after → LeavesCompacted new.core after }
+{}
+
+/// Where each piece keeps what its type keeps: whatever a crash leaves of the disk survives so; each unit of it is one of those that were
+/// found at the opening, or is right, and so all are right where those were; and a command that begins has the source that was handed in.
+pub fn crash_law<B: Build>()
+    ensures survives { (first new : Contents B.Piece) (events : List (Event B.Piece))
+        → IsBeginning first → Run B.rules B.keeps first events new → EachImageSurvives new.core }
+    ensures units { (first new : Contents B.Piece) (events : List (Event B.Piece))
+        → IsBeginning first → Run B.rules B.keeps first events new → EachImageIsRight (IsRightOr B.is_right first.core.library) new.core }
+    ensures right { (first new : Contents B.Piece) (events : List (Event B.Piece))
+        → IsBeginning first → EachUnit B.is_right first.core.library → Run B.rules B.keeps first events new → EachImageIsRight B.is_right new.core }
+    ensures source { (first new after : Contents B.Piece) (events : List (Event B.Piece)) (client : ClientId)
+        → IsBeginning first → Run B.rules B.keeps first events new → PutsSource B.rules client new after }
+{
+    survival_law::<B>();
+}
+
+/// How a run can go on. Each step of an event that has one is a turn, where a piece that is handed in keeps what its type keeps, and a
+/// command that begins has a spelling; and one run goes on by another. Only a Submit gives a client a job, and only a Take gives a
+/// worker a piece. Where no crash is before, a command whose unit pieces give can be handed in by a client without a job, and made ready
+/// by an idle worker.
+pub fn turn_law<B: Build>()
+    ensures turn { (old new : Contents B.Piece) (event : Event B.Piece) (reply : Option Reply)
+        → Step B.rules old event reply new → HandsIn B.keeps event → BeginsSpelled B.rules old event → Turn B.rules B.keeps old event new }
+    ensures goes_on { (old mid new : Contents B.Piece) (events later : List (Event B.Piece))
+        → Run B.rules B.keeps old events mid → Run B.rules B.keeps mid later new → Run B.rules B.keeps old (events ++ later) new }
+    ensures no_job { (old new : Contents B.Piece) (event : Event B.Piece) (reply : Option Reply)
+        → Step B.rules old event reply new → IsNoSubmit event → (k : ℕ) → get old.jobs k ≡ None → get new.jobs k ≡ None }
+    ensures no_work { (old new : Contents B.Piece) (event : Event B.Piece) (reply : Option Reply)
+        → Step B.rules old event reply new → IsNoTake event → (k : ℕ) → get old.workers k ≡ None → get new.workers k ≡ None }
+    ensures ready { (old : Contents B.Piece) (client : ClientId) (worker : WorkerId) (command : Command)
+        → IsUp old.core.phase → get old.jobs client.number ≡ None → get old.workers worker.number ≡ None
+        → HasBuilt B.rules B.keeps command → CanBeReady B.rules B.keeps old client worker command }
+{}
