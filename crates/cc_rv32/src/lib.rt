@@ -16,5 +16,6 @@ pub mod machine;
 pub mod map;
 mod memory;
 pub mod operand;
+mod operands;
 pub mod outcome;
 mod simulator;
