@@ -18,26 +18,23 @@ pub struct Declaration<'a> {
     pub declared: Declared<'a>,
 }
 
-fn add<'a>(list: &mut Vec<Declaration<'a>>, tree: &'a External) -> Result<(), AllocError> {
-    match tree {
-        External::Declaration(signature) => list.push(Declaration {
-            name: &signature.name,
-            declared: Declared::Declaration(signature),
-        })?,
-        External::Definition(signature, _) => list.push(Declaration {
-            name: &signature.name,
-            declared: Declared::Definition(signature),
-        })?,
-        External::Objects(_, objects) => {
-            for object in objects.as_slice() {
-                let (Object::Single(name, _) | Object::Array(name, _, _)) = object;
-                list.push(Declaration {
-                    name,
-                    declared: Declared::Object(object),
-                })?;
-            }
-        }
+fn add_all<'a>(list: &mut Vec<Declaration<'a>>, objects: &'a [Object]) -> Result<(), AllocError> {
+    for object in objects {
+        let (Object::Single(name, _) | Object::Array(name, _, _)) = object;
+        let declared = Declared::Object(object);
+        list.push(Declaration { name, declared })?;
     }
+    Ok(())
+}
+
+fn add<'a>(list: &mut Vec<Declaration<'a>>, tree: &'a External) -> Result<(), AllocError> {
+    let (signature, declared) = match tree {
+        External::Declaration(signature) => (signature, Declared::Declaration(signature)),
+        External::Definition(signature, _) => (signature, Declared::Definition(signature)),
+        External::Objects(_, objects) => return add_all(list, objects.as_slice()),
+    };
+    let name = &signature.name;
+    list.push(Declaration { name, declared })?;
     Ok(())
 }
 

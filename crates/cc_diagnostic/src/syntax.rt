@@ -44,17 +44,45 @@ fn found(alloc: Global, text: &[u8], tokens: &[Token], at: usize) -> Result<Stri
     }
 }
 
+// What could stand in the place of a token.
+fn expected(
+    alloc: Global,
+    text: &[u8],
+    tokens: &[Token],
+    at: usize,
+) -> Result<Vec<&'static str>, AllocError> {
+    let mut prefix = Prefix::new(alloc, text, tokens, at)?;
+    let expected = prefix.expected(alloc);
+    drop(prefix);
+    expected
+}
+
+// The token that was found, and what could stand in its place.
+fn found_and_expected(found: String, expected: &[&str]) -> Result<String, AllocError> {
+    let mut message = found;
+    if !expected.is_empty() {
+        message.push_str(", expected ")?;
+        add_list(&mut message, expected)?;
+    }
+    Ok(message)
+}
+
+// What is told of a token of these with which no text goes on.
+fn unexpected_of(
+    alloc: Global,
+    text: &[u8],
+    tokens: &[Token],
+    at: usize,
+) -> Result<String, AllocError> {
+    let found = found(alloc, text, tokens, at)?;
+    let expected = expected(alloc, text, tokens, at)?;
+    found_and_expected(found, expected.as_slice())
+}
+
 // What is told of a token with which no text goes on.
 fn unexpected(alloc: Global, text: &[u8], at: usize) -> Result<String, AllocError> {
     let tokens = tokens_of(alloc, text)?;
-    let mut message = found(alloc, text, tokens.as_slice(), at)?;
-    let mut prefix = Prefix::new(alloc, text, tokens.as_slice(), at)?;
-    let expected = prefix.expected(alloc)?;
-    if !expected.is_empty() {
-        message.push_str(", expected ")?;
-        add_list(&mut message, expected.as_slice())?;
-    }
-    Ok(message)
+    unexpected_of(alloc, text, tokens.as_slice(), at)
 }
 
 // Whether the two tokens before an offset are `for (`: a declaration may stand there, and no statement.

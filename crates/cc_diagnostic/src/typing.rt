@@ -345,12 +345,19 @@ fn message_of(alloc: Global, view: &View<'_>, fault: &TypeFault) -> Result<Strin
     }
 }
 
-// What is told of a fault of a unit at an offset.
-fn of_unit(alloc: Global, unit: &Unit, fault: &TypeFault, at: usize) -> Result<String, AllocError> {
+// What a walk over a unit notes at an offset.
+fn noted<'a>(alloc: Global, unit: &'a Unit, at: usize) -> Result<Option<Note<'a>>, AllocError> {
     let mut walk = Walk::new(alloc, Vec::new(alloc), Some(at))?;
-    walk.externals(unit.externals())?;
+    let walked = walk.externals(unit.externals());
     let note = walk.note;
     drop(walk);
+    walked?;
+    Ok(note)
+}
+
+// What is told of a fault of a unit at an offset.
+fn of_unit(alloc: Global, unit: &Unit, fault: &TypeFault, at: usize) -> Result<String, AllocError> {
+    let note = noted(alloc, unit, at)?;
     let declarations = declarations(alloc, unit.externals())?;
     let text = unit.text();
     let mut view = View {

@@ -4,6 +4,8 @@
 // the tree does not keep the places; but they stand in the tree in the order of their tokens, so the walk takes the places of those
 // tokens one after the other. A tree that breaks rules is walked over as any other: what has no meaning becomes no instruction, or a
 // constant.
+//
+// Where memory is refused, that is noted and the walk goes on; `externals` tells of it at the end. So no step of it has an error.
 
 mod expressions;
 mod statements;
@@ -59,6 +61,8 @@ pub struct Walk<'a> {
     pub functions: Vec<Function<'a>>,
     // How many words the objects so far have.
     words: usize,
+    // Whether memory was refused for something that was to be written.
+    failed: bool,
 }
 
 impl<'a> Walk<'a> {
@@ -83,6 +87,7 @@ impl<'a> Walk<'a> {
             code: Vec::new(alloc),
             functions: Vec::new(alloc),
             words: 0,
+            failed: false,
         })
     }
 
@@ -104,16 +109,24 @@ impl<'a> Walk<'a> {
         standing
     }
 
-    fn emit(&mut self, instruction: Instruction<'a>) -> Result<(), AllocError> {
-        self.code.push(instruction)?;
-        Ok(())
+    fn emit(&mut self, instruction: Instruction<'a>) {
+        if self.code.push(instruction).is_err() {
+            self.failed = true;
+        }
+    }
+
+    // Declares a name in the innermost scope.
+    fn declare(&mut self, name: &'a Identifier, standing: Standing<'a>) {
+        if self.names.declare(name.bytes.as_slice(), standing).is_err() {
+            self.failed = true;
+        }
     }
 
     // Writes an instruction that a jump will replace, and answers its number.
-    fn open_jump(&mut self) -> Result<usize, AllocError> {
+    fn open_jump(&mut self) -> usize {
         let number = self.code.len();
-        self.emit(Instruction::Drop)?;
-        Ok(number)
+        self.emit(Instruction::Drop);
+        number
     }
 
     // Writes another instruction in the place of one.

@@ -29,13 +29,23 @@ fn can_go_wrong(token: Token) -> bool {
     }
 }
 
-// The offsets of the operators that can go wrong.
-fn operators(alloc: Global, tokens: &[Token]) -> Result<Vec<usize>, AllocError> {
-    tokens
-        .iter()
-        .filter(|token| can_go_wrong(**token))
-        .map(|token| token.from)
-        .collect(alloc)
+// The offsets of the operators that can go wrong in a text that has tokens.
+fn operators(alloc: Global, text: &[u8]) -> Result<Option<Vec<usize>>, AllocError> {
+    match tokens(alloc, text) {
+        Ok(tokens) => {
+            let offsets = tokens
+                .iter()
+                .filter(|token| can_go_wrong(**token))
+                .map(|token| token.from)
+                .collect(alloc);
+            drop(tokens);
+            Ok(Some(offsets?))
+        }
+        Err(fault) => {
+            drop(fault);
+            Ok(None)
+        }
+    }
 }
 
 fn of_index<'a>(
@@ -154,44 +164,80 @@ fn told(alloc: Global, trouble: Trouble<'_>) -> Result<Diagnostic, AllocError> {
     })
 }
 
-// What goes wrong in a run of a unit.
-fn of_unit(
-    alloc: Global,
-    unit: &Unit,
-    input: &[u32],
+// A run: its input, how many steps it has, and why it is said to go wrong.
+#[derive(Clone, Copy)]
+struct Run<'a> {
+    input: &'a [u32],
     steps: u64,
     cause: Cause,
-) -> Result<Option<Diagnostic>, AllocError> {
-    let tokens = match tokens(alloc, unit.text()) {
-        Ok(tokens) => tokens,
-        Err(fault) => {
-            drop(fault);
-            return Ok(None);
-        }
-    };
-    let operators = operators(alloc, tokens.as_slice())?;
+}
+
+// The words of a unit's objects as a run begins.
+fn words(alloc: Global, unit: &Unit) -> Result<Vec<u32>, AllocError> {
     let mut words = Vec::new(alloc);
     let layout = lay_out(alloc, &mut words, unit.externals())?;
     drop(layout);
+    Ok(words)
+}
+
+// What is told of a replay that calls a function that no other calls, where it goes wrong for a cause.
+fn of_replay(
+    alloc: Global,
+    replay: Replay<'_>,
+    main: usize,
+    cause: Cause,
+) -> Result<Option<Diagnostic>, AllocError> {
+    let mut replay = replay;
+    match replay.run(main)? {
+        Some(trouble) if has_cause(trouble.wrong, cause) => Ok(Some(told(alloc, trouble)?)),
+        _ => Ok(None),
+    }
+}
+
+// What a walk over a unit writes, with operators at these offsets that can go wrong.
+fn walked<'a>(
+    alloc: Global,
+    unit: &'a Unit,
+    operators: Vec<usize>,
+) -> Result<Walk<'a>, AllocError> {
     let mut walk = Walk::new(alloc, operators, None)?;
-    walk.externals(unit.externals())?;
+    match walk.externals(unit.externals()) {
+        Ok(()) => Ok(walk),
+        Err(error) => {
+            drop(walk);
+            Err(error)
+        }
+    }
+}
+
+// What is told of a run of a unit with operators at these offsets that can go wrong.
+fn of_operators(
+    alloc: Global,
+    unit: &Unit,
+    operators: Vec<usize>,
+    run: Run<'_>,
+) -> Result<Option<Diagnostic>, AllocError> {
+    let words = words(alloc, unit)?;
+    let walk = walked(alloc, unit, operators)?;
     let Some(main) = walk.function(b"main") else {
         return Ok(None);
     };
-    let mut replay = Replay::new(
+    let replay = Replay::new(
         alloc,
         walk.code.as_slice(),
         walk.functions.as_slice(),
-        input,
+        run.input,
         words,
-        steps,
+        run.steps,
     );
-    match replay.run(main)? {
-        Some(trouble) if has_cause(trouble.wrong, cause) => {
-            let told = told(alloc, trouble)?;
-            Ok(Some(told))
-        }
-        _ => Ok(None),
+    of_replay(alloc, replay, main, run.cause)
+}
+
+// What goes wrong in a run of a unit.
+fn of_unit(alloc: Global, unit: &Unit, run: Run<'_>) -> Result<Option<Diagnostic>, AllocError> {
+    match operators(alloc, unit.text())? {
+        Some(operators) => of_operators(alloc, unit, operators, run),
+        None => Ok(None),
     }
 }
 
@@ -209,7 +255,12 @@ pub fn of_wrong(
 ) -> Result<Option<Diagnostic>, AllocError> {
     match parse(alloc, text) {
         Ok(unit) => {
-            let told = of_unit(alloc, &unit, input, steps, cause);
+            let run = Run {
+                input,
+                steps,
+                cause,
+            };
+            let told = of_unit(alloc, &unit, run);
             drop(unit);
             told
         }

@@ -1,7 +1,7 @@
 //! The machine: RV32IM instruction words, their listing, and a simulator (RISC-V unprivileged ISA, RV32I and M).
 //! `operand` and `instr` are the instructions, `encode` and `decode` their words, `image` a program with its data.
 //! `machine` runs an image: `lowered` is its code decoded once, `memory` and `execute` do one instruction of it.
-//! `map` says where things lie in its memory. `listing` prints an image. The table itself, the state and the run are defined in `specs/`, in reading order.
+//! `map` says where things lie in its memory. `listing` prints an image, `operands` what stands behind an instruction's name. The table itself, the state and the run are defined in `specs/`, in reading order.
 #![tactic(auto)]
 
 pub mod decode;
@@ -16,5 +16,6 @@ pub mod machine;
 pub mod map;
 mod memory;
 pub mod operand;
+mod operands;
 pub mod outcome;
 mod simulator;

@@ -3,6 +3,7 @@
 ghost use Rattle.std.specs.Prelude.{◌≡◌, ◌++◌, ◌<◌, ◌≤◌, length, Some, IfOk, OnOk, string_bytes};
 ghost use Rattle.std.specs.Fmt.{decimal};
 ghost use Rattle.cc_rv32.specs.Table.{instruction_of};
+ghost use Rattle.cc_rv32.specs.internal.Operands.{operands_text};
 ghost use Rattle.cc_rv32.specs.Listing.{register_text, signed_text, operation_text, immediate_operation_text, shift_operation_text, load_operation_text, store_operation_text, branch_operation_text, instruction_text, word_text, hexadecimal, hexadecimal_digit, line, lines_from, listing};
 
 use crate::decode::decode;
@@ -14,6 +15,7 @@ use crate::instr::{
 };
 use crate::map::CODE_FROM;
 use crate::operand::{BranchOffset, Immediate, JumpOffset, Register, ShiftCount, UpperImmediate};
+use crate::operands::{Last, Operands};
 use std::alloc::{AllocError, Global};
 use std::fmt;
 
@@ -75,26 +77,8 @@ impl fmt::Display for Operation {
     ghost output = { λ o. Some (operation_text o) };
 
     fn fmt<W: fmt::Write>(&self, f: &mut fmt::Formatter<W>) -> fmt::Result {
-        match self {
-            Operation::Add => write!(f, "add"),
-            Operation::Sub => write!(f, "sub"),
-            Operation::Sll => write!(f, "sll"),
-            Operation::Slt => write!(f, "slt"),
-            Operation::Sltu => write!(f, "sltu"),
-            Operation::Xor => write!(f, "xor"),
-            Operation::Srl => write!(f, "srl"),
-            Operation::Sra => write!(f, "sra"),
-            Operation::Or => write!(f, "or"),
-            Operation::And => write!(f, "and"),
-            Operation::Mul => write!(f, "mul"),
-            Operation::Mulh => write!(f, "mulh"),
-            Operation::Mulhsu => write!(f, "mulhsu"),
-            Operation::Mulhu => write!(f, "mulhu"),
-            Operation::Div => write!(f, "div"),
-            Operation::Divu => write!(f, "divu"),
-            Operation::Rem => write!(f, "rem"),
-            Operation::Remu => write!(f, "remu"),
-        }
+        let name = operation_name(*self);
+        write!(f, "{name}")
     }
 }
 
@@ -102,14 +86,8 @@ impl fmt::Display for ImmediateOperation {
     ghost output = { λ o. Some (immediate_operation_text o) };
 
     fn fmt<W: fmt::Write>(&self, f: &mut fmt::Formatter<W>) -> fmt::Result {
-        match self {
-            ImmediateOperation::Addi => write!(f, "addi"),
-            ImmediateOperation::Slti => write!(f, "slti"),
-            ImmediateOperation::Sltiu => write!(f, "sltiu"),
-            ImmediateOperation::Xori => write!(f, "xori"),
-            ImmediateOperation::Ori => write!(f, "ori"),
-            ImmediateOperation::Andi => write!(f, "andi"),
-        }
+        let name = immediate_operation_name(*self);
+        write!(f, "{name}")
     }
 }
 
@@ -117,11 +95,8 @@ impl fmt::Display for ShiftOperation {
     ghost output = { λ o. Some (shift_operation_text o) };
 
     fn fmt<W: fmt::Write>(&self, f: &mut fmt::Formatter<W>) -> fmt::Result {
-        match self {
-            ShiftOperation::Slli => write!(f, "slli"),
-            ShiftOperation::Srli => write!(f, "srli"),
-            ShiftOperation::Srai => write!(f, "srai"),
-        }
+        let name = shift_operation_name(*self);
+        write!(f, "{name}")
     }
 }
 
@@ -129,13 +104,8 @@ impl fmt::Display for LoadOperation {
     ghost output = { λ o. Some (load_operation_text o) };
 
     fn fmt<W: fmt::Write>(&self, f: &mut fmt::Formatter<W>) -> fmt::Result {
-        match self {
-            LoadOperation::Lb => write!(f, "lb"),
-            LoadOperation::Lh => write!(f, "lh"),
-            LoadOperation::Lw => write!(f, "lw"),
-            LoadOperation::Lbu => write!(f, "lbu"),
-            LoadOperation::Lhu => write!(f, "lhu"),
-        }
+        let name = load_operation_name(*self);
+        write!(f, "{name}")
     }
 }
 
@@ -143,11 +113,8 @@ impl fmt::Display for StoreOperation {
     ghost output = { λ o. Some (store_operation_text o) };
 
     fn fmt<W: fmt::Write>(&self, f: &mut fmt::Formatter<W>) -> fmt::Result {
-        match self {
-            StoreOperation::Sb => write!(f, "sb"),
-            StoreOperation::Sh => write!(f, "sh"),
-            StoreOperation::Sw => write!(f, "sw"),
-        }
+        let name = store_operation_name(*self);
+        write!(f, "{name}")
     }
 }
 
@@ -155,64 +122,18 @@ impl fmt::Display for BranchOperation {
     ghost output = { λ o. Some (branch_operation_text o) };
 
     fn fmt<W: fmt::Write>(&self, f: &mut fmt::Formatter<W>) -> fmt::Result {
-        match self {
-            BranchOperation::Beq => write!(f, "beq"),
-            BranchOperation::Bne => write!(f, "bne"),
-            BranchOperation::Blt => write!(f, "blt"),
-            BranchOperation::Bge => write!(f, "bge"),
-            BranchOperation::Bltu => write!(f, "bltu"),
-            BranchOperation::Bgeu => write!(f, "bgeu"),
-        }
+        let name = branch_operation_name(*self);
+        write!(f, "{name}")
     }
 }
 
+/// The name, and its operands behind it.
 impl fmt::Display for Instr {
     ghost output = { λ i. Some (instruction_text i) };
 
     fn fmt<W: fmt::Write>(&self, f: &mut fmt::Formatter<W>) -> fmt::Result {
-        match self {
-            Instr::Op {
-                operation,
-                rd,
-                rs1,
-                rs2,
-            } => write!(f, "{operation} {rd}, {rs1}, {rs2}"),
-            Instr::OpImm {
-                operation,
-                rd,
-                rs1,
-                immediate,
-            } => write!(f, "{operation} {rd}, {rs1}, {immediate}"),
-            Instr::Shift {
-                operation,
-                rd,
-                rs1,
-                count,
-            } => write!(f, "{operation} {rd}, {rs1}, {count}"),
-            Instr::Load {
-                operation,
-                rd,
-                rs1,
-                offset,
-            } => write!(f, "{operation} {rd}, {offset}({rs1})"),
-            Instr::Store {
-                operation,
-                rs1,
-                rs2,
-                offset,
-            } => write!(f, "{operation} {rs2}, {offset}({rs1})"),
-            Instr::Branch {
-                operation,
-                rs1,
-                rs2,
-                offset,
-            } => write!(f, "{operation} {rs1}, {rs2}, {offset}"),
-            Instr::Lui { rd, immediate } => write!(f, "lui {rd}, {immediate}"),
-            Instr::Auipc { rd, immediate } => write!(f, "auipc {rd}, {immediate}"),
-            Instr::Jal { rd, offset } => write!(f, "jal {rd}, {offset}"),
-            Instr::Jalr { rd, rs1, offset } => write!(f, "jalr {rd}, {offset}({rs1})"),
-            Instr::Ecall => write!(f, "ecall"),
-        }
+        let Parts { name, operands } = parts_of(*self);
+        write!(f, "{name}{operands}")
     }
 }
 
@@ -278,4 +199,175 @@ fn digit(value: u32) -> char
 {
     let code = if value < 10 { 48 + value } else { 87 + value };
     char::from(code as u8)
+}
+
+// An instruction's name, and its operands.
+#[derive(Clone, Copy)]
+struct Parts {
+    name: &'static str,
+    operands: Operands,
+}
+
+fn parts_of(instr: Instr) -> Parts
+    ensures { result.name.now ++ operands_text result.operands ≡ instruction_text instr }
+{
+    match instr {
+        Instr::Op {
+            operation,
+            rd,
+            rs1,
+            rs2,
+        } => Parts {
+            name: operation_name(operation),
+            operands: Operands::Three(rd, rs1, Last::Register(rs2)),
+        },
+        Instr::OpImm {
+            operation,
+            rd,
+            rs1,
+            immediate,
+        } => Parts {
+            name: immediate_operation_name(operation),
+            operands: Operands::Three(rd, rs1, Last::Signed(immediate.word())),
+        },
+        Instr::Shift {
+            operation,
+            rd,
+            rs1,
+            count,
+        } => Parts {
+            name: shift_operation_name(operation),
+            operands: Operands::Three(rd, rs1, Last::Number(u32::from(count.amount()))),
+        },
+        Instr::Load {
+            operation,
+            rd,
+            rs1,
+            offset,
+        } => Parts {
+            name: load_operation_name(operation),
+            operands: Operands::Two(rd, Last::Address(offset, rs1)),
+        },
+        Instr::Store {
+            operation,
+            rs1,
+            rs2,
+            offset,
+        } => Parts {
+            name: store_operation_name(operation),
+            operands: Operands::Two(rs2, Last::Address(offset, rs1)),
+        },
+        Instr::Branch {
+            operation,
+            rs1,
+            rs2,
+            offset,
+        } => Parts {
+            name: branch_operation_name(operation),
+            operands: Operands::Three(rs1, rs2, Last::Signed(offset.word())),
+        },
+        Instr::Lui { rd, immediate } => Parts {
+            name: "lui",
+            operands: Operands::Two(rd, Last::Number(immediate.field())),
+        },
+        Instr::Auipc { rd, immediate } => Parts {
+            name: "auipc",
+            operands: Operands::Two(rd, Last::Number(immediate.field())),
+        },
+        Instr::Jal { rd, offset } => Parts {
+            name: "jal",
+            operands: Operands::Two(rd, Last::Signed(offset.word())),
+        },
+        Instr::Jalr { rd, rs1, offset } => Parts {
+            name: "jalr",
+            operands: Operands::Two(rd, Last::Address(offset, rs1)),
+        },
+        Instr::Ecall => Parts {
+            name: "ecall",
+            operands: Operands::None,
+        },
+    }
+}
+
+fn operation_name(operation: Operation) -> &'static str
+    ensures { result.now ≡ operation_text operation }
+{
+    match operation {
+        Operation::Add => "add",
+        Operation::Sub => "sub",
+        Operation::Sll => "sll",
+        Operation::Slt => "slt",
+        Operation::Sltu => "sltu",
+        Operation::Xor => "xor",
+        Operation::Srl => "srl",
+        Operation::Sra => "sra",
+        Operation::Or => "or",
+        Operation::And => "and",
+        Operation::Mul => "mul",
+        Operation::Mulh => "mulh",
+        Operation::Mulhsu => "mulhsu",
+        Operation::Mulhu => "mulhu",
+        Operation::Div => "div",
+        Operation::Divu => "divu",
+        Operation::Rem => "rem",
+        Operation::Remu => "remu",
+    }
+}
+
+fn immediate_operation_name(operation: ImmediateOperation) -> &'static str
+    ensures { result.now ≡ immediate_operation_text operation }
+{
+    match operation {
+        ImmediateOperation::Addi => "addi",
+        ImmediateOperation::Slti => "slti",
+        ImmediateOperation::Sltiu => "sltiu",
+        ImmediateOperation::Xori => "xori",
+        ImmediateOperation::Ori => "ori",
+        ImmediateOperation::Andi => "andi",
+    }
+}
+
+fn shift_operation_name(operation: ShiftOperation) -> &'static str
+    ensures { result.now ≡ shift_operation_text operation }
+{
+    match operation {
+        ShiftOperation::Slli => "slli",
+        ShiftOperation::Srli => "srli",
+        ShiftOperation::Srai => "srai",
+    }
+}
+
+fn load_operation_name(operation: LoadOperation) -> &'static str
+    ensures { result.now ≡ load_operation_text operation }
+{
+    match operation {
+        LoadOperation::Lb => "lb",
+        LoadOperation::Lh => "lh",
+        LoadOperation::Lw => "lw",
+        LoadOperation::Lbu => "lbu",
+        LoadOperation::Lhu => "lhu",
+    }
+}
+
+fn store_operation_name(operation: StoreOperation) -> &'static str
+    ensures { result.now ≡ store_operation_text operation }
+{
+    match operation {
+        StoreOperation::Sb => "sb",
+        StoreOperation::Sh => "sh",
+        StoreOperation::Sw => "sw",
+    }
+}
+
+fn branch_operation_name(operation: BranchOperation) -> &'static str
+    ensures { result.now ≡ branch_operation_text operation }
+{
+    match operation {
+        BranchOperation::Beq => "beq",
+        BranchOperation::Bne => "bne",
+        BranchOperation::Blt => "blt",
+        BranchOperation::Bge => "bge",
+        BranchOperation::Bltu => "bltu",
+        BranchOperation::Bgeu => "bgeu",
+    }
 }

@@ -11,7 +11,6 @@ use cc_tokens::Scalar;
 use cc_typing::{
     Entity, applied_operator, binary_type, common_type, step_operator, unary_type, working_type,
 };
-use std::alloc::AllocError;
 
 /// What is written: a variable of the function, a word of the objects, an array's element whose index is pushed, or nothing.
 #[derive(Clone, Copy)]
@@ -114,80 +113,79 @@ impl<'a> Walk<'a> {
 
     /// Writes what pushes the value of an expression, and answers its type.
     #[cycle(expressions)]
-    pub fn expression(&mut self, tree: &'a Expression) -> Result<Scalar, AllocError> {
+    pub fn expression(&mut self, tree: &'a Expression) -> Scalar {
         match tree {
             Expression::Number(scalar, word) => {
-                self.emit(Instruction::Constant(*word))?;
-                Ok(*scalar)
+                self.emit(Instruction::Constant(*word));
+                *scalar
             }
             Expression::Name(name) => {
                 let standing = self.look_up(name, Use::Read);
-                self.emit(load(standing))?;
-                Ok(scalar_of(standing))
+                self.emit(load(standing));
+                scalar_of(standing)
             }
             Expression::Element(name, index) => {
                 let standing = self.look_up(name, Use::Indexed);
-                let index = self.expression(index)?;
+                let index = self.expression(index);
                 self.emit(Instruction::Element(Element {
                     array: name,
                     extent: extent_of(standing),
                     index,
-                }))?;
-                Ok(scalar_of(standing))
+                }));
+                scalar_of(standing)
             }
             Expression::Call(name, all) => {
                 let all = all.as_slice();
                 let standing = self.look_up(name, Use::Called(all.len()));
-                self.arguments(all)?;
-                self.emit(call_of(standing, name))?;
-                Ok(scalar_of(standing))
+                self.arguments(all);
+                self.emit(call_of(standing, name));
+                scalar_of(standing)
             }
             Expression::Parenthesised(inner) => self.expression(inner),
             Expression::Unary(operator, operand) => {
-                let scalar = self.expression(operand)?;
+                let scalar = self.expression(operand);
                 if let Some(operation) = unary_operation(*operator) {
-                    self.emit(Instruction::Unary(operation))?;
+                    self.emit(Instruction::Unary(operation));
                 }
-                Ok(unary_type(*operator, scalar))
+                unary_type(*operator, scalar)
             }
             Expression::Cast(scalar, operand) => {
-                self.expression(operand)?;
-                Ok(*scalar)
+                self.expression(operand);
+                *scalar
             }
             Expression::Binary(operator, left, right) => {
-                let first = self.expression(left)?;
-                let middle = self.begin_binary(*operator)?;
-                let second = self.expression(right)?;
+                let first = self.expression(left);
+                let middle = self.begin_binary(*operator);
+                let second = self.expression(right);
                 self.end_binary(*operator, middle, first, second)
             }
             Expression::Conditional(test, held, other) => {
-                self.expression(test)?;
-                let jump = self.open_jump()?;
-                let first = self.expression(held)?;
-                let skip = self.open_jump()?;
+                self.expression(test);
+                let jump = self.open_jump();
+                let first = self.expression(held);
+                let skip = self.open_jump();
                 let goal = self.code.len();
                 self.replace(jump, Instruction::JumpIfZero(goal));
-                let second = self.expression(other)?;
+                let second = self.expression(other);
                 let goal = self.code.len();
                 self.replace(skip, Instruction::Jump(goal));
-                Ok(common_type(first, second))
+                common_type(first, second)
             }
         }
     }
 
     #[cycle(expressions)]
-    fn arguments(&mut self, trees: &'a [Expression]) -> Result<(), AllocError> {
+    fn arguments(&mut self, trees: &'a [Expression]) {
         for tree in trees {
-            self.expression(tree)?;
+            self.expression(tree);
         }
-        Ok(())
     }
 
     // Between the operands of a binary operator: where `&&` and `||` have to jump, or the offset of the operator.
-    fn begin_binary(&mut self, operator: BinaryOperator) -> Result<usize, AllocError> {
+    fn begin_binary(&mut self, operator: BinaryOperator) -> usize {
         match operator {
             BinaryOperator::LogicalAnd | BinaryOperator::LogicalOr => self.open_jump(),
-            _ => Ok(self.place_of(operator)),
+            _ => self.place_of(operator),
         }
     }
 
@@ -198,10 +196,10 @@ impl<'a> Walk<'a> {
         middle: usize,
         first: Scalar,
         second: Scalar,
-    ) -> Result<Scalar, AllocError> {
+    ) -> Scalar {
         match operator {
             BinaryOperator::LogicalAnd | BinaryOperator::LogicalOr => {
-                self.emit(Instruction::Truth)?;
+                self.emit(Instruction::Truth);
                 let end = self.code.len();
                 let jump = match operator {
                     BinaryOperator::LogicalAnd => Instruction::AndThen(end),
@@ -214,18 +212,18 @@ impl<'a> Walk<'a> {
                 at: middle,
                 working: working_type(operator, first, second),
                 right: second,
-            }))?,
+            })),
         }
-        Ok(binary_type(operator, first, second))
+        binary_type(operator, first, second)
     }
 
     /// Writes what does an action.
-    pub fn action(&mut self, tree: &'a Action) -> Result<(), AllocError> {
+    pub fn action(&mut self, tree: &'a Action) {
         match tree {
             Action::Assign(operator, target, right) => self.assignment(*operator, target, right),
             Action::Step(operator, target) => self.step(*operator, target),
             Action::Evaluate(tree) => {
-                self.expression(tree)?;
+                self.expression(tree);
                 self.emit(Instruction::Drop)
             }
         }
@@ -236,8 +234,8 @@ impl<'a> Walk<'a> {
         operator: AssignmentOperator,
         target: &'a Target,
         right: &'a Expression,
-    ) -> Result<(), AllocError> {
-        let goal = self.goal(target)?;
+    ) {
+        let goal = self.goal(target);
         let applied = match applied_operator(operator) {
             Some(operator) => Some(Applied {
                 operator,
@@ -245,14 +243,14 @@ impl<'a> Walk<'a> {
             }),
             None => None,
         };
-        let scalar = self.expression(right)?;
+        let scalar = self.expression(right);
         self.store(goal, applied, scalar)
     }
 
     // An increment or a decrement.
-    fn step(&mut self, operator: StepOperator, target: &'a Target) -> Result<(), AllocError> {
-        let goal = self.goal(target)?;
-        self.emit(Instruction::Constant(1))?;
+    fn step(&mut self, operator: StepOperator, target: &'a Target) {
+        let goal = self.goal(target);
+        self.emit(Instruction::Constant(1));
         let applied = match applied_operator(step_operator(operator)) {
             Some(operator) => Some(Applied { operator, at: 0 }),
             None => None,
@@ -261,46 +259,41 @@ impl<'a> Walk<'a> {
     }
 
     // What a target is, where the index of an element is pushed.
-    fn goal(&mut self, target: &'a Target) -> Result<Goal<'a>, AllocError> {
+    fn goal(&mut self, target: &'a Target) -> Goal<'a> {
         match target {
             Target::Variable(name) => {
                 let standing = self.look_up(name, Use::Written);
-                Ok(Goal {
+                Goal {
                     slot: slot_of(standing),
                     scalar: scalar_of(standing),
-                })
+                }
             }
             Target::Element(name, index) => {
                 let standing = self.look_up(name, Use::Indexed);
-                let index = self.expression(index)?;
+                let index = self.expression(index);
                 let element = Element {
                     array: name,
                     extent: extent_of(standing),
                     index,
                 };
-                Ok(Goal {
+                Goal {
                     slot: Slot::Element(element),
                     scalar: scalar_of(standing),
-                })
+                }
             }
         }
     }
 
     // Takes a word of a type into what is written, or what an operator makes of the old value there and the word.
-    fn store(
-        &mut self,
-        goal: Goal<'a>,
-        applied: Option<Applied>,
-        right: Scalar,
-    ) -> Result<(), AllocError> {
+    fn store(&mut self, goal: Goal<'a>, applied: Option<Applied>, right: Scalar) {
         if let Some(Applied { operator, at }) = applied {
-            self.old_value(goal.slot)?;
+            self.old_value(goal.slot);
             self.emit(Instruction::Binary(Operation {
                 operator,
                 at,
                 working: working_type(operator, goal.scalar, right),
                 right,
-            }))?;
+            }));
         }
         self.emit(match goal.slot {
             Slot::Local(number) => Instruction::SetLocal(number),
@@ -311,12 +304,12 @@ impl<'a> Walk<'a> {
     }
 
     // Puts the old value of what is written below the newest word.
-    fn old_value(&mut self, slot: Slot<'a>) -> Result<(), AllocError> {
+    fn old_value(&mut self, slot: Slot<'a>) {
         match slot {
-            Slot::Local(number) => self.emit(Instruction::Local(number))?,
-            Slot::Global(offset) => self.emit(Instruction::Global(offset))?,
+            Slot::Local(number) => self.emit(Instruction::Local(number)),
+            Slot::Global(offset) => self.emit(Instruction::Global(offset)),
             Slot::Element(element) => return self.emit(Instruction::ElementBelow(element)),
-            Slot::Nothing => self.emit(Instruction::Constant(0))?,
+            Slot::Nothing => self.emit(Instruction::Constant(0)),
         }
         self.emit(Instruction::Swap)
     }

@@ -6,7 +6,6 @@ use crate::names::{Lead, Standing};
 use cc_syntax::{Action, Beginning, Declarator, Expression, Statement};
 use cc_tokens::Scalar;
 use cc_typing::Entity;
-use std::alloc::AllocError;
 
 /// How many jumps out of loops were open before a loop.
 #[derive(Clone, Copy)]
@@ -40,87 +39,78 @@ impl<'a> Walk<'a> {
     }
 
     // Declares a variable of the function.
-    pub fn variable(
-        &mut self,
-        name: &'a cc_syntax::Identifier,
-        scalar: Scalar,
-    ) -> Result<usize, AllocError> {
-        let bytes = name.bytes.as_slice();
-        let standing = self.names.find_inner(bytes);
+    pub fn variable(&mut self, name: &'a cc_syntax::Identifier, scalar: Scalar) -> usize {
+        let standing = self.names.find_inner(name.bytes.as_slice());
         self.note(name.at, Use::Declared, standing);
         let number = self.variables;
         self.variables = number.saturating_add(1);
-        self.names.declare(
-            bytes,
-            Standing {
-                entity: Entity::Variable(scalar),
-                at: Some(name.at),
-                lead: Lead::Local(number),
-            },
-        )?;
-        Ok(number)
+        let standing = Standing {
+            entity: Entity::Variable(scalar),
+            at: Some(name.at),
+            lead: Lead::Local(number),
+        };
+        self.declare(name, standing);
+        number
     }
 
-    fn locals(&mut self, scalar: Scalar, trees: &'a [Declarator]) -> Result<(), AllocError> {
+    fn locals(&mut self, scalar: Scalar, trees: &'a [Declarator]) {
         for tree in trees {
-            let number = self.variable(&tree.name, scalar)?;
-            self.emit(Instruction::Constant(0))?;
-            self.emit(Instruction::SetLocal(number))?;
+            let number = self.variable(&tree.name, scalar);
+            self.emit(Instruction::Constant(0));
+            self.emit(Instruction::SetLocal(number));
             if let Some(initial) = &tree.initial {
-                self.expression(initial)?;
-                self.emit(Instruction::SetLocal(number))?;
+                self.expression(initial);
+                self.emit(Instruction::SetLocal(number));
             }
         }
-        Ok(())
     }
 
-    fn optional_action(&mut self, tree: &'a Option<Action>) -> Result<(), AllocError> {
+    fn optional_action(&mut self, tree: &'a Option<Action>) {
         match tree {
             Some(tree) => self.action(tree),
-            None => Ok(()),
+            None => {}
         }
     }
 
     // Pushes a condition, 1 where there is none.
-    fn condition(&mut self, tree: &'a Option<Box<Expression>>) -> Result<(), AllocError> {
+    fn condition(&mut self, tree: &'a Option<Box<Expression>>) {
         match tree {
             Some(tree) => {
-                self.expression(tree)?;
-                Ok(())
+                self.expression(tree);
             }
             None => self.emit(Instruction::Constant(1)),
         }
     }
 
     // Pushes a condition; the number of the instruction that has to jump where it does not hold.
-    fn condition_of(&mut self, test: &'a Expression) -> Result<usize, AllocError> {
-        self.expression(test)?;
+    fn condition_of(&mut self, test: &'a Expression) -> usize {
+        self.expression(test);
         self.open_jump()
     }
 
-    fn leave(&mut self, at: usize, given: &'a Option<Box<Expression>>) -> Result<(), AllocError> {
+    fn leave(&mut self, at: usize, given: &'a Option<Box<Expression>>) {
         self.note(at, Use::Returned(given.is_some()), None);
         match given {
             Some(tree) => {
-                self.expression(tree)?;
+                self.expression(tree);
             }
-            None => self.emit(Instruction::Constant(0))?,
+            None => self.emit(Instruction::Constant(0)),
         }
         self.emit(Instruction::Return)
     }
 
-    fn jump_out(&mut self, is_break: bool) -> Result<(), AllocError> {
+    fn jump_out(&mut self, is_break: bool) {
         let number = self.code.len();
         if is_break {
-            self.breaks.push(number)?;
+            self.failed |= self.breaks.push(number).is_err();
         } else {
-            self.continues.push(number)?;
+            self.failed |= self.continues.push(number).is_err();
         }
-        self.emit(Instruction::Jump(0))
+        self.emit(Instruction::Jump(0));
     }
 
     #[cycle(statements)]
-    fn statement(&mut self, tree: &'a Statement) -> Result<(), AllocError> {
+    fn statement(&mut self, tree: &'a Statement) {
         match tree {
             Statement::Block(all) => self.block(all),
             Statement::Local(scalar, declared) => self.locals(*scalar, declared.as_slice()),
@@ -129,22 +119,20 @@ impl<'a> Walk<'a> {
             Statement::Break(_) => self.jump_out(true),
             Statement::Continue(_) => self.jump_out(false),
             Statement::If(test, held) => {
-                let jump = self.condition_of(test)?;
-                self.inner_statement(held)?;
+                let jump = self.condition_of(test);
+                self.inner_statement(held);
                 let goal = self.code.len();
                 self.replace(jump, Instruction::JumpIfZero(goal));
-                Ok(())
             }
             Statement::IfElse(test, held, other) => {
-                let jump = self.condition_of(test)?;
-                self.inner_statement(held)?;
-                let skip = self.open_jump()?;
+                let jump = self.condition_of(test);
+                self.inner_statement(held);
+                let skip = self.open_jump();
                 let goal = self.code.len();
                 self.replace(jump, Instruction::JumpIfZero(goal));
-                self.inner_statement(other)?;
+                self.inner_statement(other);
                 let goal = self.code.len();
                 self.replace(skip, Instruction::Jump(goal));
-                Ok(())
             }
             Statement::While(test, body) => self.while_loop(body, test),
             Statement::DoWhile(body, test) => self.do_loop(body, test),
@@ -156,41 +144,38 @@ impl<'a> Walk<'a> {
 
     // A statement that is a scope of its own.
     #[cycle(statements)]
-    fn inner_statement(&mut self, tree: &'a Statement) -> Result<(), AllocError> {
+    fn inner_statement(&mut self, tree: &'a Statement) {
         let around = self.names.open();
-        self.statement(tree)?;
+        self.statement(tree);
         self.names.close(around);
-        Ok(())
     }
 
     #[cycle(statements)]
-    fn while_loop(&mut self, body: &'a Statement, test: &'a Expression) -> Result<(), AllocError> {
+    fn while_loop(&mut self, body: &'a Statement, test: &'a Expression) {
         let mark = self.mark();
         let begin = self.code.len();
-        self.expression(test)?;
-        let exit = self.open_jump()?;
-        self.emit(Instruction::Step)?;
-        self.inner_statement(body)?;
-        self.emit(Instruction::Jump(begin))?;
+        self.expression(test);
+        let exit = self.open_jump();
+        self.emit(Instruction::Step);
+        self.inner_statement(body);
+        self.emit(Instruction::Jump(begin));
         let end = self.code.len();
         self.replace(exit, Instruction::JumpIfZero(end));
         self.end_loop(mark, end, begin);
-        Ok(())
     }
 
     #[cycle(statements)]
-    fn do_loop(&mut self, body: &'a Statement, test: &'a Expression) -> Result<(), AllocError> {
+    fn do_loop(&mut self, body: &'a Statement, test: &'a Expression) {
         let mark = self.mark();
         let begin = self.code.len();
-        self.emit(Instruction::Step)?;
-        self.inner_statement(body)?;
+        self.emit(Instruction::Step);
+        self.inner_statement(body);
         let check = self.code.len();
-        self.expression(test)?;
+        self.expression(test);
         let end = self.code.len().saturating_add(2);
-        self.emit(Instruction::JumpIfZero(end))?;
-        self.emit(Instruction::Jump(begin))?;
+        self.emit(Instruction::JumpIfZero(end));
+        self.emit(Instruction::Jump(begin));
         self.end_loop(mark, end, check);
-        Ok(())
     }
 
     // A `for`, whose header is a scope around its body. What follows each turn stands before the body, as in the text.
@@ -201,48 +186,45 @@ impl<'a> Walk<'a> {
         test: &'a Option<Box<Expression>>,
         following: &'a Option<Action>,
         body: &'a Statement,
-    ) -> Result<(), AllocError> {
+    ) {
         let mark = self.mark();
         let around = self.names.open();
         match first {
             Beginning::Declaration(scalar, declared) => {
-                self.locals(*scalar, declared.as_slice())?;
+                self.locals(*scalar, declared.as_slice());
             }
-            Beginning::Action(action) => self.optional_action(action)?,
+            Beginning::Action(action) => self.optional_action(action),
         }
         let begin = self.code.len();
-        self.condition(test)?;
-        let exit = self.open_jump()?;
-        self.emit(Instruction::Drop)?;
+        self.condition(test);
+        let exit = self.open_jump();
+        self.emit(Instruction::Drop);
         let next = self.code.len();
-        self.optional_action(following)?;
-        self.emit(Instruction::Jump(begin))?;
+        self.optional_action(following);
+        self.emit(Instruction::Jump(begin));
         let start = self.code.len();
         self.replace(exit.saturating_add(1), Instruction::Jump(start));
-        self.emit(Instruction::Step)?;
-        self.inner_statement(body)?;
-        self.emit(Instruction::Jump(next))?;
+        self.emit(Instruction::Step);
+        self.inner_statement(body);
+        self.emit(Instruction::Jump(next));
         let end = self.code.len();
         self.replace(exit, Instruction::JumpIfZero(end));
         self.end_loop(mark, end, next);
         self.names.close(around);
-        Ok(())
     }
 
     #[cycle(statements)]
-    fn block(&mut self, trees: &'a [Statement]) -> Result<(), AllocError> {
+    fn block(&mut self, trees: &'a [Statement]) {
         let around = self.names.open();
-        self.statements(trees)?;
+        self.statements(trees);
         self.names.close(around);
-        Ok(())
     }
 
     /// Writes the statements of a list, in its scope.
     #[cycle(statements)]
-    pub fn statements(&mut self, trees: &'a [Statement]) -> Result<(), AllocError> {
+    pub fn statements(&mut self, trees: &'a [Statement]) {
         for tree in trees {
-            self.statement(tree)?;
+            self.statement(tree);
         }
-        Ok(())
     }
 }

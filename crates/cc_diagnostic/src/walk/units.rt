@@ -13,52 +13,46 @@ use std::alloc::AllocError;
 
 impl<'a> Walk<'a> {
     // Declares a function where its name is new, and answers its number, where it is a function.
-    fn declare_function(&mut self, signature: &'a Signature) -> Result<Option<usize>, AllocError> {
+    fn declare_function(&mut self, signature: &'a Signature) -> Option<usize> {
         let name = &signature.name;
         let standing = self.names.find_inner(name.bytes.as_slice());
         self.note(name.at, Use::Declared, standing);
         if let Some(standing) = standing {
-            return Ok(match standing.lead {
+            return match standing.lead {
                 Lead::Function(number) => Some(number),
                 Lead::Local(_) | Lead::Words(_) | Lead::Builtin => None,
-            });
+            };
         }
         let number = self.functions.len();
-        self.functions.push(Function {
+        let function = Function {
             name,
             start: usize::MAX,
             parameters: 0,
             variables: 0,
-        })?;
-        self.names.declare(
-            name.bytes.as_slice(),
-            Standing {
-                entity: Entity::Function(signature),
-                at: Some(name.at),
-                lead: Lead::Function(number),
-            },
-        )?;
-        Ok(Some(number))
+        };
+        self.failed |= self.functions.push(function).is_err();
+        let standing = Standing {
+            entity: Entity::Function(signature),
+            at: Some(name.at),
+            lead: Lead::Function(number),
+        };
+        self.declare(name, standing);
+        Some(number)
     }
 
-    fn parameters(&mut self, trees: &'a [Parameter]) -> Result<(), AllocError> {
+    fn parameters(&mut self, trees: &'a [Parameter]) {
         for tree in trees {
             match &tree.name {
                 Some(name) => {
-                    self.variable(name, tree.scalar)?;
+                    self.variable(name, tree.scalar);
                 }
                 None => self.variables = self.variables.saturating_add(1),
             }
         }
-        Ok(())
     }
 
     // Writes a function's instructions.
-    fn body(
-        &mut self,
-        signature: &'a Signature,
-        statements: &'a [Statement],
-    ) -> Result<Function<'a>, AllocError> {
+    fn body(&mut self, signature: &'a Signature, statements: &'a [Statement]) -> Function<'a> {
         let name = &signature.name;
         let parameters = signature.parameters.as_slice();
         self.taken = self
@@ -68,43 +62,37 @@ impl<'a> Walk<'a> {
             .filter(|at| **at < name.at)
             .count();
         let start = self.code.len();
-        self.parameters(parameters)?;
-        self.statements(statements)?;
-        self.emit(Instruction::Constant(0))?;
-        self.emit(Instruction::Return)?;
-        Ok(Function {
+        self.parameters(parameters);
+        self.statements(statements);
+        self.emit(Instruction::Constant(0));
+        self.emit(Instruction::Return);
+        Function {
             name,
             start,
             parameters: parameters.len(),
             variables: self.variables.saturating_sub(parameters.len()),
-        })
+        }
     }
 
-    fn definition(
-        &mut self,
-        signature: &'a Signature,
-        statements: &'a [Statement],
-    ) -> Result<(), AllocError> {
-        let number = self.declare_function(signature)?;
+    fn definition(&mut self, signature: &'a Signature, statements: &'a [Statement]) {
+        let number = self.declare_function(signature);
         let around = self.names.open();
         self.inside = Some(signature);
         self.variables = 0;
-        let function = self.body(signature, statements)?;
+        let function = self.body(signature, statements);
         self.inside = None;
         self.names.close(around);
         if let Some(place) = self.functions.get_mut(number.unwrap_or(usize::MAX)) {
             *place = function;
         }
-        Ok(())
     }
 
-    fn declaration(&mut self, signature: &'a Signature) -> Result<(), AllocError> {
-        self.declare_function(signature)?;
+    fn declaration(&mut self, signature: &'a Signature) {
+        self.declare_function(signature);
         let around = self.names.open();
         self.variables = 0;
-        self.parameters(signature.parameters.as_slice())?;
+        self.parameters(signature.parameters.as_slice());
         self.names.close(around);
-        Ok(())
     }
 
     fn constant(&mut self, tree: &ConstantExpression) {
@@ -112,38 +100,30 @@ impl<'a> Walk<'a> {
     }
 
     // Declares an object, which gets the next words.
-    fn declare_object(
-        &mut self,
-        name: &'a Identifier,
-        entity: Entity<'a>,
-        length: usize,
-    ) -> Result<(), AllocError> {
-        let bytes = name.bytes.as_slice();
-        let standing = self.names.find_inner(bytes);
+    fn declare_object(&mut self, name: &'a Identifier, entity: Entity<'a>, length: usize) {
+        let standing = self.names.find_inner(name.bytes.as_slice());
         self.note(name.at, Use::Declared, standing);
         let offset = self.words;
         self.words = offset.saturating_add(length);
-        self.names.declare(
-            bytes,
-            Standing {
-                entity,
-                at: Some(name.at),
-                lead: Lead::Words(Extent { offset, length }),
-            },
-        )
+        let standing = Standing {
+            entity,
+            at: Some(name.at),
+            lead: Lead::Words(Extent { offset, length }),
+        };
+        self.declare(name, standing);
     }
 
-    fn object(&mut self, scalar: Scalar, tree: &'a Object) -> Result<(), AllocError> {
+    fn object(&mut self, scalar: Scalar, tree: &'a Object) {
         let length = object_words(tree);
         match tree {
             Object::Single(name, initial) => {
-                self.declare_object(name, Entity::Variable(scalar), length)?;
+                self.declare_object(name, Entity::Variable(scalar), length);
                 if let Some(initial) = initial {
                     self.constant(initial);
                 }
             }
             Object::Array(name, given, values) => {
-                self.declare_object(name, Entity::Elements(scalar), length)?;
+                self.declare_object(name, Entity::Elements(scalar), length);
                 if let Some(given) = given {
                     self.constant(given);
                 }
@@ -152,27 +132,25 @@ impl<'a> Walk<'a> {
                 }
             }
         }
-        Ok(())
     }
 
-    fn external(&mut self, tree: &'a External) -> Result<(), AllocError> {
+    fn external(&mut self, tree: &'a External) {
         match tree {
             External::Declaration(signature) => self.declaration(signature),
             External::Definition(signature, body) => self.definition(signature, body.as_slice()),
             External::Objects(scalar, objects) => {
                 for object in objects.as_slice() {
-                    self.object(*scalar, object)?;
+                    self.object(*scalar, object);
                 }
-                Ok(())
             }
         }
     }
 
-    /// Goes over all external declarations of a unit.
+    /// Goes over all external declarations of a unit. `AllocError` where memory was refused on the way.
     pub fn externals(&mut self, trees: &'a [External]) -> Result<(), AllocError> {
         for tree in trees {
-            self.external(tree)?;
+            self.external(tree);
         }
-        Ok(())
+        if self.failed { Err(AllocError) } else { Ok(()) }
     }
 }
