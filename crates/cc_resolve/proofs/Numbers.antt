@@ -1,16 +1,14 @@
 -- Where names lead: the number of a name's first place in a list, and of the newest local of a name.
-use Rattle.std.proofs.Common.{◌≡◌, ℕ, suc, ◌+◌, ◌<◌, Bool, true, false, cond, List, [], ◌∷◌, ◌++◌, length, Option, Some, None, is_some, option_map, Result, Ok, Err, OnOk, is_err, refl, sym, ap, ◌∙◌, Bor, get_or, arith}
+use Rattle.std.proofs.Common.{◌≡◌, ℕ, suc, ◌+◌, ◌<◌, Bool, true, false, cond, List, [], ◌∷◌, ◌++◌, length, Option, Some, None, is_some, option_map, Result, Ok, Err, OnOk, is_err, refl, sym, ap, ◌∙◌, Bor, get_or, nat_eq, arith}
 use Rattle.std.proofs.lemmas.List.{map-append}
 use Rattle.std.specs.Cmp.Lexicographic.{bytes_decides}
-use Rattle.std.specs.Map.{lookup}
-use Rattle.std.specs.BTreeMap.{BTreeMap, Updates}
-use Rattle.cc_typing.proofs.KeyOrder.{key_cmp, lookup-updated}
+use Rattle.std.proofs.lemmas.Bool.Decides.{nat_tests}
+use Rattle.cc_typing.specs.Numberings.{AreNumbers, IsNumbered, number_of_name, at_number}
 use Rattle.cc_typing.specs.Names.{same_name}
 use Rattle.cc_typing.specs.Entities.{names_in}
 use Rattle.cc_typing.specs.Scope as scope
 use Rattle.cc_typing.specs.Bindings as bindings
-use Rattle.cc_typing.specs.Bindings.{same_key}
-use Rattle.cc_resolve.specs.Numberings.{first_of, IsNumbering, laid_objects, local_names}
+use Rattle.cc_resolve.specs.Numberings.{first_of, ArePlaces, laid_objects, local_names}
 use Rattle.cc_resolve.specs.Layout.{LaidObject, extent_of, object_number, names_before}
 use Rattle.cc_resolve.specs.Environment.{number_in}
 use Rattle.cc_resolve.specs.declared.layout.Extent.{Extent}
@@ -44,33 +42,83 @@ length-names_in : (ks : List (Bor (List ℕ))) → length (names_in ks) ≡ leng
 length-names_in [] = refl
 length-names_in (k ∷ ks) = ap suc (length-names_in ks)
 
-module _ (names : List (Bor (List ℕ))) (y : Bor (List ℕ)) (old : BTreeMap (Bor (List ℕ)) ℕ) (numbering : IsNumbering names old) where
-  pushed : (x : List ℕ) → first_of (names_in (names ++ y ∷ [])) x ≡ or_last (first_of (names_in names) x) (length names) (same_name y.now x)
-  pushed x =
-      ap (λ l. first_of l x) (map-append (λ (k : Bor (List ℕ)). k.now) names (y ∷ [])) ∙ first_of-push (names_in names) y.now x
-      ∙ ap (λ n. or_last (first_of (names_in names) x) n (same_name y.now x)) (length-names_in names)
+pushed : (names : List (Bor (List ℕ))) (y : Bor (List ℕ)) (x : List ℕ) → first_of (names_in (names ++ y ∷ [])) x ≡ or_last (first_of (names_in names) x) (length names) (same_name y.now x)
+pushed names y x =
+    ap (λ l. first_of l x) (map-append (λ (k : Bor (List ℕ)). k.now) names (y ∷ [])) ∙ first_of-push (names_in names) y.now x
+    ∙ ap (λ n. or_last (first_of (names_in names) x) n (same_name y.now x)) (length-names_in names)
 
-  same-number : (x : List ℕ) → same_name y.now x ≡ true → first_of (names_in names) x ≡ lookup (same_key y) old.entries
-  same-number x h = sym (ap (first_of (names_in names)) ((bytes_decides y.now x).0 h)) ∙ sym (numbering y)
+-- with one name more that has a number, the table is as it was
+pub ArePlaces-numbered : (list : List (Bor (List ℕ))) (old new : List (List ℕ × ℕ)) (x : List ℕ) (n : ℕ) (table : ℕ → Option ℕ) → ArePlaces list old table → IsNumbered old new x n → ArePlaces list new table
+ArePlaces-numbered list old new x n table before is = record {
+  numbers = is.numbers;
+  found = λ y. ap (at_number table) (is.found y) ∙ by y (same_name x y) refl;
+  rest = λ m h. before.rest m (let l = is.longer in omega (arith, h, l));
+}
+  where
+    at-own : (r : Option ℕ) → number_of_name old x ≡ r → at_number table (Some n) ≡ at_number table r
+    at-own None e =
+        let next : n ≡ length old = is.number ∙ ap (λ r. elim r [ None ↦ length old | Some k ↦ k ]) e in
+        before.rest n (omega (arith, next))
+    at-own (Some m) e = ap table (is.number ∙ ap (λ r. elim r [ None ↦ length old | Some k ↦ k ]) e)
 
-  -- a name that is there already keeps its number
-  pub IsNumbering-again : (r : Option ℕ) → r ≡ lookup (same_key y) old.entries → is_some r ≡ true → IsNumbering (names ++ y ∷ []) old
-  IsNumbering-again None er h = absurd (let no : false ≡ true = h in cc)
-  IsNumbering-again (Some i) er h = λ q. numbering q ∙ by q (same_name y.now q.now) refl ∙ sym (pushed q.now)
+    by : (y : List ℕ) (c : Bool) → same_name x y ≡ c → at_number table (cond c (Some n) (number_of_name old y)) ≡ first_of (names_in list) y
+    by y true h = at-own (number_of_name old x) refl ∙ ap (λ z. at_number table (number_of_name old z)) ((bytes_decides x y).0 h) ∙ before.found y
+    by y false h = before.found y
+
+module _ (list : List (Bor (List ℕ))) (y : Bor (List ℕ)) (names : List (List ℕ × ℕ)) (n : ℕ) (own : number_of_name names y.now ≡ Some n) where
+  -- the table has at the name's number where it stands first
+  place-is : (table : ℕ → Option ℕ) → ArePlaces list names table → table n ≡ first_of (names_in list) y.now
+  place-is table before = sym (ap (at_number table) own) ∙ before.found y.now
+
+  place-same : (table : ℕ → Option ℕ) → ArePlaces list names table → (q : List ℕ) → same_name y.now q ≡ true → first_of (names_in list) q ≡ table n
+  place-same table before q h = sym (ap (first_of (names_in list)) ((bytes_decides y.now q).0 h)) ∙ sym (place-is table before)
+
+  -- a name that is there already keeps its place
+  pub ArePlaces-again : (table : ℕ → Option ℕ) → ArePlaces list names table → (r : Option ℕ) → r ≡ table n → is_some r ≡ true → ArePlaces (list ++ y ∷ []) names table
+  ArePlaces-again table before None er h = absurd (let no : false ≡ true = h in cc)
+  ArePlaces-again table before (Some i) er h = record {
+    numbers = before.numbers;
+    found = λ q. before.found q ∙ by q (same_name y.now q) refl ∙ sym (pushed list y q);
+    rest = before.rest;
+  }
     where
-      by : (q : Bor (List ℕ)) (c : Bool) → same_name y.now q.now ≡ c → first_of (names_in names) q.now ≡ or_last (first_of (names_in names) q.now) (length names) c
-      by q true e = let there : first_of (names_in names) q.now ≡ Some i = same-number q.now e ∙ sym er in there ∙ sym (ap (λ k. or_last k (length names) true) there)
-      by q false e = or_last-other (first_of (names_in names) q.now) (length names)
+      by : (q : List ℕ) (c : Bool) → same_name y.now q ≡ c → first_of (names_in list) q ≡ or_last (first_of (names_in list) q) (length list) c
+      by q true e = let there : first_of (names_in list) q ≡ Some i = place-same table before q e ∙ sym er in there ∙ sym (ap (λ k. or_last k (length list) true) there)
+      by q false e = or_last-other (first_of (names_in list) q) (length list)
 
-  -- a new name gets the next number
-  pub IsNumbering-new : (new : BTreeMap (Bor (List ℕ)) ℕ) (r : Option ℕ) (n : ℕ) → r ≡ lookup (same_key y) old.entries → is_some r ≡ false → n ≡ length names → Updates key_cmp old new y (Some n) → IsNumbering (names ++ y ∷ []) new
-  IsNumbering-new new (Some i) n er h en u = absurd (let no : true ≡ false = h in cc)
-  IsNumbering-new new None n er h en u =
-      λ q. lookup-updated old new y (Some n) u q ∙ ap (cond (same_key y q) (Some n)) (numbering q) ∙ by q (same_name y.now q.now) refl ∙ sym (pushed q.now)
+  module _ (old new : ℕ → Option ℕ) (w : Option ℕ) (numbers : AreNumbers names) (updates : (m : ℕ) → new m ≡ cond (nat_eq n m) w (old m)) where
+    -- each name has in the table what it had, but for this one
+    at-changed : (q : List ℕ) → at_number new (number_of_name names q) ≡ cond (same_name y.now q) w (at_number old (number_of_name names q))
+    at-changed q = by (number_of_name names q) (same_name y.now q) refl refl
+      where
+        by : (r : Option ℕ) (c : Bool) → number_of_name names q ≡ r → same_name y.now q ≡ c → at_number new r ≡ cond c w (at_number old r)
+        by None true e h = absurd (let no : Some n ≡ None = sym own ∙ ap (number_of_name names) ((bytes_decides y.now q).0 h) ∙ e in cc)
+        by None false e h = refl
+        by (Some m) true e h =
+            let same : Some n ≡ Some m = sym own ∙ ap (number_of_name names) ((bytes_decides y.now q).0 h) ∙ e in
+            let at : n ≡ m = cc in
+            let is : nat_eq n m ≡ true = grind (arith, nat_tests, at) in
+            updates m ∙ ap (λ c. cond c w (old m)) is
+        by (Some m) false e h = updates m ∙ ap (λ c. cond c w (old m)) (other (nat_eq n m) refl)
+          where
+            other : (c : Bool) → nat_eq n m ≡ c → nat_eq n m ≡ false
+            other true k =
+                let at : n ≡ m = grind (arith, nat_tests, k) in
+                absurd (let no : true ≡ false = sym (numbers.one y.now q m (own ∙ ap Some at) e) ∙ h in cc)
+            other false k = k
+
+  -- a new name gets the next place
+  pub ArePlaces-new : (old new : ℕ → Option ℕ) → ArePlaces list names old → (r : Option ℕ) → r ≡ old n → is_some r ≡ false → (i : ℕ) → i ≡ length list → ((m : ℕ) → new m ≡ cond (nat_eq n m) (Some i) (old m)) → ArePlaces (list ++ y ∷ []) names new
+  ArePlaces-new old new before (Some k) er h i ei updates = absurd (let no : true ≡ false = h in cc)
+  ArePlaces-new old new before None er h i ei updates = record {
+    numbers = before.numbers;
+    found = λ q. at-changed old new (Some i) before.numbers updates q ∙ ap (cond (same_name y.now q) (Some i)) (before.found q) ∙ by q (same_name y.now q) refl ∙ sym (pushed list y q);
+    rest = λ m l. updates m ∙ ap (λ c. cond c (Some i) (old m)) (let few = before.numbers.below y.now n own in let is : nat_eq n m ≡ false = grind (arith, nat_tests, few, l) in is) ∙ before.rest m l;
+  }
     where
-      by : (q : Bor (List ℕ)) (c : Bool) → same_name y.now q.now ≡ c → cond c (Some n) (first_of (names_in names) q.now) ≡ or_last (first_of (names_in names) q.now) (length names) c
-      by q true e = let gone : first_of (names_in names) q.now ≡ None = same-number q.now e ∙ sym er in ap Some en ∙ sym (ap (λ k. or_last k (length names) true) gone)
-      by q false e = or_last-other (first_of (names_in names) q.now) (length names)
+      by : (q : List ℕ) (c : Bool) → same_name y.now q ≡ c → cond c (Some i) (first_of (names_in list) q) ≡ or_last (first_of (names_in list) q) (length list) c
+      by q true e = let gone : first_of (names_in list) q ≡ None = place-same old before q e ∙ sym er in ap Some ei ∙ sym (ap (λ k. or_last k (length list) true) gone)
+      by q false e = or_last-other (first_of (names_in list) q) (length list)
 
 -- ---- functions
 

@@ -1,10 +1,8 @@
 -- How the code keeps where names lead: the names of the objects and of the functions of a unit.
-use Rattle.std.specs.Prelude.{ℕ, suc, ◌≡◌, List, [], ◌∷◌, map, Option, Some, None, if◌then◌else◌, option_map}
+use Rattle.std.specs.Prelude.{ℕ, suc, ◌≡◌, ◌≤◌, List, [], ◌∷◌, length, map, Option, Some, None, if◌then◌else◌, option_map}
 use Rattle.std.specs.Borrow.{Bor}
-use Rattle.std.specs.BTreeMap.{BTreeMap}
-use Rattle.std.specs.Map.{lookup}
 use Rattle.cc_typing.specs.Names.{same_name}
-use Rattle.cc_typing.specs.Bindings.{same_key}
+use Rattle.cc_typing.specs.Numberings.{AreNumbers, number_of_name, at_number}
 use Rattle.cc_typing.specs.Entities.{names_in}
 use Rattle.cc_resolve.specs.Layout.{LaidObject}
 use Rattle.cc_typing.specs.Scope as scope
@@ -15,9 +13,11 @@ abbrev pub first_of : List (List ℕ) → List ℕ → Option ℕ
 first_of [] x = None
 first_of (y ∷ rest) x = if same_name y x then Some 0 else option_map suc (first_of rest x)
 
--- the map has the number of each name
-abbrev pub IsNumbering : List (Bor (List ℕ)) → BTreeMap (Bor (List ℕ)) ℕ → Type 0
-IsNumbering names numbers = (x : Bor (List ℕ)) → lookup (same_key x) numbers.entries ≡ first_of (names_in names) x.now
+-- the table has at the number of each name where it stands first, and nothing at a number that no name has
+pub record ArePlaces (list : List (Bor (List ℕ))) (names : List (List ℕ × ℕ)) (table : ℕ → Option ℕ) : Type 0 where
+  pub numbers : AreNumbers names
+  pub found : (x : List ℕ) → at_number table (number_of_name names x) ≡ first_of (names_in list) x
+  pub rest : (n : ℕ) → length names ≤ n → table n ≡ None
 
 -- objects, of their names and where their words are
 abbrev pub laid_objects : List (List ℕ) → List Extent → List LaidObject

@@ -3,7 +3,7 @@
 ghost use Rattle.std.specs.Prelude.{◌≡◌, [], ◌∷◌, ◌++◌, length, OnOk};
 ghost use Rattle.cc_resolve.specs.Layout.{callee, extent_of, names_before, object_number};
 
-use super::numbering::Numbering;
+use super::places::Places;
 use cc_typing::{READ_WORD, WRITE_WORD};
 use std::alloc::{AllocError, Global};
 use std::marker::Model;
@@ -34,9 +34,9 @@ const NOWHERE: Extent = Extent {
 /// The objects of a unit, and the functions in the order of their definitions.
 #[derive(Drop)]
 pub struct Layout<'a> {
-    objects: Numbering<'a>,
+    objects: Places<'a>,
     extents: Vec<Extent>,
-    functions: Numbering<'a>,
+    functions: Places<'a>,
 }
 
 impl<'a> Model for Layout<'a> {
@@ -57,9 +57,9 @@ impl<'a> Layout<'a> {
         ensures { result ≡ record { objects = []; functions = [] } }
     {
         Layout {
-            objects: Numbering::new(alloc),
+            objects: Places::new(alloc),
             extents: Vec::new(alloc),
-            functions: Numbering::new(alloc),
+            functions: Places::new(alloc),
         }
     }
 

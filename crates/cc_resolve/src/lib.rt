@@ -1,6 +1,6 @@
 // Which local, object or function a name is, where the objects lie, and in which type an operator works.
 //
-// `layout` has where the names of file scope lead, on `numbering`, and `units` and `objects` lay a unit out; `environment` is
+// `layout` has where the names of file scope lead, on `places`, and `units` and `objects` lay a unit out; `environment` is
 // where a statement stands, and `declarations`, `objects` and `units` bring names into it; `operations` has the operation on
 // words that an operator is. Any walk that translates a typed unit rests on these.
 #![tactic(auto)]
@@ -8,9 +8,9 @@
 mod declarations;
 mod environment;
 mod layout;
-mod numbering;
 mod objects;
 mod operations;
+mod places;
 mod units;
 
 pub use declarations::{declare_beginning, declare_locals, declare_statement};

@@ -1,4 +1,5 @@
 pub mod KeyOrder
+pub mod NameNumbers
 pub mod Tables
 pub mod Numbers
 pub mod NameSets

@@ -1,93 +1,203 @@
 -- The table of names: what a binding hides comes back when the binding goes.
-use Rattle.std.proofs.Common.{◌≡◌, ℕ, suc, Bool, true, false, cond, List, [], ◌∷◌, ◌++◌, length, map, reverse, Option, Some, None, Result, Ok, Err, OnOk, OnErr, refl, sym, ap, subst, ◌∙◌, Bor, nat_eq}
-use Rattle.std.specs.Cmp.Lexicographic.{pointwise, bytes_decides, nat_list_eq_equiv}
-use Rattle.std.proofs.lemmas.List.{reverse-append, length-reverse}
-use Rattle.std.specs.Map.{lookup}
-use Rattle.std.specs.BTreeMap.{BTreeMap, get, Updates}
+use Rattle.std.proofs.Common.{◌≡◌, ℕ, suc, ◌+◌, ◌<◌, ◌≤◌, Bool, true, false, cond, List, [], ◌∷◌, ◌++◌, length, map, reverse, get_or, Option, Some, None, IfSome, Result, Ok, Err, OnOk, OnErr, refl, sym, ap, subst, ◌∙◌, Bor, nat_eq, arith}
+use Rattle.std.specs.Cmp.Lexicographic.{bytes_decides, nat_list_eq_equiv}
+use Rattle.std.proofs.lemmas.List.{reverse-append, reverse-reverse, length-append, length-reverse, get_or_append_left}
+use Rattle.std.proofs.Math.Seq.{get_or-append_seam}
+use Rattle.std.proofs.lemmas.Bool.Decides.{nat_tests}
+use Rattle.indexmap.specs.IndexMap.{IndexMap, get, Updates}
 use Rattle.cc_typing.specs.Scope as scope
-use Rattle.cc_typing.proofs.KeyOrder.{key_cmp, lookup-get, lookup-updated}
+use Rattle.cc_typing.specs.Names.{same_name}
+use Rattle.cc_typing.specs.Numberings.{AreNumbers, IsNumbered, number_of_name, number_or_next, at_number}
 use Rattle.cc_typing.specs.Entities.{entity_of}
-use Rattle.cc_typing.specs.Bindings.{binding_of, newest, AreHidden, same_key, IsTable, number_in, number_of, entity_found}
+use Rattle.cc_typing.specs.Bindings.{binding_of, bindings_of, AreHidden, IsTable, number_in, number_of, entity_found}
 use Rattle.cc_typing.specs.declared.bindings.Binding.{Binding}
 use Rattle.cc_typing.specs.declared.bindings.Newest.{Newest}
 
--- what the newest binding of a name says
-pub number_of-newest : (bs : List Binding) (x : List ℕ) → number_of (newest bs x) ≡ number_in (map binding_of bs) x
-number_of-newest [] x = refl
-number_of-newest (b ∷ bs) x = by (pointwise nat_eq b.name.now x) (number_of-newest bs x)
-  where
-    by : (c : Bool) → number_of (newest bs x) ≡ number_in (map binding_of bs) x
-        → number_of (cond c (Some (record { number = length bs; entity = b.entity })) (newest bs x)) ≡ cond c (Some (length (map binding_of bs))) (number_in (map binding_of bs) x)
-    by true e = ap Some (sym (length-map_of bs))
-      where
-        length-map_of : (cs : List Binding) → length (map binding_of cs) ≡ length cs
-        length-map_of [] = refl
-        length-map_of (c ∷ cs) = ap suc (length-map_of cs)
-    by false e = e
+same-itself : (x : List ℕ) → same_name x x ≡ true
+same-itself = nat_list_eq_equiv.refl
 
-pub entity_found-newest : (bs : List Binding) (x : List ℕ) → entity_found (newest bs x) ≡ scope.found (map binding_of bs) x
-entity_found-newest [] x = refl
-entity_found-newest (b ∷ bs) x = by (pointwise nat_eq b.name.now x) (entity_found-newest bs x)
-  where
-    by : (c : Bool) → entity_found (newest bs x) ≡ scope.found (map binding_of bs) x
-        → entity_found (cond c (Some (record { number = length bs; entity = b.entity })) (newest bs x)) ≡ cond c (Some (entity_of b.entity)) (scope.found (map binding_of bs) x)
-    by true e = refl
-    by false e = e
-
--- the same name has the same newest binding
-newest-same : (bs : List Binding) (x y : List ℕ) → pointwise nat_eq x y ≡ true → newest bs x ≡ newest bs y
-newest-same bs x y h = ap (newest bs) ((bytes_decides x y).0 h)
+length-bindings : (bs : List Binding) → length (map binding_of bs) ≡ length bs
+length-bindings [] = refl
+length-bindings (b ∷ bs) = ap suc (length-bindings bs)
 
 reverse-push : (bs : List Binding) (b : Binding) → reverse (bs ++ b ∷ []) ≡ b ∷ reverse bs
 reverse-push bs b = reverse-append bs (b ∷ [])
 
--- without the newest binding, each name has what it had
-newest-restored : (rest : List Binding) (b : Binding) (x : List ℕ) (w : Option Newest) → w ≡ newest rest b.name.now → cond (pointwise nat_eq b.name.now x) w (newest (b ∷ rest) x) ≡ newest rest x
-newest-restored rest b x w h = by (pointwise nat_eq b.name.now x) refl
+-- ---- the newest binding of a name, at its number
+
+record IsAt (rs : List Binding) (x : List ℕ) (i : ℕ) : Type 0 where
+  within : i < length rs
+  entity : (d : Binding) → scope.found (map binding_of rs) x ≡ Some (entity_of (get_or (reverse rs) i d).entity)
+
+at-reverse : (rs : List Binding) (x : List ℕ) (i : ℕ) → number_in (map binding_of rs) x ≡ Some i → IsAt rs x i
+at-reverse [] x i h = absurd cc
+at-reverse (b ∷ rs) x i h = by (same_name b.name.now x) refl h (at-reverse rs x i)
   where
-    by : (c : Bool) → pointwise nat_eq b.name.now x ≡ c → cond c w (cond c (Some (record { number = length rest; entity = b.entity })) (newest rest x)) ≡ newest rest x
-    by true e = h ∙ newest-same rest b.name.now x e
-    by false e = refl
+    onto : reverse (b ∷ rs) ≡ reverse rs ++ b ∷ []
+    onto = reverse-append (b ∷ []) rs
 
--- the table with one binding more, which hides what was the newest of its name
-pub IsTable-pushed : (bs : List Binding) (b : Binding) (n : ℕ) (old new : BTreeMap (Bor (List ℕ)) Newest) → IsTable bs old → n ≡ length bs → b.hidden ≡ get key_cmp old b.name
-    → Updates key_cmp old new b.name (Some (record { number = n; entity = b.entity })) → IsTable (bs ++ b ∷ []) new
-IsTable-pushed bs b n old new table en hides v =
-    let u : Updates key_cmp old new b.name (Some (record { number = length (reverse bs); entity = b.entity })) =
-    subst (λ m. Updates key_cmp old new b.name (Some (record { number = m; entity = b.entity }))) (en ∙ sym (length-reverse bs)) v in
-    record {
-      found = λ q. lookup-updated old new b.name _ u q ∙ ap (cond (same_key b.name q) (Some (record { number = length (reverse bs); entity = b.entity }))) (table.found q)
-          ∙ ap (λ (l : List Binding). newest l q.now) (sym (reverse-push bs b));
-      hidden = subst AreHidden (sym (reverse-push bs b)) (hides ∙ sym (lookup-get old b.name) ∙ table.found b.name, table.hidden);
-    }
+    by : (c : Bool) → same_name b.name.now x ≡ c → cond c (Some (length (map binding_of rs))) (number_in (map binding_of rs) x) ≡ Some i → (number_in (map binding_of rs) x ≡ Some i → IsAt rs x i) → IsAt (b ∷ rs) x i
+    by true e k before =
+        let at : length (map binding_of rs) ≡ i = cc in
+        let last : i ≡ length (reverse rs) = sym at ∙ length-bindings rs ∙ sym (length-reverse rs) in
+        let size = length-reverse rs in
+        record {
+          within = omega (arith, last, size);
+          entity = λ d. ap (λ c. cond c (Some (entity_of b.entity)) (scope.found (map binding_of rs) x)) e
+              ∙ ap (λ (v : Binding). Some (entity_of v.entity)) (sym (ap (λ l. get_or l i d) onto ∙ ap (λ j. get_or (reverse rs ++ b ∷ []) j d) last ∙ get_or-append_seam (reverse rs) b [] d));
+        }
+    by false e k before =
+        let there = before k in
+        let size = length-reverse rs in
+        let inside : i < length (reverse rs) = let w = there.within in omega (arith, w, size) in
+        record {
+          within = let w = there.within in omega (arith, w);
+          entity = λ d. ap (λ c. cond c (Some (entity_of b.entity)) (scope.found (map binding_of rs) x)) e ∙ there.entity d
+              ∙ ap (λ (v : Binding). Some (entity_of v.entity)) (sym (ap (λ l. get_or l i d) onto ∙ get_or_append_left (reverse rs) (b ∷ []) d i inside));
+        }
 
-module _ (bs : List Binding) (b : Binding) (old new : BTreeMap (Bor (List ℕ)) Newest) (table : IsTable (bs ++ b ∷ []) old) where
-  hidden_is : AreHidden (b ∷ reverse bs)
-  hidden_is = subst AreHidden (reverse-push bs b) table.hidden
+pub number_in-within : (bs : List Binding) (x : List ℕ) (r : Option ℕ) → r ≡ number_in (bindings_of bs) x → IfSome r (λ i. i < length bs)
+number_in-within bs x None e = tt
+number_in-within bs x (Some i) e = let w = (at-reverse (reverse bs) x i (sym e)).within in let size = length-reverse bs in omega (arith, w, size)
 
-  found_is : (x : Bor (List ℕ)) → lookup (same_key x) old.entries ≡ newest (b ∷ reverse bs) x.now
-  found_is x = table.found x ∙ ap (λ (l : List Binding). newest l x.now) (reverse-push bs b)
+not-found : (bs : List scope.Binding) (x : List ℕ) → number_in bs x ≡ None → scope.found bs x ≡ None
+not-found [] x e = refl
+not-found (b ∷ bs) x e = by (same_name b.name x) (not-found bs x) e
+  where
+    by : (c : Bool) → (number_in bs x ≡ None → scope.found bs x ≡ None) → cond c (Some (length bs)) (number_in bs x) ≡ None → cond c (Some b.entity) (scope.found bs x) ≡ None
+    by true f k = absurd cc
+    by false f k = f k
+
+-- what is answered of a name, by the number of its newest binding
+pub entity_found-is : (bs : List Binding) (x : List ℕ) (r : Option Newest) → number_of r ≡ number_in (bindings_of bs) x → IfSome r (λ n. (d : Binding) → n.entity ≡ (get_or bs n.number d).entity)
+    → entity_found r ≡ scope.found (bindings_of bs) x
+entity_found-is bs x None e h = sym (not-found (bindings_of bs) x (sym e))
+entity_found-is [] x (Some n) e h = absurd cc
+entity_found-is (b ∷ bs) x (Some n) e h =
+    ap (λ a. Some (entity_of a)) (h b) ∙ ap (λ (l : List Binding). Some (entity_of (get_or l n.number b).entity)) (sym (reverse-reverse (b ∷ bs)))
+    ∙ sym ((at-reverse (reverse (b ∷ bs)) x n.number (sym e)).entity b)
+
+-- the same where a binding stands behind them
+pub entity_found-pushed : (bs : List Binding) (b : Binding) (x : List ℕ) (r : Option Newest) → number_of r ≡ number_in (bindings_of bs) x
+    → IfSome r (λ n. (d : Binding) → n.entity ≡ (get_or (bs ++ b ∷ []) n.number d).entity) → entity_found r ≡ scope.found (bindings_of bs) x
+entity_found-pushed bs b x None e h = entity_found-is bs x None e tt
+entity_found-pushed bs b x (Some n) e h =
+    entity_found-is bs x (Some n) e (λ d. h d ∙ ap (λ (v : Binding). v.entity) (get_or_append_left bs (b ∷ []) d n.number (number_in-within bs x (Some n.number) e)))
+
+-- ---- names that are numbered
+
+numbered-kept : (old new : List (List ℕ × ℕ)) (x : List ℕ) (n : ℕ) → IsNumbered old new x n → (y : List ℕ) (m : ℕ) → number_of_name old y ≡ Some m → number_of_name new y ≡ Some m
+numbered-kept old new x n is y m e = is.found y ∙ by (same_name x y) refl
+  where
+    by : (c : Bool) → same_name x y ≡ c → cond c (Some n) (number_of_name old y) ≡ Some m
+    by true h = ap Some (is.number ∙ ap (λ r. elim r [ None ↦ length old | Some k ↦ k ]) (ap (number_of_name old) ((bytes_decides x y).0 h) ∙ e))
+    by false h = e
+
+AreHidden-kept : (old new : List (List ℕ × ℕ)) (x : List ℕ) (n : ℕ) → IsNumbered old new x n → (rs : List Binding) → AreHidden old rs → AreHidden new rs
+AreHidden-kept old new x n is [] h = tt
+AreHidden-kept old new x n is (b ∷ rs) h = (numbered-kept old new x n is b.name.now b.number h.0, h.1, AreHidden-kept old new x n is rs h.2)
+
+-- with one name more that has a number, the table is as it was
+pub IsTable-numbered : (bs : List Binding) (old new : List (List ℕ × ℕ)) (x : List ℕ) (n : ℕ) (table : ℕ → Option ℕ) → IsTable bs old table → IsNumbered old new x n → IsTable bs new table
+IsTable-numbered bs old new x n table before is = record {
+  numbers = is.numbers;
+  found = λ y. ap (at_number table) (is.found y) ∙ by y (same_name x y) refl;
+  hidden = AreHidden-kept old new x n is (reverse bs) before.hidden;
+  rest = λ m h. before.rest m (let l = is.longer in omega (arith, h, l));
+}
+  where
+    at-own : (r : Option ℕ) → number_of_name old x ≡ r → at_number table (Some n) ≡ at_number table r
+    at-own None e =
+        let next : n ≡ length old = is.number ∙ ap (λ r. elim r [ None ↦ length old | Some k ↦ k ]) e in
+        before.rest n (omega (arith, next))
+    at-own (Some m) e = ap table (is.number ∙ ap (λ r. elim r [ None ↦ length old | Some k ↦ k ]) e)
+
+    by : (y : List ℕ) (c : Bool) → same_name x y ≡ c → at_number table (cond c (Some n) (number_of_name old y)) ≡ number_in (bindings_of bs) y
+    by y true h = at-own (number_of_name old x) refl ∙ ap (λ z. at_number table (number_of_name old z)) ((bytes_decides x y).0 h) ∙ before.found y
+    by y false h = before.found y
+
+-- the name's own number
+pub number-own : (old new : List (List ℕ × ℕ)) (x : List ℕ) (n : ℕ) → IsNumbered old new x n → number_of_name new x ≡ Some n
+number-own old new x n is = is.found x ∙ ap (λ c. cond c (Some n) (number_of_name old x)) (same-itself x)
+
+-- what the table has at the number of a name
+pub table-at : (bs : List Binding) (names : List (List ℕ × ℕ)) (table : ℕ → Option ℕ) → IsTable bs names table → (x : List ℕ) (n : ℕ) → number_of_name names x ≡ Some n → table n ≡ number_in (bindings_of bs) x
+table-at bs names table is x n e = sym (ap (at_number table) e) ∙ is.found x
+
+-- what the table has at a name's number, once the name has one
+pub hidden-is : (bs : List Binding) (old new : List (List ℕ × ℕ)) (x : List ℕ) (n : ℕ) (table : ℕ → Option ℕ) → IsTable bs old table → IsNumbered old new x n → (r : Option ℕ) → r ≡ table n → r ≡ number_in (bindings_of bs) x
+hidden-is bs old new x n table before is r e = e ∙ table-at bs new table (IsTable-numbered bs old new x n table before is) x n (number-own old new x n is)
+
+pub hidden-within : (bs : List Binding) (b : Binding) (x : List ℕ) (r : Option ℕ) → r ≡ number_in (bindings_of bs) x → IfSome r (λ n. n < length (bs ++ b ∷ []))
+hidden-within bs b x None e = tt
+hidden-within bs b x (Some n) e = let within = number_in-within bs x (Some n) e in let size : length (bs ++ b ∷ []) ≡ length bs + 1 = length-append bs (b ∷ []) in omega (arith, within, size)
+
+-- ---- a binding more, and one less
+
+module _ (bs : List Binding) (b : Binding) (names : List (List ℕ × ℕ)) (old new : ℕ → Option ℕ) (w : Option ℕ) (updates : (m : ℕ) → new m ≡ cond (nat_eq b.number m) w (old m))
+    (own : number_of_name names b.name.now ≡ Some b.number) (numbers : AreNumbers names) where
+  -- each name has in the table what it had, but for the binding's own
+  at-changed : (y : List ℕ) → at_number new (number_of_name names y) ≡ cond (same_name b.name.now y) w (at_number old (number_of_name names y))
+  at-changed y = by (number_of_name names y) (same_name b.name.now y) refl refl
+    where
+      by : (r : Option ℕ) (c : Bool) → number_of_name names y ≡ r → same_name b.name.now y ≡ c → at_number new r ≡ cond c w (at_number old r)
+      by None true e h = absurd (let no : Some b.number ≡ None = sym own ∙ ap (number_of_name names) ((bytes_decides b.name.now y).0 h) ∙ e in cc)
+      by None false e h = refl
+      by (Some m) true e h =
+          let same : Some b.number ≡ Some m = sym own ∙ ap (number_of_name names) ((bytes_decides b.name.now y).0 h) ∙ e in
+          let at : b.number ≡ m = cc in
+          let is : nat_eq b.number m ≡ true = grind (arith, nat_tests, at) in
+          updates m ∙ ap (λ c. cond c w (old m)) is
+      by (Some m) false e h = updates m ∙ ap (λ c. cond c w (old m)) (other (nat_eq b.number m) refl)
+        where
+          other : (c : Bool) → nat_eq b.number m ≡ c → nat_eq b.number m ≡ false
+          other true k =
+              let at : b.number ≡ m = grind (arith, nat_tests, k) in
+              absurd (let no : true ≡ false = sym (numbers.one b.name.now y m (own ∙ ap Some at) e) ∙ h in cc)
+          other false k = k
+
+  rest-changed : (length names ≤ b.number → w ≡ None) → ((n : ℕ) → length names ≤ n → old n ≡ None) → (n : ℕ) → length names ≤ n → new n ≡ None
+  rest-changed none rest n h =
+      updates n ∙ ap (λ c. cond c w (old n)) (let few = numbers.below b.name.now b.number own in let is : nat_eq b.number n ≡ false = grind (arith, nat_tests, few, h) in is) ∙ rest n h
+
+pub IsTable-pushed : (bs : List Binding) (b : Binding) (names : List (List ℕ × ℕ)) (old new : ℕ → Option ℕ) → IsTable bs names old → number_of_name names b.name.now ≡ Some b.number
+    → b.hidden ≡ old b.number → ((m : ℕ) → new m ≡ cond (nat_eq b.number m) (Some (length bs)) (old m)) → IsTable (bs ++ b ∷ []) names new
+IsTable-pushed bs b names old new before own hides updates = record {
+  numbers = before.numbers;
+  found = λ y. at-changed bs b names old new (Some (length bs)) updates own before.numbers y ∙ ap (cond (same_name b.name.now y) (Some (length bs))) (before.found y)
+      ∙ ap (λ n. cond (same_name b.name.now y) (Some n) (number_in (bindings_of bs) y)) (sym (length-bindings (reverse bs) ∙ length-reverse bs))
+      ∙ ap (λ l. number_in (map binding_of l) y) (sym (reverse-push bs b));
+  hidden = subst (AreHidden names) (sym (reverse-push bs b)) (own, hides ∙ table-at bs names old before b.name.now b.number own, before.hidden);
+  rest = rest-changed bs b names old new (Some (length bs)) updates own before.numbers (λ h. let few = before.numbers.below b.name.now b.number own in absurd (omega (arith, h, few))) before.rest;
+}
+
+module _ (bs : List Binding) (b : Binding) (names : List (List ℕ × ℕ)) (old new : ℕ → Option ℕ) (before : IsTable (bs ++ b ∷ []) names old) where
+  hidden_is : AreHidden names (b ∷ reverse bs)
+  hidden_is = subst (AreHidden names) (reverse-push bs b) before.hidden
+
+  found_is : (y : List ℕ) → at_number old (number_of_name names y) ≡ number_in (map binding_of (b ∷ reverse bs)) y
+  found_is y = before.found y ∙ ap (λ l. number_in (map binding_of l) y) (reverse-push bs b)
 
   -- the table without its newest binding, whose name gets back what it hides
-  pub IsTable-popped : (x : Bor (List ℕ)) (w : Option Newest) → b.name ≡ x → b.hidden ≡ w → Updates key_cmp old new x w → IsTable bs new
-  IsTable-popped x w ex ew u = record {
-    found = λ q. lookup-updated old new x w u q ∙ ap (cond (same_key x q) w) (found_is q) ∙ restored-at q;
-    hidden = hidden_is.1;
+  pub IsTable-popped : (w : Option ℕ) → b.hidden ≡ w → ((m : ℕ) → new m ≡ cond (nat_eq b.number m) w (old m)) → IsTable bs names new
+  IsTable-popped w ew updates = record {
+    numbers = before.numbers;
+    found = λ y. at-changed bs b names old new w updates hidden_is.0 before.numbers y ∙ ap (cond (same_name b.name.now y) w) (found_is y) ∙ restored y (same_name b.name.now y) refl;
+    hidden = hidden_is.2;
+    rest = rest-changed bs b names old new w updates hidden_is.0 before.numbers (λ h. let few = before.numbers.below b.name.now b.number hidden_is.0 in absurd (omega (arith, h, few))) before.rest;
   }
     where
-      restored-at : (q : Bor (List ℕ)) → cond (same_key x q) w (newest (b ∷ reverse bs) q.now) ≡ newest (reverse bs) q.now
-      restored-at q =
-          subst (λ (k : Bor (List ℕ)). cond (same_key k q) w (newest (b ∷ reverse bs) q.now) ≡ newest (reverse bs) q.now) ex
-          (newest-restored (reverse bs) b q.now w (sym ew ∙ hidden_is.0))
+      restored : (y : List ℕ) (c : Bool) → same_name b.name.now y ≡ c → cond c w (cond c (Some (length (map binding_of (reverse bs)))) (number_in (bindings_of bs) y)) ≡ number_in (bindings_of bs) y
+      restored y true h = sym ew ∙ hidden_is.1 ∙ ap (number_in (bindings_of bs)) ((bytes_decides b.name.now y).0 h)
+      restored y false h = refl
 
-  same-itself : (x : List ℕ) → pointwise nat_eq x x ≡ true
-  same-itself = nat_list_eq_equiv.refl
+  -- the newest binding's number is in the table, so putting back what it hides needs no memory
+  pub newest-there : old b.number ≡ Some (length (map binding_of (reverse bs)))
+  newest-there = sym (ap (at_number old) hidden_is.0) ∙ found_is b.name.now ∙ ap (λ c. cond c (Some (length (map binding_of (reverse bs)))) (number_in (bindings_of bs) b.name.now)) (same-itself b.name.now)
 
-  -- the newest name is in the table
-  pub newest-there : get key_cmp old b.name ≡ Some (record { number = length (reverse bs); entity = b.entity })
-  newest-there = sym (lookup-get old b.name) ∙ found_is b.name ∙ ap (λ c. cond c (Some (record { number = length (reverse bs); entity = b.entity })) (newest (reverse bs) b.name.now)) (same-itself b.name.now)
-
-  -- so putting back what it hides needs no memory
-  pub IsTable-put : {E : Type 0} (r : Result (Option Newest) E) (x : Bor (List ℕ)) (n : Newest) → b.name ≡ x → b.hidden ≡ Some n → OnOk r (Updates key_cmp old new x (Some n)) → OnErr r (get key_cmp old x ≡ None) → IsTable bs new
-  IsTable-put (Ok o) x n ex en u absent = IsTable-popped x (Some n) ex en u
-  IsTable-put (Err e) x n ex en u absent = let there = newest-there in let gone : get key_cmp old b.name ≡ None = ap (get key_cmp old) ex ∙ absent in cc
+pub IsTable-put : (bs : List Binding) (b : Binding) (names : List (List ℕ × ℕ)) {S : Type 0} (old new : IndexMap ℕ ℕ S) → IsTable (bs ++ b ∷ []) names (get nat_eq old) → {A E : Type 0} (r : Result A E) (n : ℕ)
+    → b.hidden ≡ Some n → OnOk r (Updates nat_eq old new b.number (Some n)) → OnErr r (get nat_eq old b.number ≡ None) → IsTable bs names (get nat_eq new)
+IsTable-put bs b names old new before (Ok o) n en updates absent = IsTable-popped bs b names (get nat_eq old) (get nat_eq new) before (Some n) en updates.0
+IsTable-put bs b names old new before (Err e) n en updates absent =
+    let there = newest-there bs b names (get nat_eq old) (get nat_eq new) before in
+    absurd (let no : Some (length (map binding_of (reverse bs))) ≡ None = sym there ∙ absent in cc)

@@ -1,10 +1,9 @@
 -- How the code keeps the names in scope.
-use Rattle.std.specs.Prelude.{ℕ, ◌≡◌, Bool, false, List, [], ◌∷◌, length, map, reverse, take, drop, Option, Some, None, if◌then◌else◌, nat_eq, nat_le}
+use Rattle.std.specs.Prelude.{ℕ, ◌≡◌, ◌≤◌, Bool, false, List, [], ◌∷◌, length, map, reverse, take, drop, Option, Some, None, if◌then◌else◌, nat_eq, nat_le}
 use Rattle.std.specs.Borrow.{Bor}
 use Rattle.std.specs.Cmp.Lexicographic.{pointwise}
-use Rattle.std.specs.BTreeMap.{BTreeMap}
-use Rattle.std.specs.Map.{lookup}
 use Rattle.cc_typing.specs.Names.{same_name}
+use Rattle.cc_typing.specs.Numberings.{AreNumbers, number_of_name, at_number}
 use Rattle.cc_typing.specs.Scope as scope
 use Rattle.cc_typing.specs.Scope.{Visible}
 use Rattle.cc_typing.specs.Entities.{entity_of}
@@ -19,29 +18,26 @@ binding_of b = record { name = b.name.now; entity = entity_of b.entity }
 abbrev pub bindings_of : List Binding → List scope.Binding
 bindings_of bs = map binding_of (reverse bs)
 
--- the newest of some bindings of a name, with its number
-abbrev pub newest : List Binding → List ℕ → Option Newest
-newest [] x = None
-newest (b ∷ rest) x = if same_name b.name.now x then Some (record { number = length rest; entity = b.entity }) else newest rest x
+-- the number of the newest binding of a name: how many stand after it
+abbrev pub number_in : List scope.Binding → List ℕ → Option ℕ
+number_in [] x = None
+number_in (b ∷ behind) x = if same_name b.name x then Some (length behind) else number_in behind x
 
--- each binding, the newest first, has what was the newest of its name before it
-abbrev pub AreHidden : List Binding → Type 0
-AreHidden [] = Unit {0}
-AreHidden (b ∷ rest) = (b.hidden ≡ newest rest b.name.now) × AreHidden rest
+-- each binding, the newest first, has the number of its name, and what was the newest of its name before it
+abbrev pub AreHidden : List (List ℕ × ℕ) → List Binding → Type 0
+AreHidden names [] = Unit {0}
+AreHidden names (b ∷ rest) = (number_of_name names b.name.now ≡ Some b.number) × (b.hidden ≡ number_in (map binding_of rest) b.name.now) × AreHidden names rest
 
 -- two keys are the same name
 abbrev pub same_key : Bor (List ℕ) → Bor (List ℕ) → Bool
 same_key a b = pointwise nat_eq a.now b.now
 
--- the map has the newest binding of each name
-pub record IsTable (bs : List Binding) (names : BTreeMap (Bor (List ℕ)) Newest) : Type 0 where
-  pub found : (x : Bor (List ℕ)) → lookup (same_key x) names.entries ≡ newest (reverse bs) x.now
-  pub hidden : AreHidden (reverse bs)
-
--- the number of the newest binding of a name: how many stand after it
-abbrev pub number_in : List scope.Binding → List ℕ → Option ℕ
-number_in [] x = None
-number_in (b ∷ behind) x = if same_name b.name x then Some (length behind) else number_in behind x
+-- the table has the newest binding at the number of each name, and nothing at a number that no name has
+pub record IsTable (bs : List Binding) (names : List (List ℕ × ℕ)) (table : ℕ → Option ℕ) : Type 0 where
+  pub numbers : AreNumbers names
+  pub found : (x : List ℕ) → at_number table (number_of_name names x) ≡ number_in (bindings_of bs) x
+  pub hidden : AreHidden names (reverse bs)
+  pub rest : (n : ℕ) → length names ≤ n → table n ≡ None
 
 -- a number from k on
 abbrev pub from : ℕ → Option ℕ → Bool

@@ -22,6 +22,8 @@ pub mod Checked
 pub mod Defined
 -- what the names in scope that are handed out stand for
 pub mod Entities
+-- how the numbers of names are kept
+pub mod Numberings
 -- how the names in scope are kept
 pub mod Bindings
 pub mod rows

@@ -1,17 +1,18 @@
 // The names in scope, with the newest binding of each.
 //
-// `names` has the newest binding of each name; a binding keeps what was the newest of its name before it. So a look-up is
-// one search, and so are a new binding and taking the newest one back. `names` is in the order of the names' bytes: no choice of
-// names makes a search long, as it would in a table by a hash that whoever wrote the text knows.
+// A name is numbered once, and `newest` has the newest binding at each name's number; a binding keeps what was the newest of its name
+// before it. So a look-up is one search for the number and one step, and taking the newest binding back needs no search.
 
-ghost use Rattle.std.specs.Prelude.{◌≡◌, [], ◌∷◌, ◌<◌, ◌^◌, length, drop, IfOk, OnOk, OnErr};
+ghost use Rattle.std.specs.Prelude.{◌≡◌, [], ◌∷◌, ◌<◌, ◌^◌, length, drop, IfSome, IfOk, OnOk, OnErr, slice_index_or};
 ghost use Rattle.cc_typing.specs.Scope.{found};
 ghost use Rattle.cc_typing.specs.Entities.{entity_of};
+ghost use Rattle.cc_typing.specs.declared.bindings.Binding.{Binding};
 ghost use Rattle.cc_typing.specs.Bindings.{number_in, number_of, entity_found};
 
 use super::entity::Entity;
+use super::numbering::Numbering;
+use indexmap::IndexMap;
 use std::alloc::{AllocError, Global};
-use std::collections::BTreeMap;
 use std::marker::Model;
 
 /// The newest binding of a name: its number, and what the name stands for.
@@ -24,19 +25,22 @@ pub struct Newest<'a> {
 #[derive(Drop)]
 pub struct Binding<'a> {
     name: &'a [u8],
+    number: u32,
     entity: Entity<'a>,
-    hidden: Option<Newest<'a>>,
+    hidden: Option<u32>,
 }
 
 /// The names in scope. The oldest has the number 0.
 #[derive(Drop)]
 pub struct Bindings<'a> {
     list: Vec<Binding<'a>>,
-    names: BTreeMap<&'a [u8], Newest<'a>>,
+    names: Numbering<'a>,
+    newest: IndexMap<u32, u32>,
 }
 
 impl<'a> Model for Bindings<'a> {
-    ghost use Rattle.std.specs.Prelude.{List};
+    ghost use Rattle.std.specs.Prelude.{List, nat_eq};
+    ghost use Rattle.indexmap.specs.IndexMap.{get};
     ghost use Rattle.cc_typing.specs.Scope as scope;
     ghost use Rattle.cc_typing.specs.Bindings.{bindings_of, IsTable};
 
@@ -44,7 +48,25 @@ impl<'a> Model for Bindings<'a> {
 
     ghost view = { λ b. bindings_of b.list.items };
 
-    ghost invariant = { λ b. IsTable b.list.items b.names };
+    ghost invariant = { λ b. IsTable b.list.items b.names (get nat_eq b.newest) };
+}
+
+// The binding with a number, where there is one.
+fn newest_at<'a>(list: &[Binding<'a>], number: Option<u32>) -> Option<Newest<'a>>
+    requires { IfSome number (λ n. n < length list.now) }
+    ensures number { number_of result ≡ number }
+    ensures entity { IfSome result (λ n. (d : Binding) → n.entity ≡ (slice_index_or list.now n.number d).entity) }
+{
+    match number {
+        Some(number) => {
+            let number = number as usize;
+            Some(Newest {
+                number,
+                entity: list[number].entity,
+            })
+        }
+        None => None,
+    }
 }
 
 impl<'a> Bindings<'a> {
@@ -53,7 +75,8 @@ impl<'a> Bindings<'a> {
     {
         Bindings {
             list: Vec::new(alloc),
-            names: BTreeMap::new(alloc),
+            names: Numbering::new(alloc),
+            newest: IndexMap::new(alloc),
         }
     }
 
@@ -68,7 +91,9 @@ impl<'a> Bindings<'a> {
         ensures number { number_of result ≡ number_in self.now name.now }
         ensures entity { entity_found result ≡ found self.now name.now }
     {
-        self.names.get(name).copied()
+        let number = self.names.find(name)?;
+        let place = self.newest.get(&number).copied();
+        newest_at(self.list.as_slice(), place)
     }
 
     /// Adds a name, which gets the next number, and answers the binding of its name that it hides, where it hides one.
@@ -81,17 +106,22 @@ impl<'a> Bindings<'a> {
         ensures err { OnErr result (self.new ≡ self.old) }
         ensures fits { OnOk result (length self.new < 2 ^ 64) }
         ensures hides { IfOk result (λ hidden. number_of hidden ≡ number_in self.old name.now) }
+        ensures hidden { IfOk result (λ hidden. entity_found hidden ≡ found self.old name.now) }
     {
         self.list.reserve(1)?;
-        let number = self.list.len();
-        match self.names.insert(name, Newest { number, entity }) {
+        let Ok(place) = u32::try_from(self.list.len()) else {
+            return Err(AllocError);
+        };
+        let number = self.names.add(name)?;
+        match self.newest.insert(number, place) {
             Ok(hidden) => {
                 self.list.push_reserved(Binding {
                     name,
+                    number,
                     entity,
                     hidden,
                 });
-                Ok(hidden)
+                Ok(newest_at(self.list.as_slice(), hidden))
             }
             Err(_) => Err(AllocError),
         }
@@ -103,7 +133,8 @@ impl<'a> Bindings<'a> {
     {
         let Some(
             Binding {
-                name,
+                name: _,
+                number,
                 entity: _,
                 hidden,
             },
@@ -112,12 +143,12 @@ impl<'a> Bindings<'a> {
             return;
         };
         match hidden {
-            // The name is in the map, so this needs no memory.
-            Some(newest) => {
-                let _ = self.names.insert(name, newest);
+            // The number is in the table, so this needs no memory.
+            Some(place) => {
+                let _ = self.newest.insert(number, place);
             }
             None => {
-                self.names.remove(name);
+                self.newest.swap_remove(&number);
             }
         }
     }

@@ -1,8 +1,8 @@
 // The rules of scope and type of the C profile, and its limits.
 //
 // `check` makes a `TypedUnit` of a parsed unit, or says which rule or limit it breaks first (`checking`, `fault`, `rule`).
-// One walk goes over file scope (`externals`), statements and expressions. It keeps the names in scope (`scope`, on
-// `bindings` and `entity`), the functions that are defined (`names`), where a statement stands (`around`), and the first
+// One walk goes over file scope (`externals`), statements and expressions. It keeps the names in scope (`scope`, on `bindings`,
+// `numbering` and `entity`), the functions that are defined (`names`), where a statement stands (`around`), and the first
 // of what it finds (`findings`). `limits` counts what is limited; `constants` has the values of constant expressions, and
 // `operators` the types in which operators work. Besides `check` and its types the crate hands out what a walk over a typed
 // unit needs again: the names in scope, the types of operators, the words of constants and objects, and how many locals a
@@ -20,6 +20,7 @@ mod fault;
 mod findings;
 mod limits;
 mod names;
+mod numbering;
 mod operators;
 mod rule;
 mod scope;
@@ -34,6 +35,7 @@ pub use fault::TypeFault;
 pub use limits::{
     MOST_FUNCTIONS, MOST_LOCALS, MOST_PARAMETERS, MOST_WORDS, local_count, object_words,
 };
+pub use numbering::Numbering;
 pub use operators::{
     applied_operator, binary_type, common_type, step_operator, unary_type, working_type,
 };

@@ -1,20 +1,55 @@
--- The new binding hides what the map had of its name, its newest.
-use Rattle.std.proofs.Common.{◌≡◌, ap, length, reverse, subst, sym, ◌∙◌, ◌++◌, ◌∷◌, []}
-use Rattle.cc_typing.proofs.KeyOrder.{lookup-get}
-use Rattle.cc_typing.proofs.Tables.{IsTable-pushed, number_of-newest}
-use Rattle.cc_typing.specs.Bindings.{IsTable, newest, number_in, number_of}
+-- The name has its number, and the new binding hides what the table had there.
+use Rattle.std.proofs.Common.{◌≡◌, ◌∙◌, ◌<◌, ◌++◌, ◌∷◌, [], sym, ap, subst, cond, List, Some, IfSome, length, get_or, nat_eq}
+use Rattle.std.specs.Map.{lookup}
+use Rattle.indexmap.specs.IndexMap.{get}
+use Rattle.cc_typing.specs.Scope.{found}
+use Rattle.cc_typing.specs.Bindings.{IsTable, bindings_of, number_in, number_of, entity_found}
 use Rattle.cc_typing.specs.declared.bindings.Binding.{Binding}
+use Rattle.cc_typing.specs.declared.bindings.Newest.{Newest}
+use Rattle.cc_typing.proofs.Tables.{IsTable-numbered, IsTable-pushed, number-own, hidden-within, hidden-is, entity_found-pushed, table-at}
 use Rattle.cc_typing.proofs.bindings.Bindings.push.Goals as goal
 
-pub invariant_of-self-in-Ok : goal.invariant_of-self-in-Ok
-invariant_of-self-in-Ok c =
-    let b : Binding = record { name = c.args.name; entity = c.args.entity; hidden = c.in-Ok.hidden } in
-    subst (λ l. IsTable l c.insert.new.self) (sym (c.push_reserved.ensures.items ∙ ap (λ l. l ++ b ∷ []) c.in_ok-reserve.ensures.items))
-    (IsTable-pushed c.self.inside.list.items b c.len-number.result c.self.inside.names c.insert.new.self c.self.invariant
-    (c.len-number.ensures ∙ c.reserve.new.self.ok.0 ∙ ap length c.in_ok-reserve.ensures.items) c.in-Ok.ensures.old c.in-Ok.ensures.updates)
+pub invariant_of-self-in-Err : goal.invariant_of-self-in-Err
+invariant_of-self-in-Err c =
+    let b = c.self.inside in
+    let table = IsTable-numbered b.list.items b.names c.add.new.self c.args.name.now c.in_ok-number.number (get nat_eq b.newest) c.self.invariant c.in_ok-number.ensures.ok in
+    subst (λ l. IsTable l c.add.new.self (get nat_eq c.insert.new.self)) (sym c.in_ok-reserve.ensures.items)
+    (subst (λ es. IsTable b.list.items c.add.new.self (λ n. lookup (nat_eq n) es)) (sym c.in-Err.ensures.err) table)
 
-pub returns-in-Ok-clause-hides : goal.returns-in-Ok-clause-hides
-returns-in-Ok-clause-hides c =
-    let x = c.args.name in
-    let known : c.in-Ok.hidden ≡ newest (reverse c.self.inside.list.items) x.now = c.in-Ok.ensures.old ∙ sym (lookup-get c.self.inside.names x) ∙ c.self.invariant.found x in
-    ap number_of known ∙ number_of-newest (reverse c.self.inside.list.items) x.now ∙ ap (λ v. number_in v x.now) c.self.view_is
+pub newest_at-requires : goal.newest_at-requires
+newest_at-requires c =
+    let more : Binding = record { name = c.args.name; number = c.in_ok-number.number; entity = c.args.entity; hidden = c.in-Ok-insert.hidden } in
+    let b = c.self.inside in
+    let x = c.args.name.now in
+    let hidden = hidden-is b.list.items b.names c.add.new.self x c.in_ok-number.number (get nat_eq b.newest) c.self.invariant c.in_ok-number.ensures.ok c.in-Ok-insert.hidden c.in-Ok-insert.ensures.old in
+    subst (λ (l : List Binding). IfSome c.in-Ok-insert.hidden (λ n. n < length l)) (sym (c.as_slice.ensures.value ∙ c.push_reserved.ensures.items ∙ ap (λ l. l ++ more ∷ []) c.in_ok-reserve.ensures.items))
+    (hidden-within b.list.items more x c.in-Ok-insert.hidden hidden)
+
+pub invariant_of-self-in-Ok-insert : goal.invariant_of-self-in-Ok-insert
+invariant_of-self-in-Ok-insert c =
+    let b = c.self.inside in
+    let n = c.in_ok-number.number in
+    let x = c.args.name.now in
+    let more : Binding = record { name = c.args.name; number = n; entity = c.args.entity; hidden = c.in-Ok-insert.hidden } in
+    let table = IsTable-numbered b.list.items b.names c.add.new.self x n (get nat_eq b.newest) c.self.invariant c.in_ok-number.ensures.ok in
+    let place : c.in-Ok.place ≡ length b.list.items = c.in-Ok.ensures.1 ∙ c.len.ensures ∙ c.reserve.new.self.ok.0 ∙ ap length c.in_ok-reserve.ensures.items in
+    subst (λ l. IsTable l c.add.new.self (get nat_eq c.insert.new.self)) (sym (c.push_reserved.ensures.items ∙ ap (λ l. l ++ more ∷ []) c.in_ok-reserve.ensures.items))
+    (IsTable-pushed b.list.items more c.add.new.self (get nat_eq b.newest) (get nat_eq c.insert.new.self) table (number-own b.names c.add.new.self x n c.in_ok-number.ensures.ok)
+    c.in-Ok-insert.ensures.old (λ m. c.in-Ok-insert.ensures.updates.0 m ∙ ap (λ p. cond (nat_eq n m) (Some p) (get nat_eq b.newest m)) place))
+
+pub returns-in-Ok-insert-clause-hides : goal.returns-in-Ok-insert-clause-hides
+returns-in-Ok-insert-clause-hides c =
+    let b = c.self.inside in
+    let x = c.args.name.now in
+    let hidden = hidden-is b.list.items b.names c.add.new.self x c.in_ok-number.number (get nat_eq b.newest) c.self.invariant c.in_ok-number.ensures.ok c.in-Ok-insert.hidden c.in-Ok-insert.ensures.old in
+    c.newest_at.ensures.number ∙ hidden ∙ ap (λ v. number_in v x) c.self.view_is
+
+pub returns-in-Ok-insert-clause-hidden : goal.returns-in-Ok-insert-clause-hidden
+returns-in-Ok-insert-clause-hidden c =
+    let more : Binding = record { name = c.args.name; number = c.in_ok-number.number; entity = c.args.entity; hidden = c.in-Ok-insert.hidden } in
+    let b = c.self.inside in
+    let x = c.args.name.now in
+    let hidden = hidden-is b.list.items b.names c.add.new.self x c.in_ok-number.number (get nat_eq b.newest) c.self.invariant c.in_ok-number.ensures.ok c.in-Ok-insert.hidden c.in-Ok-insert.ensures.old in
+    entity_found-pushed b.list.items more x c.newest_at.result (c.newest_at.ensures.number ∙ hidden)
+    (subst (λ (l : List Binding). IfSome c.newest_at.result (λ n. (d : Binding) → n.entity ≡ (get_or l n.number d).entity)) (c.as_slice.ensures.value ∙ c.push_reserved.ensures.items ∙ ap (λ l. l ++ more ∷ []) c.in_ok-reserve.ensures.items) c.newest_at.ensures.entity)
+    ∙ ap (λ v. found v x) c.self.view_is

@@ -1,0 +1,81 @@
+// Lists of names, with the place where each name stands first.
+//
+// A name is numbered once, by a search in the order of the names' bytes, and a table has its first place at its number: no choice of
+// names makes a search long, and none makes two numbers collide.
+
+ghost use Rattle.std.specs.Prelude.{◌≡◌, [], ◌∷◌, ◌++◌, length, OnOk, OnErr};
+ghost use Rattle.cc_resolve.specs.Numberings.{first_of};
+
+use cc_typing::Numbering;
+use indexmap::IndexMap;
+use std::alloc::{AllocError, Global};
+use std::marker::Model;
+
+/// Names in order, where a name may stand again. The first has the place 0.
+#[derive(Drop)]
+pub struct Places<'a> {
+    list: Vec<&'a [u8]>,
+    names: Numbering<'a>,
+    places: IndexMap<u32, usize>,
+}
+
+impl<'a> Model for Places<'a> {
+    ghost use Rattle.std.specs.Prelude.{List, ℕ, nat_eq};
+    ghost use Rattle.indexmap.specs.IndexMap.{get};
+    ghost use Rattle.cc_typing.specs.Entities.{names_in};
+    ghost use Rattle.cc_resolve.specs.Numberings.{ArePlaces};
+
+    ghost Value = { List (List ℕ) };
+
+    ghost view = { λ n. names_in n.list.items };
+
+    ghost invariant = { λ n. ArePlaces n.list.items n.names (get nat_eq n.places) };
+}
+
+impl<'a> Places<'a> {
+    pub fn new(alloc: Global) -> Places<'a>
+        ensures { result ≡ [] }
+    {
+        Places {
+            list: Vec::new(alloc),
+            names: Numbering::new(alloc),
+            places: IndexMap::new(alloc),
+        }
+    }
+
+    pub fn len(&self) -> usize
+        ensures { result ≡ length self.now }
+    {
+        self.list.len()
+    }
+
+    /// Where a name stands first.
+    pub fn find(&self, name: &[u8]) -> Option<usize>
+        ensures { result ≡ first_of self.now name.now }
+    {
+        let number = self.names.find(name)?;
+        self.places.get(&number).copied()
+    }
+
+    /// Adds a name.
+    pub fn push(&mut self, name: &'a [u8]) -> Result<(), AllocError>
+        ensures ok { OnOk result (self.new ≡ self.old ++ name.now ∷ []) }
+        ensures err { OnErr result (self.new ≡ self.old) }
+    {
+        self.list.reserve(1)?;
+        let place = self.list.len();
+        let number = self.names.add(name)?;
+        let known = self.places.get(&number).copied();
+        if known.is_some() {
+            self.list.push_reserved(name);
+            return Ok(());
+        }
+        match self.places.insert(number, place) {
+            Ok(_) => {
+                self.list.push_reserved(name);
+                Ok(())
+            }
+            Err(_) => Err(AllocError),
+        }
+    }
+}
