@@ -1,6 +1,6 @@
 -- The numbers of names: a name that is numbered keeps its number, and no other name gets it.
-use Rattle.std.proofs.Common.{◌≡◌, ℕ, suc, ◌<◌, ◌≤◌, ◌+◌, Bool, true, false, cond, List, [], ◌∷◌, length, map, Option, Some, None, is_some, Result, Ok, Err, OnOk, OnErr, IfOk, if◌then◌else◌, refl, sym, ap, ◌∙◌, Bor, arith}
-use Rattle.std.specs.Cmp.Lexicographic.{bytes_decides, nat_list_eq_equiv}
+use Rattle.std.proofs.Common.{◌≡◌, ℕ, suc, ◌<◌, ◌≤◌, ◌+◌, Bool, true, false, cond, List, [], ◌∷◌, length, Option, Some, None, is_some, Result, Ok, Err, OnOk, OnErr, IfOk, if◌then◌else◌, refl, sym, ap, ◌∙◌, Bor, arith}
+use Rattle.std.specs.Cmp.Lexicographic.{bytes_decides}
 use Rattle.std.specs.Map.{lookup}
 use Rattle.std.specs.BTreeMap.{BTreeMap, get, Updates}
 use Rattle.cc_typing.specs.Names.{same_name}

@@ -1,11 +1,10 @@
 -- The table has the newest binding at the name's number.
-use Rattle.std.proofs.Common.{◌≡◌, ◌∙◌, ◌<◌, sym, ap, subst, Option, Some, None, IfSome, length, get_or, nat_eq, List}
+use Rattle.std.proofs.Common.{◌≡◌, ◌∙◌, ◌<◌, sym, ap, subst, None, IfSome, length, get_or, nat_eq, List}
 use Rattle.indexmap.specs.IndexMap.{get}
 use Rattle.cc_typing.specs.Scope.{found}
 use Rattle.cc_typing.specs.Numberings.{at_number}
 use Rattle.cc_typing.specs.Bindings.{bindings_of, number_in, number_of, entity_found}
 use Rattle.cc_typing.specs.declared.bindings.Binding.{Binding}
-use Rattle.cc_typing.specs.declared.bindings.Newest.{Newest}
 use Rattle.cc_typing.proofs.Tables.{entity_found-is, number_in-within, table-at}
 use Rattle.cc_typing.proofs.bindings.Bindings.find.Goals as goal
 

@@ -3,10 +3,9 @@ use Rattle.std.proofs.Common.{◌≡◌, ◌∙◌, ◌<◌, ◌++◌, ◌∷◌
 use Rattle.std.specs.Map.{lookup}
 use Rattle.indexmap.specs.IndexMap.{get}
 use Rattle.cc_typing.specs.Scope.{found}
-use Rattle.cc_typing.specs.Bindings.{IsTable, bindings_of, number_in, number_of, entity_found}
+use Rattle.cc_typing.specs.Bindings.{IsTable, number_in}
 use Rattle.cc_typing.specs.declared.bindings.Binding.{Binding}
-use Rattle.cc_typing.specs.declared.bindings.Newest.{Newest}
-use Rattle.cc_typing.proofs.Tables.{IsTable-numbered, IsTable-pushed, number-own, hidden-within, hidden-is, entity_found-pushed, table-at}
+use Rattle.cc_typing.proofs.Tables.{IsTable-numbered, IsTable-pushed, number-own, hidden-within, hidden-is, entity_found-pushed}
 use Rattle.cc_typing.proofs.bindings.Bindings.push.Goals as goal
 
 pub invariant_of-self-in-Err : goal.invariant_of-self-in-Err
