@@ -82,7 +82,7 @@ impl Placed<'_> {
 }
 
 /// A block that is being made: its node, its moves, the registers that hold something in front of the operation, and whether a register
-/// was wanted where none was free; room for moves that are to be done all at once, and for what crosses a call.
+/// was wanted where none was free, or memory was refused; room for moves that are to be done all at once, and for what crosses a call.
 #[derive(Drop)]
 struct Draft<'a> {
     placed: Placed<'a>,
@@ -91,6 +91,7 @@ struct Draft<'a> {
     after: Vec<Move>,
     taken: Registers,
     short: bool,
+    failed: bool,
     pending: Vec<Transfer>,
     crossings: Crossings,
 }
@@ -123,17 +124,26 @@ fn block(
         after: Vec::new(alloc),
         taken: placed.places.registers(placed.code.webs.in_front(at)),
         short: false,
+        failed: false,
         pending: Vec::new(alloc),
         crossings: Crossings::new(alloc),
     };
-    let operation = draft.draw(labelled)?;
+    let operation = draft.draw(labelled);
     let Draft {
         before,
         after,
         short,
+        failed,
         ..
     } = draft;
+    if failed {
+        drop(before);
+        drop(after);
+        return Err(AllocError);
+    }
     if short {
+        drop(before);
+        drop(after);
         return Ok(None);
     }
     Ok(Some(Block {
@@ -197,103 +207,103 @@ impl Draft<'_> {
         }
     }
 
-    fn move_before(&mut self, to: Place, from: Place) -> Result<(), AllocError> {
-        push_move(&mut self.before, Transfer { to, from })
+    fn move_before(&mut self, to: Place, from: Place) {
+        self.failed |= push_move(&mut self.before, Transfer { to, from }).is_err();
     }
 
-    fn move_after(&mut self, to: Place, from: Place) -> Result<(), AllocError> {
-        push_move(&mut self.after, Transfer { to, from })
+    fn move_after(&mut self, to: Place, from: Place) {
+        self.failed |= push_move(&mut self.after, Transfer { to, from }).is_err();
     }
 
     // A move that is to be done at once with others.
-    fn pend(&mut self, to: Place, from: Place) -> Result<(), AllocError> {
-        self.pending.push(Transfer { to, from })?;
-        Ok(())
+    fn pend(&mut self, to: Place, from: Place) {
+        self.failed |= self.pending.push(Transfer { to, from }).is_err();
     }
 
     // Does these moves in front of the operation, or behind it. No register of `kept` is changed beside.
-    fn do_before(&mut self, kept: Registers) -> Result<(), AllocError> {
-        if !in_parallel(&mut self.pending, kept, &mut self.before)? {
-            self.short = true;
+    fn do_before(&mut self, kept: Registers) {
+        match in_parallel(&mut self.pending, kept, &mut self.before) {
+            Ok(true) => {}
+            Ok(false) => self.short = true,
+            Err(_) => self.failed = true,
         }
-        Ok(())
     }
 
-    fn do_after(&mut self, kept: Registers) -> Result<(), AllocError> {
-        if !in_parallel(&mut self.pending, kept, &mut self.after)? {
-            self.short = true;
+    fn do_after(&mut self, kept: Registers) {
+        match in_parallel(&mut self.pending, kept, &mut self.after) {
+            Ok(true) => {}
+            Ok(false) => self.short = true,
+            Err(_) => self.failed = true,
         }
-        Ok(())
     }
 
     // Fetches what the node behind a constant takes beside it.
-    fn fetch_early(&mut self) -> Result<(), AllocError> {
+    fn fetch_early(&mut self) {
         let shape = self.placed.code.shape;
         if let Some(behind) = shape.behind(self.at)
             && let Some(early) = self.placed.early(behind)
         {
             let to = Place::Register(early.register);
-            self.move_before(to, Place::Slot(early.slot))?;
+            self.move_before(to, Place::Slot(early.slot));
         }
-        Ok(())
     }
 
     // The register where the operation takes its left operand, which may have been fetched already.
-    fn take_left(&mut self, register: u32) -> Result<Register, AllocError> {
+    fn take_left(&mut self, register: u32) -> Register {
         match self.placed.early(self.at) {
             Some(early) => {
                 self.taken |= only(early.register);
-                Ok(numbered(early.register))
+                numbered(early.register)
             }
             None => self.take(register),
         }
     }
 
     // The register where the operation takes an operand.
-    fn take(&mut self, register: u32) -> Result<Register, AllocError> {
+    fn take(&mut self, register: u32) -> Register {
         match self.operand(register) {
-            Some(Place::Register(register)) => Ok(numbered(register)),
+            Some(Place::Register(register)) => numbered(register),
             Some(Place::Slot(slot)) => {
                 let to = self.free(self.taken);
                 self.taken |= only(to);
-                self.move_before(Place::Register(to), Place::Slot(slot))?;
-                Ok(numbered(to))
+                self.move_before(Place::Register(to), Place::Slot(slot));
+                numbered(to)
             }
-            None => Ok(numbered(31)),
+            None => numbered(31),
         }
     }
 
     // The register where the operation puts its result.
-    fn give(&mut self) -> Result<Register, AllocError> {
+    fn give(&mut self) -> Register {
         match self.result() {
-            Some(Place::Register(register)) => Ok(numbered(register)),
+            Some(Place::Register(register)) => numbered(register),
             Some(Place::Slot(slot)) => {
                 let from = self.free(self.taken_behind());
-                self.move_after(Place::Slot(slot), Place::Register(from))?;
-                Ok(numbered(from))
+                self.move_after(Place::Slot(slot), Place::Register(from));
+                numbered(from)
             }
-            None => Ok(numbered(self.free(self.taken_behind()))),
+            None => numbered(self.free(self.taken_behind())),
         }
     }
 
-    fn take_parameters(&mut self, parameters: u32) -> Result<(), AllocError> {
+    fn take_parameters(&mut self, parameters: u32) {
         for parameter in 0..parameters.min(22) {
             if let Some(to) = self.operand(parameter)
                 && let Some(register) = argument_register(parameter as usize)
             {
-                self.pend(to, Place::Register(register))?;
+                self.pend(to, Place::Register(register));
             }
         }
         self.do_before(self.taken)
     }
 
-    fn take_arguments(&mut self, arguments: &[u32]) -> Result<(), AllocError> {
+    fn take_arguments(&mut self, arguments: &[u32]) {
         let mut kept = self.taken_behind() | (self.taken & !DESTROYED);
         for (number, argument) in arguments.iter().enumerate() {
             if let Some(register) = argument_register(number) {
                 kept |= only(register);
                 if let Some(from) = self.operand(*argument) {
-                    self.pend(Place::Register(register), from)?;
+                    self.pend(Place::Register(register), from);
                 }
             }
         }
@@ -301,121 +311,123 @@ impl Draft<'_> {
     }
 
     // Fills the list of what crosses a call.
-    fn find_crossings(&mut self) -> Result<(), AllocError> {
+    fn find_crossings(&mut self) {
         let code = self.placed.code;
-        code.webs
-            .crossings(code.shape, self.at, &mut self.crossings)
+        let found = code
+            .webs
+            .crossings(code.shape, self.at, &mut self.crossings);
+        self.failed |= found.is_err();
     }
 
     // What a call cuts goes to its slot in front of the call, unless it is there already or stays in a register that the call keeps.
-    fn leave(&mut self) -> Result<(), AllocError> {
+    fn leave(&mut self) {
         for crossing in &self.crossings.all {
             if let Some(transfer) = self.placed.leaving(*crossing) {
-                push_move(&mut self.before, transfer)?;
+                self.failed |= push_move(&mut self.before, transfer).is_err();
             }
         }
-        Ok(())
     }
 
     // Behind a call, its result and what it cuts go where they belong.
-    fn come_back(&mut self) -> Result<(), AllocError> {
+    fn come_back(&mut self) {
         if let Some(to) = self.result() {
-            self.pend(to, Place::Register(RESULT))?;
+            self.pend(to, Place::Register(RESULT));
         }
         for crossing in &self.crossings.all {
             if let Some(transfer) = self.placed.coming_back(*crossing) {
-                self.pending.push(transfer)?;
+                self.failed |= self.pending.push(transfer).is_err();
             }
         }
         self.do_after(self.taken_behind())
     }
 
     // An operand goes to the register where results are.
-    fn take_word(&mut self, register: u32) -> Result<(), AllocError> {
+    fn take_word(&mut self, register: u32) {
         let to = Place::Register(RESULT);
         match self.operand(register) {
             Some(from) if !from.is(to) => self.move_before(to, from),
-            _ => Ok(()),
+            _ => {}
         }
     }
 
     // The result goes where it is to be from the register where results are.
-    fn give_word(&mut self) -> Result<(), AllocError> {
+    fn give_word(&mut self) {
         let from = Place::Register(RESULT);
         match self.result() {
             Some(to) if !from.is(to) => self.move_after(to, from),
-            _ => Ok(()),
+            _ => {}
         }
     }
 
     // A move of RTL needs moves alone: two from slot to slot.
-    fn copy(&mut self, register: u32) -> Result<(), AllocError> {
+    fn copy(&mut self, register: u32) {
         match (self.result(), self.operand(register)) {
             (Some(to), Some(from)) => self.copy_place(to, from),
-            _ => Ok(()),
+            _ => {}
         }
     }
 
-    fn copy_place(&mut self, to: Place, from: Place) -> Result<(), AllocError> {
+    fn copy_place(&mut self, to: Place, from: Place) {
         if to.is(from) {
-            return Ok(());
+            return;
         }
         if let (Place::Slot(_), Place::Slot(_)) = (to, from) {
             let between = Place::Register(self.free(self.taken | self.taken_behind()));
-            self.move_before(between, from)?;
-            return self.move_before(to, between);
+            self.move_before(between, from);
+            self.move_before(to, between);
+        } else {
+            self.move_before(to, from);
         }
-        self.move_before(to, from)
     }
 
     // The moves of a block, and its operation.
-    fn draw(&mut self, labelled: &Labelled) -> Result<Operation, AllocError> {
+    fn draw(&mut self, labelled: &Labelled) -> Operation {
         let rtl = self.placed.code.shape.rtl;
         if labelled.label == rtl.entry() {
-            self.take_parameters(rtl.parameters())?;
+            self.take_parameters(rtl.parameters());
         }
         let used = match &labelled.node {
             Node::Call { arguments, .. } => {
-                self.find_crossings()?;
-                self.leave()?;
-                self.take_arguments(arguments.as_slice())?;
-                self.come_back()?;
+                self.find_crossings();
+                self.leave();
+                self.take_arguments(arguments.as_slice());
+                self.come_back();
                 nothing_used()
             }
             Node::Move { from, .. } => {
-                self.copy(*from)?;
+                self.copy(*from);
                 nothing_used()
             }
             Node::Read { .. } => {
-                self.give_word()?;
+                self.give_word();
                 nothing_used()
             }
             Node::Write { from, .. } | Node::Return { from } => {
-                self.take_word(*from)?;
+                self.take_word(*from);
                 nothing_used()
             }
-            node => self.used(node)?,
+            node => self.used(node),
         };
-        Ok(operation(&labelled.node, used))
+        operation(&labelled.node, used)
     }
 
     // The registers of an operation that may have any.
-    fn used(&mut self, node: &Node) -> Result<Used, AllocError> {
+    fn used(&mut self, node: &Node) -> Used {
         let mut used = nothing_used();
         let [first, second] = operands(node);
         if let Some(first) = first {
-            used.first = self.take_left(first)?;
+            used.first = self.take_left(first);
         }
         if let Some(second) = second {
-            used.second = self.take(second)?;
+            used.second = self.take(second);
         }
         if let Node::Const { .. } = node {
-            self.fetch_early()?;
+            self.fetch_early();
         }
         if result(node).is_some() {
-            used.to = self.give()?;
+            used.to = self.give();
         }
-        Ok(used)
+        used
     }
 }
 
