@@ -4,10 +4,13 @@ use Rattle.std.proofs.lemmas.Bool.{cases_lt}
 use Rattle.std.proofs.lemmas.List.{drop_more}
 use Rattle.std.specs.Borrow.{Bor}
 use Rattle.cc_syntax.specs.Source.{source}
-use Rattle.cc_emit.specs.Piece.{Piece}
+use Rattle.cc_syntax.specs.declared.unit.Unit as parsed
+use Rattle.cc_syntax.specs.Parse.{SpellsText}
+use Rattle.cc_typing.specs.Checked.{IsChecked}
+use Rattle.cc_emit.specs.Piece.{Piece, IsPieceOfUnit}
+use Rattle.cc_link.specs.Made.{IsCompiled}
 use Rattle.cc_link.specs.declared.fault.LinkFault.TheVariants.{Stranger}
-use Rattle.cc_link.specs.Linked.{same_bytes, stranger}
-use Rattle.cc_link.specs.internal.Lent.{lent_pieces}
+use Rattle.cc_link.specs.Linked.{same_bytes, stranger, lent_pieces}
 
 not_false : (b : Bool) → false ≡ not b → b ≡ true
 not_false true e = refl
@@ -36,3 +39,11 @@ kept_next Keeps pieces at x lt is piece kept k d low = by (cases_lt k at)
     by : (k < at) ⊎ (at ≤ k) → Keeps (get_or (lent_pieces pieces) k d)
     by (inl less) = kept k d less
     by (inr more) = let e : at ≡ k = omega arith in subst (λ n. Keeps (get_or (lent_pieces pieces) n d)) e (subst Keeps (sym (lent_at pieces at x d lt ∙ ap (λ (b : Bor Piece). b.now) (sym is))) piece)
+
+-- a piece of this unit is what its type and that of the unit keep
+pub compiled_of : (u : parsed.Unit) (piece : Piece) → piece.unit ≡ u → ∥ SpellsText (source u).text (source u).externals ∥₁ → IsChecked (source u) → IsPieceOfUnit piece → IsCompiled piece
+compiled_of u piece is spelled checked of_unit = record {
+  spelled = subst (λ (v : parsed.Unit). ∥ SpellsText (source v).text (source v).externals ∥₁) (sym is) spelled;
+  checked = subst (λ (v : parsed.Unit). IsChecked (source v)) (sym is) checked;
+  of_unit = of_unit;
+}

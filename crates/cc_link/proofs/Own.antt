@@ -12,16 +12,16 @@ use Rattle.cc_link.specs.declared.fault.LinkFault.{LinkFault}
 use Rattle.cc_link.specs.declared.fault.LinkFault.TheVariants.{ImageTooLarge, Missing, Doubled, Stranger}
 use Rattle.cc_link.specs.Link.{code_words, most_code}
 use Rattle.cc_link.specs.Linked.{same_bytes, stranger, is_among, doubled, items_of, missing, bodies, too_large, link_refusal, unit_of, unless_refused, linked}
-use Rattle.cc_link.specs.Compile.{AreFrom}
+use Rattle.cc_link.specs.internal.Lent.{AreFrom}
 
-same_itself : (x : List ℕ) → same_bytes x x ≡ true
+pub same_itself : (x : List ℕ) → same_bytes x x ≡ true
 same_itself x = by (same_bytes x x) refl
   where
     by : (b : Bool) → same_bytes x x ≡ b → b ≡ true
     by true e = refl
     by false e = absurd (other_text x x (sym e) refl)
 
-no_stranger : (text : List ℕ) (at from : ℕ) (ps : List Piece) → AreFrom text from ps → stranger text at ps ≡ None
+pub no_stranger : (text : List ℕ) (at from : ℕ) (ps : List Piece) → AreFrom text from ps → stranger text at ps ≡ None
 no_stranger text at from [] h = refl
 no_stranger text at from (p ∷ ps) h =
     ap (λ b. if b then stranger text (suc at) ps else Some (Stranger p.function at)) (ap (λ t. same_bytes t text) h.0 ∙ same_itself text) ∙ no_stranger text (suc at) (suc from) ps h.2
@@ -38,7 +38,7 @@ among_more (h ∷ gs) x g e = by (h == g) (among_more gs x g) e
     by true again e = inl refl
     by false again e = again e
 
-none_doubled : (text before : List ℕ) (at from : ℕ) (ps : List Piece) → ((g : ℕ) → is_among before g ≡ true → g < from) → AreFrom text from ps → doubled before at ps ≡ None
+pub none_doubled : (text before : List ℕ) (at from : ℕ) (ps : List Piece) → ((g : ℕ) → is_among before g ≡ true → g < from) → AreFrom text from ps → doubled before at ps ≡ None
 none_doubled text before at from [] below h = refl
 none_doubled text before at from (p ∷ ps) below h = by (is_among before p.function) refl (λ lower. none_doubled text (before ++ p.function ∷ []) (suc at) (suc from) ps lower h.2)
   where
@@ -60,7 +60,7 @@ there text from f (p ∷ ps) h low high = by (p.function == f) refl (cases_lt fr
     by false e (inl lt) again = again lt
     by false e (inr le) again = absurd (let is : p.function ≡ from = h.1 in let same : p.function ≡ f = omega arith in let d : false ≡ true = sym e ∙ eq-eqb p.function f same in cc)
 
-none_left : (ps : List Piece) (from count : ℕ) → ((f : ℕ) → from ≤ f → f < from + count → is_some (items_of ps f) ≡ true) → missing ps from count ≡ None
+pub none_left : (ps : List Piece) (from count : ℕ) → ((f : ℕ) → from ≤ f → f < from + count → is_some (items_of ps f) ≡ true) → missing ps from count ≡ None
 none_left ps from zero h = refl
 none_left ps from (suc count) h =
     ap (λ b. if b then missing ps (suc from) count else Some (Missing from)) (h from (omega arith) (omega arith)) ∙ none_left ps (suc from) count (λ f low high. h f (omega arith) (omega arith))

@@ -1,5 +1,5 @@
 -- Why a function has no piece, and why a text has no image.
-use Rattle.std.specs.Prelude.{◌≡◌, ℕ, suc, ◌<◌, ◌⊎◌, List, [], ◌∷◌, length, slice_get, Option, Some, None, Err}
+use Rattle.std.specs.Prelude.{◌≡◌, ℕ, ◌<◌, ◌⊎◌, List, length, slice_get, Option, Some, None}
 use Rattle.cc_tokens.specs.declared.place.Place.{Place}
 use Rattle.cc_tokens.specs.Fault as tokens
 use Rattle.cc_syntax.specs.Tree.{Name, External}
@@ -15,7 +15,7 @@ use Rattle.cc_typing.specs.Verdict.{source_with}
 use Rattle.cc_meaning.specs.Meaning.{functions}
 use Rattle.cc_emit.specs.Piece as emit
 use Rattle.cc_link.specs.Fault.{link_fault_number}
-use Rattle.cc_link.specs.Linked.{linked}
+use Rattle.cc_link.specs.Made.{IsCompiled}
 use Rattle.cc_link.specs.declared.fault.LinkFault.{LinkFault}
 use Rattle.cc_link.specs.declared.fault.LinkFault.TheVariants as link
 use Rattle.cc_link.specs.declared.piece_fault.PieceFault.{PieceFault}
@@ -79,24 +79,22 @@ pub record HasNoPiece (text : List ℕ) (fault : PieceFault) : Type 0 where
   pub defined : function < length (functions tree)
   pub refused : IsPieceRefusal tree function fault
 
--- pieces of a text, one of each function from this one on
-abbrev pub AreFrom : (text : List ℕ) (from : ℕ) → List emit.Piece → Type 0
-AreFrom text from [] = Unit {0}
-AreFrom text from (p ∷ ps) = ((source p.unit).text ≡ text) × (p.function ≡ from) × AreFrom text (suc from) ps
+-- this function of the text has a piece, with what its type and that of its unit keep
+pub record HasPiece (text : List ℕ) (function : ℕ) : Type 0 where
+  pub piece : emit.Piece
+  pub compiled : IsCompiled piece
+  pub text_is : (source piece.unit).text ≡ text
+  pub function_is : piece.function ≡ function
 
--- the text is a program's, and linking refuses pieces of its functions, one of each
-pub record HasNoImage (text : List ℕ) (fault : LinkFault) : Type 0 where
-  pub tree : List External
-  pub is : IsProgramText text tree
-  pub pieces : List emit.Piece
-  pub own : AreFrom text 0 pieces
-  pub count : length pieces ≡ length (functions tree)
-  pub refused : linked (source_with text tree) pieces ≡ Err fault
+-- the text is a program's; one of its functions has no piece, and each function before it, in the order of their definitions, has one
+pub record IsFirstWithout (text : List ℕ) (fault : PieceFault) : Type 0 where
+  pub none : HasNoPiece text fault
+  pub earlier : (f : ℕ) → f < none.function → HasPiece text f
 
--- 1 to 7 and 11 to 21 exactly as `parse` and `check` have them, 40 set aside; a program has no image only where one of its functions has
--- no piece, where its code would have more than 131,072 words, or where memory ran out
+-- 1 to 7 and 11 to 21 exactly as `parse` and `check` have them, 40 set aside. Only a program has another fault: that of the first function
+-- without a piece; or that its pieces make no image. Of linking's refusals this is 25 alone, and `link` says of which pieces.
 abbrev pub IsBuildRefusal : List ℕ → BuildFault → Type 0
 IsBuildRefusal text (Syntax f) = IsParseRefusal text f
 IsBuildRefusal text (Typing f) = (f ≡ typing.OutOfMemory) ⊎ IsRefusedTree text f
-IsBuildRefusal text (Piece f) = HasNoPiece text f
-IsBuildRefusal text (Link f) = (f ≡ link.OutOfMemory) ⊎ ((f ≡ link.ImageTooLarge) × HasNoImage text f)
+IsBuildRefusal text (Piece f) = IsFirstWithout text f
+IsBuildRefusal text (Link f) = (f ≡ link.OutOfMemory) ⊎ ((f ≡ link.ImageTooLarge) × ((tree : List External) × IsProgramText text tree))

@@ -25,9 +25,13 @@ abbrev pub size_of : List (List Item) → ℕ
 size_of [] = 0
 size_of (f ∷ fs) = length f + size_of fs
 
+-- the service that ends a run with the word of x10, by the number that x17 has at an ecall
+abbrev pub exit_service : ℕ
+exit_service = 93
+
 -- main is called, and its word is the exit's
 abbrev pub head : (main : ℕ) → List Item
-head main = Call main ∷ Plain (OpImm Addi 17 0 93) ∷ Plain Ecall ∷ []
+head main = Call main ∷ Plain (OpImm Addi 17 0 exit_service) ∷ Plain Ecall ∷ []
 
 -- where function f stands: behind the head's three words, and behind the functions before it
 unfoldable pub place_of : List (List Item) → (f : ℕ) → ℕ

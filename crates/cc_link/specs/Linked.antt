@@ -1,5 +1,6 @@
 -- What linking comes to: why pieces are refused, and else the unit that they make.
-use Rattle.std.specs.Prelude.{ℕ, zero, suc, ◌==◌, nat_eq, nat_lt, Bool, false, ◌||◌, if◌then◌else◌, List, [], ◌∷◌, ◌++◌, length, Option, Some, None, is_some, unwrap_or, Result, Ok, Err}
+use Rattle.std.specs.Borrow.{Bor}
+use Rattle.std.specs.Prelude.{ℕ, zero, suc, map, ◌==◌, nat_eq, nat_lt, Bool, false, ◌||◌, if◌then◌else◌, List, [], ◌∷◌, ◌++◌, length, Option, Some, None, is_some, unwrap_or, Result, Ok, Err}
 use Rattle.std.specs.Option.{option_or}
 use Rattle.std.specs.Cmp.Lexicographic.{pointwise}
 use Rattle.cc_syntax.specs.Tree.{External, Source}
@@ -15,6 +16,10 @@ use Rattle.cc_emit.specs.Piece.{Piece}
 use Rattle.cc_link.specs.Link.{linked_code, encoded, code_words, most_code}
 use Rattle.cc_link.specs.declared.fault.LinkFault.{LinkFault}
 use Rattle.cc_link.specs.declared.fault.LinkFault.TheVariants.{ImageTooLarge, Missing, Doubled, Stranger}
+
+-- pieces that are lent, as a list
+abbrev pub lent_pieces : List (Bor Piece) → List Piece
+lent_pieces pieces = map (λ (p : Bor Piece). p.now) pieces
 
 -- ---- why pieces are refused; a place in the list of pieces counts from 0
 

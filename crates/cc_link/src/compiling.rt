@@ -8,7 +8,8 @@ ghost use Rattle.cc_syntax.specs.Parse.{SpellsText};
 ghost use Rattle.cc_meaning.specs.Meaning.{functions};
 ghost use Rattle.cc_emit.specs.Piece.{IsPieceOfUnit};
 ghost use Rattle.cc_link.specs.Agree.{Agree};
-ghost use Rattle.cc_link.specs.Compile.{IsProgramText, IsPieceRefusal, IsBuildRefusal, AreFrom};
+ghost use Rattle.cc_link.specs.Compile.{IsProgramText, IsPieceRefusal, IsBuildRefusal, HasPiece};
+ghost use Rattle.cc_link.specs.internal.Lent.{AreFrom};
 ghost use Rattle.cc_link.specs.declared.fault.LinkFault.TheVariants.{ImageTooLarge, OutOfMemory};
 ghost use Rattle.cc_link.specs.Linked.{linked};
 
@@ -28,10 +29,13 @@ use std::sync::Arc;
 fn pieces(alloc: Global, unit: &Arc<TypedUnit>) -> Result<Vec<Piece>, PieceFault>
     ensures count { IfOk result (λ pieces. length pieces.items ≡ length (functions (source (arc_value unit.now)).externals)) }
     ensures own { IfOk result (λ pieces. AreFrom (source (arc_value unit.now)).text 0 pieces.items) }
-    ensures refused { IfErr result (λ fault. (f : ℕ) × (f < length (functions (source (arc_value unit.now)).externals)) × IsPieceRefusal (source (arc_value unit.now)).externals f fault) }
+    // The fault is that of the first function without a piece.
+    ensures refused { IfErr result (λ fault. (f : ℕ) × (f < length (functions (source (arc_value unit.now)).externals)) × IsPieceRefusal (source (arc_value unit.now)).externals f fault
+        × ((g : ℕ) → g < f → HasPiece (source (arc_value unit.now)).text g)) }
 {
     let mut pieces = Vec::new(alloc);
     let count = unit.functions();
+    let _externals = unit.externals();
     for function in 0..count {
         let piece = match compile_function(alloc, unit, function) {
             Ok(piece) => piece,
@@ -40,6 +44,7 @@ fn pieces(alloc: Global, unit: &Arc<TypedUnit>) -> Result<Vec<Piece>, PieceFault
                 return Err(fault);
             }
         };
+        let _kept = piece.items();
         if pieces.push(piece).is_err() {
             drop(pieces);
             return Err(PieceFault::OutOfMemory);
@@ -67,8 +72,8 @@ fn compile_unit(alloc: Global, unit: &Arc<TypedUnit>) -> Result<CompiledUnit, Bu
 
 /// Compiles a text: its source is the text, and its image agrees with it.
 ///
-/// Compile: 1 to 7 and 11 to 21 exactly those of `parse` and then of `check`; for a text without these 22 or 24 for the first function
-/// that has one, with its name; 25 where the image would have more than 131,072 words of code; 40 where memory ran out.
+/// Refusals: 1 to 7 and 11 to 21 exactly those of `parse` and then of `check`; for a text without these 22 or 24 for the first function
+/// that has one, with its name, where each function before it has a piece; 25 where `link` refuses the pieces so; 40 where memory ran out.
 pub fn compile(alloc: Global, text: &[u8]) -> Result<CompiledUnit, BuildFault>
     ensures source { IfOk result (λ unit. unit.source ≡ text.now) }
     ensures agrees { IfOk result (λ unit. Agree text.now unit.image) }

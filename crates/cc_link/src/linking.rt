@@ -9,9 +9,8 @@ ghost use Rattle.cc_syntax.specs.Source.{source};
 ghost use Rattle.cc_meaning.specs.Meaning.{functions};
 ghost use Rattle.cc_link.specs.declared.fault.LinkFault.TheVariants.{OutOfMemory};
 ghost use Rattle.cc_link.specs.Link.{code_words, most_code};
-ghost use Rattle.cc_link.specs.Linked.{image_of, linked};
+ghost use Rattle.cc_link.specs.Linked.{image_of, linked, lent_pieces};
 ghost use Rattle.cc_link.specs.internal.Filling.{lent, AllStayIn};
-ghost use Rattle.cc_link.specs.internal.Lent.{lent_pieces};
 
 use crate::compiled::CompiledUnit;
 use crate::fault::LinkFault;

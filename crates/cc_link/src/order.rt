@@ -6,9 +6,9 @@ ghost use Rattle.std.specs.Prelude.{◌≡◌, ◌⊎◌, List, [], None, Some, 
 ghost use Rattle.cc_emit.specs.Piece.{IsPieceOfUnit};
 ghost use Rattle.cc_link.specs.declared.fault.LinkFault.TheVariants.{OutOfMemory};
 ghost use Rattle.cc_link.specs.Made.{IsCompiled};
-ghost use Rattle.cc_link.specs.Linked.{stranger, is_among, doubled, items_of, missing, in_order};
+ghost use Rattle.cc_link.specs.Linked.{stranger, is_among, doubled, items_of, missing, in_order, lent_pieces};
 ghost use Rattle.cc_link.specs.internal.Filling.{lent};
-ghost use Rattle.cc_link.specs.internal.Lent.{lent_pieces, functions_of};
+ghost use Rattle.cc_link.specs.internal.Lent.{functions_of};
 
 use crate::fault::LinkFault;
 use cc_emit::{Item, Piece};

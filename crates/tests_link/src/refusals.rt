@@ -113,7 +113,7 @@ fn is_too_large(
 
 /// The parts of texts with a function of more than 4,096 nodes, the offset of its name, and the name's bytes: a write takes three
 /// nodes, and each function three more. Of several such functions it is the first, and none before the first is in its way.
-static LARGE: [(&[Part<'static>], usize, usize); 3] = [
+static LARGE: [(&[Part<'static>], usize, usize); 4] = [
     (
         &[
             ("int main(void){", 1),
@@ -142,6 +142,17 @@ static LARGE: [(&[Part<'static>], usize, usize); 3] = [
             ("x++;}", 1),
         ],
         11,
+        5,
+    ),
+    (
+        &[
+            ("int x;int f(void){return x;}void first(void){", 1),
+            ("x++;", 5_000),
+            ("}int main(void){", 1),
+            ("x++;", 5_001),
+            ("}", 1),
+        ],
+        33,
         5,
     ),
 ];

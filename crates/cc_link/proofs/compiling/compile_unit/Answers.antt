@@ -20,13 +20,18 @@ returns-in-Err-link-clause-refused c =
       | inl e ↦ inl e
       | inr e ↦ inr (
         only_large s ps c.in-Err-link.fault own count e,
-        record {
-          tree = s.externals;
-          is = record { spelled = c.requires.spelled; typed = typed; limits = limits };
-          pieces = ps;
-          own = own;
-          count = count;
-          refused = e;
-        },
+        (s.externals, record { spelled = c.requires.spelled; typed = typed; limits = limits }),
       )
     ]
+
+pub returns-in-Err-clause-refused : goal.returns-in-Err-clause-refused
+returns-in-Err-clause-refused c =
+    let s = source (arc_value c.args.unit.now) in
+    let tree = c.externals-externals.ensures in
+    let typed : IsTyped s.externals = subst (λ (u : parsed.Unit). IsTyped (source u).externals) c.deref.ensures tree.typed in
+    let limits : IsWithinLimits s.externals = subst (λ (u : parsed.Unit). IsWithinLimits (source u).externals) c.deref.ensures tree.limits in
+    let r = c.in-Err.ensures.refused in
+    record {
+      none = record { tree = s.externals; is = record { spelled = c.requires.spelled; typed = typed; limits = limits }; function = r.0; defined = r.1; refused = r.2 };
+      earlier = r.3;
+    }

@@ -1,13 +1,17 @@
-use Rattle.std.proofs.Common.{rules, arith, ◌≡◌, ◌<◌, ◌+◌, List, [], ◌∷◌, ◌++◌, length, sym, ap, subst, ◌∙◌}
+use Rattle.std.proofs.Common.{inl, inr, rules, arith, ◌≡◌, ◌<◌, ◌+◌, List, [], ◌∷◌, ◌++◌, length, sym, ap, subst, ◌∙◌}
+use Rattle.std.proofs.lemmas.Bool.{cases_lt}
 use Rattle.std.specs.Arc.{arc_value}
 use Rattle.cc_syntax.specs.Source.{source}
 use Rattle.cc_syntax.specs.declared.unit.Unit.{Unit}
+use Rattle.cc_syntax.specs.Parse.{SpellsText}
+use Rattle.cc_typing.specs.Checked.{IsChecked}
 use Rattle.cc_typing.specs.Typed.{defined_names}
 use Rattle.cc_meaning.specs.Meaning.{functions}
 use Rattle.cc_emit.specs.Piece.{Piece}
-use Rattle.cc_link.specs.Compile.{AreFrom}
+use Rattle.cc_link.specs.internal.Lent.{AreFrom}
 use Rattle.cc_link.proofs.Deciding.{defined_long}
 use Rattle.cc_link.proofs.Own.{one_from}
+use Rattle.cc_link.proofs.Ordering.{compiled_of}
 use Rattle.cc_link.proofs.compiling.pieces.Goals as goal
 
 pub returns-in-Err-clause-refused : goal.returns-in-Err-clause-refused
@@ -15,7 +19,14 @@ returns-in-Err-clause-refused c =
     let s = source (arc_value c.args.unit.now) in
     let count : c.functions-count.result ≡ length (functions s.externals) = c.functions-count.ensures ∙ ap (λ (u : Unit). length (defined_names (source u))) c.deref.ensures ∙ defined_long s in
     let below : c.loop-function.function < c.functions-count.result = search rules in
-    (c.loop-function.function, omega (arith, count, below), c.in-Err.ensures.refused)
+    (c.loop-function.function, omega (arith, count, below), c.in-Err.ensures.refused, c.loop-function.invariant.made)
+
+pub returns-then-is_err-clause-refused : goal.returns-then-is_err-clause-refused
+returns-then-is_err-clause-refused c =
+    let s = source (arc_value c.args.unit.now) in
+    let count : c.functions-count.result ≡ length (functions s.externals) = c.functions-count.ensures ∙ ap (λ (u : Unit). length (defined_names (source u))) c.deref.ensures ∙ defined_long s in
+    let below : c.loop-function.function < c.functions-count.result = search rules in
+    (c.loop-function.function, omega (arith, count, below), tt, c.loop-function.invariant.made)
 
 pub loop-function-preserved : goal.loop-function-preserved
 loop-function-preserved c =
@@ -26,6 +37,16 @@ loop-function-preserved c =
     record {
       own = subst (λ (ps : List Piece). AreFrom text 0 ps) (sym items) (one_from text 0 c.loop-function.pieces.items c.in-Ok.piece c.loop-function.invariant.own whose which);
       count = search rules;
+      made = λ g less. elim (cases_lt g c.loop-function.function) [
+        | inl lower ↦ c.loop-function.invariant.made g lower
+        | inr here ↦ record {
+          piece = c.in-Ok.piece;
+          compiled = compiled_of (arc_value c.args.unit.now) c.in-Ok.piece c.in-Ok.ensures.unit (subst (λ (u : Unit). ∥ SpellsText (source u).text (source u).externals ∥₁) c.deref-2.ensures c.externals-externals.ensures.spelled)
+              (subst (λ (u : Unit). IsChecked (source u)) c.deref-2.ensures (record { typed = c.externals-externals.ensures.typed; limits = c.externals-externals.ensures.limits })) c.items-kept.ensures.piece;
+          text_is = whose;
+          function_is = c.in-Ok.ensures.function ∙ omega (arith, here, less);
+        }
+      ];
     }
 
 pub returns-clause-count : goal.returns-clause-count

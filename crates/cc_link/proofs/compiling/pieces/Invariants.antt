@@ -1,7 +1,8 @@
-use Rattle.std.proofs.Common.{◌≡◌, length}
+use Rattle.std.proofs.Common.{◌≡◌, ℕ, ◌<◌, length}
+use Rattle.cc_link.specs.Compile.{HasPiece}
 use Rattle.std.specs.Arc.{arc_value}
 use Rattle.cc_syntax.specs.Source.{source}
-use Rattle.cc_link.specs.Compile.{AreFrom}
+use Rattle.cc_link.specs.internal.Lent.{AreFrom}
 use Rattle.cc_link.proofs.compiling.pieces.Given as goal
 
 -- the pieces so far are those of the functions so far
@@ -9,4 +10,5 @@ abbrev pub invariant-loop-function : goal.invariant-loop-function
 invariant-loop-function l = record {
   own : AreFrom (source (arc_value l.unit)).text 0 l.pieces.items;
   count : length l.pieces.items ≡ l.function;
+  made : (g : ℕ) → g < l.function → HasPiece (source (arc_value l.unit)).text g;
 }

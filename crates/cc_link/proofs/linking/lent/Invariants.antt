@@ -1,5 +1,5 @@
 use Rattle.std.proofs.Common.{◌≡◌, ◌++◌, drop}
-use Rattle.cc_link.specs.internal.Lent.{lent_pieces}
+use Rattle.cc_link.specs.Linked.{lent_pieces}
 use Rattle.cc_link.proofs.linking.lent.Given as goal
 
 -- the references so far, and the pieces that are left

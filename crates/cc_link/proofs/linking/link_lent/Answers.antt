@@ -8,8 +8,7 @@ use Rattle.cc_syntax.specs.declared.unit.Unit as parsed
 use Rattle.cc_emit.specs.declared.item.Item.{Item}
 use Rattle.cc_link.specs.declared.fault.LinkFault.TheVariants.{OutOfMemory}
 use Rattle.cc_link.specs.Link.{code_words, most_code}
-use Rattle.cc_link.specs.Linked.{stranger, doubled, in_order, linked}
-use Rattle.cc_link.specs.internal.Lent.{lent_pieces}
+use Rattle.cc_link.specs.Linked.{stranger, doubled, in_order, linked, lent_pieces}
 use Rattle.cc_link.specs.internal.Filling.{lent}
 use Rattle.cc_link.proofs.Answering.{order_refused, size_refused, count_is, stay_is, answer_is, agree_is}
 use Rattle.cc_link.proofs.linking.link_lent.Goals as goal

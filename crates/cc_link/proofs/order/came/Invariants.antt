@@ -1,6 +1,6 @@
 use Rattle.std.proofs.Common.{◌≡◌, drop}
-use Rattle.cc_link.specs.Linked.{is_among}
-use Rattle.cc_link.specs.internal.Lent.{lent_pieces, functions_of}
+use Rattle.cc_link.specs.Linked.{is_among, lent_pieces}
+use Rattle.cc_link.specs.internal.Lent.{functions_of}
 use Rattle.cc_link.proofs.order.came.Given as goal
 
 abbrev pub invariant-loop-piece : goal.invariant-loop-piece

@@ -1,6 +1,6 @@
 use Rattle.std.proofs.Common.{◌≡◌, [], take, drop}
-use Rattle.cc_link.specs.Linked.{doubled}
-use Rattle.cc_link.specs.internal.Lent.{lent_pieces, functions_of}
+use Rattle.cc_link.specs.Linked.{doubled, lent_pieces}
+use Rattle.cc_link.specs.internal.Lent.{functions_of}
 use Rattle.cc_link.proofs.order.doubled.Given as goal
 
 -- none doubled so far

@@ -1,5 +1,5 @@
 use Rattle.std.proofs.Common.{◌≡◌, ◌<◌, inr, rules, ◌++◌, [], ◌∷◌, ◌∙◌}
-use Rattle.cc_link.specs.internal.Lent.{lent_pieces}
+use Rattle.cc_link.specs.Linked.{lent_pieces}
 use Rattle.cc_link.proofs.OneByOne.{missing_here, missing_next, bodies_next}
 use Rattle.cc_link.proofs.order.in_order.Goals as goal
 

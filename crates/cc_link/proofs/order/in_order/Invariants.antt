@@ -1,7 +1,6 @@
 use Rattle.std.proofs.Common.{◌≡◌, ◌-◌, ◌++◌}
-use Rattle.cc_link.specs.Linked.{missing, in_order}
+use Rattle.cc_link.specs.Linked.{missing, in_order, lent_pieces}
 use Rattle.cc_link.specs.internal.Filling.{lent}
-use Rattle.cc_link.specs.internal.Lent.{lent_pieces}
 use Rattle.cc_link.proofs.order.in_order.Given as goal
 
 -- none is missing so far; the bodies so far, and those that are left

@@ -1,6 +1,5 @@
 use Rattle.std.proofs.Common.{◌≡◌, drop}
-use Rattle.cc_link.specs.Linked.{items_of}
-use Rattle.cc_link.specs.internal.Lent.{lent_pieces}
+use Rattle.cc_link.specs.Linked.{items_of, lent_pieces}
 use Rattle.cc_link.proofs.order.items_of.Given as goal
 
 abbrev pub invariant-loop-piece : goal.invariant-loop-piece

@@ -13,13 +13,13 @@ loop-at-preserved c =
     let one : c.deref-other.result.now ≡ c.index-pieces-at.result.now.unit = c.deref-other.ensures ∙ c.unit.ensures.answer in
     let tree = c.externals-externals.ensures in
     record {
-  left = c.loop-at.invariant.left ∙ stranger_next c.args.text.now c.text.result.now c.loop-at.at c.args.pieces.now c.index-pieces-at.result c.loop-at-test.true c.index-pieces-at.is
-      (c.text.ensures.answer ∙ ap (λ (u : parsed.Unit). (source u).text) (c.deref-other.ensures ∙ c.unit.ensures.answer)) c.if-ne.ensures;
-  kept = kept_next IsPieceOfUnit c.args.pieces.now c.loop-at.at c.index-pieces-at.result c.loop-at-test.true c.index-pieces-at.is c.items-kept.ensures.piece c.loop-at.invariant.kept;
-  compiled = kept_next IsCompiled c.args.pieces.now c.loop-at.at c.index-pieces-at.result c.loop-at-test.true c.index-pieces-at.is
-      (record {
-        spelled = subst (λ (u : parsed.Unit). ∥ SpellsText (source u).text (source u).externals ∥₁) one tree.spelled;
-        checked = subst (λ (u : parsed.Unit). IsChecked (source u)) one (record { typed = tree.typed; limits = tree.limits });
-        of_unit = c.items-kept.ensures.piece;
-      }) c.loop-at.invariant.compiled;
-}
+      left = c.loop-at.invariant.left ∙ stranger_next c.args.text.now c.text.result.now c.loop-at.at c.args.pieces.now c.index-pieces-at.result c.loop-at-test.true c.index-pieces-at.is
+          (c.text.ensures.answer ∙ ap (λ (u : parsed.Unit). (source u).text) (c.deref-other.ensures ∙ c.unit.ensures.answer)) c.if-ne.ensures;
+      kept = kept_next IsPieceOfUnit c.args.pieces.now c.loop-at.at c.index-pieces-at.result c.loop-at-test.true c.index-pieces-at.is c.items-kept.ensures.piece c.loop-at.invariant.kept;
+      compiled = kept_next IsCompiled c.args.pieces.now c.loop-at.at c.index-pieces-at.result c.loop-at-test.true c.index-pieces-at.is
+          (record {
+            spelled = subst (λ (u : parsed.Unit). ∥ SpellsText (source u).text (source u).externals ∥₁) one tree.spelled;
+            checked = subst (λ (u : parsed.Unit). IsChecked (source u)) one (record { typed = tree.typed; limits = tree.limits });
+            of_unit = c.items-kept.ensures.piece;
+          }) c.loop-at.invariant.compiled;
+    }

@@ -1,8 +1,7 @@
 use Rattle.std.proofs.Common.{◌≡◌, ℕ, ◌<◌, get_or, drop}
 use Rattle.cc_emit.specs.Piece.{Piece, IsPieceOfUnit}
-use Rattle.cc_link.specs.Linked.{stranger}
+use Rattle.cc_link.specs.Linked.{stranger, lent_pieces}
 use Rattle.cc_link.specs.Made.{IsCompiled}
-use Rattle.cc_link.specs.internal.Lent.{lent_pieces}
 use Rattle.cc_link.proofs.order.stranger.Given as goal
 
 -- no stranger so far, and each piece so far is what its type keeps
