@@ -5,7 +5,8 @@ use Rattle.cc_core.specs.declared.event.Event.{Event}
 use Rattle.cc_core.specs.Run.{HandsIn, Turn, Run}
 use Rattle.cc_emit.specs.Piece.{Piece}
 use Rattle.cc_link.specs.Laws.{LinkedUnitsAgree}
-use Rattle.cc_build.specs.Compiling.{compiling, IsCompiled, Keeps}
+use Rattle.cc_link.specs.Made.{IsCompiled}
+use Rattle.cc_build.specs.Compiling.{compiling, Keeps}
 
 module _ (law : LinkedUnitsAgree) where
   kept_turn : (old new : Contents Piece) (event : Event Piece) → Turn compiling IsCompiled old event new → Turn compiling Keeps old event new
