@@ -1,16 +1,16 @@
 -- What `parse` and `check` answer is the plan, since a text has one verdict.
-use Rattle.std.proofs.Common.{◌≡◌, ◌≤◌, ◌⊎◌, inl, inr, ℕ, zero, suc, List, [], ◌∷◌, ◌++◌, length, map, take, drop, Option, Some, None, Result, Ok, Err, refl, sym, ap, subst, ◌∙◌, arith}
+use Rattle.std.proofs.Common.{◌≡◌, ◌≤◌, ◌⊎◌, inl, inr, ℕ, zero, suc, List, [], ◌∷◌, ◌++◌, length, Result, Ok, Err, refl, sym, ap, subst, ◌∙◌, arith}
 use Rattle.std.proofs.Math.Logic.{∥∥₁_elim, ∥∥₁_map₂}
 use Rattle.std.proofs.Math.Nat.{ℕ_set}
 use Rattle.std.proofs.lemmas.List.{length-map}
 use Rattle.cc_tokens.specs.declared.fault.SyntaxFault.{SyntaxFault}
 use Rattle.cc_tokens.specs.declared.fault.SyntaxFault.TheVariants as syntax
-use Rattle.cc_syntax.specs.Tree.{Name, External, Source}
+use Rattle.cc_syntax.specs.Tree.{Name, Source}
 use Rattle.cc_syntax.specs.Parse.{SpellsText, IsParseRefusal}
 use Rattle.cc_syntax.proofs.Determined.{answers_are_one}
 use Rattle.cc_typing.specs.declared.fault.TypeFault.{TypeFault}
 use Rattle.cc_typing.specs.declared.fault.TypeFault.TheVariants as typing
-use Rattle.cc_typing.specs.Limits.{too_many, past, function_names, externals_excesses, word_excesses, objects}
+use Rattle.cc_typing.specs.Limits.{past, function_names, externals_excesses, word_excesses, objects}
 use Rattle.cc_typing.specs.Typed.{IsTyped, IsWithinLimits, IsTypeRefusal, defined_names}
 use Rattle.cc_typing.specs.Verdict.{Verdict, NoTree, NotTyped, Program, IsVerdict}
 use Rattle.cc_typing.proofs.Determined.{verdicts_are_one}

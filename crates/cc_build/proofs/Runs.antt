@@ -1,8 +1,8 @@
 -- A run of pieces that are compiled is a run of pieces that keep what the build asks, since linking keeps its promise.
-use Rattle.std.proofs.Common.{◌≡◌, ◌⊎◌, inl, inr, List, [], ◌∷◌}
+use Rattle.std.proofs.Common.{inl, inr, List, [], ◌∷◌}
 use Rattle.cc_core.specs.declared.contents.Contents.{Contents}
 use Rattle.cc_core.specs.declared.event.Event.{Event}
-use Rattle.cc_core.specs.Run.{HandsIn, Turn, Run}
+use Rattle.cc_core.specs.Run.{Turn, Run}
 use Rattle.cc_emit.specs.Piece.{Piece}
 use Rattle.cc_link.specs.Laws.{LinkedUnitsAgree}
 use Rattle.cc_link.specs.Made.{IsCompiled}

@@ -1,17 +1,15 @@
 -- A compiled unit's pieces, put in the order of definitions, are all of its source's, and link to it as they did in the order they came in.
-use Rattle.std.proofs.Common.{◌≡◌, ℕ, zero, suc, ◌+◌, ◌<◌, ◌≤◌, ◌⊎◌, inl, inr, Bool, true, false, if◌then◌else◌, List, [], ◌∷◌, ◌++◌, length, Option, Some, None, Result, Ok, Err, refl, sym, ap, ◌∙◌, subst, arith, All}
-use Rattle.std.specs.Prelude.{◌==◌, ◌||◌, is_some, slice_get, unwrap_or}
+use Rattle.std.proofs.Common.{◌≡◌, ℕ, zero, suc, ◌+◌, ◌<◌, ◌≤◌, ◌⊎◌, inl, inr, Bool, true, false, if◌then◌else◌, List, [], ◌∷◌, length, Option, Some, None, Result, Ok, Err, refl, sym, ap, ◌∙◌, subst, arith}
+use Rattle.std.specs.Prelude.{◌==◌, is_some, slice_get, unwrap_or}
 use Rattle.std.specs.Coded.{Coded-set}
 use Rattle.std.specs.Option.{option_or}
-use Rattle.std.specs.Cmp.Lexicographic.{other_text}
 use Rattle.std.proofs.Math.Logic.{∥∥₁_elim, ∥∥₁_map, ∥∥₁_prop}
 use Rattle.std.proofs.lemmas.Bool.{eq-eqb, eqb-true, cases_lt}
 use Rattle.cc_tokens.specs.Tokens.{TokensAreOne}
-use Rattle.cc_syntax.specs.Tree.{External, Source}
+use Rattle.cc_syntax.specs.Tree.{Source}
 use Rattle.cc_syntax.specs.Source.{source}
 use Rattle.cc_syntax.specs.Limits.{TreesAreOne}
 use Rattle.cc_syntax.specs.Parse.{SpellsText}
-use Rattle.cc_typing.specs.Typed.{defined_names}
 use Rattle.cc_meaning.specs.Meaning.{functions}
 use Rattle.cc_meaning.specs.Calls.{TypedUnitsHaveMain}
 use Rattle.cc_unit.specs.declared.unit.StoredUnit.{StoredUnit}
@@ -21,10 +19,10 @@ use Rattle.cc_emit.specs.Piece.{Piece}
 use Rattle.cc_link.specs.Laws.{LinkedUnitsAgree}
 use Rattle.cc_link.specs.internal.Lent.{AreFrom}
 use Rattle.cc_link.specs.Link.{code_words, most_code}
-use Rattle.cc_link.specs.Linked.{same_bytes, stranger, is_among, doubled, items_of, missing, in_order, bodies, image_of, link_refusal, unit_of, unless_refused, linked}
+use Rattle.cc_link.specs.Linked.{same_bytes, stranger, doubled, items_of, missing, in_order, bodies, image_of, link_refusal, unit_of, unless_refused, linked}
 use Rattle.cc_link.specs.Made.{IsCompiled, IsMade}
 use Rattle.cc_link.specs.declared.fault.LinkFault.{LinkFault}
-use Rattle.cc_link.specs.declared.fault.LinkFault.TheVariants.{Missing, Doubled, Stranger}
+use Rattle.cc_link.specs.declared.fault.LinkFault.TheVariants.{Missing}
 use Rattle.cc_link.proofs.Deciding.{defined_long, linked_ok}
 use Rattle.cc_link.proofs.Own.{same_itself, no_stranger, none_doubled, none_left}
 use Rattle.cc_link.proofs.Linked.{AreOfText, AreOfTree, one_text, one_tree, small}

@@ -1,4 +1,4 @@
-use Rattle.std.proofs.Common.{ℕ, List, ◌≡◌, ◌≤◌, ◌∙◌, length, Ok, sym, ap, subst, arith, Fits, w32}
+use Rattle.std.proofs.Common.{ℕ, ◌∙◌, length, Ok, sym, ap, subst, arith}
 use Rattle.cc_syntax.specs.Source.{source}
 use Rattle.cc_syntax.specs.declared.unit.Unit.{Unit as Parsed}
 use Rattle.cc_typing.specs.Typed.{defined_names}
