@@ -1,31 +1,44 @@
 -- What `parse` and `check` answer is the plan, since a text has one verdict.
-use Rattle.std.proofs.Common.{◌≡◌, ◌≤◌, ◌⊎◌, inl, inr, ℕ, zero, suc, List, [], ◌∷◌, ◌++◌, length, map, take, drop, Option, Some, None, Result, Ok, Err, refl, sym, ap, subst, ◌∙◌, arith}
+use Rattle.std.proofs.Common.{◌≡◌, ◌≤◌, ◌⊎◌, inl, inr, ℕ, zero, suc, List, [], ◌∷◌, ◌++◌, length, Result, Ok, Err, refl, sym, ap, subst, ◌∙◌, arith}
+use Rattle.std.proofs.Math.Logic.{∥∥₁_elim, ∥∥₁_map₂}
+use Rattle.std.proofs.Math.Nat.{ℕ_set}
 use Rattle.std.proofs.lemmas.List.{length-map}
 use Rattle.cc_tokens.specs.declared.fault.SyntaxFault.{SyntaxFault}
 use Rattle.cc_tokens.specs.declared.fault.SyntaxFault.TheVariants as syntax
-use Rattle.cc_syntax.specs.Tree.{Name, External, Source}
+use Rattle.cc_syntax.specs.Tree.{Name, Source}
 use Rattle.cc_syntax.specs.Parse.{SpellsText, IsParseRefusal}
-use Rattle.cc_syntax.proofs.Determined.{answers_are_one, texts_have_answers}
+use Rattle.cc_syntax.proofs.Determined.{answers_are_one}
 use Rattle.cc_typing.specs.declared.fault.TypeFault.{TypeFault}
 use Rattle.cc_typing.specs.declared.fault.TypeFault.TheVariants as typing
-use Rattle.cc_typing.specs.Limits.{too_many, past, function_names, externals_excesses, word_excesses, objects}
+use Rattle.cc_typing.specs.Limits.{past, function_names, externals_excesses, word_excesses, objects}
 use Rattle.cc_typing.specs.Typed.{IsTyped, IsWithinLimits, IsTypeRefusal, defined_names}
 use Rattle.cc_typing.specs.Verdict.{Verdict, NoTree, NotTyped, Program, IsVerdict}
-use Rattle.cc_typing.proofs.Determined.{verdicts_are_one, texts_have_verdicts}
+use Rattle.cc_typing.proofs.Determined.{verdicts_are_one}
 use Rattle.cc_typing.proofs.Verdict.{both_empty}
-use Rattle.cc_core.specs.Fault.{RefusesAs}
-use Rattle.cc_build.specs.Plan.{verdict_of, pieces_of, plan}
+use Rattle.cc_core.specs.Fault.{RefusesPlan}
+use Rattle.cc_build.specs.Plan.{pieces_of, IsPlan, IsPlanBy}
 use Rattle.cc_build.specs.internal.Refusals.{of_syntax, of_typing}
 
-pub verdict_is : (text : List ℕ) → IsVerdict text (verdict_of text)
-unfolding verdict_of
-verdict_is text = (texts_have_verdicts texts_have_answers text).1
+-- a text's verdict comes to its plan, and to no other
+planned : (text : List ℕ) (v : Verdict) → IsVerdict text v → IsPlan text (pieces_of v)
+planned text v is = ∣ record { verdict = v; is = is; plan_is = refl } ∣₁
 
--- a verdict is the text's
-planned : (text : List ℕ) (v : Verdict) → IsVerdict text v → plan text ≡ pieces_of v
-planned text v is = ap pieces_of (verdicts_are_one answers_are_one text (verdict_of text) v (verdict_is text) is)
+nothing_prop : IsProp ⊥
+nothing_prop = hlevel
 
-pub text_refused : (text : List ℕ) (fault : SyntaxFault) → IsParseRefusal text fault → RefusesAs (of_syntax fault) (plan text)
+-- an equation of such results is known where it is known that there is one
+known : (a b : Result ℕ ℕ) → ∥ a ≡ b ∥₁ → a ≡ b
+known (Ok m) (Ok n) e = ap Ok (∥∥₁_elim e (ℕ_set m n) (λ (h : ◌≡◌ {A = Result ℕ ℕ} (Ok m) (Ok n)). cc))
+known (Err m) (Err n) e = ap Err (∥∥₁_elim e (ℕ_set m n) (λ (h : ◌≡◌ {A = Result ℕ ℕ} (Err m) (Err n)). cc))
+known (Ok m) (Err n) e = let never : ⊥ = ∥∥₁_elim e nothing_prop (λ (h : ◌≡◌ {A = Result ℕ ℕ} (Ok m) (Err n)). cc) in absurd never
+known (Err m) (Ok n) e = let never : ⊥ = ∥∥₁_elim e nothing_prop (λ (h : ◌≡◌ {A = Result ℕ ℕ} (Err m) (Ok n)). cc) in absurd never
+
+pub one_plan : (text : List ℕ) (a b : Result ℕ ℕ) → IsPlan text a → IsPlan text b → a ≡ b
+one_plan text a b p q =
+    known a b (∥∥₁_map₂ p q (λ (f : IsPlanBy text a) (g : IsPlanBy text b).
+    f.plan_is ∙ ap pieces_of (verdicts_are_one answers_are_one text f.verdict g.verdict f.is g.is) ∙ sym g.plan_is))
+
+pub text_refused : (text : List ℕ) (fault : SyntaxFault) → IsParseRefusal text fault → RefusesPlan (of_syntax fault) (IsPlan text)
 text_refused text (syntax.BadByte p) h = planned text (NoTree (syntax.BadByte p)) h
 text_refused text (syntax.UnclosedComment p) h = planned text (NoTree (syntax.UnclosedComment p)) h
 text_refused text (syntax.BadConstant p) h = planned text (NoTree (syntax.BadConstant p)) h
@@ -36,10 +49,10 @@ text_refused text syntax.SourceTooLarge h = planned text (NoTree syntax.SourceTo
 text_refused text syntax.OutOfMemory h = tt
 
 module _ (text : List ℕ) (s : Source) (same : s.text ≡ text) (fits : length text ≤ 65536) (spelled : SpellsText text s.externals) where
-  not_typed : (fault : TypeFault) → IsTypeRefusal s fault → plan text ≡ pieces_of (NotTyped fault)
+  not_typed : (fault : TypeFault) → IsTypeRefusal s fault → IsPlan text (pieces_of (NotTyped fault))
   not_typed fault h = planned text (NotTyped fault) (s.externals, (fits, spelled), subst (λ (z : List ℕ). IsTypeRefusal (record { text = z; externals = s.externals }) fault) same h)
 
-  pub type_refused : (fault : TypeFault) → (fault ≡ typing.OutOfMemory) ⊎ IsTypeRefusal s fault → RefusesAs (of_typing fault) (plan text)
+  pub type_refused : (fault : TypeFault) → (fault ≡ typing.OutOfMemory) ⊎ IsTypeRefusal s fault → RefusesPlan (of_typing fault) (IsPlan text)
   type_refused typing.OutOfMemory h = tt
   type_refused (typing.Unknown p) (inl e) = absurd (cc)
   type_refused (typing.Unknown p) (inr h) = not_typed (typing.Unknown p) h
@@ -64,9 +77,9 @@ module _ (text : List ℕ) (s : Source) (same : s.text ≡ text) (fits : length 
   type_refused (typing.TooMany p) (inl e) = absurd (cc)
   type_refused (typing.TooMany p) (inr h) = not_typed (typing.TooMany p) h
 
-  pub program_planned : IsTyped s.externals → IsWithinLimits s.externals → plan text ≡ Ok (length (defined_names s))
+  pub program_planned : IsTyped s.externals → IsWithinLimits s.externals → IsPlan text (Ok (length (defined_names s)))
   program_planned typed limits =
-      planned text (Program s.externals) ((fits, spelled), (typed, limits)) ∙ ap Ok (sym (length-map (function_names s.externals) (λ (x : Name). x.text)))
+      subst (λ (n : ℕ). IsPlan text (Ok n)) (sym (length-map (function_names s.externals) (λ (x : Name). x.text))) (planned text (Program s.externals) ((fits, spelled), (typed, limits)))
 
 none_past : (n : ℕ) (names : List Name) → past n names ≡ [] → length names ≤ n
 none_past zero [] e = omega arith

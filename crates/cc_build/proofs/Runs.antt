@@ -1,11 +1,12 @@
 -- A run of pieces that are compiled is a run of pieces that keep what the build asks, since linking keeps its promise.
-use Rattle.std.proofs.Common.{◌≡◌, ◌⊎◌, inl, inr, List, [], ◌∷◌}
+use Rattle.std.proofs.Common.{inl, inr, List, [], ◌∷◌}
 use Rattle.cc_core.specs.declared.contents.Contents.{Contents}
 use Rattle.cc_core.specs.declared.event.Event.{Event}
-use Rattle.cc_core.specs.Run.{HandsIn, Turn, Run}
+use Rattle.cc_core.specs.Run.{Turn, Run}
 use Rattle.cc_emit.specs.Piece.{Piece}
 use Rattle.cc_link.specs.Laws.{LinkedUnitsAgree}
-use Rattle.cc_build.specs.Compiling.{compiling, IsCompiled, Keeps}
+use Rattle.cc_link.specs.Made.{IsCompiled}
+use Rattle.cc_build.specs.Compiling.{compiling, Keeps}
 
 module _ (law : LinkedUnitsAgree) where
   kept_turn : (old new : Contents Piece) (event : Event Piece) → Turn compiling IsCompiled old event new → Turn compiling Keeps old event new

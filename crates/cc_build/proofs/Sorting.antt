@@ -1,36 +1,35 @@
 -- A compiled unit's pieces, put in the order of definitions, are all of its source's, and link to it as they did in the order they came in.
-use Rattle.std.proofs.Common.{◌≡◌, ℕ, zero, suc, ◌+◌, ◌<◌, ◌≤◌, ◌⊎◌, inl, inr, Bool, true, false, if◌then◌else◌, List, [], ◌∷◌, ◌++◌, length, Option, Some, None, Result, Ok, Err, refl, sym, ap, ◌∙◌, subst, arith, All}
-use Rattle.std.specs.Prelude.{◌==◌, ◌||◌, is_some, slice_get, unwrap_or}
+use Rattle.std.proofs.Common.{◌≡◌, ℕ, zero, suc, ◌+◌, ◌<◌, ◌≤◌, ◌⊎◌, inl, inr, Bool, true, false, if◌then◌else◌, List, [], ◌∷◌, length, Option, Some, None, Result, Ok, Err, refl, sym, ap, ◌∙◌, subst, arith}
+use Rattle.std.specs.Prelude.{◌==◌, is_some, slice_get, unwrap_or}
 use Rattle.std.specs.Coded.{Coded-set}
 use Rattle.std.specs.Option.{option_or}
-use Rattle.std.specs.Cmp.Lexicographic.{other_text}
 use Rattle.std.proofs.Math.Logic.{∥∥₁_elim, ∥∥₁_map, ∥∥₁_prop}
-use Rattle.std.proofs.Math.Nat.{ℕ_set}
 use Rattle.std.proofs.lemmas.Bool.{eq-eqb, eqb-true, cases_lt}
 use Rattle.cc_tokens.specs.Tokens.{TokensAreOne}
-use Rattle.cc_syntax.specs.Tree.{External, Source}
+use Rattle.cc_syntax.specs.Tree.{Source}
 use Rattle.cc_syntax.specs.Source.{source}
 use Rattle.cc_syntax.specs.Limits.{TreesAreOne}
 use Rattle.cc_syntax.specs.Parse.{SpellsText}
-use Rattle.cc_typing.specs.Typed.{defined_names}
 use Rattle.cc_meaning.specs.Meaning.{functions}
 use Rattle.cc_meaning.specs.Calls.{TypedUnitsHaveMain}
 use Rattle.cc_unit.specs.declared.unit.StoredUnit.{StoredUnit}
 use Rattle.cc_unit.specs.contracts.unit.StoredUnit as stored
 use Rattle.cc_emit.specs.declared.item.Item.{Item}
 use Rattle.cc_emit.specs.Piece.{Piece}
-use Rattle.cc_link.specs.Compile.{AreFrom}
+use Rattle.cc_link.specs.Laws.{LinkedUnitsAgree}
+use Rattle.cc_link.specs.internal.Lent.{AreFrom}
 use Rattle.cc_link.specs.Link.{code_words, most_code}
-use Rattle.cc_link.specs.Linked.{same_bytes, stranger, is_among, doubled, items_of, missing, in_order, bodies, image_of, link_refusal, unit_of, unless_refused, linked}
+use Rattle.cc_link.specs.Linked.{same_bytes, stranger, doubled, items_of, missing, in_order, bodies, image_of, link_refusal, unit_of, unless_refused, linked}
 use Rattle.cc_link.specs.Made.{IsCompiled, IsMade}
 use Rattle.cc_link.specs.declared.fault.LinkFault.{LinkFault}
-use Rattle.cc_link.specs.declared.fault.LinkFault.TheVariants.{Missing, Doubled, Stranger}
+use Rattle.cc_link.specs.declared.fault.LinkFault.TheVariants.{Missing}
 use Rattle.cc_link.proofs.Deciding.{defined_long, linked_ok}
+use Rattle.cc_link.proofs.Own.{same_itself, no_stranger, none_doubled, none_left}
 use Rattle.cc_link.proofs.Linked.{AreOfText, AreOfTree, one_text, one_tree, small}
 use Rattle.cc_core.proofs.Lists.{All-slice_get, All-each}
-use Rattle.cc_build.specs.Built.{IsBuilt}
+use Rattle.cc_core.specs.Rules.{IsBuilt}
 use Rattle.cc_build.specs.Compiling as build
-use Rattle.cc_build.specs.Plan.{plan}
+use Rattle.cc_build.specs.Plan.{IsPlan}
 use Rattle.cc_build.proofs.Plans.{program_planned}
 
 abbrev IsNone : Option LinkFault → Type 0
@@ -44,50 +43,6 @@ none_or (Some f) b e = absurd (subst IsNone (sym e) tt)
 not_refused : (o : Option LinkFault) (made u : StoredUnit) → unless_refused o made ≡ Ok u → (o ≡ None) × (made ≡ u)
 not_refused None made u e = (refl, let h : ◌≡◌ {A = Result StoredUnit LinkFault} (Ok made) (Ok u) = e in cc)
 not_refused (Some f) made u e = absurd (let h : ◌≡◌ {A = Result StoredUnit LinkFault} (Err f) (Ok u) = e in cc)
-
--- ---- pieces in the order of definitions are not refused (as in cc_link)
-
-same_itself : (x : List ℕ) → same_bytes x x ≡ true
-same_itself x = by (same_bytes x x) refl
-  where
-    by : (b : Bool) → same_bytes x x ≡ b → b ≡ true
-    by true e = refl
-    by false e = absurd (other_text x x (sym e) refl)
-
-no_stranger : (text : List ℕ) (at from : ℕ) (ps : List Piece) → AreFrom text from ps → stranger text at ps ≡ None
-no_stranger text at from [] h = refl
-no_stranger text at from (p ∷ ps) h =
-    ap (λ b. if b then stranger text (suc at) ps else Some (Stranger p.function at)) (ap (λ t. same_bytes t text) h.0 ∙ same_itself text) ∙ no_stranger text (suc at) (suc from) ps h.2
-
-among_more : (gs : List ℕ) (x g : ℕ) → is_among (gs ++ x ∷ []) g ≡ true → (is_among gs g ≡ true) ⊎ (x ≡ g)
-among_more [] x g e = by (x == g) refl e
-  where
-    by : (b : Bool) → (x == g) ≡ b → (b || false) ≡ true → (false ≡ true) ⊎ (x ≡ g)
-    by true is e = inr (eqb-true x g is)
-    by false is e = inl e
-among_more (h ∷ gs) x g e = by (h == g) (among_more gs x g) e
-  where
-    by : (b : Bool) → (is_among (gs ++ x ∷ []) g ≡ true → (is_among gs g ≡ true) ⊎ (x ≡ g)) → (b || is_among (gs ++ x ∷ []) g) ≡ true → ((b || is_among gs g) ≡ true) ⊎ (x ≡ g)
-    by true again e = inl refl
-    by false again e = again e
-
-none_doubled : (text before : List ℕ) (at from : ℕ) (ps : List Piece) → ((g : ℕ) → is_among before g ≡ true → g < from) → AreFrom text from ps → doubled before at ps ≡ None
-none_doubled text before at from [] below h = refl
-none_doubled text before at from (p ∷ ps) below h = by (is_among before p.function) refl (λ lower. none_doubled text (before ++ p.function ∷ []) (suc at) (suc from) ps lower h.2)
-  where
-    one_of : (g : ℕ) → (is_among before g ≡ true) ⊎ (p.function ≡ g) → g < suc from
-    one_of g (inl e) = let lt = below g e in omega arith
-    one_of g (inr e) = let f : p.function ≡ from = h.1 in omega arith
-
-    by : (b : Bool) → is_among before p.function ≡ b → (((g : ℕ) → is_among (before ++ p.function ∷ []) g ≡ true → g < suc from) → doubled (before ++ p.function ∷ []) (suc at) ps ≡ None)
-        → (if b then Some (Doubled p.function at) else doubled (before ++ p.function ∷ []) (suc at) ps) ≡ None
-    by true e again = absurd (let lt = below p.function e in let f : p.function ≡ from = h.1 in omega arith)
-    by false e again = again (λ g f. one_of g (among_more before p.function g f))
-
-none_left : (ps : List Piece) (from count : ℕ) → ((f : ℕ) → from ≤ f → f < from + count → is_some (items_of ps f) ≡ true) → missing ps from count ≡ None
-none_left ps from zero h = refl
-none_left ps from (suc count) h =
-    ap (λ b. if b then missing ps (suc from) count else Some (Missing from)) (h from (omega arith) (omega arith)) ∙ none_left ps (suc from) count (λ f low high. h f (omega arith) (omega arith))
 
 -- ---- the piece of a function
 
@@ -217,8 +172,8 @@ texts text from (p ∷ ps) own = (own.0, texts text (suc from) ps own.2)
 
 -- ---- the whole
 
-module _ (tokens : TokensAreOne) (trees : TreesAreOne) (mains : TypedUnitsHaveMain) where
-  pub made_built : (unit : StoredUnit) → length unit.source ≤ 65536 → IsMade unit → IsBuilt unit
+module _ (tokens : TokensAreOne) (trees : TreesAreOne) (mains : TypedUnitsHaveMain) (agree : LinkedUnitsAgree) where
+  pub made_built : (unit : StoredUnit) → length unit.source ≤ 65536 → IsMade unit → IsBuilt build.compiling build.Keeps unit
   made_built unit fits m =
       let s = m.of in
       let ps = m.pieces in
@@ -236,15 +191,16 @@ module _ (tokens : TokensAreOne) (trees : TreesAreOne) (mains : TypedUnitsHaveMa
       (none_left so.pieces 0 n (λ f low high. ap is_some (so.items f low high) ∙ there ps n f c.0 (omega (arith, high))))
       (subst (λ fs. code_words fs ≤ most_code) (sym same) (small (bodies s.externals ps) c.1))
       ∙ ap Ok (ap (λ fs. record { source = s.text; image = image_of s.externals fs; certificate = None }) same ∙ done.1) in
-      let planned : plan unit.source ≡ Ok (length so.pieces) =
-      result_is (plan unit.source) (length so.pieces) (λ a. ℕ_set a (length so.pieces)) (∥∥₁_map m.spelled (λ (h : SpellsText s.text s.externals).
-      program_planned unit.source s (sym text) fits (subst (λ (t : List ℕ). SpellsText t s.externals) (sym text) h) m.checked.typed m.checked.limits ∙ ap Ok (defined_long s ∙ sym so.many))) in
+      let planned : IsPlan unit.source (Ok (length so.pieces)) =
+      ∥∥₁_elim m.spelled ∥∥₁_prop (λ (h : SpellsText s.text s.externals).
+      subst (λ (k : ℕ). IsPlan unit.source (Ok k)) (defined_long s ∙ sym so.many)
+      (program_planned unit.source s (sym text) fits (subst (λ (t : List ℕ). SpellsText t s.externals) (sym text) h) m.checked.typed m.checked.limits)) in
       let unit_is : build.unit_of unit.source so.pieces ≡ Ok unit =
       result_is (build.unit_of unit.source so.pieces) unit (λ a. Coded-set stored.the_row.coded a unit) (∥∥₁_elim m.spelled ∥∥₁_prop (λ (h : SpellsText s.text s.externals).
       ∥∥₁_map (one_tree tokens trees s.text s.externals h so.pieces (texts s.text 0 so.pieces so.own)) (λ (t : AreOfTree s.externals so.pieces). make_unit s unit so.pieces text so.own some whole t))) in
       record {
         pieces = so.pieces;
         whole = record { counted = planned; named = λ k q at. let it = so.named k q at in (it.0 ∙ sym text, it.1 ∙ omega arith) };
-        kept = All-each IsCompiled so.pieces so.each;
+        kept = All-each build.Keeps so.pieces (λ k q at. record { compiled = so.each k q at; agree = agree });
         unit_is = unit_is;
       }

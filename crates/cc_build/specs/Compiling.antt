@@ -1,17 +1,16 @@
 -- The rules of the build that compiles, and what a piece keeps.
 use Rattle.std.specs.Prelude.{ℕ, List, [], ◌∷◌, Result, Ok, Err, if◌then◌else◌}
 use Rattle.cc_syntax.specs.Source.{source}
-use Rattle.cc_syntax.specs.Parse.{SpellsText}
-use Rattle.cc_typing.specs.Checked.{IsChecked}
 use Rattle.cc_unit.specs.declared.unit.StoredUnit.{StoredUnit}
-use Rattle.cc_emit.specs.Piece.{Piece, IsPieceOfUnit}
+use Rattle.cc_emit.specs.Piece.{Piece}
 use Rattle.cc_link.specs.Agree.{Agree}
 use Rattle.cc_link.specs.Linked.{same_bytes, linked}
 use Rattle.cc_link.specs.Laws.{LinkedUnitsAgree}
+use Rattle.cc_link.specs.Made.{IsCompiled}
 use Rattle.cc_link.specs.declared.fault.LinkFault.{LinkFault}
 use Rattle.cc_link.specs.Fault.{link_fault_number}
 use Rattle.cc_core.specs.Rules.{Rules}
-use Rattle.cc_build.specs.Plan.{plan}
+use Rattle.cc_build.specs.Plan.{IsPlan}
 
 -- the text of a piece's unit
 abbrev pub text_of : Piece → List ℕ
@@ -30,19 +29,13 @@ unit_of text (piece ∷ pieces) = if same_bytes (text_of piece) text then number
 
 -- a source has a piece for each function that it defines, by its number in the order of definitions; and they are linked
 abbrev pub compiling : Rules Piece
-compiling = record { plan = plan; source_of = text_of; part_of = λ piece. piece.function; unit = unit_of }
+compiling = record { plan = IsPlan; source_of = text_of; part_of = λ piece. piece.function; unit = unit_of }
 
 -- the image agrees with its stored source
 abbrev pub is_right : StoredUnit → Type 0
 is_right unit = Agree unit.source unit.image
 
--- what the types of a piece and of its unit keep
-pub record IsCompiled (piece : Piece) : Type 0 where
-  pub spelled : ∥ SpellsText (source piece.unit).text (source piece.unit).externals ∥₁
-  pub checked : IsChecked (source piece.unit)
-  pub of_unit : IsPieceOfUnit piece
-
--- and with it what linking promises of such pieces, for the law of the build, which is a term and can call nothing
+-- what the types of a piece and of its unit keep, and with it what linking promises of such pieces, for the law of the build, which is a term and can call nothing
 pub record Keeps (piece : Piece) : Type 0 where
   pub compiled : IsCompiled piece
   pub agree : LinkedUnitsAgree

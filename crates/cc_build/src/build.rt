@@ -1,9 +1,8 @@
 // The build that compiles.
-ghost use Rattle.std.specs.Prelude.{ℕ, List};
-ghost use Rattle.cc_typing.specs.Verdict.{IsVerdict};
-ghost use Rattle.cc_build.specs.Plan.{verdict_of};
+ghost use Rattle.std.specs.Prelude.{◌≡◌, ℕ, List, Result};
+ghost use Rattle.cc_build.specs.Plan.{IsPlan};
 ghost use Rattle.cc_build.specs.Compiling.{compiling, Keeps, is_right};
-ghost use Rattle.cc_build.specs.internal.Law.{whole_units_agree};
+ghost use Rattle.cc_build.specs.internal.Law.{sources_are_planned, whole_units_agree};
 
 use crate::refusal::{link_refusal, text_refusal, type_refusal};
 use cc_core::build::Build;
@@ -78,10 +77,13 @@ impl Build for CcBuild {
         }
     }
 
+    ghost planned = { sources_are_planned };
+
     ghost law = { whole_units_agree };
 }
 
-/// How many pieces a source has, or the number that refuses it, is what its one verdict says: what `parse` and then `check` answer.
-pub fn plans_are_verdicts()
-    ensures { (text : List ℕ) → IsVerdict text (verdict_of text) }
+/// How many pieces a source has, or the number that refuses it, is determined: a text has exactly one plan, as it has exactly one verdict.
+pub fn texts_have_one_plan()
+    ensures some { (text : List ℕ) → (plan : Result ℕ ℕ) × IsPlan text plan }
+    ensures one { (text : List ℕ) (a b : Result ℕ ℕ) → IsPlan text a → IsPlan text b → a ≡ b }
 {}

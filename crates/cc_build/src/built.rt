@@ -1,6 +1,7 @@
 // What the type of a compiled unit keeps, as the protocol core asks for it.
 ghost use Rattle.cc_build.specs.Built.{MadeUnitsAreBuilt};
 
+use cc_link::linked_units_agree;
 use cc_meaning::programs_call_main;
 use cc_syntax::trees_are_determined;
 use cc_tokens::tokens_are_determined;
@@ -13,4 +14,5 @@ pub fn made_units_are_built()
     tokens_are_determined();
     trees_are_determined();
     programs_call_main();
+    linked_units_agree();
 }

@@ -2,7 +2,8 @@
 //!
 //! A source has a piece for each function that it defines, or is refused as `parse` and `check` refuse it; pieces are linked to a unit.
 //! `build` is that build, `refusal` gives faults as the core's refusals, `recovered` says what is thereby known of whatever a crash leaves of
-//! the disk. It hands out `CcBuild`, `run`, `headline` and `plans_are_verdicts`.
+//! the disk. It hands out `CcBuild`, `run`, `headline`, `made_units_are_built` and
+//! `texts_have_one_plan`.
 #![tactic(auto)]
 
 mod build;
@@ -10,6 +11,6 @@ mod built;
 mod recovered;
 mod refusal;
 
+pub use build::{CcBuild, texts_have_one_plan};
 pub use built::made_units_are_built;
-pub use build::{CcBuild, plans_are_verdicts};
 pub use recovered::{headline, run};

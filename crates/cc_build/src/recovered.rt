@@ -1,26 +1,37 @@
 // The headline: what is recovered after any events and any crash, and that each unit of it does what its source says.
-ghost use Rattle.std.specs.Prelude.{◌≡◌, IfOk, IfErr};
-ghost use Rattle.cc_core.specs.Run.{EachImageSurvives, Run};
+ghost use Rattle.std.specs.Prelude.{◌≡◌, List, IfOk, IfErr};
+ghost use Rattle.cc_core.specs.declared.contents.Contents.{Contents};
+ghost use Rattle.cc_core.specs.declared.event.Event.{Event};
+ghost use Rattle.cc_core.specs.Run.{IsBeginning, IsAnyPiece, EachImageSurvives, Run};
 ghost use Rattle.cc_build.specs.Compiling.{compiling, Keeps};
-ghost use Rattle.cc_build.specs.Recovered.{AfterEveryRun, EachUnitAgrees};
+ghost use Rattle.cc_build.specs.Recovered.{AfterEveryRun, EachUnitAgrees, AgreesWhereFound, IsFoundOrAgrees};
 
 use crate::build::CcBuild;
+use cc_core::build::Build;
 use cc_core::event::Event;
 use cc_core::fault::CoreFault;
-use cc_core::state::{State, crash_law, run_events};
+use cc_core::laws::{crash_law, survival_law};
+use cc_core::state::{State, run_events};
 use cc_emit::Piece;
 use cc_link::linked_units_agree;
 use std::alloc::Global;
 
-/// For every interleaving of clients, workers and committer, with crashes and failures of the disk anywhere in it.
-pub fn headline()
+/// For every interleaving of clients, workers and committer, with crashes and failures of the disk anywhere in it, from a fresh disk on or
+/// from one that was opened with a library on it.
+pub fn headline<B: Build>()
     // Whatever a crash leaves of the disk recovers: to the library of a front of the commands in the order of their commits, which holds
-    // every acknowledged command and lacks at most the last.
-    ensures survives { AfterEveryRun EachImageSurvives }
-    // Each unit in it, run, does what its stored C source says: on every input, at every bound.
-    ensures agrees { AfterEveryRun EachUnitAgrees }
+    // every acknowledged command and lacks at most the last. This holds of any build, so of the one that compiles, whatever pieces workers
+    // hand in, and whatever units were found at the opening; to read it nothing of C is needed.
+    ensures survives { (first new : Contents B.Piece) (events : List (Event B.Piece))
+        → IsBeginning first → Run B.rules IsAnyPiece first events new → EachImageSurvives new.core }
+    // With the build that compiles, where the units found at the opening agree with their sources: each unit that is recovered, run, does
+    // what its stored C source says. Nothing is owed on an input on which that source goes wrong.
+    ensures agrees { AfterEveryRun AgreesWhereFound }
+    // Whatever was found at the opening: each unit that is recovered is one of those, or agrees with its source.
+    ensures units { AfterEveryRun IsFoundOrAgrees }
 {
     linked_units_agree();
+    survival_law::<B>();
     crash_law::<CcBuild>();
 }
 

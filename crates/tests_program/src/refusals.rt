@@ -1,6 +1,8 @@
 // What `check` refuses, and where. Of several faults the first in the text is answered.
 
 use super::helpers::checks;
+use cc_link::{BuildFault, PieceFault};
+use cc_program::Fault;
 
 // Texts, and the line that `check` writes for each.
 static TEXTS: [(&str, &str); 28] = [
@@ -92,4 +94,22 @@ fn texts(rt: HostRuntime) {
     for (text, line) in TEXTS.iter() {
         assert!(rt; checks(&rt, text.as_bytes(), line), "for {text}");
     }
+}
+
+// No text is known of which the compiler's validator refuses a function, so the fault is made by hand, of the second function here.
+#[test]
+fn a_function_that_is_not_validated(rt: HostRuntime) {
+    let text = b"int f(int x){return x;}int main(void){}".as_slice();
+    let fault = Fault::Build(BuildFault::Piece(PieceFault::Unvalidated {
+        at: 27,
+        length: 4,
+        label: 7,
+    }));
+    let mut line = Vec::new(rt.alloc());
+    let written = fault.write_line(text, &mut line);
+    let right = written.is_ok()
+        && fault.number() == 24
+        && line.as_slice() == b"fault 24 Unvalidated in main at label 7\n".as_slice();
+    drop(fault);
+    assert!(rt; right);
 }

@@ -1,14 +1,23 @@
--- Why a unit that all pieces of a source give is right: the law that the trait asks of a build.
-use Rattle.std.specs.Prelude.{ℕ, ◌≡◌, Bool, true, false, List, [], ◌∷◌, Result, Ok, Err, All, if◌then◌else◌, refl}
-use Rattle.std.proofs.Common.{sym, ap, subst, ◌∙◌, cond, arith}
+-- The laws that the trait asks of a build: each source has a plan, and a unit that all pieces of a source give is right.
+use Rattle.std.specs.Prelude.{ℕ, ◌≡◌, Bool, true, false, List, [], ◌∷◌, Result, Ok, Err, All, refl}
+use Rattle.std.proofs.Common.{sym, subst, ◌∙◌, cond, arith}
 use Rattle.cc_syntax.specs.Source.{source}
 use Rattle.cc_unit.specs.declared.unit.StoredUnit.{StoredUnit}
-use Rattle.cc_emit.specs.Piece.{Piece, IsPieceOfUnit}
+use Rattle.cc_emit.specs.Piece.{Piece}
 use Rattle.cc_link.specs.Agree.{Agree}
 use Rattle.cc_link.specs.declared.fault.LinkFault.{LinkFault}
 use Rattle.cc_link.specs.Linked.{same_bytes, linked}
 use Rattle.cc_core.specs.Rules.{AreWhole}
+use Rattle.cc_syntax.proofs.Determined.{texts_have_answers}
+use Rattle.cc_typing.proofs.Determined.{texts_have_verdicts}
+use Rattle.cc_build.specs.Plan.{pieces_of, IsPlan}
 use Rattle.cc_build.specs.Compiling.{numbered, unit_of, text_of, compiling, is_right, Keeps}
+
+-- a text has a verdict, and that is its plan
+pub sources_are_planned : (text : List ℕ) → (plan : Result ℕ ℕ) × IsPlan text plan
+sources_are_planned text =
+    let v = texts_have_verdicts texts_have_answers text in
+    (pieces_of v.0, ∣ record { verdict = v.0; is = v.1; plan_is = refl } ∣₁)
 
 -- a unit with a number in place of its fault is that unit
 is_unit : (r : Result StoredUnit LinkFault) (u : StoredUnit) → numbered r ≡ Ok u → r ≡ Ok u

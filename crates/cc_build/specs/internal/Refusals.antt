@@ -1,5 +1,4 @@
 -- The compiler's faults as the core's refusals: 40 stays, each other fault refuses with its number.
-use Rattle.std.specs.Prelude.{ℕ}
 use Rattle.cc_tokens.specs.declared.fault.SyntaxFault.{SyntaxFault}
 use Rattle.cc_tokens.specs.declared.fault.SyntaxFault.TheVariants as syntax_fault
 use Rattle.cc_tokens.specs.Fault as syntax

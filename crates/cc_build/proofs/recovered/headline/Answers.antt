@@ -2,7 +2,10 @@ use Rattle.cc_build.proofs.Runs.{kept_run}
 use Rattle.cc_build.proofs.recovered.headline.Goals as goal
 
 pub returns-clause-survives : goal.returns-clause-survives
-returns-clause-survives c = λ first new events start run. c.crash_law.ensures.survives first new events start (kept_run c.linked_units_agree.ensures first new events run)
+returns-clause-survives g c = c.survival_law.ensures.survives
 
 pub returns-clause-agrees : goal.returns-clause-agrees
-returns-clause-agrees c = λ first new events start run. c.crash_law.ensures.right first new events start (kept_run c.linked_units_agree.ensures first new events run)
+returns-clause-agrees g c = λ first new events start run found. c.crash_law.ensures.right first new events start found (kept_run c.linked_units_agree.ensures first new events run)
+
+pub returns-clause-units : goal.returns-clause-units
+returns-clause-units g c = λ first new events start run. c.crash_law.ensures.units first new events start (kept_run c.linked_units_agree.ensures first new events run)
