@@ -101,6 +101,29 @@ impl<D: Disk> Library<D> {
         }
     }
 
+    /// Makes a change: `add`, `replace` or `withdraw`, with its refusals and what each leaves.
+    pub fn change(&mut self, alloc: Global, command: Command) -> Result<(), LibraryFault>
+        ensures answers { ChangeAnswers self.old command (D.failures self.old.disk) (D.failures self.new.disk) result }
+        ensures leaves { ChangeLeaves command self.old self.new result }
+        ensures size { D.size self.new.disk ≡ D.size self.old.disk }
+
+        // What becomes of the disk's bytes.
+        ensures disk { IsTrue D.honest → ChangesDisk D.seen D.may_leave command self.old self.new result }
+
+        // At Ok every image recovers to the map after it.
+        ensures kept { OnOk result (IsTrue D.honest → (image : List ℕ) → D.may_leave self.new.disk image → RecoversAlone image self.new.units) }
+
+        // A crash at any moment of the call leaves the map before it or the map after it.
+        ensures moments { IsTrue D.honest → self.old.closed ≡ false
+            → LeavesOnly D.moment D.left_since self.old.disk self.new.disk (RecoversOneOf self.old.units (after self.old.units command)) }
+
+        // So whatever it answers, after 35 too, every image recovers to one of the two.
+        ensures images { IsTrue D.honest → self.old.closed ≡ false
+            → (image : List ℕ) → D.may_leave self.new.disk image → RecoversOneOf self.old.units (after self.old.units command) image }
+    {
+        self.append_change(alloc, command)
+    }
+
     /// Sets the unit of an absent name. At Ok it is kept: every crash from then on leaves it.
     ///
     /// Refusals, in this order: 36 where the library is closed, 31 where the name has a unit, 34 where the record does
@@ -214,6 +237,20 @@ impl<D: Disk> Library<D> {
             → (image : List ℕ) → D.may_leave self.new.disk image → RecoversAlone image self.old.units }
     {
         self.write_anew(alloc)
+    }
+
+    /// Whether a call has failed on the device: then every change and `compact` answer 36. It takes no memory.
+    pub fn is_closed(&self) -> bool
+        ensures { result ≡ self.now.closed }
+    {
+        self.closed
+    }
+
+    /// The map. It takes no memory.
+    pub fn units(&self) -> &UnitMap
+        ensures { result.now ≡ self.now.units }
+    {
+        &self.units
     }
 
     /// The unit of a name, where it has one. It takes no memory.
@@ -331,7 +368,7 @@ impl<D: Disk> Library<D> {
             (IsOldOrNew self.old.area self.old.bodies self.old.units (records_after self.old edit) (after_edit self.old.units edit)) }
     {
         match edit {
-            Edit::Change(command) => self.change(alloc, command),
+            Edit::Change(command) => self.append_change(alloc, command),
             Edit::Compact => self.write_anew(alloc),
         }
     }
@@ -365,7 +402,7 @@ impl<D: Disk> Library<D> {
     }
 
     // One change: the map is asked, all growths are made, then the log decides.
-    fn change(&mut self, alloc: Global, command: Command) -> Result<(), LibraryFault>
+    fn append_change(&mut self, alloc: Global, command: Command) -> Result<(), LibraryFault>
         ensures answers { ChangeAnswers self.old command (D.failures self.old.disk) (D.failures self.new.disk) result }
         ensures leaves { ChangeLeaves command self.old self.new result }
         ensures size { D.size self.new.disk ≡ D.size self.old.disk }

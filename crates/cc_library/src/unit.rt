@@ -46,3 +46,13 @@ impl SharedUnit {
         })
     }
 }
+
+impl Clone for SharedUnit {
+    ghost use Rattle.std.specs.Prelude.{◌≡◌};
+
+    ghost is_clone = { λ unit other. other ≡ unit };
+
+    fn clone(&self) -> Result<SharedUnit, AllocError> {
+        self.again()
+    }
+}

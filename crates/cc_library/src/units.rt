@@ -62,6 +62,15 @@ impl UnitMap {
         }
     }
 
+    /// The same map once more. Its units are shared; its names take memory.
+    pub fn again(&self) -> Result<UnitMap, AllocError>
+        ensures { IfOk result (λ units. units ≡ self.now) }
+    {
+        Ok(UnitMap {
+            units: self.units.clone()?,
+        })
+    }
+
     /// Whether this name has a unit. It takes no memory.
     pub fn contains(&self, name: &Name) -> bool
         ensures { result ≡ map.contains_key self.now name.now }

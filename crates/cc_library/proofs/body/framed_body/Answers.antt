@@ -1,5 +1,5 @@
 -- The bytes are the body's length, the body, and a closed gate.
-use Rattle.std.proofs.Common.{◌≡◌, ◌+◌, ◌++◌, ◌<◌, ◌^◌, length, ℕ, List, [], ◌∷◌, ◌∙◌, ap, arith}
+use Rattle.std.proofs.Common.{◌≡◌, ◌++◌, ◌<◌, ◌^◌, length, ℕ, List, [], ◌∷◌, ◌∙◌, ap, arith}
 use Rattle.std.specs.Int.{w32, to_le_bytes}
 use Rattle.std.specs.Option.{option_map}
 use Rattle.cc_journal.specs.Commit.{behind_gate}

@@ -1,5 +1,5 @@
 -- Each turn reads one word more.
-use Rattle.std.proofs.Common.{◌≡◌, ◌*◌, ℕ, List, Some, length, take, drop, ap, ◌∙◌, arith}
+use Rattle.std.proofs.Common.{◌≡◌, ◌*◌, Some, length, take, drop, ◌∙◌, arith}
 use Rattle.std.proofs.lemmas.List.{take_all}
 use Rattle.cc_library.specs.internal.Reading.{words_in}
 use Rattle.cc_library.proofs.Words.{is_done, sets_on}
