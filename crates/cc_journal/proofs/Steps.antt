@@ -57,6 +57,10 @@ failed_begun seen may_leave c d0 d1 d alone first images = inl (λ image now.
 -- where its last write failed, or the sync after it
 pub failed_ended : {D : Type 0} (seen : D → List ℕ) (may_leave : D → List ℕ → Type 0) (c : Commit) (d0 d1 d2 d3 d : D) → IsWritten (seen d0) c.offset c.bytes (seen d1) → LeavesAlone (seen d1) (may_leave d2)
     → UnsettlesWithin c.deciding_offset 1 (may_leave d2) (may_leave d3) → AddsNone (may_leave d3) (may_leave d) → FailsIn c (seen d0) (may_leave d)
-failed_ended seen may_leave c d0 d1 d2 d3 d first settled last images = inr (seen d1, first, λ image now.
-    let from = last image (images image now) in
-    subst (λ (old : List ℕ). DiffersWithin c.deciding_offset 1 old image) (settled from.0 from.1) from.2)
+failed_ended seen may_leave c d0 d1 d2 d3 d first settled last images = inr (
+  seen d1,
+  first,
+  λ image now.
+      let from = last image (images image now) in
+      subst (λ (old : List ℕ). DiffersWithin c.deciding_offset 1 old image) (settled from.0 from.1) from.2,
+)
