@@ -19,6 +19,18 @@ const WORD_RULE: &str =
     "WORD is a decimal number from 0 to 4294967295; a negative number is written as its value modulo 4294967296, \
     as 4294967295 for -1";
 
+// What a person reads below the list of commands.
+const WHOLE_HELP: &str = "\
+Examples:
+  cclib check < examples/quotient.c
+  cclib interpret 1000 < examples/quotient.c
+  cclib run 10000 2 104 105 < examples/checksum.c
+
+The C program is read from standard input. The WORDs are the program's own input;
+a negative one is written modulo 4294967296: 4294967293 for -3.
+
+Exit status: 0 for an answer, 1 for a fault, 2 for a command line that is refused.";
+
 /// What the program is asked to do with the text on standard input.
 #[derive(Drop)]
 pub enum Task {
@@ -105,6 +117,7 @@ fn command<'a>(alloc: Global) -> Result<Command<'a>, AllocError> {
     let whole = Command::new(alloc, "cclib")
         .version("0.1.0")
         .about("Reads a C program from standard input: checks, interprets, compiles and runs it")
+        .after_help(WHOLE_HELP)
         .subcommand_required(true)
         .arg(quiet)?
         .subcommand(plain_command(alloc, "check", check))?;

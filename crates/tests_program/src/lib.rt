@@ -7,6 +7,8 @@ mod explanations;
 #[cfg(test)]
 mod faulty;
 #[cfg(test)]
+mod help;
+#[cfg(test)]
 mod helpers;
 #[cfg(test)]
 mod hostile;

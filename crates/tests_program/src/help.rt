@@ -1,0 +1,61 @@
+// The texts of `--help` and `--version`. The script `cclib` prints them from here where the program is not built yet.
+
+use cc_command_line::line;
+use std::alloc::Global;
+
+static VERSION: &str = "cclib 0.1.0
+";
+
+static HELP: &str = "\
+Reads a C program from standard input: checks, interprets, compiles and runs it
+
+Usage: cclib [OPTIONS] <COMMAND>
+
+Commands:
+  check      Say `ok`, or the first fault of the program
+  interpret  Print the words that the program writes, and how it ends, by the definition of C
+  run        Compile the program and run its image: print the words that it writes, and how it ends
+  asm        Compile the program and list its image
+  help       Print this message or the help of the given subcommand(s)
+
+Options:
+      --quiet    Explain no fault on standard error
+  -h, --help     Print help
+  -V, --version  Print version
+
+Examples:
+  cclib check < examples/quotient.c
+  cclib interpret 1000 < examples/quotient.c
+  cclib run 10000 2 104 105 < examples/checksum.c
+
+The C program is read from standard input. The WORDs are the program's own input;
+a negative one is written modulo 4294967296: 4294967293 for -3.
+
+Exit status: 0 for an answer, 1 for a fault, 2 for a command line that is refused.
+";
+
+// Whether the command line is answered by that text, with status 0.
+fn is_answered_by(alloc: Global, words: &'static [&'static str], wanted: &str) -> bool {
+    match line(alloc, words) {
+        Ok(task) => {
+            drop(task);
+            false
+        }
+        Err(error) => {
+            let is_help = error.exit_code() == 0;
+            let text = error.to_string(alloc);
+            drop(error);
+            match text {
+                Ok(text) => is_help && text.as_str() == wanted,
+                Err(_) => false,
+            }
+        }
+    }
+}
+
+#[test]
+fn help_and_version(rt: HostRuntime) {
+    assert!(rt; is_answered_by(rt.alloc(), &["cclib", "--help"], HELP));
+    assert!(rt; is_answered_by(rt.alloc(), &["cclib", "-h"], HELP));
+    assert!(rt; is_answered_by(rt.alloc(), &["cclib", "--version"], VERSION));
+}
