@@ -170,7 +170,7 @@ class Repository:
                         of_trait, of_trait_only = "trait" in line or " for " in line, "trait" in line
                         owner = whole or bool(set(re.findall(r"\w+", block[1])) & handed)
                     elif line.startswith("}"):
-                        owner = True
+                        owner, of_trait, of_trait_only = True, False, False
                     begins = PUBLIC.match(line) or (of_trait or modules is None) and re.match(r"^\s*fn (\w+)", line)
                     if begins or re.match(r"^\s*(pub\(\w+\) )?fn ", line):
                         is_free = not line.startswith(" ")

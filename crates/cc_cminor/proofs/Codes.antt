@@ -1,6 +1,7 @@
 -- The Cminor of what the code puts together.
 use Rattle.std.proofs.Common.{rules, ◌≡◌, List, [], ◌∷◌, ◌++◌, Result, Ok, Err, IfOk, OnOk, refl, ap}
-use Rattle.cc_cminor.specs.Code.{expression_of, expressions_of, statement_of, statements_in, statements_of, in_sequence}
+use Rattle.cc_cminor.specs.Code.{expression_of, expressions_of, statement_of, statements_in, in_sequence}
+use Rattle.cc_cminor.specs.internal.Statements.{statements_of}
 use Rattle.cc_cminor.specs.internal.Lowering.{last_value}
 use Rattle.cc_cminor.specs.declared.code.Expression.{Expression}
 use Rattle.cc_cminor.specs.declared.code.Statement as statement

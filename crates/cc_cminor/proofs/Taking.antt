@@ -3,7 +3,7 @@ use Rattle.std.proofs.Common.{◌≡◌, ℕ, suc, ◌+◌, ◌<◌, ◌&&◌, B
 use Rattle.cc_tokens.specs.declared.scalar.Scalar.{Scalar}
 use Rattle.cc_syntax.specs.declared.ast.BinaryOperator.{BinaryOperator}
 use Rattle.cc_syntax.specs.declared.ast.Expression as code
-use Rattle.cc_syntax.specs.Erase.{expressions_of}
+use Rattle.cc_syntax.specs.internal.Arguments.{expressions_of}
 use Rattle.cc_syntax.specs.Tree as tree
 use Rattle.cc_syntax.specs.Tree.{Name, Expr, Exprs, none, more, Number, Variable, Element, Parenthesised, Cast, Conditional, Target, AtVariable, AtElement, Assign, Step, Evaluate}
 use Rattle.cc_typing.specs.Operators.{working_type}

@@ -1,7 +1,8 @@
 -- The trees of calls and blocks, whose parts the code keeps as rows.
 use Rattle.std.proofs.Common.{◌≡◌, refl, ap, rules}
 use Rattle.cc_syntax.specs.Tree as tree
-use Rattle.cc_syntax.specs.Erase.{name_tree, expression_tree, expressions_tree, expressions_of, statement_tree, statements_tree, statements_of}
+use Rattle.cc_syntax.specs.Erase.{name_tree, expression_tree, expressions_tree, statement_tree, statements_tree, statements_of}
+use Rattle.cc_syntax.specs.internal.Arguments.{expressions_of}
 use Rattle.cc_syntax.specs.declared.ast.Expression as expression
 use Rattle.cc_syntax.specs.declared.ast.Expression.{Row_of-Expression, end_of-Expression, more_of-Expression, items-the_row-Expression}
 use Rattle.cc_syntax.specs.declared.ast.Statement as statement

@@ -42,8 +42,3 @@ abbrev mutual
   pub statements_in : {m : _} → Row_of-Statement m → List cminor.Statement
   statements_in end_of-Statement = []
   statements_in (more_of-Statement s rest) = statement_of s ∷ statements_in rest
-
--- some statements
-abbrev pub statements_of : List Statement → List cminor.Statement
-statements_of [] = []
-statements_of (s ∷ rest) = statement_of s ∷ statements_of rest

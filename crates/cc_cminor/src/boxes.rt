@@ -2,7 +2,8 @@
 
 ghost use Rattle.std.specs.Prelude.{◌≡◌, ◌+◌, IfOk};
 ghost use Rattle.cc_cminor.specs.Cminor as cminor;
-ghost use Rattle.cc_cminor.specs.Code.{expression_of, statement_of, statements_of, in_sequence};
+ghost use Rattle.cc_cminor.specs.Code.{expression_of, statement_of, in_sequence};
+ghost use Rattle.cc_cminor.specs.internal.Statements.{statements_of};
 
 use super::code::{Expression, Statement};
 use std::alloc::{AllocError, Global};

@@ -6,7 +6,8 @@
 
 ghost use Rattle.std.specs.Prelude.{◌≡◌, true, IfOk};
 ghost use Rattle.cc_syntax.specs.Tree as tree;
-ghost use Rattle.cc_syntax.specs.Erase.{expression_tree, expressions_of, name_tree, optional_tree};
+ghost use Rattle.cc_syntax.specs.Erase.{expression_tree, name_tree, optional_tree};
+ghost use Rattle.cc_syntax.specs.internal.Arguments.{expressions_of};
 ghost use Rattle.cc_typing.specs.Types.{value_type};
 ghost use Rattle.cc_resolve.specs.Environment.{types_in};
 ghost use Rattle.cc_cminor.specs.Cminor as cminor;

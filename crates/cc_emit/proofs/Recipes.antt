@@ -3,7 +3,8 @@ use Rattle.std.proofs.Common.{◌≡◌, ℕ, ◌+◌, ◌-◌, ◌%◌, ◌^◌
 use Rattle.std.specs.Prelude.{if◌then◌else◌, ◌==◌, ◌&&◌, not, nat_lt, unwrap_or}
 use Rattle.std.proofs.lemmas.Bool.Decides.{nat_tests}
 use Rattle.std.proofs.lemmas.Int.{ints}
-use Rattle.cc_words.specs.Words.{IsWord, add, and, eq, le_s, le_u, lt_s, lt_u, ne, neg, or, shl, shr_s, shr_u, sub, truth_value, xor}
+use Rattle.cc_words.specs.Words.{add, and, eq, le_s, le_u, lt_s, lt_u, ne, neg, or, shl, shr_s, shr_u, sub, truth_value, xor}
+use Rattle.cc_words.specs.internal.Word.{IsWord}
 use Rattle.cc_words.specs.Operators.{apply_unary, apply_binary}
 use Rattle.cc_words.specs.declared.operators.Unary as unary
 use Rattle.cc_words.specs.declared.operators.Unary.TheVariants.{Neg, Complement, IsZero}

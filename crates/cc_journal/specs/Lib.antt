@@ -4,6 +4,8 @@ pub mod Fault
 pub mod Format
 -- one commit: which bytes go where, and in which order
 pub mod Commit
+-- which body the bytes that are kept of it are
+pub mod Body
 -- what contracts see of a journal, and what its type keeps
 pub mod Journal
 -- which answer a call gives, and when

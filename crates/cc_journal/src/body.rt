@@ -17,7 +17,8 @@ pub struct Body {
 
 impl Model for Body {
     ghost use Rattle.std.specs.Prelude.{List, ℕ};
-    ghost use Rattle.cc_journal.specs.internal.Framed.{body_in, IsFramed};
+    ghost use Rattle.cc_journal.specs.internal.Framed.{IsFramed};
+    ghost use Rattle.cc_journal.specs.Body.{body_in};
 
     ghost Value = { List ℕ };
 

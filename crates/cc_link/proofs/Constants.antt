@@ -1,7 +1,7 @@
 -- The words of the objects of a spelled unit are words: each number that a text spells is one, and what is computed of words is.
 use Rattle.std.proofs.Common.{◌≡◌, ℕ, zero, suc, ◌+◌, ◌-◌, ◌^◌, ◌<◌, ◌≤◌, Bool, true, false, ◌&&◌, ◌||◌, not, nat_le, ◌==◌, if◌then◌else◌, List, [], ◌∷◌, ◌++◌, length, map, replicate, Option, Some, None, unwrap_or, option_map, refl, sym, subst, arith}
 use Rattle.std.proofs.lemmas.Bool.{leb-true}
-use Rattle.cc_words.specs.Words.{IsWord}
+use Rattle.cc_words.specs.internal.Word.{IsWord}
 use Rattle.cc_words.proofs.Laws.{IsWord-add, IsWord-sub, IsWord-mul, IsWord-neg, IsWord-truth_value, IsWord-eq, IsWord-ne, IsWord-lt_s, IsWord-le_s, IsWord-lt_u, IsWord-le_u, IsWord-is_zero, IsWord-div_s, IsWord-rem_s, IsWord-div_u, IsWord-rem_u, IsWord-shl, IsWord-shr_s, IsWord-shr_u, IsWord-and, IsWord-or, IsWord-xor, IsWord-complement}
 use Rattle.cc_tokens.specs.declared.scalar.Scalar.{Scalar}
 use Rattle.cc_tokens.specs.declared.scalar.Scalar.TheVariants.{Int, Unsigned}

@@ -4,8 +4,6 @@ use Rattle.cc_tokens.specs.declared.place.Place.{Place}
 use Rattle.cc_tokens.specs.Fault as tokens
 use Rattle.cc_typing.specs.Fault as typing
 use Rattle.cc_link.specs.Compile.{build_fault_number, build_fault_place}
-use Rattle.cc_link.specs.declared.piece_fault.PieceFault.{PieceFault}
-use Rattle.cc_link.specs.declared.build_fault.BuildFault.TheVariants as build
 use Rattle.cc_program.specs.declared.fault.Fault.{Fault}
 use Rattle.cc_program.specs.declared.fault.Fault.TheVariants.{Syntax, Typing, Meaning, Build, OutOfMemory, Read, Write}
 
@@ -28,8 +26,3 @@ fault_place (Build f) = build_fault_place f
 fault_place OutOfMemory = None
 fault_place Read = None
 fault_place Write = None
-
--- the fault of a function that has no piece
-abbrev pub function_fault : Fault → Option PieceFault
-function_fault (Build (build.Piece f)) = Some f
-function_fault f = None

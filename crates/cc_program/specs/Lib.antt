@@ -2,3 +2,5 @@
 pub mod Answer
 -- The numbers and the places of the faults.
 pub mod Fault
+-- What only private contracts speak of.
+pub mod internal

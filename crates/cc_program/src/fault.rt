@@ -1,7 +1,8 @@
 // Every refusal of the program, with its line.
 
 ghost use Rattle.std.specs.Prelude.{◌≡◌};
-ghost use Rattle.cc_program.specs.Fault.{fault_number, fault_place, function_fault};
+ghost use Rattle.cc_program.specs.Fault.{fault_number, fault_place};
+ghost use Rattle.cc_program.specs.internal.Pieces.{function_fault};
 
 use cc_link::{BuildFault, PieceFault};
 use cc_meaning::MeaningFault;

@@ -3,7 +3,8 @@ use Rattle.std.proofs.Common.{◌≡◌, ℕ, suc, ◌+◌, ◌-◌, ◌<◌, �
 use Rattle.std.proofs.lemmas.List.{length-map, map-append, length-reverse, get_or-reverse}
 use denote.Param.Weighed.{most, at_most}
 use Rattle.std.proofs.lemmas.Grind.{reverse_onto}
-use Rattle.cc_cminor.specs.Code.{expression_of, expressions_of, statement_of, statements_in, statements_of, in_sequence}
+use Rattle.cc_cminor.specs.Code.{expression_of, expressions_of, statement_of, statements_in, in_sequence}
+use Rattle.cc_cminor.specs.internal.Statements.{statements_of}
 use Rattle.cc_cminor.specs.Numbers.{ExpressionFits, ExpressionsFit, StatementFits}
 use Rattle.cc_cminor.specs.declared.code.Expression.{Expression}
 use Rattle.cc_cminor.specs.declared.code.Statement as written

@@ -1,7 +1,8 @@
 -- Counts over a sequence, and what a count has to do with the number of statements and expressions.
 use Rattle.std.proofs.Common.{◌≡◌, ℕ, suc, ◌+◌, ◌<◌, ◌≤◌, List, [], ◌∷◌, drop, length, get_or, drop-cons, refl, sym, ap, ◌∙◌, subst, arith, rules, Option, Some, None}
 use Rattle.cc_cminor.specs.Cminor as cminor
-use Rattle.cc_cminor.specs.Code.{expression_of, expressions_of, statement_of, statements_in, statements_of, in_sequence}
+use Rattle.cc_cminor.specs.Code.{expression_of, expressions_of, statement_of, statements_in, in_sequence}
+use Rattle.cc_cminor.specs.internal.Statements.{statements_of}
 use Rattle.cc_cminor.specs.declared.code.Expression.{Expression}
 use Rattle.cc_cminor.specs.declared.code.Statement as written
 use Rattle.cc_cminor.specs.declared.code.Statement.{Statement, Row_of-Statement, end_of-Statement, more_of-Statement, items-the_row-Statement}

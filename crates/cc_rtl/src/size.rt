@@ -1,7 +1,8 @@
 // How many nodes a body takes. It is counted before a node is made: a body that takes too many is refused, and no other one is.
 
 ghost use Rattle.std.specs.Prelude.{◌≡◌, ◌+◌, ◌<◌, ◌≤◌, IsTrue, IsFalse, MatchOption};
-ghost use Rattle.cc_cminor.specs.Code.{expression_of, expressions_of, statement_of, statements_of, in_sequence};
+ghost use Rattle.cc_cminor.specs.Code.{expression_of, expressions_of, statement_of, in_sequence};
+ghost use Rattle.cc_cminor.specs.internal.Statements.{statements_of};
 ghost use Rattle.cc_rtl.specs.Rtl.{most_nodes};
 ghost use Rattle.cc_rtl.specs.Size.{into_nodes, operand_nodes, operands_nodes, statement_nodes, function_nodes};
 

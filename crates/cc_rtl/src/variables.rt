@@ -1,7 +1,8 @@
 // How many registers the variables of a body take: variable x is register x, and the temporaries lie above them all.
 
 ghost use Rattle.std.specs.Prelude.{◌≡◌, ◌<◌, ◌≤◌};
-ghost use Rattle.cc_cminor.specs.Code.{expression_of, expressions_of, statement_of, statements_of, in_sequence};
+ghost use Rattle.cc_cminor.specs.Code.{expression_of, expressions_of, statement_of, in_sequence};
+ghost use Rattle.cc_cminor.specs.internal.Statements.{statements_of};
 ghost use Rattle.cc_cminor.specs.Numbers.{most_variables, ResultFits, ExpressionFits, ExpressionsFit, StatementFits};
 ghost use Rattle.cc_rtl.specs.internal.Variables.{above, above_result, above_expression, above_expressions, above_statement};
 

@@ -22,7 +22,7 @@ impl Model for Machine {
 
     ghost Value = { Simulation };
 
-    ghost use Rattle.cc_rv32.specs.internal.Simulated.{simulation_of};
+    ghost use Rattle.cc_rv32.specs.Simulation.{simulation_of};
     ghost use Rattle.cc_rv32.specs.internal.Simulated.{IsSound};
 
     ghost view = { λ m. simulation_of m.simulator };

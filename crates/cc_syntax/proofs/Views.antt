@@ -2,7 +2,8 @@
 use Rattle.std.proofs.Common.{◌≡◌, List, [], ◌∷◌, ◌++◌, map, reverse, ap, ◌∙◌, refl}
 use Rattle.std.proofs.lemmas.List.{map-append, reverse-append}
 use Rattle.cc_syntax.specs.Tree.{next, more}
-use Rattle.cc_syntax.specs.Erase.{statement_tree, statements_of, expression_tree, expressions_of, declarator_tree, declarator_trees, object_tree, object_trees, constant_tree, constant_trees, parameter_tree, parameter_trees, external_tree, external_trees}
+use Rattle.cc_syntax.specs.Erase.{statement_tree, statements_of, expression_tree, declarator_tree, declarator_trees, object_tree, object_trees, constant_tree, constant_trees, parameter_tree, parameter_trees, external_tree, external_trees}
+use Rattle.cc_syntax.specs.internal.Arguments.{expressions_of}
 use Rattle.cc_syntax.specs.declared.ast.Statement.{Statement}
 use Rattle.cc_syntax.specs.declared.ast.Expression.{Expression}
 use Rattle.cc_syntax.specs.declared.ast.Declarator.{Declarator}

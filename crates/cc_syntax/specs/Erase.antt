@@ -43,11 +43,6 @@ abbrev mutual
   expressions_tree end_of-Expression = none
   expressions_tree (more_of-Expression e rest) = more (expression_tree e) (expressions_tree rest)
 
--- the trees of a list of arguments
-abbrev pub expressions_of : List Expression → Exprs
-expressions_of [] = none
-expressions_of (e ∷ rest) = more (expression_tree e) (expressions_of rest)
-
 -- the tree of an expression that may be left out, in its box
 abbrev pub optional_tree : Option (Box Expression) → Option Expr
 optional_tree e = option_map (λ b. expression_tree b.value) e

@@ -4,7 +4,8 @@
 // deep as the tree: at most 512 tokens of a full expression.
 
 ghost use Rattle.std.specs.Prelude.{◌≡◌, ◌==◌, [], not, length};
-ghost use Rattle.cc_syntax.specs.Erase.{expression_tree, expressions_of, optional_tree, target_tree, action_tree, optional_action};
+ghost use Rattle.cc_syntax.specs.Erase.{expression_tree, optional_tree, target_tree, action_tree, optional_action};
+ghost use Rattle.cc_syntax.specs.internal.Arguments.{expressions_of};
 ghost use Rattle.cc_typing.specs.Entities.{optional_entity};
 ghost use Rattle.cc_typing.specs.internal.Findings.{after};
 ghost use Rattle.cc_typing.specs.declared.rule.Rule.TheVariants.{WrongCount};

@@ -8,7 +8,8 @@ use Rattle.std.proofs.lemmas.Nat.{or_of_32, xor_of_32, and_le_l, shr_le}
 use Rattle.std.proofs.lemmas.Bool.Decides.{nat_tests}
 use Rattle.std.proofs.lemmas.Nat.Bits.{same_from_bits_below, bit_at_xor, bit_at_ones, bit_at_not, bit_at-lt}
 use Rattle.std.proofs.Math.Nat.{mod-le}
-use Rattle.cc_words.specs.Words.{IsWord, signed_value, word_of, truth_value, add, sub, mul, neg, eq, ne, lt_s, le_s, lt_u, le_u, is_zero, div_s, rem_s, div_u, rem_u, shl, shr_s, shr_u, and, or, xor, complement}
+use Rattle.cc_words.specs.Words.{signed_value, word_of, truth_value, add, sub, mul, neg, eq, ne, lt_s, le_s, lt_u, le_u, is_zero, div_s, rem_s, div_u, rem_u, shl, shr_s, shr_u, and, or, xor, complement}
+use Rattle.cc_words.specs.internal.Word.{IsWord}
 
 -- ---- words and signed values
 

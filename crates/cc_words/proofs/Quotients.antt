@@ -9,7 +9,8 @@ use Rattle.std.proofs.lemmas.Int.{ints, quot-rem, rem_below}
 use Rattle.std.proofs.lemmas.Option.{cond_some}
 use Rattle.std.proofs.lemmas.Bool.Decides.{nat_tests}
 use Rattle.std.proofs.Math.Nat.{mod-le}
-use Rattle.cc_words.specs.Words.{IsWord, signed_value, word_of, lacks_quotient, div_s, rem_s, shr_s}
+use Rattle.cc_words.specs.Words.{signed_value, word_of, lacks_quotient, div_s, rem_s, shr_s}
+use Rattle.cc_words.specs.internal.Word.{IsWord}
 use Rattle.cc_words.proofs.Laws.{FitsSigned-signed_value, signed_value-word_of, signed_value_injective}
 
 mag_of-neg : (n m : ℕ) → n ≤ suc m → mag (neg_ℤ (pos n)) ≤ m

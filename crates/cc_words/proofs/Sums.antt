@@ -4,7 +4,8 @@ use Rattle.std.proofs.Common.{◌≡◌, ℕ, ◌+◌, ◌-◌, ◌*◌, ◌%◌
 use Rattle.std.proofs.lemmas.Int.{ints, int_rem_euclid_is}
 use Rattle.std.proofs.Math.IntN.{*ℤ_comm}
 use Rattle.std.proofs.Math.Nat.{add-mul-mod_self_right}
-use Rattle.cc_words.specs.Words.{IsWord, signed_value, word_of, add, sub, mul}
+use Rattle.cc_words.specs.Words.{signed_value, word_of, add, sub, mul}
+use Rattle.cc_words.specs.internal.Word.{IsWord}
 use Rattle.cc_words.proofs.Laws.{sub_is}
 
 -- a multiple of 2^32 more leaves the same word

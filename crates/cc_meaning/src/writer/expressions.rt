@@ -3,7 +3,8 @@
 // The recursion is as deep as the tree: at most 512 tokens of a full expression.
 
 ghost use Rattle.std.specs.Prelude.{◌≡◌, ◌-◌, ◌<◌, ◌≤◌, ◌∷◌, ◌++◌, length, IfOk, OnOk};
-ghost use Rattle.cc_syntax.specs.Erase.{name_tree, expression_tree, expressions_of, optional_tree};
+ghost use Rattle.cc_syntax.specs.Erase.{name_tree, expression_tree, optional_tree};
+ghost use Rattle.cc_syntax.specs.internal.Arguments.{expressions_of};
 ghost use Rattle.cc_syntax.specs.Tree as tree;
 ghost use Rattle.cc_typing.specs.Operators.{working_type};
 ghost use Rattle.cc_typing.specs.Scope.{found};

@@ -4,7 +4,8 @@
 
 ghost use Rattle.std.specs.Prelude.{◌≡◌, ◌+◌, ◌<◌, ◌≤◌, List, [], ◌∷◌, length, reverse, get_or, IfOk, OnOk};
 ghost use Rattle.cc_cminor.specs.Cminor.{Call, Store};
-ghost use Rattle.cc_cminor.specs.Code.{expression_of, expressions_of, statement_of, statements_of, in_sequence};
+ghost use Rattle.cc_cminor.specs.Code.{expression_of, expressions_of, statement_of, in_sequence};
+ghost use Rattle.cc_cminor.specs.internal.Statements.{statements_of};
 ghost use Rattle.cc_cminor.specs.Numbers.{most_variables, ResultFits, ExpressionFits, StatementFits};
 ghost use Rattle.cc_rtl.specs.Rtl.{most_nodes};
 ghost use Rattle.cc_rtl.specs.Code.{node_of};

@@ -3,7 +3,8 @@
 ghost use Rattle.std.specs.Prelude.{◌≡◌, ◌≤◌, suc, IfOk};
 ghost use Rattle.cc_syntax.specs.Grammar.{precedence};
 ghost use Rattle.cc_syntax.specs.Tree.{Call};
-ghost use Rattle.cc_syntax.specs.Erase.{name_tree, expression_tree, expressions_of};
+ghost use Rattle.cc_syntax.specs.Erase.{name_tree, expression_tree};
+ghost use Rattle.cc_syntax.specs.internal.Arguments.{expressions_of};
 ghost use Rattle.cc_syntax.specs.internal.Parser.{tightness, completed, reduced, with_argument};
 ghost use Rattle.cc_syntax.specs.internal.ParserView.{waiting_view, waiting_views};
 

@@ -1,5 +1,6 @@
 use Rattle.std.proofs.Common.{◌≡◌, List, [], ◌∷◌, ◌++◌, ◌∙◌, ap}
-use Rattle.cc_cminor.specs.Code.{statement_of, statements_of, in_sequence}
+use Rattle.cc_cminor.specs.Code.{statement_of, in_sequence}
+use Rattle.cc_cminor.specs.internal.Statements.{statements_of}
 use Rattle.cc_cminor.specs.declared.code.Statement.{Statement}
 use Rattle.cc_cminor.proofs.Codes.{if_ok, sequence_is}
 use Rattle.cc_cminor.proofs.boxes.both.Goals as goal

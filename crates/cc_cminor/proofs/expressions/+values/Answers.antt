@@ -2,7 +2,8 @@
 use Rattle.std.proofs.Common.{◌≡◌, ◌&&◌, true, suc, ◌+◌, ◌++◌, List, [], ◌∷◌, ◌∙◌, ap, sym, drop, arith}
 use Rattle.std.proofs.lemmas.List.{append_assoc}
 use Rattle.cc_syntax.specs.Tree as syntax
-use Rattle.cc_syntax.specs.Erase.{name_tree, expression_tree, expressions_of}
+use Rattle.cc_syntax.specs.Erase.{name_tree, expression_tree}
+use Rattle.cc_syntax.specs.internal.Arguments.{expressions_of}
 use Rattle.cc_syntax.specs.declared.ast.Expression as tree
 use Rattle.cc_resolve.specs.Layout as layout
 use Rattle.cc_resolve.specs.declared.layout.Callee.{Callee}

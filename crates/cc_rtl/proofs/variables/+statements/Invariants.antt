@@ -1,5 +1,6 @@
 use Rattle.std.proofs.Common.{◌≡◌, ◌≤◌, drop}
-use Rattle.cc_cminor.specs.Code.{statements_of, in_sequence}
+use Rattle.cc_cminor.specs.Code.{in_sequence}
+use Rattle.cc_cminor.specs.internal.Statements.{statements_of}
 use Rattle.cc_cminor.specs.Numbers.{most_variables, StatementFits}
 use Rattle.cc_rtl.specs.internal.Variables.{above_statement}
 use Rattle.cc_rtl.proofs.variables.+statements.Given as goal

@@ -1,7 +1,8 @@
 -- The parts of an expression, one after the other.
 use Rattle.std.proofs.Common.{◌≡◌, ◌∙◌, ◌+◌, ◌++◌, [], ◌∷◌, ap, sym, drop, length, List}
 use Rattle.std.proofs.Math.ListN.{drop_of_length-le}
-use Rattle.cc_syntax.specs.Erase.{name_tree, expression_tree, expressions_of}
+use Rattle.cc_syntax.specs.Erase.{name_tree, expression_tree}
+use Rattle.cc_syntax.specs.internal.Arguments.{expressions_of}
 use Rattle.cc_syntax.specs.declared.ast.Expression.{Expression}
 use Rattle.cc_typing.specs.Rules.{array_offences, function_offences, count_of, void_offences, expression_offences, value_offences, argument_offences, called_in, called_in_all}
 use Rattle.cc_typing.specs.Scope.{found, in_scope}

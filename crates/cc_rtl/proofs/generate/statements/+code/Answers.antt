@@ -4,7 +4,8 @@ use Rattle.std.proofs.lemmas.Iterator.Adapters.{YieldsList-from_rev_slice}
 use Rattle.std.proofs.lemmas.Iterator.Consumers.{YieldsList-turn, YieldsList-end}
 use Rattle.std.proofs.lemmas.List.{drop_all, length_push}
 use Rattle.cc_cminor.specs.Numbers.{StatementFits}
-use Rattle.cc_cminor.specs.Code.{statement_of, statements_of, in_sequence}
+use Rattle.cc_cminor.specs.Code.{statement_of, in_sequence}
+use Rattle.cc_cminor.specs.internal.Statements.{statements_of}
 use Rattle.cc_cminor.proofs.code.Statement.TheLaws.{the_size}
 use Rattle.cc_cminor.specs.declared.code.Statement as written
 use Rattle.cc_rtl.specs.Rtl.{most_nodes}

@@ -1,0 +1,10 @@
+-- The code of a list of statements.
+use Rattle.std.specs.Prelude.{List, [], ◌∷◌}
+use Rattle.cc_cminor.specs.Cminor as cminor
+use Rattle.cc_cminor.specs.Code.{statement_of}
+use Rattle.cc_cminor.specs.declared.code.Statement.{Statement}
+
+-- some statements
+abbrev pub statements_of : List Statement → List cminor.Statement
+statements_of [] = []
+statements_of (s ∷ rest) = statement_of s ∷ statements_of rest

@@ -1,0 +1,3 @@
+-- What only private contracts and proofs speak of.
+-- what a word is
+pub mod Word
