@@ -2,8 +2,8 @@
 use Rattle.std.proofs.Common.{◌≡◌, ℕ, suc, ◌+◌, ◌<◌, Bool, true, false, cond, List, [], ◌∷◌, ◌++◌, length, Option, Some, None, is_some, option_map, Result, Ok, Err, OnOk, is_err, refl, sym, ap, ◌∙◌, Bor, get_or, nat_eq, arith}
 use Rattle.std.proofs.lemmas.List.{map-append}
 use Rattle.std.specs.Cmp.Lexicographic.{bytes_decides}
-use Rattle.std.proofs.lemmas.Bool.Decides.{nat_tests}
-use Rattle.cc_typing.specs.Numberings.{AreNumbers, IsNumbered, number_of_name, at_number}
+use Rattle.cc_typing.proofs.NameNumbers.{at-numbered, rest-numbered, at-changed, rest-changed}
+use Rattle.cc_typing.specs.Numberings.{IsNumbered, number_of_name, at_number}
 use Rattle.cc_typing.specs.Names.{same_name}
 use Rattle.cc_typing.specs.Entities.{names_in}
 use Rattle.cc_typing.specs.Scope as scope
@@ -51,19 +51,9 @@ pushed names y x =
 pub ArePlaces-numbered : (list : List (Bor (List ℕ))) (old new : List (List ℕ × ℕ)) (x : List ℕ) (n : ℕ) (table : ℕ → Option ℕ) → ArePlaces list old table → IsNumbered old new x n → ArePlaces list new table
 ArePlaces-numbered list old new x n table before is = record {
   numbers = is.numbers;
-  found = λ y. ap (at_number table) (is.found y) ∙ by y (same_name x y) refl;
-  rest = λ m h. before.rest m (let l = is.longer in omega (arith, h, l));
+  found = λ y. at-numbered old new x n table before.rest is y ∙ before.found y;
+  rest = rest-numbered old new x n table before.rest is;
 }
-  where
-    at-own : (r : Option ℕ) → number_of_name old x ≡ r → at_number table (Some n) ≡ at_number table r
-    at-own None e =
-        let next : n ≡ length old = is.number ∙ ap (λ r. elim r [ None ↦ length old | Some k ↦ k ]) e in
-        before.rest n (omega (arith, next))
-    at-own (Some m) e = ap table (is.number ∙ ap (λ r. elim r [ None ↦ length old | Some k ↦ k ]) e)
-
-    by : (y : List ℕ) (c : Bool) → same_name x y ≡ c → at_number table (cond c (Some n) (number_of_name old y)) ≡ first_of (names_in list) y
-    by y true h = at-own (number_of_name old x) refl ∙ ap (λ z. at_number table (number_of_name old z)) ((bytes_decides x y).0 h) ∙ before.found y
-    by y false h = before.found y
 
 module _ (list : List (Bor (List ℕ))) (y : Bor (List ℕ)) (names : List (List ℕ × ℕ)) (n : ℕ) (own : number_of_name names y.now ≡ Some n) where
   -- the table has at the name's number where it stands first
@@ -86,34 +76,13 @@ module _ (list : List (Bor (List ℕ))) (y : Bor (List ℕ)) (names : List (List
       by q true e = let there : first_of (names_in list) q ≡ Some i = place-same table before q e ∙ sym er in there ∙ sym (ap (λ k. or_last k (length list) true) there)
       by q false e = or_last-other (first_of (names_in list) q) (length list)
 
-  module _ (old new : ℕ → Option ℕ) (w : Option ℕ) (numbers : AreNumbers names) (updates : (m : ℕ) → new m ≡ cond (nat_eq n m) w (old m)) where
-    -- each name has in the table what it had, but for this one
-    at-changed : (q : List ℕ) → at_number new (number_of_name names q) ≡ cond (same_name y.now q) w (at_number old (number_of_name names q))
-    at-changed q = by (number_of_name names q) (same_name y.now q) refl refl
-      where
-        by : (r : Option ℕ) (c : Bool) → number_of_name names q ≡ r → same_name y.now q ≡ c → at_number new r ≡ cond c w (at_number old r)
-        by None true e h = absurd (let no : Some n ≡ None = sym own ∙ ap (number_of_name names) ((bytes_decides y.now q).0 h) ∙ e in cc)
-        by None false e h = refl
-        by (Some m) true e h =
-            let same : Some n ≡ Some m = sym own ∙ ap (number_of_name names) ((bytes_decides y.now q).0 h) ∙ e in
-            let at : n ≡ m = cc in
-            let is : nat_eq n m ≡ true = grind (arith, nat_tests, at) in
-            updates m ∙ ap (λ c. cond c w (old m)) is
-        by (Some m) false e h = updates m ∙ ap (λ c. cond c w (old m)) (other (nat_eq n m) refl)
-          where
-            other : (c : Bool) → nat_eq n m ≡ c → nat_eq n m ≡ false
-            other true k =
-                let at : n ≡ m = grind (arith, nat_tests, k) in
-                absurd (let no : true ≡ false = sym (numbers.one y.now q m (own ∙ ap Some at) e) ∙ h in cc)
-            other false k = k
-
   -- a new name gets the next place
   pub ArePlaces-new : (old new : ℕ → Option ℕ) → ArePlaces list names old → (r : Option ℕ) → r ≡ old n → is_some r ≡ false → (i : ℕ) → i ≡ length list → ((m : ℕ) → new m ≡ cond (nat_eq n m) (Some i) (old m)) → ArePlaces (list ++ y ∷ []) names new
   ArePlaces-new old new before (Some k) er h i ei updates = absurd (let no : true ≡ false = h in cc)
   ArePlaces-new old new before None er h i ei updates = record {
     numbers = before.numbers;
-    found = λ q. at-changed old new (Some i) before.numbers updates q ∙ ap (cond (same_name y.now q) (Some i)) (before.found q) ∙ by q (same_name y.now q) refl ∙ sym (pushed list y q);
-    rest = λ m l. updates m ∙ ap (λ c. cond c (Some i) (old m)) (let few = before.numbers.below y.now n own in let is : nat_eq n m ≡ false = grind (arith, nat_tests, few, l) in is) ∙ before.rest m l;
+    found = λ q. at-changed names y.now n own before.numbers old new (Some i) updates q ∙ ap (cond (same_name y.now q) (Some i)) (before.found q) ∙ by q (same_name y.now q) refl ∙ sym (pushed list y q);
+    rest = rest-changed names y.now n own before.numbers old new (Some i) updates before.rest;
   }
     where
       by : (q : List ℕ) (c : Bool) → same_name y.now q ≡ c → cond c (Some i) (first_of (names_in list) q) ≡ or_last (first_of (names_in list) q) (length list) c

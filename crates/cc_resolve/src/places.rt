@@ -16,7 +16,7 @@ use std::marker::Model;
 pub struct Places<'a> {
     list: Vec<&'a [u8]>,
     names: Numbering<'a>,
-    places: IndexMap<u32, usize>,
+    places: IndexMap<usize, usize>,
 }
 
 impl<'a> Model for Places<'a> {

@@ -5,8 +5,8 @@ use Rattle.cc_tokens.specs.declared.scalar.Scalar.{Scalar}
 use Rattle.cc_syntax.specs.Tree as tree
 use Rattle.cc_syntax.specs.Tree.{Parameter, Signature, Object, Single, Array, External, Declaration, Definition, Objects, Stmts, ConstantExpr}
 use Rattle.cc_typing.specs.Bindings.{closed, file_level, file_of, file_with}
-use Rattle.cc_typing.specs.internal.Findings.{Found, after, is_bad_length}
-use Rattle.cc_typing.specs.Names.{same_name}
+use Rattle.cc_typing.specs.internal.Counts.{defined_in}
+use Rattle.cc_typing.specs.internal.Findings.{Found, after, with_before, is_bad_length}
 use Rattle.cc_typing.specs.Scope.{Elements, Binding, Visible, in_scope, is_declared, FileScope, has_name, with_declared, with_function, with_object, with_objects, parameter_declared, parameters_declared, body_scope, file_scope_behind}
 use Rattle.cc_typing.specs.Rules.{Around, broken_if, optional_constant_offences, constants_offences, length_offences, object_offences, objects_offences, parameter_offences, parameters_offences, signature_offences, external_offences, externals_offences, statements_offences, called_in_constants, called_in_optional_constant, called_in_object, called_in_objects, called_in_external, called, called_in_statements}
 use Rattle.cc_typing.specs.declared.rule.Offence.{Offence}
@@ -79,11 +79,6 @@ pub parameters_declared-outer : (ps : List Parameter) (v : Visible) → (paramet
 parameters_declared-outer [] v = refl
 parameters_declared-outer (p ∷ ps) v = parameters_declared-outer ps (parameter_declared p.scalar p.name v) ∙ parameter_declared-outer p.scalar p.name v
 
--- two file scopes with the same bindings, in which the same functions are defined
-pub record SameFile (g h : FileScope) : Type 0 where
-  pub bindings : g.bindings ≡ h.bindings
-  pub defined : (x : List ℕ) → has_name g.defined x ≡ has_name h.defined x
-
 with_object-same : (t : Scalar) (o : Object) (g h : FileScope) → g.bindings ≡ h.bindings → (with_object t o g).bindings ≡ (with_object t o h).bindings
 with_object-same t (Single x initial) g h e = ap (λ bs. (with_object t (Single x initial) (record { bindings = bs; defined = [] })).bindings) e
 with_object-same t (Array x n values) g h e = ap (λ bs. (with_object t (Array x n values) (record { bindings = bs; defined = [] })).bindings) e
@@ -110,55 +105,39 @@ objects_offences-same t (o ∷ os) g h e =
     ap (λ l. l ++ objects_offences t os (with_object t o g)) (object_offences-same t o g h e)
     ∙ ap (λ l. object_offences t o h ++ l) (objects_offences-same t os (with_object t o g) (with_object t o h) (with_object-same t o g h e))
 
-external_offences-same : (e : External) (g h : FileScope) → SameFile g h → external_offences e g ≡ external_offences e h
-external_offences-same (Declaration s) g h same = ap (λ bs. signature_offences s (record { bindings = bs; defined = [] })) same.bindings
-external_offences-same (Definition s body) g h same =
-    let around : Around = record { result = s.result; in_loop = false } in
-    ap (λ bs. signature_offences s (record { bindings = bs; defined = [] })
-    ++ (broken_if (has_name g.defined s.name.text) Redeclared s.name.at ++ statements_offences body around (body_scope s (record { bindings = bs; defined = [] })))) same.bindings
-    ∙ ap (λ b. signature_offences s h ++ (broken_if b Redeclared s.name.at ++ statements_offences body around (body_scope s h))) (same.defined s.name.text)
-external_offences-same (Objects t os) g h same = objects_offences-same t os g h same.bindings
+-- a definition alone adds to the functions that are defined
+pub defined-behind : (e : External) (g : FileScope) → (file_scope_behind e g).defined ≡ defined_in e ++ g.defined
+defined-behind (Declaration s) g = refl
+defined-behind (Definition s body) g = refl
+defined-behind (Objects t os) g = with_objects-defined t os g
 
-behind-same : (e : External) (g h : FileScope) → SameFile g h → SameFile (file_scope_behind e g) (file_scope_behind e h)
-behind-same (Declaration s) g h same = record {
-  bindings = ap (λ bs. (with_function s (record { bindings = bs; defined = [] })).bindings) same.bindings;
-  defined = same.defined;
-}
-behind-same (Definition s body) g h same = record {
-  bindings = ap (λ bs. (with_function s (record { bindings = bs; defined = [] })).bindings) same.bindings;
-  defined = λ x. ap (λ b. same_name s.name.text x || b) (same.defined x);
-}
-behind-same (Objects t os) g h same = record {
-  bindings = with_objects-same t os g h same.bindings;
-  defined = λ x. ap (λ d. has_name d x) (with_objects-defined t os g) ∙ same.defined x ∙ sym (ap (λ d. has_name d x) (with_objects-defined t os h));
-}
-
-pub externals_offences-same : (es : List External) (g h : FileScope) → SameFile g h → externals_offences es g ≡ externals_offences es h
-externals_offences-same [] g h same = refl
-externals_offences-same (e ∷ es) g h same =
-    ap (λ l. l ++ externals_offences es (file_scope_behind e g)) (external_offences-same e g h same)
-    ∙ ap (λ l. external_offences e h ++ l) (externals_offences-same es (file_scope_behind e g) (file_scope_behind e h) (behind-same e g h same))
+-- what is found, set aside which definitions stand before
+abbrev pub apart : Found → Found
+apart f = record f { functions = record { defined = f.functions.defined; before = [] } }
 
 -- after some external declarations: what is done and what is left make the whole
-pub record Declaring (g0 : FileScope) (f0 : Found) (all : List External) (v : Visible) (names : List (List ℕ)) (f : Found) (rest : List External) : Type 0 where
-  pub inner : v.inner ≡ []
-  pub found : after f (externals_offences rest (file_with v names)) (called rest) ≡ after f0 (externals_offences all g0) (called all)
+abbrev pub in_all : Visible → Found → List External → Found
+in_all v f es = after (apart f) (externals_offences es (file_with v f.functions.before)) (called es)
 
-pub Declaring-next : (g0 : FileScope) (f0 : Found) (all : List External) (v : Visible) (names : List (List ℕ)) (f : Found) (e : External) (rest : List External) (v' : Visible) (names' : List (List ℕ)) (f' : Found)
-    → Declaring g0 f0 all v names f (e ∷ rest)
-    → v' ≡ file_level (file_scope_behind e (file_with v names)).bindings
-    → f' ≡ after f (external_offences e (file_with v names)) (called_in_external e)
-    → ((x : List ℕ) → has_name names' x ≡ has_name (file_scope_behind e (file_with v names)).defined x)
-    → Declaring g0 f0 all v' names' f' rest
-Declaring-next g0 f0 all v names f e rest v' names' f' before es ef en =
-    let there = file_scope_behind e (file_with v names) in
-    let same : SameFile (file_with v' names') there = record { bindings = ap (λ (u : Visible). u.outer) es; defined = en } in
+pub record Declaring (v0 : Visible) (f0 : Found) (all : List External) (v : Visible) (f : Found) (rest : List External) : Type 0 where
+  pub inner : v.inner ≡ []
+  pub found : in_all v f rest ≡ in_all v0 f0 all
+
+pub Declaring-next : (v0 : Visible) (f0 : Found) (all : List External) (v : Visible) (f : Found) (e : External) (rest : List External) (v' : Visible) (f' : Found)
+    → Declaring v0 f0 all v f (e ∷ rest)
+    → v' ≡ file_level (file_scope_behind e (file_with v f.functions.before)).bindings
+    → f' ≡ after (with_before f (defined_in e)) (external_offences e (file_with v f.functions.before)) (called_in_external e)
+    → Declaring v0 f0 all v' f' rest
+Declaring-next v0 f0 all v f e rest v' f' before es ef =
+    let there : FileScope = file_scope_behind e (file_with v f.functions.before) in
+    let behind : f'.functions.before ≡ there.defined = ap (λ (k : Found). k.functions.before) ef ∙ sym (defined-behind e (file_with v f.functions.before)) in
+    let same : file_with v' f'.functions.before ≡ there = ap (λ (u : Visible). file_with u f'.functions.before) es ∙ ap (λ d. record { bindings = there.bindings; defined = d }) behind in
     record {
       inner = ap (λ (u : Visible). u.inner) es;
       found =
-          ap (λ l. after f' l (called rest)) (externals_offences-same rest (file_with v' names') there same)
-          ∙ parts.next f f' _ (external_offences e (file_with v names)) (externals_offences rest there) (externals_offences (e ∷ rest) (file_with v names))
-          (called_in_external e) (called rest) (called (e ∷ rest)) before.found refl refl ef;
+          ap (λ g. after (apart f') (externals_offences rest g) (called rest)) same
+          ∙ parts.next (apart f) (apart f') _ (external_offences e (file_with v f.functions.before)) (externals_offences rest there) (externals_offences (e ∷ rest) (file_with v f.functions.before))
+          (called_in_external e) (called rest) (called (e ∷ rest)) before.found refl refl (ap apart ef);
     }
 
 -- ---- one external declaration
@@ -177,28 +156,34 @@ module _ (v : Visible) (names : List (List ℕ)) (e : External) where
       eu ∙ ap file_level (ez ∙ ap (λ (x : Visible). x.outer) ew ∙ parameters_declared-outer s.parameters (file_level (with_function s (file_of v)).bindings))
       ∙ sym (ap (λ x. file_level (file_scope_behind x (file_with v names)).bindings) is)
 
-  pub definition-found : (w : Visible) (f g h k : Found) (s : Signature) (body : Stmts) (b : Bool) → e ≡ Definition s body → w ≡ body_scope s (file_of v) → b ≡ has_name names s.name.text
+  -- what an external declaration is found to come to
+  abbrev IsFound : Found → Found → Type 0
+  IsFound f g = g ≡ after (with_before f (defined_in e)) (external_offences e (file_with v names)) (called_in_external e)
+
+  pub declaration-found : (f g : Found) (s : Signature) → e ≡ Declaration s → g ≡ after f (signature_offences s (file_of v)) [] → IsFound f g
+  declaration-found f g s is eg = eg ∙ sym (ap (λ x. after (with_before f (defined_in x)) (external_offences x (file_with v names)) (called_in_external x)) is)
+
+  pub definition-found : (w : Visible) (f g h k m : Found) (s : Signature) (body : Stmts) (b : Bool) → e ≡ Definition s body → w ≡ body_scope s (file_of v) → b ≡ has_name names s.name.text
       → g ≡ after f (signature_offences s (file_of v)) [] → h ≡ after g (broken_if b Redeclared s.name.at) []
       → k ≡ after h (statements_offences body (record { result = s.result; in_loop = false }) w) (called_in_statements body)
-      → k ≡ after f (external_offences e (file_with v names)) (called_in_external e)
-  definition-found w f g h k s body b is ew eb eg eh ek =
+      → m ≡ with_before k (s.name.text ∷ []) → IsFound f m
+  definition-found w f g h k m s body b is ew eb eg eh ek em =
       let around : Around = record { result = s.result; in_loop = false } in
+      let whole : k ≡ after f (external_offences (Definition s body) (file_with v names)) (called_in_statements body) =
       three f g h k (signature_offences s (file_of v)) (broken_if b Redeclared s.name.at) (statements_offences body around w) _ [] [] (called_in_statements body) _ eg eh ek
-      (ap (λ x. external_offences x (file_with v names)) is
-      ∙ ap (λ x. signature_offences s (file_of v) ++ (broken_if x Redeclared s.name.at ++ statements_offences body around (body_scope s (file_of v)))) (sym eb)
+      (ap (λ x. signature_offences s (file_of v) ++ (broken_if x Redeclared s.name.at ++ statements_offences body around (body_scope s (file_of v)))) (sym eb)
       ∙ ap (λ x. signature_offences s (file_of v) ++ (broken_if b Redeclared s.name.at ++ statements_offences body around x)) (sym ew))
-      (ap called_in_external is)
+      refl in
+      em ∙ ap (λ x. with_before x (s.name.text ∷ [])) whole
+      ∙ sym (ap (λ x. after (with_before f (defined_in x)) (external_offences x (file_with v names)) (called_in_external x)) is)
 
   pub objects-scope : (w : Visible) (t : Scalar) (os : List Object) → e ≡ Objects t os → w ≡ file_level (with_objects t os (file_of v)).bindings → w ≡ file_level behind
   objects-scope w t os is ew = ew ∙ ap file_level (with_objects-same t os (file_of v) (file_with v names) refl) ∙ sym (ap (λ x. file_level (file_scope_behind x (file_with v names)).bindings) is)
 
-  pub objects-found : (f g : Found) (t : Scalar) (os : List Object) → e ≡ Objects t os → g ≡ after f (objects_offences t os (file_of v)) (called_in_objects os) → g ≡ after f (external_offences e (file_with v names)) (called_in_external e)
+  pub objects-found : (f g : Found) (t : Scalar) (os : List Object) → e ≡ Objects t os → g ≡ after f (objects_offences t os (file_of v)) (called_in_objects os) → IsFound f g
   objects-found f g t os is eg =
       eg ∙ ap (λ l. after f l (called_in_objects os)) (objects_offences-same t os (file_of v) (file_with v names) refl)
-      ∙ sym (ap (λ x. after f (external_offences x (file_with v names)) (called_in_external x)) is)
-
-  pub objects-defined : (t : Scalar) (os : List Object) → e ≡ Objects t os → (x : List ℕ) → has_name names x ≡ has_name (file_scope_behind e (file_with v names)).defined x
-  objects-defined t os is x = sym (ap (λ d. has_name d x) (with_objects-defined t os (file_with v names))) ∙ sym (ap (λ y. has_name (file_scope_behind y (file_with v names)).defined x) is)
+      ∙ sym (ap (λ x. after (with_before f (defined_in x)) (external_offences x (file_with v names)) (called_in_external x)) is)
 
 pub not_not : (b : Bool) → b ≡ not (not b)
 not_not true = refl

@@ -1,11 +1,15 @@
 -- A map in the order of its keys' bytes finds the names that are the same.
-use Rattle.std.proofs.Common.{◌≡◌, ℕ, cond, List, Option, sym, ap, ◌∙◌, Bor}
+use Rattle.std.proofs.Common.{◌≡◌, ℕ, Bool, cond, List, Option, sym, ap, ◌∙◌, Bor}
 use Rattle.std.specs.Cmp.Lexicographic.{slice_cmp, texts_ties}
 use Rattle.std.specs.declared.cmp.Ordering.{Ordering}
 use Rattle.std.specs.Ordering.{is_eq, nat_cmp}
 use Rattle.std.specs.Map.{lookup}
 use Rattle.std.specs.BTreeMap.{BTreeMap, get, Updates}
-use Rattle.cc_typing.specs.Bindings.{same_key}
+use Rattle.cc_typing.specs.Names.{same_name}
+
+-- two keys are the same name
+abbrev pub same_key : Bor (List ℕ) → Bor (List ℕ) → Bool
+same_key a b = same_name a.now b.now
 
 -- the order of the keys
 abbrev pub key_cmp : Bor (List ℕ) → Bor (List ℕ) → Ordering

@@ -2,7 +2,7 @@ pub mod KeyOrder
 pub mod NameNumbers
 pub mod Tables
 pub mod Numbers
-pub mod NameSets
+pub mod States
 pub mod SameTypes
 pub mod Parts
 pub mod Trees

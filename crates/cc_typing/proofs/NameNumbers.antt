@@ -1,13 +1,13 @@
 -- The numbers of names: a name that is numbered keeps its number, and no other name gets it.
-use Rattle.std.proofs.Common.{◌≡◌, ℕ, suc, ◌<◌, ◌≤◌, ◌+◌, Bool, true, false, cond, List, [], ◌∷◌, length, Option, Some, None, is_some, Result, Ok, Err, OnOk, OnErr, IfOk, if◌then◌else◌, refl, sym, ap, ◌∙◌, Bor, arith}
-use Rattle.std.specs.Cmp.Lexicographic.{bytes_decides}
+use Rattle.std.proofs.Common.{◌≡◌, ℕ, suc, ◌<◌, ◌≤◌, ◌+◌, Bool, true, false, cond, List, [], ◌∷◌, length, Option, Some, None, is_some, refl, sym, ap, ◌∙◌, Bor, nat_eq, arith}
+use Rattle.std.specs.Cmp.Lexicographic.{bytes_decides, nat_list_eq_equiv}
+use Rattle.std.proofs.lemmas.Bool.Decides.{nat_tests}
 use Rattle.std.specs.Map.{lookup}
-use Rattle.std.specs.BTreeMap.{BTreeMap, get, Updates}
+use Rattle.std.specs.BTreeMap.{BTreeMap, get}
 use Rattle.cc_typing.specs.Names.{same_name}
-use Rattle.cc_typing.specs.Numberings.{numbered_in, number_of_name, number_or_next, AreNumbers, IsNumbered}
-use Rattle.cc_typing.specs.Bindings.{same_key}
+use Rattle.cc_typing.specs.Numberings.{numbered_in, number_of_name, number_or_next, at_number, AreNumbers, IsNumbered}
 use Rattle.std.specs.Ordering.{is_eq}
-use Rattle.cc_typing.proofs.KeyOrder.{key_cmp, same_key-ties, lookup-get}
+use Rattle.cc_typing.proofs.KeyOrder.{same_key, key_cmp, same_key-ties, lookup-get}
 
 -- what the map has at a name is its number
 pub lookup-numbered : (entries : List (Bor (List ℕ) × ℕ)) (q : Bor (List ℕ)) → lookup (same_key q) entries ≡ number_of_name (numbered_in entries) q.now
@@ -92,27 +92,77 @@ module _ (old new : BTreeMap (Bor (List ℕ)) ℕ) (k : Bor (List ℕ)) (n : ℕ
       sym (get-numbered new q) ∙ updates q ∙ ap (λ b. cond b (Some n) (get key_cmp old q)) (sym (same_key-ties k q)) ∙ ap (cond (same_name k.now y) (Some n)) (get-numbered old q))
       (length-numbered new.entries ∙ long ∙ ap (λ r. length old.entries + cond (is_some r) 0 1) (get-numbered old k) ∙ ap (λ l. l + cond (is_some (number_of_name (numbered_in old.entries) k.now)) 0 1) (sym (length-numbered old.entries)))
 
-  own-number : (r : Option ℕ) → r ≡ get key_cmp old k → elim r [ None ↦ length (numbered_in old.entries) | Some m ↦ m ] ≡ number_or_next (numbered_in old.entries) k.now
-  own-number r e = ap (λ r. elim r [ None ↦ length (numbered_in old.entries) | Some m ↦ m ]) (e ∙ get-numbered old k)
-
   -- a new name
-  pub IsNumbered-new : n ≡ length old.entries → None ≡ get key_cmp old k → Updates key_cmp old new k (Some n) → length new.entries ≡ length old.entries + 1 → IsNumbered (numbered_in old.entries) (numbered_in new.entries) k.now n
-  IsNumbered-new next none updates long =
-      IsNumbered-map (next ∙ sym (length-numbered old.entries) ∙ own-number None none) updates.0 (long ∙ ap (λ r. length old.entries + cond (is_some r) 0 1) none)
-
-  -- a name that is there, whose number comes back
-  pub IsNumbered-again : {E : Type 0} (mid : BTreeMap (Bor (List ℕ)) ℕ) (m : ℕ) (r : Result (Option ℕ) E) → Some n ≡ get key_cmp old k → Updates key_cmp old mid k (Some m) → length mid.entries ≡ length old.entries + 0
-      → OnOk r (Updates key_cmp mid new k (Some n)) → IfOk r (λ o. o ≡ get key_cmp mid k) → IfOk r (λ o. length new.entries ≡ length mid.entries + (if is_some o then 0 else 1)) → OnErr r (get key_cmp mid k ≡ None)
+  pub IsNumbered-new : n ≡ length old.entries → None ≡ get key_cmp old k → ((q : Bor (List ℕ)) → get key_cmp new q ≡ cond (is_eq (key_cmp k q)) (Some n) (get key_cmp old q)) → length new.entries ≡ length old.entries + 1
       → IsNumbered (numbered_in old.entries) (numbered_in new.entries) k.now n
-  IsNumbered-again mid m (Ok o) there first same second value long absent =
-      IsNumbered-map (own-number (Some n) there)
-      (λ q. second.0 q ∙ ap (cond (is_eq (key_cmp k q)) (Some n)) (first.0 q) ∙ once (is_eq (key_cmp k q)) (get key_cmp old q))
-      (long ∙ ap (λ p. length mid.entries + cond (is_some p) 0 1) (value ∙ first.1) ∙ ap (λ l. l + 0) same ∙ zero_more ∙ ap (λ p. length old.entries + cond (is_some p) 0 1) there)
-    where
-      once : (b : Bool) (x : Option ℕ) → cond b (Some n) (cond b (Some m) x) ≡ cond b (Some n) x
-      once true x = refl
-      once false x = refl
+  IsNumbered-new next none updates long =
+      IsNumbered-map
+      (next ∙ sym (length-numbered old.entries) ∙ ap (λ r. elim r [ None ↦ length (numbered_in old.entries) | Some m ↦ m ]) (none ∙ get-numbered old k))
+      updates (long ∙ ap (λ r. length old.entries + cond (is_some r) 0 1) none)
 
-      zero_more : length old.entries + 0 + 0 ≡ length old.entries + 0
-      zero_more = omega arith
-  IsNumbered-again mid m (Err e) there first same second value long absent = absurd (let no : Some m ≡ None = sym first.1 ∙ absent in cc)
+-- a name that is there keeps its number
+pub IsNumbered-again : (names : List (List ℕ × ℕ)) (x : List ℕ) (n : ℕ) → AreNumbers names → number_of_name names x ≡ Some n → IsNumbered names names x n
+IsNumbered-again names x n numbers own = record {
+  number = sym (ap (λ r. elim r [ None ↦ length names | Some m ↦ m ]) own);
+  found = λ y. by y (same_name x y) refl;
+  numbers = numbers;
+  longer = omega arith;
+}
+  where
+    by : (y : List ℕ) (c : Bool) → same_name x y ≡ c → number_of_name names y ≡ cond c (Some n) (number_of_name names y)
+    by y true h = sym (ap (number_of_name names) ((bytes_decides x y).0 h)) ∙ own
+    by y false h = refl
+
+-- ---- tables from the numbers of names
+
+-- the name's own number
+pub number-own : (old new : List (List ℕ × ℕ)) (x : List ℕ) (n : ℕ) → IsNumbered old new x n → number_of_name new x ≡ Some n
+number-own old new x n is = is.found x ∙ ap (λ c. cond c (Some n) (number_of_name old x)) (nat_list_eq_equiv.refl x)
+
+module _ {A : Type 0} where
+  -- with one name more that has a number, a table has of each name what it had
+  pub at-numbered : (old new : List (List ℕ × ℕ)) (x : List ℕ) (n : ℕ) (table : ℕ → Option A) → ((m : ℕ) → length old ≤ m → table m ≡ None) → IsNumbered old new x n
+      → (y : List ℕ) → at_number table (number_of_name new y) ≡ at_number table (number_of_name old y)
+  at-numbered old new x n table rest is y = ap (at_number table) (is.found y) ∙ by (same_name x y) refl
+    where
+      at-own : (r : Option ℕ) → number_of_name old x ≡ r → at_number table (Some n) ≡ at_number table r
+      at-own None e =
+          let next : n ≡ length old = is.number ∙ ap (λ r. elim r [ None ↦ length old | Some k ↦ k ]) e in
+          rest n (omega (arith, next))
+      at-own (Some m) e = ap table (is.number ∙ ap (λ r. elim r [ None ↦ length old | Some k ↦ k ]) e)
+
+      by : (c : Bool) → same_name x y ≡ c → at_number table (cond c (Some n) (number_of_name old y)) ≡ at_number table (number_of_name old y)
+      by true h = at-own (number_of_name old x) refl ∙ ap (λ z. at_number table (number_of_name old z)) ((bytes_decides x y).0 h)
+      by false h = refl
+
+  pub rest-numbered : (old new : List (List ℕ × ℕ)) (x : List ℕ) (n : ℕ) (table : ℕ → Option A) → ((m : ℕ) → length old ≤ m → table m ≡ None) → IsNumbered old new x n
+      → (m : ℕ) → length new ≤ m → table m ≡ None
+  rest-numbered old new x n table rest is m h = rest m (let l = is.longer in omega (arith, h, l))
+
+  -- a table that is changed at the number of one name
+  module _ (names : List (List ℕ × ℕ)) (x : List ℕ) (n : ℕ) (own : number_of_name names x ≡ Some n) (numbers : AreNumbers names)
+      (old new : ℕ → Option A) (w : Option A) (updates : (m : ℕ) → new m ≡ cond (nat_eq n m) w (old m)) where
+    -- has of each name what it had, but for this one
+    pub at-changed : (y : List ℕ) → at_number new (number_of_name names y) ≡ cond (same_name x y) w (at_number old (number_of_name names y))
+    at-changed y = by (number_of_name names y) (same_name x y) refl refl
+      where
+        by : (r : Option ℕ) (c : Bool) → number_of_name names y ≡ r → same_name x y ≡ c → at_number new r ≡ cond c w (at_number old r)
+        by None true e h = absurd (let no : Some n ≡ None = sym own ∙ ap (number_of_name names) ((bytes_decides x y).0 h) ∙ e in cc)
+        by None false e h = refl
+        by (Some m) true e h =
+            let same : Some n ≡ Some m = sym own ∙ ap (number_of_name names) ((bytes_decides x y).0 h) ∙ e in
+            let at : n ≡ m = cc in
+            let is : nat_eq n m ≡ true = grind (arith, nat_tests, at) in
+            updates m ∙ ap (λ c. cond c w (old m)) is
+        by (Some m) false e h = updates m ∙ ap (λ c. cond c w (old m)) (other (nat_eq n m) refl)
+          where
+            other : (c : Bool) → nat_eq n m ≡ c → nat_eq n m ≡ false
+            other true k =
+                let at : n ≡ m = grind (arith, nat_tests, k) in
+                absurd (let no : true ≡ false = sym (numbers.one x y m (own ∙ ap Some at) e) ∙ h in cc)
+            other false k = k
+
+    -- and still nothing at a number that no name has
+    pub rest-changed : ((m : ℕ) → length names ≤ m → old m ≡ None) → (m : ℕ) → length names ≤ m → new m ≡ None
+    rest-changed rest m h =
+        updates m ∙ ap (λ c. cond c w (old m)) (let few = numbers.below x n own in let is : nat_eq n m ≡ false = grind (arith, nat_tests, few, h) in is) ∙ rest m h

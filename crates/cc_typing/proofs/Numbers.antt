@@ -4,7 +4,8 @@ use Rattle.std.specs.Cmp.Lexicographic.{pointwise}
 use Rattle.std.proofs.lemmas.Bool.Decides.{nat_tests}
 use Rattle.cc_typing.specs.Scope.{Binding, Entity, found, is_declared, with_declared}
 use Rattle.cc_typing.specs.declared.bindings.Newest.{Newest}
-use Rattle.cc_typing.specs.Bindings.{number_in, from, number_of, scope_of, file_level}
+use Rattle.cc_typing.specs.Bindings.{number_in, number_of, scope_of, file_level}
+use Rattle.cc_typing.specs.internal.Scopes.{from}
 
 number_in-below : (bs : List Binding) (x : List ℕ) → IfSome (number_in bs x) (λ n. n < length bs)
 number_in-below [] x = tt

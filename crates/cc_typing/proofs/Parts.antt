@@ -27,11 +27,11 @@ pub after_nothing : (f : Found) → after f [] [] ≡ f
 after_nothing f = refl
 
 pub after_after : (f : Found) (xs ys : List Offence) (cs ds : List Name) → after (after f xs cs) ys ds ≡ after f (xs ++ ys) (cs ++ ds)
-after_after f xs ys cs ds i = record { first = noted-append f.first xs ys i; undefined = noted_calls f.undefined f.defined cs ds i; defined = f.defined }
+after_after f xs ys cs ds i = record { first = noted-append f.first xs ys i; undefined = noted_calls f.undefined f.functions.defined cs ds i; functions = f.functions }
 
 -- a part after which something is noted
 pub after_noted : (f : Found) (xs ys : List Offence) (cs : List Name) → after (after f xs cs) ys [] ≡ after f (xs ++ ys) cs
-after_noted f xs ys cs i = record { first = noted-append f.first xs ys i; undefined = noted f.undefined (undefined_among f.defined cs); defined = f.defined }
+after_noted f xs ys cs i = record { first = noted-append f.first xs ys i; undefined = noted f.undefined (undefined_among f.functions.defined cs); functions = f.functions }
 
 -- two parts one after the other
 pub two : (f g h : Found) (xs ys os : List Offence) (cs ds es : List Name) → g ≡ after f xs cs → h ≡ after g ys ds → os ≡ xs ++ ys → es ≡ cs ++ ds → h ≡ after f os es
@@ -50,11 +50,11 @@ last f whole os es before eo ee = sym (after_nothing f) ∙ sym (ap (λ l. after
 pub noted_one : (f : Found) (o : Offence) → record f { first = Some (earlier f.first o) } ≡ after f (o ∷ []) []
 noted_one f o = refl
 
-pub called_undefined : (f : Found) (x : Name) → has_name f.defined x.text ≡ false
+pub called_undefined : (f : Found) (x : Name) → has_name f.functions.defined x.text ≡ false
     → record f { undefined = Some (earlier f.undefined (record { rule = Undefined; at = x.at })) } ≡ after f [] (x ∷ [])
 called_undefined f x e = sym (ap (λ b. record f { undefined = noted f.undefined (broken_if (not b) Undefined x.at ++ []) }) e)
 
-pub called_defined : (f : Found) (x : Name) → has_name f.defined x.text ≡ true → f ≡ after f [] (x ∷ [])
+pub called_defined : (f : Found) (x : Name) → has_name f.functions.defined x.text ≡ true → f ≡ after f [] (x ∷ [])
 called_defined f x e = sym (ap (λ b. record f { undefined = noted f.undefined (broken_if (not b) Undefined x.at ++ []) }) e)
 
 -- three parts

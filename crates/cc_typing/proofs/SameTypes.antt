@@ -3,7 +3,7 @@ use Rattle.std.proofs.Common.{◌≡◌, ◌≢◌, ℕ, suc, ◌+◌, ◌<◌, 
 use Rattle.cc_syntax.specs.Erase.{parameter_trees}
 use Rattle.cc_tokens.specs.declared.scalar.Scalar.{Scalar}
 use Rattle.cc_syntax.specs.declared.ast.Parameter.{Parameter}
-use Rattle.cc_typing.specs.Entities.{scalars}
+use Rattle.cc_typing.specs.internal.Scopes.{scalars}
 use Rattle.cc_typing.specs.Scope.{same_scalar, same_scalars}
 
 -- the types of some parameters

@@ -12,6 +12,7 @@ use Rattle.cc_typing.specs.Entities.{entity_of}
 use Rattle.cc_typing.specs.Bindings.{binding_of, bindings_of, AreHidden, IsTable, number_in, number_of, entity_found}
 use Rattle.cc_typing.specs.declared.bindings.Binding.{Binding}
 use Rattle.cc_typing.specs.declared.bindings.Newest.{Newest}
+use Rattle.cc_typing.proofs.NameNumbers.{at-numbered, rest-numbered, at-changed, rest-changed, number-own}
 
 same-itself : (x : List ℕ) → same_name x x ≡ true
 same-itself = nat_list_eq_equiv.refl
@@ -101,24 +102,10 @@ AreHidden-kept old new x n is (b ∷ rs) h = (numbered-kept old new x n is b.nam
 pub IsTable-numbered : (bs : List Binding) (old new : List (List ℕ × ℕ)) (x : List ℕ) (n : ℕ) (table : ℕ → Option ℕ) → IsTable bs old table → IsNumbered old new x n → IsTable bs new table
 IsTable-numbered bs old new x n table before is = record {
   numbers = is.numbers;
-  found = λ y. ap (at_number table) (is.found y) ∙ by y (same_name x y) refl;
+  found = λ y. at-numbered old new x n table before.rest is y ∙ before.found y;
   hidden = AreHidden-kept old new x n is (reverse bs) before.hidden;
-  rest = λ m h. before.rest m (let l = is.longer in omega (arith, h, l));
+  rest = rest-numbered old new x n table before.rest is;
 }
-  where
-    at-own : (r : Option ℕ) → number_of_name old x ≡ r → at_number table (Some n) ≡ at_number table r
-    at-own None e =
-        let next : n ≡ length old = is.number ∙ ap (λ r. elim r [ None ↦ length old | Some k ↦ k ]) e in
-        before.rest n (omega (arith, next))
-    at-own (Some m) e = ap table (is.number ∙ ap (λ r. elim r [ None ↦ length old | Some k ↦ k ]) e)
-
-    by : (y : List ℕ) (c : Bool) → same_name x y ≡ c → at_number table (cond c (Some n) (number_of_name old y)) ≡ number_in (bindings_of bs) y
-    by y true h = at-own (number_of_name old x) refl ∙ ap (λ z. at_number table (number_of_name old z)) ((bytes_decides x y).0 h) ∙ before.found y
-    by y false h = before.found y
-
--- the name's own number
-pub number-own : (old new : List (List ℕ × ℕ)) (x : List ℕ) (n : ℕ) → IsNumbered old new x n → number_of_name new x ≡ Some n
-number-own old new x n is = is.found x ∙ ap (λ c. cond c (Some n) (number_of_name old x)) (same-itself x)
 
 -- what the table has at the number of a name
 pub table-at : (bs : List Binding) (names : List (List ℕ × ℕ)) (table : ℕ → Option ℕ) → IsTable bs names table → (x : List ℕ) (n : ℕ) → number_of_name names x ≡ Some n → table n ≡ number_in (bindings_of bs) x
@@ -134,41 +121,15 @@ hidden-within bs b x (Some n) e = let within = number_in-within bs x (Some n) e 
 
 -- ---- a binding more, and one less
 
-module _ (bs : List Binding) (b : Binding) (names : List (List ℕ × ℕ)) (old new : ℕ → Option ℕ) (w : Option ℕ) (updates : (m : ℕ) → new m ≡ cond (nat_eq b.number m) w (old m))
-    (own : number_of_name names b.name.now ≡ Some b.number) (numbers : AreNumbers names) where
-  -- each name has in the table what it had, but for the binding's own
-  at-changed : (y : List ℕ) → at_number new (number_of_name names y) ≡ cond (same_name b.name.now y) w (at_number old (number_of_name names y))
-  at-changed y = by (number_of_name names y) (same_name b.name.now y) refl refl
-    where
-      by : (r : Option ℕ) (c : Bool) → number_of_name names y ≡ r → same_name b.name.now y ≡ c → at_number new r ≡ cond c w (at_number old r)
-      by None true e h = absurd (let no : Some b.number ≡ None = sym own ∙ ap (number_of_name names) ((bytes_decides b.name.now y).0 h) ∙ e in cc)
-      by None false e h = refl
-      by (Some m) true e h =
-          let same : Some b.number ≡ Some m = sym own ∙ ap (number_of_name names) ((bytes_decides b.name.now y).0 h) ∙ e in
-          let at : b.number ≡ m = cc in
-          let is : nat_eq b.number m ≡ true = grind (arith, nat_tests, at) in
-          updates m ∙ ap (λ c. cond c w (old m)) is
-      by (Some m) false e h = updates m ∙ ap (λ c. cond c w (old m)) (other (nat_eq b.number m) refl)
-        where
-          other : (c : Bool) → nat_eq b.number m ≡ c → nat_eq b.number m ≡ false
-          other true k =
-              let at : b.number ≡ m = grind (arith, nat_tests, k) in
-              absurd (let no : true ≡ false = sym (numbers.one b.name.now y m (own ∙ ap Some at) e) ∙ h in cc)
-          other false k = k
-
-  rest-changed : (length names ≤ b.number → w ≡ None) → ((n : ℕ) → length names ≤ n → old n ≡ None) → (n : ℕ) → length names ≤ n → new n ≡ None
-  rest-changed none rest n h =
-      updates n ∙ ap (λ c. cond c w (old n)) (let few = numbers.below b.name.now b.number own in let is : nat_eq b.number n ≡ false = grind (arith, nat_tests, few, h) in is) ∙ rest n h
-
 pub IsTable-pushed : (bs : List Binding) (b : Binding) (names : List (List ℕ × ℕ)) (old new : ℕ → Option ℕ) → IsTable bs names old → number_of_name names b.name.now ≡ Some b.number
     → b.hidden ≡ old b.number → ((m : ℕ) → new m ≡ cond (nat_eq b.number m) (Some (length bs)) (old m)) → IsTable (bs ++ b ∷ []) names new
 IsTable-pushed bs b names old new before own hides updates = record {
   numbers = before.numbers;
-  found = λ y. at-changed bs b names old new (Some (length bs)) updates own before.numbers y ∙ ap (cond (same_name b.name.now y) (Some (length bs))) (before.found y)
+  found = λ y. at-changed names b.name.now b.number own before.numbers old new (Some (length bs)) updates y ∙ ap (cond (same_name b.name.now y) (Some (length bs))) (before.found y)
       ∙ ap (λ n. cond (same_name b.name.now y) (Some n) (number_in (bindings_of bs) y)) (sym (length-bindings (reverse bs) ∙ length-reverse bs))
       ∙ ap (λ l. number_in (map binding_of l) y) (sym (reverse-push bs b));
   hidden = subst (AreHidden names) (sym (reverse-push bs b)) (own, hides ∙ table-at bs names old before b.name.now b.number own, before.hidden);
-  rest = rest-changed bs b names old new (Some (length bs)) updates own before.numbers (λ h. let few = before.numbers.below b.name.now b.number own in absurd (omega (arith, h, few))) before.rest;
+  rest = rest-changed names b.name.now b.number own before.numbers old new (Some (length bs)) updates before.rest;
 }
 
 module _ (bs : List Binding) (b : Binding) (names : List (List ℕ × ℕ)) (old new : ℕ → Option ℕ) (before : IsTable (bs ++ b ∷ []) names old) where
@@ -182,9 +143,9 @@ module _ (bs : List Binding) (b : Binding) (names : List (List ℕ × ℕ)) (old
   pub IsTable-popped : (w : Option ℕ) → b.hidden ≡ w → ((m : ℕ) → new m ≡ cond (nat_eq b.number m) w (old m)) → IsTable bs names new
   IsTable-popped w ew updates = record {
     numbers = before.numbers;
-    found = λ y. at-changed bs b names old new w updates hidden_is.0 before.numbers y ∙ ap (cond (same_name b.name.now y) w) (found_is y) ∙ restored y (same_name b.name.now y) refl;
+    found = λ y. at-changed names b.name.now b.number hidden_is.0 before.numbers old new w updates y ∙ ap (cond (same_name b.name.now y) w) (found_is y) ∙ restored y (same_name b.name.now y) refl;
     hidden = hidden_is.2;
-    rest = rest-changed bs b names old new w updates hidden_is.0 before.numbers (λ h. let few = before.numbers.below b.name.now b.number hidden_is.0 in absurd (omega (arith, h, few))) before.rest;
+    rest = rest-changed names b.name.now b.number hidden_is.0 before.numbers old new w updates before.rest;
   }
     where
       restored : (y : List ℕ) (c : Bool) → same_name b.name.now y ≡ c → cond c w (cond c (Some (length (map binding_of (reverse bs)))) (number_in (bindings_of bs) y)) ≡ number_in (bindings_of bs) y

@@ -1,24 +1,22 @@
 -- What is found in a whole unit decides whether it is typed.
-use Rattle.std.proofs.Common.{◌≡◌, ℕ, inl, inr, true, false, ◌||◌, List, [], ◌∷◌, ◌++◌, length, Some, None, refl, sym, ap, ◌∙◌}
-use Rattle.std.specs.Prelude.{not}
-use Rattle.cc_syntax.specs.Tree.{Name, Source, External, Declaration, Definition, Objects}
+use Rattle.std.proofs.Common.{◌≡◌, ℕ, inl, inr, true, false, List, [], ◌∷◌, ◌++◌, length, Option, Some, None, refl, sym, ap, ◌∙◌}
+use Rattle.cc_syntax.specs.Tree.{Source, External}
 use Rattle.cc_tokens.specs.Place.{place_of}
 use Rattle.cc_typing.specs.Checked.{IsChecked}
-use Rattle.cc_typing.specs.internal.Counts.{defined_after}
+use Rattle.cc_typing.specs.internal.Counts.{all_defined}
 use Rattle.cc_typing.specs.Fault.{fault_of}
 use Rattle.cc_typing.specs.Bindings.{file_level, file_with}
-use Rattle.cc_typing.specs.internal.Findings.{Found, noted, after, nothing_found}
+use Rattle.cc_typing.specs.internal.Findings.{Found, noted, nothing_found}
+use Rattle.cc_typing.specs.internal.Functions.{Functions}
 use Rattle.cc_typing.specs.Limits.{excesses}
-use Rattle.cc_typing.specs.Names.{same_name}
-use Rattle.cc_typing.specs.Rules.{offences, defines_main, undefined_among, undefined_calls, called, broken_if, externals_offences}
-use Rattle.cc_typing.specs.Scope.{Visible, has_name, FileScope, first_file_scope, file_scope_behind, file_scope_behind_all}
+use Rattle.cc_typing.specs.Rules.{offences, defines_main, undefined_among, undefined_calls, called, externals_offences}
+use Rattle.cc_typing.specs.Scope.{Visible, FileScope, first_file_scope, file_scope_behind, file_scope_behind_all}
 use Rattle.cc_typing.specs.Typed.{IsTypeRefusal, all_offences}
 use Rattle.cc_typing.specs.declared.fault.TypeFault.{TypeFault}
 use Rattle.cc_typing.specs.declared.fault.TypeFault.TheVariants.{NoMain}
 use Rattle.cc_typing.specs.declared.rule.Offence.{Offence}
-use Rattle.cc_typing.specs.declared.rule.Rule.TheVariants.{Undefined}
 use Rattle.cc_typing.proofs.First.{IsFirst-noted, noted-none}
-use Rattle.cc_typing.proofs.FileScopes.{SameFile, with_objects-defined, externals_offences-same}
+use Rattle.cc_typing.proofs.FileScopes.{defined-behind}
 use Rattle.cc_typing.proofs.Parts.{noted-append}
 
 -- two parts without offences
@@ -44,56 +42,24 @@ module _ (s : Source) where
 
 -- ---- the functions that are defined
 
--- the names of the functions that are defined after some external declarations
-abbrev pub all_defined_after : List (List ℕ) → List External → List (List ℕ)
-all_defined_after d [] = d
-all_defined_after d (e ∷ rest) = all_defined_after (defined_after d e) rest
-
-defined-behind : (e : External) (f : FileScope) → (file_scope_behind e f).defined ≡ defined_after f.defined e
-defined-behind (Declaration s) f = refl
-defined-behind (Definition s body) f = refl
-defined-behind (Objects t os) f = with_objects-defined t os f
-
-pub all-defined-behind : (es : List External) (f : FileScope) → (file_scope_behind_all es f).defined ≡ all_defined_after f.defined es
+pub all-defined-behind : (es : List External) (f : FileScope) → (file_scope_behind_all es f).defined ≡ all_defined es f.defined
 all-defined-behind [] f = refl
-all-defined-behind (e ∷ es) f = all-defined-behind es (file_scope_behind e f) ∙ ap (λ d. all_defined_after d es) (defined-behind e f)
-
--- two lists with the same names
-abbrev pub SameNames : List (List ℕ) → List (List ℕ) → Type 0
-SameNames d d' = (x : List ℕ) → has_name d x ≡ has_name d' x
-
-defined_after-same : (e : External) (d d' : List (List ℕ)) → SameNames d d' → SameNames (defined_after d e) (defined_after d' e)
-defined_after-same (Declaration s) d d' h = h
-defined_after-same (Definition s body) d d' h = λ x. ap (λ b. same_name s.name.text x || b) (h x)
-defined_after-same (Objects t os) d d' h = h
-
-pub all_defined_after-same : (es : List External) (d d' : List (List ℕ)) → SameNames d d' → SameNames (all_defined_after d es) (all_defined_after d' es)
-all_defined_after-same [] d d' h = h
-all_defined_after-same (e ∷ es) d d' h = all_defined_after-same es (defined_after d e) (defined_after d' e) (defined_after-same e d d' h)
-
-pub undefined_among-same : (cs : List Name) (d d' : List (List ℕ)) → SameNames d d' → undefined_among d cs ≡ undefined_among d' cs
-undefined_among-same [] d d' h = refl
-undefined_among-same (c ∷ cs) d d' h =
-    ap (λ b. broken_if (not b) Undefined c.at ++ undefined_among d cs) (h c.text) ∙ ap (λ l. broken_if (not (has_name d' c.text)) Undefined c.at ++ l) (undefined_among-same cs d d' h)
-
--- after some external declarations: what is done and what is left make the whole
-pub defined-next : (e : External) (rest left : List External) (d d' whole : List (List ℕ)) → left ≡ e ∷ rest → SameNames (all_defined_after d left) whole → SameNames d' (defined_after d e) → SameNames (all_defined_after d' rest) whole
-defined-next e rest left d d' whole el before ed = λ x.
-    all_defined_after-same rest d' (defined_after d e) ed x ∙ sym (ap (λ l. has_name (all_defined_after d l) x) el) ∙ before x
+all-defined-behind (e ∷ es) f = all-defined-behind es (file_scope_behind e f) ∙ ap (all_defined es) (defined-behind e f)
 
 -- ---- what the walk over a whole unit finds
 
-module _ (es : List External) (v : Visible) (names defined : List (List ℕ)) (f g : Found) (start : v ≡ file_level first_file_scope.bindings) (fresh : f ≡ nothing_found defined)
-    (walked : g ≡ after f (externals_offences es (file_with v names)) (called es)) where
-  pub first-are : SameNames names first_file_scope.defined → noted g.first (excesses es) ≡ noted None (all_offences es)
-  first-are builtins =
-      let same : SameFile (file_with v names) first_file_scope = record { bindings = ap (λ (u : Visible). u.outer) start; defined = builtins } in
-      ap (λ (k : Found). noted k.first (excesses es)) walked
-      ∙ ap (λ (k : Found). noted (noted k.first (externals_offences es (file_with v names))) (excesses es)) fresh
-      ∙ ap (λ l. noted (noted None l) (excesses es)) (externals_offences-same es (file_with v names) first_file_scope same)
+module _ (es : List External) (v : Visible) (functions : Functions) (f : Found) (start : v ≡ file_level first_file_scope.bindings) (fresh : f ≡ nothing_found functions)
+    (known : functions ≡ record { defined = all_defined es first_file_scope.defined; before = first_file_scope.defined }) where
+  pub first-are : (r : Option Offence) → r ≡ noted f.first (externals_offences es (file_with v f.functions.before)) → noted r (excesses es) ≡ noted None (all_offences es)
+  first-are r walked =
+      ap (λ k. noted k (excesses es)) walked
+      ∙ ap (λ (k : Found). noted (noted k.first (externals_offences es (file_with v k.functions.before))) (excesses es)) fresh
+      ∙ ap (λ (u : Visible). noted (noted None (externals_offences es (file_with u functions.before))) (excesses es)) start
+      ∙ ap (λ (k : Functions). noted (noted None (externals_offences es (file_with (file_level first_file_scope.bindings) k.before))) (excesses es)) known
       ∙ noted-append None (offences es) (excesses es)
 
-  pub undefined-are : SameNames defined (file_scope_behind_all es first_file_scope).defined → g.undefined ≡ noted None (undefined_calls es)
-  undefined-are same =
-      ap (λ (k : Found). k.undefined) walked ∙ ap (λ (k : Found). noted k.undefined (undefined_among k.defined (called es))) fresh
-      ∙ ap (noted None) (undefined_among-same (called es) defined (file_scope_behind_all es first_file_scope).defined same)
+  pub undefined-are : (r : Option Offence) → r ≡ noted f.undefined (undefined_among f.functions.defined (called es)) → r ≡ noted None (undefined_calls es)
+  undefined-are r walked =
+      walked ∙ ap (λ (k : Found). noted k.undefined (undefined_among k.functions.defined (called es))) fresh
+      ∙ ap (λ (k : Functions). noted None (undefined_among k.defined (called es))) known
+      ∙ ap (λ d. noted None (undefined_among d (called es))) (sym (all-defined-behind es first_file_scope))

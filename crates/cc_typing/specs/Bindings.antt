@@ -1,7 +1,5 @@
 -- How the code keeps the names in scope.
-use Rattle.std.specs.Prelude.{ℕ, ◌≡◌, ◌≤◌, Bool, false, List, [], ◌∷◌, length, map, reverse, take, drop, Option, Some, None, if◌then◌else◌, nat_eq, nat_le}
-use Rattle.std.specs.Borrow.{Bor}
-use Rattle.std.specs.Cmp.Lexicographic.{pointwise}
+use Rattle.std.specs.Prelude.{ℕ, ◌≡◌, ◌≤◌, List, [], ◌∷◌, length, map, reverse, take, drop, Option, Some, None, if◌then◌else◌}
 use Rattle.cc_typing.specs.Names.{same_name}
 use Rattle.cc_typing.specs.Numberings.{AreNumbers, number_of_name, at_number}
 use Rattle.cc_typing.specs.Scope as scope
@@ -28,21 +26,12 @@ abbrev pub AreHidden : List (List ℕ × ℕ) → List Binding → Type 0
 AreHidden names [] = Unit {0}
 AreHidden names (b ∷ rest) = (number_of_name names b.name.now ≡ Some b.number) × (b.hidden ≡ number_in (map binding_of rest) b.name.now) × AreHidden names rest
 
--- two keys are the same name
-abbrev pub same_key : Bor (List ℕ) → Bor (List ℕ) → Bool
-same_key a b = pointwise nat_eq a.now b.now
-
 -- the table has the newest binding at the number of each name, and nothing at a number that no name has
 pub record IsTable (bs : List Binding) (names : List (List ℕ × ℕ)) (table : ℕ → Option ℕ) : Type 0 where
   pub numbers : AreNumbers names
   pub found : (x : List ℕ) → at_number table (number_of_name names x) ≡ number_in (bindings_of bs) x
   pub hidden : AreHidden names (reverse bs)
   pub rest : (n : ℕ) → length names ≤ n → table n ≡ None
-
--- a number from k on
-abbrev pub from : ℕ → Option ℕ → Bool
-from k None = false
-from k (Some n) = nat_le k n
 
 -- what is answered of a name
 abbrev pub number_of : Option Newest → Option ℕ

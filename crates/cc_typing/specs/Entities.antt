@@ -2,8 +2,6 @@
 use Rattle.std.specs.Prelude.{ℕ, List, [], ◌∷◌, map, Option, Some, None}
 use Rattle.std.specs.Borrow.{Bor}
 use Rattle.cc_tokens.specs.declared.scalar.Scalar.TheVariants.{Int}
-use Rattle.cc_tokens.specs.declared.scalar.Scalar.{Scalar}
-use Rattle.cc_syntax.specs.Tree.{Parameter}
 use Rattle.cc_syntax.specs.Erase.{signature_tree}
 use Rattle.cc_typing.specs.Scope as scope
 use Rattle.cc_typing.specs.Scope.{Visible, function_entity}
@@ -25,7 +23,3 @@ optional_entity (Some e) = Some (entity_of e)
 -- the bytes of some names
 abbrev pub names_in : List (Bor (List ℕ)) → List (List ℕ)
 names_in keys = map (λ (k : Bor (List ℕ)). k.now) keys
-
--- the types of some parameters
-abbrev pub scalars : List Parameter → List Scalar
-scalars ps = map (λ (p : Parameter). p.scalar) ps

@@ -29,6 +29,6 @@ pub record IsNumbered (old new : List (List ℕ × ℕ)) (x : List ℕ) (n : ℕ
   pub longer : length old ≤ length new
 
 -- what a table from numbers has at the number of a name, where it has one
-abbrev pub at_number : (ℕ → Option ℕ) → Option ℕ → Option ℕ
+abbrev pub at_number : {A : Type 0} → (ℕ → Option A) → Option ℕ → Option A
 at_number table None = None
 at_number table (Some n) = table n

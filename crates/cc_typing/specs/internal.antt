@@ -1,3 +1,5 @@
 -- What only private contracts and proofs speak of.
+pub mod Scopes
+pub mod Functions
 pub mod Findings
 pub mod Counts

@@ -25,9 +25,9 @@ pub struct Newest<'a> {
 #[derive(Drop)]
 pub struct Binding<'a> {
     name: &'a [u8],
-    number: u32,
+    number: usize,
     entity: Entity<'a>,
-    hidden: Option<u32>,
+    hidden: Option<usize>,
 }
 
 /// The names in scope. The oldest has the number 0.
@@ -35,7 +35,7 @@ pub struct Binding<'a> {
 pub struct Bindings<'a> {
     list: Vec<Binding<'a>>,
     names: Numbering<'a>,
-    newest: IndexMap<u32, u32>,
+    newest: IndexMap<usize, usize>,
 }
 
 impl<'a> Model for Bindings<'a> {
@@ -52,14 +52,13 @@ impl<'a> Model for Bindings<'a> {
 }
 
 // The binding with a number, where there is one.
-fn newest_at<'a>(list: &[Binding<'a>], number: Option<u32>) -> Option<Newest<'a>>
+fn newest_at<'a>(list: &[Binding<'a>], number: Option<usize>) -> Option<Newest<'a>>
     requires { IfSome number (λ n. n < length list.now) }
     ensures number { number_of result ≡ number }
     ensures entity { IfSome result (λ n. (d : Binding) → n.entity ≡ (slice_index_or list.now n.number d).entity) }
 {
     match number {
         Some(number) => {
-            let number = number as usize;
             Some(Newest {
                 number,
                 entity: list[number].entity,
@@ -109,9 +108,7 @@ impl<'a> Bindings<'a> {
         ensures hidden { IfOk result (λ hidden. entity_found hidden ≡ found self.old name.now) }
     {
         self.list.reserve(1)?;
-        let Ok(place) = u32::try_from(self.list.len()) else {
-            return Err(AllocError);
-        };
+        let place = self.list.len();
         let number = self.names.add(name)?;
         match self.newest.insert(number, place) {
             Ok(hidden) => {

@@ -1,14 +1,14 @@
 // From a parsed unit to a typed one.
 
-ghost use Rattle.std.specs.Prelude.{◌≡◌, ◌⊎◌, ◌∷◌, ℕ, List, None, IfOk, IfErr, OnOk, codes};
+ghost use Rattle.std.specs.Prelude.{◌≡◌, ◌⊎◌, ◌++◌, [], None, IfOk, IfErr, OnOk};
 ghost use Rattle.cc_syntax.specs.Source.{source};
 ghost use Rattle.cc_tokens.specs.Place.{place_of};
 ghost use Rattle.cc_syntax.specs.Erase.{external_tree, external_trees};
-ghost use Rattle.cc_typing.specs.internal.Counts.{defined_after};
+ghost use Rattle.cc_typing.specs.internal.Counts.{all_defined, defined_in};
 ghost use Rattle.cc_typing.specs.Fault.{fault_of};
 ghost use Rattle.cc_typing.specs.internal.Findings.{noted};
 ghost use Rattle.cc_typing.specs.Rules.{offences, is_main, defines_main, undefined_calls};
-ghost use Rattle.cc_typing.specs.Scope.{has_name, first_file_scope, file_scope_behind_all};
+ghost use Rattle.cc_typing.specs.Scope.{first_file_scope};
 ghost use Rattle.cc_typing.specs.Typed.{IsTyped, IsWithinLimits, IsTypeRefusal, TypeAnswersAreOne, UnitsHaveTypeAnswers, all_offences};
 ghost use Rattle.cc_typing.specs.Verdict.{VerdictsAreOne, TextsHaveVerdicts};
 
@@ -16,8 +16,8 @@ use super::entity::same_result;
 use super::externals::all_externals;
 use super::fault::TypeFault;
 use super::findings::Findings;
+use super::functions::Functions;
 use super::limits::with_excesses;
-use super::names::Names;
 use super::rule::{Offence, Rule};
 use super::scope::{READ_WORD, Scope, WRITE_WORD};
 use super::typed::TypedUnit;
@@ -72,16 +72,7 @@ fn first_offences(alloc: Global, externals: &[External]) -> Result<FirstOffences
             return Err(error);
         }
     };
-    let mut defined = match builtins(alloc) {
-        Ok(defined) => defined,
-        Err(error) => {
-            drop(scope);
-            drop(findings);
-            return Err(error);
-        }
-    };
-    let walked = all_externals(&mut scope, &mut findings, &mut defined, externals);
-    drop(defined);
+    let walked = all_externals(&mut scope, &mut findings, externals);
     drop(scope);
     let found = FirstOffences {
         first: with_excesses(findings.first(), externals),
@@ -92,51 +83,61 @@ fn first_offences(alloc: Global, externals: &[External]) -> Result<FirstOffences
     Ok(found)
 }
 
-fn insert_builtins(names: &mut Names<'_>) -> Result<(), AllocError>
-    ensures { OnOk result ((x : List ℕ) → has_name names.new x ≡ has_name (codes "write_word" ∷ codes "read_word" ∷ names.old) x) }
+// The builtins are defined before a text begins.
+fn add_builtins(functions: &mut Functions<'_>) -> Result<(), AllocError>
+    requires { functions.old ≡ record { defined = []; before = [] } }
+    ensures { OnOk result (functions.new ≡ record { defined = first_file_scope.defined; before = first_file_scope.defined }) }
 {
-    names.insert(READ_WORD)?;
-    names.insert(WRITE_WORD)
+    functions.define(READ_WORD)?;
+    functions.define(WRITE_WORD)?;
+    functions.mark_before(READ_WORD)?;
+    functions.mark_before(WRITE_WORD)
 }
 
-// The functions that are defined before a text begins.
-fn builtins<'a>(alloc: Global) -> Result<Names<'a>, AllocError>
-    ensures { IfOk result (λ r. (x : List ℕ) → has_name r x ≡ has_name first_file_scope.defined x) }
-{
-    let mut names = Names::new(alloc);
-    match insert_builtins(&mut names) {
-        Ok(()) => Ok(names),
-        Err(error) => {
-            drop(names);
-            Err(error)
-        }
-    }
-}
-
-fn define<'a>(names: &mut Names<'a>, external: &'a External) -> Result<(), AllocError>
-    ensures { OnOk result ((x : List ℕ) → has_name names.new x ≡ has_name (defined_after names.old (external_tree external.now)) x) }
+fn define<'a>(functions: &mut Functions<'a>, external: &'a External) -> Result<(), AllocError>
+    ensures { OnOk result (functions.new ≡ record functions.old { defined = defined_in (external_tree external.now) ++ functions.old.defined }) }
 {
     match external {
-        External::Definition(signature, _) => names.insert(signature.name.bytes.as_slice()),
+        External::Definition(signature, _) => functions.define(signature.name.bytes.as_slice()),
         External::Declaration(_) | External::Objects(_, _) => Ok(()),
     }
 }
 
-// The functions that a unit defines, and the builtins.
-fn definitions<'a>(alloc: Global, externals: &'a [External]) -> Result<Names<'a>, AllocError>
-    ensures { IfOk result (λ r. (x : List ℕ) → has_name r x ≡ has_name (file_scope_behind_all (external_trees externals.now) first_file_scope).defined x) }
+fn define_all<'a>(
+    functions: &mut Functions<'a>,
+    externals: &'a [External],
+) -> Result<(), AllocError>
+    ensures { OnOk result (functions.new ≡ record functions.old { defined = all_defined (external_trees externals.now) functions.old.defined }) }
 {
-    let mut names = builtins(alloc)?;
     for external in externals {
-        match define(&mut names, external) {
-            Ok(()) => {}
-            Err(error) => {
-                drop(names);
-                return Err(error);
-            }
+        define(functions, external)?;
+    }
+    Ok(())
+}
+
+fn add_functions<'a>(
+    functions: &mut Functions<'a>,
+    externals: &'a [External],
+) -> Result<(), AllocError>
+    requires { functions.old ≡ record { defined = []; before = [] } }
+    ensures { OnOk result (functions.new ≡ record { defined = all_defined (external_trees externals.now) first_file_scope.defined; before = first_file_scope.defined }) }
+{
+    add_builtins(functions)?;
+    define_all(functions, externals)
+}
+
+// The functions that a unit defines, and the builtins, of which alone the definitions stand before.
+fn definitions<'a>(alloc: Global, externals: &'a [External]) -> Result<Functions<'a>, AllocError>
+    ensures { IfOk result (λ r. r ≡ record { defined = all_defined (external_trees externals.now) first_file_scope.defined; before = first_file_scope.defined }) }
+{
+    let mut functions = Functions::new(alloc);
+    match add_functions(&mut functions, externals) {
+        Ok(()) => Ok(functions),
+        Err(error) => {
+            drop(functions);
+            Err(error)
         }
     }
-    Ok(names)
 }
 
 fn is_main(external: &External) -> bool

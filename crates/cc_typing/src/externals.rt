@@ -1,18 +1,18 @@
 // The rules of file scope (C99 6.2.1, 6.6, 6.7, 6.9).
 
-ghost use Rattle.std.specs.Prelude.{◌≡◌, ℕ, List, [], length, option_map, OnOk};
+ghost use Rattle.std.specs.Prelude.{◌≡◌, [], length, option_map, OnOk};
 ghost use Rattle.cc_syntax.specs.Erase.{constant_tree, optional_constant, constant_trees, object_tree, object_trees, parameter_tree, parameter_trees, signature_tree, external_tree, external_trees};
 ghost use Rattle.cc_typing.specs.Bindings.{file_level, file_of, file_with};
-ghost use Rattle.cc_typing.specs.internal.Findings.{after, is_bad_length};
-ghost use Rattle.cc_typing.specs.Rules.{constant_offences, optional_constant_offences, constants_offences, object_offences, objects_offences, parameter_offences, parameters_offences, signature_offences, external_offences, externals_offences, called_in_constant, called_in_optional_constant, called_in_constants, called_in_object, called_in_objects, called_in_external, called};
-ghost use Rattle.cc_typing.specs.Scope.{in_scope, has_name, with_object, with_objects, parameter_declared, parameters_declared, body_scope, file_scope_behind};
+ghost use Rattle.cc_typing.specs.internal.Counts.{defined_in};
+ghost use Rattle.cc_typing.specs.internal.Findings.{after, noted, is_bad_length, with_before};
+ghost use Rattle.cc_typing.specs.Rules.{constant_offences, optional_constant_offences, constants_offences, object_offences, objects_offences, parameter_offences, parameters_offences, signature_offences, external_offences, externals_offences, called_in_constant, called_in_optional_constant, called_in_constants, called_in_object, called_in_objects, called_in_external, called, undefined_among};
+ghost use Rattle.cc_typing.specs.Scope.{in_scope, with_object, with_objects, parameter_declared, parameters_declared, body_scope, file_scope_behind};
 
 use super::around::Surroundings;
 use super::constants::{array_length, constant_word};
 use super::entity::{Entity, differs};
 use super::expressions::value;
 use super::findings::Findings;
-use super::names::Names;
 use super::rule::Rule;
 use super::scope::Scope;
 use super::statements::all_statements;
@@ -152,17 +152,15 @@ fn signature<'a>(
     parameters(scope, findings, tree.parameters.as_slice())
 }
 
-// An external declaration, after definitions of some functions.
+// An external declaration, with the definitions that stand before it.
 fn external<'a>(
     scope: &mut Scope<'a>,
-    findings: &mut Findings,
-    defined: &mut Names<'a>,
+    findings: &mut Findings<'a>,
     tree: &'a External,
 ) -> Result<(), AllocError>
     requires { scope.old.inner ≡ [] }
-    ensures scope { OnOk result (scope.new ≡ file_level (file_scope_behind (external_tree tree.now) (file_with scope.old defined.old)).bindings) }
-    ensures found { OnOk result (findings.new ≡ after findings.old (external_offences (external_tree tree.now) (file_with scope.old defined.old)) (called_in_external (external_tree tree.now))) }
-    ensures defined { OnOk result ((x : List ℕ) → has_name defined.new x ≡ has_name (file_scope_behind (external_tree tree.now) (file_with scope.old defined.old)).defined x) }
+    ensures scope { OnOk result (scope.new ≡ file_level (file_scope_behind (external_tree tree.now) (file_with scope.old findings.old.functions.before)).bindings) }
+    ensures found { OnOk result (findings.new ≡ after (with_before findings.old (defined_in (external_tree tree.now))) (external_offences (external_tree tree.now) (file_with scope.old findings.old.functions.before)) (called_in_external (external_tree tree.now))) }
 {
     match tree {
         External::Declaration(declared) => {
@@ -172,14 +170,15 @@ fn external<'a>(
         External::Definition(declared, body) => {
             let name = declared.name.bytes.as_slice();
             signature(scope, findings, declared)?;
-            findings.note_if(defined.contains(name), Rule::Redeclared, declared.name.at);
+            let again = findings.stands_before(name);
+            findings.note_if(again, Rule::Redeclared, declared.name.at);
             let around = Surroundings {
                 result: declared.result,
                 in_loop: false,
             };
             all_statements(scope, findings, around, body.as_slice())?;
             scope.close(0);
-            defined.insert(name)?;
+            findings.mark_before(name)?;
         }
         External::Objects(scalar, declared) => {
             objects(scope, findings, *scalar, declared.as_slice())?;
@@ -188,18 +187,18 @@ fn external<'a>(
     Ok(())
 }
 
-/// The external declarations of a unit, after definitions of some functions.
+/// The external declarations of a unit.
 pub fn all_externals<'a>(
     scope: &mut Scope<'a>,
-    findings: &mut Findings,
-    defined: &mut Names<'a>,
+    findings: &mut Findings<'a>,
     trees: &'a [External],
 ) -> Result<(), AllocError>
     requires { scope.old.inner ≡ [] }
-    ensures { OnOk result (findings.new ≡ after findings.old (externals_offences (external_trees trees.now) (file_with scope.old defined.old)) (called (external_trees trees.now))) }
+    ensures first { OnOk result (findings.new.first ≡ noted findings.old.first (externals_offences (external_trees trees.now) (file_with scope.old findings.old.functions.before))) }
+    ensures undefined { OnOk result (findings.new.undefined ≡ noted findings.old.undefined (undefined_among findings.old.functions.defined (called (external_trees trees.now)))) }
 {
     for tree in trees {
-        external(scope, findings, defined, tree)?;
+        external(scope, findings, tree)?;
     }
     Ok(())
 }

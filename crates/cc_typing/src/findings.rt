@@ -1,14 +1,16 @@
 // What is found wrong on the way through a unit.
 
-ghost use Rattle.std.specs.Prelude.{◌≡◌, [], ◌∷◌, ◌≤◌};
+ghost use Rattle.std.specs.Prelude.{◌≡◌, [], ◌∷◌, ◌≤◌, OnOk};
 ghost use Rattle.cc_syntax.specs.Erase.{name_tree};
 ghost use Rattle.cc_typing.specs.Fault.{rule_number};
-ghost use Rattle.cc_typing.specs.internal.Findings.{is_before, earlier, after, noted, nothing_found};
+ghost use Rattle.cc_typing.specs.internal.Findings.{is_before, earlier, after, noted, nothing_found, with_before};
 ghost use Rattle.cc_typing.specs.Rules.{broken, broken_if};
+ghost use Rattle.cc_typing.specs.Scope.{has_name};
 
-use super::names::Names;
+use super::functions::Functions;
 use super::rule::{Offence, Rule};
 use cc_syntax::Identifier;
+use std::alloc::AllocError;
 use std::marker::Model;
 
 fn number(rule: Rule) -> u32
@@ -49,7 +51,7 @@ pub fn earlier(first: Option<Offence>, offence: Offence) -> Offence
 pub struct Findings<'a> {
     first: Option<Offence>,
     undefined: Option<Offence>,
-    defined: Names<'a>,
+    functions: Functions<'a>,
 }
 
 impl<'a> Model for Findings<'a> {
@@ -57,18 +59,18 @@ impl<'a> Model for Findings<'a> {
 
     ghost Value = { Found };
 
-    ghost view = { λ f. record { first = f.first; undefined = f.undefined; defined = f.defined } };
+    ghost view = { λ f. record { first = f.first; undefined = f.undefined; functions = f.functions } };
 }
 
 impl<'a> Findings<'a> {
     /// Nothing, in a unit that defines these functions.
-    pub fn new(defined: Names<'a>) -> Findings<'a>
-        ensures { result ≡ nothing_found defined.entry }
+    pub fn new(functions: Functions<'a>) -> Findings<'a>
+        ensures { result ≡ nothing_found functions.entry }
     {
         Findings {
             first: None,
             undefined: None,
-            defined,
+            functions,
         }
     }
 
@@ -92,13 +94,27 @@ impl<'a> Findings<'a> {
     pub fn note_call(&mut self, name: &Identifier)
         ensures { self.new ≡ after self.old [] (name_tree name.now ∷ []) }
     {
-        if !self.defined.contains(name.bytes.as_slice()) {
+        if !self.functions.is_defined(name.bytes.as_slice()) {
             let offence = Offence {
                 rule: Rule::Undefined,
                 at: name.at,
             };
             self.undefined = Some(earlier(self.undefined, offence));
         }
+    }
+
+    /// Whether a function of a name has its definition before.
+    pub fn stands_before(&self, name: &[u8]) -> bool
+        ensures { result ≡ has_name self.now.functions.before name.now }
+    {
+        self.functions.stands_before(name)
+    }
+
+    /// A function of a name has its definition before.
+    pub fn mark_before(&mut self, name: &'a [u8]) -> Result<(), AllocError>
+        ensures { OnOk result (self.new ≡ with_before self.old (name.now ∷ [])) }
+    {
+        self.functions.mark_before(name)
     }
 
     /// The first offence.

@@ -2,7 +2,7 @@
 //
 // `check` makes a `TypedUnit` of a parsed unit, or says which rule or limit it breaks first (`checking`, `fault`, `rule`).
 // One walk goes over file scope (`externals`), statements and expressions. It keeps the names in scope (`scope`, on `bindings`,
-// `numbering` and `entity`), the functions that are defined (`names`), where a statement stands (`around`), and the first
+// `numbering` and `entity`), the functions that are defined (`functions`), where a statement stands (`around`), and the first
 // of what it finds (`findings`). `limits` counts what is limited; `constants` has the values of constant expressions, and
 // `operators` the types in which operators work. Besides `check` and its types the crate hands out what a walk over a typed
 // unit needs again: the names in scope, the types of operators, the words of constants and objects, and how many locals a
@@ -18,8 +18,8 @@ mod expressions;
 mod externals;
 mod fault;
 mod findings;
+mod functions;
 mod limits;
-mod names;
 mod numbering;
 mod operators;
 mod rule;

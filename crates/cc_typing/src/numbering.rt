@@ -13,7 +13,7 @@ use std::marker::Model;
 /// The names so far with their numbers, which are 0, 1, 2 and so on in the order of first appearance.
 #[derive(Drop)]
 pub struct Numbering<'a> {
-    numbers: BTreeMap<&'a [u8], u32>,
+    numbers: BTreeMap<&'a [u8], usize>,
 }
 
 impl<'a> Model for Numbering<'a> {
@@ -38,28 +38,22 @@ impl<'a> Numbering<'a> {
     }
 
     /// The number of a name, where it has one.
-    pub fn find(&self, name: &[u8]) -> Option<u32>
+    pub fn find(&self, name: &[u8]) -> Option<usize>
         ensures { result ≡ number_of_name self.now name.now }
     {
         self.numbers.get(name).copied()
     }
 
     /// The number of a name, which gets the next one where it has none.
-    pub fn add(&mut self, name: &'a [u8]) -> Result<u32, AllocError>
+    pub fn add(&mut self, name: &'a [u8]) -> Result<usize, AllocError>
         ensures ok { IfOk result (λ n. IsNumbered self.old self.new name.now n) }
         ensures err { OnErr result (self.new ≡ self.old) }
     {
-        let Ok(next) = u32::try_from(self.numbers.len()) else {
-            return Err(AllocError);
-        };
-        match self.numbers.insert(name, next) {
-            Ok(None) => Ok(next),
-            // The name is there, so putting its number back needs no memory.
-            Ok(Some(number)) => {
-                let _ = self.numbers.insert(name, number);
-                Ok(number)
-            }
-            Err(_) => Err(AllocError),
+        if let Some(number) = self.numbers.get(name).copied() {
+            return Ok(number);
         }
+        let next = self.numbers.len();
+        self.numbers.insert(name, next)?;
+        Ok(next)
     }
 }

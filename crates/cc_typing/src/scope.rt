@@ -3,7 +3,8 @@
 ghost use Rattle.std.specs.Prelude.{◌≡◌, ◌≤◌, [], length, drop, IfOk, OnOk, option_map};
 ghost use Rattle.cc_typing.specs.Scope.{opened, declared, in_scope, is_declared, found, with_declared, first_file_scope};
 ghost use Rattle.cc_typing.specs.Entities.{entity_of, optional_entity};
-ghost use Rattle.cc_typing.specs.Bindings.{closed, file_level, from, number_of};
+ghost use Rattle.cc_typing.specs.Bindings.{closed, file_level, number_of};
+ghost use Rattle.cc_typing.specs.internal.Scopes.{from};
 
 use super::bindings::{Bindings, Newest};
 use super::entity::Entity;

@@ -1,5 +1,5 @@
 -- How the code counts what is limited.
-use Rattle.std.specs.Prelude.{ℕ, ◌+◌, List, [], ◌∷◌, Option, Some, None, if◌then◌else◌, nat_lt, is_some}
+use Rattle.std.specs.Prelude.{ℕ, ◌+◌, List, [], ◌∷◌, ◌++◌, Option, Some, None, if◌then◌else◌, nat_lt, is_some}
 use Rattle.cc_syntax.specs.Tree.{Name, Object, External, Declaration, Definition, Objects}
 use Rattle.cc_typing.specs.Limits.{most_words, object_name}
 use Rattle.cc_typing.specs.Types.{object_words}
@@ -56,8 +56,13 @@ objects_in (Declaration s) = []
 objects_in (Definition s body) = []
 objects_in (Objects t os) = os
 
--- the names of the functions that are defined after an external declaration
-abbrev pub defined_after : List (List ℕ) → External → List (List ℕ)
-defined_after d (Declaration s) = d
-defined_after d (Definition s body) = s.name.text ∷ d
-defined_after d (Objects t os) = d
+-- the name of the function that an external declaration defines, where it defines one
+abbrev pub defined_in : External → List (List ℕ)
+defined_in (Declaration s) = []
+defined_in (Definition s body) = s.name.text ∷ []
+defined_in (Objects t os) = []
+
+-- those that some external declarations define, the last first, in front of others
+abbrev pub all_defined : List External → List (List ℕ) → List (List ℕ)
+all_defined [] d = d
+all_defined (e ∷ rest) d = all_defined rest (defined_in e ++ d)

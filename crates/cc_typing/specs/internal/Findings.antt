@@ -3,6 +3,7 @@ use Rattle.std.specs.Prelude.{ℕ, ◌==◌, ◌&&◌, ◌||◌, ◌++◌, Bool,
 use Rattle.cc_tokens.specs.declared.scalar.Scalar.{Scalar}
 use Rattle.cc_syntax.specs.Tree.{Name, Expr, Declarator}
 use Rattle.cc_typing.specs.Fault.{rule_number}
+use Rattle.cc_typing.specs.internal.Functions.{Functions}
 use Rattle.cc_typing.specs.Rules.{undefined_among, Around, broken_if, optional_offences}
 use Rattle.cc_typing.specs.Scope.{Variable, Visible, in_scope, declared, is_declared}
 use Rattle.cc_typing.specs.declared.rule.Rule.TheVariants.{Redeclared}
@@ -27,15 +28,19 @@ noted first (o ∷ rest) = noted (Some (earlier first o)) rest
 pub record Found : Type 0 where
   pub first : Option Offence
   pub undefined : Option Offence
-  pub defined : List (List ℕ)
+  pub functions : Functions
 
 -- the same after a part with these offences and these calls
 abbrev pub after : Found → List Offence → List Name → Found
-after f offences calls = record f { first = noted f.first offences; undefined = noted f.undefined (undefined_among f.defined calls) }
+after f offences calls = record f { first = noted f.first offences; undefined = noted f.undefined (undefined_among f.functions.defined calls) }
 
 -- nothing is found yet
-abbrev pub nothing_found : List (List ℕ) → Found
-nothing_found defined = record { first = None; undefined = None; defined = defined }
+abbrev pub nothing_found : Functions → Found
+nothing_found functions = record { first = None; undefined = None; functions = functions }
+
+-- the same once more definitions stand before
+abbrev pub with_before : Found → List (List ℕ) → Found
+with_before f names = record f { functions = record { defined = f.functions.defined; before = names ++ f.functions.before } }
 
 -- where a statement stands
 abbrev pub around_of : Surroundings → Around

@@ -9,13 +9,10 @@ use Rattle.cc_typing.proofs.checking.first_offences.Goals as goal
 pub returns-clause-first : goal.returns-clause-first
 returns-clause-first c =
     let es = external_trees c.args.externals.now in
-    c.with_excesses.ensures ∙ ap (λ f. noted f (excesses es)) c.first.ensures
-    ∙ first-are es c.in-Ok.scope c.in-Ok-builtins.defined c.in_ok-definitions.field-0 c.new-findings.result c.all_externals-walked.new.findings c.in-Ok.ensures c.new-findings.ensures c.in_ok-walked.ensures
-    c.in-Ok-builtins.ensures
+    c.with_excesses.ensures
+    ∙ first-are es c.in-Ok.scope c.in_ok-definitions.field-0 c.new-findings.result c.in-Ok.ensures c.new-findings.ensures c.in_ok-definitions.ensures c.first.result (c.first.ensures ∙ c.in_ok-walked.ensures.first)
 
 pub returns-clause-undefined : goal.returns-clause-undefined
 returns-clause-undefined c =
     let es = external_trees c.args.externals.now in
-    c.undefined.ensures
-    ∙ undefined-are es c.in-Ok.scope c.in-Ok-builtins.defined c.in_ok-definitions.field-0 c.new-findings.result c.all_externals-walked.new.findings c.in-Ok.ensures c.new-findings.ensures c.in_ok-walked.ensures
-    c.in_ok-definitions.ensures
+    undefined-are es c.in-Ok.scope c.in_ok-definitions.field-0 c.new-findings.result c.in-Ok.ensures c.new-findings.ensures c.in_ok-definitions.ensures c.undefined.result (c.undefined.ensures ∙ c.in_ok-walked.ensures.undefined)

@@ -8,7 +8,7 @@ use Rattle.cc_typing.proofs.findings.Findings.note.Goals as goal
 pub returns : goal.returns
 returns c =
     let s = c.self.inside in
-    let before : Found = record { first = s.first; undefined = s.undefined; defined = s.defined } in
+    let before : Found = record { first = s.first; undefined = s.undefined; functions = s.functions } in
     ap (λ o. record before { first = Some o }) c.earlier.ensures
     ∙ noted_one before (record { rule = c.args.rule; at = c.args.at })
     ∙ ap (λ (f : Found). after f (broken c.args.rule c.args.at) []) c.self.view_is

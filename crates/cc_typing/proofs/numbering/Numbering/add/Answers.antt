@@ -1,31 +1,28 @@
 -- A name that is there keeps its number, and a new one gets the next.
-use Rattle.std.proofs.Common.{◌∙◌, ◌+◌, if◌then◌else◌, is_some, length, ap, sym, subst}
-use Rattle.cc_typing.specs.Numberings.{IsNumbered, numbered_in}
-use Rattle.cc_typing.proofs.NameNumbers.{IsNumbered-new, IsNumbered-again}
+use Rattle.std.proofs.Common.{◌≡◌, ◌∙◌, ◌+◌, if◌then◌else◌, is_some, None, Some, length, ap, sym, subst}
+use Rattle.cc_typing.specs.Numberings.{IsNumbered, number_of_name, numbered_in}
+use Rattle.cc_typing.proofs.NameNumbers.{get-numbered, IsNumbered-new, IsNumbered-again}
 use Rattle.cc_typing.proofs.numbering.Numbering.add.Goals as goal
 
-pub invariant_of-self : goal.invariant_of-self
-invariant_of-self c =
-    let is = IsNumbered-new c.self.inside.numbers c.insert.new.self c.args.name c.in-Ok.next c.self.invariant (c.in-Ok.ensures.1 ∙ c.len.ensures.len) (sym c.in-Ok-None.field-0-is ∙ c.in-Ok-None.ensures.old) c.in-Ok-None.ensures.updates
-    (c.in-Ok-None.ensures.len ∙ ap (λ o. length c.self.inside.numbers.entries + (if is_some o then 0 else 1)) c.in-Ok-None.field-0-is) in
+pub returns-in-Some-clause-ok : goal.returns-in-Some-clause-ok
+returns-in-Some-clause-ok c =
+    let names = numbered_in c.self.inside.numbers.entries in
+    let known : number_of_name names c.args.name.now ≡ Some c.in-Some.number =
+    sym (get-numbered c.self.inside.numbers c.args.name) ∙ sym c.get.ensures.value ∙ sym c.copied.ensures ∙ c.in-Some.is in
+    subst (λ v. IsNumbered v v c.args.name.now c.in-Some.number) c.self.view_is (IsNumbered-again names c.args.name.now c.in-Some.number c.self.invariant known)
+
+pub invariant_of-self-2 : goal.invariant_of-self-2
+invariant_of-self-2 c =
+    let old = c.self.inside.numbers in
+    let none = sym c.in_default.is ∙ c.copied.ensures ∙ c.get.ensures.value in
+    let is = IsNumbered-new old c.insert.new.self c.args.name c.len-next.result c.self.invariant c.len-next.ensures.len none c.in_ok-insert.ensures.updates.0
+    (c.in_ok-insert.ensures.len ∙ ap (λ o. length old.entries + (if is_some o then 0 else 1)) (c.in_ok-insert.ensures.old ∙ sym none)) in
     is.numbers
 
-pub invariant_of-self-in-Ok-Some : goal.invariant_of-self-in-Ok-Some
-invariant_of-self-in-Ok-Some c =
-    let is = IsNumbered-again c.self.inside.numbers c.insert-in-Ok-Some.new.self c.args.name c.in-Ok-Some.number c.self.invariant c.insert.new.self c.in-Ok.next c.insert-in-Ok-Some.result (sym c.in-Ok-Some.field-0-is ∙ c.in-Ok-Some.ensures.old)
-    c.in-Ok-Some.ensures.updates (c.in-Ok-Some.ensures.len ∙ ap (λ o. length c.self.inside.numbers.entries + (if is_some o then 0 else 1)) c.in-Ok-Some.field-0-is) c.insert-in-Ok-Some.ensures.updates c.insert-in-Ok-Some.ensures.old c.insert-in-Ok-Some.ensures.len
-    c.insert-in-Ok-Some.ensures.absent in
-    is.numbers
-
-pub returns-in-Ok-None-clause-ok : goal.returns-in-Ok-None-clause-ok
-returns-in-Ok-None-clause-ok c =
-    let is = IsNumbered-new c.self.inside.numbers c.insert.new.self c.args.name c.in-Ok.next c.self.invariant (c.in-Ok.ensures.1 ∙ c.len.ensures.len) (sym c.in-Ok-None.field-0-is ∙ c.in-Ok-None.ensures.old) c.in-Ok-None.ensures.updates
-    (c.in-Ok-None.ensures.len ∙ ap (λ o. length c.self.inside.numbers.entries + (if is_some o then 0 else 1)) c.in-Ok-None.field-0-is) in
-    subst (λ v. IsNumbered v (numbered_in c.insert.new.self.entries) c.args.name.now c.in-Ok.next) c.self.view_is is
-
-pub returns-in-Ok-Some-clause-ok : goal.returns-in-Ok-Some-clause-ok
-returns-in-Ok-Some-clause-ok c =
-    let is = IsNumbered-again c.self.inside.numbers c.insert-in-Ok-Some.new.self c.args.name c.in-Ok-Some.number c.self.invariant c.insert.new.self c.in-Ok.next c.insert-in-Ok-Some.result (sym c.in-Ok-Some.field-0-is ∙ c.in-Ok-Some.ensures.old)
-    c.in-Ok-Some.ensures.updates (c.in-Ok-Some.ensures.len ∙ ap (λ o. length c.self.inside.numbers.entries + (if is_some o then 0 else 1)) c.in-Ok-Some.field-0-is) c.insert-in-Ok-Some.ensures.updates c.insert-in-Ok-Some.ensures.old c.insert-in-Ok-Some.ensures.len
-    c.insert-in-Ok-Some.ensures.absent in
-    subst (λ v. IsNumbered v (numbered_in c.insert-in-Ok-Some.new.self.entries) c.args.name.now c.in-Ok-Some.number) c.self.view_is is
+pub returns-clause-ok : goal.returns-clause-ok
+returns-clause-ok c =
+    let old = c.self.inside.numbers in
+    let none = sym c.in_default.is ∙ c.copied.ensures ∙ c.get.ensures.value in
+    let is = IsNumbered-new old c.insert.new.self c.args.name c.len-next.result c.self.invariant c.len-next.ensures.len none c.in_ok-insert.ensures.updates.0
+    (c.in_ok-insert.ensures.len ∙ ap (λ o. length old.entries + (if is_some o then 0 else 1)) (c.in_ok-insert.ensures.old ∙ sym none)) in
+    subst (λ v. IsNumbered v (numbered_in c.insert.new.self.entries) c.args.name.now c.len-next.result) c.self.view_is is

@@ -1,6 +1,7 @@
 -- The innermost scope's names are those with the greatest numbers.
 use Rattle.std.proofs.Common.{ap, sym, ◌∙◌, ◌-◌, length}
-use Rattle.cc_typing.specs.Bindings.{from, number_of}
+use Rattle.cc_typing.specs.Bindings.{number_of}
+use Rattle.cc_typing.specs.internal.Scopes.{from}
 use Rattle.cc_typing.specs.Scope.{Visible, is_declared}
 use Rattle.cc_typing.proofs.Numbers.{is_declared-take}
 use Rattle.cc_typing.proofs.scope.Scope.declare.Goals as goal
