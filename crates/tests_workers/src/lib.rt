@@ -1,7 +1,7 @@
 //! Tests of the workers and their queue.
 //!
 //! `helpers` has works that count, and works that hold until they are let go; `ends` how workers end, `held` two workers at once and a job
-//! that is held, `many` the full queue.
+//! that is held.
 
 #[cfg(test)]
 mod ends;
@@ -9,5 +9,3 @@ mod ends;
 mod held;
 #[cfg(test)]
 mod helpers;
-#[cfg(test)]
-mod many;
