@@ -224,12 +224,13 @@ impl<N: Named, D: Disk> RecordedLibrary<N, D> {
         ensures images { IsTrue D.honest → (image : List ℕ) → D.may_leave self.new.library.disk image → RecoversTo self.new.library.units self.new.failed image }
     {
         match self.library.compact(alloc) {
-            Ok(()) => Ok(()),
-            Err(LibraryFault::DiskFault) => Err(ServiceFault::DiskFault),
-            Err(LibraryFault::Closed) => Err(ServiceFault::Closed),
-            Err(LibraryFault::Full) => Err(ServiceFault::Full),
-            Err(_) => Err(ServiceFault::OutOfMemory),
+            Ok(()) => {}
+            Err(LibraryFault::DiskFault) => return Err(ServiceFault::DiskFault),
+            Err(LibraryFault::Closed) => return Err(ServiceFault::Closed),
+            Err(LibraryFault::Full) => return Err(ServiceFault::Full),
+            Err(_) => return Err(ServiceFault::OutOfMemory),
         }
+        Ok(())
     }
 }
 
