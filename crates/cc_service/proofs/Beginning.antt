@@ -1,15 +1,13 @@
 -- A book over a library that was opened shows a state of the core: the one that the core has after opening that disk.
-use Rattle.std.proofs.Common.{◌≡◌, ℕ, zero, suc, ◌+◌, ◌<◌, ◌≤◌, Bool, true, false, IsTrue, List, [], ◌∷◌, ◌++◌, length, map, Option, Some, None, refl, sym, ap, ◌∙◌, subst, arith}
+use Rattle.std.proofs.Common.{◌≡◌, ℕ, zero, suc, ◌+◌, ◌<◌, Bool, true, false, List, [], ◌∷◌, ◌++◌, length, map, Option, Some, refl, sym, ap, ◌∙◌, subst, arith}
 use Rattle.std.specs.Prelude.{slice_get}
 use Rattle.std.specs.FinMap.{empty}
-use Rattle.std.proofs.lemmas.Option.{slice_get_within}
-use Rattle.cc_disk.specs.declared.cell.Cell.{Cell}
 use Rattle.cc_disk.specs.Images.{LeavesAlone}
 use Rattle.cc_disk.specs.Model.{bytes_of, IsImage, settled}
 use Rattle.cc_journal.specs.Format.{HoldsRecords, records}
 use Rattle.cc_library.specs.declared.command.Command as made
 use Rattle.cc_library.specs.Apply.{AreAccepted, library_of}
-use Rattle.cc_library.specs.Recovered.{StandFor, View}
+use Rattle.cc_library.specs.Recovered.{StandFor}
 use Rattle.cc_core.specs.declared.command.Numbered.{Numbered}
 use Rattle.cc_core.specs.declared.command.Reply.{Reply}
 use Rattle.cc_core.specs.declared.contents.Contents.{Contents}

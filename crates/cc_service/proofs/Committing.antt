@@ -1,12 +1,11 @@
 -- What each exit of a commit owes, over what contracts see of a book: that its type keeps what it keeps, and the answer.
-use Rattle.std.proofs.Common.{◌≡◌, ◌≢◌, ℕ, zero, suc, ◌+◌, ◌<◌, ◌≤◌, inl, inr, Bool, true, false, IsTrue, List, [], ◌∷◌, ◌++◌, length, Option, Some, None, Result, Ok, Err, refl, sym, ap, ◌∙◌, subst, arith, length-append}
-use Rattle.std.specs.Prelude.{◌⊎◌, ◌==◌, IsOk, slice_get, is_some, if◌then◌else◌}
-use Rattle.std.specs.FinMap.{get, contains_key}
+use Rattle.std.proofs.Common.{◌≡◌, ◌≢◌, ℕ, zero, suc, ◌+◌, inl, inr, Bool, true, false, IsTrue, List, [], ◌∷◌, ◌++◌, length, Result, Ok, Err, refl, sym, ap, ◌∙◌, subst, arith, length-append}
+use Rattle.std.specs.Prelude.{◌==◌, IsOk, if◌then◌else◌}
 use Rattle.cc_disk.specs.Images.{LeavesOnly}
 use Rattle.cc_library.specs.declared.command.Command as made
 use Rattle.cc_library.specs.declared.fault.LibraryFault.{LibraryFault}
 use Rattle.cc_library.specs.declared.fault.LibraryFault.TheVariants as fault
-use Rattle.cc_library.specs.Apply.{Units, apply, after, after_all}
+use Rattle.cc_library.specs.Apply.{Units, after, after_all}
 use Rattle.cc_library.specs.Answers as answers
 use Rattle.cc_library.specs.Recovered.{View, RecoversAlone, RecoversOneOf}
 use Rattle.cc_history.specs.declared.command.Command.{Command}
@@ -16,7 +15,7 @@ use Rattle.cc_history.specs.declared.entry.Entry.{Entry}
 use Rattle.cc_history.specs.declared.entry.Receipt.{Receipt}
 use Rattle.cc_history.specs.declared.reply.Reply.{Reply}
 use Rattle.cc_history.specs.declared.reply.Reply.TheVariants as reply
-use Rattle.cc_history.specs.Calls.{HasAgreedUnit, HasAgreed, change_of, changes_of, done_by, reply_of, reply_of_change}
+use Rattle.cc_history.specs.Calls.{HasAgreedUnit, HasAgreed, change_of, changes_of, reply_of, reply_of_change}
 use Rattle.cc_history.specs.History.{Holder, Chronicle, HaveAgreed, IsOwn, IsRecorded, LastStands, Replays, entry_of}
 use Rattle.cc_history.specs.Laws.{RecordsKeep, next_of, holder_of}
 use Rattle.cc_history.proofs.Histories.{snoc_cases}

@@ -1,18 +1,18 @@
 -- What a commit answers is what the core does for a job with that command: Begin to Ack, or to a refusal or Fail, and the book
 -- afterwards shows the state that is reached.
-use Rattle.std.proofs.Common.{◌≡◌, ◌⊎◌, ℕ, ◌+◌, ◌*◌, ◌<◌, ◌≤◌, inl, inr, Bool, true, false, cond, IsTrue, List, [], ◌∷◌, ◌++◌, length, length-drop, take, drop, map, get_or, Option, Some, None, Result, Ok, Err, refl, sym, ap, ◌∙◌, subst, arith, append_assoc, length-append}
-use Rattle.std.specs.Prelude.{IsOk, ◌==◌, nat_le, if◌then◌else◌}
-use Rattle.std.specs.FinMap.{contains_key, get, insert, remove, empty}
+use Rattle.std.proofs.Common.{◌≡◌, ◌⊎◌, ℕ, ◌+◌, ◌<◌, ◌≤◌, inl, inr, Bool, true, false, IsTrue, List, [], ◌∷◌, ◌++◌, length, length-drop, take, drop, map, get_or, Option, Some, None, Result, Ok, Err, refl, sym, ap, ◌∙◌, subst, arith, append_assoc, length-append}
+use Rattle.std.specs.Prelude.{IsOk, if◌then◌else◌}
+use Rattle.std.specs.FinMap.{contains_key, insert, remove}
 use Rattle.std.proofs.lemmas.Bool.{le-leb, lt-leb}
 use Rattle.std.proofs.lemmas.List.{map-append, length-map, length-take-le}
 use Rattle.cc_disk.specs.declared.cell.Cell.{Cell}
-use Rattle.cc_disk.specs.Model.{bytes_of, IsImage, unsettled, written, synced}
+use Rattle.cc_disk.specs.Model.{bytes_of, IsImage, unsettled, written}
 use Rattle.cc_disk.specs.Images.{DiffersWithin, IsWritten, LeavesAlone}
 use Rattle.std.specs.Int.{w32, to_le_bytes}
 use Rattle.cc_disk.specs.internal.Laws.{bytes_are_image}
 use Rattle.cc_disk.proofs.Cells.{bytes_of-synced}
 use Rattle.cc_journal.specs.Commit.{Commit, FailsIn, IsCommitted, append_commit, area_begin}
-use Rattle.cc_journal.specs.Format.{HasAreaByte, HoldsRecords, header, records, room_of}
+use Rattle.cc_journal.specs.Format.{HasAreaByte, HoldsRecords, records}
 use Rattle.cc_journal.proofs.Records.{length-records_push, length-four_bytes}
 use Rattle.cc_library.specs.declared.command.Command as made
 use Rattle.cc_library.specs.declared.command.Command.TheVariants as change
@@ -21,10 +21,8 @@ use Rattle.cc_library.specs.Answers.{commit_of, room_with}
 use Rattle.cc_library.specs.Body.{body_of}
 use Rattle.cc_library.specs.Recovered.{View}
 use Rattle.cc_core.specs.declared.command.Numbered.{Numbered}
-use Rattle.cc_core.specs.declared.command.Reply.{Reply}
 use Rattle.cc_core.specs.declared.command.Reply.TheVariants as replies
 use Rattle.cc_core.specs.declared.contents.Contents.{Contents}
-use Rattle.cc_core.specs.declared.contents.Core.{Core}
 use Rattle.cc_core.specs.declared.contents.Due.{Due}
 use Rattle.cc_core.specs.declared.contents.Due.TheVariants as due
 use Rattle.cc_core.specs.declared.contents.Phase.{Phase}
@@ -33,29 +31,27 @@ use Rattle.cc_core.specs.declared.event.Event.TheVariants as event
 use Rattle.cc_core.specs.declared.fault.Refusal.{Refusal}
 use Rattle.cc_core.specs.declared.fault.Refusal.TheVariants as refusal
 use Rattle.cc_core.specs.declared.ids.ClientId.{ClientId}
-use Rattle.cc_core.specs.declared.job.Job.{Job}
 use Rattle.cc_core.specs.Rules.{Rules}
 use Rattle.cc_core.specs.Job as job
 use Rattle.cc_core.specs.Store.{append_of, gate_of, stepped, with_cells, FailsTo}
 use Rattle.cc_core.specs.StoreState.{StoreState}
-use Rattle.cc_core.specs.Step.{Begun, Begins, IsFree, Step, commands, jobs_begun, numbered_now, ticked}
+use Rattle.cc_core.specs.Step.{Begun, Begins, IsFree, commands, jobs_begun, numbered_now, ticked}
 use Rattle.cc_core.proofs.Held.{begin_most, begin_least}
 use Rattle.cc_history.specs.declared.command.Command.{Command}
-use Rattle.cc_history.specs.declared.command.Asked.TheVariants.{Change}
 use Rattle.cc_history.specs.declared.entry.Entry.{Entry}
 use Rattle.cc_history.specs.declared.entry.Receipt.{Receipt}
 use Rattle.cc_history.specs.declared.reply.Reply as history
 use Rattle.cc_history.specs.declared.reply.Reply.TheVariants as reply
 use Rattle.cc_history.specs.Calls.{change_of, changes_of, done_by, reply_of_change}
-use Rattle.cc_history.specs.History.{Holder, IsRecorded, changes, entry_of}
+use Rattle.cc_history.specs.History.{Holder, changes}
 use Rattle.cc_history.proofs.Histories.{changes-push}
 use Rattle.cc_service.specs.declared.fault.ServiceFault.{ServiceFault}
 use Rattle.cc_service.specs.declared.fault.ServiceFault.TheVariants.{Exists, Absent, Full, DiskFault, Closed, Estranged, OutOfMemory}
-use Rattle.cc_service.specs.Book.{BookView, chronicle_of}
-use Rattle.cc_service.specs.Answers.{CommitAnswers, IsAsked, IsDone, IsRefused, done_in, failed_in}
+use Rattle.cc_service.specs.Book.{BookView}
+use Rattle.cc_service.specs.Answers.{CommitAnswers, IsDone, IsRefused, failed_in}
 use Rattle.cc_service.specs.Disk.{ChangesDisk}
 use Rattle.cc_service.specs.Core.{Shows, ShowsDisk, ShowsOrder, Has, IsPhase, Steps, IsCommitOf, done_steps, refused_steps, failed_first, failed_last}
-use Rattle.cc_service.proofs.Disks.{committed_cells, within_is_image, within_is_written, written_same, committed_same, first_byte_kept}
+use Rattle.cc_service.proofs.Disks.{within_is_image, within_is_written, written_same, committed_same, first_byte_kept}
 
 -- ---- what the core's Begin comes to
 

@@ -1,27 +1,24 @@
 -- What a compaction answers is what the core's rewrite does: its four device steps, or those up to the failure.
-use Rattle.std.proofs.Common.{◌≡◌, ◌⊎◌, ℕ, ◌+◌, ◌-◌, ◌*◌, ◌≤◌, inl, inr, Bool, true, false, IsTrue, List, [], ◌∷◌, ◌++◌, length, map, drop, take, get_or, Option, Some, None, Result, Ok, Err, refl, sym, ap, ◌∙◌, subst, arith, length-append}
+use Rattle.std.proofs.Common.{◌≡◌, ◌⊎◌, ℕ, ◌+◌, ◌≤◌, inl, inr, Bool, true, false, IsTrue, List, [], ◌∷◌, length, get_or, None, Result, Ok, Err, refl, sym, ap, ◌∙◌, subst, arith, length-append}
 use Rattle.std.proofs.lemmas.List.{length-map}
 use Rattle.cc_disk.specs.declared.cell.Cell.{Cell}
 use Rattle.cc_disk.specs.Model.{bytes_of, IsImage, written, synced}
 use Rattle.cc_disk.specs.Images.{DiffersWithin, IsWritten, LeavesAlone}
 use Rattle.cc_disk.specs.internal.Laws.{bytes_are_image}
 use Rattle.cc_disk.proofs.Cells.{bytes_of-synced}
-use Rattle.cc_journal.specs.Commit.{Commit, FailsIn, IsCommitted, area_begin, other_area, rewrite_commit}
+use Rattle.cc_journal.specs.Commit.{Commit, FailsIn, IsCommitted, other_area, rewrite_commit}
 use Rattle.cc_journal.specs.Format.{HasAreaByte, HoldsRecords, records, room_of}
 use Rattle.cc_library.specs.declared.command.Command as made
 use Rattle.cc_library.specs.Apply.{Units}
 use Rattle.cc_library.specs.Answers.{rewrites_in}
 use Rattle.cc_library.specs.Compact.{compacted}
-use Rattle.cc_library.specs.Recovered.{View}
-use Rattle.cc_core.specs.declared.command.Reply.{Reply}
 use Rattle.cc_core.specs.declared.contents.Contents.{Contents}
 use Rattle.cc_core.specs.declared.contents.RewriteDue.{RewriteDue}
 use Rattle.cc_core.specs.declared.contents.RewriteDue.TheVariants as left
 use Rattle.cc_core.specs.declared.contents.Phase.TheVariants.{Idle, Rewriting, Failed}
-use Rattle.cc_core.specs.declared.event.Event.{Event}
 use Rattle.cc_core.specs.declared.event.Event.TheVariants as event
 use Rattle.cc_core.specs.Rules.{Rules}
-use Rattle.cc_core.specs.Store.{decided, first_written, rewrite_of, rewrite_stepped, settled_all, with_cells}
+use Rattle.cc_core.specs.Store.{first_written, rewrite_of, rewrite_stepped, settled_all, with_cells}
 use Rattle.cc_core.specs.StoreState.{StoreState}
 use Rattle.cc_core.proofs.Held.{begin_most}
 use Rattle.cc_service.specs.declared.fault.ServiceFault.{ServiceFault}
@@ -29,9 +26,9 @@ use Rattle.cc_service.specs.declared.fault.ServiceFault.TheVariants.{Exists, Abs
 use Rattle.cc_service.specs.Book.{BookView}
 use Rattle.cc_service.specs.Answers.{CompactAnswers}
 use Rattle.cc_service.specs.Disk.{CompactsDisk}
-use Rattle.cc_service.specs.Core.{IsPhase, IsRewriteOf, Shows, ShowsDisk, Steps, rewritten_steps, rewrite_failed_first, rewrite_failed_last}
+use Rattle.cc_service.specs.Core.{IsPhase, IsRewriteOf, Shows, Steps, rewritten_steps, rewrite_failed_first, rewrite_failed_last}
 use Rattle.cc_service.proofs.Cores.{has_byte, length-cells, length-written, order_same, phase_at}
-use Rattle.cc_service.proofs.Disks.{committed_cells, committed_same, within_is_image, written_same}
+use Rattle.cc_service.proofs.Disks.{committed_same, within_is_image, written_same}
 
 module _ {D P : Type 0} (rules : Rules P) (honest : Bool) (seen : D → List ℕ) (may_leave : D → List ℕ → Type 0) where
   abbrev Shown : BookView D → Contents P → Type 0

@@ -1,6 +1,5 @@
 -- How it is kept that whatever a crash left since an earlier call holds the calls until then.
-use Rattle.std.proofs.Common.{◌≡◌, ◌⊎◌, ℕ, ◌+◌, ◌≤◌, inl, inr, Bool, true, false, IsTrue, List, [], ◌∷◌, ◌++◌, length, take, Option, Some, None, Result, Ok, Err, refl, sym, ap, ◌∙◌, subst, arith, append_assoc, length-append}
-use Rattle.std.specs.Prelude.{slice_get}
+use Rattle.std.proofs.Common.{◌≡◌, ℕ, ◌≤◌, inl, inr, false, List, [], ◌∷◌, ◌++◌, length, take, Result, Ok, Err, refl, sym, ap, ◌∙◌, subst, arith, append_assoc, length-append}
 use Rattle.std.proofs.lemmas.List.{take-append-le, take_all}
 use Rattle.cc_disk.specs.Images.{LeavesOnly}
 use Rattle.cc_library.specs.declared.command.Command as made
@@ -8,7 +7,6 @@ use Rattle.cc_library.specs.Apply.{Units, after}
 use Rattle.cc_library.specs.Recovered.{View, RecoversAlone, RecoversOneOf}
 use Rattle.cc_history.specs.declared.command.Command.{Command}
 use Rattle.cc_history.specs.declared.command.Asked.{Asked}
-use Rattle.cc_history.specs.declared.command.Asked.TheVariants.{Change}
 use Rattle.cc_history.specs.declared.entry.Entry.{Entry}
 use Rattle.cc_history.specs.declared.entry.Receipt.{Receipt}
 use Rattle.cc_history.specs.Calls.{change_of}
@@ -17,7 +15,7 @@ use Rattle.cc_history.proofs.Histories.{snoc_cases}
 use Rattle.cc_service.specs.declared.fault.ServiceFault.{ServiceFault}
 use Rattle.cc_service.specs.declared.fault.ServiceFault.TheVariants.{Exists, Absent, Full, DiskFault, Closed, Estranged, OutOfMemory}
 use Rattle.cc_service.specs.Book.{BookView, RecoversTo, chronicle_of}
-use Rattle.cc_service.specs.Answers.{CommitAnswers, CompactAnswers, LookAnswers, failed_in}
+use Rattle.cc_service.specs.Answers.{CommitAnswers, CompactAnswers, LookAnswers}
 use Rattle.cc_service.specs.Since.{AreSince, HoldsFrom, IsSince}
 use Rattle.cc_service.proofs.Cores.{nothing_behind}
 

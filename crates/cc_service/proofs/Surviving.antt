@@ -1,8 +1,7 @@
 -- The core's theorem, at the state that a book shows.
-use Rattle.std.proofs.Common.{◌≡◌, ◌⊎◌, ℕ, zero, suc, inl, inr, List, [], ◌∷◌, ◌++◌, take, Some, None, refl, sym, ap, subst, ◌∙◌, append_assoc, true}
+use Rattle.std.proofs.Common.{◌≡◌, ℕ, zero, suc, inl, inr, List, [], ◌∷◌, ◌++◌, take, Some, None, refl, sym, ap, subst, ◌∙◌, append_assoc}
 use Rattle.std.specs.Prelude.{slice_get}
 use Rattle.std.proofs.lemmas.List.{map-append}
-use Rattle.cc_unit.specs.declared.unit.StoredUnit.{StoredUnit}
 use Rattle.cc_library.specs.declared.command.Command as made
 use Rattle.cc_core.specs.declared.command.Numbered.{Numbered}
 use Rattle.cc_core.specs.Rules.{Rules}
@@ -13,7 +12,7 @@ use Rattle.cc_core.specs.Run.{EachImageIsRight, EachImageSurvives, EachUnit, IsB
 use Rattle.cc_core.proofs.Orders.{EachUnit-after}
 use Rattle.cc_core.proofs.Whole.{IsRightCommand}
 use Rattle.cc_library.specs.declared.command.Command.TheVariants as change
-use Rattle.cc_library.specs.Apply.{Units, after}
+use Rattle.cc_library.specs.Apply.{Units}
 use Rattle.cc_library.specs.Recovered.{Recovers}
 use Rattle.cc_history.specs.declared.entry.Entry.{Entry}
 use Rattle.cc_history.specs.History.{EachAgrees, HaveAgreed, Replays, units_after}

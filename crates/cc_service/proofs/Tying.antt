@@ -1,6 +1,6 @@
 -- How the tie between a book and the core is kept: a commit hands in its job with the pieces that gave its unit, and then takes the core's
 -- steps; a compaction takes those of a rewrite. That a run goes on so is the core's own law.
-use Rattle.std.proofs.Common.{◌≡◌, ◌⊎◌, ℕ, zero, suc, ◌+◌, ◌≤◌, inl, inr, Bool, true, false, IsTrue, List, [], ◌∷◌, ◌++◌, map, Option, Some, None, Result, Ok, Err, refl, sym, ap, ◌∙◌, subst, arith}
+use Rattle.std.proofs.Common.{◌≡◌, ℕ, ◌+◌, ◌≤◌, inl, inr, Bool, true, false, List, [], ◌∷◌, ◌++◌, map, Option, Some, None, Result, Ok, Err, refl, sym, ap, ◌∙◌, subst, arith}
 use Rattle.std.specs.FinMap.{FinMap, get, get-empty}
 use Rattle.std.specs.Ordering.{nat_cmp}
 use Rattle.cc_library.specs.declared.command.Command as made
@@ -10,15 +10,12 @@ use Rattle.cc_disk.specs.Images.{LeavesAlone}
 use Rattle.cc_journal.specs.Format.{HoldsRecords}
 use Rattle.cc_core.specs.declared.command.Reply.{Reply}
 use Rattle.cc_core.specs.declared.command.Reply.TheVariants as replies
-use Rattle.cc_core.specs.declared.command.Request.{Request}
 use Rattle.cc_core.specs.declared.contents.Contents.{Contents}
 use Rattle.cc_core.specs.declared.contents.Phase.{Phase}
 use Rattle.cc_core.specs.declared.event.Event.{Event}
 use Rattle.cc_core.specs.declared.event.Event.TheVariants as event
 use Rattle.cc_core.specs.declared.fault.Refusal.TheVariants as refusal
-use Rattle.cc_core.specs.declared.ids.CallId.{CallId}
 use Rattle.cc_core.specs.declared.ids.ClientId.{ClientId}
-use Rattle.cc_core.specs.declared.ids.PartIndex.{PartIndex}
 use Rattle.cc_core.specs.declared.ids.WorkerId.{WorkerId}
 use Rattle.cc_core.specs.declared.job.Job.{Job}
 use Rattle.cc_core.specs.Rules.{Rules, HasBuilt}
@@ -38,7 +35,7 @@ use Rattle.cc_service.specs.declared.fault.ServiceFault.TheVariants.{Exists, Abs
 use Rattle.cc_service.specs.Book.{BookView}
 use Rattle.cc_service.specs.Answers.{CommitAnswers, CompactAnswers, IsLook, LookAnswers}
 use Rattle.cc_service.specs.Disk.{ChangesDisk, CompactsDisk}
-use Rattle.cc_service.specs.Core.{Has, IsPhase, Shows, ShowsDisk, ShowsOrder, IsCommitOf, IsRewriteOf, Steps, rewritten_steps, rewrite_failed_first, rewrite_failed_last}
+use Rattle.cc_service.specs.Core.{Has, IsPhase, Shows, ShowsDisk, IsCommitOf, IsRewriteOf, Steps, rewritten_steps, rewrite_failed_first, rewrite_failed_last}
 use Rattle.cc_service.specs.Tie.{IsTied}
 use Rattle.cc_service.proofs.Cores.{commits, nothing_behind, order_same}
 use Rattle.cc_service.proofs.Rewriting.{compacts}

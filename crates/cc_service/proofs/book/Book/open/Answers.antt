@@ -1,5 +1,5 @@
 -- What the library's opening says of the disk handed in, said of the one handed out, whose bytes are the same.
-use Rattle.std.proofs.Common.{◌≡◌, ◌∙◌, List, ℕ, ap, sym, subst}
+use Rattle.std.proofs.Common.{◌∙◌, List, ℕ, ap, sym, subst}
 use Rattle.cc_journal.specs.Format.{HoldsRecords}
 use Rattle.cc_service.specs.Book.{BookView}
 use Rattle.cc_service.proofs.book.Book.open.Goals as goal

@@ -1,28 +1,26 @@
 -- Three exits put an entry: those with a receipt. At each the types of book and client keep what they keep, and the call is
 -- recorded, all by `entering`. After the device has failed the book keeps the change that failed.
-use Rattle.std.proofs.Common.{◌≡◌, ℕ, ◌+◌, ◌≤◌, Bool, false, true, IsTrue, List, [], ◌∷◌, ◌++◌, length, refl, sym, ap, ◌∙◌, subst, arith, vec_len}
+use Rattle.std.proofs.Common.{◌≡◌, ◌+◌, ◌≤◌, false, IsTrue, List, [], ◌∷◌, ◌++◌, length, refl, sym, ap, ◌∙◌, subst}
 use Rattle.cc_library.specs.declared.command.Command as made
 use Rattle.cc_library.specs.Body.{body_of}
 use Rattle.cc_library.specs.Answers.{room_with}
-use Rattle.cc_library.specs.Apply.{apply, after, after_all}
-use Rattle.cc_library.specs.Recovered.{View, RecoversAlone}
+use Rattle.cc_library.specs.Apply.{apply, after}
+use Rattle.cc_library.specs.Recovered.{View}
 use Rattle.cc_history.specs.declared.command.Asked.TheVariants.{Change}
 use Rattle.cc_history.specs.declared.entry.Entry.{Entry}
 use Rattle.cc_history.specs.declared.entry.Receipt.{Receipt}
-use Rattle.cc_history.specs.declared.reply.Reply.{Reply}
 use Rattle.cc_history.specs.declared.reply.Reply.TheVariants as reply
 use Rattle.cc_history.specs.Calls.{change_of, reply_of_change}
 use Rattle.cc_history.specs.History.{Holder, IsRecorded, LastStands, entry_of}
-use Rattle.cc_service.specs.Book.{BookView, IsRecordedLibrary, RecoversTo, chronicle_of}
+use Rattle.cc_service.specs.Book.{BookView, IsRecordedLibrary, RecoversTo}
 use Rattle.cc_service.specs.Client.{IsClient}
-use Rattle.cc_service.specs.Answers.{IsAsked, IsDone, IsRefused, done_in, failed_in}
+use Rattle.cc_service.specs.Answers.{IsDone, IsRefused}
 use Rattle.cc_service.specs.Disk.{ChangesDisk}
 use Rattle.cc_service.specs.declared.fault.ServiceFault.{ServiceFault}
 use Rattle.cc_service.specs.declared.fault.ServiceFault.TheVariants.{DiskFault}
 use Rattle.std.proofs.Common.{Result, Ok, Err}
 use Rattle.cc_service.specs.internal.Decide.{answer_reply}
-use Rattle.cc_service.specs.declared.recorded.Answer.{Answer}
-use Rattle.cc_service.proofs.Committing.{entering, receipt_is, keeps_failed, alone_of, done_is_ok}
+use Rattle.cc_service.proofs.Committing.{entering, receipt_is, keeps_failed, done_is_ok}
 use Rattle.cc_service.proofs.recorded.RecordedLibrary.commit.Given.{Over}
 use Rattle.cc_service.proofs.recorded.RecordedLibrary.commit.Goals as goal
 

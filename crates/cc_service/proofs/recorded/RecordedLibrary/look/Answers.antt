@@ -1,5 +1,5 @@
 -- The one exit that puts an entry: as at a commit, by `entering`. A look hands in no unit and changes nothing.
-use Rattle.std.proofs.Common.{◌≡◌, ℕ, ◌+◌, List, [], ◌∷◌, ◌++◌, length, refl, sym, ap, ◌∙◌, subst}
+use Rattle.std.proofs.Common.{◌≡◌, ◌+◌, List, [], ◌∷◌, ◌++◌, length, refl, sym, ap, ◌∙◌, subst}
 use Rattle.cc_library.specs.declared.command.Command as made
 use Rattle.cc_library.specs.Apply.{after_all}
 use Rattle.cc_history.specs.declared.entry.Entry.{Entry}
@@ -8,7 +8,6 @@ use Rattle.cc_history.specs.Calls.{reply_of}
 use Rattle.cc_history.specs.History.{Holder, IsRecorded, LastStands, entry_of}
 use Rattle.cc_service.specs.Book.{BookView, IsRecordedLibrary, chronicle_of}
 use Rattle.cc_service.specs.Client.{IsClient}
-use Rattle.cc_service.specs.Answers.{LookAnswers}
 use Rattle.cc_service.proofs.Committing.{entering, receipt_is, look_agrees, look_changes_nothing}
 use Rattle.cc_service.proofs.recorded.RecordedLibrary.look.Given.{Over}
 use Rattle.cc_service.proofs.recorded.RecordedLibrary.look.Goals as goal
