@@ -1,0 +1,13 @@
+-- What the library's opening says of the disk handed in, said of the one handed out, whose bytes are the same.
+use Rattle.std.proofs.Common.{◌∙◌, List, ℕ, ap, sym, subst}
+use Rattle.cc_journal.specs.Format.{HoldsRecords}
+use Rattle.cc_service.specs.Book.{BookView}
+use Rattle.cc_service.proofs.book.Book.open.Goals as goal
+
+pub begin-requires-clause-records : goal.begin-requires-clause-records
+begin-requires-clause-records g c = λ h.
+    subst (λ (b : List ℕ). HoldsRecords b c.in-Ok.library.area c.in-Ok.library.bodies) (sym (c.in-Ok.ensures.reads h).same) (c.in-Ok.ensures.records h)
+
+pub returns-in-Ok-again-clause-fresh : goal.returns-in-Ok-again-clause-fresh
+returns-in-Ok-again-clause-fresh g c = λ h area holds.
+    ap (λ (b : BookView g.row.D.Denot). b.base) c.begin.ensures.book ∙ c.in-Ok-again.ensures ∙ c.units.ensures ∙ (c.in-Ok.ensures.fresh h area holds).1

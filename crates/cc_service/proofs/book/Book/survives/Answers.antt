@@ -1,0 +1,35 @@
+use Rattle.std.proofs.Common.{◌≡◌, ℕ, List, IsTrue, Some, length, subst}
+use Rattle.std.specs.Prelude.{slice_get}
+use Rattle.cc_build.specs.Compiling.{compiling, Keeps, is_right}
+use Rattle.cc_service.specs.Book.{BookView}
+use Rattle.cc_service.specs.Promise.{SurvivesCrash}
+use Rattle.cc_service.specs.Since.{BookSince, HoldsFrom}
+use Rattle.cc_service.specs.Tie.{IsTied}
+use Rattle.cc_service.proofs.Surviving.{held_agrees, tied_survives}
+use Rattle.cc_core.specs.Run.{EachUnit, IsRightOr}
+use Rattle.cc_library.specs.Apply.{Units}
+use Rattle.cc_library.specs.Recovered.{Recovers}
+use Rattle.cc_service.proofs.book.Book.survives.Goals as goal
+
+pub returns-clause-reached : goal.returns-clause-reached
+returns-clause-reached g c =
+    let D = g.D.Disk in
+    subst (λ (b : BookSince g.row.D.Denot). IsTrue D.honest → IsTied compiling Keeps D.seen D.may_leave b.book) c.self.view_is c.self.invariant.tied
+
+pub returns-clause-now : goal.returns-clause-now
+returns-clause-now g c =
+    let D = g.D.Disk in
+    subst (λ (b : BookSince g.row.D.Denot). IsTrue D.honest → (image : List ℕ) → D.may_leave b.book.library.disk image → SurvivesCrash b.book image) c.self.view_is
+    (λ h image left. tied_survives compiling Keeps c.crash_law.ensures.survives c.crash_law.ensures.units D.seen D.may_leave c.self.inside.recorded (c.self.invariant.tied h) image left)
+
+pub returns-clause-since : goal.returns-clause-since
+returns-clause-since g c =
+    let D = g.D.Disk in
+    subst (λ (b : BookSince g.row.D.Denot). IsTrue D.honest → (k : ℕ) (then' : BookView g.row.D.Denot) → slice_get b.since k ≡ Some then' → (image : List ℕ)
+    → D.left_since b.book.library.disk (D.moment then'.library.disk) image → HoldsFrom b.book (length then'.history) image) c.self.view_is
+    (λ h k then' at image left. (c.self.invariant.since h k then' at).holds image left)
+
+pub returns-clause-units : goal.returns-clause-units
+returns-clause-units g c =
+    subst (λ (b : BookSince g.row.D.Denot). (entries : ℕ) (image : List ℕ) (library : Units) → HoldsFrom b.book entries image → Recovers image library → EachUnit (IsRightOr is_right b.book.base) library) c.self.view_is
+    (held_agrees c.units_agree.ensures c.self.inside.recorded c.kept.ensures.replays c.kept.ensures.agreed c.kept.ensures.agreed_failed)

@@ -1,0 +1,21 @@
+-- In reading order.
+-- the numbers of the faults
+pub mod Fault
+-- what the type of a client keeps
+pub mod Client
+-- what contracts see of a book, and what the type of a library with its history keeps
+pub mod Book
+-- when a call has which answer, and what it leaves
+pub mod Answers
+-- what a call does to the bytes of the disk
+pub mod Disk
+-- how a book shows a state of the protocol core, and what a call is on it
+pub mod Core
+-- what a crash at any moment since an earlier call has left
+pub mod Since
+-- how a book is tied to the theorem of the protocol core
+pub mod Tie
+-- what the type of a book keeps, and what follows for whatever a crash leaves
+pub mod Promise
+-- what serves private contracts
+pub mod internal

@@ -1,0 +1,3 @@
+-- What serves private contracts.
+-- the reply that an answer to a change is
+pub mod Decide

@@ -1,0 +1,238 @@
+// The value of a service's lock.
+ghost use Rattle.std.specs.Prelude.{◌≡◌, ℕ, List, [], ◌∷◌, ◌++◌, true, false, IsTrue, IfErr, IfOk, MatchResult, Some, slice_get, length};
+ghost use Rattle.std.specs.FinMap.{empty};
+ghost use Rattle.cc_disk.specs.Images.{LeavesAlone, LeavesOnly, OnlyReads};
+ghost use Rattle.cc_journal.specs.Format.{HoldsRecords};
+ghost use Rattle.cc_core.specs.Run.{EachUnit, IsRightOr};
+ghost use Rattle.cc_library.specs.Answers.{OpenFaults};
+ghost use Rattle.cc_library.specs.Apply.{Units, after};
+ghost use Rattle.cc_library.specs.Recovered.{Recovers, RecoversAlone, RecoversOneOf, StandFor};
+ghost use Rattle.cc_build.specs.Compiling.{compiling, Keeps, is_right};
+ghost use Rattle.cc_history.specs.Calls.{change_of};
+ghost use Rattle.cc_history.specs.History.{IsLegal, units_after};
+ghost use Rattle.cc_service.specs.Book.{BookView, RecoversTo};
+ghost use Rattle.cc_service.specs.Answers.{CommitAnswers, CompactAnswers, IsBegun, IsLook, LookAnswers};
+ghost use Rattle.cc_service.specs.Disk.{ChangesDisk, CompactsDisk};
+ghost use Rattle.cc_service.specs.Promise.{SurvivesCrash};
+ghost use Rattle.cc_service.specs.Since.{HoldsFrom};
+ghost use Rattle.cc_service.specs.Tie.{IsTied};
+
+use crate::client::Client;
+use crate::fault::ServiceFault;
+use crate::named::Named;
+use crate::recorded::RecordedLibrary;
+use cc_build::{CcBuild, made_units_are_built};
+use cc_core::laws::{crash_law, turn_law};
+use cc_disk::{Disk, History};
+use cc_history::{Asked, Command, Receipt, units_agree};
+use cc_library::{Library, LibraryFault, UnitMap};
+use std::alloc::Global;
+use std::marker::Model;
+use std::sync::ledger;
+
+/// The value of a service's lock: the library with the history of its calls.
+///
+/// Its type keeps the tie to the crash theorem: on an honest disk some run of the protocol core, from an opened disk on, leads to a state
+/// that this book shows. It keeps too what a crash at any moment since the opening, or since any call, has left. A clause sees the
+/// book, and the books as they were: at the opening and after each call.
+#[derive(Drop)]
+pub struct Book<N: Named, D: Disk> {
+    pub(crate) recorded: RecordedLibrary<N, D>,
+    // How it was at the opening and after each call, for contracts alone.
+    pub(crate) since: History<RecordedLibrary<N, D>>,
+}
+
+impl<N: Named, D: Disk> Model for Book<N, D> {
+    ghost use Rattle.cc_service.specs.contracts.recorded.RecordedLibrary as recorded;
+    ghost use Rattle.cc_service.specs.Since.{BookSince, since_code};
+    ghost use Rattle.cc_service.specs.Promise.{IsBook};
+    ghost use Rattle.cc_service.specs.Book.{BookView, book_code};
+    ghost use Rattle.cc_library.specs.contracts.units.UnitMap as units;
+    ghost use Rattle.cc_library.specs.contracts.command.Command as change;
+    ghost use Rattle.cc_history.specs.contracts.entry.Entry as entry;
+
+    ghost Value = { BookSince D };
+
+    ghost coded = { since_code (book_code D.code units.the_row.coded entry.the_row.coded change.the_row.coded) };
+
+    ghost view = { λ b. record { book = b.recorded; since = b.since.items } };
+
+    ghost invariant = { λ b. IsBook D.honest D.seen D.may_leave D.moment D.left_since (record { book = b.recorded; since = b.since.items }) };
+}
+
+impl<N: Named, D: Disk> Book<N, D> {
+    /// Opens the library on a disk, and begins a history over it: the map that was found is the base.
+    ///
+    /// Refusals, with the disk handed back: those of the library's opening, in its order, 35 where the device failed in the call, 38
+    /// where there is no right header, 37 where an open record does not fit its area or the records are no list of accepted commands.
+    /// 40 where memory ran out. No refusal changes a byte.
+    pub fn open(
+        alloc: Global,
+        disk: D,
+        calls: ledger::Book<N>,
+    ) -> Result<Book<N, D>, (LibraryFault, D)>
+        // The base that the service's parameter names, where an honest disk's bytes recover to one.
+        requires named { IsTrue D.honest → (units : Units) → Recovers (D.seen disk) units → units ≡ N.base }
+        requires counted { calls.total ≡ 0 }
+
+        // No call has been made yet, and the base is what was recovered.
+        ensures begun { IfOk result (λ b. IsBegun b.book) }
+        ensures since { IfOk result (λ b. b.since ≡ b.book ∷ []) }
+        ensures recovered { IfOk result (λ b. IsTrue D.honest → Recovers (D.seen disk) b.book.base) }
+        ensures kept { IfOk result (λ b. IsTrue D.honest → (image : List ℕ) → D.may_leave b.book.library.disk image → RecoversAlone image b.book.base) }
+        ensures records { IfOk result (λ b. IsTrue D.honest → HoldsRecords (D.seen disk) b.book.library.area b.book.library.bodies) }
+        ensures fresh { IfOk result (λ b. IsTrue D.honest → (area : ℕ) → HoldsRecords (D.seen disk) area [] → b.book.base ≡ empty) }
+
+        // When each refusal comes.
+        ensures sound { IfOk result (λ b. D.failures b.book.library.disk ≡ D.failures disk) }
+        ensures refused { IfErr result (λ e. OpenFaults D.honest (D.seen disk) (D.failures disk) (D.failures e.1) e.0) }
+
+        // The disk has the same size and the same bytes, and no crash leaves anything new.
+        ensures size { MatchResult result (λ b. D.size b.book.library.disk ≡ D.size disk) (λ e. D.size e.1 ≡ D.size disk) }
+        ensures reads { MatchResult result
+            (λ b. IsTrue D.honest → OnlyReads D.seen D.may_leave D.moment D.left_since disk b.book.library.disk)
+            (λ e. IsTrue D.honest → OnlyReads D.seen D.may_leave D.moment D.left_since disk e.1) }
+    {
+        match Library::open(alloc, disk) {
+            Ok(library) => match library.units().again() {
+                Ok(base) => Ok(Book::begin(alloc, base, library, calls)),
+                Err(_) => {
+                    drop(calls);
+                    Err((LibraryFault::OutOfMemory, library.into_disk()))
+                }
+            },
+            Err(refused) => {
+                drop(calls);
+                Err(refused)
+            }
+        }
+    }
+
+    // The book over a library that was opened, whose map is the base.
+    fn begin(
+        alloc: Global,
+        base: UnitMap,
+        library: Library<D>,
+        calls: ledger::Book<N>,
+    ) -> Book<N, D>
+        requires same { base ≡ library.units }
+        requires usable { library.closed ≡ false }
+        requires named { IsTrue D.honest → base ≡ N.base }
+        requires images { IsTrue D.honest → (image : List ℕ) → D.may_leave library.disk image → RecoversAlone image library.units }
+        requires stand { StandFor library.bodies library.units }
+        requires records { IsTrue D.honest → HoldsRecords (D.seen library.disk) library.area library.bodies }
+        requires settled { IsTrue D.honest → LeavesAlone (D.seen library.disk) (D.may_leave library.disk) }
+        requires counted { calls.total ≡ 0 }
+        ensures book { result.book ≡ record { base = base; library = library; history = []; failed = [] } }
+        ensures since { result.since ≡ result.book ∷ [] }
+    {
+        let recorded = RecordedLibrary::new(alloc, base, library, calls);
+        recorded.kept();
+        let since = History::new().and(&recorded);
+        Book { recorded, since }
+    }
+
+    /// Makes a change, and puts the call into the history with its answer. At Ok it is kept: every crash from then on leaves it.
+    ///
+    /// Refusals, in this order: 36 where the device has failed before; 39 where the client's last receipt does not stand; 31
+    /// where the name to be added has a unit, 32 where the one to be replaced or withdrawn has none, both of them in the history
+    /// with a receipt; 34 where the record does not fit; 35 where the device failed. 40 where memory ran out, before the first
+    /// device call. After 34, 36, 39 and 40 all is as before; after 35 history and map are, and the disk has the map with or
+    /// without the change.
+    pub fn commit(
+        &mut self,
+        alloc: Global,
+        client: &mut Client<N>,
+        command: Command,
+    ) -> Result<Receipt, ServiceFault>
+        ensures answers { CommitAnswers D.failures self.old.book client.old command self.new.book client.new result }
+        ensures since { self.new.since ≡ self.old.since ++ self.new.book ∷ [] }
+
+        // A crash at any moment of the call leaves the map before it or the map after it.
+        ensures moments { IsTrue D.honest → self.old.book.library.closed ≡ false
+            → LeavesOnly D.moment D.left_since self.old.book.library.disk self.new.book.library.disk
+            (RecoversOneOf self.old.book.library.units (after self.old.book.library.units (change_of command))) }
+
+        // What becomes of the disk's bytes.
+        ensures disk { IsTrue D.honest → ChangesDisk D.seen D.may_leave (change_of command) self.old.book.library self.new.book.library result }
+
+        // From then on, too: at Ok the map after it, alone.
+        ensures images { IsTrue D.honest → (image : List ℕ) → D.may_leave self.new.book.library.disk image → RecoversTo self.new.book.library.units self.new.book.failed image }
+    {
+        self.recorded.kept();
+        command.kept();
+        made_units_are_built();
+        turn_law::<CcBuild>();
+        let result = self.recorded.commit(alloc, client, command);
+        self.recorded.kept();
+        self.since = self.since.and(&self.recorded);
+        result
+    }
+
+    /// Looks at a name or at all names, and puts the call into the history with its answer, which is in the receipt's entry.
+    ///
+    /// 39 where the client's last receipt does not stand; 40 where memory ran out. After both all is as before. Whether the
+    /// device has failed does not matter.
+    pub fn look(
+        &mut self,
+        alloc: Global,
+        client: &mut Client<N>,
+        asked: Asked,
+    ) -> Result<Receipt, ServiceFault>
+        requires { IsLook asked }
+        ensures answers { LookAnswers self.old.book client.old asked self.new.book client.new result }
+        ensures since { self.new.since ≡ self.old.since ++ self.new.book ∷ [] }
+    {
+        self.recorded.kept();
+        let result = self.recorded.look(alloc, client, asked);
+        self.recorded.kept();
+        self.since = self.since.and(&self.recorded);
+        result
+    }
+
+    /// Writes the library's records anew, one Add per name. It makes no entry in the history, and the map stays, at every moment.
+    ///
+    /// Refusals, in this order: 36 where the device has failed before, 34 where the new records do not fit, 35 where the device
+    /// failed. 40 where memory ran out, before the first device call. After 34, 36 and 40 all is as before.
+    pub fn compact(&mut self, alloc: Global) -> Result<(), ServiceFault>
+        ensures answers { CompactAnswers D.failures self.old.book self.new.book result }
+        ensures since { self.new.since ≡ self.old.since ++ self.new.book ∷ [] }
+        ensures moments { IsTrue D.honest → self.old.book.library.closed ≡ false
+            → LeavesOnly D.moment D.left_since self.old.book.library.disk self.new.book.library.disk (λ image. RecoversAlone image self.old.book.library.units) }
+        // What becomes of the disk's bytes.
+        ensures disk { IsTrue D.honest → CompactsDisk D.seen D.may_leave self.old.book.library self.new.book.library result }
+        ensures images { IsTrue D.honest → (image : List ℕ) → D.may_leave self.new.book.library.disk image → RecoversTo self.new.book.library.units self.new.book.failed image }
+    {
+        self.recorded.kept();
+        turn_law::<CcBuild>();
+        let result = self.recorded.compact(alloc);
+        self.recorded.kept();
+        self.since = self.since.and(&self.recorded);
+        result
+    }
+
+    /// What is known of a book at any time, whatever order the calls of all threads took the lock in: a law, which does nothing.
+    pub fn survives(&self)
+        // The history is legal: each answer is the one that one thread gets there. The map is the base with its changes.
+        ensures legal { IsLegal self.now.book.base self.now.book.history }
+        ensures map { self.now.book.library.units ≡ units_after self.now.book.base self.now.book.history }
+
+        // Some run of the core leads from an opened disk to a state that the book shows.
+        ensures reached { IsTrue D.honest → IsTied compiling Keeps D.seen D.may_leave self.now.book }
+
+        // So what a crash leaves now holds each acknowledged command, and its units are right.
+        ensures now { IsTrue D.honest → (image : List ℕ) → D.may_leave self.now.book.library.disk image → SurvivesCrash self.now.book image }
+
+        // And whatever a crash has left since the opening, or since any call, holds all calls until then.
+        ensures since { IsTrue D.honest → (k : ℕ) (then' : BookView D) → slice_get self.now.since k ≡ Some then' → (image : List ℕ)
+            → D.left_since self.now.book.library.disk (D.moment then'.library.disk) image → HoldsFrom self.now.book (length then'.history) image }
+
+        // Each unit of what is recovered so is one that was found at the opening, or its image agrees with its source.
+        ensures units { (entries : ℕ) (image : List ℕ) (library : Units) → HoldsFrom self.now.book entries image → Recovers image library
+            → EachUnit (IsRightOr is_right self.now.book.base) library }
+    {
+        self.recorded.kept();
+        units_agree();
+        crash_law::<CcBuild>();
+    }
+}
