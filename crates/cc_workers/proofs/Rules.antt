@@ -12,7 +12,8 @@ use Rattle.cc_workers.specs.declared.rule.Role.{Role}
 use Rattle.cc_workers.specs.declared.rule.Role.TheVariants.{Owner, Out, Joined}
 use Rattle.cc_workers.specs.declared.rule.Hand.{Hand}
 use Rattle.cc_workers.proofs.Multisets.{permuted}
-use Rattle.cc_workers.specs.Rule.{Kept, SeesAll, AllTaken, owns, is_out, is_live, first_hand, new_hand, joined_hand, sends_one, takes_one, splits_one, joins_one}
+use Rattle.cc_workers.specs.internal.AllTaken.{AllTaken}
+use Rattle.cc_workers.specs.Rule.{Kept, SeesAll, owns, is_out, is_live, first_hand, new_hand, joined_hand, sends_one, takes_one, splits_one, joins_one}
 
 -- ---- sums over views
 

@@ -6,3 +6,5 @@ pub mod Queue
 pub mod Rule
 -- the numbers of the faults
 pub mod Fault
+-- what serves private contracts
+pub mod internal

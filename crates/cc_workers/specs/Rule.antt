@@ -1,5 +1,5 @@
 -- The rule of the queue: what all passes have sent is what all have taken and what the queue holds.
-use Rattle.std.specs.Prelude.{◌≡◌, ℕ, ◌+◌, List, [], ◌∷◌, ◌++◌, sum_by, IsPermutation}
+use Rattle.std.specs.Prelude.{◌≡◌, ℕ, ◌+◌, List, [], ◌∷◌, ◌++◌, sum_by}
 use mathlib.Core.Option.{some}
 use lib.ListN.{get_elem?}
 use Rattle.cc_workers.specs.declared.task.Item.{Item}
@@ -73,7 +73,3 @@ pub record Kept (queue : List Item) (passes : List Hand) : Type 0 where
 -- where the pool's own pass has as many joins as splits, its lists are all that was sent and taken
 abbrev pub SeesAll : Hand → List Item → Type 0
 SeesAll v queue = v.role ≡ Owner → v.splits ≡ v.joins → SameItems v.sent (v.taken ++ queue)
-
--- where it has as many joins as splits and nothing is queued, what was sent in all is what was taken in all, each item as often
-abbrev pub AllTaken : Hand → Type 0
-AllTaken v = v.role ≡ Owner → v.splits ≡ v.joins → IsPermutation v.sent v.taken

@@ -1,21 +1,12 @@
 -- What contracts say of passes.
 use Rattle.std.specs.Prelude.{◌≡◌, ℕ, zero, suc, List, [], ◌∷◌, ◌++◌, IsPermutation}
 use Rattle.cc_workers.specs.declared.task.Item.{Item}
-use Rattle.cc_workers.specs.declared.task.Item.TheVariants.{Task, Stop}
+use Rattle.cc_workers.specs.declared.task.Item.TheVariants.{Stop}
 
 -- what a pass has sent and taken
 pub record Lists : Type 0 where
   pub sent : List Item
   pub taken : List Item
-
--- so many parts of a job, from one on
-abbrev pub parts_from : (job part count : ℕ) → List Item
-parts_from job part zero = []
-parts_from job part (suc count) = Task job part ∷ parts_from job (suc part) count
-
--- the first so many parts of a job
-abbrev pub parts_of : (job count : ℕ) → List Item
-parts_of job = parts_from job 0
 
 -- so many words to stop
 abbrev pub stops : ℕ → List Item

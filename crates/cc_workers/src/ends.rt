@@ -5,7 +5,8 @@
 
 ghost use Rattle.std.specs.Prelude.{◌≡◌, [], IfOk, OnErr, OnOk, IfSome, IfNone};
 ghost use Rattle.cc_workers.specs.declared.rule.Role.TheVariants.{Owner, Out};
-ghost use Rattle.cc_workers.specs.Rule.{sends_one, takes_one, splits_one, joins_one, new_hand, first_hand, is_live, AllTaken};
+ghost use Rattle.cc_workers.specs.Rule.{sends_one, takes_one, splits_one, joins_one, new_hand, first_hand, is_live};
+ghost use Rattle.cc_workers.specs.internal.AllTaken.{AllTaken};
 
 use crate::named::Queued;
 use crate::rule::{Back, Cut, Hand, Law, Sends, Takes};

@@ -1,7 +1,8 @@
 use Rattle.std.proofs.Common.{ap, ◌∙◌, subst}
 use Rattle.cc_workers.specs.declared.rule.Hand.{Hand}
 use Rattle.cc_workers.specs.Queue.{known}
-use Rattle.cc_workers.specs.Rule.{is_live, AllTaken}
+use Rattle.cc_workers.specs.Rule.{is_live}
+use Rattle.cc_workers.specs.internal.AllTaken.{AllTaken}
 use Rattle.cc_workers.proofs.Rules.{takes, sees, all_taken}
 use Rattle.cc_workers.proofs.ends.Ends.try_take.Goals as goal
 use Rattle.cc_workers.proofs.ends.Ends.try_take.Goals.{in-Ok, in-Err}

@@ -1,0 +1,3 @@
+-- What private contracts speak of.
+-- what the pool's own pass knows once all passes are back
+pub mod AllTaken
