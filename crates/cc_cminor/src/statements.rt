@@ -9,7 +9,7 @@ ghost use Rattle.cc_syntax.specs.Erase.{expression_tree, optional_tree, optional
 ghost use Rattle.cc_typing.specs.Bindings.{closed};
 ghost use Rattle.cc_resolve.specs.Environment.{inner, behind, behind_beginning, with_local, with_locals};
 ghost use Rattle.cc_cminor.specs.Cminor as cminor;
-ghost use Rattle.cc_cminor.specs.Code as code;
+ghost use Rattle.cc_cminor.specs.internal.Statements as codes;
 ghost use Rattle.cc_cminor.specs.Code.{expression_of, statement_of, in_sequence};
 ghost use Rattle.cc_cminor.specs.internal.Lowering.{initialised, declarator_code, declared_code, started, leaving, lowered, all_lowered, behind_all, body_code};
 ghost use Rattle.cc_cminor.specs.internal.Taken.{code_before, behind_code};
@@ -46,7 +46,7 @@ fn initialise(
     initial: &Option<Box<Tree>>,
     into: &mut Vec<Statement>,
 ) -> Result<(), AllocError>
-    ensures { OnOk result (code.statements_of into.new.items ≡ code.statements_of into.old.items ++ initialised names.now.layout names.now number (optional_tree initial.now)) }
+    ensures { OnOk result (codes.statements_of into.new.items ≡ codes.statements_of into.old.items ++ initialised names.now.layout names.now number (optional_tree initial.now)) }
 {
     match initial {
         None => Ok(()),
@@ -73,7 +73,7 @@ fn declarator<'a>(
     into: &mut Vec<Statement>,
 ) -> Result<(), AllocError>
     ensures names { OnOk result (names.new ≡ with_local scalar tree.now.name.bytes.items names.old) }
-    ensures code { OnOk result (code.statements_of into.new.items ≡ code.statements_of into.old.items ++ declarator_code names.old.layout scalar (declarator_tree tree.now) names.old) }
+    ensures code { OnOk result (codes.statements_of into.new.items ≡ codes.statements_of into.old.items ++ declarator_code names.old.layout scalar (declarator_tree tree.now) names.old) }
 {
     let number = names.len();
     let zero = constant(alloc, 0)?;

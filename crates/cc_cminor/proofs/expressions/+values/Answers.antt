@@ -9,6 +9,7 @@ use Rattle.cc_resolve.specs.Layout as layout
 use Rattle.cc_resolve.specs.declared.layout.Callee.{Callee}
 use Rattle.cc_cminor.specs.Cminor as cminor
 use Rattle.cc_cminor.specs.Code as code
+use Rattle.cc_cminor.specs.internal.Statements as codes
 use Rattle.cc_cminor.specs.Code.{expression_of, statement_of, in_sequence}
 use Rattle.cc_cminor.specs.declared.code.Expression.{Expression}
 use Rattle.cc_cminor.specs.declared.code.Statement.{Statement}
@@ -50,11 +51,11 @@ put_all-loop-tree-preserved t c =
     let item = expression_tree c.tree-item.result in
     let left = drop-item c.args.trees.now i c.tree-item.result c.loop-tree-test.true c.tree-item.is in
     let after = expressions_of (drop (i + 1) c.args.trees.now) in
-    let before = code.statements_of c.loop-tree.all.items in
+    let before = codes.statements_of c.loop-tree.all.items in
     let rest = put_all v.layout v c.in_ok-variable.variable after in
     let statement : statement_of c.into_inner.result ≡ put_expr v.layout v j item = ap statement_of c.into_inner.ensures ∙ c.in_ok-code.ensures in
     let next : c.in_ok-variable.variable ≡ suc j = let e = c.in_ok-variable.ensures in omega arith in
-    ap (λ (l : List Statement). code.statements_of l ++ rest) c.in_ok-push.ensures.items
+    ap (λ (l : List Statement). codes.statements_of l ++ rest) c.in_ok-push.ensures.items
     ∙ ap (λ l. l ++ rest) (statements_push c.loop-tree.all.items c.into_inner.result)
     ∙ append_assoc before (statement_of c.into_inner.result ∷ []) rest
     ∙ ap (λ s. before ++ (s ∷ rest)) statement

@@ -1,6 +1,7 @@
 use Rattle.std.proofs.Common.{◌≡◌, ◌++◌, drop, true}
 use Rattle.cc_syntax.specs.internal.Arguments.{expressions_of}
 use Rattle.cc_cminor.specs.Code as code
+use Rattle.cc_cminor.specs.internal.Statements as codes
 use Rattle.cc_cminor.specs.internal.Lowering.{are_plain, all_plain, put_all}
 use Rattle.cc_cminor.proofs.expressions.+values.Given as goal
 
@@ -17,4 +18,4 @@ invariant-all_plain-loop-tree l =
 -- with those that are left they are all
 abbrev pub invariant-put_all-loop-tree : goal.invariant-put_all-loop-tree
 invariant-put_all-loop-tree l =
-    code.statements_of l.all.items ++ put_all l.names.layout l.names l.variable (expressions_of (drop l.tree-index l.trees)) ≡ put_all l.fn.names.layout l.fn.names l.fn.k (expressions_of l.fn.trees)
+    codes.statements_of l.all.items ++ put_all l.names.layout l.names l.variable (expressions_of (drop l.tree-index l.trees)) ≡ put_all l.fn.names.layout l.fn.names l.fn.k (expressions_of l.fn.trees)

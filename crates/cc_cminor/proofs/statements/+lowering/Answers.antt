@@ -5,6 +5,7 @@ use Rattle.cc_syntax.specs.Tree.{Block}
 use Rattle.cc_syntax.specs.declared.ast.Statement as tree
 use Rattle.cc_cminor.specs.Cminor as cminor
 use Rattle.cc_cminor.specs.Code as code
+use Rattle.cc_cminor.specs.internal.Statements as codes
 use Rattle.cc_cminor.specs.Code.{statement_of, in_sequence}
 use Rattle.cc_cminor.specs.internal.Lowering.{lowered}
 use Rattle.cc_cminor.specs.internal.Taken.{taken_of}
@@ -75,10 +76,10 @@ statements-loop-tree-preserved t c =
     let b = c.args.in_loop in
     let s = statement_tree c.tree-item.result in
     let all = statements_of c.args.trees.now in
-    let done = code.statements_of c.loop-tree.all.items in
+    let done = codes.statements_of c.loop-tree.all.items in
     let left = drop-item c.args.trees.now c.loop-tree.tree-index c.tree-item.result c.loop-tree-test.true c.tree-item.is in
     let before = subst (λ l. Listing b done (statements_of l) v all c.args.names.now) left c.loop-tree.invariant in
-    let more : code.statements_of c.push.new.self.items ≡ done ++ (lowered v.layout b v s ∷ []) =
-    ap code.statements_of c.in_ok-push.ensures.items ∙ statements_push c.loop-tree.all.items c.into_inner.result
+    let more : codes.statements_of c.push.new.self.items ≡ done ++ (lowered v.layout b v s ∷ []) =
+    ap codes.statements_of c.in_ok-push.ensures.items ∙ statements_push c.loop-tree.all.items c.into_inner.result
     ∙ ap (λ a. done ++ (a ∷ [])) (ap statement_of c.into_inner.ensures ∙ c.in_ok-code.ensures.code) in
-    listing-next b done (code.statements_of c.push.new.self.items) s (statements_of (drop (c.loop-tree.tree-index + 1) c.args.trees.now)) all v c.statement.new.names c.args.names.now before c.in_ok-code.ensures.names more
+    listing-next b done (codes.statements_of c.push.new.self.items) s (statements_of (drop (c.loop-tree.tree-index + 1) c.args.trees.now)) all v c.statement.new.names c.args.names.now before c.in_ok-code.ensures.names more

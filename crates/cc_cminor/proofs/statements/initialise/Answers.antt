@@ -2,7 +2,7 @@ use Rattle.std.proofs.Common.{◌≡◌, ◌++◌, ◌∷◌, [], Some, suc, ◌
 use Rattle.cc_syntax.specs.Erase.{expression_tree, optional_tree}
 use Rattle.cc_syntax.specs.declared.ast.Expression as tree
 use Rattle.cc_cminor.specs.Cminor as cminor
-use Rattle.cc_cminor.specs.Code as code
+use Rattle.cc_cminor.specs.internal.Statements as codes
 use Rattle.cc_cminor.specs.Code.{statement_of}
 use Rattle.cc_cminor.specs.internal.Lowering.{using, initialised}
 use Rattle.cc_cminor.specs.internal.Taken.{taken_of, behind_code, code_before}
@@ -16,10 +16,10 @@ returns-in_ok-push-in-Some c =
     let n = c.args.number in
     let e = expression_tree c.deref.result.now in
     let x = c.in_ok-before-in-Some.field-0 in
-    let before = code.statements_of c.args.into.now.items in
+    let before = codes.statements_of c.args.into.now.items in
     let initial : optional_tree c.args.initial.now ≡ Some e = ap optional_tree c.in-Some.is ∙ ap (λ (t : tree.Expression). Some (expression_tree t)) (sym c.deref.ensures) in
     let written : statement_of c.into_inner.result ≡ using v.layout v (suc n) e (λ y. cminor.Set n y) =
     ap statement_of c.into_inner.ensures ∙ c.in_ok-code-in-Some.ensures ∙ ap (behind_code (code_before x.before)) c.in_ok-statement-in-Some.ensures
     ∙ initial-is v.layout v n c.in_ok-above-in-Some.field-0 e (taken_of x.before x.expression) c.in_ok-above-in-Some.ensures c.in_ok-before-in-Some.ensures.value in
-    ap code.statements_of c.in_ok-push-in-Some.ensures.items ∙ statements_push c.args.into.now.items c.into_inner.result ∙ ap (λ s. before ++ (s ∷ [])) written
+    ap codes.statements_of c.in_ok-push-in-Some.ensures.items ∙ statements_push c.args.into.now.items c.into_inner.result ∙ ap (λ s. before ++ (s ∷ [])) written
     ∙ sym (ap (λ o. before ++ initialised v.layout v n o) initial)
