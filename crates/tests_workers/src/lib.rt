@@ -2,6 +2,7 @@
 //!
 //! `helpers` has works that count, and works that hold until they are let go; `ends` how workers end, `held` two workers at once and a job
 //! that is held.
+#![tactic(auto)]
 
 #[cfg(test)]
 mod ends;
