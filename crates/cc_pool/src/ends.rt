@@ -1,0 +1,191 @@
+//! The queue's two ends, and a pass of it. Only these functions call the channel.
+//!
+//! Whoever holds the one end holds the other: a worker that waits on the queue keeps it open itself, so its receive ends with an item
+//! and never because all senders are gone.
+
+ghost use Rattle.std.specs.Prelude.{◌≡◌, [], IfOk, OnErr, OnOk, IfSome, IfNone};
+ghost use Rattle.cc_pool.specs.declared.rule.Role.TheVariants.{Owner, Out};
+ghost use Rattle.cc_pool.specs.Rule.{sends_one, takes_one, splits_one, joins_one, new_hand, first_hand, is_live};
+ghost use Rattle.cc_pool.specs.internal.AllTaken.{AllTaken};
+
+use crate::named::Queued;
+use crate::rule::{Back, Cut, Hand, Law, Sends, Takes};
+use crate::task::Item;
+use crossbeam_channel::{RuledReceiver, RuledSender, bounded_with};
+use std::alloc::{AllocError, Global};
+use std::marker::{Model, PhantomData};
+use std::sync::Wait;
+
+type Place = crossbeam_channel::Pass<Item, Hand>;
+
+/// How many items the queue holds at most.
+pub const PLACES: usize = 64;
+
+// The ends of a queue that no type names.
+#[derive(Drop)]
+struct Queue {
+    sender: RuledSender<Item, Hand, Law>,
+    receiver: RuledReceiver<Item, Hand, Law>,
+}
+
+/// A queue with nothing in it, for one pool, that no type names yet. Contracts see its name.
+#[derive(Drop)]
+pub struct Fresh {
+    queue: Queue,
+    pass: Place,
+}
+
+impl Model for Fresh {
+    ghost use Rattle.std.specs.Prelude.{◌≡◌};
+    ghost use Rattle.crossbeam_channel.specs.Ends.{sends_on, receives_on};
+    ghost use Rattle.cc_pool.specs.Queue.{QueueName, name_of, IsSeatOf, known};
+    ghost use Rattle.cc_pool.specs.Rule.{first_hand};
+
+    ghost Value = { QueueName };
+
+    ghost view = { λ f. name_of (sends_on f.queue.sender) };
+
+    ghost invariant = { λ f. (receives_on f.queue.receiver ≡ sends_on f.queue.sender) × IsSeatOf (name_of (sends_on f.queue.sender)) f.pass × (known f.pass ≡ first_hand) };
+}
+
+/// A pass of the queue. Contracts see what it knows.
+#[derive(Drop)]
+pub struct Seat<N: Queued> {
+    pass: Place,
+    of: PhantomData<N>,
+}
+
+impl<N: Queued> Model for Seat<N> {
+    ghost use Rattle.cc_pool.specs.declared.rule.Hand.{Hand};
+    ghost use Rattle.cc_pool.specs.Queue.{IsSeatOf, known};
+
+    ghost Value = { Hand };
+
+    ghost view = { λ s. known s.pass };
+
+    ghost invariant = { λ s. IsSeatOf N.queue s.pass };
+}
+
+/// The end that items go in at, and the end that they come out of.
+#[derive(Drop)]
+pub struct Ends<N: Queued> {
+    queue: Queue,
+    of: PhantomData<N>,
+}
+
+impl<N: Queued> Model for Ends<N> {
+    ghost use Rattle.std.specs.Prelude.{◌≡◌, ⊤};
+    ghost use Rattle.crossbeam_channel.specs.Ends.{sends_on, receives_on};
+    ghost use Rattle.cc_pool.specs.Queue.{name_of};
+
+    ghost Value = { ⊤ };
+
+    ghost view = { λ _. tt };
+
+    ghost invariant = { λ e. (name_of (sends_on e.queue.sender) ≡ N.queue) × (name_of (receives_on e.queue.receiver) ≡ N.queue) };
+}
+
+impl Fresh {
+    /// A queue with nothing in it.
+    pub fn new(alloc: Global) -> Result<Fresh, AllocError> {
+        let (sender, receiver, pass) = bounded_with::<Item, Hand, Law, Global>(alloc, PLACES)?;
+        Ok(Fresh {
+            queue: Queue { sender, receiver },
+            pass,
+        })
+    }
+
+    // The queue, once a type names it.
+    pub(crate) fn open<N: Queued>(self) -> (Ends<N>, Seat<N>)
+        requires { self ≡ N.queue }
+        ensures { result.1 ≡ first_hand }
+    {
+        let Fresh { queue, pass } = self;
+        let ends = Ends {
+            queue,
+            of: PhantomData,
+        };
+        let seat = Seat {
+            pass,
+            of: PhantomData,
+        };
+        (ends, seat)
+    }
+}
+
+impl<N: Queued> Ends<N> {
+    pub(crate) fn try_clone(&self) -> Result<Ends<N>, AllocError> {
+        let sender = self.queue.sender.try_clone()?;
+        let receiver = self.queue.receiver.try_clone()?;
+        Ok(Ends {
+            queue: Queue { sender, receiver },
+            of: PhantomData,
+        })
+    }
+
+    // Puts an item behind all others. It waits while the queue is full, and fails only where all receivers are gone.
+    pub(crate) fn send<R: Wait>(&self, rt: &R, seat: &mut Seat<N>, item: Item) -> Result<(), Item>
+        requires { is_live seat.old.role ≡ 1 }
+        ensures ok { OnOk result (seat.new ≡ sends_one seat.old item) }
+        ensures err { OnErr result (seat.new ≡ seat.old) }
+    {
+        match self
+            .queue
+            .sender
+            .send_as::<Sends, R>(rt, &mut seat.pass, item)
+        {
+            Ok(()) => Ok(()),
+            Err(refused) => Err(refused.into_inner()),
+        }
+    }
+
+    // Takes the first item. It waits while there is none, and answers None only where all senders are gone.
+    pub(crate) fn take<R: Wait>(&self, rt: &R, seat: &mut Seat<N>) -> Option<Item>
+        requires { is_live seat.old.role ≡ 1 }
+        ensures some { IfSome result (λ item. seat.new ≡ takes_one seat.old item) }
+        ensures none { IfNone result (seat.new ≡ seat.old) }
+    {
+        self.queue
+            .receiver
+            .recv_as::<Takes, R>(rt, &mut seat.pass)
+            .ok()
+    }
+
+    // Takes the first item if there is one. With none, where no pass but the pool's own is out, all that was sent was taken.
+    pub(crate) fn try_take<R: Wait>(&self, rt: &R, seat: &mut Seat<N>) -> Option<Item>
+        requires { is_live seat.old.role ≡ 1 }
+        ensures some { IfSome result (λ item. seat.new ≡ takes_one seat.old item) }
+        ensures none { IfNone result ((seat.new ≡ seat.old) × AllTaken seat.old) }
+    {
+        match self
+            .queue
+            .receiver
+            .try_recv_as::<Takes, R>(rt, &mut seat.pass)
+        {
+            Ok(item) => Some(item),
+            Err(_) => None,
+        }
+    }
+
+    // One more pass.
+    pub(crate) fn split(&self, own: &mut Seat<N>) -> Seat<N>
+        requires { own.old.role ≡ Owner }
+        ensures own { own.new ≡ splits_one own.old }
+        ensures answer { result ≡ new_hand }
+    {
+        Seat {
+            pass: self.queue.sender.another::<Cut>(&mut own.pass),
+            of: PhantomData,
+        }
+    }
+
+    // Takes a pass in.
+    pub(crate) fn join(&self, own: &mut Seat<N>, other: Seat<N>)
+        requires own { own.old.role ≡ Owner }
+        requires other { other.role ≡ Out }
+        ensures { own.new ≡ joins_one own.old other }
+    {
+        let Seat { pass, of: _ } = other;
+        self.queue.sender.absorb::<Back>(&mut own.pass, pass);
+    }
+}

@@ -1,0 +1,172 @@
+//! How workers start and end.
+//!
+//! A worker that ends hands its pass back over a channel with a place for each. The handle of its thread is let go: a thread's handle
+//! stays with the thread that made it, and the pool is shared by many.
+
+ghost use Rattle.std.specs.Prelude.{◌≡◌, ◌+◌, ◌++◌, length, OnOk};
+ghost use Rattle.cc_pool.specs.declared.rule.Role.TheVariants.{Owner};
+ghost use Rattle.cc_pool.specs.Shared.{stops, sent_by};
+
+use crate::ends::{Ends, Seat};
+use crate::fault::WorkersFault;
+use crate::named::Queued;
+use crate::seats::{Own, Pass, Taker};
+use crate::task::{Item, Work};
+use crate::worker::work;
+use crossbeam_channel::{Receiver, Sender};
+use std::alloc::{AllocError, Global};
+use std::sync::{Arc, Wait};
+use std::thread::{Builder, Threads};
+
+/// A worker's stack in bytes: as much as a main thread usually has, so that what can be done there can be done here.
+const STACK: usize = 8 << 20;
+
+// Starts so many workers, which hand their passes back there. Answers how many were started: all, where there is no fault.
+pub(crate) fn hire<N, R, W>(
+    rt: &R,
+    alloc: Global,
+    ends: &Ends<N>,
+    own: &mut Own<N>,
+    back: &Sender<Taker<N>>,
+    count: usize,
+    works: W,
+) -> (usize, Option<WorkersFault>)
+where
+    N: Queued + Send + Sync + 'static,
+    R: Threads + Wait + Copy + Send + 'static,
+    W: Work + Drop + Send + Sync + 'static,
+{
+    let Ok(works) = Arc::new(alloc, works) else {
+        return (0, Some(WorkersFault::OutOfMemory));
+    };
+    for started in 0..count {
+        if let Err(fault) = start_one(*rt, ends, own, back, &works) {
+            return (started, Some(fault));
+        }
+    }
+    (count, None)
+}
+
+// Starts a worker.
+fn start_one<N, R, W>(
+    rt: R,
+    ends: &Ends<N>,
+    own: &mut Own<N>,
+    back: &Sender<Taker<N>>,
+    works: &Arc<W>,
+) -> Result<(), WorkersFault>
+where
+    N: Queued + Send + Sync + 'static,
+    R: Threads + Wait + Copy + Send + 'static,
+    W: Work + Drop + Send + Sync + 'static,
+{
+    let (Ok(theirs), Ok(works), Ok(back)) = (ends.try_clone(), Arc::try_clone(works), another(back))
+    else {
+        return Err(WorkersFault::OutOfMemory);
+    };
+    let taker = own.taker(ends);
+    if spawned(rt, theirs, taker, works, back) {
+        Ok(())
+    } else {
+        Err(WorkersFault::WorkersGone)
+    }
+}
+
+fn another<N: Queued>(back: &Sender<Taker<N>>) -> Result<Sender<Taker<N>>, AllocError> {
+    Ok(back.clone()?)
+}
+
+// Whether a thread was made that works so.
+fn spawned<N, R, W>(
+    rt: R,
+    ends: Ends<N>,
+    taker: Taker<N>,
+    works: Arc<W>,
+    back: Sender<Taker<N>>,
+) -> bool
+where
+    N: Queued + Send + Sync + 'static,
+    R: Threads + Wait + Copy + Send + 'static,
+    W: Work + Drop + Send + Sync + 'static,
+{
+    Builder::new()
+        .stack_size(STACK)
+        .spawn(&rt, move || work(&rt, &ends, taker, &*works, &back))
+        .is_ok()
+}
+
+// Sends each of so many workers the word to stop, and takes the pass of each in.
+pub(crate) fn dismiss<N: Queued, R: Wait>(
+    rt: &R,
+    ends: &Ends<N>,
+    seat: &mut Seat<N>,
+    back: &Receiver<Taker<N>>,
+    count: usize,
+) -> Result<(), WorkersFault>
+    requires { seat.old.role ≡ Owner }
+    ensures role { seat.new.role ≡ Owner }
+    ensures splits { seat.new.splits ≡ seat.old.splits }
+    ensures joins { OnOk result (seat.new.joins ≡ seat.old.joins + count) }
+    ensures sent { OnOk result (seat.new.sent ≡ seat.old.sent ++ stops count) }
+{
+    stop(rt, ends, seat, count)?;
+    take_back(rt, ends, seat, back, count)
+}
+
+// Takes the passes of so many workers in.
+fn take_back<N: Queued, R: Wait>(
+    rt: &R,
+    ends: &Ends<N>,
+    seat: &mut Seat<N>,
+    back: &Receiver<Taker<N>>,
+    count: usize,
+) -> Result<(), WorkersFault>
+    requires { seat.old.role ≡ Owner }
+    ensures role { seat.new.role ≡ Owner }
+    ensures splits { seat.new.splits ≡ seat.old.splits }
+    ensures joins { OnOk result (seat.new.joins ≡ seat.old.joins + count) }
+    ensures sent { seat.new.sent ≡ seat.old.sent }
+{
+    for _i in 0..count {
+        match back.recv(rt) {
+            Ok(taker) => ends.join(seat, taker.into_seat()),
+            Err(_) => return Err(WorkersFault::WorkersGone),
+        }
+    }
+    Ok(())
+}
+
+// Sends so many words to stop.
+fn stop<N: Queued, R: Wait>(
+    rt: &R,
+    ends: &Ends<N>,
+    seat: &mut Seat<N>,
+    count: usize,
+) -> Result<(), WorkersFault>
+    requires { seat.old.role ≡ Owner }
+    ensures role { seat.new.role ≡ Owner }
+    ensures splits { seat.new.splits ≡ seat.old.splits }
+    ensures joins { seat.new.joins ≡ seat.old.joins }
+    ensures sent { OnOk result (seat.new.sent ≡ seat.old.sent ++ stops count) }
+{
+    for _i in 0..count {
+        match ends.send(rt, seat, Item::Stop) {
+            Ok(()) => {}
+            Err(_) => return Err(WorkersFault::WorkersGone),
+        }
+    }
+    Ok(())
+}
+
+// Takes the passes in.
+pub(crate) fn take_in<N: Queued>(ends: &Ends<N>, seat: &mut Seat<N>, passes: Vec<Pass<N>>)
+    requires { seat.old.role ≡ Owner }
+    ensures role { seat.new.role ≡ Owner }
+    ensures splits { seat.new.splits ≡ seat.old.splits }
+    ensures joins { seat.new.joins ≡ seat.old.joins + length passes.items }
+    ensures sent { seat.new.sent ≡ seat.old.sent ++ sent_by passes.items }
+{
+    for pass in passes {
+        ends.join(seat, pass.into_seat());
+    }
+}
