@@ -25,7 +25,8 @@ pub fn headline<B: Build>()
     ensures survives { (first new : Contents B.Piece) (events : List (Event B.Piece))
         → IsBeginning first → Run B.rules IsAnyPiece first events new → EachImageSurvives new.core }
     // With the build that compiles, where the units found at the opening agree with their sources: each unit that is recovered, run, does
-    // what its stored C source says. Nothing is owed on an input on which that source goes wrong.
+    // what its stored C source says. Nothing is owed on an input on which that source goes wrong: `a[3] = 5` on `int a[3]`, run, may write
+    // what lies next to `a`.
     ensures agrees { AfterEveryRun AgreesWhereFound }
     // Whatever was found at the opening: each unit that is recovered is one of those, or agrees with its source.
     ensures units { AfterEveryRun IsFoundOrAgrees }

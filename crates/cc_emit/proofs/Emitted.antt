@@ -16,7 +16,7 @@ use Rattle.cc_ltl.specs.declared.location.Location.TheVariants.{Register, Slot}
 use Rattle.cc_ltl.specs.Ltl.{Locations, put, words_from, after_call, at_entry}
 use Rattle.cc_linear.specs.declared.item.Item as linear
 use Rattle.cc_linear.specs.declared.item.Item.TheVariants.{Label, Jump, IfNonzero, IfZero, Copy, Const, Unary, Binary, Load, Store, Call, Read, Write, Return}
-use Rattle.cc_linear.specs.Linear.{Configuration, at_items, answered, linear_move, linear_output, linear_start}
+use Rattle.cc_linear.specs.Linear.{Configuration, at_items, items_after_answer, linear_move, linear_output, linear_start}
 use Rattle.cc_rv32.specs.Machine.{Continues, State, stack_from}
 use Rattle.cc_emit.specs.declared.step.Step.{Step}
 use Rattle.cc_emit.specs.declared.step.Step.TheVariants.{One, Immediate, LoadAt, StoreAt}
@@ -166,7 +166,7 @@ module _ (x : Site) (c d : ℕ) (one : 1 ≤ c) (below : d < 1024) (all_places :
   effect j g l h = x.meaning.call j (suc d) g (words_from 10 (x.meaning.arity g) l) h
 
   abbrev Comes : ℕ → (ops : List Step) (l : Locations) → State → List ℕ → ℕ → Effect → Type 0
-  Comes i ops l s words steps e = Done s (resumed e (answered (items_behind ops) l words) (lrun i)) (suc (work_resumed e (answered (items_behind ops) l words) steps (lwork i)))
+  Comes i ops l s words steps e = Done s (resumed e (items_after_answer (items_behind ops) l words) (lrun i)) (suc (work_resumed e (items_after_answer (items_behind ops) l words) steps (lwork i)))
 
   -- after the call the run of Linear finds in its locations what the machine's hold
   same_call : (l : Locations) (t : State) (words : List ℕ) → after_call (listed 32 0 t.registers ++ words) l ≡ regained l t
@@ -176,7 +176,7 @@ module _ (x : Site) (c d : ℕ) (one : 1 ≤ c) (below : d < 1024) (all_places :
       at_location (Register r) = ap (λ xs. if survives r then l (Register r) else get_or xs r 0) (take_listed 32 0 t.registers words)
       at_location (Slot i) = refl
 
-  same_configuration : (ops : List Step) (l : Locations) (a : Answer) (t : State) (words : List ℕ) → answered (items_behind ops) l (listed 32 0 t.registers ++ words) a ≡ at_items (items_behind ops) (put (Register 10) a.value (regained l t)) a.world words
+  same_configuration : (ops : List Step) (l : Locations) (a : Answer) (t : State) (words : List ℕ) → items_after_answer (items_behind ops) l (listed 32 0 t.registers ++ words) a ≡ at_items (items_behind ops) (put (Register 10) a.value (regained l t)) a.world words
   same_configuration ops l a t words =
       ap₂ (λ (k : Locations) (xs : List ℕ). at_items (items_behind ops) (put (Register 10) a.value k) a.world xs) (same_call l t words) (drop_listed 32 0 t.registers words)
 
@@ -186,7 +186,7 @@ module _ (x : Site) (c d : ℕ) (one : 1 ≤ c) (below : d < 1024) (all_places :
       → Comes i ops l s (listed 32 0 t.registers ++ words) steps (Gives a left)
   answers i steps left n s ops l g a t words to p le z =
       let P : Configuration → Type 0 = λ q. Done t (lrun i left q) (lwork i left q) in
-      let q = answered (items_behind ops) l (listed 32 0 t.registers ++ words) a in
+      let q = items_after_answer (items_behind ops) l (listed 32 0 t.registers ++ words) a in
       let y : P q = subst P (sym (same_configuration ops l a t words)) z in
       let v = lwork i left q in
       let e : suc (steps - left) + v ≡ suc (steps - left + v) = omega arith in

@@ -63,8 +63,8 @@ place (Label other ∷ items) label = if other == label then Label other ∷ ite
 place (item ∷ items) label = place items label
 
 -- after a call's answer: what the call destroys is unknown, and its value is the result
-abbrev pub answered : List Item → Locations → (words : List ℕ) → Answer → Configuration
-answered items at words a = at_items items (put result_location a.value (after_call words at)) a.world (left_after_call words)
+abbrev pub items_after_answer : List Item → Locations → (words : List ℕ) → Answer → Configuration
+items_after_answer items at words a = at_items items (put result_location a.value (after_call words at)) a.world (left_after_call words)
 
 -- The next item, in the whole code; `arity` says how many parameters each function has. A label is no move: what is done there is what
 -- the item after it does. Behind the last item a run goes wrong, as where a jump leads to no place.
@@ -84,7 +84,7 @@ does arity code (Load object to index ∷ items) at world words =
 does arity code (Store object index from ∷ items) at world words =
     tried (stored world object (at (Register index)) (at (Register from))) (λ changed. Goes (at_items items at changed words))
 does arity code (Call function ∷ items) at world words =
-    Calls (record { function = function; arguments = words_from first_argument (arity function) at; world = world }) (answered items at words)
+    Calls (record { function = function; arguments = words_from first_argument (arity function) at; world = world }) (items_after_answer items at words)
 does arity code (Read ∷ items) at world words =
     Goes (at_items items (put result_location (next_word world) (put destroyed_location (unknown_word words) at)) (after_read world) (left_after_word words))
 does arity code (Write ∷ items) at world words =

@@ -143,8 +143,8 @@ abbrev pub to_block : (label : ℕ) → (after : List Move) → Locations → Wo
 to_block label after at world words = record { label = label; locations = moved after at; world = world; words = words }
 
 -- after a call's answer: what the call destroys is unknown, and its value is the result
-abbrev pub answered : (next : ℕ) → (after : List Move) → Locations → (words : List ℕ) → Answer → Configuration
-answered next after at words a = to_block next after (put result_location a.value (after_call words at)) a.world (left_after_call words)
+abbrev pub block_after_answer : (next : ℕ) → (after : List Move) → Locations → (words : List ℕ) → Answer → Configuration
+block_after_answer next after at words a = to_block next after (put result_location a.value (after_call words at)) a.world (left_after_call words)
 
 -- an operation and the moves after it; `arity` says how many parameters each function has
 abbrev pub operate : (arity : ℕ → ℕ) → Operation → (after : List Move) → Locations → World → (words : List ℕ) → Moving Configuration
@@ -159,7 +159,7 @@ operate arity (Load object to index next) after at world words =
 operate arity (Store object index from next) after at world words =
     tried (stored world object (at (Register index)) (at (Register from))) (λ changed. Goes (to_block next after at changed words))
 operate arity (Call function next) after at world words =
-    Calls (record { function = function; arguments = words_from first_argument (arity function) at; world = world }) (answered next after at words)
+    Calls (record { function = function; arguments = words_from first_argument (arity function) at; world = world }) (block_after_answer next after at words)
 operate arity (Read next) after at world words =
     Goes (to_block next after (put result_location (next_word world) (put destroyed_location (unknown_word words) at)) (after_read world) (left_after_word words))
 operate arity (Write next) after at world words =

@@ -48,7 +48,7 @@ is_answer (Gives a left) = Unit {0}
 is_answer (Unfinished o) = ⊥
 is_answer (Failed o) = ⊥
 
-exact_at : (effect : ℕ → by_name.Effect by_name.Answer) → by_name.IsExact effect → (n left : ℕ) (a : Answer) (e : by_name.Effect by_name.Answer) → effect n ≡ e → numbered e ≡ Gives a left
+exact_at : (effect : ℕ → by_name.Effect by_name.Answer) → by_name.SpendsExactly effect → (n left : ℕ) (a : Answer) (e : by_name.Effect by_name.Answer) → effect n ≡ e → numbered e ≡ Gives a left
     → (left ≤ n) × ((more : ℕ) → numbered (effect (n - left + more)) ≡ Gives a more)
 exact_at effect exact n left a (by_name.Answers b l) e f =
     let same : l ≡ left = ap left_in f in
@@ -59,12 +59,12 @@ exact_at effect exact n left a (by_name.Answers b l) e f =
 exact_at effect exact n left a (by_name.Unfinished o) e f = absurd (subst is_answer (sym f) tt)
 exact_at effect exact n left a (by_name.Failed cause o) e f = absurd (subst is_answer (sym f) tt)
 
-same_written : (e : by_name.Effect by_name.Answer) → calls.written_by e ≡ written_by (numbered e)
+same_written : (e : by_name.Effect by_name.Answer) → calls.output_of e ≡ written_by (numbered e)
 same_written (by_name.Answers a left) = refl
 same_written (by_name.Unfinished o) = refl
 same_written (by_name.Failed cause o) = refl
 
-later_at : (more : ℕ) (e z : by_name.Effect by_name.Answer) → calls.Later more e z → Later more (numbered e) (numbered z)
+later_at : (more : ℕ) (e z : by_name.Effect by_name.Answer) → calls.WithMoreSteps more e z → Later more (numbered e) (numbered z)
 later_at more (by_name.Answers a left) z h = ap numbered h
 later_at more (by_name.Unfinished o) z h = subst (Begins o) (same_written z) h
 later_at more (by_name.Failed cause o) z h = ap numbered h

@@ -8,10 +8,11 @@ use Rattle.cc_resolve.specs.Layout.{names_before, layout_of, callee}
 use Rattle.cc_resolve.specs.declared.layout.Callee.TheVariants.{WriteWord, ReadWord, Defined}
 use Rattle.cc_meaning.specs.declared.outcome.Cause.{Cause}
 use Rattle.cc_meaning.specs.declared.outcome.Cause.TheVariants.{Depth}
+use Rattle.cc_runs.specs.Behavior.{Begins}
 use Rattle.cc_meaning.specs.Meaning.{Local, State, Run, Gives, Going, Wrong, Flow, then_do, execute_all, spend_of, Calls, Function, functions, bound, result_of, run_optional, read_input, most_open, calls, function_named}
-use Rattle.cc_meaning.specs.Function.{effect_of, state_within, name_of_function, call_function, Begins}
+use Rattle.cc_meaning.specs.Function.{effect_of, state_within, name_of_function, call_function}
 use Rattle.cc_meaning.specs.Resolved.{arities, IsCalled}
-use Rattle.cc_meaning.specs.Calls.{shared_of, after_call, called, CallsAreEffects, written_by, Later, CallsGoOn, BodiesGoOn}
+use Rattle.cc_meaning.specs.Calls.{shared_of, after_call, called, CallsAreEffects, output_of, WithMoreSteps, CallsGoOn, BodiesGoOn}
 use Rattle.cc_meaning.proofs.Lasting.{at, written, Lasts, Under}
 use Rattle.cc_meaning.proofs.Steps.{begun, body_part, calls_steady, run_optional_steady}
 use Rattle.cc_meaning.proofs.Exact.{exact_call, exact_body}
@@ -101,12 +102,12 @@ call_is_effect unit n opened f ws s lt =
 
 -- ---- more steps
 
-written_effect : (r : Run ℕ) → written r ≡ written_by (effect_of r)
+written_effect : (r : Run ℕ) → written r ≡ output_of (effect_of r)
 written_effect (Gives w s) = refl
 written_effect (Going output) = refl
 written_effect (Wrong cause output) = refl
 
-later_of : (n extra : ℕ) (r : Run ℕ) (go : ℕ → ℕ → Run ℕ) → Lasts Under n r go → Later extra (effect_of r) (effect_of (go (suc (n + extra)) (n + extra)))
+later_of : (n extra : ℕ) (r : Run ℕ) (go : ℕ → ℕ → Run ℕ) → Lasts Under n r go → WithMoreSteps extra (effect_of r) (effect_of (go (suc (n + extra)) (n + extra)))
 later_of n extra (Gives w t) go h =
     let n_is : n ≡ h.0 + t.steps = h.1 in
     let f : n + extra ≡ h.0 + (t.steps + extra) = omega arith in

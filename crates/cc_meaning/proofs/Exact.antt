@@ -2,7 +2,7 @@
 use Rattle.std.proofs.Common.{◌≡◌, ℕ, suc, ◌+◌, ◌-◌, ◌≤◌, List, [], slice_get, codes, refl, ap, ◌∙◌, arith}
 use Rattle.cc_syntax.specs.Tree.{External}
 use Rattle.cc_meaning.specs.Meaning.{Run, Gives, Going, Wrong, functions, calls, run_optional, initial_globals, outcome_of}
-use Rattle.cc_meaning.specs.Function.{Shared, Answer, Answers, Unfinished, Failed, effect_of, state_within, name_of_function, call_function, body_of_function, IsExact, GoesOn, RunsGoOn}
+use Rattle.cc_meaning.specs.Function.{Shared, Answer, Answers, Unfinished, Failed, effect_of, state_within, name_of_function, call_function, body_of_function, SpendsExactly, GoesOn, RunsGoOn}
 use Rattle.cc_meaning.proofs.Lasting.{written, Lasts, Under}
 use Rattle.cc_meaning.proofs.Steps.{calls_steady, run_optional_steady}
 
@@ -20,12 +20,12 @@ exact_of n left a (Gives w t) go h e =
 exact_of n left a (Going output) go h e = absurd (let f : Unfinished output ≡ Answers a left = e in cc)
 exact_of n left a (Wrong cause output) go h e = absurd (let f : Failed cause output ≡ Answers a left = e in cc)
 
-pub exact_call : (unit : List External) (opened f : ℕ) (ws : List ℕ) (h : Shared) → IsExact (λ n. call_function unit n opened f ws h)
+pub exact_call : (unit : List External) (opened f : ℕ) (ws : List ℕ) (h : Shared) → SpendsExactly (λ n. call_function unit n opened f ws h)
 exact_call unit opened f ws h = λ n left a e.
     exact_of n left a (calls (suc n) (functions unit) opened (name_of_function unit f) ws (state_within n h)) (λ m j. calls m (functions unit) opened (name_of_function unit f) ws (state_within j h))
     ((calls_steady (functions unit) opened (name_of_function unit f) ws).lasts (suc n) (state_within n h) (omega arith)) e
 
-pub exact_body : (unit : List External) (opened f : ℕ) (ws : List ℕ) (h : Shared) → IsExact (λ n. body_of_function unit n opened f ws h)
+pub exact_body : (unit : List External) (opened f : ℕ) (ws : List ℕ) (h : Shared) → SpendsExactly (λ n. body_of_function unit n opened f ws h)
 exact_body unit opened f ws h = λ n left a e.
     exact_of n left a (run_optional (slice_get (functions unit) f) (suc n) (calls (suc n) (functions unit) (opened + 1)) ws (state_within n h))
     (λ m j. run_optional (slice_get (functions unit) f) m (calls m (functions unit) (opened + 1)) ws (state_within j h))

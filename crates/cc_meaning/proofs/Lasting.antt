@@ -3,7 +3,7 @@
 -- wrong goes wrong the same. Here for the ways in which parts are put together.
 use Rattle.std.proofs.Common.{◌≡◌, ℕ, zero, suc, ◌+◌, ◌<◌, ◌≤◌, List, [], ◌++◌, Option, Some, None, refl, sym, ap, ◌∙◌, subst, arith, append_assoc, append-nil}
 use Rattle.cc_meaning.specs.Meaning.{Local, State, Run, Gives, Going, Wrong, Flow, Falls, Breaks, Continues, Returns, then_do, choose, spend_of, behind_flow, behind_body, begin_body, turns, unless_decided}
-use Rattle.cc_meaning.specs.Function.{Begins}
+use Rattle.cc_runs.specs.Behavior.{Begins}
 
 -- the same state with so many steps left
 abbrev pub at : State → ℕ → State

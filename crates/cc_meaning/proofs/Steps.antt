@@ -13,7 +13,7 @@ use Rattle.cc_typing.specs.Scope as scope
 use Rattle.cc_typing.specs.Scope.{Binding, Visible, in_scope, opened, declared, scope_behind, scope_behind_beginning}
 use Rattle.cc_typing.specs.Types.{value_type, target_type}
 use Rattle.cc_meaning.specs.Meaning.{Local, Global, State, Run, Gives, Wrong, Flow, Falls, Breaks, Continues, Returns, then_do, choose, Calls, local_word, words_of, with_local_word, with_element, variable_word, stored, read_element, write_element, given, unless_decided, evaluate, evaluate_all, evaluate_or, Destination, ToVariable, ToElement, destination, old_value, write, new_value, perform, perform_optional, with_local, declare, start, left_scope, in_block, return, execute, execute_all, behind_flow, Function, bound, result_of, run_body, run_optional, read_input, calls, function_named, most_open, spend, turns}
-use Rattle.cc_meaning.specs.Function.{Begins}
+use Rattle.cc_runs.specs.Behavior.{Begins}
 use Rattle.cc_meaning.specs.declared.outcome.Cause.TheVariants.{Index, Depth}
 use Rattle.cc_meaning.proofs.Lasting.{at, written, begins_refl, begins_spend, Lasts, lasts_gives, lasts_by, lasts_spend, Steady, steady_gives, steady_then, steady_choose, steady_unless, steady_flow, Under, under, steady_begin, steady_turns}
 

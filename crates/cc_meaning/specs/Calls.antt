@@ -5,10 +5,11 @@ use Rattle.cc_typing.specs.Typed.{IsTyped}
 use Rattle.cc_resolve.specs.Layout.{LaidObject, names_before, layout_of, callee}
 use Rattle.cc_resolve.specs.declared.layout.Callee.{Callee}
 use Rattle.cc_resolve.specs.declared.layout.Callee.TheVariants.{WriteWord, ReadWord, Defined}
+use Rattle.cc_runs.specs.Behavior.{Begins}
 use Rattle.cc_meaning.specs.Outcome as outcome
 use Rattle.cc_meaning.specs.Outcome.{Outcome}
 use Rattle.cc_meaning.specs.Meaning.{Local, Global, State, Run, Gives, Going, Wrong, Function, functions, read_input, calls, initial_globals, source_behavior}
-use Rattle.cc_meaning.specs.Function.{Shared, Answer, Effect, Answers, Unfinished, Failed, name_of_function, call_function, body_of_function, Begins, IsExact}
+use Rattle.cc_meaning.specs.Function.{Shared, Answer, Effect, Answers, Unfinished, Failed, name_of_function, call_function, body_of_function, SpendsExactly}
 use Rattle.cc_meaning.specs.Resolved.{arities, IsCalled}
 
 -- ---- a call in the tree
@@ -38,23 +39,23 @@ CallsAreEffects = (unit : List External) (n opened count : ℕ) (x ws : List ℕ
 -- ---- more steps: what cc_runs says of a meaning by number, here by name and with the causes
 
 -- the output so far
-abbrev pub written_by : Effect Answer → List ℕ
-written_by (Answers a left) = a.shared.output
-written_by (Unfinished output) = output
-written_by (Failed cause output) = output
+abbrev pub output_of : Effect Answer → List ℕ
+output_of (Answers a left) = a.shared.output
+output_of (Unfinished output) = output
+output_of (Failed cause output) = output
 
 -- the second effect is what the first comes to with so many steps more
-abbrev pub Later : (more : ℕ) → Effect Answer → Effect Answer → Type 0
-Later more (Answers a left) z = z ≡ Answers a (left + more)
-Later more (Unfinished output) z = Begins output (written_by z)
-Later more (Failed cause output) z = z ≡ Failed cause output
+abbrev pub WithMoreSteps : (more : ℕ) → Effect Answer → Effect Answer → Type 0
+WithMoreSteps more (Answers a left) z = z ≡ Answers a (left + more)
+WithMoreSteps more (Unfinished output) z = Begins output (output_of z)
+WithMoreSteps more (Failed cause output) z = z ≡ Failed cause output
 
 -- what a call or a body does, within a number of steps, on what is shared: it writes after what is written, with more steps it only
 -- goes on, and an answer takes just the steps that it spends, whatever else is left
 pub record EffectGoesOn (effect : ℕ → Shared → Effect Answer) : Type 0 where
-  pub grows : (n : ℕ) (h : Shared) → Begins h.output (written_by (effect n h))
-  pub later : (n more : ℕ) (h : Shared) → Later more (effect n h) (effect (n + more) h)
-  pub exact : (h : Shared) → IsExact (λ n. effect n h)
+  pub grows : (n : ℕ) (h : Shared) → Begins h.output (output_of (effect n h))
+  pub later : (n more : ℕ) (h : Shared) → WithMoreSteps more (effect n h) (effect (n + more) h)
+  pub exact : (h : Shared) → SpendsExactly (λ n. effect n h)
 
 -- so does each call, and the body of each function
 abbrev pub CallsGoOn : Type 0

@@ -3,6 +3,7 @@
 use Rattle.std.specs.Prelude.{◌≡◌, ℕ, suc, ◌+◌, ◌-◌, ◌<◌, ◌≤◌, List, [], ◌++◌, length, map, unwrap_or, slice_get}
 use Rattle.cc_syntax.specs.Tree.{External, Source}
 use Rattle.cc_typing.specs.Typed.{IsTyped}
+use Rattle.cc_runs.specs.Behavior.{Begins}
 use Rattle.cc_meaning.specs.Outcome as outcome
 use Rattle.cc_meaning.specs.Outcome.{Stop, Outcome}
 use Rattle.cc_meaning.specs.Meaning.{Global, State, Run, Gives, Going, Wrong, Function, functions, calls, run_optional, most_open, source_behavior}
@@ -49,8 +50,8 @@ body_of_function unit n opened f ws h =
     effect_of (run_optional (slice_get (functions unit) f) (suc n) (calls (suc n) (functions unit) (opened + 1)) ws (state_within n h))
 
 -- an answer that left some steps is the same with exactly the steps that it spent, and with any more
-abbrev pub IsExact : (ℕ → Effect Answer) → Type 0
-IsExact effect = (n left : ℕ) (a : Answer) → effect n ≡ Answers a left → (left ≤ n) × ((more : ℕ) → effect (n - left + more) ≡ Answers a more)
+abbrev pub SpendsExactly : (ℕ → Effect Answer) → Type 0
+SpendsExactly effect = (n left : ℕ) (a : Answer) → effect n ≡ Answers a left → (left ≤ n) × ((more : ℕ) → effect (n - left + more) ≡ Answers a more)
 
 -- what holds of each function of a unit
 pub record HasMeaning (unit : List External) : Type 0 where
@@ -69,10 +70,6 @@ abbrev pub TypedUnitsHaveMeaning : Type 0
 TypedUnitsHaveMeaning = (unit : List External) → IsTyped unit → HasMeaning unit
 
 -- ---- more steps
-
--- the second list goes on from the first
-abbrev pub Begins : List ℕ → List ℕ → Type 0
-Begins xs ys = (rest : List ℕ) × (xs ++ rest ≡ ys)
 
 -- a run goes on from one that had fewer steps: it is the same where that one had ended or gone wrong, else that one's
 -- output begins its own

@@ -3,14 +3,14 @@ use Rattle.std.proofs.Common.{◌≡◌, ℕ, suc, ◌+◌, ◌-◌, ◌<◌, �
 use Rattle.cc_tokens.specs.declared.scalar.Scalar.{Scalar}
 use Rattle.cc_syntax.specs.Tree.{Name, Parameter, Object, External, Declaration, Definition, Objects}
 use Rattle.cc_typing.specs.Bindings.{closed, file_level, file_of}
-use Rattle.cc_typing.specs.internal.Counts.{objects_in}
+use Rattle.cc_typing.specs.internal.Counts.{defined_in, objects_in}
 use Rattle.cc_typing.specs.Limits.{objects, object_name, function_names}
 use Rattle.cc_typing.specs.Scope.{Binding, with_object, with_objects, parameter_declared, parameters_declared}
 use Rattle.cc_typing.specs.Types.{object_words, initial_words}
 use Rattle.cc_typing.proofs.FileScopes.{with_objects-same, parameters_declared-outer}
 use Rattle.cc_resolve.specs.Layout.{LaidObject, Layout, laid_from, all_words}
 use Rattle.cc_resolve.specs.Environment.{Environment, parameter_names}
-use Rattle.cc_resolve.specs.internal.Laying.{offset_behind, defined_texts}
+use Rattle.cc_resolve.specs.internal.Laying.{offset_behind}
 
 -- ---- lists
 
@@ -72,7 +72,7 @@ objects-next (Objects t os) rest = refl
 abbrev pub function_texts : List External → List (List ℕ)
 function_texts es = map (λ (x : Name). x.text) (function_names es)
 
-function_texts-next : (e : External) (rest : List External) → function_texts (e ∷ rest) ≡ defined_texts e ++ function_texts rest
+function_texts-next : (e : External) (rest : List External) → function_texts (e ∷ rest) ≡ defined_in e ++ function_texts rest
 function_texts-next (Declaration s) rest = refl
 function_texts-next (Definition s body) rest = refl
 function_texts-next (Objects t os) rest = refl
@@ -86,7 +86,7 @@ pub record Finding (all : List External) (p : Layout) (w : List ℕ) (at : ℕ) 
 
 pub Finding-next : (all : List External) (p : Layout) (w : List ℕ) (at : ℕ) (e : External) (rest : List External) (p' : Layout) (w' : List ℕ) (at' : ℕ)
     → Finding all p w at (e ∷ rest)
-    → p' ≡ record { objects = p.objects ++ laid_from at (objects_in e); functions = p.functions ++ defined_texts e }
+    → p' ≡ record { objects = p.objects ++ laid_from at (objects_in e); functions = p.functions ++ defined_in e }
     → w' ≡ w ++ all_words (objects_in e) → at' ≡ offset_behind at (objects_in e) → at' ≤ length w'
     → Finding all p' w' at' rest
 Finding-next all p w at e rest p' w' at' before ep ew ea h =
@@ -98,7 +98,7 @@ Finding-next all p w at e rest p' w' at' before ep ew ea h =
           (sym (ap (λ l. p.objects ++ l) (ap (laid_from at) (objects-next e rest) ∙ laid_from-append at os (objects rest))) ∙ before.laid)
           (ap (λ (q : Layout). q.objects) ep);
       numbered =
-          some-more p.functions p'.functions (defined_texts e) (function_texts rest) _
+          some-more p.functions p'.functions (defined_in e) (function_texts rest) _
           (sym (ap (λ l. p.functions ++ l) (function_texts-next e rest)) ∙ before.numbered) (ap (λ (q : Layout). q.functions) ep);
       words =
           some-more w w' (all_words os) (all_words (objects rest)) _

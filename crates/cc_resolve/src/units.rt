@@ -5,13 +5,13 @@ ghost use Rattle.cc_syntax.specs.Erase.{parameter_trees, signature_tree, externa
 ghost use Rattle.cc_syntax.specs.Source.{source};
 ghost use Rattle.cc_syntax.specs.Tree as tree;
 ghost use Rattle.cc_typing.specs.Bindings.{file_level, file_of};
-ghost use Rattle.cc_typing.specs.internal.Counts.{objects_in};
+ghost use Rattle.cc_typing.specs.internal.Counts.{defined_in, objects_in};
 ghost use Rattle.cc_typing.specs.Limits.{objects};
 ghost use Rattle.cc_typing.specs.Scope.{FileScope, first_file_scope, parameters_declared, with_function};
 ghost use Rattle.cc_typing.specs.Typed.{defined_names, definitions};
 ghost use Rattle.cc_resolve.specs.Environment.{parameter_names, environment_of, environments};
 ghost use Rattle.cc_resolve.specs.Layout.{Layout, laid_from, layout_of, all_words};
-ghost use Rattle.cc_resolve.specs.internal.Laying.{offset_behind, defined_texts};
+ghost use Rattle.cc_resolve.specs.internal.Laying.{offset_behind};
 
 use super::environment::Environment;
 use super::layout::Layout;
@@ -80,7 +80,7 @@ fn add_external<'a>(
     requires { offset ≤ length words.old.items }
     ensures layout { OnOk result (layout.new ≡ record {
       objects = layout.old.objects ++ laid_from offset (objects_in (external_tree tree.now));
-      functions = layout.old.functions ++ defined_texts (external_tree tree.now);
+      functions = layout.old.functions ++ defined_in (external_tree tree.now);
     }) }
     ensures words { OnOk result (words.new.items ≡ words.old.items ++ all_words (objects_in (external_tree tree.now))) }
     ensures behind { IfOk result (λ n. n ≡ offset_behind offset (objects_in (external_tree tree.now))) }
