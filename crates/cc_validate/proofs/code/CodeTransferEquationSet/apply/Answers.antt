@@ -25,6 +25,13 @@ bounds-self-inside-node c =
     let m = beside_length nodes c.self.inside.blocks.now c.self.invariant in
     omega (arith, here, m)
 
+pub offset_bounds-self-inside-node : goal.offset_bounds-self-inside-node
+offset_bounds-self-inside-node c =
+    let here = slice_get_within c.self.inside.rtl.now.nodes c.args.node _ c.in-Some.ensures in
+    let e = c.len-few.ensures.count in
+    let few = c.len-few.ensures.few in
+    omega (arith, here, e, few)
+
 pub carry-requires : goal.carry-requires
 carry-requires c =
     let nodes = c.self.inside.rtl.now.nodes in
