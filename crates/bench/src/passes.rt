@@ -62,7 +62,7 @@ fn rtl(alloc: Global, unit: &Arc<TypedUnit>, times: u32) -> Result<usize> {
     let mut nodes = 0;
     for _ in 0..times {
         let pair = first_rtl(alloc, unit)?;
-        nodes = pair.code().nodes().len();
+        nodes = pair.code().len();
         drop(pair);
     }
     Ok(nodes)

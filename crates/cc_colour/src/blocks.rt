@@ -12,7 +12,7 @@ use crate::registers::{
 };
 use crate::webs::{Crossing, Crossings};
 use cc_ltl::{Block, Move, Moves, Operation, Register};
-use cc_rtl::{Labelled, Node};
+use cc_rtl::Node;
 use std::alloc::{AllocError, Global};
 
 /// What blocks are made of.
@@ -34,12 +34,11 @@ impl Placed<'_> {
     // neighbours.
     fn early(self, at: usize) -> Option<Early> {
         let shape = self.code.shape;
-        let nodes = shape.rtl.nodes();
-        let constant = match nodes.get(shape.sole_before(at)?)?.node {
-            Node::Const { to, .. } => to,
+        let constant = match shape.rtl.at(shape.sole_before(at)?)? {
+            Node::Const { to, .. } => *to,
             _ => return None,
         };
-        let beside = beside_constant(&nodes.get(at)?.node, constant)?;
+        let beside = beside_constant(shape.rtl.at(at)?, constant)?;
         self.places.register(self.code.at(at, constant)?)?;
         match self.places.place(self.code.at(at, beside)?)? {
             Place::Slot(slot) => {
@@ -99,8 +98,9 @@ struct Draft<'a> {
 /// All blocks, or None where a register was wanted and none was free.
 pub fn blocks(alloc: Global, placed: Placed<'_>) -> Result<Option<Vec<Block>>, AllocError> {
     let mut blocks = Vec::new(alloc);
-    for (at, labelled) in placed.code.shape.rtl.nodes().iter().enumerate() {
-        match block(alloc, placed, at, labelled)? {
+    let rtl = placed.code.shape.rtl;
+    for at in 0..rtl.len() {
+        match block(alloc, placed, at as u32, rtl.node(at))? {
             Some(block) => blocks.push(block)?,
             None => {
                 drop(blocks);
@@ -114,9 +114,10 @@ pub fn blocks(alloc: Global, placed: Placed<'_>) -> Result<Option<Vec<Block>>, A
 fn block(
     alloc: Global,
     placed: Placed<'_>,
-    at: usize,
-    labelled: &Labelled,
+    label: u32,
+    node: &Node,
 ) -> Result<Option<Block>, AllocError> {
+    let at = label as usize;
     let mut draft = Draft {
         placed,
         at,
@@ -128,7 +129,7 @@ fn block(
         pending: Vec::new(alloc),
         crossings: Crossings::new(alloc),
     };
-    let operation = draft.draw(labelled);
+    let operation = draft.draw(node);
     let Draft {
         before,
         after,
@@ -147,7 +148,7 @@ fn block(
         return Ok(None);
     }
     Ok(Some(Block {
-        label: labelled.label,
+        label,
         before: moves(alloc, before),
         operation,
         after: moves(alloc, after),
@@ -381,12 +382,12 @@ impl Draft<'_> {
     }
 
     // The moves of a block, and its operation.
-    fn draw(&mut self, labelled: &Labelled) -> Operation {
+    fn draw(&mut self, node: &Node) -> Operation {
         let rtl = self.placed.code.shape.rtl;
-        if labelled.label == rtl.entry() {
+        if self.at == rtl.entry() as usize {
             self.take_parameters(rtl.parameters());
         }
-        let used = match &labelled.node {
+        let used = match node {
             Node::Call { arguments, .. } => {
                 self.find_crossings();
                 self.leave();
@@ -408,7 +409,7 @@ impl Draft<'_> {
             }
             node => self.used(node),
         };
-        operation(&labelled.node, used)
+        operation(node, used)
     }
 
     // The registers of an operation that may have any.

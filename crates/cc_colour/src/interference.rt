@@ -100,12 +100,14 @@ impl Graph {
 
     fn add_nodes(&mut self, alloc: Global, code: Code<'_>) -> Result<(), AllocError> {
         let mut crossings = Crossings::new(alloc);
-        for (at, labelled) in code.shape.rtl.nodes().iter().enumerate() {
-            self.count_reads(code, at, &labelled.node);
+        let rtl = code.shape.rtl;
+        for at in 0..rtl.len() {
+            let node = rtl.node(at);
+            self.count_reads(code, at, node);
             code.webs.crossings(code.shape, at, &mut crossings)?;
             self.add_crossings(code, at, crossings.all.as_slice());
-            self.add_node(code, at, &labelled.node)?;
-            if labelled.label == code.shape.rtl.entry() {
+            self.add_node(code, at, node)?;
+            if at == rtl.entry() as usize {
                 self.add_entry(code, at)?;
             }
         }
@@ -306,7 +308,7 @@ fn copied(code: Code<'_>, at: usize, node: &Node) -> Option<u32> {
 // The web that the node behind a constant sets, where it reads the constant for the last time and an instruction has it as immediate.
 fn overwriting(code: Code<'_>, at: usize, constant: u32) -> Option<u32> {
     let behind = code.shape.behind(at)?;
-    let node = &code.shape.rtl.nodes().get(behind)?.node;
+    let node = code.shape.rtl.at(behind)?;
     beside_constant(node, constant)?;
     if code.at(code.shape.behind(behind)?, constant).is_some() {
         return None;

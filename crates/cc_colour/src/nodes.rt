@@ -3,7 +3,7 @@
 //! Nodes are known by their places in the list of a function's nodes, from 0 on.
 
 use crate::live::Live;
-use cc_rtl::{Labelled, Node, Rtl};
+use cc_rtl::{Node, Rtl};
 use cc_words::Binary;
 use std::alloc::{AllocError, Global};
 
@@ -47,7 +47,7 @@ impl Shape<'_> {
     /// The register that a call sets, where there is one, and the place behind it; None for another node.
     pub fn call(&self, node: usize) -> Option<(Option<u32>, usize)> {
         let behind = self.behind(node)?;
-        match &self.rtl.nodes().get(node)?.node {
+        match self.rtl.at(node)? {
             Node::Call { to, .. } => Some((*to, behind)),
             _ => None,
         }
@@ -56,11 +56,10 @@ impl Shape<'_> {
 
 /// Where each node leads.
 pub fn next_places(alloc: Global, rtl: &Rtl) -> Result<Vec<Next>, AllocError> {
-    let nodes = rtl.nodes();
     let mut all = Vec::new(alloc);
-    for labelled in nodes {
-        let (first, second) = labels(&labelled.node);
-        all.push([place_of(nodes, first), place_of(nodes, second)])?;
+    for at in 0..rtl.len() {
+        let (first, second) = labels(rtl.node(at));
+        all.push([place_of(rtl, first), place_of(rtl, second)])?;
     }
     Ok(all)
 }
@@ -88,10 +87,10 @@ fn lead_to(sole: &mut [Option<usize>], is_led_to: &mut [bool], at: usize, place:
     }
 }
 
-// The place of a label, by halving.
-fn place_of(nodes: &[Labelled], label: Option<u32>) -> Option<usize> {
-    let label = label?;
-    nodes.binary_search_by(|n| n.label.cmp(&label)).ok()
+// The place of a label: they are the same number.
+fn place_of(rtl: &Rtl, label: Option<u32>) -> Option<usize> {
+    let place = label? as usize;
+    if place < rtl.len() { Some(place) } else { None }
 }
 
 fn labels(node: &Node) -> (Option<u32>, Option<u32>) {

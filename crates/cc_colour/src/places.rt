@@ -142,7 +142,7 @@ impl<'a> Places<'a> {
     // What came over a call in a register was not stored there.
     fn find_dirty(&mut self, alloc: Global, code: Code<'_>) -> Result<(), AllocError> {
         let mut crossings = Crossings::new(alloc);
-        for node in 0..code.shape.rtl.nodes().len() {
+        for node in 0..code.shape.rtl.len() {
             code.webs.crossings(code.shape, node, &mut crossings)?;
             for crossing in &crossings.all {
                 self.put_dirty(*crossing);

@@ -34,8 +34,8 @@ impl Slots {
         if rtl.parameters() > 0 {
             slots.reach(rtl.parameters() - 1);
         }
-        for labelled in rtl.nodes() {
-            slots.reach_all(&labelled.node);
+        for at in 0..rtl.len() {
+            slots.reach_all(rtl.node(at));
         }
         slots
     }

@@ -7,7 +7,7 @@ ghost use Rattle.std.specs.Prelude.{◌≡◌, ◌<◌, ◌≤◌, ◌^◌, [], 
 
 use crate::slots::Slots;
 use cc_ltl::{Block, Ltl, Move, Moves, Operation, Register};
-use cc_rtl::{Labelled, Node, Rtl};
+use cc_rtl::{Node, Rtl};
 use std::alloc::{AllocError, Global};
 
 // Arguments and parameters stand in x10 and up, 22 at most: the last register is x31.
@@ -18,8 +18,8 @@ const FIRST_ARGUMENT: u8 = 10;
 pub fn spill_all(alloc: Global, rtl: &Rtl) -> Result<Ltl, AllocError> {
     let slots = Slots::of(rtl);
     let mut blocks = Vec::new(alloc);
-    for labelled in rtl.nodes() {
-        blocks.push(block(alloc, slots, rtl, labelled)?)?;
+    for at in 0..rtl.len() {
+        blocks.push(block(alloc, slots, rtl, at as u32, rtl.node(at))?)?;
     }
     match Ltl::new(slots.count(), rtl.entry(), blocks) {
         Ok(ltl) => Ok(ltl),
@@ -38,17 +38,23 @@ fn no_blocks(alloc: Global, entry: u32) -> Result<Ltl, AllocError> {
     }
 }
 
-fn block(alloc: Global, slots: Slots, rtl: &Rtl, labelled: &Labelled) -> Result<Block, AllocError> {
-    let before = if labelled.label == rtl.entry() {
+fn block(
+    alloc: Global,
+    slots: Slots,
+    rtl: &Rtl,
+    label: u32,
+    node: &Node,
+) -> Result<Block, AllocError> {
+    let before = if label == rtl.entry() {
         keep_parameters(alloc, slots, rtl.parameters())?
     } else {
-        reload_operands(alloc, slots, &labelled.node)?
+        reload_operands(alloc, slots, node)?
     };
-    let after = spill_result(alloc, slots, &labelled.node)?;
+    let after = spill_result(alloc, slots, node)?;
     Ok(Block {
-        label: labelled.label,
+        label,
         before: in_order(before),
-        operation: operation(&labelled.node),
+        operation: operation(node),
         after: in_order(after),
     })
 }

@@ -79,7 +79,7 @@ impl Webs {
         shape: &Shape<'_>,
         cuts: Option<Cuts<'_>>,
     ) -> Result<Option<Webs>, AllocError> {
-        let points = Points::of(alloc, shape.rtl.nodes().len(), shape.live)?;
+        let points = Points::of(alloc, shape.rtl.len(), shape.live)?;
         if points.count() > MOST_POINTS {
             drop(points);
             return Ok(None);
@@ -160,8 +160,8 @@ impl Webs {
 
     // A result is of the web that goes on behind its node, or of a new one.
     fn find_results(&mut self, shape: &Shape<'_>) -> Result<(), AllocError> {
-        for (at, labelled) in shape.rtl.nodes().iter().enumerate() {
-            let web = match result(&labelled.node) {
+        for at in 0..shape.rtl.len() {
+            let web = match result(shape.rtl.node(at)) {
                 None => None,
                 Some(register) => Some(self.result_web(shape, at, register)),
             };
@@ -204,9 +204,10 @@ fn join_all(
     forest: &mut Forest,
 ) -> Result<(), AllocError> {
     let mut common = Vec::new(alloc);
-    for (at, labelled) in shape.rtl.nodes().iter().enumerate() {
-        let set = result(&labelled.node);
-        let cuts = match labelled.node {
+    for at in 0..shape.rtl.len() {
+        let node = shape.rtl.node(at);
+        let set = result(node);
+        let cuts = match node {
             Node::Call { .. } => cuts,
             _ => None,
         };

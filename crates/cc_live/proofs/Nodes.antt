@@ -1,15 +1,13 @@
 -- The nodes by their positions: what a position makes of facts, its row of the graph, its label, and what the nodes read.
 use Rattle.std.proofs.Common.{◌≡◌, ℕ, zero, suc, ◌<◌, ◌≤◌, List, [], ◌∷◌, ◌++◌, length, map, get_or, refl, sym, ap, ◌∙◌, subst, arith, Contains, Bool, IsTrue, ◌↔◌, Result, Ok, Err, IfOk}
 use Rattle.std.specs.Prelude.{Some, IsSome, slice_get}
-use Rattle.std.proofs.lemmas.Option.{same_Some, slice_get_within, slice_get-get_or, get_or_from_slice_get}
+use Rattle.std.proofs.lemmas.Option.{same_Some, slice_get_within, get_or_from_slice_get}
 use Rattle.std.proofs.lemmas.List.{get_or-map}
 use Rattle.std.proofs.lemmas.List.Elements.{Contains-append_left, Contains-append_right}
 use Rattle.cc_rtl.specs.Rtl.{Labelled, Nop, node_at, successors}
 use Rattle.cc_rtl.specs.Live.{reads}
 use Rattle.cc_rtl.specs.Positions.{position_of, graph_of}
-use Rattle.cc_rtl.specs.Code.{node_of, labelled_of}
-use Rattle.cc_rtl.specs.declared.node.Labelled as code
-use Rattle.cc_rtl.proofs.Places.{position_is, labelled, length_labelled, get_labelled}
+use Rattle.cc_rtl.proofs.Places.{position_is}
 use Rattle.cc_flow.specs.Lattice.{Equivalent}
 use Rattle.cc_live.specs.Rows.{holds}
 use Rattle.cc_live.specs.internal.Facts.{Below, nothing, in_front, carries}
@@ -22,12 +20,6 @@ pub carries_at : (strong : Bool) (ns : List Labelled) (i : ℕ) (n : Labelled) (
 carries_at strong [] i n row e = absurd cc
 carries_at strong (m ∷ ns) zero n row e = ap (λ (x : Labelled). in_front strong x.node row) (same_Some m n e)
 carries_at strong (m ∷ ns) (suc i) n row e = carries_at strong ns i n row e
-
--- as the code keeps the nodes
-pub carries_item : (strong : Bool) (items : List code.Labelled) (i : ℕ) (d : code.Labelled) (row : List ℕ) → i < length items → carries strong (labelled_of items) i row ≡ in_front strong (node_of (get_or items i d).node) row
-carries_item strong items i d row lt =
-    carries_at strong (labelled_of items) i (labelled (get_or items i d)) row
-    (slice_get-get_or (labelled_of items) i (labelled d) (let l = length_labelled items in omega (arith, l)) ∙ ap Some (get_labelled items i d))
 
 pub carries_past : (strong : Bool) (ns : List Labelled) (i : ℕ) (row : List ℕ) → length ns ≤ i → carries strong ns i row ≡ nothing
 carries_past strong [] i row h = refl

@@ -54,11 +54,10 @@ fn drop_by(alloc: Global, pair: &mut RtlPair, live: &[RegisterSet]) -> Result<()
 fn dead_labels(alloc: Global, rtl: &Rtl, live: &[RegisterSet]) -> Result<Vec<u32>, AllocError>
     ensures { IfOk result (λ labels. labels.items ≡ dead_labels_of (rows_at rtl.now.nodes live.now) rtl.now.nodes) }
 {
-    let nodes = rtl.nodes();
     let mut labels = Vec::new(alloc);
-    for labelled in nodes {
-        if is_dead(rtl, live, &labelled.node) {
-            labels.push(labelled.label)?;
+    for at in 0..rtl.len() {
+        if is_dead(rtl, live, rtl.node(at)) {
+            labels.push(at as u32)?;
         }
     }
     Ok(labels)

@@ -28,11 +28,10 @@ impl<'a> Transfer<RegisterSet> for Code<'a> {
         node: usize,
         facts: &RegisterSet,
     ) -> Result<RegisterSet, AllocError> {
-        let nodes = self.rtl.nodes();
-        if node >= nodes.len() {
-            return RegisterSet::least(alloc);
+        match self.rtl.at(node) {
+            Some(node) => in_front(alloc, self.strong, node, facts),
+            None => RegisterSet::least(alloc),
         }
-        in_front(alloc, self.strong, &nodes[node].node, facts)
     }
 
     ghost monotone = { λ c. carries_up c.strong c.rtl.now.nodes };
@@ -136,7 +135,7 @@ pub fn solve(alloc: Global, rtl: &Rtl, strong: bool) -> Result<Vec<RegisterSet>,
     ensures long { IfOk result (λ sets. length sets.items ≡ length rtl.now.nodes) }
     ensures least { IfOk result (λ sets. AreLeastAs strong rtl.now.nodes (rows_at rtl.now.nodes sets.items)) }
 {
-    let _nodes = rtl.nodes();
+    let _count = rtl.len();
     let graph = rtl.graph(alloc)?;
     let code = Code { rtl, strong };
     let least = solve_backward(alloc, &graph, &code)?;

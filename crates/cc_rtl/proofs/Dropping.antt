@@ -1,21 +1,18 @@
 -- A function of which dead nodes became nops keeps up as it did: the two runs go hand in hand, and agree on the registers that are live.
 -- Where the old one goes wrong (a quotient that there is not, an element that there is not) nothing is owed.
-use Rattle.std.proofs.Common.{◌≡◌, ◌≢◌, ℕ, zero, suc, ◌<◌, ◌≤◌, List, [], ◌∷◌, map, cond, refl, sym, ap, ◌∙◌, subst, Bool, true, false, ◌==◌, ◌||◌, not, if◌then◌else◌, IsTrue, arith, inl, inr, ◌⊎◌, Contains}
+use Rattle.std.proofs.Common.{◌≡◌, ◌≢◌, ℕ, suc, List, [], ◌∷◌, map, refl, sym, ap, ◌∙◌, subst, Bool, true, false, ◌==◌, ◌||◌, not, if◌then◌else◌, IsTrue, arith, inl, Contains}
 use Rattle.std.specs.Prelude.{Option, Some, None}
-use Rattle.std.proofs.lemmas.Bool.Decides.{Decides-eqb, nat_tests}
-use Rattle.std.proofs.lemmas.List.Elements.{Contains-append_left, Contains-append_right, Contains-push}
+use Rattle.std.proofs.lemmas.Bool.Decides.{Decides-eqb}
 use Rattle.cc_words.specs.Operators.{apply_unary, apply_binary}
 use Rattle.cc_syntax.specs.Tree.{External}
 use Rattle.cc_runs.specs.World.{World, Question, Answer, element, stored, next_word, after_read, after_write}
 use Rattle.cc_runs.specs.Run.{Move as Moving, Goes, Calls, Returns, Fails, tried}
-use Rattle.cc_runs.specs.internal.Simulation.{Way, Advances, Asks, Ending, Simulation}
+use Rattle.cc_runs.specs.internal.Simulation.{Advances, Asks, Ending, Simulation}
 use Rattle.cc_runs.proofs.Simulating.{coarser, tracks_on}
-use Rattle.cc_rtl.specs.Rtl as rtl
-use Rattle.cc_rtl.specs.Rtl.{Rtl, Labelled, Node, Nop, Const, Move, Unary, Binary, Load, Store, Call, Read, Write, Branch, Return, Registers, Configuration, at, put, put_result, answered, branched, node_at, node_move, rtl_move, rtl_output, rtl_start, successors}
-use Rattle.cc_rtl.specs.Live.{Sets, in_some, live_behind, reads, result, pure_result, Carries, AreLive, is_dead, is_unread, is_nop, as_nop, with_nops, MayBecomeNops, MayGo, among, without}
-use Rattle.cc_rtl.specs.Pair.{Pair, tree_of, IsCallOf, AreCalls, KeepsUp, IsPair}
-use Rattle.cc_rtl.proofs.Nops.{Which, turned, these, node_turned, none_turned, turned_from, is_rtl}
-use Rattle.cc_rtl.proofs.Places.{if_true, if_false}
+use Rattle.cc_rtl.specs.Rtl.{Rtl, Node, Nop, Const, Move, Unary, Binary, Load, Store, Call, Read, Write, Branch, Return, Registers, Configuration, at, put, answered, branched, node_at, node_move, rtl_move, rtl_output, rtl_start, successors}
+use Rattle.cc_rtl.specs.Live.{Sets, in_some, result, Carries, is_dead, is_nop, as_nop, with_nops, MayBecomeNops, MayGo, among, without}
+use Rattle.cc_rtl.specs.Pair.{Pair, tree_of, IsCallOf, KeepsUp, IsPair}
+use Rattle.cc_rtl.proofs.Nops.{Which, turned, these, node_turned, turned_from, is_rtl}
 
 or_left : (a b : Bool) → IsTrue a → IsTrue (a || b)
 or_left true b h = h

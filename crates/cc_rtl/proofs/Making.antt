@@ -1,6 +1,9 @@
 -- Steps of the generator's code: arguments one by one, statements from the last to the first, places turned round.
-use Rattle.std.proofs.Common.{◌≡◌, ℕ, suc, ◌+◌, ◌-◌, ◌<◌, ◌≤◌, List, [], ◌∷◌, ◌++◌, length, length-append, reverse, refl, sym, ap, ◌∙◌, subst, append_assoc, arith, rules, drop, get_or, drop-cons, Option, Some, None, option_map}
-use Rattle.std.proofs.lemmas.List.{length-map, map-append, length-reverse, get_or-reverse}
+use Rattle.std.proofs.Common.{◌≡◌, ℕ, suc, ◌+◌, ◌-◌, ◌<◌, ◌≤◌, List, [], ◌∷◌, ◌++◌, length, length-append, reverse, refl, sym, ap, ◌∙◌, subst, append_assoc, arith, rules, drop, get_or, set, zero, drop-cons, Option, Some, None, option_map, true, false, ◌==◌, if◌then◌else◌}
+use Rattle.std.specs.Prelude.{IsSome}
+use Rattle.std.proofs.lemmas.Option.{same_Some}
+use Rattle.std.proofs.lemmas.Bool.Decides.{Decides-eqb}
+use Rattle.std.proofs.lemmas.List.{length-reverse, get_or-reverse}
 use denote.Param.Weighed.{most, at_most}
 use Rattle.std.proofs.lemmas.Grind.{reverse_onto}
 use Rattle.cc_cminor.specs.Code.{expression_of, expressions_of, statement_of, statements_in, in_sequence}
@@ -14,9 +17,11 @@ use Rattle.cc_rtl.specs.Rtl.{most_nodes}
 use Rattle.cc_rtl.specs.Code.{node_of, labelled_of}
 use Rattle.cc_rtl.specs.Size.{operand_nodes, operands_nodes, statement_nodes}
 use Rattle.cc_rtl.specs.declared.node.Node.{Node}
-use Rattle.cc_rtl.specs.declared.node.Labelled.{Labelled}
 use Rattle.cc_rtl.specs.internal.Generate.{Places, Made, made, renamed, labelled_from, nodes_back}
-use Rattle.cc_rtl.specs.internal.Generating.{places_of, made_at}
+use Rattle.cc_rtl.specs.Positions.{AreNumbered}
+use Rattle.cc_rtl.specs.internal.Generating.{places_of, made_at, AreCountedDown}
+use Rattle.cc_instr_list.specs.List.{Entry, Listed, entry, listed, item_at, first_label, with_before, with_item, without}
+use Rattle.cc_rtl.proofs.Places.{same_test}
 
 -- ---- arguments
 
@@ -141,9 +146,9 @@ nodes_back-none [] = refl
 nodes_back-none (None ∷ g) = nodes_back-none g
 nodes_back-none (Some x ∷ g) = ap (λ l. l ++ x ∷ []) (nodes_back-none g)
 
-labelled_of-append : (xs ys : List Labelled) → labelled_of (xs ++ ys) ≡ labelled_of xs ++ labelled_of ys
+labelled_of-append : (xs ys : List (Entry Node)) → labelled_of (xs ++ ys) ≡ labelled_of xs ++ labelled_of ys
 labelled_of-append [] ys = refl
-labelled_of-append (x ∷ xs) ys = ap (λ l. record { label = x.label; node = node_of x.node } ∷ l) (labelled_of-append xs ys)
+labelled_of-append (x ∷ xs) ys = ap (λ l. record { label = x.label; node = node_of x.item } ∷ l) (labelled_of-append xs ys)
 
 append_nothing : {A : Type 0} (xs : List A) → xs ++ [] ≡ xs
 append_nothing [] = refl
@@ -153,44 +158,122 @@ pub no_node : (place : Option Node) → ((n : Node) → place ≡ Some n → ⊥
 no_node None not = refl
 no_node (Some n) not = absurd (not n refl)
 
--- the nodes that are labelled, and the places that are left
-pub record Turns (last : ℕ) (all : Places) (nodes : List Labelled) (places : List (Option Node)) : Type 0 where
-  pub code : labelled_of nodes ++ labelled_from last (length nodes) (nodes_back (places_of places)) ≡ labelled_from last 0 (nodes_back all)
-  pub few : length nodes + length places ≤ most_nodes
+pub length_places : (es : List (Entry (Option Node))) → length (places_of es) ≡ length es
+length_places [] = refl
+length_places (e ∷ es) = length-append (places_of es) _ ∙ (let r = length_places es in let n : length (places_of es) + 1 ≡ suc (length es) = omega arith in n)
 
-pub turns-start : (last : ℕ) (all : Places) (nodes : List Labelled) (places : List (Option Node)) → nodes ≡ [] → places_of places ≡ all → length all ≤ most_nodes → Turns last all nodes places
+-- the nodes that are labelled, and the places that are left
+pub record Turns (last : ℕ) (all : Places) (nodes : Listed Node) (places : List (Entry (Option Node))) : Type 0 where
+  pub code : labelled_of nodes.entries ++ labelled_from last nodes.given (nodes_back (places_of places)) ≡ labelled_from last 0 (nodes_back all)
+  pub few : nodes.given + length places ≤ most_nodes
+
+pub turns-start : (last : ℕ) (all : Places) (nodes : Listed Node) (places : List (Entry (Option Node))) → nodes ≡ listed 0 [] → places_of places ≡ all → length all ≤ most_nodes → Turns last all nodes places
 turns-start last all nodes places none is few =
-    let a : length (places_of places) ≡ length places = length-map places (option_map node_of) in
+    let a : length (places_of places) ≡ length places = length_places places in
     let b : length (places_of places) ≡ length all = ap length is in
-    let short : length {A = Labelled} [] + length places ≤ most_nodes = omega arith in
+    let short : 0 + length places ≤ most_nodes = omega arith in
     subst (λ l. Turns last all l places) (sym none) (record { code = ap (λ g. labelled_from last 0 (nodes_back g)) is; few = short })
 
-pub turns-some : (last : ℕ) (all : Places) (nodes nodes' : List Labelled) (places places' : List (Option Node)) (label : ℕ) (node node' : Node) → Turns last all nodes places → places ≡ places' ++ (Some node ∷ [])
-    → node_of node' ≡ renamed (λ l. last - l) (node_of node) → label ≡ length nodes → nodes' ≡ nodes ++ (record { label = label; node = node' } ∷ []) → Turns last all nodes' places'
-turns-some last all nodes nodes' places places' label node node' before popped turned numbered pushed =
-    let at_end : length nodes' ≡ suc (length nodes) = ap length pushed ∙ length-append nodes _ ∙ (let e : length nodes + 1 ≡ suc (length nodes) = omega arith in e) in
-    let back : nodes_back (places_of places) ≡ node_of node ∷ nodes_back (places_of places') =
-    ap (λ l. nodes_back (places_of l)) popped ∙ ap nodes_back (map-append _ places' (Some node ∷ [])) ∙ nodes_back-append (places_of places') (node_of node) in
-    record {
+pub turns-some : (last : ℕ) (all : Places) (nodes nodes' : Listed Node) (places places' : List (Entry (Option Node))) (label : ℕ) (node node' : Node) → Turns last all nodes places → places ≡ entry label (Some node) ∷ places'
+    → node_of node' ≡ renamed (λ l. last - l) (node_of node) → nodes' ≡ listed (nodes.given + 1) (nodes.entries ++ entry nodes.given node' ∷ []) → Turns last all nodes' places'
+turns-some last all nodes nodes' places places' label node node' before popped turned pushed =
+    let on : nodes.given + 1 ≡ suc nodes.given = omega arith in
+    let back : nodes_back (places_of places) ≡ node_of node ∷ nodes_back (places_of places') = ap (λ l. nodes_back (places_of l)) popped ∙ nodes_back-append (places_of places') (node_of node) in
+    subst (λ l. Turns last all l places') (sym pushed) (record {
       code =
-          ap (λ k. labelled_of nodes' ++ labelled_from last k (nodes_back (places_of places'))) at_end
-          ∙ ap (λ l. labelled_of l ++ labelled_from last (suc (length nodes)) (nodes_back (places_of places'))) pushed
-          ∙ ap (λ l. l ++ labelled_from last (suc (length nodes)) (nodes_back (places_of places'))) (labelled_of-append nodes _)
-          ∙ append_assoc (labelled_of nodes) _ (labelled_from last (suc (length nodes)) (nodes_back (places_of places')))
-          ∙ ap (λ n. labelled_of nodes ++ (record { label = label; node = n } ∷ labelled_from last (suc (length nodes)) (nodes_back (places_of places')))) turned
-          ∙ ap (λ k. labelled_of nodes ++ (record { label = k; node = renamed (λ l. last - l) (node_of node) } ∷ labelled_from last (suc (length nodes)) (nodes_back (places_of places')))) numbered
-          ∙ ap (λ l. labelled_of nodes ++ labelled_from last (length nodes) l) (sym back) ∙ before.code;
-      few = let a = before.few in let b = ap length popped in let d = length-append places' (Some node ∷ []) in omega arith;
-    }
+          ap (λ k. labelled_of (nodes.entries ++ entry nodes.given node' ∷ []) ++ labelled_from last k (nodes_back (places_of places'))) on
+          ∙ ap (λ l. l ++ labelled_from last (suc nodes.given) (nodes_back (places_of places'))) (labelled_of-append nodes.entries _)
+          ∙ append_assoc (labelled_of nodes.entries) _ (labelled_from last (suc nodes.given) (nodes_back (places_of places')))
+          ∙ ap (λ n. labelled_of nodes.entries ++ (record { label = nodes.given; node = n } ∷ labelled_from last (suc nodes.given) (nodes_back (places_of places')))) turned
+          ∙ ap (λ l. labelled_of nodes.entries ++ labelled_from last nodes.given l) (sym back) ∙ before.code;
+      few = let a = before.few in let b = ap length popped in omega arith;
+    })
 
-pub turns-none : (last : ℕ) (all : Places) (nodes : List Labelled) (places places' : List (Option Node)) → Turns last all nodes places → places ≡ places' ++ (None ∷ []) → Turns last all nodes places'
-turns-none last all nodes places places' before popped =
-    let back : nodes_back (places_of places) ≡ nodes_back (places_of places') =
-    ap (λ l. nodes_back (places_of l)) popped ∙ ap nodes_back (map-append _ places' (None ∷ [])) ∙ nodes_back-none (places_of places') in
+pub turns-none : (last : ℕ) (all : Places) (nodes : Listed Node) (places places' : List (Entry (Option Node))) (label : ℕ) → Turns last all nodes places → places ≡ entry label None ∷ places' → Turns last all nodes places'
+turns-none last all nodes places places' label before popped =
+    let back : nodes_back (places_of places) ≡ nodes_back (places_of places') = ap (λ l. nodes_back (places_of l)) popped ∙ nodes_back-none (places_of places') in
     record {
-      code = ap (λ l. labelled_of nodes ++ labelled_from last (length nodes) l) (sym back) ∙ before.code;
-      few = let a = before.few in let b = ap length popped in let d = length-append places' (None ∷ []) in omega arith;
+      code = ap (λ l. labelled_of nodes.entries ++ labelled_from last nodes.given l) (sym back) ∙ before.code;
+      few = let a = before.few in let b = ap length popped in omega arith;
     }
 
-pub turns-end : (last : ℕ) (all : Places) (nodes : List Labelled) (places : List (Option Node)) → Turns last all nodes places → places ≡ [] → labelled_of nodes ≡ labelled_from last 0 (nodes_back all)
-turns-end last all nodes places before none = sym (append_nothing (labelled_of nodes)) ∙ ap (λ l. labelled_of nodes ++ labelled_from last (length nodes) (nodes_back (places_of l))) (sym none) ∙ before.code
+pub turns-end : (last : ℕ) (all : Places) (nodes : Listed Node) (places : List (Entry (Option Node))) → Turns last all nodes places → places ≡ [] → labelled_of nodes.entries ≡ labelled_from last 0 (nodes_back all)
+turns-end last all nodes places before none = sym (append_nothing (labelled_of nodes.entries)) ∙ ap (λ l. labelled_of nodes.entries ++ labelled_from last nodes.given (nodes_back (places_of l))) (sym none) ∙ before.code
+
+-- labels made in turn are numbered
+pub numbered_from : (last from : ℕ) (ns : List rtl.Node) → AreNumbered from (labelled_from last from ns)
+numbered_from last from [] = tt
+numbered_from last from (n ∷ ns) = (refl, numbered_from last (suc from) ns)
+
+-- ---- places that are added and closed
+
+set_end : {A : Type 0} (xs : List A) (x y : A) (i : ℕ) → i ≡ length xs → set (xs ++ x ∷ []) i y ≡ xs ++ y ∷ []
+set_end [] x y zero e = refl
+set_end [] x y (suc i) e = absurd (omega arith)
+set_end (z ∷ xs) x y zero e = absurd (omega arith)
+set_end (z ∷ xs) x y (suc i) e = ap (λ l. z ∷ l) (set_end xs x y i (omega arith))
+
+set_before : {A : Type 0} (xs : List A) (x y : A) (i : ℕ) → i < length xs → set (xs ++ x ∷ []) i y ≡ set xs i y ++ x ∷ []
+set_before [] x y i lt = absurd (omega arith)
+set_before (z ∷ xs) x y zero lt = refl
+set_before (z ∷ xs) x y (suc i) lt = ap (λ l. z ∷ l) (set_before xs x y i (omega arith))
+
+pub length_with_item : {T : Type 0} (es : List (Entry T)) (l : ℕ) (x : T) → length (with_item l x es) ≡ length es
+length_with_item [] l x = refl
+length_with_item (e ∷ es) l x = elim (e.label == l) as (λ t. length (if t then entry e.label x ∷ es else e ∷ with_item l x es) ≡ suc (length es)) [ true ↦ refl | false ↦ ap suc (length_with_item es l x) ]
+
+pub counted_with_item : (es : List (Entry (Option Node))) (l : ℕ) (x : Option Node) → AreCountedDown es → AreCountedDown (with_item l x es)
+counted_with_item [] l x a = tt
+counted_with_item (e ∷ es) l x a =
+    elim (e.label == l) as (λ t. AreCountedDown (if t then entry e.label x ∷ es else e ∷ with_item l x es)) [ true ↦ a | false ↦ (a.0 ∙ sym (length_with_item es l x), counted_with_item es l x a.1) ]
+
+pub place_there : (es : List (Entry (Option Node))) (l : ℕ) → AreCountedDown es → l < length es → IsSome (item_at l es)
+place_there [] l a lt = absurd (omega arith)
+place_there (e ∷ es) l a lt =
+    elim (e.label == l) as (λ t. (e.label == l) ≡ t → IsSome (if t then Some e.item else item_at l es)) [
+      | true ↦ λ q. refl
+      | false ↦ λ q. place_there es l a.1 (let o = other e.label l q in let c = a.0 in grind arith)
+    ] refl
+  where
+    other : (m k : ℕ) → (m == k) ≡ false → m ≡ k → ⊥
+    other m k q same = let v = same_test m k same in absurd cc
+
+pub place_set : (es : List (Entry (Option Node))) (l : ℕ) (x : Option Node) → AreCountedDown es → l < length es → places_of (with_item l x es) ≡ set (places_of es) l (option_map node_of x)
+place_set [] l x a lt = absurd (omega arith)
+place_set (e ∷ es) l x a lt =
+    let n = length_places es in
+    elim (e.label == l) as (λ t. (e.label == l) ≡ t → places_of (if t then entry e.label x ∷ es else e ∷ with_item l x es) ≡ set (places_of es ++ option_map node_of e.item ∷ []) l (option_map node_of x)) [
+      | true ↦ λ q. let same = (Decides-eqb e.label l).0 q in let c = a.0 in sym (set_end (places_of es) (option_map node_of e.item) (option_map node_of x) l (omega arith))
+      | false ↦ λ q.
+          let below : l < length es = let o = other e.label l q in let c = a.0 in grind arith in
+          ap (λ g. g ++ option_map node_of e.item ∷ []) (place_set es l x a.1 below) ∙ sym (set_before (places_of es) (option_map node_of e.item) (option_map node_of x) l (omega arith))
+    ] refl
+  where
+    other : (m k : ℕ) → (m == k) ≡ false → m ≡ k → ⊥
+    other m k q same = let v = same_test m k same in absurd cc
+
+-- ---- the first of a list
+
+module _ {T : Type 0} where
+  pub none_first : (es : List (Entry T)) → first_label es ≡ None → es ≡ []
+  none_first [] h = refl
+  none_first (e ∷ es) h = absurd (let z : Some e.label ≡ None = h in cc)
+
+  first_is : (e : Entry T) (es : List (Entry T)) (l : ℕ) → first_label (e ∷ es) ≡ Some l → (e.label == l) ≡ true
+  first_is e es l h = same_test e.label l (same_Some e.label l h)
+
+  pub first_there : (es : List (Entry T)) (l : ℕ) → first_label es ≡ Some l → IsSome (item_at l es)
+  first_there [] l h = absurd (let z : None ≡ Some l = h in cc)
+  first_there (e ∷ es) l h = subst (λ t. IsSome (if t then Some e.item else item_at l es)) (sym (first_is e es l h)) refl
+
+  pub put_front : (es : List (Entry T)) (l : ℕ) (new : Entry T) → first_label es ≡ Some l → with_before l new es ≡ new ∷ es
+  put_front [] l new h = absurd (let z : None ≡ Some l = h in cc)
+  put_front (e ∷ es) l new h = ap (λ t. if t then new ∷ e ∷ es else e ∷ with_before l new es) (first_is e es l h)
+
+  pub first_out : (es : List (Entry T)) (l : ℕ) (x : T) → first_label es ≡ Some l → item_at l es ≡ Some x → es ≡ entry l x ∷ without l es
+  first_out [] l x h i = absurd (let z : None ≡ Some l = h in cc)
+  first_out (e ∷ es) l x h i =
+      let t = first_is e es l h in
+      let label : e.label ≡ l = same_Some e.label l h in
+      let item : e.item ≡ x = same_Some e.item x (sym (ap (λ b. if b then Some e.item else item_at l es) t) ∙ i) in
+      ap (λ k. entry k e.item ∷ es) label ∙ ap (λ y. entry l y ∷ es) item ∙ ap (λ rest. entry l x ∷ rest) (sym (ap (λ b. if b then es else e ∷ without l es) t))

@@ -1,16 +1,16 @@
 -- Nodes that became nops: what stands at a label then, that the graph keeps its form, and some after others.
-use Rattle.std.proofs.Common.{◌≡◌, ◌≢◌, ℕ, zero, suc, ◌+◌, ◌<◌, ◌≤◌, List, [], ◌∷◌, ◌++◌, length, take, set, get_or, cond, refl, sym, ap, ◌∙◌, subst, Bool, true, false, ◌==◌, ◌||◌, if◌then◌else◌, arith, inl, inr, Contains}
-use Rattle.std.specs.Prelude.{Option, Some, None, IsSome}
+use Rattle.std.proofs.Common.{◌≡◌, ℕ, suc, ◌+◌, ◌<◌, List, [], ◌∷◌, ◌++◌, length, take, get_or, refl, sym, ap, ◌∙◌, subst, Bool, true, false, ◌==◌, ◌||◌, if◌then◌else◌, arith, Contains}
+use Rattle.std.specs.Prelude.{Option, Some, None, IsSome, option_map, MatchOption}
 use Rattle.std.proofs.lemmas.Option.{same_Some}
-use Rattle.std.proofs.lemmas.Bool.Decides.{Decides-eqb, nat_tests}
-use Rattle.cc_rtl.specs.Rtl as rtl
+use Rattle.std.proofs.lemmas.Bool.Decides.{Decides-eqb}
 use Rattle.cc_rtl.specs.Rtl.{Rtl, Labelled, Node, Nop, Const, Move, Unary, Binary, Load, Store, Call, Read, Write, Branch, Return, Ascend, IsBelowFirst, IsRtl, node_at, successors}
-use Rattle.cc_rtl.specs.Live.{as_nop, with_nops, among, without}
-use Rattle.cc_rtl.specs.Positions.{position_of}
+use Rattle.cc_rtl.specs.Live.{as_nop, with_nops, among}
+use Rattle.cc_rtl.specs.Positions.{AreNumbered}
 use Rattle.std.proofs.lemmas.List.{take_more}
 use Rattle.cc_rtl.specs.Code.{node_of, labelled_of}
-use Rattle.cc_rtl.specs.declared.node.Labelled as code
-use Rattle.cc_rtl.proofs.Places.{if_true, if_false, same_test, other_test, labelled, get_labelled, set_labelled}
+use Rattle.cc_rtl.specs.declared.node.Node as code
+use Rattle.cc_instr_list.specs.List.{Entry, entry, with_item}
+use Rattle.cc_rtl.proofs.Places.{same_test, other_test}
 
 abbrev pub Which : Type 0
 Which = (label : ℕ) → Node → Bool
@@ -166,28 +166,6 @@ none_behind l (n ∷ ns) below ascend =
     further [] h b = tt
     further (m ∷ ms) h b = omega arith
 
--- a label's node is turned at its position
-pub turned_at : (l : ℕ) (ns : List Labelled) (d : Labelled) → Ascend ns → IsSome (node_at ns l)
-    → with_nops (this l) ns ≡ set ns (position_of ns l) (record { label = (get_or ns (position_of ns l) d).label; node = as_nop (get_or ns (position_of ns l) d).node })
-turned_at l [] d ascend h = refl
-turned_at l (n ∷ ns) d ascend h = go (n.label == l) refl h (turned_at l ns d ascend.1)
-  where
-    nop_of : Labelled → Labelled
-    nop_of m = record { label = m.label; node = as_nop m.node }
-
-    go : (b : Bool) → (n.label == l) ≡ b → IsSome (if b then Some n.node else node_at ns l)
-        → (IsSome (node_at ns l) → with_nops (this l) ns ≡ set ns (position_of ns l) (record { label = (get_or ns (position_of ns l) d).label; node = as_nop (get_or ns (position_of ns l) d).node }))
-        → (record { label = n.label; node = turned (l == n.label) n.node } ∷ with_nops (this l) ns)
-        ≡ set (n ∷ ns) (if b then 0 else suc (position_of ns l)) (record { label = (get_or (n ∷ ns) (if b then 0 else suc (position_of ns l)) d).label; node = as_nop (get_or (n ∷ ns) (if b then 0 else suc (position_of ns l)) d).node })
-    go true t s rest =
-        let label : n.label ≡ l = (Decides-eqb n.label l).0 t in
-        let u : (l == n.label) ≡ true = same_test l n.label (sym label) in
-        ap (λ b. record { label = n.label; node = turned b n.node } ∷ with_nops (this l) ns) u
-        ∙ ap (λ more. record { label = n.label; node = as_nop n.node } ∷ more) (none_behind l ns (subst (λ k. IsBelowFirst k ns) label ascend.0) ascend.1)
-    go false t s rest =
-        let u : (l == n.label) ≡ false = other_test l n.label (λ e. absurd (let v = same_test n.label l (sym e) in cc)) in
-        ap (λ b. record { label = n.label; node = turned b n.node } ∷ with_nops (this l) ns) u ∙ ap (λ more. n ∷ more) (rest s)
-
 -- two that turn the same of the nodes that there are
 pub same_turned : (which other : Which) (ns : List Labelled) → ((n : Labelled) → Contains ns n → which n.label n.node ≡ other n.label n.node) → with_nops which ns ≡ with_nops other ns
 same_turned which other [] h = refl
@@ -195,22 +173,54 @@ same_turned which other (n ∷ ns) h =
     ap (λ b. record { label = n.label; node = turned b n.node } ∷ with_nops which ns) (h n (0, omega arith, refl))
     ∙ ap (λ rest. record { label = n.label; node = turned (other n.label n.node) n.node } ∷ rest) (same_turned which other ns (λ m i. h m (suc i.0, (let l = i.1 in omega arith), i.2)))
 
+-- labels stay
+pub numbered_turned : (which : Which) (from : ℕ) (ns : List Labelled) → AreNumbered from ns → AreNumbered from (with_nops which ns)
+numbered_turned which from [] a = tt
+numbered_turned which from (n ∷ ns) a = (a.0, numbered_turned which (suc from) ns a.1)
+
 -- ---- as the code makes them
 
-abbrev nop_at : Labelled → Labelled
-nop_at n = record { label = n.label; node = as_nop n.node }
+-- another item under a label, which is the nop of what was there
+pub turn_one : (es : List (Entry code.Node)) (l : ℕ) (x : code.Node) → Ascend (labelled_of es) → option_map as_nop (node_at (labelled_of es) l) ≡ Some (node_of x) → labelled_of (with_item l x es) ≡ with_nops (this l) (labelled_of es)
+turn_one [] l x ascend h = refl
+turn_one (e ∷ es) l x ascend h =
+    elim (e.label == l) as (λ t. (e.label == l) ≡ t → option_map as_nop (if t then Some (node_of e.item) else node_at (labelled_of es) l) ≡ Some (node_of x)
+    → labelled_of (if t then entry e.label x ∷ es else e ∷ with_item l x es) ≡ record { label = e.label; node = turned (l == e.label) (node_of e.item) } ∷ with_nops (this l) (labelled_of es)) [
+      | true ↦ λ q f.
+          let label : e.label ≡ l = (Decides-eqb e.label l).0 q in
+          let u : (l == e.label) ≡ true = same_test l e.label (sym label) in
+          ap (λ (m : Node). record { label = e.label; node = m } ∷ labelled_of es) (sym (same_Some (as_nop (node_of e.item)) (node_of x) f))
+          ∙ ap (λ (ms : List Labelled). record { label = e.label; node = as_nop (node_of e.item) } ∷ ms) (sym (none_behind l (labelled_of es) (subst (λ k. IsBelowFirst k (labelled_of es)) label ascend.0) ascend.1))
+          ∙ ap (λ b. record { label = e.label; node = turned b (node_of e.item) } ∷ with_nops (this l) (labelled_of es)) (sym u)
+      | false ↦ λ q f.
+          let u : (l == e.label) ≡ false = other_test l e.label (λ s. absurd (let v = same_test e.label l (sym s) in cc)) in
+          ap (λ (ms : List Labelled). record { label = e.label; node = node_of e.item } ∷ ms) (turn_one es l x ascend.1 f)
+          ∙ ap (λ b. record { label = e.label; node = turned b (node_of e.item) } ∷ with_nops (this l) (labelled_of es)) (sym u)
+    ] refl h
 
--- one node more, of the label whose turn it is
-pub turn_more : (start : List Labelled) (items : List code.Labelled) (labels : List ℕ) (i at : ℕ) (n m : code.Labelled) → labelled_of items ≡ with_nops (these (take i labels)) start → Ascend (labelled_of items)
-    → IsSome (node_at (labelled_of items) (get_or labels i 0)) → at ≡ position_of (labelled_of items) (get_or labels i 0) → n ≡ get_or items at n → m.label ≡ n.label → node_of m.node ≡ as_nop (node_of n.node) → i < length labels
-    → labelled_of (set items at m) ≡ with_nops (these (take (i + 1) labels)) start
-turn_more start items labels i at n m so_far ascend there place n_is same_label nop_is h =
-    let ns = labelled_of items in
-    let l = get_or labels i 0 in
-    let here : get_or ns at (labelled n) ≡ labelled n = get_labelled items at n ∙ ap labelled (sym n_is) in
-    let made : labelled m ≡ nop_at (labelled n) = ap (λ k. record { label = k; node = node_of m.node }) same_label ∙ ap (λ x. record { label = n.label; node = x }) nop_is in
-    set_labelled items at m
-    ∙ (ap (set ns at) made
-    ∙ (sym (ap (λ x. set ns at (nop_at x)) here)
-    ∙ (ap (λ k. set ns k (nop_at (get_or ns k (labelled n)))) place
-    ∙ (sym (turned_at l ns (labelled n) ascend there) ∙ (ap (with_nops (this l)) so_far ∙ (one_more (take i labels) l start ∙ ap (λ ls. with_nops (these ls) start) (sym (take_more labels i 0 h))))))))
+-- a label whose node stays as a nop
+pub turn_none : (ns : List Labelled) (l : ℕ) → Ascend ns → option_map as_nop (node_at ns l) ≡ node_at ns l → with_nops (this l) ns ≡ ns
+turn_none [] l ascend h = refl
+turn_none (n ∷ ns) l ascend h =
+    elim (n.label == l) as (λ t. (n.label == l) ≡ t → option_map as_nop (if t then Some n.node else node_at ns l) ≡ (if t then Some n.node else node_at ns l)
+    → record { label = n.label; node = turned (l == n.label) n.node } ∷ with_nops (this l) ns ≡ n ∷ ns) [
+      | true ↦ λ q f.
+          let label : n.label ≡ l = (Decides-eqb n.label l).0 q in
+          let u : (l == n.label) ≡ true = same_test l n.label (sym label) in
+          ap (λ b. record { label = n.label; node = turned b n.node } ∷ with_nops (this l) ns) u
+          ∙ ap (λ (m : Node). record { label = n.label; node = m } ∷ with_nops (this l) ns) (same_Some (as_nop n.node) n.node f)
+          ∙ ap (λ (ms : List Labelled). n ∷ ms) (none_behind l ns (subst (λ k. IsBelowFirst k ns) label ascend.0) ascend.1)
+      | false ↦ λ q f.
+          let u : (l == n.label) ≡ false = other_test l n.label (λ s. absurd (let v = same_test n.label l (sym s) in cc)) in
+          ap (λ b. record { label = n.label; node = turned b n.node } ∷ with_nops (this l) ns) u ∙ ap (λ (ms : List Labelled). n ∷ ms) (turn_none ns l ascend.1 f)
+    ] refl h
+
+-- what a node has to say of its nop, said of what stands under a label
+pub nop_found : (r : Option ℕ) (o : Option Node) (n : Node) → o ≡ Some n → MatchOption r (as_nop n ≡ n) (λ next. as_nop n ≡ Nop next) → MatchOption r (option_map as_nop o ≡ o) (λ next. option_map as_nop o ≡ Some (Nop next))
+nop_found None o n e m = ap (option_map as_nop) e ∙ (ap (λ (x : Node). Some x) m ∙ sym e)
+nop_found (Some next) o n e m = ap (option_map as_nop) e ∙ ap (λ (x : Node). Some x) m
+
+-- one label more
+pub turn_more : (start now after : List Labelled) (labels : List ℕ) (i : ℕ) → now ≡ with_nops (these (take i labels)) start → after ≡ with_nops (this (get_or labels i 0)) now → i < length labels → after ≡ with_nops (these (take (i + 1) labels)) start
+turn_more start now after labels i so_far is h =
+    is ∙ (ap (with_nops (this (get_or labels i 0))) so_far ∙ (one_more (take i labels) (get_or labels i 0) start ∙ ap (λ ls. with_nops (these ls) start) (sym (take_more labels i 0 h))))

@@ -1,16 +1,17 @@
 -- Nodes by their positions, and the rows of their graph.
 use Rattle.std.proofs.Common.{◌++◌, set, map, replicate, append_assoc, ◌≡◌, ◌≢◌, ℕ, zero, suc, ◌+◌, ◌<◌, ◌≤◌, length, List, [], ◌∷◌, get_or, refl, sym, ap, ◌∙◌, subst, Bool, true, false, ◌==◌, if◌then◌else◌, arith, inl, inr, Contains, All}
-use Rattle.std.specs.Prelude.{Option, Some, None, IsSome, slice_get}
-use Rattle.std.proofs.lemmas.Bool.{cases_lt, cases_eq}
+use Rattle.std.specs.Prelude.{Option, Some, None, IsSome, slice_get, option_map, MatchOption}
+use Rattle.std.proofs.lemmas.Bool.{cases_eq}
 use Rattle.std.proofs.lemmas.List.{get_or-set_same, get_or-set_other, length-set, set-set, ext_get_or, get_or-map, length-map, length-replicate}
 use Rattle.std.proofs.lemmas.List.Elements.{All-from_get_or, All-weaker, All-contains_itself}
-use Rattle.std.proofs.lemmas.Option.{same_Some, slice_get-get_or, slice_get_within}
+use Rattle.std.proofs.lemmas.Option.{same_Some, slice_get-get_or, slice_get_within, get_or_from_slice_get}
 use Rattle.std.proofs.lemmas.Bool.Decides.{Decides-eqb, nat_tests}
 use Rattle.cc_rtl.specs.Rtl as rtl
 use Rattle.cc_rtl.specs.Rtl.{Rtl, Ascend, IsBelowFirst, IsRtl, node_at, successors}
 use Rattle.cc_rtl.specs.Code.{node_of, labelled_of}
-use Rattle.cc_rtl.specs.declared.node.Labelled as code
-use Rattle.cc_rtl.specs.Positions.{position_of, graph_of}
+use Rattle.cc_rtl.specs.declared.node.Node.{Node}
+use Rattle.cc_instr_list.specs.List.{Entry, item_at}
+use Rattle.cc_rtl.specs.Positions.{position_of, graph_of, AreNumbered}
 use Rattle.cc_rtl.specs.internal.Leading.{LeadInside}
 
 pub if_true : {X : Type 0} (b : Bool) (x y : X) → b ≡ true → (if b then x else y) ≡ x
@@ -27,22 +28,21 @@ other_test a b n = grind (arith, nat_tests)
 
 -- ---- the nodes as the code keeps them
 
-abbrev pub labelled : code.Labelled → rtl.Labelled
-labelled n = record { label = n.label; node = node_of n.node }
+abbrev pub labelled : Entry Node → rtl.Labelled
+labelled n = record { label = n.label; node = node_of n.item }
 
-pub length_labelled : (ns : List code.Labelled) → length (labelled_of ns) ≡ length ns
+pub length_labelled : (ns : List (Entry Node)) → length (labelled_of ns) ≡ length ns
 length_labelled [] = refl
 length_labelled (n ∷ ns) = ap suc (length_labelled ns)
 
-pub get_labelled : (ns : List code.Labelled) (i : ℕ) (d : code.Labelled) → get_or (labelled_of ns) i (labelled d) ≡ labelled (get_or ns i d)
-get_labelled [] i d = refl
-get_labelled (n ∷ ns) zero d = refl
-get_labelled (n ∷ ns) (suc i) d = get_labelled ns i d
+-- what stands under a label
+pub node_of_label : (es : List (Entry Node)) (l : ℕ) → node_at (labelled_of es) l ≡ option_map node_of (item_at l es)
+node_of_label [] l = refl
+node_of_label (e ∷ es) l =
+    elim (e.label == l) as (λ t. (if t then Some (node_of e.item) else node_at (labelled_of es) l) ≡ option_map node_of (if t then Some e.item else item_at l es)) [ true ↦ refl | false ↦ node_of_label es l ]
 
-pub set_labelled : (ns : List code.Labelled) (i : ℕ) (n : code.Labelled) → labelled_of (set ns i n) ≡ set (labelled_of ns) i (labelled n)
-set_labelled [] i n = refl
-set_labelled (m ∷ ns) zero n = refl
-set_labelled (m ∷ ns) (suc i) n = ap (λ rest. labelled m ∷ rest) (set_labelled ns i n)
+pub item_there : (es : List (Entry Node)) (l : ℕ) → IsSome (node_at (labelled_of es) l) → IsSome (item_at l es)
+item_there es l h = elim (item_at l es) as (λ o. IsSome (option_map node_of o) → IsSome o) [ None ↦ λ f. f | Some x ↦ λ f. refl ] (subst (λ (o : Option rtl.Node). IsSome o) (node_of_label es l) h)
 
 -- ---- the position of a label
 
@@ -67,39 +67,59 @@ position_is (n ∷ ns) label d h = go (n.label == label) refl h (position_is ns 
     go true p s more = (omega arith, (Decides-eqb n.label label).0 p)
     go false p s more = let m = more s in (let l = m.0 in omega arith, m.1)
 
-pub position_within : (ns : List code.Labelled) (label : ℕ) → IsSome (node_at (labelled_of ns) label) → position_of (labelled_of ns) label < length ns
-position_within [] label h = absurd cc
-position_within (n ∷ ns) label h =
-    let d = labelled n in
-    let p = position_is (labelled_of (n ∷ ns)) label d h in
-    let l = length_labelled (n ∷ ns) in
-    omega (arith, p.0, l)
+-- ---- numbered labels
 
--- a node of a lower label stands before it, and before it stand nodes of lower labels alone
-module _ (ns : List code.Labelled) (label i : ℕ) (d : code.Labelled) (a : Ascend (labelled_of ns)) (s : IsSome (node_at (labelled_of ns) label)) (h : i < length ns) where
-  is : (position_of (labelled_of ns) label < length (labelled_of ns)) × ((get_or (labelled_of ns) (position_of (labelled_of ns) label) (labelled d)).label ≡ label)
-  is = position_is (labelled_of ns) label (labelled d) s
+pub numbered_at : (ns : List rtl.Labelled) (from i : ℕ) (d : rtl.Labelled) → AreNumbered from ns → i < length ns → (get_or ns i d).label ≡ from + i
+numbered_at [] from i d a h = absurd (omega arith)
+numbered_at (n ∷ ns) from zero d a h = let e = a.0 in omega arith
+numbered_at (n ∷ ns) from (suc i) d a h = let e = numbered_at ns (suc from) i d a.1 (omega arith) in omega arith
 
-  own : (get_or (labelled_of ns) i (labelled d)).label ≡ (get_or ns i d).label
-  own = ap (λ m. m.label) (get_labelled ns i d)
+-- a label is its position
+pub position_is_label : (ns : List rtl.Labelled) (label : ℕ) → AreNumbered 0 ns → IsSome (node_at ns label) → (label ≡ position_of ns label) × (label < length ns)
+position_is_label ns label a h =
+    let d : rtl.Labelled = record { label = 0; node = rtl.Return 0 } in
+    let p = position_is ns label d h in
+    let n = numbered_at ns 0 (position_of ns label) d a p.0 in
+    (omega (arith, p.1, n), omega (arith, p.0, p.1, n))
 
-  at_same : i ≡ position_of (labelled_of ns) label → (get_or ns i d).label ≡ label
-  at_same eq = sym own ∙ (ap (λ k. (get_or (labelled_of ns) k (labelled d)).label) eq ∙ is.1)
+-- the node of a position stands under it
+pub numbered_node : (ns : List rtl.Labelled) (from i : ℕ) → AreNumbered from ns → i < length ns → (node : rtl.Node) × (node_at ns (from + i) ≡ Some node) × (slice_get ns i ≡ Some (record { label = from + i; node = node }))
+numbered_node [] from i a h = absurd (omega arith)
+numbered_node (n ∷ ns) from zero a h =
+    let e : n.label ≡ from + 0 = (let q = a.0 in omega arith) in
+    (n.node, if_true (n.label == (from + 0)) (Some n.node) (node_at ns (from + 0)) (same_test n.label (from + 0) e), ap (λ (l : ℕ). Some (record { label = l; node = n.node })) e)
+numbered_node (n ∷ ns) from (suc i) a h =
+    let r = numbered_node ns (suc from) i a.1 (omega arith) in
+    let on : suc from + i ≡ from + suc i = omega arith in
+    let q = a.0 in
+    let other = if_false (n.label == (from + suc i)) (Some n.node) (node_at ns (from + suc i)) (other_test n.label (from + suc i) (λ e. absurd (omega arith))) in
+    (r.0, other ∙ ap (node_at ns) (sym on) ∙ r.1, r.2 ∙ ap (λ (l : ℕ). Some (record { label = l; node = r.0 })) on)
 
-  pub lower_before : (get_or ns i d).label < label → i < position_of (labelled_of ns) label
-  lower_before lower = elim (cases_lt i (position_of (labelled_of ns) label)) [
-    | inl lt ↦ lt
-    | inr ge ↦ absurd (elim (cases_lt (position_of (labelled_of ns) label) i) [
-      | inl lt ↦ (let f = ascend_at (labelled_of ns) (position_of (labelled_of ns) label) i (labelled d) a lt (let l = length_labelled ns in omega (arith, l)) in let q = is.1 in let o = own in omega (arith, f, q, o))
-      | inr le ↦ (let f = at_same (omega arith) in omega (arith, f))
-    ])
-  ]
+pub numbered_there : (ns : List rtl.Labelled) (i : ℕ) → AreNumbered 0 ns → i < length ns → IsSome (node_at ns i)
+numbered_there ns i a h =
+    let r = numbered_node ns 0 i a h in
+    let on : 0 + i ≡ i = omega arith in
+    subst (λ (o : Option rtl.Node). IsSome o) (sym (ap (node_at ns) (sym on) ∙ r.1)) refl
 
-  pub none_before : label ≤ (get_or ns i d).label → position_of (labelled_of ns) label ≤ i
-  none_before no_lower = elim (cases_lt i (position_of (labelled_of ns) label)) [
-    | inl lt ↦ absurd (let f = ascend_at (labelled_of ns) i (position_of (labelled_of ns) label) (labelled d) a lt is.0 in let q = is.1 in let o = own in omega (arith, f, q, o))
-    | inr ge ↦ ge
-  ]
+-- what the list of nodes answers under a label is the node of the position
+pub at_position : {A : Type 0} (item : A → Node) (r : Option A) (es : List (Entry Node)) (ns : List rtl.Labelled) (i : ℕ) → labelled_of es ≡ ns → AreNumbered 0 ns → i < length es → MatchOption r (item_at i es ≡ None) (λ x. item_at i es ≡ Some (item x))
+    → MatchOption r (length ns ≤ i) (λ x. slice_get ns i ≡ Some (record { label = i; node = node_of (item x) }))
+at_position {A = A} item r es ns i e a lt m = go r m
+  where
+    on : 0 + i ≡ i
+    on = omega arith
+
+    k : (node : rtl.Node) × (node_at ns (0 + i) ≡ Some node) × (slice_get ns i ≡ Some (record { label = 0 + i; node = node }))
+    k = numbered_node ns 0 i a (let l = length_labelled es in let q = ap (λ (xs : List rtl.Labelled). length xs) e in omega (arith, lt, l, q))
+
+    there : option_map node_of (item_at i es) ≡ Some k.0
+    there = sym (node_of_label es i) ∙ ap (λ (xs : List rtl.Labelled). node_at xs i) e ∙ ap (node_at ns) (sym on) ∙ k.1
+
+    go : (o : Option A) → MatchOption o (item_at i es ≡ None) (λ x. item_at i es ≡ Some (item x)) → MatchOption o (length ns ≤ i) (λ x. slice_get ns i ≡ Some (record { label = i; node = node_of (item x) }))
+    go None f = absurd (let z : None ≡ Some k.0 = sym (ap (option_map node_of) f) ∙ there in cc)
+    go (Some x) f =
+        let same : node_of (item x) ≡ k.0 = same_Some (node_of (item x)) k.0 (sym (ap (option_map node_of) f) ∙ there) in
+        k.2 ∙ ap (λ (l : ℕ). Some (record { label = l; node = k.0 })) on ∙ ap (λ (n : rtl.Node). Some (record { label = i; node = n })) (sym same)
 
 -- ---- what stands at a label and at its position
 
@@ -182,15 +202,15 @@ no_rows whole n e = record { long = length-replicate n [] ∙ e; done = λ k l. 
     empty (suc m) zero = refl
     empty (suc m) (suc k) = empty m k
 
--- ---- the graph of the nodes as the code keeps them
+-- ---- the graph of the nodes
 
-pub long_graph : (ns : List code.Labelled) → length (graph_of (labelled_of ns)) ≡ length ns
-long_graph ns = length-map (labelled_of ns) (λ (n : rtl.Labelled). map (position_of (labelled_of ns)) (successors n.node)) ∙ length_labelled ns
+pub long_graph : (ns : List rtl.Labelled) → length (graph_of ns) ≡ length ns
+long_graph ns = length-map ns (λ (n : rtl.Labelled). map (position_of ns) (successors n.node))
 
-pub row_of_graph : (ns : List code.Labelled) (i : ℕ) (d : code.Labelled) → i < length ns → get_or (graph_of (labelled_of ns)) i [] ≡ map (position_of (labelled_of ns)) (successors (node_of (get_or ns i d).node))
-row_of_graph ns i d h =
-    get_or-map (λ (n : rtl.Labelled). map (position_of (labelled_of ns)) (successors n.node)) (labelled_of ns) i (labelled d) [] (let l = length_labelled ns in omega (arith, l))
-    ∙ ap (λ n. map (position_of (labelled_of ns)) (successors n.node)) (get_labelled ns i d)
+pub row_of_graph : (ns : List rtl.Labelled) (i : ℕ) (n : rtl.Labelled) → slice_get ns i ≡ Some n → get_or (graph_of ns) i [] ≡ map (position_of ns) (successors n.node)
+row_of_graph ns i n e =
+    get_or-map (λ (m : rtl.Labelled). map (position_of ns) (successors m.node)) ns i n [] (slice_get_within ns i n e)
+    ∙ ap (λ (m : rtl.Labelled). map (position_of ns) (successors m.node)) (get_or_from_slice_get ns i n n e)
 
 -- each node of a function leads to nodes
 pub lead_inside : (r : Rtl) → IsRtl r → LeadInside r.nodes r.nodes

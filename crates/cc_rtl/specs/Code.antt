@@ -3,7 +3,7 @@ use Rattle.std.specs.Prelude.{List, [], ◌∷◌}
 use Rattle.cc_rtl.specs.Rtl as rtl
 use Rattle.cc_rtl.specs.declared.node.Node.{Node}
 use Rattle.cc_rtl.specs.declared.node.Node.TheVariants.{Nop, Const, Move, Unary, Binary, Load, Store, Call, Read, Write, Branch, Return}
-use Rattle.cc_rtl.specs.declared.node.Labelled.{Labelled}
+use Rattle.cc_instr_list.specs.List.{Entry}
 
 -- the node
 abbrev pub node_of : Node → rtl.Node
@@ -20,7 +20,7 @@ node_of (Write from next) = rtl.Write from next
 node_of (Branch from if_nonzero if_zero) = rtl.Branch from if_nonzero if_zero
 node_of (Return from) = rtl.Return from
 
--- the nodes with their labels
-abbrev pub labelled_of : List Labelled → List rtl.Labelled
+-- the nodes with their labels, in the order of the list that has them
+abbrev pub labelled_of : List (Entry Node) → List rtl.Labelled
 labelled_of [] = []
-labelled_of (n ∷ ns) = record { label = n.label; node = node_of n.node } ∷ labelled_of ns
+labelled_of (n ∷ ns) = record { label = n.label; node = node_of n.item } ∷ labelled_of ns

@@ -1,6 +1,11 @@
 -- The nodes of a function by their positions, as dataflow counts them.
-use Rattle.std.specs.Prelude.{ℕ, suc, List, [], ◌∷◌, map, ◌==◌, if◌then◌else◌}
+use Rattle.std.specs.Prelude.{◌≡◌, ℕ, suc, List, [], ◌∷◌, map, ◌==◌, if◌then◌else◌}
 use Rattle.cc_rtl.specs.Rtl.{Labelled, successors}
+
+-- the labels are the numbers from one on: where it is 0 they are the positions
+abbrev pub AreNumbered : (from : ℕ) → List Labelled → Type 0
+AreNumbered from [] = Unit {0}
+AreNumbered from (n ∷ ns) = (n.label ≡ from) × AreNumbered (suc from) ns
 
 -- the position of a label's node, the length where there is none
 abbrev pub position_of : List Labelled → (label : ℕ) → ℕ

@@ -1,6 +1,6 @@
 //! RTL as text: the parameters and the entry, and a line for each node.
 
-use crate::node::{Labelled, Node};
+use crate::node::Node;
 use crate::rtl::Rtl;
 use cc_words::{Binary, Unary};
 use std::fmt;
@@ -10,18 +10,11 @@ impl fmt::Display for Rtl {
         let parameters = self.parameters();
         let entry = self.entry();
         writeln!(f, "parameters {parameters}, entry {entry}")?;
-        for node in self.nodes() {
-            writeln!(f, "{node}")?;
+        for label in 0..self.len() {
+            let node = self.node(label);
+            writeln!(f, "{label}: {node}")?;
         }
         Ok(())
-    }
-}
-
-impl fmt::Display for Labelled {
-    fn fmt<W: fmt::Write>(&self, f: &mut fmt::Formatter<W>) -> fmt::Result {
-        let label = self.label;
-        let node = &self.node;
-        write!(f, "{label}: {node}")
     }
 }
 

@@ -1,7 +1,7 @@
 //! The nodes of a function's code.
 //!
-//! Nodes are made from the end of the code to its beginning, so that the label to go on at is known when a node is made; then the whole
-//! is turned round, so that labels ascend along the code.
+//! Nodes are made from the end of the code to its beginning, so that the label to go on at is known when a node is made; then they get
+//! labels anew, which ascend along the code.
 
 ghost use Rattle.std.specs.Prelude.{◌≡◌, ◌≤◌, IfOk};
 ghost use Rattle.cc_cminor.specs.Code.{statement_of};
@@ -15,19 +15,20 @@ mod expressions;
 mod graph;
 mod statements;
 
-use crate::node::{Labelled, Node};
+use crate::node::Node;
 use cc_cminor::Statement;
+use cc_instr_list::InstrList;
 use graph::Graph;
 use statements::statement;
 use std::alloc::{AllocError, Global};
 
 /// The nodes of a body whose variables are those below `count`; their labels ascend from 0, the label of the first. There are at most
 /// 4,096 of them.
-pub fn generate(alloc: Global, count: u32, body: &Statement) -> Result<Vec<Labelled>, AllocError>
+pub fn generate(alloc: Global, count: u32, body: &Statement) -> Result<InstrList<Node>, AllocError>
     requires few { function_nodes (statement_of body.now) ≤ most_nodes }
     requires numbers { StatementFits (statement_of body.now) }
     requires count { count ≤ most_variables }
-    ensures nodes { IfOk result (λ nodes. labelled_of nodes.items ≡ generated_nodes count (statement_of body.now)) }
+    ensures nodes { IfOk result (λ nodes. labelled_of nodes.entries ≡ generated_nodes count (statement_of body.now)) }
 {
     let mut graph = Graph::new(alloc);
     let returning = graph.put(Node::Return { from: count })?;

@@ -1,8 +1,8 @@
 //! RTL: the code of a function as a graph of labelled nodes over pseudo-registers.
 //!
 //! `node` has the syntax, `rtl` the type of a function, `display` its text, `pair` the type that keeps that a function's RTL does what
-//! the function does. `generate` makes the nodes of a function from its Cminor; `dead` makes nops of nodes that nobody needs, and
-//! `positions` shows a function as the graph that dataflow takes.
+//! the function does. A function's nodes stand in an instruction list (`cc_instr_list`). `generate` makes them from the function's Cminor;
+//! `dead` makes nops of nodes that nobody needs, and `positions` shows a function as the graph that dataflow takes.
 #![tactic(auto)]
 
 mod dead;
@@ -20,7 +20,7 @@ mod variables;
 
 pub use fault::RtlFault;
 pub use laws::rtl_is_a_layer;
-pub use node::{Labelled, Node};
+pub use node::Node;
 pub use pair::RtlPair;
 pub use rtl::Rtl;
 pub use translate::to_rtl;

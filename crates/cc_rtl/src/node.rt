@@ -76,10 +76,3 @@ pub enum Node {
         from: u32,
     },
 }
-
-/// A node with its label.
-#[derive(Drop)]
-pub struct Labelled {
-    pub label: u32,
-    pub node: Node,
-}

@@ -2,7 +2,6 @@
 
 ghost use Rattle.std.specs.Prelude.{◌≡◌, ◌↔◌, length, All, IfOk, IfErr, IfSome, IfNone, IsTrue, IsSome};
 ghost use Rattle.cc_rtl.specs.Rtl.{node_at};
-ghost use Rattle.cc_rtl.specs.Code.{labelled_of};
 ghost use Rattle.cc_ltl.specs.Ltl.{IsLtl};
 ghost use Rattle.cc_validate.specs.Solution.{IsAtEntry, HasSolution};
 ghost use Rattle.cc_validate.specs.Fault.{IsRefusal};
@@ -16,7 +15,7 @@ use crate::pair::LtlPair;
 use crate::set::EquationSet;
 use cc_flow::solve_backward;
 use cc_ltl::{Location, Ltl};
-use cc_rtl::{Labelled, Rtl, RtlPair};
+use cc_rtl::{Rtl, RtlPair};
 use std::alloc::Global;
 
 // Parameters stand in x10 and up.
@@ -58,18 +57,18 @@ fn decide(alloc: Global, rtl: &Rtl, ltl: &Ltl) -> Result<(), ValidateFault>
     ensures ltl { IfOk result (λ _. IsLtl ltl.now) }
     ensures refused { IfErr result (λ fault. IsRefusal rtl.now ltl.now fault) }
 {
-    let nodes = rtl.nodes();
+    let _count = rtl.len();
     let blocks = ltl.blocks();
     if ltl.entry() != rtl.entry() {
         return Err(ValidateFault::Unvalidated { label: rtl.entry() });
     }
-    if let Some(label) = apart(nodes, blocks) {
+    if let Some(label) = apart(rtl, blocks) {
         return Err(ValidateFault::Unvalidated { label });
     }
     let graph = rtl.graph(alloc)?;
-    let code = Code::new(nodes, blocks);
+    let code = Code::new(rtl, blocks);
     let least = solve_backward(alloc, &graph, &code)?;
-    if let Some(label) = contradicted(nodes, least.as_slice()) {
+    if let Some(label) = contradicted(rtl, least.as_slice()) {
         return Err(ValidateFault::Unvalidated { label });
     }
     let entry = &least.as_slice()[rtl.position(rtl.entry())];
@@ -80,16 +79,17 @@ fn decide(alloc: Global, rtl: &Rtl, ltl: &Ltl) -> Result<(), ValidateFault>
 }
 
 /// A label whose facts contradict, where there is one.
-fn contradicted(nodes: &[Labelled], facts: &[EquationSet]) -> Option<u32>
-    requires { length facts.now ≡ length nodes.now }
+fn contradicted(rtl: &Rtl, facts: &[EquationSet]) -> Option<u32>
+    requires { length facts.now ≡ length rtl.now.nodes }
     ensures clean { IfNone result (All IsClean facts.now) }
     ensures contradicted { IfSome result (λ _. All IsClean facts.now → ⊥) }
-    ensures there { IfSome result (λ label. IsSome (node_at (labelled_of nodes.now) label)) }
+    ensures there { IfSome result (λ label. IsSome (node_at rtl.now.nodes label)) }
 {
+    let count = rtl.len();
     let mut at = 0;
-    while at < facts.len() {
+    while at < count {
         if !facts[at].is_clean() {
-            return Some(nodes[at].label);
+            return Some(at as u32);
         }
         at += 1;
     }

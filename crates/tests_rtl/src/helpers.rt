@@ -38,7 +38,7 @@ fn answer_for(alloc: Global, unit: &Arc<TypedUnit>, function: usize) -> Answer {
     match rtl_of(alloc, unit, function) {
         Ok(pair) => {
             let right = pair.function() == function && pair.unit().text() == unit.text();
-            let nodes = pair.code().nodes().len();
+            let nodes = pair.code().len();
             drop(pair);
             if right {
                 Answer::Nodes(nodes)

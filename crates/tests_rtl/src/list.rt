@@ -87,3 +87,40 @@ fn a_list_of_the_most_labels_takes_no_stack(rt: HostRuntime) -> Result<(), Fail>
     assert_eq!(rt; list.at(65535), Some(&65535));
     Ok(())
 }
+
+// Each of these growths may be refused (`rt try --test --fail-alloc N` refuses the Nth): then the item comes back, and the list stays.
+#[test]
+fn a_refused_growth_hands_the_item_back(rt: HostRuntime) -> Result<(), Fail> {
+    let mut list = InstrList::new(rt.alloc());
+    for item in 0..20u32 {
+        let before = list.len();
+        let given = list.given();
+        if given < 65536 {
+            match list.push_back(item) {
+                Ok(label) => assert_eq!(rt; label, given),
+                Err(refused) => {
+                    assert_eq!(rt; refused.value, item);
+                    assert_eq!(rt; list.given(), given);
+                    assert_eq!(rt; list.len(), before);
+                }
+            }
+        }
+    }
+    for item in 20..40u32 {
+        let before = list.len();
+        let given = list.given();
+        if given < 65536
+            && let Some(first) = list.first()
+        {
+            match list.insert_before(first, item) {
+                Ok(label) => assert_eq!(rt; list.first(), Some(label)),
+                Err(refused) => {
+                    assert_eq!(rt; refused.value, item);
+                    assert_eq!(rt; list.given(), given);
+                    assert_eq!(rt; list.len(), before);
+                }
+            }
+        }
+    }
+    Ok(())
+}

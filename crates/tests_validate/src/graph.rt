@@ -1,7 +1,7 @@
 // A small interpreter of RTL.
 
 use super::world::{Next, Stop, World};
-use cc_rtl::{Labelled, Node, Rtl, RtlPair};
+use cc_rtl::{Node, Rtl, RtlPair};
 use std::alloc::{AllocError, Global};
 
 /// The words of registers, 0 where none was put.
@@ -29,16 +29,6 @@ impl Registers {
     }
 }
 
-/// The node of a label.
-pub fn node_at(rtl: &Rtl, label: u32) -> Option<&Labelled> {
-    let node = rtl.nodes().get(label as usize)?;
-    if node.label == label {
-        Some(node)
-    } else {
-        None
-    }
-}
-
 /// The run of a function for at most so many nodes, with at most so many calls open.
 #[cycle(graphs)]
 pub fn run_graph(
@@ -58,10 +48,10 @@ pub fn run_graph(
     };
     let mut label = rtl.entry();
     for _ in 0..600u32 {
-        let Some(node) = node_at(rtl, label) else {
+        let Some(node) = rtl.at(label as usize) else {
             return Ok(Stop::Wrong);
         };
-        match step(alloc, program, &node.node, &mut registers, world, open)? {
+        match step(alloc, program, node, &mut registers, world, open)? {
             Next::To(next) => label = next,
             Next::Stops(stop) => return Ok(stop),
         }

@@ -1,14 +1,21 @@
 -- What the contracts of the generator's code speak of: the places as the code keeps them.
-use Rattle.std.specs.Prelude.{ℕ, List, Option, option_map, map}
+use Rattle.std.specs.Prelude.{◌≡◌, ℕ, List, [], ◌∷◌, ◌++◌, length, Option, option_map}
+use Rattle.cc_instr_list.specs.List.{Entry}
 use Rattle.cc_cminor.specs.Cminor.{Expression, Constant, Local, Unary, Binary, Load, Statement}
 use Rattle.cc_rtl.specs.Rtl as rtl
 use Rattle.cc_rtl.specs.Code.{node_of}
 use Rattle.cc_rtl.specs.declared.node.Node as declared
 use Rattle.cc_rtl.specs.internal.Generate.{Places, Made, register, taken, made_function, nodes_back, labelled_from}
 
--- the places
-abbrev pub places_of : List (Option declared.Node) → Places
-places_of items = map (option_map node_of) items
+-- the places, the last of which comes first in the list that has them
+abbrev pub places_of : List (Entry (Option declared.Node)) → Places
+places_of [] = []
+places_of (e ∷ es) = places_of es ++ option_map node_of e.item ∷ []
+
+-- their labels are the places
+abbrev pub AreCountedDown : List (Entry (Option declared.Node)) → Type 0
+AreCountedDown [] = Unit {0}
+AreCountedDown (e ∷ es) = (e.label ≡ length es) × AreCountedDown es
 
 -- code that begins at a label, and the places behind it
 abbrev pub made_at : (entry : ℕ) → Places → Made

@@ -1,29 +1,36 @@
 // A graph that grows: each node has a place, which is its label until the whole is turned round.
+//
+// Nodes are made from the end of the code to its beginning, so each comes in front of all others: the list has them in the code's order,
+// while places ascend in the order of making. At last they go over, in the code's order, to a list whose labels ascend along it.
 
-ghost use Rattle.std.specs.Prelude.{◌≡◌, ◌+◌, ◌-◌, ◌<◌, ◌≤◌, [], ◌∷◌, ◌++◌, length, set, Some, None, IfOk, OnOk};
+ghost use Rattle.std.specs.Prelude.{◌≡◌, ◌+◌, ◌-◌, ◌<◌, ◌≤◌, [], ◌∷◌, ◌++◌, length, set, Some, None, IfOk, OnOk, option_map};
 ghost use Rattle.cc_rtl.specs.Rtl as rtl;
 ghost use Rattle.cc_rtl.specs.Rtl.{most_nodes};
 ghost use Rattle.cc_rtl.specs.Code.{node_of, labelled_of};
 ghost use Rattle.cc_rtl.specs.internal.Generate.{pushed, renamed, labelled_from, nodes_back};
 ghost use Rattle.cc_rtl.specs.internal.Generating.{made_at};
 
-use crate::node::{Labelled, Node};
+use crate::node::Node;
+use cc_instr_list::InstrList;
 use std::alloc::{AllocError, Global};
 use std::marker::Model;
 
 /// The nodes so far, by their places. A place that is kept for a loop's head has no node yet.
 #[derive(Drop)]
 pub struct Graph {
-    places: Vec<Option<Node>>,
+    places: InstrList<Option<Node>>,
 }
 
 impl Model for Graph {
+    ghost use Rattle.std.specs.Prelude.{◌≡◌, length};
     ghost use Rattle.cc_rtl.specs.internal.Generate.{Places};
-    ghost use Rattle.cc_rtl.specs.internal.Generating.{places_of};
+    ghost use Rattle.cc_rtl.specs.internal.Generating.{places_of, AreCountedDown};
 
     ghost Value = { Places };
 
-    ghost view = { λ g. places_of g.places.items };
+    ghost view = { λ g. places_of g.places.entries };
+
+    ghost invariant = { λ g. (g.places.given ≡ length g.places.entries) × AreCountedDown g.places.entries };
 }
 
 impl Graph {
@@ -31,7 +38,7 @@ impl Graph {
         ensures { result ≡ [] }
     {
         Graph {
-            places: Vec::new(alloc),
+            places: InstrList::new(alloc),
         }
     }
 
@@ -41,9 +48,7 @@ impl Graph {
         ensures made { IfOk result (λ entry. made_at entry self.new ≡ pushed (node_of node) self.old) }
         ensures longer { OnOk result (length self.new ≡ length self.old + 1) }
     {
-        let label = self.places.len() as u32;
-        self.places.push(Some(node))?;
-        Ok(label)
+        self.add(Some(node))
     }
 
     /// Keeps the next place for a loop's head, and gives its label.
@@ -52,9 +57,7 @@ impl Graph {
         ensures head { IfOk result (λ head. head ≡ length self.old) }
         ensures places { OnOk result (self.new ≡ self.old ++ None ∷ []) }
     {
-        let label = self.places.len() as u32;
-        self.places.push(None)?;
-        Ok(label)
+        self.add(None)
     }
 
     /// Makes a loop's head lead to its body.
@@ -62,21 +65,32 @@ impl Graph {
         requires { head < length self.old }
         ensures { self.new ≡ set self.old head (Some (rtl.Nop first)) }
     {
-        self.places[head as usize] = Some(Node::Nop { next: first });
+        drop(self.places.replace(head, Some(Node::Nop { next: first })));
     }
 
-    /// The nodes from the last place to the first, whose labels ascend from 0; `last` is the last place.
-    pub fn finish(self, alloc: Global, last: u32) -> Result<Vec<Labelled>, AllocError>
+    // The next place, in front of all others.
+    fn add(&mut self, place: Option<Node>) -> Result<u32, AllocError>
+        requires { length self.old < most_nodes }
+        ensures label { IfOk result (λ label. label ≡ length self.old) }
+        ensures places { OnOk result (self.new ≡ self.old ++ option_map node_of place ∷ []) }
+    {
+        match self.places.first() {
+            Some(first) => Ok(self.places.insert_before(first, place)?),
+            None => Ok(self.places.push_back(place)?),
+        }
+    }
+
+    /// The nodes in the code's order, whose labels ascend from 0; `last` is the last place.
+    pub fn finish(self, alloc: Global, last: u32) -> Result<InstrList<Node>, AllocError>
         requires { length self ≤ most_nodes }
-        ensures { IfOk result (λ nodes. labelled_of nodes.items ≡ labelled_from last 0 (nodes_back self)) }
+        ensures { IfOk result (λ nodes. labelled_of nodes.entries ≡ labelled_from last 0 (nodes_back self)) }
     {
         let Graph { mut places } = self;
-        let mut nodes = Vec::new(alloc);
-        while let Some(place) = places.pop() {
-            if let Some(mut node) = place {
+        let mut nodes = InstrList::new(alloc);
+        while let Some(place) = places.first() {
+            if let Some(mut node) = places.unlink(place) {
                 turn(&mut node, last);
-                let label = nodes.len() as u32;
-                nodes.push(Labelled { label, node })?;
+                nodes.push_back(node)?;
             }
         }
         Ok(nodes)

@@ -53,11 +53,8 @@ fn write_set(text: &mut String, set: &RegisterSet) -> Result<(), AllocError> {
 // The sets of a function, one line for each node.
 fn written_sets(alloc: Global, pair: &RtlPair, live: &Liveness) -> Result<String, AllocError> {
     let mut text = String::new(alloc);
-    let nodes = pair.code().nodes();
     for (at, set) in live.as_slice().iter().enumerate() {
-        if let Some(labelled) = nodes.get(at) {
-            write!(text, "{}:", labelled.label)?;
-        }
+        write!(text, "{at}:")?;
         write_set(&mut text, set)?;
         text.push('\n')?;
     }
@@ -116,11 +113,14 @@ pub struct Left {
 }
 
 fn nodes_left(pair: &RtlPair) -> usize {
-    pair.code()
-        .nodes()
-        .iter()
-        .filter(|labelled| !matches!(labelled.node, Node::Nop { .. }))
-        .count()
+    let code = pair.code();
+    let mut left = 0;
+    for label in 0..code.len() {
+        if !matches!(code.node(label), Node::Nop { .. }) {
+            left += 1;
+        }
+    }
+    left
 }
 
 fn count_left(alloc: Global, pair: &mut RtlPair) -> Result<Left, AllocError> {

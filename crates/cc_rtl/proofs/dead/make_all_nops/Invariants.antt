@@ -6,4 +6,4 @@ use Rattle.cc_rtl.proofs.Nops.{these}
 use Rattle.cc_rtl.proofs.dead.make_all_nops.Given as goal
 
 abbrev pub invariant-loop-label : goal.invariant-loop-label
-invariant-loop-label l = labelled_of l.nodes.items ≡ with_nops (these (take l.label-index l.labels)) (labelled_of l.initial.nodes.items)
+invariant-loop-label l = labelled_of l.nodes.entries ≡ with_nops (these (take l.label-index l.labels)) (labelled_of l.initial.nodes.entries)

@@ -1,8 +1,7 @@
 -- So many rows are made.
-use Rattle.cc_rtl.specs.Code.{labelled_of}
 use Rattle.cc_rtl.specs.Positions.{graph_of}
 use Rattle.cc_rtl.proofs.Places.{Rows}
 use Rattle.cc_rtl.proofs.positions.graph.Given as goal
 
 abbrev pub invariant-loop-at : goal.invariant-loop-at
-invariant-loop-at l = Rows (graph_of (labelled_of l.nodes)) l.graph l.at
+invariant-loop-at l = Rows (graph_of l.rtl.nodes) l.graph l.at

@@ -1,5 +1,5 @@
 -- A pair without dead nodes is one.
-use Rattle.std.proofs.Common.{◌≡◌, ◌∙◌, ap, sym, subst}
+use Rattle.std.proofs.Common.{◌∙◌, ap, sym, subst}
 use Rattle.std.specs.Arc.{arc_value}
 use Rattle.std.specs.Prelude.{IsSome, All}
 use Rattle.cc_rtl.specs.Rtl.{Rtl, node_at}

@@ -1,13 +1,9 @@
--- There are as many nodes as the code keeps.
-use Rattle.std.proofs.Common.{ap, length, arith}
-use Rattle.cc_rtl.specs.Rtl.{Rtl}
-use Rattle.cc_rtl.proofs.Places.{length_labelled}
+-- A label is its position.
+use Rattle.cc_rtl.proofs.Places.{position_is_label}
 use Rattle.cc_rtl.proofs.rtl.Rtl.position.Goals as goal
 
+pub returns-clause-position : goal.returns-clause-position
+returns-clause-position c = (position_is_label c.args.self.now.nodes c.args.label c.len-numbered.ensures.numbered c.requires).0
+
 pub returns-clause-within : goal.returns-clause-within
-returns-clause-within c =
-    let w = c.position.ensures.within in
-    let v = ap length c.as_slice.ensures.value in
-    let l = length_labelled c.self.inside.nodes.items in
-    let u = ap (λ (r : Rtl). length r.nodes) c.self.view_is in
-    omega (arith, w, v, l, u)
+returns-clause-within c = (position_is_label c.args.self.now.nodes c.args.label c.len-numbered.ensures.numbered c.requires).1
