@@ -1,4 +1,3 @@
-pub mod Crossing
 pub mod Few
 pub mod Lists
 pub mod Multisets

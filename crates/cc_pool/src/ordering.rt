@@ -3,9 +3,9 @@
 //! A plain channel says nothing of which job a message is from. So an answer is told by its text, compared when it runs, and its
 //! function's number: what another text's answer may be stays out.
 
-ghost use Rattle.std.specs.Prelude.{◌≡◌, ◌<◌, ◌∷◌, length, All, HoldsAt, IsPermutation, IfOk, IfErr, IfSome, IfNone};
+ghost use Rattle.std.specs.Prelude.{◌≡◌, ◌<◌, List, [], ◌∷◌, ◌++◌, length, All, HoldsAt, IsPermutation, IfOk, IfErr, IfSome, IfNone};
 ghost use Rattle.cc_link.specs.Pieces.{AreFrom};
-ghost use Rattle.cc_pool.specs.Answers.{IsToldBy, IsNotOf};
+ghost use Rattle.cc_pool.specs.Answers.{NoPiece, IsToldBy, IsNotOf};
 ghost use Rattle.cc_pool.specs.Fault.{IsJobRefusal};
 ghost use Rattle.cc_pool.specs.internal.Least.{IsLeastOf, IsOf};
 
@@ -43,19 +43,36 @@ pub(crate) fn gather<R: Wait>(
     Ok(Came { pieces, refusals })
 }
 
+// The least function of a text that was refused, with the reason, once one more refusal is looked at.
+fn with_one(
+    text: &[u8],
+    least: Option<(usize, PieceFault)>,
+    refusal: &Refusal,
+) -> Option<(usize, PieceFault)>
+    ensures { (rs : List NoPiece) → IsLeastOf text.now rs least → IsLeastOf text.now (rs ++ refusal.now ∷ []) result }
+{
+    let (at, why) = (refusal.function(), refusal.fault());
+    if refusal.text() != text {
+        return least;
+    }
+    match least {
+        None => Some((at, why)),
+        Some((function, fault)) => {
+            if function <= at {
+                return Some((function, fault));
+            }
+            Some((at, why))
+        }
+    }
+}
+
 // The least function of a text that was refused, with the reason.
 fn least_refused(text: &[u8], refusals: &[Refusal]) -> Option<(usize, PieceFault)>
     ensures { IsLeastOf text.now refusals.now result }
 {
     let mut least: Option<(usize, PieceFault)> = None;
     for refusal in refusals {
-        if refusal.text() != text {
-            continue;
-        }
-        least = match least {
-            Some((function, fault)) if function <= refusal.function() => Some((function, fault)),
-            _ => Some((refusal.function(), refusal.fault())),
-        };
+        least = with_one(text, least, refusal);
     }
     least
 }

@@ -8,5 +8,5 @@ abbrev pub invariant-loop-function : goal.invariant-loop-function
 invariant-loop-function l = record {
   count : length l.pieces.items ≡ l.function;
   own : AreFrom l.text 0 l.pieces.items;
-  all : IsPermutation l.came.pieces.items (l.pieces.items ++ l.made.items);
+  all : IsPermutation l.fn.came.pieces.items (l.pieces.items ++ l.made.items);
 }
