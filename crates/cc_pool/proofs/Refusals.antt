@@ -1,7 +1,11 @@
 -- Refusals: that one tells of a function, and which of several is the least.
-use Rattle.std.proofs.Common.{◌≡◌, ℕ, suc, ◌<◌, ◌≤◌, List, [], ◌∷◌, ◌++◌, length, map, Option, Some, None, refl, sym, ap, subst, ◌∙◌, arith}
+use Rattle.std.proofs.Common.{◌≡◌, ℕ, suc, ◌<◌, ◌≤◌, List, [], ◌∷◌, ◌++◌, length, map, Option, Some, None, Bool, true, false, not, eqb, Result, Ok, Err, refl, sym, ap, subst, ◌∙◌, arith}
 use Rattle.std.proofs.Math.Logic.{∥∥₁_map}
-use Rattle.std.specs.Prelude.{All, Contains}
+use Rattle.std.specs.Prelude.{All, Contains, IfErr}
+use Rattle.std.proofs.lemmas.Bool.{false≢true}
+use Rattle.std.proofs.lemmas.Bool.Decides.{Decides-eqb}
+use Rattle.std.proofs.lemmas.Slice.Eq.{slice_eq-Decides}
+use lib.Pointwise.{pointwise}
 use Rattle.std.proofs.lemmas.List.Elements.{All-push, All-weaker, Contains-push, Contains-append_left}
 use Rattle.cc_syntax.specs.Tree.{Name, External, Source, Declaration, Definition, Objects}
 use Rattle.cc_syntax.specs.Parse.{SpellsText}
@@ -11,8 +15,10 @@ use Rattle.cc_typing.specs.Typed.{IsTyped, IsWithinLimits, defined_names}
 use Rattle.cc_meaning.specs.Meaning.{functions, functions_from}
 use Rattle.cc_link.specs.Compile.{HasNoPiece, IsPieceRefusal}
 use Rattle.cc_link.specs.declared.piece_fault.PieceFault.{PieceFault}
-use Rattle.cc_pool.specs.Answers.{NoPiece, IsOfAnother, IsNotBefore}
+use Rattle.cc_emit.specs.Piece.{Piece}
+use Rattle.cc_pool.specs.Answers.{NoPiece, IsOfAnother, IsNotBefore, IsToldBy, IsTold}
 use Rattle.cc_pool.specs.Fault.{IsRefusedAt}
+use Rattle.cc_pool.specs.declared.fault.PoolFault.{PoolFault}
 use Rattle.cc_pool.specs.internal.Least.{IsLeastOf}
 
 -- ---- a function that has no piece
@@ -60,3 +66,24 @@ pub before_all : (text : List ℕ) (rs : List NoPiece) (r : NoPiece) (f : ℕ) (
     → IsLeastOf text (rs ++ r ∷ []) (Some (r.function, r.fault))
 before_all text rs r f e same refused less h =
     (refused, itself text rs r same, All-push (IsNotBefore text r.function) rs r (All-weaker (IsNotBefore text f) (IsNotBefore text r.function) (λ x later is. let l = later is in omega (arith, l, less)) rs h.2) (λ is. omega arith))
+
+-- ---- what is told
+
+pub told_some : {A : Type 0} (text : List ℕ) (functions : ℕ) (pieces : List Piece) (refusals : List NoPiece) (r : Result A PoolFault)
+    → IfErr r (λ fault. IsToldBy text functions pieces refusals fault) → IfErr r (λ fault. IsTold text functions fault)
+told_some text functions pieces refusals (Ok x) h = tt
+told_some text functions pieces refusals (Err fault) h = record { pieces = pieces; refusals = refusals; told = h }
+
+-- ---- `!=` on bytes
+
+pub differ : (xs ys : List ℕ) (r : Bool) → r ≡ not (pointwise eqb xs ys) → r ≡ true → xs ≡ ys → ⊥
+differ xs ys r is told same =
+    let here : pointwise eqb xs ys ≡ true = (slice_eq-Decides Decides-eqb xs ys (pointwise eqb xs ys) refl).1 same in
+    false≢true (sym (ap not here) ∙ sym is ∙ told)
+
+pub agree : (xs ys : List ℕ) (r : Bool) → r ≡ not (pointwise eqb xs ys) → r ≡ false → xs ≡ ys
+agree xs ys r is told = (slice_eq-Decides Decides-eqb xs ys (pointwise eqb xs ys) refl).0 (from_not (pointwise eqb xs ys) (sym is ∙ told))
+  where
+    from_not : (b : Bool) → not b ≡ false → b ≡ true
+    from_not true e = refl
+    from_not false e = absurd (false≢true (sym e))

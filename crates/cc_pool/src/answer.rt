@@ -6,6 +6,7 @@ ghost use Rattle.cc_syntax.specs.Source.{source};
 ghost use Rattle.cc_typing.specs.Typed.{defined_names};
 ghost use Rattle.cc_link.specs.Compile.{IsPieceRefusal};
 ghost use Rattle.cc_link.specs.declared.piece_fault.PieceFault.TheVariants.{OutOfMemory};
+ghost use Rattle.cc_pool.specs.Fault.{IsRefusedAt};
 
 use cc_emit::Piece;
 use cc_link::{PieceFault, compile_function};
@@ -80,7 +81,8 @@ impl Refusal {
     }
 
     pub(crate) fn fault(&self) -> PieceFault
-        ensures { result ≡ self.now.fault }
+        ensures answer { result ≡ self.now.fault }
+        ensures refused { IsRefusedAt self.now.text self.now.function self.now.fault }
     {
         self.fault
     }
