@@ -1,3 +1,6 @@
+pub mod Few
 pub mod Lists
 pub mod Multisets
+pub mod Pieces
+pub mod Refusals
 pub mod Rules

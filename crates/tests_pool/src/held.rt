@@ -1,9 +1,9 @@
-// Two workers at once, and a job that is held while another one is done.
+// Two workers at once: a job that is held while another one is made and collected.
 
 ghost use Rattle.std.specs.Prelude.{◌≡◌};
 
-use super::helpers::{Hold, one, reaches};
-use cc_pool::{Fresh, Queued, Workers};
+use super::helpers::{Hold, ONE, TWO, are_of, one, unit};
+use cc_pool::{Fresh, Pool, Queued};
 use std::alloc::Global;
 use std::marker::Brand;
 use std::sync::atomic::{AtomicU64, Ordering};
@@ -12,15 +12,16 @@ use std::test::Fail;
 use std::thread::Threads;
 
 #[test]
-fn a_held_task_holds_no_other(rt: HostRuntime) -> Result<(), Fail> {
+fn a_held_job_holds_no_other(rt: HostRuntime) -> Result<(), Fail> {
     let fresh = Fresh::new(rt.alloc())?;
     let told = held::<Brand, HostRuntime>(&rt, rt.alloc(), fresh)?;
-    assert_eq!(rt; told, (true, 1));
+    assert_eq!(rt; told, (true, 2, 1));
     Ok(())
 }
 
-// A task of job 0 is held until 5 of job 1 were done: whether they were, and how many holds ended before their limit.
-fn held<N, R>(rt: &R, alloc: Global, fresh: Fresh) -> Result<(bool, u64), Fail>
+// Job 0 is held until both pieces of job 1, and what lets it go behind its collecting, have passed: whether the pieces are right, how
+// many others had passed by then, and how many holds ended before their limit.
+fn held<N, R>(rt: &R, alloc: Global, fresh: Fresh) -> Result<(bool, u64, u64), Fail>
 where
     N: Queued + Send + Sync + 'static,
     R: Threads + Wait + Copy + Send + 'static,
@@ -29,17 +30,18 @@ where
     let others = Arc::new(alloc, AtomicU64::new(0))?;
     let met = Arc::new(alloc, AtomicU64::new(0))?;
     let hold = Hold {
-        least: 5,
+        least: 3,
         others: Arc::try_clone(&others)?,
         met: Arc::try_clone(&met)?,
     };
-    let workers = Workers::<N>::start(rt, alloc, fresh, 2, hold)?;
-    let mut pass = workers.pass(rt);
-    workers.send(rt, &mut pass, 0, 0)?;
-    for part in 0..5u32 {
-        workers.send(rt, &mut pass, 1, part)?;
-    }
-    let came = reaches(&others, 5);
-    workers.finish(rt, one(alloc, pass)?)?;
-    Ok((came, met.load(Ordering::SeqCst)))
+    let pool = Pool::<N>::start(rt, alloc, fresh, 2, hold)?;
+    let mut pass = pool.pass(rt);
+    let first = pool.submit(rt, alloc, &mut pass, unit(alloc, ONE)?)?;
+    let second = pool.submit(rt, alloc, &mut pass, unit(alloc, TWO)?)?;
+    let two_pieces = pool.collect(rt, alloc, second)?;
+    let came = others.fetch_add(1, Ordering::SeqCst);
+    let one_piece = pool.collect(rt, alloc, first)?;
+    let right = are_of(one_piece.as_slice(), ONE, 1) && are_of(two_pieces.as_slice(), TWO, 2);
+    pool.finish(rt, one(alloc, pass)?)?;
+    Ok((right, came, met.load(Ordering::SeqCst)))
 }

@@ -1,60 +1,35 @@
-// Works that count, and works that hold until they are let go.
+// Units to hand in, passes, and a gate that holds a job.
 
-use cc_pool::{Pass, Queued, Work};
+use cc_emit::Piece;
+use cc_pool::{Gate, Pass, Queued};
+use cc_syntax::parse;
+use cc_typing::{TypedUnit, check};
 use std::alloc::{AllocError, Global};
+use std::sync::Arc;
 use std::sync::atomic::{AtomicU64, Ordering};
-use std::sync::{Arc, Wait};
+use std::test::Fail;
 use std::thread;
 
-/// How often a hold yields before it gives up.
-pub const TURNS: u64 = 20_000_000;
+/// A text with one function, and one with two.
+pub const ONE: &[u8] = b"int main(void){return 1;}";
+pub const TWO: &[u8] = b"int f(int x){return x;}int main(void){return f(2);}";
 
-/// Waits until a number is at least this, and tells whether it came to that before the turns were over.
-pub fn reaches(number: &AtomicU64, least: u64) -> bool {
-    for _ in 0..TURNS {
-        if number.load(Ordering::SeqCst) >= least {
-            return true;
-        }
-        thread::yield_now();
+/// How often a gate yields before it gives up.
+const TURNS: u64 = 20_000_000;
+
+/// A unit of a text.
+pub fn unit(alloc: Global, text: &[u8]) -> Result<Arc<TypedUnit>, Fail> {
+    let unit = parse(alloc, text)?;
+    let unit = check(alloc, unit)?;
+    Ok(Arc::new(alloc, unit)?)
+}
+
+/// A part so many times.
+pub fn repeat(text: &mut Vec<u8>, part: &[u8], times: usize) -> Result<(), AllocError> {
+    for _ in 0..times {
+        text.extend_from_slice(part)?;
     }
-    false
-}
-
-/// Counts the tasks that it did.
-#[derive(Drop)]
-pub struct Count {
-    pub done: Arc<AtomicU64>,
-}
-
-impl Work for Count {
-    fn execute<R: Wait>(&self, _rt: &R, _job: u64, _part: u32) {
-        self.done.fetch_add(1, Ordering::SeqCst);
-    }
-}
-
-/// Holds the tasks of job 0 until so many others were done, or the turns are over, and counts those that were let go, and all.
-#[derive(Drop)]
-pub struct Hold {
-    pub least: u64,
-    pub others: Arc<AtomicU64>,
-    pub met: Arc<AtomicU64>,
-}
-
-impl Work for Hold {
-    fn execute<R: Wait>(&self, _rt: &R, job: u64, _part: u32) {
-        if job > 0 {
-            self.others.fetch_add(1, Ordering::SeqCst);
-            return;
-        }
-        if reaches(&self.others, self.least) {
-            self.met.fetch_add(1, Ordering::SeqCst);
-        }
-    }
-}
-
-/// No pass.
-pub fn none<N: Queued>(alloc: Global) -> Vec<Pass<N>> {
-    Vec::new(alloc)
+    Ok(())
 }
 
 /// One pass.
@@ -74,4 +49,41 @@ pub fn two<N: Queued>(
     passes.push(first)?;
     passes.push(second)?;
     Ok(passes)
+}
+
+/// Whether these are so many pieces of a text, one of each function in their order.
+pub fn are_of(pieces: &[Piece], text: &[u8], count: usize) -> bool {
+    let mut right = pieces.len() == count;
+    for (at, piece) in pieces.iter().enumerate() {
+        right = right && piece.function() == at && piece.unit().text() == text;
+    }
+    right
+}
+
+/// Holds the first piece of job 0 until so many pieces of other jobs have passed, or the turns are over, and tells whether it was let go
+/// before that.
+#[derive(Drop)]
+pub struct Hold {
+    pub least: u64,
+    pub others: Arc<AtomicU64>,
+    pub met: Arc<AtomicU64>,
+}
+
+impl Gate for Hold {
+    fn before(&self, job: u64, piece: u32) {
+        if job > 0 {
+            self.others.fetch_add(1, Ordering::SeqCst);
+            return;
+        }
+        if piece > 0 {
+            return;
+        }
+        for _ in 0..TURNS {
+            if self.others.load(Ordering::SeqCst) >= self.least {
+                self.met.fetch_add(1, Ordering::SeqCst);
+                return;
+            }
+            thread::yield_now();
+        }
+    }
 }

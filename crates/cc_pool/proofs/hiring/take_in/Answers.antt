@@ -1,10 +1,13 @@
-use Rattle.std.proofs.Common.{rules, arith, ◌++◌, ◌∷◌, [], ap, ◌∙◌, sym, append_assoc, length-append}
+use Rattle.std.proofs.Common.{rules, arith, ◌++◌, ◌∷◌, [], ap, ◌∙◌, sym, refl, append_assoc, append-nil, length-append}
 use Rattle.std.proofs.lemmas.List.{map-id}
 use Rattle.std.proofs.lemmas.Iterator.Adapters.{YieldsList-from_vec}
 use Rattle.std.proofs.lemmas.Iterator.Consumers.{YieldsList-end}
 use Rattle.cc_pool.specs.Shared.{sent_by}
 use Rattle.cc_pool.proofs.Lists.{sent_more}
 use Rattle.cc_pool.proofs.hiring.take_in.Goals as goal
+
+pub loop-pass-init : goal.loop-pass-init
+loop-pass-init g c = record { role = c.requires; splits = refl; joins = omega arith; sent = sym (append-nil c.args.seat.now.sent) }
 
 pub loop-pass-preserved : goal.loop-pass-preserved
 loop-pass-preserved g c =
