@@ -117,7 +117,7 @@ fn nodes_left(pair: &RtlPair) -> usize {
     let mut left = 0;
     for label in 0..code.len() {
         if !matches!(code.node(label), Node::Nop { .. }) {
-            left += 1;
+            left = left.saturating_add(1);
         }
     }
     left
