@@ -17,7 +17,7 @@ use Rattle.cc_unit.specs.contracts.unit.StoredUnit as stored
 use Rattle.cc_emit.specs.declared.item.Item.{Item}
 use Rattle.cc_emit.specs.Piece.{Piece}
 use Rattle.cc_link.specs.Laws.{LinkedUnitsAgree}
-use Rattle.cc_link.specs.internal.Lent.{AreFrom}
+use Rattle.cc_link.specs.Pieces.{AreFrom}
 use Rattle.cc_link.specs.Link.{code_words, most_code}
 use Rattle.cc_link.specs.Linked.{same_bytes, stranger, doubled, items_of, missing, in_order, bodies, image_of, link_refusal, unit_of, unless_refused, linked}
 use Rattle.cc_link.specs.Made.{IsCompiled, IsMade}

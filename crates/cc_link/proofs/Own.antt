@@ -12,7 +12,7 @@ use Rattle.cc_link.specs.declared.fault.LinkFault.{LinkFault}
 use Rattle.cc_link.specs.declared.fault.LinkFault.TheVariants.{ImageTooLarge, Missing, Doubled, Stranger}
 use Rattle.cc_link.specs.Link.{code_words, most_code}
 use Rattle.cc_link.specs.Linked.{same_bytes, stranger, is_among, doubled, items_of, missing, bodies, too_large, link_refusal, unit_of, unless_refused, linked}
-use Rattle.cc_link.specs.internal.Lent.{AreFrom}
+use Rattle.cc_link.specs.Pieces.{AreFrom}
 
 pub same_itself : (x : List ℕ) → same_bytes x x ≡ true
 same_itself x = by (same_bytes x x) refl

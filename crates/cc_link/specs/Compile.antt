@@ -71,11 +71,10 @@ pub record IsRefusedTree (text : List ℕ) (fault : TypeFault) : Type 0 where
   pub spelled : SpellsText text tree
   pub refused : IsTypeRefusal (source_with text tree) fault
 
--- the text is a program's, and one of its functions has no piece
-pub record HasNoPiece (text : List ℕ) (fault : PieceFault) : Type 0 where
+-- the text is a program's, and this function of it has no piece, for this reason
+pub record HasNoPiece (text : List ℕ) (function : ℕ) (fault : PieceFault) : Type 0 where
   pub tree : List External
   pub is : IsProgramText text tree
-  pub function : ℕ
   pub defined : function < length (functions tree)
   pub refused : IsPieceRefusal tree function fault
 
@@ -88,8 +87,9 @@ pub record HasPiece (text : List ℕ) (function : ℕ) : Type 0 where
 
 -- the text is a program's; one of its functions has no piece, and each function before it, in the order of their definitions, has one
 pub record IsFirstWithout (text : List ℕ) (fault : PieceFault) : Type 0 where
-  pub none : HasNoPiece text fault
-  pub earlier : (f : ℕ) → f < none.function → HasPiece text f
+  pub function : ℕ
+  pub none : HasNoPiece text function fault
+  pub earlier : (f : ℕ) → f < function → HasPiece text f
 
 -- 1 to 7 and 11 to 21 exactly as `parse` and `check` have them, 40 set aside. Only a program has another fault: that of the first function
 -- without a piece; or that its pieces make no image. Of linking's refusals this is 25 alone, and `link` says of which pieces.

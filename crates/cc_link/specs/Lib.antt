@@ -6,6 +6,8 @@ pub mod Link
 pub mod Linked
 -- that this unit agrees
 pub mod Laws
+-- whose pieces some pieces are
+pub mod Pieces
 -- what a compiled unit was made of
 pub mod Made
 -- the numbers of the faults

@@ -9,7 +9,7 @@ ghost use Rattle.cc_meaning.specs.Meaning.{functions};
 ghost use Rattle.cc_emit.specs.Piece.{IsPieceOfUnit};
 ghost use Rattle.cc_link.specs.Agree.{Agree};
 ghost use Rattle.cc_link.specs.Compile.{IsProgramText, IsPieceRefusal, IsBuildRefusal, HasPiece};
-ghost use Rattle.cc_link.specs.internal.Lent.{AreFrom};
+ghost use Rattle.cc_link.specs.Pieces.{AreFrom};
 ghost use Rattle.cc_link.specs.declared.fault.LinkFault.TheVariants.{ImageTooLarge, OutOfMemory};
 ghost use Rattle.cc_link.specs.Linked.{linked};
 

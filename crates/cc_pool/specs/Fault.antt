@@ -1,8 +1,22 @@
--- The numbers of the faults.
-use Rattle.std.specs.Prelude.{ℕ}
-use Rattle.cc_pool.specs.declared.fault.WorkersFault.{WorkersFault}
-use Rattle.cc_pool.specs.declared.fault.WorkersFault.TheVariants.{WorkersGone, OutOfMemory}
+-- The faults of the pool.
+use Rattle.std.specs.Prelude.{◌≢◌, ℕ, List}
+use Rattle.cc_link.specs.Compile.{HasNoPiece, piece_fault_number}
+use Rattle.cc_link.specs.declared.piece_fault.PieceFault.{PieceFault}
+use Rattle.cc_link.specs.declared.piece_fault.PieceFault.TheVariants as piece
+use Rattle.cc_pool.specs.declared.fault.PoolFault.{PoolFault}
+use Rattle.cc_pool.specs.declared.fault.PoolFault.TheVariants.{Piece, WorkersGone, OutOfMemory}
 
-abbrev pub workers_fault_number : WorkersFault → ℕ
-workers_fault_number WorkersGone = 41
-workers_fault_number OutOfMemory = 40
+abbrev pub pool_fault_number : PoolFault → ℕ
+pool_fault_number (Piece function fault) = piece_fault_number fault
+pool_fault_number WorkersGone = 41
+pool_fault_number OutOfMemory = 40
+
+-- the text is a program's, and this function of it has no piece, for a reason other than want of memory
+abbrev pub IsRefusedAt : List ℕ → (function : ℕ) → PieceFault → Type 0
+IsRefusedAt text function fault = ∥ HasNoPiece text function fault ∥₁ × (fault ≢ piece.OutOfMemory)
+
+-- the fault of a piece, 22 or 24, is that of a function that has none
+abbrev pub IsJobRefusal : List ℕ → PoolFault → Type 0
+IsJobRefusal text (Piece function fault) = IsRefusedAt text function fault
+IsJobRefusal text WorkersGone = Unit {0}
+IsJobRefusal text OutOfMemory = Unit {0}

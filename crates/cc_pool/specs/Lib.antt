@@ -1,10 +1,14 @@
+-- what contracts see of jobs
+pub mod Job
 -- what contracts say of passes
 pub mod Shared
+-- why a job has no pieces
+pub mod Fault
+-- what workers answer, and what that tells
+pub mod Answers
 -- which queue it is
 pub mod Queue
 -- the rule of the queue
 pub mod Rule
--- the numbers of the faults
-pub mod Fault
 -- what serves private contracts
 pub mod internal

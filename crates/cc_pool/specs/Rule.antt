@@ -2,7 +2,7 @@
 use Rattle.std.specs.Prelude.{◌≡◌, ℕ, ◌+◌, List, [], ◌∷◌, ◌++◌, sum_by}
 use mathlib.Core.Option.{some}
 use lib.ListN.{get_elem?}
-use Rattle.cc_pool.specs.declared.task.Item.{Item}
+use Rattle.cc_pool.specs.declared.item.Item.{Item}
 use Rattle.cc_pool.specs.declared.rule.Role.{Role}
 use Rattle.cc_pool.specs.declared.rule.Role.TheVariants.{Owner, Out, Joined}
 use Rattle.cc_pool.specs.declared.rule.Hand.{Hand}

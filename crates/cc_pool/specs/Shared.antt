@@ -1,12 +1,25 @@
 -- What contracts say of passes.
-use Rattle.std.specs.Prelude.{◌≡◌, ℕ, zero, suc, List, [], ◌∷◌, ◌++◌, IsPermutation}
-use Rattle.cc_pool.specs.declared.task.Item.{Item}
-use Rattle.cc_pool.specs.declared.task.Item.TheVariants.{Stop}
+use Rattle.std.specs.Prelude.{◌≡◌, ℕ, zero, suc, ◌≤◌, List, [], ◌∷◌, ◌++◌, IsPermutation}
+use Rattle.cc_pool.specs.Job.{Task}
+use Rattle.cc_pool.specs.declared.item.Item.{Item}
+use Rattle.cc_pool.specs.declared.item.Item.TheVariants.{Piece, Stop}
 
 -- what a pass has sent and taken
 pub record Lists : Type 0 where
   pub sent : List Item
   pub taken : List Item
+
+abbrev pub piece_of : (job function : ℕ) → Item
+piece_of job function = Piece (record { job = job; function = function })
+
+-- so many functions of a job, from one on, in the order of their definitions
+abbrev pub pieces_from : (job function count : ℕ) → List Item
+pieces_from job function zero = []
+pieces_from job function (suc count) = piece_of job function ∷ pieces_from job (suc function) count
+
+-- the first functions of a job, so many
+abbrev pub pieces_of : (job count : ℕ) → List Item
+pieces_of job = pieces_from job 0
 
 -- so many words to stop
 abbrev pub stops : ℕ → List Item
@@ -17,6 +30,13 @@ stops (suc n) = Stop ∷ stops n
 abbrev pub sent_by : List Lists → List Item
 sent_by [] = []
 sent_by (p ∷ ps) = p.sent ++ sent_by ps
+
+-- the pass's list grew by the first functions of some job, so many at most
+pub record HasSentSome (before after : Lists) (most : ℕ) : Type 0 where
+  pub job : ℕ
+  pub count : ℕ
+  pub within : count ≤ most
+  pub sent : after.sent ≡ before.sent ++ pieces_of job count
 
 -- What was sent in all is a word to stop for each worker and what the passes have sent. It is what was taken in all: each item once
 pub record IsDrained (workers : ℕ) (passes : List Lists) (all : Lists) : Type 0 where

@@ -10,7 +10,7 @@ ghost use Rattle.cc_pool.specs.internal.AllTaken.{AllTaken};
 
 use crate::named::Queued;
 use crate::rule::{Back, Cut, Hand, Law, Sends, Takes};
-use crate::task::Item;
+use crate::item::Item;
 use crossbeam_channel::{RuledReceiver, RuledSender, bounded_with};
 use std::alloc::{AllocError, Global};
 use std::marker::{Model, PhantomData};

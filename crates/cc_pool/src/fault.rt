@@ -1,14 +1,18 @@
-//! Why workers did not start, take or end as they should.
+//! Why a job has no pieces.
 
 ghost use Rattle.std.specs.Prelude.{◌≡◌};
-ghost use Rattle.cc_pool.specs.Fault.{workers_fault_number};
+ghost use Rattle.cc_pool.specs.Fault.{pool_fault_number};
 
+use cc_link::PieceFault;
 use thiserror::Error;
 
-/// Why workers did not start, take or end as they should.
+/// Why a job has no pieces, or a pool did not start or end as it should.
 #[derive(Clone, Copy, Debug, Error)]
-pub enum WorkersFault {
-    /// 41: a thread could not be started, the queue is closed, or the workers ended with tasks left or passes missing.
+pub enum PoolFault {
+    /// 22, 24: the function with this number was refused.
+    #[error("{fault}")]
+    Piece { function: usize, fault: PieceFault },
+    /// 41: a thread could not be started, the queue is closed, there are no more numbers, or a job's results ended early.
     #[error("WorkersGone")]
     WorkersGone,
     /// 40: memory ran out.
@@ -16,14 +20,15 @@ pub enum WorkersFault {
     OutOfMemory,
 }
 
-impl WorkersFault {
-    /// The fault's number: 41 or 40.
+impl PoolFault {
+    /// The fault's number: that of the piece's fault, 41 or 40.
     pub fn number(&self) -> u32
-        ensures { result ≡ workers_fault_number self.now }
+        ensures { result ≡ pool_fault_number self.now }
     {
         match self {
-            WorkersFault::WorkersGone => 41,
-            WorkersFault::OutOfMemory => 40,
+            PoolFault::Piece { function: _, fault } => fault.number(),
+            PoolFault::WorkersGone => 41,
+            PoolFault::OutOfMemory => 40,
         }
     }
 }

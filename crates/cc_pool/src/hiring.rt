@@ -8,10 +8,11 @@ ghost use Rattle.cc_pool.specs.declared.rule.Role.TheVariants.{Owner};
 ghost use Rattle.cc_pool.specs.Shared.{stops, sent_by};
 
 use crate::ends::{Ends, Seat};
-use crate::fault::WorkersFault;
+use crate::fault::PoolFault;
+use crate::gate::Gate;
+use crate::item::Item;
 use crate::named::Queued;
 use crate::seats::{Own, Pass, Taker};
-use crate::task::{Item, Work};
 use crate::worker::work;
 use crossbeam_channel::{Receiver, Sender};
 use std::alloc::{AllocError, Global};
@@ -22,25 +23,25 @@ use std::thread::{Builder, Threads};
 const STACK: usize = 8 << 20;
 
 // Starts so many workers, which hand their passes back there. Answers how many were started: all, where there is no fault.
-pub(crate) fn hire<N, R, W>(
+pub(crate) fn hire<N, R, G>(
     rt: &R,
     alloc: Global,
     ends: &Ends<N>,
     own: &mut Own<N>,
     back: &Sender<Taker<N>>,
     count: usize,
-    works: W,
-) -> (usize, Option<WorkersFault>)
+    gate: G,
+) -> (usize, Option<PoolFault>)
 where
     N: Queued + Send + Sync + 'static,
     R: Threads + Wait + Copy + Send + 'static,
-    W: Work + Drop + Send + Sync + 'static,
+    G: Gate + Drop + Send + Sync + 'static,
 {
-    let Ok(works) = Arc::new(alloc, works) else {
-        return (0, Some(WorkersFault::OutOfMemory));
+    let Ok(gate) = Arc::new(alloc, gate) else {
+        return (0, Some(PoolFault::OutOfMemory));
     };
     for started in 0..count {
-        if let Err(fault) = start_one(*rt, ends, own, back, &works) {
+        if let Err(fault) = start_one(*rt, alloc, ends, own, back, &gate) {
             return (started, Some(fault));
         }
     }
@@ -48,27 +49,28 @@ where
 }
 
 // Starts a worker.
-fn start_one<N, R, W>(
+fn start_one<N, R, G>(
     rt: R,
+    alloc: Global,
     ends: &Ends<N>,
     own: &mut Own<N>,
     back: &Sender<Taker<N>>,
-    works: &Arc<W>,
-) -> Result<(), WorkersFault>
+    gate: &Arc<G>,
+) -> Result<(), PoolFault>
 where
     N: Queued + Send + Sync + 'static,
     R: Threads + Wait + Copy + Send + 'static,
-    W: Work + Drop + Send + Sync + 'static,
+    G: Gate + Drop + Send + Sync + 'static,
 {
-    let (Ok(theirs), Ok(works), Ok(back)) = (ends.try_clone(), Arc::try_clone(works), another(back))
+    let (Ok(theirs), Ok(gate), Ok(back)) = (ends.try_clone(), Arc::try_clone(gate), another(back))
     else {
-        return Err(WorkersFault::OutOfMemory);
+        return Err(PoolFault::OutOfMemory);
     };
     let taker = own.taker(ends);
-    if spawned(rt, theirs, taker, works, back) {
+    if spawned(rt, alloc, theirs, taker, gate, back) {
         Ok(())
     } else {
-        Err(WorkersFault::WorkersGone)
+        Err(PoolFault::WorkersGone)
     }
 }
 
@@ -77,21 +79,22 @@ fn another<N: Queued>(back: &Sender<Taker<N>>) -> Result<Sender<Taker<N>>, Alloc
 }
 
 // Whether a thread was made that works so.
-fn spawned<N, R, W>(
+fn spawned<N, R, G>(
     rt: R,
+    alloc: Global,
     ends: Ends<N>,
     taker: Taker<N>,
-    works: Arc<W>,
+    gate: Arc<G>,
     back: Sender<Taker<N>>,
 ) -> bool
 where
     N: Queued + Send + Sync + 'static,
     R: Threads + Wait + Copy + Send + 'static,
-    W: Work + Drop + Send + Sync + 'static,
+    G: Gate + Drop + Send + Sync + 'static,
 {
     Builder::new()
         .stack_size(STACK)
-        .spawn(&rt, move || work(&rt, &ends, taker, &*works, &back))
+        .spawn(&rt, move || work(&rt, alloc, &ends, taker, &*gate, &back))
         .is_ok()
 }
 
@@ -102,7 +105,7 @@ pub(crate) fn dismiss<N: Queued, R: Wait>(
     seat: &mut Seat<N>,
     back: &Receiver<Taker<N>>,
     count: usize,
-) -> Result<(), WorkersFault>
+) -> Result<(), PoolFault>
     requires { seat.old.role ≡ Owner }
     ensures role { seat.new.role ≡ Owner }
     ensures splits { seat.new.splits ≡ seat.old.splits }
@@ -120,7 +123,7 @@ fn take_back<N: Queued, R: Wait>(
     seat: &mut Seat<N>,
     back: &Receiver<Taker<N>>,
     count: usize,
-) -> Result<(), WorkersFault>
+) -> Result<(), PoolFault>
     requires { seat.old.role ≡ Owner }
     ensures role { seat.new.role ≡ Owner }
     ensures splits { seat.new.splits ≡ seat.old.splits }
@@ -130,7 +133,7 @@ fn take_back<N: Queued, R: Wait>(
     for _i in 0..count {
         match back.recv(rt) {
             Ok(taker) => ends.join(seat, taker.into_seat()),
-            Err(_) => return Err(WorkersFault::WorkersGone),
+            Err(_) => return Err(PoolFault::WorkersGone),
         }
     }
     Ok(())
@@ -142,7 +145,7 @@ fn stop<N: Queued, R: Wait>(
     ends: &Ends<N>,
     seat: &mut Seat<N>,
     count: usize,
-) -> Result<(), WorkersFault>
+) -> Result<(), PoolFault>
     requires { seat.old.role ≡ Owner }
     ensures role { seat.new.role ≡ Owner }
     ensures splits { seat.new.splits ≡ seat.old.splits }
@@ -152,7 +155,7 @@ fn stop<N: Queued, R: Wait>(
     for _i in 0..count {
         match ends.send(rt, seat, Item::Stop) {
             Ok(()) => {}
-            Err(_) => return Err(WorkersFault::WorkersGone),
+            Err(_) => return Err(PoolFault::WorkersGone),
         }
     }
     Ok(())

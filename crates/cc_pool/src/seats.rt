@@ -1,13 +1,13 @@
 //! Who holds a pass of the queue.
 
 ghost use Rattle.std.specs.Prelude.{◌≡◌, ◌+◌, [], ◌++◌, ◌∷◌, OnOk, OnErr, IfSome};
-ghost use Rattle.cc_pool.specs.declared.task.Item.TheVariants.{Task};
+ghost use Rattle.cc_pool.specs.declared.item.Item.TheVariants.{Piece};
 ghost use Rattle.cc_pool.specs.declared.rule.Role.TheVariants.{Owner, Out};
 ghost use Rattle.cc_pool.specs.Rule.{first_hand, new_hand};
 
 use crate::ends::{Ends, Seat};
 use crate::named::Queued;
-use crate::task::Item;
+use crate::item::{Item, Order};
 use std::marker::Model;
 use std::sync::Wait;
 
@@ -84,19 +84,18 @@ impl<N: Queued> Model for Drained<N> {
 }
 
 impl<N: Queued> Pass<N> {
-    // Puts a task behind what was sent.
+    // Puts an order behind what was sent.
     pub(crate) fn send<R: Wait>(
         &mut self,
         rt: &R,
         ends: &Ends<N>,
-        job: u64,
-        part: u32,
+        order: Order,
     ) -> Result<(), Item>
-        ensures ok { OnOk result (self.new.sent ≡ self.old.sent ++ Task job part ∷ []) }
+        ensures ok { OnOk result (self.new.sent ≡ self.old.sent ++ Piece order ∷ []) }
         ensures err { OnErr result (self.new.sent ≡ self.old.sent) }
         ensures taken { self.new.taken ≡ self.old.taken }
     {
-        ends.send(rt, &mut self.seat, Item::Task(job, part))
+        ends.send(rt, &mut self.seat, Item::Piece(order))
     }
 
     pub(crate) fn into_seat(self) -> Seat<N>

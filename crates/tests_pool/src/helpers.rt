@@ -1,60 +1,19 @@
-// Works that count, and works that hold until they are let go.
+// Units to hand in, and what is asked of a pool.
 
-use cc_pool::{Pass, Queued, Work};
+use cc_emit::Piece;
+use cc_pool::Pass;
+use cc_pool::Queued;
+use cc_syntax::parse;
+use cc_typing::{TypedUnit, check};
 use std::alloc::{AllocError, Global};
-use std::sync::atomic::{AtomicU64, Ordering};
-use std::sync::{Arc, Wait};
-use std::thread;
+use std::sync::Arc;
+use std::test::Fail;
 
-/// How often a hold yields before it gives up.
-pub const TURNS: u64 = 20_000_000;
-
-/// Waits until a number is at least this, and tells whether it came to that before the turns were over.
-pub fn reaches(number: &AtomicU64, least: u64) -> bool {
-    for _ in 0..TURNS {
-        if number.load(Ordering::SeqCst) >= least {
-            return true;
-        }
-        thread::yield_now();
-    }
-    false
-}
-
-/// Counts the tasks that it did.
-#[derive(Drop)]
-pub struct Count {
-    pub done: Arc<AtomicU64>,
-}
-
-impl Work for Count {
-    fn execute<R: Wait>(&self, _rt: &R, _job: u64, _part: u32) {
-        self.done.fetch_add(1, Ordering::SeqCst);
-    }
-}
-
-/// Holds the tasks of job 0 until so many others were done, or the turns are over, and counts those that were let go, and all.
-#[derive(Drop)]
-pub struct Hold {
-    pub least: u64,
-    pub others: Arc<AtomicU64>,
-    pub met: Arc<AtomicU64>,
-}
-
-impl Work for Hold {
-    fn execute<R: Wait>(&self, _rt: &R, job: u64, _part: u32) {
-        if job > 0 {
-            self.others.fetch_add(1, Ordering::SeqCst);
-            return;
-        }
-        if reaches(&self.others, self.least) {
-            self.met.fetch_add(1, Ordering::SeqCst);
-        }
-    }
-}
-
-/// No pass.
-pub fn none<N: Queued>(alloc: Global) -> Vec<Pass<N>> {
-    Vec::new(alloc)
+/// A unit of a text.
+pub fn unit(alloc: Global, text: &[u8]) -> Result<Arc<TypedUnit>, Fail> {
+    let unit = parse(alloc, text)?;
+    let unit = check(alloc, unit)?;
+    Ok(Arc::new(alloc, unit)?)
 }
 
 /// One pass.
@@ -74,4 +33,13 @@ pub fn two<N: Queued>(
     passes.push(first)?;
     passes.push(second)?;
     Ok(passes)
+}
+
+/// Whether these are pieces of a text, one of each function in their order.
+pub fn are_of(pieces: &[Piece], text: &[u8]) -> bool {
+    let mut right = true;
+    for at in 0..pieces.len() {
+        right = right && pieces[at].function() == at && pieces[at].unit().text() == text;
+    }
+    right
 }

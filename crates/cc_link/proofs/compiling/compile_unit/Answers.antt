@@ -32,6 +32,7 @@ returns-in-Err-clause-refused c =
     let limits : IsWithinLimits s.externals = subst (λ (u : parsed.Unit). IsWithinLimits (source u).externals) c.deref.ensures tree.limits in
     let r = c.in-Err.ensures.refused in
     record {
-      none = record { tree = s.externals; is = record { spelled = c.requires.spelled; typed = typed; limits = limits }; function = r.0; defined = r.1; refused = r.2 };
+      function = r.0;
+      none = record { tree = s.externals; is = record { spelled = c.requires.spelled; typed = typed; limits = limits }; defined = r.1; refused = r.2 };
       earlier = r.3;
     }

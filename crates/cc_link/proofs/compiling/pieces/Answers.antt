@@ -8,7 +8,7 @@ use Rattle.cc_typing.specs.Checked.{IsChecked}
 use Rattle.cc_typing.specs.Typed.{defined_names}
 use Rattle.cc_meaning.specs.Meaning.{functions}
 use Rattle.cc_emit.specs.Piece.{Piece}
-use Rattle.cc_link.specs.internal.Lent.{AreFrom}
+use Rattle.cc_link.specs.Pieces.{AreFrom}
 use Rattle.cc_link.proofs.Deciding.{defined_long}
 use Rattle.cc_link.proofs.Own.{one_from}
 use Rattle.cc_link.proofs.Ordering.{compiled_of}

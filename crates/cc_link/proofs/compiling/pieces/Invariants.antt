@@ -2,7 +2,7 @@ use Rattle.std.proofs.Common.{◌≡◌, ℕ, ◌<◌, length}
 use Rattle.cc_link.specs.Compile.{HasPiece}
 use Rattle.std.specs.Arc.{arc_value}
 use Rattle.cc_syntax.specs.Source.{source}
-use Rattle.cc_link.specs.internal.Lent.{AreFrom}
+use Rattle.cc_link.specs.Pieces.{AreFrom}
 use Rattle.cc_link.proofs.compiling.pieces.Given as goal
 
 -- the pieces so far are those of the functions so far

@@ -1,0 +1,13 @@
+-- What contracts see of jobs.
+use Rattle.std.specs.Prelude.{ℕ, List}
+
+-- a function of a job: both by their numbers
+pub record Task : Type 0 where
+  pub job : ℕ
+  pub function : ℕ
+
+-- a unit that was handed in: the job's number, the unit's text, and how many functions it defines
+pub record Job : Type 0 where
+  pub number : ℕ
+  pub text : List ℕ
+  pub functions : ℕ

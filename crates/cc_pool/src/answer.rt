@@ -1,0 +1,87 @@
+//! What a worker answers for a function.
+
+ghost use Rattle.std.specs.Prelude.{◌≡◌, ◌≢◌, ◌<◌, length, IfSome};
+ghost use Rattle.std.specs.Arc.{arc_value};
+ghost use Rattle.cc_syntax.specs.Source.{source};
+ghost use Rattle.cc_typing.specs.Typed.{defined_names};
+ghost use Rattle.cc_link.specs.Compile.{IsPieceRefusal};
+ghost use Rattle.cc_link.specs.declared.piece_fault.PieceFault.TheVariants.{OutOfMemory};
+
+use cc_emit::Piece;
+use cc_link::{PieceFault, compile_function};
+use cc_typing::TypedUnit;
+use std::alloc::Global;
+use std::marker::Model;
+use std::sync::Arc;
+
+/// A worker's answer, which names its unit and function.
+#[derive(Drop)]
+pub enum Answer {
+    Made(Piece),
+    Refused(Refusal),
+}
+
+/// A function that has no piece, for another reason than want of memory. Contracts see its text, its number and the reason.
+#[derive(Drop)]
+pub struct Refusal {
+    unit: Arc<TypedUnit>,
+    function: usize,
+    fault: PieceFault,
+}
+
+impl Model for Refusal {
+    ghost use Rattle.std.specs.Arc.{arc_value};
+    ghost use Rattle.cc_syntax.specs.Source.{source};
+    ghost use Rattle.cc_pool.specs.Fault.{IsRefusedAt};
+    ghost use Rattle.cc_pool.specs.Answers.{NoPiece};
+
+    ghost Value = { NoPiece };
+
+    ghost view = { λ r. record { text = (source (arc_value r.unit)).text; function = r.function; fault = r.fault } };
+
+    ghost invariant = { λ r. IsRefusedAt (source (arc_value r.unit)).text r.function r.fault };
+}
+
+// What is answered for a function of a unit: None where memory ran out.
+pub(crate) fn answered(alloc: Global, unit: Arc<TypedUnit>, function: usize) -> Option<Answer>
+    requires { function < length (defined_names (source (arc_value unit))) }
+{
+    match compile_function(alloc, &unit, function) {
+        Ok(piece) => Some(Answer::Made(piece)),
+        Err(PieceFault::OutOfMemory) => None,
+        Err(fault) => Some(Answer::Refused(Refusal::new(unit, function, fault))),
+    }
+}
+
+impl Refusal {
+    fn new(unit: Arc<TypedUnit>, function: usize, fault: PieceFault) -> Refusal
+        requires within { function < length (defined_names (source (arc_value unit))) }
+        requires refused { IsPieceRefusal (source (arc_value unit)).externals function fault }
+        requires real { fault ≢ OutOfMemory }
+    {
+        let _externals = unit.externals();
+        Refusal {
+            unit,
+            function,
+            fault,
+        }
+    }
+
+    pub(crate) fn text(&self) -> &[u8]
+        ensures { result.now ≡ self.now.text }
+    {
+        self.unit.text()
+    }
+
+    pub(crate) fn function(&self) -> usize
+        ensures { result ≡ self.now.function }
+    {
+        self.function
+    }
+
+    pub(crate) fn fault(&self) -> PieceFault
+        ensures { result ≡ self.now.fault }
+    {
+        self.fault
+    }
+}

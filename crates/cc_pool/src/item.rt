@@ -1,0 +1,84 @@
+//! What goes to the workers.
+
+ghost use Rattle.std.specs.Prelude.{◌≡◌, ◌<◌, IfOk, length};
+ghost use Rattle.std.specs.Arc.{arc_value};
+ghost use Rattle.cc_syntax.specs.Source.{source};
+ghost use Rattle.cc_typing.specs.Typed.{defined_names};
+ghost use Rattle.cc_typing.specs.Limits.{most_functions};
+
+use crate::answer::{Answer, answered};
+use crate::gate::Gate;
+use cc_typing::TypedUnit;
+use crossbeam_channel::Sender;
+use std::alloc::{AllocError, Global};
+use std::marker::Model;
+use std::sync::{Arc, Wait};
+
+/// What stands on the queue: a piece that is to be made, or the word that a worker is to stop.
+#[derive(Drop)]
+pub enum Item {
+    Piece(Order),
+    Stop,
+}
+
+/// A function of a unit that is to be compiled, and where the answer goes. Contracts see the job's number and the function's.
+#[derive(Drop)]
+pub struct Order {
+    job: u64,
+    function: usize,
+    unit: Arc<TypedUnit>,
+    answers: Sender<Answer>,
+}
+
+impl Model for Order {
+    ghost use Rattle.std.specs.Prelude.{◌<◌, length};
+    ghost use Rattle.std.specs.Arc.{arc_value};
+    ghost use Rattle.cc_syntax.specs.Source.{source};
+    ghost use Rattle.cc_typing.specs.Typed.{defined_names};
+    ghost use Rattle.cc_typing.specs.Limits.{most_functions};
+    ghost use Rattle.cc_pool.specs.Job.{Task};
+
+    ghost Value = { Task };
+
+    ghost view = { λ o. record { job = o.job; function = o.function } };
+
+    ghost invariant = { λ o. (o.function < length (defined_names (source (arc_value o.unit)))) × (o.function < most_functions) };
+}
+
+impl Order {
+    // The order of a function of a job.
+    pub(crate) fn new(
+        job: u64,
+        function: usize,
+        unit: &Arc<TypedUnit>,
+        answers: &Sender<Answer>,
+    ) -> Result<Order, AllocError>
+        requires within { function < length (defined_names (source (arc_value unit.now))) }
+        requires few { function < most_functions }
+        ensures job { IfOk result (λ o. o.job ≡ job) }
+        ensures function { IfOk result (λ o. o.function ≡ function) }
+    {
+        let unit = Arc::try_clone(unit)?;
+        let answers = answers.clone()?;
+        Ok(Order {
+            job,
+            function,
+            unit,
+            answers,
+        })
+    }
+
+    // Compiles the function and answers. Where memory ran out nothing is answered, and the job's answers end early.
+    pub(crate) fn fill<R: Wait, G: Gate>(self, rt: &R, alloc: Global, gate: &G) {
+        let Order {
+            job,
+            function,
+            unit,
+            answers,
+        } = self;
+        gate.before(job, function as u32);
+        if let Some(answer) = answered(alloc, unit, function) {
+            drop(answers.send(rt, answer));
+        }
+    }
+}

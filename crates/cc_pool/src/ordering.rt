@@ -1,0 +1,108 @@
+//! How a job's answers are put in order.
+//!
+//! A plain channel says nothing of which job a message is from. So an answer is told by its text, compared when it runs, and its
+//! function's number: what another text's answer may be stays out.
+
+ghost use Rattle.std.specs.Prelude.{◌≡◌, length, All, IfOk, IfErr, IfSome, IfNone, OnOk, MatchOption};
+ghost use Rattle.cc_syntax.specs.Source.{source};
+ghost use Rattle.cc_link.specs.Pieces.{AreFrom};
+ghost use Rattle.cc_pool.specs.Answers.{IsToldBy, IsOfAnother};
+ghost use Rattle.cc_pool.specs.Fault.{IsJobRefusal};
+ghost use Rattle.cc_pool.specs.internal.Least.{IsLeastOf};
+
+use crate::answer::{Answer, Refusal};
+use crate::fault::PoolFault;
+use cc_emit::Piece;
+use cc_link::PieceFault;
+use crossbeam_channel::Receiver;
+use std::alloc::{AllocError, Global};
+use std::sync::Wait;
+
+// The answers that came, in the order in which they came.
+#[derive(Drop)]
+pub(crate) struct Came {
+    pieces: Vec<Piece>,
+    refusals: Vec<Refusal>,
+}
+
+// So many answers, or those that came before they ended.
+pub(crate) fn gather<R: Wait>(
+    rt: &R,
+    alloc: Global,
+    answers: &Receiver<Answer>,
+    count: usize,
+) -> Result<Came, AllocError> {
+    let mut pieces = Vec::with_capacity(alloc, count)?;
+    let mut refusals = Vec::new(alloc);
+    for _ in 0..count {
+        match answers.recv(rt) {
+            Ok(Answer::Made(piece)) => pieces.push(piece)?,
+            Ok(Answer::Refused(refusal)) => refusals.push(refusal)?,
+            Err(_) => break,
+        }
+    }
+    Ok(Came { pieces, refusals })
+}
+
+// The least function of a text that was refused, with the reason.
+fn least_refused(text: &[u8], refusals: &[Refusal]) -> Option<(usize, PieceFault)>
+    ensures { IsLeastOf text.now refusals.now result }
+{
+    let mut least: Option<(usize, PieceFault)> = None;
+    for refusal in refusals {
+        if refusal.text() != text {
+            continue;
+        }
+        least = match least {
+            Some((function, fault)) if function <= refusal.function() => Some((function, fault)),
+            _ => Some((refusal.function(), refusal.fault())),
+        };
+    }
+    least
+}
+
+// The piece of a function of a text, taken out.
+fn piece_of(pieces: &mut Vec<Piece>, text: &[u8], function: usize) -> Option<Piece>
+    ensures text { IfSome result (λ piece. (source piece.unit).text ≡ text.now) }
+    ensures function { IfSome result (λ piece. piece.function ≡ function) }
+{
+    for at in 0..pieces.len() {
+        if pieces[at].function() == function && pieces[at].unit().text() == text {
+            return Some(pieces.swap_remove(at));
+        }
+    }
+    None
+}
+
+// The pieces of so many functions of a text, in their order; or the fault of the least that was refused; or 41, where an answer is
+// missing and none is a refusal.
+pub(crate) fn in_order(
+    alloc: Global,
+    text: &[u8],
+    functions: usize,
+    came: Came,
+) -> Result<Vec<Piece>, PoolFault>
+    ensures count { IfOk result (λ pieces. length pieces.items ≡ functions) }
+    ensures own { IfOk result (λ pieces. AreFrom text.now 0 pieces.items) }
+    ensures refused { IfErr result (λ fault. IsJobRefusal text.now fault) }
+    ensures told { IfErr result (λ fault. IsToldBy text.now functions came.pieces.items came.refusals.items fault) }
+{
+    let Came {
+        pieces: mut made,
+        refusals,
+    } = came;
+    if let Some((function, fault)) = least_refused(text, refusals.as_slice()) {
+        return Err(PoolFault::Piece { function, fault });
+    }
+    let mut pieces = Vec::new(alloc);
+    for function in 0..functions {
+        if pieces.reserve(1).is_err() {
+            return Err(PoolFault::OutOfMemory);
+        }
+        match piece_of(&mut made, text, function) {
+            Some(piece) => pieces.push_reserved(piece),
+            None => return Err(PoolFault::WorkersGone),
+        }
+    }
+    Ok(pieces)
+}

@@ -1,0 +1,212 @@
+//! The pool.
+
+ghost use Rattle.std.specs.Prelude.{◌≡◌, ◌≤◌, ◌++◌, [], length, IfOk, IfErr, OnOk, OnErr};
+ghost use Rattle.std.specs.Arc.{arc_value};
+ghost use Rattle.cc_syntax.specs.Source.{source};
+ghost use Rattle.cc_typing.specs.Typed.{defined_names};
+ghost use Rattle.cc_link.specs.Pieces.{AreFrom};
+ghost use Rattle.cc_pool.specs.Answers.{IsTold};
+ghost use Rattle.cc_pool.specs.Fault.{IsJobRefusal};
+ghost use Rattle.cc_pool.specs.Shared.{Lists, pieces_of, HasSentSome, IsDrained};
+
+use crate::answer::Answer;
+use crate::ends::{Ends, Fresh};
+use crate::fault::PoolFault;
+use crate::gate::Gate;
+use crate::hiring::{dismiss, hire, take_in};
+use crate::item::Order;
+use crate::named::Queued;
+use crate::seats::{Drained, Own, Pass, Taker};
+use crate::ticket::Ticket;
+use cc_emit::Piece;
+use cc_typing::TypedUnit;
+use crossbeam_channel::{Receiver, Sender, bounded};
+use std::alloc::Global;
+use std::marker::Model;
+use std::sync::atomic::{AtomicU64, Ordering};
+use std::sync::{Arc, Mutex, Wait};
+use std::thread::Threads;
+
+/// Workers that compile the functions of units. Contracts see how many there are.
+#[derive(Drop)]
+pub struct Pool<N: Queued> {
+    ends: Ends<N>,
+    own: Mutex<Own<N>>,
+    back: Receiver<Taker<N>>,
+    workers: usize,
+    jobs: AtomicU64,
+}
+
+impl<N: Queued> Model for Pool<N> {
+    ghost use Rattle.std.specs.Prelude.{ℕ};
+
+    ghost Value = { ℕ };
+
+    ghost view = { λ p. p.workers };
+}
+
+impl<N: Queued + Send + Sync + 'static> Pool<N> {
+    /// Starts so many workers, which pass the gate before each piece. Each has a stack of 8 MiB.
+    ///
+    /// Refusals: 40; 41 where a thread could not be started. None of the workers is left then.
+    pub fn start<R, G>(
+        rt: &R,
+        alloc: Global,
+        fresh: Fresh,
+        workers: usize,
+        gate: G,
+    ) -> Result<Pool<N>, PoolFault>
+    where
+        R: Threads + Wait + Copy + Send + 'static,
+        G: Gate + Drop + Send + Sync + 'static,
+        requires queue { fresh ≡ N.queue }
+        requires some { 1 ≤ workers }
+        requires few { workers ≤ 8 }
+        ensures { IfOk result (λ pool. pool ≡ workers) }
+    {
+        let (ends, seat) = fresh.open::<N>();
+        let mut own = Own::new(seat);
+        let Ok((hand_back, back)) = bounded(alloc, workers) else {
+            return Err(PoolFault::OutOfMemory);
+        };
+        match hire(rt, alloc, &ends, &mut own, &hand_back, workers, gate) {
+            (_, None) => Ok(Pool {
+                ends,
+                own: Mutex::new(own),
+                back,
+                workers,
+                jobs: AtomicU64::new(0),
+            }),
+            (started, Some(fault)) => {
+                let (mut seat, _) = own.into_seat();
+                drop(dismiss(rt, &ends, &mut seat, &back, started));
+                Err(fault)
+            }
+        }
+    }
+
+    /// A pass to hand in jobs with. It has sent and taken nothing.
+    pub fn pass<R: Wait>(&self, rt: &R) -> Pass<N>
+        ensures sent { result.sent ≡ [] }
+        ensures taken { result.taken ≡ [] }
+    {
+        self.own.lock(rt).pass(&self.ends)
+    }
+
+    /// Hands in a unit: an item for each of its functions, in the order of their definitions and with the job's number, goes behind what
+    /// the pass has sent. It waits while the queue is full.
+    ///
+    /// Refusals: 40; 41 where the queue is closed or 2^64 - 1 jobs were handed in. Some of the items may have gone then, the first ones.
+    pub fn submit<R: Wait>(
+        &self,
+        rt: &R,
+        alloc: Global,
+        pass: &mut Pass<N>,
+        unit: Arc<TypedUnit>,
+    ) -> Result<Ticket, PoolFault>
+        ensures text { IfOk result (λ t. t.text ≡ (source (arc_value unit)).text) }
+        ensures functions { IfOk result (λ t. t.functions ≡ length (defined_names (source (arc_value unit)))) }
+        ensures sent { IfOk result (λ t. pass.new.sent ≡ pass.old.sent ++ pieces_of t.number t.functions) }
+        ensures leaves { OnErr result (HasSentSome pass.old pass.new (length (defined_names (source (arc_value unit))))) }
+        ensures taken { pass.new.taken ≡ pass.old.taken }
+    {
+        let Some(job) = self.next_number() else {
+            return Err(PoolFault::WorkersGone);
+        };
+        let Ok((answer, answers)) = bounded(alloc, unit.functions()) else {
+            return Err(PoolFault::OutOfMemory);
+        };
+        match self.send_all(rt, pass, job, &unit, &answer) {
+            Ok(()) => Ok(Ticket::new(job, unit, answers)),
+            Err(fault) => Err(fault),
+        }
+    }
+
+    fn next_number(&self) -> Option<u64> {
+        self.jobs
+            .fetch_update(Ordering::SeqCst, Ordering::SeqCst, |n| n.checked_add(1))
+            .ok()
+    }
+
+    // Sends an item for each function of a unit.
+    fn send_all<R: Wait>(
+        &self,
+        rt: &R,
+        pass: &mut Pass<N>,
+        job: u64,
+        unit: &Arc<TypedUnit>,
+        answer: &Sender<Answer>,
+    ) -> Result<(), PoolFault>
+        ensures ok { OnOk result (pass.new.sent ≡ pass.old.sent ++ pieces_of job (length (defined_names (source (arc_value unit.now))))) }
+        ensures err { OnErr result (HasSentSome pass.old pass.new (length (defined_names (source (arc_value unit.now))))) }
+        ensures taken { pass.new.taken ≡ pass.old.taken }
+    {
+        let _externals = unit.externals();
+        for function in 0..unit.functions() {
+            let Ok(order) = Order::new(job, function, unit, answer) else {
+                return Err(PoolFault::OutOfMemory);
+            };
+            match pass.send(rt, &self.ends, order) {
+                Ok(()) => {}
+                Err(_) => return Err(PoolFault::WorkersGone),
+            }
+        }
+        Ok(())
+    }
+
+    /// Waits for the pieces of a job: one of each function, in the order of their definitions. While memory is short the pieces that came
+    /// are let go.
+    ///
+    /// Refusals: 22 or 24 of the least function that was refused; 41 where none was and a piece is missing; 40.
+    pub fn collect<R: Wait>(
+        &self,
+        rt: &R,
+        alloc: Global,
+        ticket: Ticket,
+    ) -> Result<Vec<Piece>, PoolFault>
+        ensures count { IfOk result (λ pieces. length pieces.items ≡ ticket.functions) }
+        ensures own { IfOk result (λ pieces. AreFrom ticket.text 0 pieces.items) }
+        ensures refused { IfErr result (λ fault. IsJobRefusal ticket.text fault) }
+        ensures told { IfErr result (λ fault. IsTold ticket.text ticket.functions fault) }
+    {
+        ticket.collect(rt, alloc)
+    }
+
+    /// Ends the workers, once they have made all pieces that stand on the queue, and takes in all passes: what was sent is what was taken,
+    /// each item once, and the queue is empty.
+    ///
+    /// Refusals: 41 where the passes are not all that were made, or the workers ended with pieces left.
+    pub fn drain<R: Wait>(self, rt: &R, passes: Vec<Pass<N>>) -> Result<Drained<N>, PoolFault>
+        ensures { IfOk result (λ all. IsDrained self passes.items all) }
+    {
+        let Pool {
+            ends,
+            own,
+            back,
+            workers,
+            jobs: _,
+        } = self;
+        let (mut seat, out) = own.into_inner().into_seat();
+        let all = workers as u128 + passes.len() as u128;
+        dismiss(rt, &ends, &mut seat, &back, workers)?;
+        take_in(&ends, &mut seat, passes);
+        match out {
+            Some(out) if out as u128 == all => {}
+            _ => return Err(PoolFault::WorkersGone),
+        }
+        match ends.try_take(rt, &mut seat) {
+            Some(_) => Err(PoolFault::WorkersGone),
+            None => Ok(Drained::new(seat)),
+        }
+    }
+
+    /// Ends the pool, as `drain` does.
+    pub fn finish<R: Wait>(self, rt: &R, passes: Vec<Pass<N>>) -> Result<(), PoolFault>
+        ensures { IfOk result (λ _. (all : Lists) × IsDrained self passes.items all) }
+    {
+        match self.drain(rt, passes) {
+            Ok(_) => Ok(()),
+            Err(fault) => Err(fault),
+        }
+    }
+}

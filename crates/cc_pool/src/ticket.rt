@@ -1,0 +1,79 @@
+//! A job that was handed in.
+
+ghost use Rattle.std.specs.Prelude.{◌≡◌, length, IfOk, IfErr};
+ghost use Rattle.std.specs.Arc.{arc_value};
+ghost use Rattle.cc_syntax.specs.Source.{source};
+ghost use Rattle.cc_typing.specs.Typed.{defined_names};
+ghost use Rattle.cc_link.specs.Pieces.{AreFrom};
+ghost use Rattle.cc_pool.specs.Answers.{IsTold};
+ghost use Rattle.cc_pool.specs.Fault.{IsJobRefusal};
+
+use crate::answer::Answer;
+use crate::fault::PoolFault;
+use crate::ordering::{gather, in_order};
+use cc_emit::Piece;
+use cc_typing::TypedUnit;
+use crossbeam_channel::Receiver;
+use std::alloc::Global;
+use std::marker::Model;
+use std::sync::{Arc, Wait};
+
+/// A job that was handed in. Contracts see its number, and its unit by text and number of functions.
+#[derive(Drop)]
+pub struct Ticket {
+    number: u64,
+    unit: Arc<TypedUnit>,
+    answers: Receiver<Answer>,
+}
+
+impl Model for Ticket {
+    ghost use Rattle.std.specs.Prelude.{length};
+    ghost use Rattle.std.specs.Arc.{arc_value};
+    ghost use Rattle.cc_syntax.specs.Source.{source};
+    ghost use Rattle.cc_typing.specs.Typed.{defined_names};
+    ghost use Rattle.cc_pool.specs.Job.{Job};
+
+    ghost Value = { Job };
+
+    ghost view = { λ t. record { number = t.number; text = (source (arc_value t.unit)).text; functions = length (defined_names (source (arc_value t.unit))) } };
+}
+
+impl Ticket {
+    pub(crate) fn new(number: u64, unit: Arc<TypedUnit>, answers: Receiver<Answer>) -> Ticket
+        ensures number { result.number ≡ number }
+        ensures text { result.text ≡ (source (arc_value unit)).text }
+        ensures functions { result.functions ≡ length (defined_names (source (arc_value unit))) }
+    {
+        Ticket {
+            number,
+            unit,
+            answers,
+        }
+    }
+
+    /// The job's number: from 0 in the order in which a pool was handed its jobs.
+    pub fn number(&self) -> u64
+        ensures { result ≡ self.now.number }
+    {
+        self.number
+    }
+
+    // Waits for all answers, and puts them in order.
+    pub(crate) fn collect<R: Wait>(self, rt: &R, alloc: Global) -> Result<Vec<Piece>, PoolFault>
+        ensures count { IfOk result (λ pieces. length pieces.items ≡ self.functions) }
+        ensures own { IfOk result (λ pieces. AreFrom self.text 0 pieces.items) }
+        ensures refused { IfErr result (λ fault. IsJobRefusal self.text fault) }
+        ensures told { IfErr result (λ fault. IsTold self.text self.functions fault) }
+    {
+        let Ticket {
+            number: _,
+            unit,
+            answers,
+        } = self;
+        let functions = unit.functions();
+        match gather(rt, alloc, &answers, functions) {
+            Ok(came) => in_order(alloc, unit.text(), functions, came),
+            Err(_) => Err(PoolFault::OutOfMemory),
+        }
+    }
+}
