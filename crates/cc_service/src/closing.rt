@@ -122,12 +122,7 @@ impl<N: Named, D: Disk> RecordedLibrary<N, D> {
     }
 
     // That it can be ended with these clients, so many as were made. Answers the room for what they leave, which is taken first.
-    fn ready(
-        &self,
-        alloc: Global,
-        made: u64,
-        clients: &[Client<N>],
-    ) -> Result<Left<N>, BookFault>
+    fn ready(&self, alloc: Global, made: u64, clients: &[Client<N>]) -> Result<Left<N>, BookFault>
         ensures receipts { IfOk result (λ left. (left.receipts.items ≡ []) × (vec_len left.receipts ≡ 0) × (length clients.now ≤ vec_capacity left.receipts)) }
         ensures passes { IfOk result (λ left. (vec_len left.passes ≡ 0) × (length clients.now ≤ vec_capacity left.passes)) }
         ensures many { OnOk result (length clients.now ≡ made) }
