@@ -3,3 +3,5 @@
 pub mod Decide
 -- what is answered under the lock
 pub mod Under
+-- what is looked for in clients
+pub mod Apart

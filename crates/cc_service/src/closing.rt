@@ -7,6 +7,7 @@ ghost use Rattle.cc_service.specs.Book.{AllAgreed, BookView, RecoversTo};
 ghost use Rattle.cc_service.specs.Client.{holders};
 ghost use Rattle.cc_service.specs.Promise.{SurvivesCrash};
 ghost use Rattle.cc_service.specs.Answers.{IsNotClosed};
+ghost use Rattle.cc_service.specs.internal.Apart.{HaveOwnNumbers};
 
 use crate::book::Book;
 use crate::client::{Client, Member};
@@ -53,7 +54,7 @@ impl<N: Named> Left<N> {
 
 // Whether no two clients have one number.
 fn are_apart<N: Named>(clients: &[Client<N>]) -> bool
-    ensures { IsTrue result ↔ AreApart (holders clients.now) }
+    ensures { IsTrue result ↔ HaveOwnNumbers clients.now }
 {
     for i in 0..clients.len() {
         for j in 0..i {

@@ -1,5 +1,5 @@
 // The service.
-ghost use Rattle.std.specs.Prelude.{◌≡◌, ◌≤◌, ℕ, List, [], Ok, Err, false, IsTrue, IfErr, IfOk, map};
+ghost use Rattle.std.specs.Prelude.{◌≡◌, ◌≤◌, ℕ, List, [], false, IsTrue, IfErr, IfOk, map};
 ghost use Rattle.cc_disk.specs.Images.{OnlyReads};
 ghost use Rattle.cc_library.specs.Apply.{Units};
 ghost use Rattle.cc_library.specs.Recovered.{Recovers};
@@ -10,7 +10,7 @@ ghost use Rattle.cc_service.specs.Client.{holders};
 ghost use Rattle.cc_service.specs.Promise.{SurvivesCrash};
 ghost use Rattle.cc_service.specs.Serving.{Adds, GetAnswers, IsNotCompacted, IsNotEnded, IsNotOpened, IsTurnedAway, ListAnswers, PutAnswers, Replaces, WithdrawAnswers};
 ghost use Rattle.cc_service.specs.Answers.{IsLook};
-ghost use Rattle.cc_service.specs.internal.Under.{ChangeAnswers, IsSeen};
+ghost use Rattle.cc_service.specs.internal.Under.{IsSeen, MakesAnswers};
 ghost use Rattle.cc_service.specs.declared.fault.BookFault.{BookFault};
 ghost use Rattle.cc_service.specs.declared.fault.ServiceFault.TheVariants as service;
 
@@ -182,8 +182,7 @@ impl<N: Named + Send + Sync + 'static, D: Disk> Service<N, D> {
         client: &mut Client<N>,
         command: Command,
     ) -> Result<Receipt, ServiceFault>
-        ensures ok { IfOk result (λ receipt. ChangeAnswers (λ c. c ≡ command) client.old.holder client.new.holder (Ok receipt)) }
-        ensures err { IfErr result (λ fault. (f : BookFault) × (fault ≡ service.Book f) × ChangeAnswers (λ c. c ≡ command) client.old.holder client.new.holder (Err f)) }
+        ensures answers { MakesAnswers command client.old.holder client.new.holder result }
         ensures sent { client.new.sent ≡ client.old.sent }
     {
         let answer = self.book.lock(rt).commit(alloc, client, command);
