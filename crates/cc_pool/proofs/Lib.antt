@@ -1,3 +1,7 @@
+pub mod Crossing
+pub mod Few
 pub mod Lists
 pub mod Multisets
+pub mod Pieces
+pub mod Refusals
 pub mod Rules

@@ -1,7 +1,7 @@
 -- Lists of items, one longer.
 use Rattle.std.proofs.Common.{◌≡◌, ℕ, zero, suc, ◌+◌, List, [], ◌∷◌, ◌++◌, sym, refl, ap, ◌∙◌, arith, append_assoc, append-nil}
-use Rattle.cc_pool.specs.declared.task.Item.TheVariants.{Stop}
-use Rattle.cc_pool.specs.Shared.{Lists, stops, sent_by}
+use Rattle.cc_pool.specs.declared.item.Item.TheVariants.{Stop}
+use Rattle.cc_pool.specs.Shared.{Lists, piece_of, pieces_from, pieces_of, stops, sent_by}
 
 -- one more word to stop
 stop_more : (n : ℕ) → stops (suc n) ≡ stops n ++ Stop ∷ []
@@ -15,3 +15,12 @@ stop_next n = let m : n + 1 ≡ suc n = omega arith in ap stops m ∙ stop_more 
 pub sent_more : (ps : List Lists) (p : Lists) → sent_by (ps ++ p ∷ []) ≡ sent_by ps ++ p.sent
 sent_more [] p = append-nil p.sent
 sent_more (q ∷ ps) p = ap (λ l. q.sent ++ l) (sent_more ps p) ∙ sym (append_assoc q.sent (sent_by ps) p.sent)
+
+-- one more function
+piece_more : (job from count : ℕ) → pieces_from job from (suc count) ≡ pieces_from job from count ++ piece_of job (from + count) ∷ []
+piece_more job from zero = ap (λ f. piece_of job f ∷ []) (omega arith)
+piece_more job from (suc count) =
+    ap (λ l. piece_of job from ∷ l) (piece_more job (suc from) count ∙ ap (λ f. pieces_from job (suc from) count ++ piece_of job f ∷ []) (omega arith))
+
+pub piece_next : (job count : ℕ) → pieces_of job (count + 1) ≡ pieces_of job count ++ piece_of job count ∷ []
+piece_next job count = let n : count + 1 ≡ suc count = omega arith in ap (pieces_of job) n ∙ piece_more job 0 count ∙ ap (λ f. pieces_of job count ++ piece_of job f ∷ []) (omega arith)

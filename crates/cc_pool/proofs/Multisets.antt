@@ -5,8 +5,9 @@ use Rattle.std.specs.Prelude.{IsPermutation}
 use Rattle.std.proofs.lemmas.List.Sums.{sum_by-cons, sum_by-append}
 use Rattle.std.proofs.lemmas.List.Sorted.{IsPermutation-refl, IsPermutation-cons, IsPermutation-trans, IsPermutation-sym, IsPermutation-middle}
 use Rattle.std.proofs.lemmas.Bool.Decides.{nat_tests}
-use Rattle.cc_pool.specs.declared.task.Item.{Item}
-use Rattle.cc_pool.specs.declared.task.Item.TheVariants.{Task, Stop}
+use Rattle.cc_pool.specs.Job.{Task}
+use Rattle.cc_pool.specs.declared.item.Item.{Item}
+use Rattle.cc_pool.specs.declared.item.Item.TheVariants.{Piece, Stop}
 use Rattle.cc_pool.specs.Rule.{SameItems}
 
 -- 1 where both numbers are the same, else 0
@@ -21,22 +22,22 @@ same_is a b p = grind (arith, nat_tests)
 
 -- how often an item stands at a place: once where it is that one, else never
 abbrev is_item : Item → Item → ℕ
-is_item (Task a b) (Task c d) = cond (eqb a c) (same b d) 0
-is_item (Task a b) Stop = 0
-is_item Stop (Task c d) = 0
+is_item (Piece a) (Piece b) = cond (eqb a.job b.job) (same a.function b.function) 0
+is_item (Piece a) Stop = 0
+is_item Stop (Piece b) = 0
 is_item Stop Stop = 1
 
-both_same : (a b c d : ℕ) → 0 < cond (eqb a c) (same b d) 0 → (a ≡ c) × (b ≡ d)
-both_same a b c d p = (grind (arith, nat_tests), grind (arith, nat_tests))
+both_same : (a b : Task) → 0 < cond (eqb a.job b.job) (same a.function b.function) 0 → (a.job ≡ b.job) × (a.function ≡ b.function)
+both_same a b p = (grind (arith, nat_tests), grind (arith, nat_tests))
 
 item_self : (x : Item) → is_item x x ≡ 1
-item_self (Task a b) = grind (arith, nat_tests)
+item_self (Piece a) = grind (arith, nat_tests)
 item_self Stop = refl
 
 item_is : (x y : Item) → 0 < is_item x y → x ≡ y
-item_is (Task a b) (Task c d) p = let e = both_same a b c d p in λ i. Task (e.0 i) (e.1 i)
-item_is (Task a b) Stop p = absurd (omega (arith, p))
-item_is Stop (Task c d) p = absurd (omega (arith, p))
+item_is (Piece a) (Piece b) p = let e = both_same a b p in λ i. Piece (record { job = e.0 i; function = e.1 i })
+item_is (Piece a) Stop p = absurd (omega (arith, p))
+item_is Stop (Piece b) p = absurd (omega (arith, p))
 item_is Stop Stop p = refl
 
 -- where an item stands in a list

@@ -7,7 +7,7 @@ use mathlib.Core.Option.{some, some-ne-none, some-injective}
 use lib.ListN.{get_elem?}
 use Rattle.crossbeam_channel.specs.Fifo.{Pushes, Pops, Forks, Merges, Learns, Held}
 use Rattle.atomic_table.proofs.Lists.{at_set, at_snoc}
-use Rattle.cc_pool.specs.declared.task.Item.{Item}
+use Rattle.cc_pool.specs.declared.item.Item.{Item}
 use Rattle.cc_pool.specs.declared.rule.Role.{Role}
 use Rattle.cc_pool.specs.declared.rule.Role.TheVariants.{Owner, Out, Joined}
 use Rattle.cc_pool.specs.declared.rule.Hand.{Hand}

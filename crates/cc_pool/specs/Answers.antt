@@ -1,5 +1,5 @@
 -- What workers' answers tell of a job.
-use Rattle.std.specs.Prelude.{◌≡◌, ℕ, ◌<◌, ◌≤◌, List, All, Contains, ⊥}
+use Rattle.std.specs.Prelude.{◌≡◌, ℕ, ◌<◌, ◌≤◌, List, All, Contains}
 use Rattle.cc_syntax.specs.Source.{source}
 use Rattle.cc_emit.specs.Piece as emit
 use Rattle.cc_link.specs.declared.piece_fault.PieceFault.{PieceFault}

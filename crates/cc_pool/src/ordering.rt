@@ -3,12 +3,11 @@
 //! A plain channel says nothing of which job a message is from. So an answer is told by its text, compared when it runs, and its
 //! function's number: what another text's answer may be stays out.
 
-ghost use Rattle.std.specs.Prelude.{◌≡◌, length, All, IfOk, IfErr, IfSome, IfNone, OnOk, MatchOption};
-ghost use Rattle.cc_syntax.specs.Source.{source};
+ghost use Rattle.std.specs.Prelude.{◌≡◌, ◌<◌, ◌∷◌, length, All, HoldsAt, IsPermutation, IfOk, IfErr, IfSome, IfNone};
 ghost use Rattle.cc_link.specs.Pieces.{AreFrom};
-ghost use Rattle.cc_pool.specs.Answers.{IsToldBy, IsOfAnother};
+ghost use Rattle.cc_pool.specs.Answers.{IsToldBy, IsNotOf};
 ghost use Rattle.cc_pool.specs.Fault.{IsJobRefusal};
-ghost use Rattle.cc_pool.specs.internal.Least.{IsLeastOf};
+ghost use Rattle.cc_pool.specs.internal.Least.{IsLeastOf, IsOf};
 
 use crate::answer::{Answer, Refusal};
 use crate::fault::PoolFault;
@@ -61,17 +60,28 @@ fn least_refused(text: &[u8], refusals: &[Refusal]) -> Option<(usize, PieceFault
     least
 }
 
-// The piece of a function of a text, taken out.
-fn piece_of(pieces: &mut Vec<Piece>, text: &[u8], function: usize) -> Option<Piece>
-    ensures text { IfSome result (λ piece. (source piece.unit).text ≡ text.now) }
-    ensures function { IfSome result (λ piece. piece.function ≡ function) }
+// Where the piece of a function of a text stands.
+fn place_of(pieces: &[Piece], text: &[u8], function: usize) -> Option<usize>
+    ensures within { IfSome result (λ at. at < length pieces.now) }
+    ensures some { IfSome result (λ at. HoldsAt (IsOf text.now function) pieces.now at) }
+    ensures none { IfNone result (All (IsNotOf text.now function) pieces.now) }
 {
     for at in 0..pieces.len() {
         if pieces[at].function() == function && pieces[at].unit().text() == text {
-            return Some(pieces.swap_remove(at));
+            return Some(at);
         }
     }
     None
+}
+
+// The piece of a function of a text, taken out.
+fn piece_of(pieces: &mut Vec<Piece>, text: &[u8], function: usize) -> Option<Piece>
+    ensures answer { IfSome result (IsOf text.now function) }
+    ensures left { IfSome result (λ piece. IsPermutation pieces.old.items (piece ∷ pieces.new.items)) }
+    ensures none { IfNone result ((pieces.new.items ≡ pieces.old.items) × All (IsNotOf text.now function) pieces.old.items) }
+{
+    let at = place_of(pieces.as_slice(), text, function)?;
+    Some(pieces.swap_remove(at))
 }
 
 // The pieces of so many functions of a text, in their order; or the fault of the least that was refused; or 41, where an answer is

@@ -1,8 +1,9 @@
-// Tickets: in either order, refused, lost; and how a pool ends.
+// What comes back of jobs: in either order, and the least function that is refused.
 
 ghost use Rattle.std.specs.Prelude.{◌≡◌};
 
-use super::helpers::{are_of, one, two, unit};
+use super::helpers::{ONE, TWO, are_of, one, repeat, two, unit};
+use cc_link::PieceFault;
 use cc_pool::{Fresh, NoGate, Pool, PoolFault, Queued};
 use std::alloc::Global;
 use std::marker::Brand;
@@ -10,20 +11,16 @@ use std::sync::Wait;
 use std::test::Fail;
 use std::thread::Threads;
 
-const ONE: &[u8] = b"int main(void){return 1;}";
-
-const TWO: &[u8] = b"int f(int x){return x;}int main(void){return f(2);}";
-
 #[test]
 fn two_tickets_in_either_order(rt: HostRuntime) -> Result<(), Fail> {
     let fresh = Fresh::new(rt.alloc())?;
     let told = either_order::<Brand, HostRuntime>(&rt, rt.alloc(), fresh)?;
-    assert_eq!(rt; told, Some((0, 1)));
+    assert_eq!(rt; told, (true, 0, 1));
     Ok(())
 }
 
-// The numbers of two jobs that are collected in the other order.
-fn either_order<N, R>(rt: &R, alloc: Global, fresh: Fresh) -> Result<Option<(u64, u64)>, Fail>
+// Whether the pieces of two jobs, the later one collected first, are right; and the jobs' numbers.
+fn either_order<N, R>(rt: &R, alloc: Global, fresh: Fresh) -> Result<(bool, u64, u64), Fail>
 where
     N: Queued + Send + Sync + 'static,
     R: Threads + Wait + Copy + Send + 'static,
@@ -34,13 +31,48 @@ where
     let mut other = pool.pass(rt);
     let first = pool.submit(rt, alloc, &mut pass, unit(alloc, ONE)?)?;
     let second = pool.submit(rt, alloc, &mut other, unit(alloc, TWO)?)?;
-    let numbers = (first.number(), second.number());
-    let later = pool.collect(rt, alloc, second)?;
-    let earlier = pool.collect(rt, alloc, first)?;
-    let right = are_of(earlier.as_slice(), ONE)
-        && earlier.len() == 1
-        && are_of(later.as_slice(), TWO)
-        && later.len() == 2;
+    let (earlier, later) = (first.number(), second.number());
+    let two_pieces = pool.collect(rt, alloc, second)?;
+    let one_piece = pool.collect(rt, alloc, first)?;
+    let right = are_of(one_piece.as_slice(), ONE, 1) && are_of(two_pieces.as_slice(), TWO, 2);
     pool.finish(rt, two(alloc, pass, other)?)?;
-    Ok(if right { Some(numbers) } else { None })
+    Ok((right, earlier, later))
+}
+
+#[test]
+fn the_least_that_is_refused(rt: HostRuntime) -> Result<(), Fail> {
+    let fresh = Fresh::new(rt.alloc())?;
+    let told = refused::<Brand, HostRuntime>(&rt, rt.alloc(), fresh)?;
+    assert_eq!(rt; told, (1, 33, 5));
+    Ok(())
+}
+
+// Of three functions two have too many nodes: which is told, where its name begins and how long it is.
+fn refused<N, R>(rt: &R, alloc: Global, fresh: Fresh) -> Result<(usize, usize, usize), Fail>
+where
+    N: Queued + Send + Sync + 'static,
+    R: Threads + Wait + Copy + Send + 'static,
+    requires { fresh ≡ N.queue }
+{
+    let mut text = Vec::new(alloc);
+    repeat(&mut text, b"int x;int f(void){return x;}void first(void){", 1)?;
+    repeat(&mut text, b"x++;", 5_000)?;
+    repeat(&mut text, b"}int main(void){", 1)?;
+    repeat(&mut text, b"x++;", 5_001)?;
+    repeat(&mut text, b"}", 1)?;
+    let pool = Pool::<N>::start(rt, alloc, fresh, 2, NoGate)?;
+    let mut pass = pool.pass(rt);
+    let ticket = pool.submit(rt, alloc, &mut pass, unit(alloc, text.as_slice())?)?;
+    let told = match pool.collect(rt, alloc, ticket) {
+        Err(PoolFault::Piece {
+            function,
+            fault: PieceFault::FunctionTooLarge { at, length },
+        }) => (function, at, length),
+        other => {
+            drop(other);
+            (0, 0, 0)
+        }
+    };
+    pool.finish(rt, one(alloc, pass)?)?;
+    Ok(told)
 }

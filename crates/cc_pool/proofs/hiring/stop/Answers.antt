@@ -1,5 +1,5 @@
 use Rattle.std.proofs.Common.{◌++◌, ◌∷◌, [], ap, ◌∙◌, sym, append_assoc}
-use Rattle.cc_pool.specs.declared.task.Item.TheVariants.{Stop}
+use Rattle.cc_pool.specs.declared.item.Item.TheVariants.{Stop}
 use Rattle.cc_pool.specs.Rule.{is_live}
 use Rattle.cc_pool.specs.Shared.{stops}
 use Rattle.cc_pool.proofs.Lists.{stop_next}

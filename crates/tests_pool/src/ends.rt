@@ -1,0 +1,48 @@
+// How a pool ends: with all passes it does, though pieces are under way; a pass that is missing is told.
+
+ghost use Rattle.std.specs.Prelude.{◌≡◌};
+
+use super::helpers::{TWO, one, two, unit};
+use cc_pool::{Fresh, NoGate, Pool, PoolFault, Queued};
+use std::alloc::Global;
+use std::marker::Brand;
+use std::sync::Wait;
+use std::test::Fail;
+use std::thread::Threads;
+
+#[test]
+fn a_pass_is_missing(rt: HostRuntime) -> Result<(), Fail> {
+    for given in [1u32, 2] {
+        let fresh = Fresh::new(rt.alloc())?;
+        let told = missing::<Brand, HostRuntime>(&rt, rt.alloc(), fresh, given)?;
+        assert_eq!(rt; told, if given == 2 { 0 } else { 41 });
+    }
+    Ok(())
+}
+
+// The number that `finish` refuses so many of two passes with, or 0; pieces are under way.
+fn missing<N, R>(rt: &R, alloc: Global, fresh: Fresh, given: u32) -> Result<u32, Fail>
+where
+    N: Queued + Send + Sync + 'static,
+    R: Threads + Wait + Copy + Send + 'static,
+    requires { fresh ≡ N.queue }
+{
+    let pool = Pool::<N>::start(rt, alloc, fresh, 8, NoGate)?;
+    let pass = pool.pass(rt);
+    let mut other = pool.pass(rt);
+    let ticket = pool.submit(rt, alloc, &mut other, unit(alloc, TWO)?)?;
+    let passes = match given {
+        1 => one(alloc, pass)?,
+        _ => two(alloc, pass, other)?,
+    };
+    let told = number(pool.finish(rt, passes));
+    drop(ticket);
+    Ok(told)
+}
+
+fn number(ended: Result<(), PoolFault>) -> u32 {
+    match ended {
+        Ok(()) => 0,
+        Err(fault) => fault.number(),
+    }
+}
