@@ -4,6 +4,7 @@ ghost use Rattle.std.specs.Arc.{arc_value};
 ghost use Rattle.cc_syntax.specs.Source.{source};
 ghost use Rattle.cc_syntax.specs.Parse.{SpellsText};
 ghost use Rattle.cc_typing.specs.Typed.{defined_names};
+ghost use Rattle.cc_link.specs.Agree.{Agree};
 ghost use Rattle.cc_link.specs.Compile.{IsProgramText};
 ghost use Rattle.cc_link.specs.Pieces.{AreFrom};
 ghost use Rattle.cc_service.specs.Compiling.{IsCompileRefusal, IsProgram};
@@ -27,6 +28,7 @@ pub(crate) fn compiled<N: Named + Send + Sync + 'static, R: Wait>(
     source: &[u8],
 ) -> Result<CompiledUnit, ServiceFault>
     ensures source { IfOk result (λ unit. unit.source ≡ source.now) }
+    ensures agrees { IfOk result (λ unit. Agree unit.source unit.image) }
     ensures program { IfOk result (λ _. IsProgram source.now) }
     ensures refused { IfErr result (λ fault. IsCompileRefusal source.now fault) }
 {
@@ -54,6 +56,7 @@ fn made<N: Named + Send + Sync + 'static, R: Wait>(
 ) -> Result<CompiledUnit, ServiceFault>
     requires spelled { SpellsText (source (arc_value unit)).text (source (arc_value unit)).externals }
     ensures source { IfOk result (λ made. made.source ≡ (source (arc_value unit)).text) }
+    ensures agrees { IfOk result (λ made. Agree made.source made.image) }
     ensures program { IsProgram (source (arc_value unit)).text }
     ensures refused { IfErr result (λ fault. IsCompileRefusal (source (arc_value unit)).text fault) }
 {
@@ -103,13 +106,19 @@ fn linked(
     requires count { length pieces.items ≡ length (defined_names (source (arc_value unit.now))) }
     requires own { AreFrom (source (arc_value unit.now)).text 0 pieces.items }
     ensures source { IfOk result (λ made. made.source ≡ (source (arc_value unit.now)).text) }
+    ensures agrees { IfOk result (λ made. Agree made.source made.image) }
     ensures refused { IfErr result (λ fault. IsCompileRefusal (source (arc_value unit.now)).text fault) }
 {
     match link(alloc, unit, pieces) {
-        Ok(made) => Ok(made),
+        Ok(made) => {
+            let _ = made.stored();
+            Ok(made)
+        }
         Err(LinkFault::ImageTooLarge) => Err(ServiceFault::ImageTooLarge),
         Err(LinkFault::OutOfMemory) => Err(ServiceFault::OutOfMemory),
         // There is one piece of each function, and no other.
-        Err(_) => unreachable!(),
+        Err(LinkFault::Missing { .. }) => unreachable!(),
+        Err(LinkFault::Doubled { .. }) => unreachable!(),
+        Err(LinkFault::Stranger { .. }) => unreachable!(),
     }
 }

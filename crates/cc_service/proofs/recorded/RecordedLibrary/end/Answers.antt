@@ -10,7 +10,7 @@ pub returns-clause-closed : goal.returns-clause-closed
 returns-clause-closed g c =
     let history = c.self.inside.history.items in
     let clients = holders c.args.clients.items in
-    let stand = subst (λ (h : List Entry). ReceiptsStand h clients) (ap (λ (b : BookView g.row.D.Denot). b.history) c.self.view_is) c.requires.stand in
+    let stand = subst (λ (h : List Entry). ReceiptsStand h clients) (sym (ap (λ (b : BookView g.row.D.Denot). b.history) c.self.view_is)) c.requires.stand in
     let whole = c.audit.ensures.whole (c.gather.ensures.parts ∙ c.requires.parts) in
     let total : receipts_of clients ≡ length history = omega (arith, whole, c.gather.ensures.amount, c.requires.amount, c.self.invariant.counted) in
     c.receipts_count_up.ensures history clients c.gather.ensures.own c.requires.apart stand total
