@@ -20,7 +20,31 @@ one_of_two s ps f own count (inl e) = inl e
 one_of_two s ps f own count (inr e) = inr (only_large s ps f own count e)
 
 pub unreachable-requires : goal.unreachable-requires
-unreachable-requires c = ?
+unreachable-requires c =
+    let s = source (arc_value c.args.unit.now) in
+    let count : length c.args.pieces.items ≡ length (functions s.externals) = c.requires.count ∙ defined_long s in
+    elim (one_of_two s c.args.pieces.items c.in-Err-Missing.field-0 c.requires.own count c.in-Err-Missing.ensures.refused) [
+      | inl e ↦ let is = c.in-Err-Missing.field-0-is in cc
+      | inr e ↦ let is = c.in-Err-Missing.field-0-is in cc
+    ]
+
+pub unreachable-requires-in-Err-Doubled : goal.unreachable-requires-in-Err-Doubled
+unreachable-requires-in-Err-Doubled c =
+    let s = source (arc_value c.args.unit.now) in
+    let count : length c.args.pieces.items ≡ length (functions s.externals) = c.requires.count ∙ defined_long s in
+    elim (one_of_two s c.args.pieces.items c.in-Err-Doubled.field-0 c.requires.own count c.in-Err-Doubled.ensures.refused) [
+      | inl e ↦ let is = c.in-Err-Doubled.field-0-is in cc
+      | inr e ↦ let is = c.in-Err-Doubled.field-0-is in cc
+    ]
+
+pub unreachable-requires-in-Err-Stranger : goal.unreachable-requires-in-Err-Stranger
+unreachable-requires-in-Err-Stranger c =
+    let s = source (arc_value c.args.unit.now) in
+    let count : length c.args.pieces.items ≡ length (functions s.externals) = c.requires.count ∙ defined_long s in
+    elim (one_of_two s c.args.pieces.items c.in-Err-Stranger.field-0 c.requires.own count c.in-Err-Stranger.ensures.refused) [
+      | inl e ↦ let is = c.in-Err-Stranger.field-0-is in cc
+      | inr e ↦ let is = c.in-Err-Stranger.field-0-is in cc
+    ]
 
 pub returns-in-Err-ImageTooLarge-clause-refused : goal.returns-in-Err-ImageTooLarge-clause-refused
 returns-in-Err-ImageTooLarge-clause-refused c =

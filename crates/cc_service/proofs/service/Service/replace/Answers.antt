@@ -14,7 +14,7 @@ returns-in-Ok-compiled g c =
     let unit = c.in-Ok-compiled.unit in
     let after_it = c.change.new.client.holder in
     subst (λ (h : Holder). PutAnswers Asks name source h after_it c.change.result) (ap (λ (c : ClientView). c.holder) c.client.view_is)
-    (put Asks (Replace c.in-Ok.name unit) (c.in-Ok.ensures.answer, c.in-Ok-compiled.ensures.source, c.in-Ok-compiled.ensures.agrees) c.client.inside.member after_it
+    (put Asks (Replace c.in-Ok.name unit) (c.in-Ok.ensures.answer, (c.in-Ok-compiled.ensures.source, c.in-Ok-compiled.ensures.agrees)) c.client.inside.member after_it
     name source (c.in-Ok.ensures.answers.0 refl) c.in-Ok-compiled.ensures.program c.change.result c.change.ensures.answers)
 
 pub returns-in-Err : goal.returns-in-Err
