@@ -45,8 +45,8 @@ use Rattle.cc_history.specs.declared.reply.Reply.TheVariants as reply
 use Rattle.cc_history.specs.Calls.{change_of, changes_of, done_by, reply_of_change}
 use Rattle.cc_history.specs.History.{Holder, changes}
 use Rattle.cc_history.proofs.Histories.{changes-push}
-use Rattle.cc_service.specs.declared.fault.ServiceFault.{ServiceFault}
-use Rattle.cc_service.specs.declared.fault.ServiceFault.TheVariants.{Exists, Absent, Full, DiskFault, Closed, Estranged, OutOfMemory}
+use Rattle.cc_service.specs.declared.fault.BookFault.{BookFault}
+use Rattle.cc_service.specs.declared.fault.BookFault.TheVariants.{Exists, Absent, Full, DiskFault, Closed, Estranged, OutOfMemory}
 use Rattle.cc_service.specs.Book.{BookView}
 use Rattle.cc_service.specs.Answers.{CommitAnswers, IsDone, IsRefused, failed_in}
 use Rattle.cc_service.specs.Disk.{ChangesDisk}
@@ -499,7 +499,7 @@ module _ {D P : Type 0} (rules : Rules P) (honest : Bool) (seen : D → List ℕ
 
   -- ---- the whole
 
-  pub commits : (now : (disk : D) → IsTrue honest → may_leave disk (seen disk)) (failures : D → ℕ) (before after_it : BookView D) (old new : Holder) (command : Command) (result : Result Receipt ServiceFault) (s : Contents P) (client : ClientId)
+  pub commits : (now : (disk : D) → IsTrue honest → may_leave disk (seen disk)) (failures : D → ℕ) (before after_it : BookView D) (old new : Holder) (command : Command) (result : Result Receipt BookFault) (s : Contents P) (client : ClientId)
       → CommitAnswers failures before old command after_it new result → (IsTrue honest → ChangesDisk seen may_leave (change_of command) before.library after_it.library result)
       → Shown before s → Has rules s client (change_of command) → IsCommitOf rules (Shown after_it) s client result
   commits now failures before after_it old new command (Ok receipt) s client answers disk shows has =

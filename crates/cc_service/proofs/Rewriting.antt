@@ -21,8 +21,8 @@ use Rattle.cc_core.specs.Rules.{Rules}
 use Rattle.cc_core.specs.Store.{first_written, rewrite_of, rewrite_stepped, settled_all, with_cells}
 use Rattle.cc_core.specs.StoreState.{StoreState}
 use Rattle.cc_core.proofs.Held.{begin_most}
-use Rattle.cc_service.specs.declared.fault.ServiceFault.{ServiceFault}
-use Rattle.cc_service.specs.declared.fault.ServiceFault.TheVariants.{Exists, Absent, Full, DiskFault, Closed, Estranged, OutOfMemory}
+use Rattle.cc_service.specs.declared.fault.BookFault.{BookFault}
+use Rattle.cc_service.specs.declared.fault.BookFault.TheVariants.{Exists, Absent, Full, DiskFault, Closed, Estranged, OutOfMemory}
 use Rattle.cc_service.specs.Book.{BookView}
 use Rattle.cc_service.specs.Answers.{CompactAnswers}
 use Rattle.cc_service.specs.Disk.{CompactsDisk}
@@ -187,7 +187,7 @@ module _ {D P : Type 0} (rules : Rules P) (honest : Bool) (seen : D → List ℕ
             )
       ]
 
-  pub compacts : (failures : D → ℕ) (before after_it : BookView D) (result : Result (Unit {0}) ServiceFault) (s : Contents P)
+  pub compacts : (failures : D → ℕ) (before after_it : BookView D) (result : Result (Unit {0}) BookFault) (s : Contents P)
       → CompactAnswers failures before after_it result → (IsTrue honest → CompactsDisk seen may_leave before.library after_it.library result) → Shown before s → IsRewriteOf rules (Shown after_it) s result
   compacts failures before after_it (Ok done) s (idle, fits, _, is) disk shows =
       let phase = phase_at before.library.closed before.failed s.core.phase false idle shows.phase in

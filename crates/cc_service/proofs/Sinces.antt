@@ -12,8 +12,8 @@ use Rattle.cc_history.specs.declared.entry.Receipt.{Receipt}
 use Rattle.cc_history.specs.Calls.{change_of}
 use Rattle.cc_history.specs.History.{Holder, Replays, units_after}
 use Rattle.cc_history.proofs.Histories.{snoc_cases}
-use Rattle.cc_service.specs.declared.fault.ServiceFault.{ServiceFault}
-use Rattle.cc_service.specs.declared.fault.ServiceFault.TheVariants.{Exists, Absent, Full, DiskFault, Closed, Estranged, OutOfMemory}
+use Rattle.cc_service.specs.declared.fault.BookFault.{BookFault}
+use Rattle.cc_service.specs.declared.fault.BookFault.TheVariants.{Exists, Absent, Full, DiskFault, Closed, Estranged, OutOfMemory}
 use Rattle.cc_service.specs.Book.{BookView, RecoversTo, chronicle_of}
 use Rattle.cc_service.specs.Answers.{CommitAnswers, CompactAnswers, LookAnswers}
 use Rattle.cc_service.specs.Since.{AreSince, HoldsFrom, IsSince}
@@ -87,7 +87,7 @@ module _ {D : Type 0} (moment : D → ℕ) (may_leave : D → List ℕ → Type 
   -- ---- each call
 
   module _ (before after_it : BookView D) (replays : Replays (chronicle_of before)) (replays_after : Replays (chronicle_of after_it)) (idle : before.library.closed ≡ false → before.failed ≡ []) where
-    pub commit_since : (failures : D → ℕ) (old new : Holder) (command : Command) (result : Result Receipt ServiceFault) → CommitAnswers failures before old command after_it new result
+    pub commit_since : (failures : D → ℕ) (old new : Holder) (command : Command) (result : Result Receipt BookFault) → CommitAnswers failures before old command after_it new result
         → (before.library.closed ≡ false → LeavesOnly moment left_since before.library.disk after_it.library.disk (RecoversOneOf before.library.units (after before.library.units (change_of command))))
         → (was : BookView D) → Since before was → Since after_it was
     commit_since failures old new command (Ok receipt) answers leaves was since =
@@ -119,7 +119,7 @@ module _ {D : Type 0} (moment : D → ℕ) (may_leave : D → List ℕ → Type 
           | inr new_map ↦ inr (c, failed, subst (λ (u : Units). RecoversAlone image (after u c)) (sym units) new_map)
         ]) since
 
-    pub look_since : (old new : Holder) (asked : Asked) (result : Result Receipt ServiceFault) → LookAnswers before old asked after_it new result → (was : BookView D) → Since before was → Since after_it was
+    pub look_since : (old new : Holder) (asked : Asked) (result : Result Receipt BookFault) → LookAnswers before old asked after_it new result → (was : BookView D) → Since before was → Since after_it was
     look_since old new asked (Ok receipt) (recorded, library, failed) was since = longer_since before after_it was (receipt.entry ∷ []) recorded.base recorded.history library failed since
     look_since old new asked (Err (Estranged number found)) (_, same, _) was since = same_since before after_it was same since
     look_since old new asked (Err OutOfMemory) (same, _) was since = same_since before after_it was same since
@@ -135,7 +135,7 @@ module _ {D : Type 0} (moment : D → ℕ) (may_leave : D → List ℕ → Type 
         written_since before after_it was [] (λ image. RecoversAlone image before.library.units) base (history ∙ sym (nothing_behind before.history)) none leaves
         (λ n image few recovers. of_front after_it n image before.history [] before.base before.library.units base (history ∙ sym (nothing_behind before.history)) replays.units few recovers) since
 
-    pub compact_since : (failures : D → ℕ) (result : Result (Unit {0}) ServiceFault) → CompactAnswers failures before after_it result
+    pub compact_since : (failures : D → ℕ) (result : Result (Unit {0}) BookFault) → CompactAnswers failures before after_it result
         → (before.library.closed ≡ false → LeavesOnly moment left_since before.library.disk after_it.library.disk (λ image. RecoversAlone image before.library.units)) → (was : BookView D) → Since before was → Since after_it was
     compact_since failures (Ok done) (open', _, _, is) leaves was since = rewritten_since (ap (λ (b : BookView D). b.base) is) (ap (λ (b : BookView D). b.history) is) (idle open') (leaves open') was since
     compact_since failures (Err DiskFault) (open', _, _, is) leaves was since = rewritten_since (ap (λ (b : BookView D). b.base) is) (ap (λ (b : BookView D). b.history) is) (idle open') (leaves open') was since

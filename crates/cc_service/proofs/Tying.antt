@@ -30,8 +30,8 @@ use Rattle.cc_history.specs.declared.command.Asked.{Asked}
 use Rattle.cc_history.specs.declared.entry.Entry.{Entry}
 use Rattle.cc_history.specs.History.{Holder, changes}
 use Rattle.cc_history.proofs.Histories.{changes-push}
-use Rattle.cc_service.specs.declared.fault.ServiceFault.{ServiceFault}
-use Rattle.cc_service.specs.declared.fault.ServiceFault.TheVariants.{Exists, Absent, Full, DiskFault, Closed, Estranged, OutOfMemory}
+use Rattle.cc_service.specs.declared.fault.BookFault.{BookFault}
+use Rattle.cc_service.specs.declared.fault.BookFault.TheVariants.{Exists, Absent, Full, DiskFault, Closed, Estranged, OutOfMemory}
 use Rattle.cc_service.specs.Book.{BookView}
 use Rattle.cc_service.specs.Answers.{CommitAnswers, CompactAnswers, IsLook, LookAnswers}
 use Rattle.cc_service.specs.Disk.{ChangesDisk, CompactsDisk}
@@ -155,7 +155,7 @@ module _ {D P : Type 0} (rules : Rules P) (keeps : P → Type 0) (seen : D → L
     disk = subst (λ (v : View D). ShowsDisk true seen may_leave v s.core.store) (sym library) shows.disk;
   }
 
-  pub look_tied : (before after_it : BookView D) (old new : Holder) (asked : Asked) (result : Result Receipt ServiceFault) → IsLook asked → LookAnswers before old asked after_it new result → Tied before → Tied after_it
+  pub look_tied : (before after_it : BookView D) (old new : Holder) (asked : Asked) (result : Result Receipt BookFault) → IsLook asked → LookAnswers before old asked after_it new result → Tied before → Tied after_it
   look_tied before after_it old new asked (Ok receipt) look (recorded, library, failed) tied =
       let same : changes after_it.history ≡ changes before.history =
       ap changes recorded.history ∙ changes-push before.history receipt.entry
@@ -245,7 +245,7 @@ module _ {D P : Type 0} (rules : Rules P) (keeps : P → Type 0) (law : TurnLaw 
       goes_on before after_it tied base (ready_for.events ++ later) new (law.goes_on tied.now ready_for.new new ready_for.events later ready_for.run on.run) shows (tied.clients + 1)
       (λ k less. on.jobs k (ready_for.others k (λ is. absurd (omega (arith, less, is))) ∙ tied.fresh k (omega (arith, less)))) (on.workers 0 ready_for.idle)
 
-  base_same : (failures : D → ℕ) (before after_it : BookView D) (old new : Holder) (command : Command) (result : Result Receipt ServiceFault) → CommitAnswers failures before old command after_it new result → after_it.base ≡ before.base
+  base_same : (failures : D → ℕ) (before after_it : BookView D) (old new : Holder) (command : Command) (result : Result Receipt BookFault) → CommitAnswers failures before old command after_it new result → after_it.base ≡ before.base
   base_same failures before after_it old new command (Ok receipt) answers = answers.0.recorded.base
   base_same failures before after_it old new command (Err (Exists receipt)) answers = answers.recorded.base
   base_same failures before after_it old new command (Err (Absent receipt)) answers = answers.recorded.base
@@ -256,7 +256,7 @@ module _ {D P : Type 0} (rules : Rules P) (keeps : P → Type 0) (law : TurnLaw 
   base_same failures before after_it old new command (Err OutOfMemory) (_, same, _) = ap (λ (b : BookView D). b.base) same
 
   -- what the commit is for the core, it is for the tie
-  commit_on : (failures : D → ℕ) (before after_it : BookView D) (old new : Holder) (command : Command) (result : Result Receipt ServiceFault) (tied : TiedSo before)
+  commit_on : (failures : D → ℕ) (before after_it : BookView D) (old new : Holder) (command : Command) (result : Result Receipt BookFault) (tied : TiedSo before)
       → CommitAnswers failures before old command after_it new result → IsCommand (change_of command) → (ready_for : IsReadyFor before tied (change_of command)) → after_it.base ≡ before.base
       → IsCommitOf rules (ShownBy after_it) ready_for.new (next before tied) result → TiedSo after_it
   commit_on failures before after_it old new command (Ok receipt) tied answers is_command ready_for base made =
@@ -280,7 +280,7 @@ module _ {D P : Type 0} (rules : Rules P) (keeps : P → Type 0) (law : TurnLaw 
   commit_on failures before after_it old new command (Err (Estranged number found)) tied (_, _, same, _) is_command ready_for base made = same_book rules keeps seen may_leave before after_it tied same
   commit_on failures before after_it old new command (Err OutOfMemory) tied (_, same, _) is_command ready_for base made = same_book rules keeps seen may_leave before after_it tied same
 
-  pub commit_tied : ((disk : D) → may_leave disk (seen disk)) → (failures : D → ℕ) (before after_it : BookView D) (old new : Holder) (command : Command) (result : Result Receipt ServiceFault)
+  pub commit_tied : ((disk : D) → may_leave disk (seen disk)) → (failures : D → ℕ) (before after_it : BookView D) (old new : Holder) (command : Command) (result : Result Receipt BookFault)
       → CommitAnswers failures before old command after_it new result → ChangesDisk seen may_leave (change_of command) before.library after_it.library result
       → IsCommand (change_of command) → HasBuilt rules keeps (change_of command) → TiedSo before → TiedSo after_it
   commit_tied now failures before after_it old new command result answers disk is_command built tied =
@@ -299,7 +299,7 @@ module _ {D P : Type 0} (rules : Rules P) (keeps : P → Type 0) (law : TurnLaw 
       let on = all_on rules keeps law tied.now steps new plain is in
       goes_on before after_it tied base (events_of rules keeps law steps) new on.run shows tied.clients (λ k less. on.jobs k (tied.fresh k less)) (on.workers 0 tied.idle)
 
-  rewrite_on : (failures : D → ℕ) (before after_it : BookView D) (result : Result (Unit {0}) ServiceFault) (tied : TiedSo before) → CompactAnswers failures before after_it result
+  rewrite_on : (failures : D → ℕ) (before after_it : BookView D) (result : Result (Unit {0}) BookFault) (tied : TiedSo before) → CompactAnswers failures before after_it result
       → IsRewriteOf rules (ShownBy after_it) tied.now result → TiedSo after_it
   rewrite_on failures before after_it (Ok done) tied (_, _, _, is) made =
       rewritten_on before after_it tied (ap (λ (b : BookView D). b.base) is) rewritten_steps (refl, (refl, (refl, (refl, tt)))) made.0 made.1 made.2
@@ -315,7 +315,7 @@ module _ {D P : Type 0} (rules : Rules P) (keeps : P → Type 0) (law : TurnLaw 
   rewrite_on failures before after_it (Err (Absent receipt)) tied answers made = absurd answers
   rewrite_on failures before after_it (Err (Estranged number found)) tied answers made = absurd answers
 
-  pub compact_tied : (failures : D → ℕ) (before after_it : BookView D) (result : Result (Unit {0}) ServiceFault)
+  pub compact_tied : (failures : D → ℕ) (before after_it : BookView D) (result : Result (Unit {0}) BookFault)
       → CompactAnswers failures before after_it result → CompactsDisk seen may_leave before.library after_it.library result → TiedSo before → TiedSo after_it
   compact_tied failures before after_it result answers disk tied =
       rewrite_on failures before after_it result tied answers (compacts rules true seen may_leave failures before after_it result tied.now answers (λ h. disk) tied.shows)

@@ -22,8 +22,8 @@ use Rattle.cc_history.specs.declared.standing.StandingFault.{StandingFault}
 use Rattle.cc_history.specs.Standing.{IsFirstAstray, IsStranger}
 use Rattle.cc_history.specs.Closing.{AreApart}
 use Rattle.cc_service.specs.Fault.{fault_of}
-use Rattle.cc_service.specs.declared.fault.ServiceFault.{ServiceFault}
-use Rattle.cc_service.specs.declared.fault.ServiceFault.TheVariants.{Exists, Absent, Full, DiskFault, Closed, Estranged, OutOfMemory}
+use Rattle.cc_service.specs.declared.fault.BookFault.{BookFault}
+use Rattle.cc_service.specs.declared.fault.BookFault.TheVariants.{Exists, Absent, Full, DiskFault, Closed, Estranged, OutOfMemory}
 use Rattle.cc_service.specs.Book.{BookView, chronicle_of}
 
 -- a call that asks for a unit or for all names
@@ -33,7 +33,7 @@ IsLook (Fetch name) = Unit {0}
 IsLook Names = Unit {0}
 
 -- why a service is not ended: no memory, or a receipt, the first, that does not stand, or that these are not all clients
-abbrev pub IsNotClosed : (history : List Entry) (made : ℕ) → List Holder → ServiceFault → Type 0
+abbrev pub IsNotClosed : (history : List Entry) (made : ℕ) → List Holder → BookFault → Type 0
 IsNotClosed history made clients fault =
     (fault ≡ OutOfMemory)
     ⊎ (((i : ℕ) × (client : Holder) × (why : StandingFault) × (slice_get clients i ≡ Some client) × (fault ≡ fault_of why)
@@ -79,7 +79,7 @@ module _ {D : Type 0} where
   failed_in before command disk = record before { library = record before.library { disk = disk; closed = true }; failed = change_of command ∷ [] }
 
   -- the answer to a commit, and what it leaves. The failures are those that the disk has counted
-  abbrev pub CommitAnswers : (failures : D → ℕ) (before : BookView D) (old : Holder) → Command → (after : BookView D) (new : Holder) → Result Receipt ServiceFault → Type 0
+  abbrev pub CommitAnswers : (failures : D → ℕ) (before : BookView D) (old : Holder) → Command → (after : BookView D) (new : Holder) → Result Receipt BookFault → Type 0
   CommitAnswers failures before old command after new (Ok receipt) =
       IsDone before old command after new receipt × (failures after.library.disk ≡ failures before.library.disk)
   CommitAnswers failures before old command after new (Err (Exists receipt)) = IsRefused before old command reply.Exists after new receipt
@@ -96,7 +96,7 @@ module _ {D : Type 0} where
 
   -- the answer to a look, and what it leaves: the call is in the history with the reply that one thread gets there, and nothing else
   -- changes; 39 exactly where the client's last receipt does not stand. No other fault comes
-  abbrev pub LookAnswers : (before : BookView D) (old : Holder) → Asked → (after : BookView D) (new : Holder) → Result Receipt ServiceFault → Type 0
+  abbrev pub LookAnswers : (before : BookView D) (old : Holder) → Asked → (after : BookView D) (new : Holder) → Result Receipt BookFault → Type 0
   LookAnswers before old asked after new (Ok receipt) =
       IsRecorded (chronicle_of before) old asked (reply_of before.library.units asked) (chronicle_of after) new receipt
       × (after.library ≡ before.library) × (after.failed ≡ before.failed)
@@ -111,7 +111,7 @@ module _ {D : Type 0} where
 
   -- the answer to a rewrite, and what it leaves: history and map stay. 36 exactly where the device has failed before, then 34
   -- exactly where the new records do not fit, then 35 exactly where the device failed in the call
-  abbrev pub CompactAnswers : {T : Type 0} → (failures : D → ℕ) (before after : BookView D) → Result T ServiceFault → Type 0
+  abbrev pub CompactAnswers : {T : Type 0} → (failures : D → ℕ) (before after : BookView D) → Result T BookFault → Type 0
   CompactAnswers failures before after (Ok done) =
       (before.library.closed ≡ false) × (room_of (compacted before.library.units) ≤ before.library.area) × (failures after.library.disk ≡ failures before.library.disk)
       × (after ≡ record before { library = record before.library { disk = after.library.disk; bodies = compacted before.library.units; closed = false } })

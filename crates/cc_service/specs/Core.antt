@@ -27,8 +27,8 @@ use Rattle.cc_core.specs.Step.{Step, commands}
 use Rattle.cc_history.specs.History.{changes}
 use Rattle.cc_service.specs.Book.{BookView}
 use Rattle.cc_history.specs.declared.entry.Receipt.{Receipt}
-use Rattle.cc_service.specs.declared.fault.ServiceFault.{ServiceFault}
-use Rattle.cc_service.specs.declared.fault.ServiceFault.TheVariants.{Exists, Absent, Full, DiskFault, Closed, Estranged, OutOfMemory}
+use Rattle.cc_service.specs.declared.fault.BookFault.{BookFault}
+use Rattle.cc_service.specs.declared.fault.BookFault.TheVariants.{Exists, Absent, Full, DiskFault, Closed, Estranged, OutOfMemory}
 
 -- Acknowledged are some commands that lead to the base, all that were there at the opening, and then the changes of the history, each of
 -- which was answered Ok. The order has these, and behind them the change that failed, where one did.
@@ -97,7 +97,7 @@ module _ {P : Type 0} (rules : Rules P) where
 
   -- what a commit with this answer is for the client that has the job: Begin to Ack, or to a refusal or Fail. One that is refused by
   -- 39 or 40 never begins
-  abbrev pub IsCommitOf : (Contents P → Type 0) → Contents P → ClientId → Result Receipt ServiceFault → Type 0
+  abbrev pub IsCommitOf : (Contents P → Type 0) → Contents P → ClientId → Result Receipt BookFault → Type 0
   IsCommitOf Shown s client (Ok receipt) = (new : Contents P) × Steps s (done_steps client) new × Shown new
   IsCommitOf Shown s client (Err (Exists receipt)) = (new : Contents P) × Steps s (refused_steps client refusal.Exists) new × Shown new
   IsCommitOf Shown s client (Err (Absent receipt)) = (new : Contents P) × Steps s (refused_steps client refusal.Absent) new × Shown new
@@ -128,7 +128,7 @@ module _ {P : Type 0} where
   rewrite_failed_last = (event.RewriteAll, None) ∷ (event.SyncAll, None) ∷ (event.Fail, None) ∷ []
 
 -- what a compaction with this answer is; one that is refused otherwise never begins
-abbrev pub IsRewriteOf : {P : Type 0} (rules : Rules P) → (Contents P → Type 0) → Contents P → Result (Unit {0}) ServiceFault → Type 0
+abbrev pub IsRewriteOf : {P : Type 0} (rules : Rules P) → (Contents P → Type 0) → Contents P → Result (Unit {0}) BookFault → Type 0
 IsRewriteOf rules Shown s (Ok done) = (new : Contents _) × Steps rules s rewritten_steps new × Shown new
 IsRewriteOf rules Shown s (Err DiskFault) =
     (new : Contents _) × (Steps rules s rewrite_failed_first new ⊎ Steps rules s rewrite_failed_last new) × Shown new

@@ -7,12 +7,12 @@ use Rattle.cc_journal.specs.Format.{HasAreaByte, HoldsRecords}
 use Rattle.cc_library.specs.declared.command.Command as made
 use Rattle.cc_library.specs.Answers.{commit_of, rewrites_in}
 use Rattle.cc_library.specs.Recovered.{View}
-use Rattle.cc_service.specs.declared.fault.ServiceFault.{ServiceFault}
-use Rattle.cc_service.specs.declared.fault.ServiceFault.TheVariants.{Exists, Absent, Full, DiskFault, Closed, Estranged, OutOfMemory}
+use Rattle.cc_service.specs.declared.fault.BookFault.{BookFault}
+use Rattle.cc_service.specs.declared.fault.BookFault.TheVariants.{Exists, Absent, Full, DiskFault, Closed, Estranged, OutOfMemory}
 
 -- at Ok the journal's commit of the change's record is made, all is settled, and the records are the library's; after 35 that commit
 -- was left in its first write, or in its last one
-abbrev pub ChangesDisk : {D T : Type 0} → (seen : D → List ℕ) (may_leave : D → List ℕ → Type 0) → made.Command → (old new : View D) → Result T ServiceFault → Type 0
+abbrev pub ChangesDisk : {D T : Type 0} → (seen : D → List ℕ) (may_leave : D → List ℕ → Type 0) → made.Command → (old new : View D) → Result T BookFault → Type 0
 ChangesDisk seen may_leave change old new (Ok done) =
     HoldsRecords (seen new.disk) new.area new.bodies
     × ((area_byte : ℕ) → HasAreaByte (seen old.disk) area_byte old.area → IsCommitted (commit_of area_byte old change) (seen old.disk) (seen new.disk) × LeavesAlone (seen new.disk) (may_leave new.disk))
@@ -26,7 +26,7 @@ ChangesDisk seen may_leave change old new (Err (Estranged number found)) = Unit 
 ChangesDisk seen may_leave change old new (Err OutOfMemory) = Unit {0}
 
 -- the same of a compaction
-abbrev pub CompactsDisk : {D T : Type 0} → (seen : D → List ℕ) (may_leave : D → List ℕ → Type 0) → (old new : View D) → Result T ServiceFault → Type 0
+abbrev pub CompactsDisk : {D T : Type 0} → (seen : D → List ℕ) (may_leave : D → List ℕ → Type 0) → (old new : View D) → Result T BookFault → Type 0
 CompactsDisk seen may_leave old new (Ok done) =
     HoldsRecords (seen new.disk) new.area new.bodies
     × ((area_byte : ℕ) → HasAreaByte (seen old.disk) area_byte old.area → IsCommitted (rewrites_in area_byte old) (seen old.disk) (seen new.disk) × LeavesAlone (seen new.disk) (may_leave new.disk))

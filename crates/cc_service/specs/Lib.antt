@@ -1,7 +1,9 @@
 -- In reading order.
 -- the numbers of the faults
 pub mod Fault
--- what the type of a client keeps
+-- what a service begins with
+pub mod Named
+-- what contracts see of a client, and what its type keeps
 pub mod Client
 -- what contracts see of a book, and what the type of a library with its history keeps
 pub mod Book
@@ -17,5 +19,9 @@ pub mod Since
 pub mod Tie
 -- what the type of a book keeps, and what follows for whatever a crash leaves
 pub mod Promise
+-- why a text is not compiled
+pub mod Compiling
+-- what a service's calls answer, as their clients see it
+pub mod Serving
 -- what serves private contracts
 pub mod internal

@@ -18,7 +18,7 @@ ghost use Rattle.cc_service.specs.Since.{HoldsFrom};
 ghost use Rattle.cc_service.specs.Tie.{IsTied};
 
 use crate::client::Client;
-use crate::fault::ServiceFault;
+use crate::fault::BookFault;
 use crate::named::Named;
 use crate::recorded::RecordedLibrary;
 use cc_build::{CcBuild, made_units_are_built};
@@ -144,8 +144,9 @@ impl<N: Named, D: Disk> Book<N, D> {
         alloc: Global,
         client: &mut Client<N>,
         command: Command,
-    ) -> Result<Receipt, ServiceFault>
-        ensures answers { CommitAnswers D.failures self.old.book client.old command self.new.book client.new result }
+    ) -> Result<Receipt, BookFault>
+        ensures answers { CommitAnswers D.failures self.old.book client.old.holder command self.new.book client.new.holder result }
+        ensures sent { client.new.sent ≡ client.old.sent }
         ensures since { self.new.since ≡ self.old.since ++ self.new.book ∷ [] }
 
         // A crash at any moment of the call leaves the map before it or the map after it.
@@ -163,7 +164,7 @@ impl<N: Named, D: Disk> Book<N, D> {
         command.kept();
         made_units_are_built();
         turn_law::<CcBuild>();
-        let result = self.recorded.commit(alloc, client, command);
+        let result = self.recorded.commit(alloc, &mut client.member, command);
         self.recorded.kept();
         self.since = self.since.and(&self.recorded);
         result
@@ -178,13 +179,14 @@ impl<N: Named, D: Disk> Book<N, D> {
         alloc: Global,
         client: &mut Client<N>,
         asked: Asked,
-    ) -> Result<Receipt, ServiceFault>
+    ) -> Result<Receipt, BookFault>
         requires { IsLook asked }
-        ensures answers { LookAnswers self.old.book client.old asked self.new.book client.new result }
+        ensures answers { LookAnswers self.old.book client.old.holder asked self.new.book client.new.holder result }
+        ensures sent { client.new.sent ≡ client.old.sent }
         ensures since { self.new.since ≡ self.old.since ++ self.new.book ∷ [] }
     {
         self.recorded.kept();
-        let result = self.recorded.look(alloc, client, asked);
+        let result = self.recorded.look(alloc, &mut client.member, asked);
         self.recorded.kept();
         self.since = self.since.and(&self.recorded);
         result
@@ -194,7 +196,7 @@ impl<N: Named, D: Disk> Book<N, D> {
     ///
     /// Refusals, in this order: 36 where the device has failed before, 34 where the new records do not fit, 35 where the device
     /// failed. 40 where memory ran out, before the first device call. After 34, 36 and 40 all is as before.
-    pub fn compact(&mut self, alloc: Global) -> Result<(), ServiceFault>
+    pub fn compact(&mut self, alloc: Global) -> Result<(), BookFault>
         ensures answers { CompactAnswers D.failures self.old.book self.new.book result }
         ensures since { self.new.since ≡ self.old.since ++ self.new.book ∷ [] }
         ensures moments { IsTrue D.honest → self.old.book.library.closed ≡ false
@@ -209,6 +211,14 @@ impl<N: Named, D: Disk> Book<N, D> {
         self.recorded.kept();
         self.since = self.since.and(&self.recorded);
         result
+    }
+
+    // The disk, which no call reaches any more.
+    pub(crate) fn into_disk(self) -> D
+        ensures { result ≡ self.book.library.disk }
+    {
+        let Book { recorded, since: _ } = self;
+        recorded.into_disk()
     }
 
     /// What is known of a book at any time, whatever order the calls of all threads took the lock in: a law, which does nothing.

@@ -4,20 +4,21 @@ ghost use Rattle.std.specs.Option.{option_map};
 
 use crate::named::Named;
 use cc_history::Receipt;
+use cc_pool::Pass;
 use std::alloc::Global;
 use std::marker::Model;
 use std::sync::ledger::Share;
 
-/// Who calls. It keeps the receipts of its calls, and its share of the ledger counts them. A clause sees its number and its
-/// receipts.
+/// What the book knows of a client: its number, the receipts of its calls, and its share of the ledger, which counts them. A clause
+/// sees its number and its receipts.
 #[derive(Drop)]
-pub struct Client<N: Named> {
+pub(crate) struct Member<N: Named> {
     pub(crate) number: u64,
     pub(crate) receipts: Vec<Receipt>,
     pub(crate) share: Share<N>,
 }
 
-impl<N: Named> Model for Client<N> {
+impl<N: Named> Model for Member<N> {
     ghost use Rattle.cc_history.specs.History.{Holder};
     ghost use Rattle.cc_service.specs.Client.{IsClient};
 
@@ -28,38 +29,81 @@ impl<N: Named> Model for Client<N> {
     ghost invariant = { λ c. IsClient (record { number = c.number; receipts = c.receipts.items }) c.share.parts c.share.amount };
 }
 
-impl<N: Named> Client<N> {
-    /// A client that has made no call, with one part of the ledger.
-    pub fn new(alloc: Global, number: u64, share: Share<N>) -> Client<N>
+impl<N: Named> Member<N> {
+    /// A member that has made no call, with one part of the ledger.
+    pub(crate) fn new(alloc: Global, number: u64, share: Share<N>) -> Member<N>
         requires part { share.parts ≡ 1 }
         requires none { share.amount ≡ 0 }
         ensures { result ≡ record { number = number; receipts = [] } }
     {
-        Client {
+        Member {
             number,
             receipts: Vec::new(alloc),
             share,
         }
     }
 
-    /// Its number.
-    pub fn number(&self) -> u64
+    fn number(&self) -> u64
         ensures { result ≡ self.now.number }
     {
         self.number
     }
 
-    /// The receipts so far. It takes no memory.
-    pub fn receipts(&self) -> &[Receipt]
+    fn receipts(&self) -> &[Receipt]
         ensures { result.now ≡ self.now.receipts }
     {
         self.receipts.as_slice()
     }
+}
+
+/// Who calls. It keeps the receipts of its calls, its share of the ledger counts them, and its pass hands its jobs to the workers. A
+/// clause sees its number and its receipts, and what its pass has sent.
+#[derive(Drop)]
+pub struct Client<N: Named> {
+    pub(crate) member: Member<N>,
+    pub(crate) pass: Pass<N>,
+}
+
+impl<N: Named> Model for Client<N> {
+    ghost use Rattle.cc_service.specs.Client.{ClientView};
+
+    ghost Value = { ClientView };
+
+    ghost view = { λ c. record { holder = c.member; sent = c.pass.sent } };
+}
+
+impl<N: Named> Client<N> {
+    /// A client that has made no call, with one part of the ledger.
+    pub fn new(alloc: Global, number: u64, share: Share<N>, pass: Pass<N>) -> Client<N>
+        requires part { share.parts ≡ 1 }
+        requires none { share.amount ≡ 0 }
+        ensures holder { result.holder ≡ record { number = number; receipts = [] } }
+        ensures sent { result.sent ≡ pass.sent }
+    {
+        Client {
+            member: Member::new(alloc, number, share),
+            pass,
+        }
+    }
+
+    /// Its number.
+    pub fn number(&self) -> u64
+        ensures { result ≡ self.now.holder.number }
+    {
+        self.member.number()
+    }
+
+    /// The receipts so far. It takes no memory.
+    pub fn receipts(&self) -> &[Receipt]
+        ensures { result.now ≡ self.now.holder.receipts }
+    {
+        self.member.receipts()
+    }
 
     /// The last receipt. It takes no memory.
     pub fn last(&self) -> Option<&Receipt>
-        ensures { option_map (λ r. r.now) result ≡ slice_get self.now.receipts (length self.now.receipts - 1) }
+        ensures { option_map (λ r. r.now) result ≡ slice_get self.now.holder.receipts (length self.now.holder.receipts - 1) }
     {
-        self.receipts.last()
+        self.receipts().last()
     }
 }

@@ -1,21 +1,24 @@
-// The end of a service: its book with all its clients.
+// The end of a book, with all its clients.
 ghost use Rattle.std.specs.Prelude.{◌≡◌, ℕ, ◌+◌, ◌≤◌, ◌↔◌, List, [], false, IsTrue, IfErr, IfOk, OnOk, length, map, vec_len};
 ghost use Rattle.std.specs.Vec.{vec_capacity};
 ghost use Rattle.cc_history.specs.Closing.{AreApart, AreOwn, IsClosed, ReceiptsStand, receipts_of};
 ghost use Rattle.cc_history.specs.History.{EachAgrees, IsLegal, units_after};
 ghost use Rattle.cc_service.specs.Book.{AllAgreed, BookView, RecoversTo};
+ghost use Rattle.cc_service.specs.Client.{holders};
 ghost use Rattle.cc_service.specs.Promise.{SurvivesCrash};
 ghost use Rattle.cc_service.specs.Answers.{IsNotClosed};
+ghost use Rattle.cc_service.specs.internal.Apart.{HaveOwnNumbers};
 
 use crate::book::Book;
-use crate::client::Client;
-use crate::fault::ServiceFault;
+use crate::client::{Client, Member};
+use crate::fault::BookFault;
 use crate::named::Named;
 use crate::recorded::RecordedLibrary;
 use cc_disk::{Disk, History};
 use cc_history::{Receipt, SharedEntry, all_stand, receipts_count_up, units_agree};
 use cc_library::{Command as Change, Library, UnitMap};
-use std::alloc::Global;
+use cc_pool::Pass;
+use std::alloc::{AllocError, Global};
 use std::sync::ledger::Share;
 
 /// What is left of a service: the map that it began with, its library, the history, and the receipts of each client, in the order of
@@ -30,9 +33,28 @@ pub struct Closed<D: Disk> {
     pub receipts: Vec<Vec<Receipt>>,
 }
 
+/// What clients leave: the receipts of each, and their passes.
+#[derive(Drop)]
+pub(crate) struct Left<N: Named> {
+    pub(crate) receipts: Vec<Vec<Receipt>>,
+    pub(crate) passes: Vec<Pass<N>>,
+}
+
+impl<N: Named> Left<N> {
+    // Of no client yet, with room for so many.
+    fn with_room(alloc: Global, clients: usize) -> Result<Left<N>, AllocError>
+        ensures receipts { IfOk result (λ left. (left.receipts.items ≡ []) × (vec_len left.receipts ≡ 0) × (clients ≤ vec_capacity left.receipts)) }
+        ensures passes { IfOk result (λ left. (vec_len left.passes ≡ 0) × (clients ≤ vec_capacity left.passes)) }
+    {
+        let receipts = Vec::with_capacity(alloc, clients)?;
+        let passes = Vec::with_capacity(alloc, clients)?;
+        Ok(Left { receipts, passes })
+    }
+}
+
 // Whether no two clients have one number.
 fn are_apart<N: Named>(clients: &[Client<N>]) -> bool
-    ensures { IsTrue result ↔ AreApart clients.now }
+    ensures { IsTrue result ↔ HaveOwnNumbers clients.now }
 {
     for i in 0..clients.len() {
         for j in 0..i {
@@ -45,121 +67,50 @@ fn are_apart<N: Named>(clients: &[Client<N>]) -> bool
 }
 
 // That all receipts of all these clients stand.
-fn stand_in<N: Named>(history: &[SharedEntry], clients: &[Client<N>]) -> Result<(), ServiceFault>
-    ensures stand { OnOk result (ReceiptsStand history.now clients.now) }
-    ensures err { IfErr result (λ f. (made : ℕ) → IsNotClosed history.now made clients.now f) }
+fn stand_in<N: Named>(history: &[SharedEntry], clients: &[Client<N>]) -> Result<(), BookFault>
+    ensures stand { OnOk result (ReceiptsStand history.now (holders clients.now)) }
+    ensures err { IfErr result (λ f. (made : ℕ) → IsNotClosed history.now made (holders clients.now) f) }
 {
     for client in clients {
         match all_stand(history, client.receipts()) {
             Ok(()) => {}
-            Err(fault) => return Err(ServiceFault::from(fault)),
+            Err(fault) => return Err(BookFault::from(fault)),
         }
     }
     Ok(())
 }
 
-// Takes the shares of all clients, and their receipts.
-fn gather<N: Named>(rest: &mut Share<N>, clients: Vec<Client<N>>, all: &mut Vec<Vec<Receipt>>)
-    requires room { (all.old.items ≡ []) × (vec_len all.old ≡ 0) × (length clients.items ≤ vec_capacity all.old) }
-    ensures receipts { map (λ v. v.items) all.new.items ≡ map (λ c. c.receipts) clients.items }
+// Takes the shares of all clients, and puts down what they leave.
+fn gather<N: Named>(rest: &mut Share<N>, clients: Vec<Client<N>>, left: &mut Left<N>)
+    requires receipts { (left.old.receipts.items ≡ []) × (vec_len left.old.receipts ≡ 0) × (length clients.items ≤ vec_capacity left.old.receipts) }
+    requires passes { (vec_len left.old.passes ≡ 0) × (length clients.items ≤ vec_capacity left.old.passes) }
+    ensures receipts { map (λ v. v.items) left.new.receipts.items ≡ map (λ c. c.receipts) (holders clients.items) }
     ensures parts { rest.new.parts ≡ rest.old.parts + length clients.items }
-    ensures amount { rest.new.amount ≡ rest.old.amount + receipts_of clients.items }
-    ensures own { AreOwn clients.items }
+    ensures amount { rest.new.amount ≡ rest.old.amount + receipts_of (holders clients.items) }
+    ensures own { AreOwn (holders clients.items) }
 {
+    let Left {
+        receipts: all,
+        passes,
+    } = left;
     for client in clients {
-        let Client {
+        let Client { member, pass } = client;
+        let Member {
             number: _,
             receipts,
             share,
-        } = client;
+        } = member;
         rest.merge(share);
         all.push_reserved(receipts);
+        passes.push_reserved(pass);
     }
-}
-
-/// Ends a book with its clients, so many as were made, whose shares with the rest are the whole ledger.
-///
-/// 39 for the first receipt that does not stand; 39 with the history's length and no entry where these are not all the clients that
-/// were made; 40 where memory ran out. All is handed back then.
-pub(crate) fn close_recorded<N: Named, D: Disk>(
-    alloc: Global,
-    book: RecordedLibrary<N, D>,
-    made: u64,
-    mut rest: Share<N>,
-    clients: Vec<Client<N>>,
-) -> Result<
-    Closed<D>,
-    (
-        ServiceFault,
-        RecordedLibrary<N, D>,
-        Share<N>,
-        Vec<Client<N>>,
-    ),
->
-    requires parts { rest.parts + made ≡ N.parts }
-    requires amount { rest.amount ≡ 0 }
-    ensures base { IfOk result (λ r. IsTrue D.honest → r.base ≡ N.base) }
-    ensures legal { IfOk result (λ r. IsLegal r.base r.history.items) }
-    ensures library { IfOk result (λ r. r.library.units ≡ units_after r.base r.history.items) }
-    ensures closed { IfOk result (λ r. IsClosed r.history.items clients.items) }
-    ensures receipts { IfOk result (λ r. map (λ v. v.items) r.receipts.items ≡ map (λ c. c.receipts) clients.items) }
-    // It is the book's library, with what was known of it.
-    ensures of_book { IfOk result (λ r. ◌≡◌ {A = BookView D} (record { base = r.base; library = r.library; history = r.history.items; failed = r.failed.items }) book) }
-    ensures images { IfOk result (λ r. IsTrue D.honest → (image : List ℕ) → D.may_leave r.library.disk image → RecoversTo r.library.units r.failed.items image) }
-    ensures idle { IfOk result (λ r. r.library.closed ≡ false → r.failed.items ≡ []) }
-    // Each unit of the map is the base's of that name, or was compiled; so was that of the change that failed.
-    ensures agrees { IfOk result (λ r. EachAgrees r.base r.library.units) }
-    ensures agrees_failed { IfOk result (λ r. AllAgreed r.failed.items) }
-    // The receipts of each client are of its own calls.
-    ensures own { IfOk result (λ _. AreOwn clients.items) }
-    ensures back { IfErr result (λ e. (e.1 ≡ book) × (e.2.parts ≡ rest.parts) × (e.2.amount ≡ rest.amount) × (e.3 ≡ clients)) }
-    ensures err { IfErr result (λ e. IsNotClosed book.history made clients.items e.0) }
-{
-    receipts_count_up();
-    units_agree();
-    let Ok(mut receipts) = Vec::with_capacity(alloc, clients.len()) else {
-        return Err((ServiceFault::OutOfMemory, book, rest, clients));
-    };
-    match book.stands(clients.as_slice()) {
-        Ok(()) => {}
-        Err(fault) => return Err((fault, book, rest, clients)),
-    }
-    if clients.len() as u64 != made || !are_apart(clients.as_slice()) {
-        let number = book.entries();
-        return Err((
-            ServiceFault::Estranged {
-                number,
-                found: None,
-            },
-            book,
-            rest,
-            clients,
-        ));
-    }
-    let RecordedLibrary {
-        base,
-        library,
-        history,
-        mut calls,
-        failed,
-        ..
-    } = book;
-    gather(&mut rest, clients, &mut receipts);
-    calls.audit(&mut rest);
-    Ok(Closed {
-        base,
-        library,
-        history,
-        failed,
-        receipts,
-    })
 }
 
 impl<N: Named, D: Disk> RecordedLibrary<N, D> {
     // That all receipts of all these clients stand.
-    fn stands(&self, clients: &[Client<N>]) -> Result<(), ServiceFault>
-        ensures stand { OnOk result (ReceiptsStand self.now.history clients.now) }
-        ensures err { IfErr result (λ f. (made : ℕ) → IsNotClosed self.now.history made clients.now f) }
+    fn stands(&self, clients: &[Client<N>]) -> Result<(), BookFault>
+        ensures stand { OnOk result (ReceiptsStand self.now.history (holders clients.now)) }
+        ensures err { IfErr result (λ f. (made : ℕ) → IsNotClosed self.now.history made (holders clients.now) f) }
     {
         stand_in(self.history.as_slice(), clients)
     }
@@ -170,9 +121,139 @@ impl<N: Named, D: Disk> RecordedLibrary<N, D> {
     {
         self.history.len() as u64
     }
+
+    // That it can be ended with these clients, so many as were made. Answers the room for what they leave, which is taken first.
+    fn ready(&self, alloc: Global, made: u64, clients: &[Client<N>]) -> Result<Left<N>, BookFault>
+        ensures receipts { IfOk result (λ left. (left.receipts.items ≡ []) × (vec_len left.receipts ≡ 0) × (length clients.now ≤ vec_capacity left.receipts)) }
+        ensures passes { IfOk result (λ left. (vec_len left.passes ≡ 0) × (length clients.now ≤ vec_capacity left.passes)) }
+        ensures many { OnOk result (length clients.now ≡ made) }
+        ensures apart { OnOk result (AreApart (holders clients.now)) }
+        ensures stand { OnOk result (ReceiptsStand self.now.history (holders clients.now)) }
+        ensures err { IfErr result (λ f. IsNotClosed self.now.history made (holders clients.now) f) }
+    {
+        let Ok(left) = Left::with_room(alloc, clients.len()) else {
+            return Err(BookFault::OutOfMemory);
+        };
+        match self.stands(clients) {
+            Ok(()) => {}
+            Err(fault) => {
+                drop(left);
+                return Err(fault);
+            }
+        }
+        if clients.len() as u64 != made || !are_apart(clients) {
+            drop(left);
+            return Err(BookFault::Estranged {
+                number: self.entries(),
+                found: None,
+            });
+        }
+        Ok(left)
+    }
+
+    // Ends it. At the end the shares of all clients and the rest are the whole ledger.
+    fn end(
+        self,
+        mut rest: Share<N>,
+        clients: Vec<Client<N>>,
+        mut left: Left<N>,
+    ) -> (Closed<D>, Vec<Pass<N>>)
+        requires receipts { (left.receipts.items ≡ []) × (vec_len left.receipts ≡ 0) × (length clients.items ≤ vec_capacity left.receipts) }
+        requires passes { (vec_len left.passes ≡ 0) × (length clients.items ≤ vec_capacity left.passes) }
+        requires parts { rest.parts + length clients.items ≡ N.parts }
+        requires amount { rest.amount ≡ 0 }
+        requires apart { AreApart (holders clients.items) }
+        requires stand { ReceiptsStand self.history (holders clients.items) }
+        ensures base { IsTrue D.honest → result.0.base ≡ N.base }
+        ensures legal { IsLegal result.0.base result.0.history.items }
+        ensures library { result.0.library.units ≡ units_after result.0.base result.0.history.items }
+        ensures closed { IsClosed result.0.history.items (holders clients.items) }
+        ensures receipts { map (λ v. v.items) result.0.receipts.items ≡ map (λ c. c.receipts) (holders clients.items) }
+        // It is the book's library, with what was known of it.
+        ensures of_book { ◌≡◌ {A = BookView D} (record { base = result.0.base; library = result.0.library; history = result.0.history.items; failed = result.0.failed.items }) self }
+        ensures images { IsTrue D.honest → (image : List ℕ) → D.may_leave result.0.library.disk image → RecoversTo result.0.library.units result.0.failed.items image }
+        ensures idle { result.0.library.closed ≡ false → result.0.failed.items ≡ [] }
+        // Each unit of the map is the base's of that name, or was compiled; so was that of the change that failed.
+        ensures agrees { EachAgrees result.0.base result.0.library.units }
+        ensures agrees_failed { AllAgreed result.0.failed.items }
+        // The receipts of each client are of its own calls.
+        ensures own { AreOwn (holders clients.items) }
+    {
+        receipts_count_up();
+        units_agree();
+        let RecordedLibrary {
+            base,
+            library,
+            history,
+            mut calls,
+            failed,
+        } = self;
+        gather(&mut rest, clients, &mut left);
+        calls.audit(&mut rest);
+        let Left { receipts, passes } = left;
+        let closed = Closed {
+            base,
+            library,
+            history,
+            failed,
+            receipts,
+        };
+        (closed, passes)
+    }
 }
 
-/// Ends a book with its clients, so many as were made, whose shares with the rest are the whole ledger.
+impl<N: Named, D: Disk> Book<N, D> {
+    // That it can be ended with these clients, so many as were made. Answers the room for what they leave, which is taken first.
+    pub(crate) fn ready(
+        &self,
+        alloc: Global,
+        made: u64,
+        clients: &[Client<N>],
+    ) -> Result<Left<N>, BookFault>
+        ensures receipts { IfOk result (λ left. (left.receipts.items ≡ []) × (vec_len left.receipts ≡ 0) × (length clients.now ≤ vec_capacity left.receipts)) }
+        ensures passes { IfOk result (λ left. (vec_len left.passes ≡ 0) × (length clients.now ≤ vec_capacity left.passes)) }
+        ensures many { OnOk result (length clients.now ≡ made) }
+        ensures apart { OnOk result (AreApart (holders clients.now)) }
+        ensures stand { OnOk result (ReceiptsStand self.now.book.history (holders clients.now)) }
+        ensures err { IfErr result (λ f. IsNotClosed self.now.book.history made (holders clients.now) f) }
+    {
+        self.recorded.ready(alloc, made, clients)
+    }
+
+    // Ends it. At the end the shares of all clients and the rest are the whole ledger.
+    pub(crate) fn end(
+        self,
+        rest: Share<N>,
+        clients: Vec<Client<N>>,
+        left: Left<N>,
+    ) -> (Closed<D>, Vec<Pass<N>>)
+        requires receipts { (left.receipts.items ≡ []) × (vec_len left.receipts ≡ 0) × (length clients.items ≤ vec_capacity left.receipts) }
+        requires passes { (vec_len left.passes ≡ 0) × (length clients.items ≤ vec_capacity left.passes) }
+        requires parts { rest.parts + length clients.items ≡ N.parts }
+        requires amount { rest.amount ≡ 0 }
+        requires apart { AreApart (holders clients.items) }
+        requires stand { ReceiptsStand self.book.history (holders clients.items) }
+        ensures base { IsTrue D.honest → result.0.base ≡ N.base }
+        ensures legal { IsLegal result.0.base result.0.history.items }
+        ensures library { result.0.library.units ≡ units_after result.0.base result.0.history.items }
+        ensures closed { IsClosed result.0.history.items (holders clients.items) }
+        ensures receipts { map (λ v. v.items) result.0.receipts.items ≡ map (λ c. c.receipts) (holders clients.items) }
+        ensures images { IsTrue D.honest → (image : List ℕ) → D.may_leave result.0.library.disk image → RecoversTo result.0.library.units result.0.failed.items image }
+        ensures idle { result.0.library.closed ≡ false → result.0.failed.items ≡ [] }
+        ensures agrees { EachAgrees result.0.base result.0.library.units }
+        ensures agrees_failed { AllAgreed result.0.failed.items }
+        ensures own { AreOwn (holders clients.items) }
+        // What a crash then leaves of the disk holds each acknowledged command.
+        ensures survives { IsTrue D.honest → (image : List ℕ) → D.may_leave result.0.library.disk image
+            → SurvivesCrash (record { base = result.0.base; library = result.0.library; history = result.0.history.items; failed = result.0.failed.items }) image }
+    {
+        self.survives();
+        let Book { recorded, since: _ } = self;
+        recorded.end(rest, clients, left)
+    }
+}
+
+/// Ends a book with its clients, so many as were made, whose shares with the rest are the whole ledger. Their passes are let go.
 ///
 /// 39 for the first receipt that does not stand; 39 with the history's length and no entry where these are not all the clients that
 /// were made; 40 where memory ran out. All is handed back then.
@@ -182,34 +263,31 @@ pub fn close<N: Named, D: Disk>(
     made: u64,
     rest: Share<N>,
     clients: Vec<Client<N>>,
-) -> Result<Closed<D>, (ServiceFault, Book<N, D>, Share<N>, Vec<Client<N>>)>
+) -> Result<Closed<D>, (BookFault, Book<N, D>, Share<N>, Vec<Client<N>>)>
     requires parts { rest.parts + made ≡ N.parts }
     requires amount { rest.amount ≡ 0 }
     ensures base { IfOk result (λ r. IsTrue D.honest → r.base ≡ N.base) }
     ensures legal { IfOk result (λ r. IsLegal r.base r.history.items) }
     ensures library { IfOk result (λ r. r.library.units ≡ units_after r.base r.history.items) }
-    ensures closed { IfOk result (λ r. IsClosed r.history.items clients.items) }
-    ensures receipts { IfOk result (λ r. map (λ v. v.items) r.receipts.items ≡ map (λ c. c.receipts) clients.items) }
+    ensures closed { IfOk result (λ r. IsClosed r.history.items (holders clients.items)) }
+    ensures receipts { IfOk result (λ r. map (λ v. v.items) r.receipts.items ≡ map (λ c. c.receipts) (holders clients.items)) }
     ensures images { IfOk result (λ r. IsTrue D.honest → (image : List ℕ) → D.may_leave r.library.disk image → RecoversTo r.library.units r.failed.items image) }
     ensures idle { IfOk result (λ r. r.library.closed ≡ false → r.failed.items ≡ []) }
     ensures agrees { IfOk result (λ r. EachAgrees r.base r.library.units) }
     ensures agrees_failed { IfOk result (λ r. AllAgreed r.failed.items) }
-    ensures own { IfOk result (λ _. AreOwn clients.items) }
+    ensures own { IfOk result (λ _. AreOwn (holders clients.items)) }
     // What a crash then leaves of the disk holds each acknowledged command.
     ensures survives { IfOk result (λ r. IsTrue D.honest → (image : List ℕ) → D.may_leave r.library.disk image
         → SurvivesCrash (record { base = r.base; library = r.library; history = r.history.items; failed = r.failed.items }) image) }
     ensures back { IfErr result (λ e. (e.1 ≡ book) × (e.2.parts ≡ rest.parts) × (e.2.amount ≡ rest.amount) × (e.3 ≡ clients)) }
-    ensures err { IfErr result (λ e. IsNotClosed book.book.history made clients.items e.0) }
+    ensures err { IfErr result (λ e. IsNotClosed book.book.history made (holders clients.items) e.0) }
 {
-    book.survives();
-    let Book { recorded, since } = book;
-    match close_recorded(alloc, recorded, made, rest, clients) {
-        Ok(closed) => Ok(closed),
-        Err((fault, recorded, rest, clients)) => Err((
-            fault,
-            Book { recorded, since },
-            rest,
-            clients,
-        )),
+    match book.ready(alloc, made, clients.as_slice()) {
+        Ok(left) => {
+            let (closed, passes) = book.end(rest, clients, left);
+            drop(passes);
+            Ok(closed)
+        }
+        Err(fault) => Err((fault, book, rest, clients)),
     }
 }

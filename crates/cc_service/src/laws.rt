@@ -10,7 +10,7 @@ ghost use Rattle.cc_history.specs.declared.command.Command.{Command};
 ghost use Rattle.cc_history.specs.declared.entry.Receipt.{Receipt};
 ghost use Rattle.cc_history.specs.Calls.{change_of};
 ghost use Rattle.cc_history.specs.History.{Holder};
-ghost use Rattle.cc_service.specs.declared.fault.ServiceFault.{ServiceFault};
+ghost use Rattle.cc_service.specs.declared.fault.BookFault.{BookFault};
 ghost use Rattle.cc_service.specs.Book.{BookView};
 ghost use Rattle.cc_service.specs.Answers.{CommitAnswers, CompactAnswers};
 ghost use Rattle.cc_service.specs.Disk.{ChangesDisk, CompactsDisk};
@@ -25,7 +25,7 @@ use cc_disk::Disk;
 /// Whatever state of the core a book shows: a commit with its answer is, for a client that has a job with that command, Begin to
 /// Ack, or to a refusal or Fail; and the book afterwards shows the state that is reached.
 pub fn commits_are_steps<D: Disk, B: Build>()
-    ensures { (before after : BookView D) (old new : Holder) (command : Command) (result : Result Receipt ServiceFault) (s : Contents B.Piece) (client : ClientId)
+    ensures { (before after : BookView D) (old new : Holder) (command : Command) (result : Result Receipt BookFault) (s : Contents B.Piece) (client : ClientId)
         → CommitAnswers D.failures before old command after new result
         → (IsTrue D.honest → ChangesDisk D.seen D.may_leave (change_of command) before.library after.library result)
         → Shows D.honest D.seen D.may_leave before s → Has B.rules s client (change_of command)
@@ -49,7 +49,7 @@ pub fn jobs_are_beside<D: Disk, B: Build>()
 
 /// The same of a compaction: a rewrite's four device steps, or those up to the failure.
 pub fn compactions_are_rewrites<D: Disk, B: Build>()
-    ensures { (before after : BookView D) (result : Result (Unit {0}) ServiceFault) (s : Contents B.Piece)
+    ensures { (before after : BookView D) (result : Result (Unit {0}) BookFault) (s : Contents B.Piece)
         → CompactAnswers D.failures before after result
         → (IsTrue D.honest → CompactsDisk D.seen D.may_leave before.library after.library result)
         → Shows D.honest D.seen D.may_leave before s → IsRewriteOf B.rules (Shows D.honest D.seen D.may_leave after) s result }

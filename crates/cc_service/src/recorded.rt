@@ -10,9 +10,9 @@ ghost use Rattle.cc_service.specs.Answers.{CommitAnswers, CompactAnswers, IsLook
 ghost use Rattle.cc_service.specs.Disk.{ChangesDisk, CompactsDisk};
 ghost use Rattle.cc_service.specs.internal.Decide.{answer_reply};
 
-use crate::client::Client;
+use crate::client::Member;
 use crate::entering::{enter, prepare};
-use crate::fault::ServiceFault;
+use crate::fault::BookFault;
 use crate::named::Named;
 use cc_disk::{Disk, History};
 use cc_history::{
@@ -75,6 +75,13 @@ impl<N: Named, D: Disk> RecordedLibrary<N, D> {
         }
     }
 
+    pub(crate) fn into_disk(self) -> D
+        ensures { result ≡ self.library.disk }
+    {
+        let RecordedLibrary { library, .. } = self;
+        library.into_disk()
+    }
+
     /// What its type keeps. It does nothing.
     pub(crate) fn kept(&self)
         ensures replays { Replays (chronicle_of self.now) }
@@ -97,9 +104,9 @@ impl<N: Named, D: Disk> RecordedLibrary<N, D> {
     pub fn commit(
         &mut self,
         alloc: Global,
-        client: &mut Client<N>,
+        client: &mut Member<N>,
         command: Command,
-    ) -> Result<Receipt, ServiceFault>
+    ) -> Result<Receipt, BookFault>
         ensures answers { CommitAnswers D.failures self.old client.old command self.new client.new result }
 
         // A crash at any moment of the call leaves the map before it or the map after it.
@@ -121,21 +128,21 @@ impl<N: Named, D: Disk> RecordedLibrary<N, D> {
             failed,
             ..
         } = self;
-        let Client {
+        let Member {
             number,
             receipts,
             share,
         } = client;
         if library.is_closed() {
-            return Err(ServiceFault::Closed);
+            return Err(BookFault::Closed);
         }
         match last_stands(history.as_slice(), receipts.as_slice()) {
             Ok(()) => {}
-            Err(fault) => return Err(ServiceFault::from(fault)),
+            Err(fault) => return Err(BookFault::from(fault)),
         }
         let answer = decide(library, &command);
         let Ok(change) = command.change() else {
-            return Err(ServiceFault::OutOfMemory);
+            return Err(BookFault::OutOfMemory);
         };
         let entry = Entry {
             client: *number,
@@ -144,13 +151,13 @@ impl<N: Named, D: Disk> RecordedLibrary<N, D> {
             reply: answer.reply(),
         };
         let Ok(owners) = prepare(alloc, history, receipts, entry) else {
-            return Err(ServiceFault::OutOfMemory);
+            return Err(BookFault::OutOfMemory);
         };
         match answer {
-            Answer::Exists => Err(ServiceFault::Exists(enter(
+            Answer::Exists => Err(BookFault::Exists(enter(
                 history, calls, receipts, share, owners,
             ))),
-            Answer::Absent => Err(ServiceFault::Absent(enter(
+            Answer::Absent => Err(BookFault::Absent(enter(
                 history, calls, receipts, share, owners,
             ))),
             Answer::Done => {
@@ -159,10 +166,10 @@ impl<N: Named, D: Disk> RecordedLibrary<N, D> {
                     Ok(()) => Ok(enter(history, calls, receipts, share, owners)),
                     Err(LibraryFault::DiskFault) => {
                         *failed = failing;
-                        Err(ServiceFault::DiskFault)
+                        Err(BookFault::DiskFault)
                     }
-                    Err(LibraryFault::Full) => Err(ServiceFault::Full),
-                    Err(_) => Err(ServiceFault::OutOfMemory),
+                    Err(LibraryFault::Full) => Err(BookFault::Full),
+                    Err(_) => Err(BookFault::OutOfMemory),
                 }
             }
         }
@@ -175,9 +182,9 @@ impl<N: Named, D: Disk> RecordedLibrary<N, D> {
     pub fn look(
         &mut self,
         alloc: Global,
-        client: &mut Client<N>,
+        client: &mut Member<N>,
         asked: Asked,
-    ) -> Result<Receipt, ServiceFault>
+    ) -> Result<Receipt, BookFault>
         requires { IsLook asked }
         ensures { LookAnswers self.old client.old asked self.new client.new result }
     {
@@ -188,17 +195,17 @@ impl<N: Named, D: Disk> RecordedLibrary<N, D> {
             calls,
             ..
         } = self;
-        let Client {
+        let Member {
             number,
             receipts,
             share,
         } = client;
         match last_stands(history.as_slice(), receipts.as_slice()) {
             Ok(()) => {}
-            Err(fault) => return Err(ServiceFault::from(fault)),
+            Err(fault) => return Err(BookFault::from(fault)),
         }
         let Ok(reply) = looked(alloc, library, &asked) else {
-            return Err(ServiceFault::OutOfMemory);
+            return Err(BookFault::OutOfMemory);
         };
         let entry = Entry {
             client: *number,
@@ -207,7 +214,7 @@ impl<N: Named, D: Disk> RecordedLibrary<N, D> {
             reply,
         };
         let Ok(owners) = prepare(alloc, history, receipts, entry) else {
-            return Err(ServiceFault::OutOfMemory);
+            return Err(BookFault::OutOfMemory);
         };
         Ok(enter(history, calls, receipts, share, owners))
     }
@@ -216,7 +223,7 @@ impl<N: Named, D: Disk> RecordedLibrary<N, D> {
     ///
     /// Refusals, in this order: 36 where the device has failed before, 34 where the new records do not fit, 35 where the device
     /// failed. 40 where memory ran out, before the first device call. After 34, 36 and 40 all is as before.
-    pub fn compact(&mut self, alloc: Global) -> Result<(), ServiceFault>
+    pub fn compact(&mut self, alloc: Global) -> Result<(), BookFault>
         ensures answers { CompactAnswers D.failures self.old self.new result }
         ensures moments { IsTrue D.honest → self.old.library.closed ≡ false
             → LeavesOnly D.moment D.left_since self.old.library.disk self.new.library.disk (λ image. RecoversAlone image self.old.library.units) }
@@ -225,10 +232,10 @@ impl<N: Named, D: Disk> RecordedLibrary<N, D> {
     {
         match self.library.compact(alloc) {
             Ok(()) => {}
-            Err(LibraryFault::DiskFault) => return Err(ServiceFault::DiskFault),
-            Err(LibraryFault::Closed) => return Err(ServiceFault::Closed),
-            Err(LibraryFault::Full) => return Err(ServiceFault::Full),
-            Err(_) => return Err(ServiceFault::OutOfMemory),
+            Err(LibraryFault::DiskFault) => return Err(BookFault::DiskFault),
+            Err(LibraryFault::Closed) => return Err(BookFault::Closed),
+            Err(LibraryFault::Full) => return Err(BookFault::Full),
+            Err(_) => return Err(BookFault::OutOfMemory),
         }
         Ok(())
     }

@@ -21,11 +21,11 @@ invariant_of-self g c =
     let built : HasBuilt compiling Keeps (change_of c.args.command) = built_of c.made_units_are_built.ensures c.args.command c.kept-2.ensures.command c.kept-2.ensures.made in
     record {
       tied = λ h. commit_tied compiling Keeps law D.seen D.may_leave (λ d. g.met.D.Disk.seen_is_image d h) D.failures before after_it
-          c.args.client.now c.commit-result.new.client c.args.command c.commit-result.result done.answers (done.disk h) c.kept-2.ensures.command built (c.self.invariant.tied h);
+          c.client.inside.member c.commit-result.new.client c.args.command c.commit-result.result done.answers (done.disk h) c.kept-2.ensures.command built (c.self.invariant.tied h);
       since = λ h. subst (λ (l : List (BookView g.row.D.Denot)). AreSince D.moment D.left_since after_it l) (sym c.and-self-inside.ensures)
           (one_more D.moment D.may_leave D.left_since after_it c.self.inside.since.items c.kept-3.ensures.replays c.kept-3.ensures.one (λ image left. g.met.D.Disk.only_now after_it.library.disk image h left) (c.kept-3.ensures.images h)
           (λ k old at. commit_since D.moment D.may_leave D.left_since before after_it c.kept.ensures.replays c.kept-3.ensures.replays c.kept.ensures.idle D.failures
-          c.args.client.now c.commit-result.new.client c.args.command c.commit-result.result done.answers (done.moments h) old (c.self.invariant.since h k old at)));
+          c.client.inside.member c.commit-result.new.client c.args.command c.commit-result.result done.answers (done.moments h) old (c.self.invariant.since h k old at)));
     }
 
 pub returns-clause-disk : goal.returns-clause-disk

@@ -16,8 +16,8 @@ use Rattle.cc_service.specs.Book.{BookView, IsRecordedLibrary, RecoversTo}
 use Rattle.cc_service.specs.Client.{IsClient}
 use Rattle.cc_service.specs.Answers.{IsDone, IsRefused}
 use Rattle.cc_service.specs.Disk.{ChangesDisk}
-use Rattle.cc_service.specs.declared.fault.ServiceFault.{ServiceFault}
-use Rattle.cc_service.specs.declared.fault.ServiceFault.TheVariants.{DiskFault}
+use Rattle.cc_service.specs.declared.fault.BookFault.{BookFault}
+use Rattle.cc_service.specs.declared.fault.BookFault.TheVariants.{DiskFault}
 use Rattle.std.proofs.Common.{Result, Ok, Err}
 use Rattle.cc_service.specs.internal.Decide.{answer_reply}
 use Rattle.cc_service.proofs.Committing.{entering, receipt_is, keeps_failed, done_is_ok}
@@ -157,7 +157,7 @@ invariant_of-self-in-Err-DiskFault g c =
 pub returns-in-Ok-change-2-clause-disk : goal.returns-in-Ok-change-2-clause-disk
 returns-in-Ok-change-2-clause-disk g c =
     let before : BookView g.row.D.Denot = record { base = c.self.inside.base; library = c.self.inside.library; history = c.self.inside.history.items; failed = c.self.inside.failed.items } in
-    let answered : Result Receipt ServiceFault = Ok c.enter-in-Ok-change-2.result in
+    let answered : Result Receipt BookFault = Ok c.enter-in-Ok-change-2.result in
     subst (λ (b : BookView g.row.D.Denot). IsTrue g.D.Disk.honest → ChangesDisk g.D.Disk.seen g.D.Disk.may_leave (change_of c.args.command) b.library c.change-in-Done.new.self answered) c.self.view_is
     (λ h. subst (λ (k : made.Command). ChangesDisk g.D.Disk.seen g.D.Disk.may_leave k before.library c.change-in-Done.new.self answered) c.in-Ok-change.ensures.change (c.in-Ok-change-2.ensures.disk h))
 

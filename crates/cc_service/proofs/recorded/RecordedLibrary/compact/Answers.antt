@@ -2,7 +2,7 @@
 use Rattle.std.proofs.Common.{IsTrue, Ok, Err, subst}
 use Rattle.cc_service.specs.Book.{BookView}
 use Rattle.cc_service.specs.Disk.{CompactsDisk}
-use Rattle.cc_service.specs.declared.fault.ServiceFault.TheVariants.{DiskFault}
+use Rattle.cc_service.specs.declared.fault.BookFault.TheVariants.{DiskFault}
 use Rattle.cc_service.proofs.recorded.RecordedLibrary.compact.Goals as goal
 
 pub returns-in-Err-DiskFault-clause-disk : goal.returns-in-Err-DiskFault-clause-disk

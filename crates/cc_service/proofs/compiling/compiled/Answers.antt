@@ -1,0 +1,17 @@
+use Rattle.std.proofs.Common.{inl, inr, ℕ, List, subst}
+use Rattle.cc_syntax.specs.Source.{source}
+use Rattle.cc_typing.specs.Typed.{IsTypeRefusal}
+use Rattle.cc_typing.specs.Verdict.{source_with}
+use Rattle.cc_service.proofs.compiling.compiled.Goals as goal
+
+pub returns-in-Err-check-clause-refused : goal.returns-in-Err-check-clause-refused
+returns-in-Err-check-clause-refused g c =
+    let s = source c.in-Ok.unit in
+    elim c.in-Err-check.ensures.refused [
+      | inl e ↦ inl e
+      | inr r ↦ inr (record {
+        tree = s.externals;
+        spelled = c.in-Ok.ensures.spelled;
+        refused = subst (λ (t : List ℕ). IsTypeRefusal (source_with t s.externals) c.in-Err-check.fault) c.in-Ok.ensures.text r;
+      })
+    ]

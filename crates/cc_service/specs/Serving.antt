@@ -1,0 +1,191 @@
+-- What a call of a service answers, as its client sees it. The value of the lock at that moment is no client's to name: what becomes of
+-- it is said of the book's calls.
+use Rattle.std.specs.Prelude.{◌≡◌, ◌≢◌, ◌⊎◌, ℕ, ◌-◌, Bool, IsTrue, List, length, Option, Some, slice_get, Result, Ok, Err}
+use Rattle.cc_unit.specs.declared.unit.StoredUnit.{StoredUnit}
+use Rattle.cc_link.specs.Agree.{Agree}
+use Rattle.cc_library.specs.Name.{is_name}
+use Rattle.cc_library.specs.Answers.{OpenFaults}
+use Rattle.cc_library.specs.Apply.{Units}
+use Rattle.cc_library.specs.Recovered.{Recovers}
+use Rattle.cc_history.specs.declared.command.Command.{Command}
+use Rattle.cc_history.specs.declared.command.Command.TheVariants.{Add, Replace, Withdraw}
+use Rattle.cc_history.specs.declared.command.Asked.TheVariants.{Change, Fetch, Names}
+use Rattle.cc_history.specs.declared.entry.Entry.{Entry}
+use Rattle.cc_history.specs.declared.entry.Receipt.{Receipt}
+use Rattle.cc_history.specs.declared.reply.Reply.{Reply}
+use Rattle.cc_history.specs.declared.reply.Reply.TheVariants as reply
+use Rattle.cc_history.specs.History.{Holder, IsAnswered}
+use Rattle.cc_service.specs.Compiling.{IsCompileRefusal, IsProgram}
+use Rattle.cc_service.specs.declared.fault.BookFault.{BookFault}
+use Rattle.cc_service.specs.declared.fault.BookFault.TheVariants as book
+use Rattle.cc_service.specs.declared.fault.ServiceFault.{ServiceFault}
+use Rattle.cc_service.specs.declared.fault.ServiceFault.TheVariants.{Opening, TooManyClients, BadName, Syntax, Typing, Piece, WorkersGone, ImageTooLarge, Book, OutOfMemory}
+
+-- ---- what a call asks of the book
+
+-- the unit was compiled from this source
+abbrev pub IsOf : (source : List ℕ) → StoredUnit → Type 0
+IsOf source unit = (unit.source ≡ source) × Agree unit.source unit.image
+
+-- a unit of this source is added under this name
+abbrev pub Adds : (name source : List ℕ) → Command → Type 0
+Adds name source (Add n unit) = (n ≡ name) × IsOf source unit
+Adds name source (Replace n unit) = ⊥
+Adds name source (Withdraw n) = ⊥
+
+-- it takes the place of the name's unit
+abbrev pub Replaces : (name source : List ℕ) → Command → Type 0
+Replaces name source (Add n unit) = ⊥
+Replaces name source (Replace n unit) = (n ≡ name) × IsOf source unit
+Replaces name source (Withdraw n) = ⊥
+
+-- the name's unit goes
+abbrev pub Withdraws : (name : List ℕ) → Command → Type 0
+Withdraws name (Add n unit) = ⊥
+Withdraws name (Replace n unit) = ⊥
+Withdraws name (Withdraw n) = n ≡ name
+
+-- how the map refuses a change: 31 where a name is added, 32 where one is to be there
+abbrev pub refusal_of : Command → Reply
+refusal_of (Add n unit) = reply.Exists
+refusal_of (Replace n unit) = reply.Absent
+refusal_of (Withdraw n) = reply.Absent
+
+-- ---- what is answered
+
+-- one of these changes was asked and answered so, and the receipt is the client's last
+pub record IsEntered (Asks : Command → Type 0) (old : Holder) (answer : Reply) (new : Holder) (receipt : Receipt) : Type 0 where
+  pub command : Command
+  pub asked : Asks command
+  pub answered : IsAnswered old (Change command) answer new receipt
+
+-- the number is that of the client's last receipt, and what was found there is not its entry
+pub record IsOfAnother (old : Holder) (number : ℕ) (found : Option Entry) : Type 0 where
+  pub last : Receipt
+  pub is_last : slice_get old.receipts (length old.receipts - 1) ≡ Some last
+  pub number_is : number ≡ last.number
+  pub found_is : found ≢ Some last.entry
+
+-- how the book refuses a change: 31 and 32 with a receipt, which is the client's last; every other refusal leaves it as it was
+abbrev pub IsTurnedDown : (Asks : Command → Type 0) (old new : Holder) → BookFault → Type 0
+IsTurnedDown Asks old new (book.Exists receipt) = IsEntered (λ c. Asks c × (refusal_of c ≡ reply.Exists)) old reply.Exists new receipt
+IsTurnedDown Asks old new (book.Absent receipt) = IsEntered (λ c. Asks c × (refusal_of c ≡ reply.Absent)) old reply.Absent new receipt
+IsTurnedDown Asks old new (book.Estranged number found) = IsOfAnother old number found × (new ≡ old)
+IsTurnedDown Asks old new book.Full = new ≡ old
+IsTurnedDown Asks old new book.DiskFault = new ≡ old
+IsTurnedDown Asks old new book.Closed = new ≡ old
+IsTurnedDown Asks old new book.OutOfMemory = new ≡ old
+
+-- The answer to `add` or `replace`: 33 exactly where the bytes are no name; then, of a name, why the text is not compiled; then, of a
+-- program, what the book answers.
+abbrev pub PutAnswers : (Asks : Command → Type 0) (name source : List ℕ) (old new : Holder) → Result Receipt ServiceFault → Type 0
+PutAnswers Asks name source old new (Ok receipt) = IsTrue (is_name name) × IsProgram source × IsEntered Asks old reply.Done new receipt
+PutAnswers Asks name source old new (Err BadName) = (¬ IsTrue (is_name name)) × (new ≡ old)
+PutAnswers Asks name source old new (Err (Syntax f)) = IsTrue (is_name name) × IsCompileRefusal source (Syntax f) × (new ≡ old)
+PutAnswers Asks name source old new (Err (Typing f)) = IsTrue (is_name name) × IsCompileRefusal source (Typing f) × (new ≡ old)
+PutAnswers Asks name source old new (Err (Piece function f)) = IsTrue (is_name name) × IsCompileRefusal source (Piece function f) × (new ≡ old)
+PutAnswers Asks name source old new (Err WorkersGone) = IsTrue (is_name name) × IsCompileRefusal source WorkersGone × (new ≡ old)
+PutAnswers Asks name source old new (Err ImageTooLarge) = IsTrue (is_name name) × IsCompileRefusal source ImageTooLarge × (new ≡ old)
+PutAnswers Asks name source old new (Err OutOfMemory) = IsTrue (is_name name) × (new ≡ old)
+PutAnswers Asks name source old new (Err (Book f)) = IsTrue (is_name name) × IsProgram source × IsTurnedDown Asks old new f
+PutAnswers Asks name source old new (Err (Opening f)) = ⊥
+PutAnswers Asks name source old new (Err TooManyClients) = ⊥
+
+-- the answer to `withdraw`: 33 exactly where the bytes are no name; else what the book answers
+abbrev pub WithdrawAnswers : (name : List ℕ) (old new : Holder) → Result Receipt ServiceFault → Type 0
+WithdrawAnswers name old new (Ok receipt) = IsTrue (is_name name) × IsEntered (Withdraws name) old reply.Done new receipt
+WithdrawAnswers name old new (Err BadName) = (¬ IsTrue (is_name name)) × (new ≡ old)
+WithdrawAnswers name old new (Err (Book f)) = IsTrue (is_name name) × IsTurnedDown (Withdraws name) old new f
+WithdrawAnswers name old new (Err (Syntax f)) = ⊥
+WithdrawAnswers name old new (Err (Typing f)) = ⊥
+WithdrawAnswers name old new (Err (Piece function f)) = ⊥
+WithdrawAnswers name old new (Err WorkersGone) = ⊥
+WithdrawAnswers name old new (Err ImageTooLarge) = ⊥
+WithdrawAnswers name old new (Err OutOfMemory) = ⊥
+WithdrawAnswers name old new (Err (Opening f)) = ⊥
+WithdrawAnswers name old new (Err TooManyClients) = ⊥
+
+-- how a look is refused: 39 or 40, and the client is as it was
+abbrev pub IsTurnedAway : (old new : Holder) → BookFault → Type 0
+IsTurnedAway old new (book.Estranged number found) = IsOfAnother old number found × (new ≡ old)
+IsTurnedAway old new book.OutOfMemory = new ≡ old
+IsTurnedAway old new (book.Exists receipt) = ⊥
+IsTurnedAway old new (book.Absent receipt) = ⊥
+IsTurnedAway old new book.Full = ⊥
+IsTurnedAway old new book.DiskFault = ⊥
+IsTurnedAway old new book.Closed = ⊥
+
+-- so is `get`, and by 32, with a receipt, where the name has no unit
+abbrev pub IsNotFound : (name : List ℕ) (old new : Holder) → BookFault → Type 0
+IsNotFound name old new (book.Absent receipt) = IsAnswered old (Fetch name) reply.Absent new receipt
+IsNotFound name old new (book.Estranged number found) = IsTurnedAway old new (book.Estranged number found)
+IsNotFound name old new book.OutOfMemory = IsTurnedAway old new book.OutOfMemory
+IsNotFound name old new (book.Exists receipt) = ⊥
+IsNotFound name old new book.Full = ⊥
+IsNotFound name old new book.DiskFault = ⊥
+IsNotFound name old new book.Closed = ⊥
+
+-- the entry has a unit; it has all names
+abbrev pub HasUnit : Entry → Type 0
+HasUnit entry = (unit : StoredUnit) × (entry.reply ≡ reply.Unit unit)
+
+abbrev pub HasNames : Entry → Type 0
+HasNames entry = (names : List (List ℕ)) × (entry.reply ≡ reply.Names names)
+
+-- the answer to `get`: 33 exactly where the bytes are no name
+abbrev pub GetAnswers : (name : List ℕ) (old new : Holder) → Result Receipt ServiceFault → Type 0
+GetAnswers name old new (Ok receipt) = IsTrue (is_name name) × HasUnit receipt.entry × IsAnswered old (Fetch name) receipt.entry.reply new receipt
+GetAnswers name old new (Err BadName) = (¬ IsTrue (is_name name)) × (new ≡ old)
+GetAnswers name old new (Err (Book f)) = IsTrue (is_name name) × IsNotFound name old new f
+GetAnswers name old new (Err (Syntax f)) = ⊥
+GetAnswers name old new (Err (Typing f)) = ⊥
+GetAnswers name old new (Err (Piece function f)) = ⊥
+GetAnswers name old new (Err WorkersGone) = ⊥
+GetAnswers name old new (Err ImageTooLarge) = ⊥
+GetAnswers name old new (Err OutOfMemory) = ⊥
+GetAnswers name old new (Err (Opening f)) = ⊥
+GetAnswers name old new (Err TooManyClients) = ⊥
+
+-- the answer to `list`
+abbrev pub ListAnswers : (old new : Holder) → Result Receipt ServiceFault → Type 0
+ListAnswers old new (Ok receipt) = HasNames receipt.entry × IsAnswered old Names receipt.entry.reply new receipt
+ListAnswers old new (Err (Book f)) = IsTurnedAway old new f
+ListAnswers old new (Err BadName) = ⊥
+ListAnswers old new (Err (Syntax f)) = ⊥
+ListAnswers old new (Err (Typing f)) = ⊥
+ListAnswers old new (Err (Piece function f)) = ⊥
+ListAnswers old new (Err WorkersGone) = ⊥
+ListAnswers old new (Err ImageTooLarge) = ⊥
+ListAnswers old new (Err OutOfMemory) = ⊥
+ListAnswers old new (Err (Opening f)) = ⊥
+ListAnswers old new (Err TooManyClients) = ⊥
+
+-- ---- beside the calls of clients
+
+-- why a compaction is refused: 34, 35, 36 or 40
+abbrev pub IsNotCompacted : BookFault → Type 0
+IsNotCompacted book.Full = Unit {0}
+IsNotCompacted book.DiskFault = Unit {0}
+IsNotCompacted book.Closed = Unit {0}
+IsNotCompacted book.OutOfMemory = Unit {0}
+IsNotCompacted (book.Exists receipt) = ⊥
+IsNotCompacted (book.Absent receipt) = ⊥
+IsNotCompacted (book.Estranged number found) = ⊥
+
+-- Why a service is not opened: as the library's opening has it; where that is Ok, 41 or 40 of the workers, and then an honest disk's bytes
+-- recover to this map.
+abbrev pub IsNotOpened : (honest : Bool) (seen : List ℕ) (base : Units) (before after : ℕ) → ServiceFault → Type 0
+IsNotOpened honest seen base before after (Opening f) = OpenFaults honest seen before after f
+IsNotOpened honest seen base before after WorkersGone = (after ≡ before) × (IsTrue honest → Recovers seen base)
+IsNotOpened honest seen base before after OutOfMemory = (after ≡ before) × (IsTrue honest → Recovers seen base)
+IsNotOpened honest seen base before after TooManyClients = ⊥
+IsNotOpened honest seen base before after BadName = ⊥
+IsNotOpened honest seen base before after (Syntax f) = ⊥
+IsNotOpened honest seen base before after (Typing f) = ⊥
+IsNotOpened honest seen base before after (Piece function f) = ⊥
+IsNotOpened honest seen base before after ImageTooLarge = ⊥
+IsNotOpened honest seen base before after (Book f) = ⊥
+
+-- why a service is not ended: 39 or 40
+abbrev pub IsNotEnded : ServiceFault → Type 0
+IsNotEnded fault = (fault ≡ Book book.OutOfMemory) ⊎ ((number : ℕ) × (found : Option Entry) × (fault ≡ Book (book.Estranged number found)))

@@ -1,0 +1,101 @@
+// What the service's looks answer: a receipt, in whose entry the reply stands.
+ghost use Rattle.std.specs.Prelude.{◌≡◌, ◌↔◌, IsTrue};
+ghost use Rattle.cc_history.specs.declared.reply.Reply.TheVariants as reply;
+ghost use Rattle.cc_service.specs.Serving.{HasNames, HasUnit};
+
+use cc_history::{NameList, Receipt, Reply};
+use cc_library::SharedUnit;
+use std::marker::Model;
+
+/// The answer of `get`: its receipt, and the name's unit. A clause sees the receipt, whose entry has the unit.
+#[derive(Drop)]
+pub struct Found {
+    receipt: Receipt,
+}
+
+impl Model for Found {
+    ghost use Rattle.cc_history.specs.declared.entry.Receipt.{Receipt};
+    ghost use Rattle.cc_service.specs.Serving.{HasUnit};
+
+    ghost Value = { Receipt };
+
+    ghost view = { λ f. f.receipt };
+
+    ghost invariant = { λ f. HasUnit f.receipt.entry };
+}
+
+impl Found {
+    pub(crate) fn new(receipt: Receipt) -> Found
+        requires { HasUnit receipt.entry }
+        ensures { result ≡ receipt }
+    {
+        Found { receipt }
+    }
+
+    /// The receipt. It takes no memory.
+    pub fn receipt(&self) -> &Receipt
+        ensures { result.now ≡ self.now }
+    {
+        &self.receipt
+    }
+
+    /// The unit. It takes no memory.
+    pub fn unit(&self) -> &SharedUnit
+        ensures { self.now.entry.reply ≡ reply.Unit result.now }
+    {
+        match &self.receipt.entry.entry().reply {
+            Reply::Unit(unit) => unit,
+            _ => unreachable!(),
+        }
+    }
+}
+
+/// The answer of `list`: its receipt, and all names in the order of their bytes. A clause sees the receipt, whose entry has the names.
+#[derive(Drop)]
+pub struct Listing {
+    receipt: Receipt,
+}
+
+impl Model for Listing {
+    ghost use Rattle.cc_history.specs.declared.entry.Receipt.{Receipt};
+    ghost use Rattle.cc_service.specs.Serving.{HasNames};
+
+    ghost Value = { Receipt };
+
+    ghost view = { λ l. l.receipt };
+
+    ghost invariant = { λ l. HasNames l.receipt.entry };
+}
+
+impl Listing {
+    pub(crate) fn new(receipt: Receipt) -> Listing
+        requires { HasNames receipt.entry }
+        ensures { result ≡ receipt }
+    {
+        Listing { receipt }
+    }
+
+    /// The receipt. It takes no memory.
+    pub fn receipt(&self) -> &Receipt
+        ensures { result.now ≡ self.now }
+    {
+        &self.receipt
+    }
+
+    /// The names. It takes no memory.
+    pub fn names(&self) -> &NameList
+        ensures { self.now.entry.reply ≡ reply.Names result.now }
+    {
+        match &self.receipt.entry.entry().reply {
+            Reply::Names(names) => names,
+            _ => unreachable!(),
+        }
+    }
+}
+
+/// Whether the entry of a receipt has a unit.
+pub(crate) fn has_unit(receipt: &Receipt) -> bool
+    ensures { IsTrue result ↔ HasUnit receipt.now.entry }
+{
+    matches!(&receipt.entry.entry().reply, Reply::Unit(_))
+}

@@ -1,0 +1,314 @@
+// The service.
+ghost use Rattle.std.specs.Prelude.{◌≡◌, ◌≤◌, ℕ, List, [], false, IsTrue, IfErr, IfOk, map};
+ghost use Rattle.cc_disk.specs.Images.{OnlyReads};
+ghost use Rattle.cc_library.specs.Apply.{Units};
+ghost use Rattle.cc_library.specs.Recovered.{Recovers};
+ghost use Rattle.cc_history.specs.Closing.{AreOwn, IsClosed};
+ghost use Rattle.cc_history.specs.History.{EachAgrees, IsLegal, units_after};
+ghost use Rattle.cc_service.specs.Book.{AllAgreed, RecoversTo};
+ghost use Rattle.cc_service.specs.Client.{holders};
+ghost use Rattle.cc_service.specs.Promise.{SurvivesCrash};
+ghost use Rattle.cc_service.specs.Serving.{Adds, GetAnswers, IsNotCompacted, IsNotEnded, IsNotOpened, IsTurnedAway, ListAnswers, PutAnswers, Replaces, WithdrawAnswers};
+ghost use Rattle.cc_service.specs.Answers.{IsLook};
+ghost use Rattle.cc_service.specs.internal.Under.{IsSeen, MakesAnswers};
+ghost use Rattle.cc_service.specs.declared.fault.BookFault.{BookFault};
+ghost use Rattle.cc_service.specs.declared.fault.ServiceFault.TheVariants as service;
+
+use crate::answers::{Found, Listing, has_unit};
+use crate::book::Book;
+use crate::client::Client;
+use crate::closing::Closed;
+use crate::compiling::compiled;
+use crate::desk::Desk;
+use crate::fault::{BookFault, ServiceFault};
+use crate::named::{Fresh, Named};
+use cc_disk::Disk;
+use cc_history::{Asked, Command, Receipt};
+use cc_library::Name;
+use cc_pool::{Gate, Pool, PoolFault};
+use std::alloc::Global;
+use std::sync::{Mutex, Wait};
+use std::thread::Threads;
+
+/// A library for many clients on threads of their own. Workers compile function by function; changes are committed one at a time, under
+/// the book's lock.
+///
+/// Each call is made from the caller's own thread. A worker holds no lock, and parsing, checking, compiling and linking come before the
+/// book's lock is taken. No two locks are ever held together.
+#[derive(Drop)]
+pub struct Service<N: Named, D: Disk> {
+    book: Mutex<Book<N, D>>,
+    desk: Mutex<Desk<N>>,
+    pool: Pool<N>,
+}
+
+impl<N: Named + Send + Sync + 'static, D: Disk> Service<N, D> {
+    /// Opens the library on a disk, and starts so many workers, 1 to 8, which pass the gate before each piece.
+    ///
+    /// Refusals, with the disk handed back: 35, 38, 37 and 40 as the library's opening has them; then 41 where a thread could not be
+    /// started, or 40. None of the workers is left then. No refusal changes a byte.
+    pub fn open<R, G>(
+        rt: &R,
+        alloc: Global,
+        fresh: Fresh,
+        disk: D,
+        workers: usize,
+        gate: G,
+    ) -> Result<Service<N, D>, (ServiceFault, D)>
+    where
+        R: Threads + Wait + Copy + Send + 'static,
+        G: Gate + Drop + Send + Sync + 'static,
+        // The parameter names this ledger and this queue, and, where an honest disk's bytes recover to a map, that map.
+        requires ledger { fresh.ledger ≡ N.name }
+        requires parts { N.parts ≡ 1025 }
+        requires queue { fresh.queue ≡ N.queue }
+        requires named { IsTrue D.honest → (units : Units) → Recovers (D.seen disk) units → units ≡ N.base }
+        requires some { 1 ≤ workers }
+        requires few { workers ≤ 8 }
+        ensures recovered { IfOk result (λ _. IsTrue D.honest → Recovers (D.seen disk) N.base) }
+        ensures refused { IfErr result (λ e. IsNotOpened D.honest (D.seen disk) N.base (D.failures disk) (D.failures e.1) e.0) }
+        ensures size { IfErr result (λ e. D.size e.1 ≡ D.size disk) }
+        ensures reads { IfErr result (λ e. IsTrue D.honest → OnlyReads D.seen D.may_leave D.moment D.left_since disk e.1) }
+    {
+        let Fresh { blank, queue } = fresh;
+        let (calls, rest) = blank.open::<N>();
+        let book = match Book::open(alloc, disk, calls) {
+            Ok(book) => book,
+            Err((fault, disk)) => {
+                drop(queue);
+                return Err((ServiceFault::Opening(fault), disk));
+            }
+        };
+        match Pool::start(rt, alloc, queue, workers, gate) {
+            Ok(pool) => Ok(Service {
+                book: Mutex::new(book),
+                desk: Mutex::new(Desk::new(rest)),
+                pool,
+            }),
+            Err(PoolFault::OutOfMemory) => Err((ServiceFault::OutOfMemory, book.into_disk())),
+            Err(_) => Err((ServiceFault::WorkersGone, book.into_disk())),
+        }
+    }
+
+    /// One more client, which has made no call. Its number is that of the clients made before.
+    ///
+    /// 30 where 1,024 were made.
+    pub fn client<R: Wait>(&self, rt: &R, alloc: Global) -> Result<Client<N>, ServiceFault>
+        ensures ok { IfOk result (λ c. (c.holder.receipts ≡ []) × (c.sent ≡ [])) }
+        ensures err { IfErr result (λ fault. fault ≡ service.TooManyClients) }
+    {
+        // The desk's lock is let go before the pool's is taken.
+        let seat = self.desk.lock(rt).seat(alloc);
+        match seat {
+            Some(member) => {
+                let pass = self.pool.pass(rt);
+                Ok(Client { member, pass })
+            }
+            None => Err(ServiceFault::TooManyClients),
+        }
+    }
+
+    /// Compiles a text and adds its unit under a name that has none.
+    ///
+    /// Refusals, in this order: 33; 7, 1 to 6, 11 to 21 of the text; 22 or 24 of the least function that was refused; 41, 25; then under
+    /// the lock 36, 39, 31, 34, 35. 40 where memory ran out. Of these 31 has a receipt; the others leave number and receipts of the
+    /// client as they were, and its pass may have sent some of the functions.
+    pub fn add<R: Wait>(
+        &self,
+        rt: &R,
+        alloc: Global,
+        client: &mut Client<N>,
+        name: &[u8],
+        source: &[u8],
+    ) -> Result<Receipt, ServiceFault>
+        ensures { PutAnswers (Adds name.now source.now) name.now source.now client.old.holder client.new.holder result }
+    {
+        let Ok(name) = Name::new(name) else {
+            return Err(ServiceFault::BadName);
+        };
+        match compiled(rt, alloc, &self.pool, &mut client.pass, source) {
+            Ok(unit) => self.change(rt, alloc, client, Command::Add(name, unit)),
+            Err(fault) => Err(fault),
+        }
+    }
+
+    /// Compiles a text and puts its unit in place of that of a name.
+    ///
+    /// Refusals as `add` has them, with 32 in place of 31.
+    pub fn replace<R: Wait>(
+        &self,
+        rt: &R,
+        alloc: Global,
+        client: &mut Client<N>,
+        name: &[u8],
+        source: &[u8],
+    ) -> Result<Receipt, ServiceFault>
+        ensures { PutAnswers (Replaces name.now source.now) name.now source.now client.old.holder client.new.holder result }
+    {
+        let Ok(name) = Name::new(name) else {
+            return Err(ServiceFault::BadName);
+        };
+        match compiled(rt, alloc, &self.pool, &mut client.pass, source) {
+            Ok(unit) => self.change(rt, alloc, client, Command::Replace(name, unit)),
+            Err(fault) => Err(fault),
+        }
+    }
+
+    /// Takes the unit of a name out.
+    ///
+    /// Refusals, in this order: 33, 36, 39, 32, 34, 35. 40 where memory ran out. Of these 32 has a receipt; the others leave the client
+    /// as it was.
+    pub fn withdraw<R: Wait>(
+        &self,
+        rt: &R,
+        alloc: Global,
+        client: &mut Client<N>,
+        name: &[u8],
+    ) -> Result<Receipt, ServiceFault>
+        ensures answers { WithdrawAnswers name.now client.old.holder client.new.holder result }
+        ensures sent { client.new.sent ≡ client.old.sent }
+    {
+        let Ok(name) = Name::new(name) else {
+            return Err(ServiceFault::BadName);
+        };
+        self.change(rt, alloc, client, Command::Withdraw(name))
+    }
+
+    // Makes a change under the book's lock.
+    fn change<R: Wait>(
+        &self,
+        rt: &R,
+        alloc: Global,
+        client: &mut Client<N>,
+        command: Command,
+    ) -> Result<Receipt, ServiceFault>
+        ensures answers { MakesAnswers command client.old.holder client.new.holder result }
+        ensures sent { client.new.sent ≡ client.old.sent }
+    {
+        let answer = self.book.lock(rt).commit(alloc, client, command);
+        match answer {
+            Ok(receipt) => Ok(receipt),
+            Err(fault) => Err(ServiceFault::Book(fault)),
+        }
+    }
+
+    /// The unit of a name.
+    ///
+    /// Refusals, in this order: 33, 39, 32. 40 where memory ran out. Of these 32 has a receipt; the others leave the client as it was.
+    pub fn get<R: Wait>(
+        &self,
+        rt: &R,
+        alloc: Global,
+        client: &mut Client<N>,
+        name: &[u8],
+    ) -> Result<Found, ServiceFault>
+        ensures answers { GetAnswers name.now client.old.holder client.new.holder result }
+        ensures sent { client.new.sent ≡ client.old.sent }
+    {
+        let Ok(name) = Name::new(name) else {
+            return Err(ServiceFault::BadName);
+        };
+        match self.look(rt, alloc, client, Asked::Fetch(name)) {
+            Ok(receipt) => if has_unit(&receipt) {
+                Ok(Found::new(receipt))
+            } else {
+                Err(ServiceFault::Book(BookFault::Absent(receipt)))
+            },
+            Err(fault) => Err(ServiceFault::Book(fault)),
+        }
+    }
+
+    /// All names that have a unit, in the order of their bytes.
+    ///
+    /// 39; 40 where memory ran out. Both leave the client as it was.
+    pub fn list<R: Wait>(
+        &self,
+        rt: &R,
+        alloc: Global,
+        client: &mut Client<N>,
+    ) -> Result<Listing, ServiceFault>
+        ensures answers { ListAnswers client.old.holder client.new.holder result }
+        ensures sent { client.new.sent ≡ client.old.sent }
+    {
+        match self.look(rt, alloc, client, Asked::Names) {
+            Ok(receipt) => Ok(Listing::new(receipt)),
+            Err(fault) => Err(ServiceFault::Book(fault)),
+        }
+    }
+
+    // Looks under the book's lock.
+    fn look<R: Wait>(
+        &self,
+        rt: &R,
+        alloc: Global,
+        client: &mut Client<N>,
+        asked: Asked,
+    ) -> Result<Receipt, BookFault>
+        requires { IsLook asked }
+        ensures ok { IfOk result (λ receipt. IsSeen asked client.old.holder client.new.holder receipt) }
+        ensures err { IfErr result (λ fault. IsTurnedAway client.old.holder client.new.holder fault) }
+        ensures sent { client.new.sent ≡ client.old.sent }
+    {
+        self.book.lock(rt).look(alloc, client, asked)
+    }
+
+    /// Writes the library's records anew, one for each name. The map stays, and the history gets no entry.
+    ///
+    /// Refusals, in this order: 36, 34, 35. 40 where memory ran out.
+    pub fn compact<R: Wait>(&self, rt: &R, alloc: Global) -> Result<(), ServiceFault>
+        ensures { IfErr result (λ fault. (f : BookFault) × (fault ≡ service.Book f) × IsNotCompacted f) }
+    {
+        let answer = self.book.lock(rt).compact(alloc);
+        match answer {
+            Ok(()) => Ok(()),
+            Err(fault) => Err(ServiceFault::Book(fault)),
+        }
+    }
+
+    /// Ends the service, with all its clients.
+    ///
+    /// 39 for the first receipt that does not stand; 39 with the history's length and no entry where these are not all the clients that
+    /// it made; 40 where memory ran out. Service and clients are handed back then, and no worker was stopped. That the workers end as they
+    /// should changes nothing in the answer.
+    pub fn finish<R: Wait>(
+        self,
+        rt: &R,
+        alloc: Global,
+        clients: Vec<Client<N>>,
+    ) -> Result<Closed<D>, (ServiceFault, Service<N, D>, Vec<Client<N>>)>
+        ensures base { IfOk result (λ r. IsTrue D.honest → r.base ≡ N.base) }
+        ensures legal { IfOk result (λ r. IsLegal r.base r.history.items) }
+        ensures library { IfOk result (λ r. r.library.units ≡ units_after r.base r.history.items) }
+        ensures closed { IfOk result (λ r. IsClosed r.history.items (holders clients.items)) }
+        ensures receipts { IfOk result (λ r. map (λ v. v.items) r.receipts.items ≡ map (λ c. c.receipts) (holders clients.items)) }
+        ensures images { IfOk result (λ r. IsTrue D.honest → (image : List ℕ) → D.may_leave r.library.disk image → RecoversTo r.library.units r.failed.items image) }
+        ensures idle { IfOk result (λ r. r.library.closed ≡ false → r.failed.items ≡ []) }
+        ensures agrees { IfOk result (λ r. EachAgrees r.base r.library.units) }
+        ensures agrees_failed { IfOk result (λ r. AllAgreed r.failed.items) }
+        ensures own { IfOk result (λ _. AreOwn (holders clients.items)) }
+        // What a crash then leaves of the disk holds each acknowledged command.
+        ensures survives { IfOk result (λ r. IsTrue D.honest → (image : List ℕ) → D.may_leave r.library.disk image
+            → SurvivesCrash (record { base = r.base; library = r.library; history = r.history.items; failed = r.failed.items }) image) }
+        ensures back { IfErr result (λ e. e.2 ≡ clients) }
+        ensures refused { IfErr result (λ e. IsNotEnded e.0) }
+    {
+        let Service { book, desk, pool } = self;
+        let book = book.into_inner();
+        let Desk { made, rest } = desk.into_inner();
+        match book.ready(alloc, made, clients.as_slice()) {
+            Ok(left) => {
+                let (closed, passes) = book.end(rest, clients, left);
+                drop(pool.finish(rt, passes));
+                Ok(closed)
+            }
+            Err(fault) => {
+                let service = Service {
+                    book: Mutex::new(book),
+                    desk: Mutex::new(Desk { made, rest }),
+                    pool,
+                };
+                Err((ServiceFault::Book(fault), service, clients))
+            }
+        }
+    }
+}
