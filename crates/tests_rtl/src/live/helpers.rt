@@ -114,7 +114,7 @@ pub struct Left {
 
 fn nodes_left(pair: &RtlPair) -> usize {
     let code = pair.code();
-    let mut left = 0;
+    let mut left: usize = 0;
     for label in 0..code.len() {
         if !matches!(code.node(label), Node::Nop { .. }) {
             left = left.saturating_add(1);
