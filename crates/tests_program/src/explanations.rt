@@ -15,7 +15,7 @@ static CHECKED: [(&str, &str, &str); 4] = [
     (
         "int main(void){return 1 2;}",
         "fault 5 Unexpected at 1:25\n",
-        "-:1:25: unexpected '2', expected ';'\n    1 | int main(void){return 1 2;}\n      |                         ^\n",
+        "-:1:24: expected ';' before '2'\n    1 | int main(void){return 1 2;}\n      |                        ^\n",
     ),
     (
         "int add(int a,int b){return a+b;}\nint main(void){add(1);}",

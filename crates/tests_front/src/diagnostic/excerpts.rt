@@ -85,7 +85,13 @@ fn long_names(rt: HostRuntime) {
 // Whether a diagnostic at an offset of a text is written so.
 fn writes(alloc: Global, text: &[u8], at: Option<usize>, told: &str) -> Result<bool, AllocError> {
     let message = String::from_str(alloc, "this")?;
-    let lines = written(alloc, text, Some(Diagnostic { at, message }))?;
+    let related = None;
+    let diagnostic = Diagnostic {
+        at,
+        message,
+        related,
+    };
+    let lines = written(alloc, text, Some(diagnostic))?;
     Ok(lines.as_slice() == told.as_bytes())
 }
 

@@ -401,11 +401,7 @@ static FIRST_HOUR: [Row; 104] = [
         "2:14",
         "U+2018",
     ),
-    (
-        "",
-        "1:1",
-        "unexpected end of the text, expected a type",
-    ),
+    ("", "1:1", "unexpected end of the text, expected a type"),
     (
         "int main(void) {\n  int $x = 1;\n  write_word($x);\n  return 0;\n}\n",
         "2:7",
@@ -493,7 +489,7 @@ static FIRST_HOUR: [Row; 104] = [
     ),
     (
         "int main(void) {\n  int x = read_word();\n  x =+ 2;\n  x === 3;\n  return x;\n}\n",
-        "4:7",
+        "4:5",
         "did you mean '=='?",
     ),
     (
@@ -590,21 +586,9 @@ static OTHERS: [Row; 59] = [
         "1:32",
         "write ||",
     ),
-    (
-        "int main(void){int x=true;}",
-        "1:22",
-        "write 1",
-    ),
-    (
-        "int main(void){size_t n=0;}",
-        "1:16",
-        "write unsigned",
-    ),
-    (
-        "int main(void){printf(1);}",
-        "1:16",
-        "write_word",
-    ),
+    ("int main(void){int x=true;}", "1:22", "write 1"),
+    ("int main(void){size_t n=0;}", "1:16", "write unsigned"),
+    ("int main(void){printf(1);}", "1:16", "write_word"),
     (
         "union u{int a;int b;};\nint main(void){}",
         "1:1",
@@ -740,26 +724,10 @@ static OTHERS: [Row; 59] = [
         "1:7",
         "9 is no octal digit",
     ),
-    (
-        "\u{feff}int main(void){}",
-        "1:1",
-        "byte order mark",
-    ),
-    (
-        "int main(void){return 3 \u{2013} 2;}",
-        "1:25",
-        "U+2013",
-    ),
-    (
-        "int main(void){\u{a0}return 3;}",
-        "1:16",
-        "U+00A0",
-    ),
-    (
-        "int caf\u{e9};",
-        "1:8",
-        "U+00E9",
-    ),
+    ("\u{feff}int main(void){}", "1:1", "byte order mark"),
+    ("int main(void){return 3 \u{2013} 2;}", "1:25", "U+2013"),
+    ("int main(void){\u{a0}return 3;}", "1:16", "U+00A0"),
+    ("int caf\u{e9};", "1:8", "U+00E9"),
     (
         "int main(void){\n  return 0\n}",
         "2:11",
