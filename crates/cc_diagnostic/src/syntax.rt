@@ -94,7 +94,10 @@ fn instead(alloc: Global, around: &Around<'_>, list: &[&str]) -> Result<Told, Al
 fn missing(alloc: Global, around: &Around<'_>, list: &[&str]) -> Result<Told, AllocError> {
     let mut message = String::from_str(alloc, "expected ")?;
     add_list(&mut message, list)?;
-    let found = around.found();
+    let found = match around.next(0) {
+        Some(_) => around.found(),
+        None => Part::Words("the end of the text"),
+    };
     write!(message, " before {found}")?;
     Ok(Told {
         at: around.end_before(),
@@ -126,6 +129,14 @@ fn by_list(alloc: Global, around: &Around<'_>, list: &[&str]) -> Result<Told, Al
     }
 }
 
+// Whether a list begins with a name.
+fn is_name(list: &[&str]) -> bool {
+    match list.first() {
+        Some(first) => *first == "a name",
+        None => false,
+    }
+}
+
 // What is told of a token for a reason.
 fn for_reason(
     alloc: Global,
@@ -137,11 +148,12 @@ fn for_reason(
         alloc,
         &[Part::Words("unexpected "), Part::Token(reason.found)],
     )?;
-    let name: &[&str] = match list.first() {
-        Some(first) if *first == "a name" && reason.is_keyword => list,
-        _ => &[],
+    let count = if reason.is_keyword && is_name(list) {
+        list.len()
+    } else {
+        0
     };
-    let mut message = with_list(before, name)?;
+    let mut message = with_list(before, list.get(..count).unwrap_or(list))?;
     let (said, spelling, end) = (reason.said, reason.spelling, reason.end);
     write!(message, ": {said}{spelling}{end}")?;
     Ok(Told {

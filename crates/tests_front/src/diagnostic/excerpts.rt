@@ -18,7 +18,7 @@ static LINES: [(&[u8], &str); 9] = [
     // the end of the text, with an end of its line before it or none
     (
         b"int x",
-        "-:1:6: unexpected end of the text, expected '=', '(', '[', ',' or ';'\n    1 | int x\n      |      ^\n",
+        "-:1:6: expected '=', '(', '[', ',' or ';' before the end of the text\n    1 | int x\n      |      ^\n",
     ),
     (
         b"int x;\n",
@@ -45,7 +45,7 @@ static LINES: [(&[u8], &str); 9] = [
     ),
     (
         b"int \xc3\xa9;",
-        "-:1:5: byte 0xc3 begins no token\n    1 | int \u{e9};\n      |     ^\n",
+        "-:1:5: U+00E9 begins no token: names have letters, digits and _ alone in this C, and outside comments there is no other\n    1 | int \u{e9};\n      |     ^\n",
     ),
 ];
 
