@@ -41,10 +41,30 @@ fn is_closing(byte: u8) -> bool {
     byte == b')' || byte == b']' || byte == b'}'
 }
 
+// How many tokens begin before an offset.
+fn count_before(tokens: &[Token], at: usize) -> usize {
+    for (i, token) in tokens.iter().enumerate() {
+        if token.from >= at {
+            return i;
+        }
+    }
+    tokens.len()
+}
+
+// Whether a word stands in a list.
+fn is_listed(list: &[&str], word: &[u8]) -> bool {
+    for listed in list {
+        if listed.as_bytes() == word {
+            return true;
+        }
+    }
+    false
+}
+
 impl<'a> Around<'a> {
     /// What stands around the token of these that begins at an offset, or around the end of the text.
     pub fn new(text: &'a [u8], tokens: &'a [Token], at: usize) -> Around<'a> {
-        let count = tokens.iter().take_while(|token| token.from < at).count();
+        let count = count_before(tokens, at);
         Around {
             text,
             before: tokens.get(..count).unwrap_or(tokens),
@@ -83,8 +103,10 @@ impl<'a> Around<'a> {
 
     /// The bytes of the last token before an offset.
     pub fn last_before(&self, at: usize) -> &'a [u8] {
-        let token = self.before.iter().rev().find(|token| token.from < at);
-        self.bytes(token.copied())
+        match count_before(self.before, at).checked_sub(1) {
+            Some(place) => self.bytes(self.before.get(place).copied()),
+            None => b"",
+        }
     }
 
     /// The token, or one behind it; nothing past the end of the text.
@@ -124,7 +146,12 @@ impl<'a> Around<'a> {
 
     /// Whether a word stands among the tokens before an offset.
     pub fn stands_before(&self, word: &[u8], at: usize) -> bool {
-        self.before.iter().any(|token| token.from < at && self.bytes(Some(*token)) == word)
+        for token in self.before {
+            if token.from < at && self.bytes(Some(*token)) == word {
+                return true;
+            }
+        }
+        false
     }
 
     /// The number of the innermost bracket that is open behind the first tokens, so many.
@@ -216,7 +243,7 @@ impl<'a> Around<'a> {
             Some(token) => matches!(token.kind, TokenKind::Identifier | TokenKind::Number(_, _)),
             None => false,
         };
-        if !is_operand && list.iter().any(|word| word.as_bytes() == closing) {
+        if !is_operand && is_listed(list, closing) {
             self.note(Some(bracket))
         } else {
             None

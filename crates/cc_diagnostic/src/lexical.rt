@@ -110,7 +110,12 @@ fn begins(number: &[u8], lower: &[u8], upper: &[u8]) -> bool {
 
 // Whether a number has one of some bytes.
 fn has(number: &[u8], bytes: &[u8]) -> bool {
-    number.iter().any(|b| bytes.contains(b))
+    for b in number {
+        if bytes.contains(b) {
+            return true;
+        }
+    }
+    false
 }
 
 // Why a number is no constant.

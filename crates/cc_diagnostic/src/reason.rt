@@ -50,7 +50,12 @@ fn is_name(token: Option<Token>) -> bool {
 }
 
 fn is_one_of(bytes: &[u8], words: &[&[u8]]) -> bool {
-    words.iter().any(|word| *word == bytes)
+    for word in words {
+        if *word == bytes {
+            return true;
+        }
+    }
+    false
 }
 
 // What is said of `[`, by what stands before it.

@@ -111,13 +111,23 @@ fn ends(word: &str) -> bool {
     matches!(word.as_bytes(), [_, b';' | b')' | b']' | b'}', _])
 }
 
+// Whether one word of a list ends something.
+fn one_ends(list: &[&str]) -> bool {
+    for word in list {
+        if ends(word) {
+            return true;
+        }
+    }
+    false
+}
+
 // Whether a list has only what ends or separates something, and something that ends it.
 fn is_missing(list: &[&str]) -> bool {
     let begins = match list.first() {
         Some(first) => !first.starts_with("'") || *first == "'('" || *first == "'while'",
         None => true,
     };
-    !begins && list.iter().any(|word| ends(word))
+    !begins && one_ends(list)
 }
 
 // What is told of a token by what could stand in its place.

@@ -150,17 +150,23 @@ impl<'a> Walk<'a> {
         }
     }
 
+    // Whether the instructions from a number on call something.
+    fn calls_since(&self, start: usize) -> bool {
+        for i in start..self.code.len() {
+            if let Some(Instruction::Call(_, _) | Instruction::Read | Instruction::Write) = self
+                .code
+                .get(i)
+            {
+                return true;
+            }
+        }
+        false
+    }
+
     // Warns of an expression whose value is not used, where the instructions from a number on call nothing.
     fn warn_of_effect(&mut self, start: usize) {
-        let code = self.code.get(start..).unwrap_or(&[]);
-        let acts = code.iter().any(|instruction| {
-            matches!(
-                instruction,
-                Instruction::Call(_, _) | Instruction::Read | Instruction::Write
-            )
-        });
         if let Some(at) = self.first
-            && !acts
+            && !self.calls_since(start)
         {
             self.warn(Warning::NoEffect(at));
         }
