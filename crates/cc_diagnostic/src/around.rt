@@ -144,6 +144,11 @@ impl<'a> Around<'a> {
         }
     }
 
+    /// Whether a line ends between the last token before it and the token.
+    pub fn begins_line(&self) -> bool {
+        self.between(self.end_before(), self.at).contains(&b'\n')
+    }
+
     /// Whether a word stands among the tokens before an offset.
     pub fn stands_before(&self, word: &[u8], at: usize) -> bool {
         for token in self.before {

@@ -323,4 +323,7 @@ pub const LABELS: &str = "there are no labels in this C; write a loop, with brea
 pub const INNER_FUNCTIONS: &str =
     "there are no functions inside a function; declare it at file scope, before this one";
 
+pub const NO_TARGET: &str =
+    "it stands behind no variable and no element of an array, and nothing else can be written to";
+
 pub const VOID_CASTS: &str = "there are no casts to void in this C; leave it out";

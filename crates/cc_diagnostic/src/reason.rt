@@ -3,7 +3,7 @@
 use super::around::Around;
 use super::left_out::{
     ACTIONS, ARRAY_PARAMETERS, COMMA, DESIGNATORS, FOREIGN, INNER_FUNCTIONS, KEYWORDS, LABELS,
-    LISTS, LOCAL_ARRAYS, POINTERS, ROWS, STRUCTURES, VOID_CASTS, said_of,
+    LISTS, LOCAL_ARRAYS, NO_TARGET, POINTERS, ROWS, STRUCTURES, VOID_CASTS, said_of,
 };
 use super::near::near_keyword;
 use cc_tokens::{Token, TokenKind};
@@ -80,8 +80,11 @@ fn is_behind_target(around: &Around<'_>) -> bool {
 
 // What is said of an operator that makes a statement.
 fn of_action(around: &Around<'_>, bytes: &[u8]) -> Option<&'static str> {
+    let said = said_of(&ACTIONS, bytes)?;
     if is_behind_target(around) || is_name(around.next(1)) {
-        said_of(&ACTIONS, bytes)
+        Some(said)
+    } else if around.is(around.last(0), b")") && around.is_in_braces() {
+        Some(NO_TARGET)
     } else {
         None
     }
@@ -120,6 +123,14 @@ fn of_parenthesis(around: &Around<'_>) -> Option<&'static str> {
     }
 }
 
+// Whether a function is declared where a statement could stand.
+fn is_inner_function(around: &Around<'_>) -> bool {
+    let last = around.bytes(around.last(0));
+    around.is(around.next(0), b"void")
+        && is_one_of(last, &[b";", b"{", b"}"])
+        && around.is_in_braces()
+}
+
 fn is_void_cast(around: &Around<'_>) -> bool {
     around.is(around.next(0), b"void") && around.is(around.last(0), b"(")
 }
@@ -135,6 +146,7 @@ fn said(around: &Around<'_>, bytes: &[u8]) -> Option<&'static str> {
         [b'{'] if is_one_of(around.bytes(around.last(0)), &[b"=", b"{", b","]) => Some(LISTS),
         [b';'] if around.is(around.last(0), b"}") => Some("leave it out"),
         _ if is_void_cast(around) => Some(VOID_CASTS),
+        _ if is_inner_function(around) => Some(INNER_FUNCTIONS),
         _ => of_action(around, bytes),
     }
 }
@@ -150,14 +162,15 @@ fn left_out<'a>(around: &Around<'a>) -> Option<Reason<'a>> {
         }
         None => {
             reason.said = said(around, bytes)?;
-            reason.shows_open = around.is(around.next(0), b"(");
+            reason.shows_open = reason.said == INNER_FUNCTIONS;
         }
     }
     Some(reason)
 }
 
 // Two tokens that were meant to be one, or another one.
-static JOINED: [(&[u8], &[u8], &str); 8] = [
+static JOINED: [(&[u8], &[u8], &str); 9] = [
+    (b":", b"=", "="),
     (b"=", b">", ">="),
     (b"=", b"<", "<="),
     (b"==", b"=", "=="),
@@ -224,7 +237,19 @@ fn misspelt<'a>(around: &Around<'a>) -> Option<Reason<'a>> {
         .or(of_name(around, around.before_open()))
 }
 
+// That the token makes a label of the name before it.
+fn label<'a>(around: &Around<'a>) -> Option<Reason<'a>> {
+    if around.is(around.next(0), b":") {
+        left_out(around)
+    } else {
+        None
+    }
+}
+
 /// Why no text goes on with the token, where that can be said.
 pub fn find_reason<'a>(around: &Around<'a>) -> Option<Reason<'a>> {
-    joined(around).or(misspelt(around)).or(left_out(around))
+    joined(around)
+        .or(label(around))
+        .or(misspelt(around))
+        .or(left_out(around))
 }

@@ -177,6 +177,11 @@ fn for_reason(
     })
 }
 
+// Whether a reason gives way where something is missing: what is missing may be the end of the line before.
+fn gives_way(around: &Around<'_>, reason: Reason<'_>) -> bool {
+    reason.is_keyword || (reason.at == around.at() && around.begins_line())
+}
+
 // What is told of a token of these with which no text goes on.
 fn unexpected_of(
     alloc: Global,
@@ -187,12 +192,9 @@ fn unexpected_of(
     let around = Around::new(text, tokens, at);
     let list = expected(alloc, text, tokens, at)?;
     let told = match find_reason(&around) {
-        Some(reason) if !reason.is_keyword || !is_missing(list.as_slice()) => for_reason(
-            alloc,
-            &around,
-            reason,
-            list.as_slice(),
-        ),
+        Some(reason) if !(is_missing(list.as_slice()) && gives_way(&around, reason)) => {
+            for_reason(alloc, &around, reason, list.as_slice())
+        }
         _ => by_list(alloc, &around, list.as_slice()),
     };
     drop(list);

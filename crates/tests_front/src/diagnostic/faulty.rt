@@ -530,7 +530,7 @@ static FIRST_HOUR: [Row; 104] = [
 ];
 
 // Others: words that are misspelt, C that is left out, numbers and bytes, what is missing, constant expressions, warnings.
-static OTHERS: [Row; 59] = [
+static OTHERS: [Row; 65] = [
     (
         "int main(void){\n  unsinged y=2;\n}",
         "2:3",
@@ -752,6 +752,36 @@ static OTHERS: [Row; 59] = [
         "int main(void){\n  while(1){\n    write_word(1);\n}",
         "4:2",
         "-:1:15: note: this '{' is not closed",
+    ),
+    (
+        "int main(void){\n  int x=1;\n  (x)=2;\n}",
+        "3:6",
+        "behind no variable",
+    ),
+    (
+        "int main(void){\n  int x;\n  x:=5;\n}",
+        "3:4",
+        "did you mean '='?",
+    ),
+    (
+        "int main(void){\n  int x=0;\n  x=1\n  printf(x);\n}",
+        "3:6",
+        "expected ';' before 'printf'",
+    ),
+    (
+        "int main(void){\nretry:\n  return 0;\n}",
+        "2:6",
+        "there are no labels in this C",
+    ),
+    (
+        "int f(void){\n  return 1;\nvoid g(void){\n}",
+        "3:1",
+        "-:1:12: note: this '{' is not closed",
+    ),
+    (
+        "int main(void){\n  int x=1\n  static int y;\n}",
+        "2:10",
+        "expected ',' or ';' before 'static'",
     ),
     (
         "int f(void);\nint a[f()];\nint main(void){}",
