@@ -8,17 +8,15 @@ use super::left_out::{
 use super::near::near_keyword;
 use cc_tokens::{Token, TokenKind};
 
-/// A reason: the offset and the bytes of what it is about, and what is said: words, a spelling, and words again. Whether it is a keyword
-/// that is left out, and whether the brace is shown that is open.
+/// A reason: the offset and the bytes of what it is about, what is said, and the spelling that was meant, where one was. Whether it is a
+/// keyword that is left out.
 #[derive(Clone, Copy)]
 pub struct Reason<'a> {
     pub at: usize,
     pub found: &'a [u8],
     pub said: &'static str,
-    pub spelling: &'static str,
-    pub end: &'static str,
+    pub meant: Option<&'static str>,
     pub is_keyword: bool,
-    pub shows_open: bool,
 }
 
 // A reason that is words alone.
@@ -27,19 +25,20 @@ fn plain<'a>(at: usize, found: &'a [u8], said: &'static str) -> Reason<'a> {
         at,
         found,
         said,
-        spelling: "",
-        end: "",
+        meant: None,
         is_keyword: false,
-        shows_open: false,
     }
 }
 
 // That another spelling was meant.
 fn meant<'a>(at: usize, found: &'a [u8], spelling: &'static str) -> Reason<'a> {
-    let mut reason = plain(at, found, "did you mean '");
-    reason.spelling = spelling;
-    reason.end = "'?";
-    reason
+    Reason {
+        at,
+        found,
+        said: "did you mean ",
+        meant: Some(spelling),
+        is_keyword: false,
+    }
 }
 
 fn is_name(token: Option<Token>) -> bool {
@@ -154,18 +153,16 @@ fn said(around: &Around<'_>, bytes: &[u8]) -> Option<&'static str> {
 // What is left out of this C, where the token is so.
 fn left_out<'a>(around: &Around<'a>) -> Option<Reason<'a>> {
     let bytes = around.bytes(around.next(0));
-    let mut reason = plain(around.at(), bytes, "");
     match said_of(&KEYWORDS, bytes) {
-        Some(said) => {
-            reason.said = said;
-            reason.is_keyword = true;
-        }
-        None => {
-            reason.said = said(around, bytes)?;
-            reason.shows_open = reason.said == INNER_FUNCTIONS;
-        }
+        Some(said) => Some(Reason {
+            at: around.at(),
+            found: bytes,
+            said,
+            meant: None,
+            is_keyword: true,
+        }),
+        None => Some(plain(around.at(), bytes, said(around, bytes)?)),
     }
-    Some(reason)
 }
 
 // Two tokens that were meant to be one, or another one.
@@ -231,25 +228,35 @@ fn of_name<'a>(around: &Around<'a>, name: Option<Token>) -> Option<Reason<'a>> {
 
 // That a word at the token or before it is misspelt.
 fn misspelt<'a>(around: &Around<'a>) -> Option<Reason<'a>> {
-    of_name(around, around.next(0))
-        .or(of_name(around, around.last(0)))
-        .or(of_name(around, around.before_closed()))
-        .or(of_name(around, around.before_open()))
+    let words = [
+        around.next(0),
+        around.last(0),
+        around.before_closed(),
+        around.before_open(),
+    ];
+    for word in &words {
+        if let Some(reason) = of_name(around, *word) {
+            return Some(reason);
+        }
+    }
+    None
 }
 
-// That the token makes a label of the name before it.
-fn label<'a>(around: &Around<'a>) -> Option<Reason<'a>> {
+// What is left out, or misspelt, of a token that is no part of another one.
+fn alone<'a>(around: &Around<'a>) -> Option<Reason<'a>> {
     if around.is(around.next(0), b":") {
-        left_out(around)
-    } else {
-        None
+        return left_out(around);
+    }
+    match misspelt(around) {
+        Some(reason) => Some(reason),
+        None => left_out(around),
     }
 }
 
 /// Why no text goes on with the token, where that can be said.
 pub fn find_reason<'a>(around: &Around<'a>) -> Option<Reason<'a>> {
-    joined(around)
-        .or(label(around))
-        .or(misspelt(around))
-        .or(left_out(around))
+    match joined(around) {
+        Some(reason) => Some(reason),
+        None => alone(around),
+    }
 }

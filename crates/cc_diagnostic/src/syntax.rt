@@ -9,6 +9,7 @@ ghost use Rattle.cc_tokens.specs.Fault.{fault_place};
 use super::around::Around;
 use super::diagnostic::{Diagnostic, Related};
 use super::expected::{Prefix, Reply};
+use super::left_out::INNER_FUNCTIONS;
 use super::lexical::{bad_byte, bad_constant, constant_too_large};
 use super::message::{Part, message, words};
 use super::offset::{moved, offset_in};
@@ -164,12 +165,15 @@ fn for_reason(
         0
     };
     let mut message = with_list(before, list.get(..count).unwrap_or(list))?;
-    let (said, spelling, end) = (reason.said, reason.spelling, reason.end);
-    write!(message, ": {said}{spelling}{end}")?;
+    let said = reason.said;
+    write!(message, ": {said}")?;
+    if let Some(spelling) = reason.meant {
+        write!(message, "'{spelling}'?")?;
+    }
     Ok(Told {
         at: reason.at,
         message,
-        related: if reason.shows_open {
+        related: if said == INNER_FUNCTIONS {
             around.outermost()
         } else {
             None
