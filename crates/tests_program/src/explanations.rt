@@ -5,8 +5,13 @@ use cc_program::perform_and_explain;
 use std::alloc::Global;
 
 // Texts, what `check` writes for each, and what is explained.
-static CHECKED: [(&str, &str, &str); 4] = [
+static CHECKED: [(&str, &str, &str); 5] = [
     ("int main(void){}", "ok\n", ""),
+    (
+        "int a[4];\nint main(void){return a[4];}",
+        "ok\n",
+        "-:2:23: warning: index 4 is outside a[4]\n    2 | int main(void){return a[4];}\n      |                       ^\n",
+    ),
     (
         "int main(void){\n totl=1;\n}",
         "fault 11 Unknown at 2:2\n",
