@@ -1,7 +1,7 @@
 // Faulty texts: the place on standard error, and key words of what is told there.
 //
-// The place is that of the first line, the key words stand anywhere behind it; both were fixed before what tells them was written. A
-// row without them is a program of which nothing is told.
+// The place is that of the first line, the key words stand anywhere behind it. A row without them is a program of which nothing is
+// told.
 
 use super::helpers::told_of;
 use std::alloc::Global;
@@ -830,7 +830,7 @@ static OTHERS: [Row; 65] = [
     ),
 ];
 
-// Whether the bytes have a line that begins so.
+// Whether the words stand among the bytes.
 fn has(bytes: &[u8], words: &[u8]) -> bool {
     words.is_empty() || bytes.windows(words.len()).any(|window| window == words)
 }
