@@ -6,27 +6,51 @@ use cc_tokens::{Place, place_at};
 use std::alloc::{AllocError, Global};
 use std::io::{self, Write};
 
-/// What is told of a text: a message, and the offset of the byte that it is about, where it is about one. An offset past the text's
-/// end counts as its end.
+/// Another place of a text that a message has to do with, and words for it.
+#[derive(Clone, Copy)]
+pub struct Related {
+    pub at: usize,
+    pub words: &'static str,
+}
+
+/// What is told of a text: a message, and the offset of the byte that it is about, where it is about one; and another place, where one
+/// helps. An offset past the text's end counts as its end.
 #[derive(Drop)]
 pub struct Diagnostic {
     pub at: Option<usize>,
     pub message: String,
+    pub related: Option<Related>,
+}
+
+// Writes a line of words about an offset, and below it the line of the text with a caret.
+fn write_line<W: Write>(
+    text: &[u8],
+    at: usize,
+    before: &str,
+    words: &str,
+    writer: &mut W,
+) -> io::Result<()> {
+    let at = at.min(text.len());
+    let place = place_at(text, at);
+    let Place { line, column } = place;
+    writeln!(writer, "-:{line}:{column}: {before}{words}")?;
+    write_excerpt(text, at, line, writer)
 }
 
 impl Diagnostic {
     /// Writes the message's line in the form that editors read, as `-:4:2: 'totl' is not declared`, and below it the line of the text
-    /// with a caret. A message about no byte has its line alone, as `-: the text has more than 65536 bytes`.
+    /// with a caret; then the same of the other place, behind `note: `. A message about no byte has its line alone, as `-: the text has
+    /// more than 65536 bytes`.
     pub fn write<W: Write>(&self, text: &[u8], writer: &mut W) -> io::Result<()> {
         let message = self.message.as_str();
         let Some(at) = self.at else {
             return writeln!(writer, "-: {message}");
         };
-        let at = at.min(text.len());
-        let place = place_at(text, at);
-        let Place { line, column } = place;
-        writeln!(writer, "-:{line}:{column}: {message}")?;
-        write_excerpt(text, at, line, writer)
+        write_line(text, at, "", message, writer)?;
+        match self.related {
+            Some(related) => write_line(text, related.at, "note: ", related.words, writer),
+            None => Ok(()),
+        }
     }
 }
 
@@ -46,5 +70,6 @@ pub fn of_name<'a>(
     Ok(Diagnostic {
         at: Some(at),
         message,
+        related: None,
     })
 }

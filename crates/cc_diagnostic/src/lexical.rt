@@ -1,38 +1,85 @@
 // What is told of a byte, a comment or a number that is no token.
 
+use super::left_out::{BYTES, CHARACTERS, FLOATING, said_of_front};
 use super::message::{Part, message, words};
 use std::alloc::{AllocError, Global};
-
-// Why a byte begins no token, for those that do in C.
-fn reason(byte: u8) -> &'static str {
-    match byte {
-        b'#' => ": there is no preprocessor",
-        b'"' => ": there are no strings",
-        b'\'' => ": there are no character constants",
-        b'.' => ": there are no structures and no floating constants",
-        _ => "",
-    }
-}
 
 // Whether a backslash stands here directly before the end of a line.
 fn is_splice(rest: &[u8]) -> bool {
     rest.starts_with(b"\\\n".as_slice()) || rest.starts_with(b"\\\r\n".as_slice())
 }
 
+// How many bytes a character has that begins with a byte, in UTF-8.
+fn character_length(byte: u8) -> usize {
+    match byte {
+        0xf0.. => 4,
+        0xe0.. => 3,
+        0xc0.. => 2,
+        _ => 1,
+    }
+}
+
+// The character past the bytes of ASCII that begins here, where one does.
+fn character(rest: &[u8]) -> Option<char> {
+    let first = rest.first().copied()?;
+    let bytes = rest.get(..character_length(first))?;
+    match std::str::from_utf8(bytes) {
+        Ok(text) if first > 127 => text.chars().next(),
+        _ => None,
+    }
+}
+
+// What is said of a character.
+fn said_of_character(c: char) -> &'static str {
+    for (from, to, said) in CHARACTERS.iter() {
+        if *from <= c && c <= *to {
+            return said;
+        }
+    }
+    ""
+}
+
+// What is said of what begins no token, where something is.
+fn said(rest: &[u8]) -> &'static str {
+    match rest {
+        [b'.', b'0'..=b'9', ..] => FLOATING,
+        _ => match said_of_front(&BYTES, rest) {
+            Some(said) => said,
+            None => match character(rest) {
+                Some(c) => said_of_character(c),
+                None => "",
+            },
+        },
+    }
+}
+
+// What begins no token, as it is shown.
+fn shown(rest: &[u8]) -> Part<'_> {
+    match character(rest) {
+        Some(c) => Part::Character(c),
+        None => match rest.first() {
+            Some(byte) if !byte.is_ascii_graphic() => Part::Byte(*byte),
+            _ => Part::Token(rest.get(..1).unwrap_or(rest)),
+        },
+    }
+}
+
 /// What is told of a byte that begins no token.
 pub fn bad_byte(alloc: Global, text: &[u8], at: usize) -> Result<String, AllocError> {
     let rest = text.get(at..).unwrap_or(b"");
     if is_splice(rest) {
-        return words(alloc, "a backslash before the end of a line joins no lines");
+        return words(
+            alloc,
+            "a backslash before the end of a line joins no lines in this C",
+        );
     }
-    let byte = rest.first().copied().unwrap_or(0);
-    let shown = if byte.is_ascii_graphic() {
-        Part::Token(rest.get(..1).unwrap_or(rest))
-    } else {
-        Part::Byte(byte)
-    };
-    let why = Part::Words(reason(byte));
-    message(alloc, &[shown, Part::Words(" begins no token"), why])
+    let said = said(rest);
+    let colon = if said.is_empty() { "" } else { ": " };
+    let what = Part::Words(" begins no token");
+    message(
+        alloc,
+        &[shown(rest), what, Part::Words(colon), Part::Words(said)],
+    )
 }
 
 // Whether a number goes on with a byte, behind another one.
@@ -56,11 +103,47 @@ fn number(rest: &[u8]) -> &[u8] {
     rest
 }
 
+// Whether a number begins in one of two ways.
+fn begins(number: &[u8], lower: &[u8], upper: &[u8]) -> bool {
+    number.starts_with(lower) || number.starts_with(upper)
+}
+
+// Whether a number has one of some bytes.
+fn has(number: &[u8], bytes: &[u8]) -> bool {
+    for b in number {
+        if bytes.contains(b) {
+            return true;
+        }
+    }
+    false
+}
+
+// Why a number is no constant.
+fn reason(number: &[u8]) -> &'static str {
+    let is_hexadecimal = begins(number, b"0x", b"0X");
+    if begins(number, b"0b", b"0B") {
+        "there are no binary constants in this C; write 0x and hexadecimal digits"
+    } else if has(number, b".") || has(number, b"pP") || (!is_hexadecimal && has(number, b"eE")) {
+        FLOATING
+    } else if has(number, b"lL") {
+        "there is no suffix l or L in this C; int and unsigned have 32 bits"
+    } else if is_hexadecimal || !number.starts_with(b"0") {
+        "it has decimal digits, or hexadecimal ones behind 0x, and then u or nothing"
+    } else if has(number, b"8") {
+        "8 is no octal digit, and a number that begins with 0 is octal"
+    } else {
+        "9 is no octal digit, and a number that begins with 0 is octal"
+    }
+}
+
 /// What is told of a number that is no constant.
 pub fn bad_constant(alloc: Global, text: &[u8], at: usize) -> Result<String, AllocError> {
-    let number = Part::Token(number(text.get(at..).unwrap_or(b"")));
-    let what = " is no decimal, octal or hexadecimal constant";
-    message(alloc, &[number, Part::Words(what)])
+    let number = number(text.get(at..).unwrap_or(b""));
+    let what = Part::Words(" is no decimal, octal or hexadecimal constant: ");
+    message(
+        alloc,
+        &[Part::Token(number), what, Part::Words(reason(number))],
+    )
 }
 
 // Whether a constant may be as large as an `unsigned`: with a suffix, and where it is octal or hexadecimal.

@@ -16,6 +16,8 @@ pub enum Part<'a> {
     Count(usize),
     /// A byte by its hexadecimal number.
     Byte(u8),
+    /// A character by its number in Unicode.
+    Character(char),
     /// A word as a number of a type.
     Word(Scalar, u32),
     Place(Place),
@@ -32,6 +34,10 @@ impl fmt::Display for Part<'_> {
             }
             Part::Count(count) => write!(f, "{count}"),
             Part::Byte(byte) => write!(f, "byte 0x{byte:02x}"),
+            Part::Character(c) => {
+                let code = u32::from(*c);
+                write!(f, "U+{code:04X}")
+            }
             Part::Word(Scalar::Int, word) => write!(f, "{}", word.cast_signed()),
             Part::Word(Scalar::Unsigned, word) => write!(f, "{word}"),
             Part::Place(Place { line, column }) => write!(f, "{line}:{column}"),

@@ -1,5 +1,6 @@
 // The names in scope, with where each was declared and where it leads.
 
+use super::near::near_name;
 use cc_resolve::Extent;
 use cc_typing::{Bindings, Entity, READ_WORD, WRITE_WORD};
 use std::alloc::{AllocError, Global};
@@ -30,6 +31,7 @@ pub struct Standing<'a> {
 pub struct Names<'a> {
     bindings: Bindings<'a>,
     standings: Vec<Standing<'a>>,
+    words: Vec<&'a [u8]>,
     inner: usize,
 }
 
@@ -39,6 +41,7 @@ impl<'a> Names<'a> {
         Names {
             bindings: Bindings::new(alloc),
             standings: Vec::new(alloc),
+            words: Vec::new(alloc),
             inner: 0,
         }
     }
@@ -67,6 +70,7 @@ impl<'a> Names<'a> {
     /// Declares a name in the innermost scope.
     pub fn declare(&mut self, name: &'a [u8], standing: Standing<'a>) -> Result<(), AllocError> {
         self.standings.push(standing)?;
+        self.words.push(name)?;
         self.bindings.push(name, standing.entity)?;
         Ok(())
     }
@@ -86,6 +90,11 @@ impl<'a> Names<'a> {
         self.standings.get(newest.number).copied()
     }
 
+    /// The name in scope that is nearest to another one, where one is near.
+    pub fn near(&self, name: &[u8]) -> Option<&'a [u8]> {
+        near_name(self.words.as_slice(), name)
+    }
+
     /// Begins an inner scope, and answers where the one around it began, for the `close` that ends it.
     pub fn open(&mut self) -> usize {
         let around = self.inner;
@@ -97,6 +106,7 @@ impl<'a> Names<'a> {
     pub fn close(&mut self, around: usize) {
         for _ in self.inner..self.standings.len() {
             self.standings.pop();
+            self.words.pop();
             self.bindings.pop();
         }
         self.inner = around;

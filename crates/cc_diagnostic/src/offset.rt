@@ -40,3 +40,14 @@ pub fn offset_in(text: &[u8], place: Option<Place>) -> Option<usize>
         None => None,
     }
 }
+
+/// Another offset in the place of one, where there is one; the text's end for an offset past it.
+pub fn moved(at: Option<usize>, to: usize, text: &[u8]) -> Option<usize>
+    ensures same { is_some result ≡ is_some at }
+    ensures within { IfSome result (λ at. at ≤ length text.now) }
+{
+    match at {
+        Some(_) => Some(to.min(text.len())),
+        None => None,
+    }
+}

@@ -1,16 +1,41 @@
 // What is told of a text that has no tree.
+//
+// Of a token with which no text goes on the reason is looked for in this order: it is left out of this C; a word before it is nearly
+// a keyword, or one of another language; something is missing before it; else the token is told, with what could stand there.
 
 ghost use Rattle.std.specs.Prelude.{◌≡◌, ◌≤◌, length, is_some, IfOk, IfSome};
 ghost use Rattle.cc_tokens.specs.Fault.{fault_place};
 
-use super::diagnostic::Diagnostic;
+use super::around::Around;
+use super::diagnostic::{Diagnostic, Related};
 use super::expected::{Prefix, Reply};
+use super::left_out::INNER_FUNCTIONS;
 use super::lexical::{bad_byte, bad_constant, constant_too_large};
 use super::message::{Part, message, words};
-use super::offset::offset_in;
+use super::offset::{moved, offset_in};
+use super::reason::{Reason, find_reason};
 use cc_syntax::{DEEPEST_LEVEL, MOST_TOKENS};
 use cc_tokens::{Keyword, MOST_BYTES, Punctuator, SyntaxFault, Token, TokenKind, tokens};
 use std::alloc::{AllocError, Global};
+
+/// What is told of a fault, with its place, which is another one than the fault's where something is missing or misspelt.
+#[derive(Drop)]
+struct Told {
+    at: usize,
+    message: String,
+    related: Option<Related>,
+}
+
+// A message about an offset.
+fn alone(at: usize, message: Result<String, AllocError>) -> Result<Told, AllocError> {
+    let message = message?;
+    let related = None;
+    Ok(Told {
+        at,
+        message,
+        related,
+    })
+}
 
 // The words of a list, as `',', ';' or ')'`.
 fn add_list(message: &mut String, list: &[&str]) -> Result<(), AllocError> {
@@ -33,17 +58,6 @@ fn tokens_of(alloc: Global, text: &[u8]) -> Result<Vec<Token>, AllocError> {
     }
 }
 
-// The token that was found, as `unexpected 'int'`.
-fn found(alloc: Global, text: &[u8], tokens: &[Token], at: usize) -> Result<String, AllocError> {
-    match tokens.iter().find(|token| token.from == at) {
-        Some(token) => {
-            let token = Part::Token(text.get(token.from..token.to).unwrap_or(b""));
-            message(alloc, &[Part::Words("unexpected "), token])
-        }
-        None => words(alloc, "unexpected end of the text"),
-    }
-}
-
 // What could stand in the place of a token.
 fn expected(
     alloc: Global,
@@ -57,14 +71,119 @@ fn expected(
     expected
 }
 
-// The token that was found, and what could stand in its place.
-fn found_and_expected(found: String, expected: &[&str]) -> Result<String, AllocError> {
-    let mut message = found;
-    if !expected.is_empty() {
+// The words of a list behind others, where it has some.
+fn with_list(before: String, list: &[&str]) -> Result<String, AllocError> {
+    let mut message = before;
+    if !list.is_empty() {
         message.push_str(", expected ")?;
-        add_list(&mut message, expected)?;
+        add_list(&mut message, list)?;
     }
     Ok(message)
+}
+
+// A token, and what could stand in its place.
+fn instead(alloc: Global, around: &Around<'_>, list: &[&str]) -> Result<Told, AllocError> {
+    let before = message(alloc, &[Part::Words("unexpected "), around.found()])?;
+    Ok(Told {
+        at: around.place(),
+        message: with_list(before, list)?,
+        related: around.unclosed(),
+    })
+}
+
+// What is missing before a token.
+fn missing(alloc: Global, around: &Around<'_>, list: &[&str]) -> Result<Told, AllocError> {
+    let mut message = String::from_str(alloc, "expected ")?;
+    add_list(&mut message, list)?;
+    let found = match around.next(0) {
+        Some(_) => around.found(),
+        None => Part::Words("the end of the text"),
+    };
+    write!(message, " before {found}")?;
+    Ok(Told {
+        at: around.end_before(),
+        message,
+        related: around.left_open(list),
+    })
+}
+
+// Whether a word of a list ends something.
+fn ends(word: &str) -> bool {
+    matches!(word.as_bytes(), [_, b';' | b')' | b']' | b'}', _])
+}
+
+// Whether one word of a list ends something.
+fn one_ends(list: &[&str]) -> bool {
+    for word in list {
+        if ends(word) {
+            return true;
+        }
+    }
+    false
+}
+
+// Whether a list has only what ends or separates something, and something that ends it.
+fn is_missing(list: &[&str]) -> bool {
+    let begins = match list.first() {
+        Some(first) => !first.starts_with("'") || *first == "'('" || *first == "'while'",
+        None => true,
+    };
+    !begins && one_ends(list)
+}
+
+// What is told of a token by what could stand in its place.
+fn by_list(alloc: Global, around: &Around<'_>, list: &[&str]) -> Result<Told, AllocError> {
+    if is_missing(list) {
+        missing(alloc, around, list)
+    } else {
+        instead(alloc, around, list)
+    }
+}
+
+// Whether a list begins with a name.
+fn is_name(list: &[&str]) -> bool {
+    match list.first() {
+        Some(first) => *first == "a name",
+        None => false,
+    }
+}
+
+// What is told of a token for a reason.
+fn for_reason(
+    alloc: Global,
+    around: &Around<'_>,
+    reason: Reason<'_>,
+    list: &[&str],
+) -> Result<Told, AllocError> {
+    let before = message(
+        alloc,
+        &[Part::Words("unexpected "), Part::Token(reason.found)],
+    )?;
+    let count = if reason.is_keyword && is_name(list) {
+        list.len()
+    } else {
+        0
+    };
+    let mut message = with_list(before, list.get(..count).unwrap_or(list))?;
+    let said = reason.said;
+    write!(message, ": {said}")?;
+    if let Some(spelling) = reason.meant {
+        write!(message, "'{spelling}'?")?;
+    }
+    Ok(Told {
+        at: reason.at,
+        message,
+        related: if said == INNER_FUNCTIONS {
+            around.outermost()
+        } else {
+            None
+        },
+    })
+}
+
+// Whether a reason gives way where something is missing: what is missing may be the end of the line before.
+fn gives_way(around: &Around<'_>, reason: Reason<'_>) -> bool {
+    reason.is_keyword || (reason.at == around.at() && around.begins_line())
 }
 
 // What is told of a token of these with which no text goes on.
@@ -73,16 +192,25 @@ fn unexpected_of(
     text: &[u8],
     tokens: &[Token],
     at: usize,
-) -> Result<String, AllocError> {
-    let found = found(alloc, text, tokens, at)?;
-    let expected = expected(alloc, text, tokens, at)?;
-    found_and_expected(found, expected.as_slice())
+) -> Result<Told, AllocError> {
+    let around = Around::new(text, tokens, at);
+    let list = expected(alloc, text, tokens, at)?;
+    let told = match find_reason(&around) {
+        Some(reason) if !(is_missing(list.as_slice()) && gives_way(&around, reason)) => {
+            for_reason(alloc, &around, reason, list.as_slice())
+        }
+        _ => by_list(alloc, &around, list.as_slice()),
+    };
+    drop(list);
+    told
 }
 
 // What is told of a token with which no text goes on.
-fn unexpected(alloc: Global, text: &[u8], at: usize) -> Result<String, AllocError> {
+fn unexpected(alloc: Global, text: &[u8], at: usize) -> Result<Told, AllocError> {
     let tokens = tokens_of(alloc, text)?;
-    unexpected_of(alloc, text, tokens.as_slice(), at)
+    let told = unexpected_of(alloc, text, tokens.as_slice(), at);
+    drop(tokens);
+    told
 }
 
 // Whether the two tokens before an offset are `for (`: a declaration may stand there, and no statement.
@@ -120,27 +248,25 @@ fn too_deep(alloc: Global, text: &[u8], at: usize) -> Result<String, AllocError>
     }
 }
 
-// The message of a fault at an offset.
-fn message_at(
-    alloc: Global,
-    text: &[u8],
-    fault: &SyntaxFault,
-    at: usize,
-) -> Result<String, AllocError> {
+// What is told of a fault at an offset.
+fn told_at(alloc: Global, text: &[u8], fault: &SyntaxFault, at: usize) -> Result<Told, AllocError> {
     match fault {
-        SyntaxFault::BadByte(_) => bad_byte(alloc, text, at),
-        SyntaxFault::UnclosedComment(_) => words(alloc, "the comment is never closed"),
-        SyntaxFault::BadConstant(_) => bad_constant(alloc, text, at),
-        SyntaxFault::ConstantTooLarge(_) => constant_too_large(alloc, text, at),
         SyntaxFault::Unexpected(_) => unexpected(alloc, text, at),
-        SyntaxFault::TooDeep(_) => too_deep(alloc, text, at),
-        SyntaxFault::SourceTooLarge => more_than(alloc, "the text has", MOST_BYTES, "bytes"),
-        SyntaxFault::OutOfMemory => words(alloc, "memory ran out"),
+        SyntaxFault::BadByte(_) => alone(at, bad_byte(alloc, text, at)),
+        SyntaxFault::UnclosedComment(_) => alone(at, words(alloc, "the comment is never closed")),
+        SyntaxFault::BadConstant(_) => alone(at, bad_constant(alloc, text, at)),
+        SyntaxFault::ConstantTooLarge(_) => alone(at, constant_too_large(alloc, text, at)),
+        SyntaxFault::TooDeep(_) => alone(at, too_deep(alloc, text, at)),
+        SyntaxFault::SourceTooLarge => {
+            alone(at, more_than(alloc, "the text has", MOST_BYTES, "bytes"))
+        }
+        SyntaxFault::OutOfMemory => alone(at, words(alloc, "memory ran out")),
     }
 }
 
-/// What is told of the fault that `parse` answers for a text: which byte, number or token was found, and what could stand there; or
-/// which limit was passed.
+/// What is told of the fault that `parse` answers for a text: which byte, number or token was found, and what could stand there, what is
+/// missing before it, or what to write for what is left out; or which limit was passed. Where something is missing it stands behind the
+/// token before, and where a word is misspelt at that word.
 ///
 /// `AllocError` where memory for it runs out.
 pub fn of_syntax(alloc: Global, text: &[u8], fault: &SyntaxFault) -> Result<Diagnostic, AllocError>
@@ -149,6 +275,14 @@ pub fn of_syntax(alloc: Global, text: &[u8], fault: &SyntaxFault) -> Result<Diag
     ensures within { IfOk result (λ told. IfSome told.at (λ at. at ≤ length text.now)) }
 {
     let at = offset_in(text, fault.place());
-    let message = message_at(alloc, text, fault, at.unwrap_or(0))?;
-    Ok(Diagnostic { at, message })
+    let Told {
+        at: place,
+        message,
+        related,
+    } = told_at(alloc, text, fault, at.unwrap_or(0))?;
+    Ok(Diagnostic {
+        at: moved(at, place, text),
+        message,
+        related,
+    })
 }

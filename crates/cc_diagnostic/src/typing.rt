@@ -3,10 +3,13 @@
 ghost use Rattle.std.specs.Prelude.{◌≡◌, ◌≤◌, length, is_some, IfOk, IfSome};
 ghost use Rattle.cc_typing.specs.Fault.{fault_place};
 
+use super::constant::{Cause, why};
 use super::declarations::{Declaration, Declared, declarations, first_of, named_at};
-use super::diagnostic::Diagnostic;
+use super::diagnostic::{Diagnostic, Related};
+use super::left_out::{FOREIGN, said_of};
 use super::message::{Part, message, words};
 use super::names::Standing;
+use super::near::near_keyword;
 use super::offset::offset_in;
 use super::walk::{Note, Use, Walk};
 use cc_syntax::{Object, Signature, Unit, parse};
@@ -25,6 +28,7 @@ struct View<'a> {
     done: Option<Use>,
     standing: Option<Standing<'a>>,
     inside: Option<&'a Signature>,
+    near: Option<&'a [u8]>,
     declarations: &'a [Declaration<'a>],
 }
 
@@ -95,12 +99,26 @@ fn not_done(done: Use) -> &'static str {
     }
 }
 
+// A constant expression that is none.
+fn no_constant(alloc: Global, view: &View<'_>) -> Result<String, AllocError> {
+    let (said, from, to) = match why(view.text, view.at) {
+        Cause::Name(from, to) => ("it has the name ", from, to),
+        Cause::Call(from, to) => ("it has a call of ", from, to),
+        Cause::Undefined => {
+            let told =
+                "this is no constant expression: its value is not defined, for a division by 0 or a shift outside 0 to 31";
+            return words(alloc, told);
+        }
+    };
+    let name = Part::Token(view.text.get(from..to).unwrap_or(b""));
+    let told = Part::Words("this is no constant expression: ");
+    message(alloc, &[told, Part::Words(said), name])
+}
+
 // A name that is no name for what is done with it, or a constant expression that is none.
 fn misused(alloc: Global, view: &View<'_>) -> Result<String, AllocError> {
     let (Some(done), Some(standing)) = (view.done, view.standing) else {
-        let told =
-            "this is no constant expression: it has a name or a call, or its value is not defined";
-        return words(alloc, told);
+        return no_constant(alloc, view);
     };
     let kind = Part::Words(kind(standing));
     let not_done = Part::Words(not_done(done));
@@ -124,12 +142,41 @@ fn misused(alloc: Global, view: &View<'_>) -> Result<String, AllocError> {
     }
 }
 
+// A name that is declared nowhere: what is said of it, or what could be meant.
+fn not_declared(alloc: Global, view: &View<'_>) -> Result<String, AllocError> {
+    let what = Part::Words(" is not declared");
+    if let Some(said) = said_of(&FOREIGN, view.word) {
+        let parts = [view.word(), what, Part::Words(": "), Part::Words(said)];
+        return message(alloc, &parts);
+    }
+    let near = match near_keyword(view.word) {
+        Some(keyword) if view.near.is_none() => Some(keyword.as_bytes()),
+        _ => view.near,
+    };
+    match near {
+        Some(name) => {
+            let asked = Part::Words(": did you mean ");
+            message(
+                alloc,
+                &[
+                    view.word(),
+                    what,
+                    asked,
+                    Part::Token(name),
+                    Part::Words("?"),
+                ],
+            )
+        }
+        None => message(alloc, &[view.word(), what]),
+    }
+}
+
 fn unknown(alloc: Global, view: &View<'_>) -> Result<String, AllocError> {
     match first_of(view.declarations, view.word) {
         Some(declaration) if declaration.name.at > view.at => {
             view.with_place(alloc, " is declared only later, at ", declaration.name.at)
         }
-        _ => view.with(alloc, " is not declared"),
+        _ => not_declared(alloc, view),
     }
 }
 
@@ -173,6 +220,26 @@ fn built_in(alloc: Global, view: &View<'_>, declared: &'static str) -> Result<St
     )
 }
 
+// Whether an object at file scope is named at the fault.
+fn is_object(view: &View<'_>) -> bool {
+    match named_at(view.declarations, view.at) {
+        Some(declaration) => matches!(declaration.declared, Declared::Object(_)),
+        None => false,
+    }
+}
+
+// A second declaration of an object, a parameter or a local that was declared at an offset.
+fn already_declared(alloc: Global, view: &View<'_>, at: usize) -> Result<String, AllocError> {
+    let place = Part::Place(place_in(view.text, at));
+    let more = if is_object(view) {
+        ": there are no tentative definitions in this C; declare it once"
+    } else {
+        ""
+    };
+    let what = Part::Words(" is already declared at ");
+    message(alloc, &[view.word(), what, place, Part::Words(more)])
+}
+
 fn redeclared(alloc: Global, view: &View<'_>) -> Result<String, AllocError> {
     if is_definition(view)
         && let Some(at) = definition_before(view)
@@ -187,9 +254,7 @@ fn redeclared(alloc: Global, view: &View<'_>) -> Result<String, AllocError> {
         Entity::WriteWord => built_in(alloc, view, "void write_word(int)"),
         Entity::ReadWord => built_in(alloc, view, "int read_word(void)"),
         Entity::Function(_) => view.with_place(alloc, " is declared otherwise at ", at),
-        Entity::Variable(_) | Entity::Elements(_) => {
-            view.with_place(alloc, " is already declared at ", at)
-        }
+        Entity::Variable(_) | Entity::Elements(_) => already_declared(alloc, view, at),
     }
 }
 
@@ -355,8 +420,28 @@ fn noted<'a>(alloc: Global, unit: &'a Unit, at: usize) -> Result<Option<Note<'a>
     Ok(note)
 }
 
+// The first declaration of a function, where one differs from it.
+fn related(view: &View<'_>, fault: &TypeFault) -> Option<Related> {
+    let at = view.declared_at()?;
+    if matches!(fault, TypeFault::Redeclared(_)) && !is_object(view) {
+        Some(Related {
+            at,
+            words: "the first declaration",
+        })
+    } else {
+        None
+    }
+}
+
+/// What is told of a unit: the words, and another place.
+#[derive(Drop)]
+struct Told {
+    message: String,
+    related: Option<Related>,
+}
+
 // What is told of a fault of a unit at an offset.
-fn of_unit(alloc: Global, unit: &Unit, fault: &TypeFault, at: usize) -> Result<String, AllocError> {
+fn of_unit(alloc: Global, unit: &Unit, fault: &TypeFault, at: usize) -> Result<Told, AllocError> {
     let note = noted(alloc, unit, at)?;
     let declarations = declarations(alloc, unit.externals())?;
     let text = unit.text();
@@ -367,6 +452,7 @@ fn of_unit(alloc: Global, unit: &Unit, fault: &TypeFault, at: usize) -> Result<S
         done: None,
         standing: None,
         inside: None,
+        near: None,
         declarations: declarations.as_slice(),
     };
     if let Some(
@@ -374,14 +460,19 @@ fn of_unit(alloc: Global, unit: &Unit, fault: &TypeFault, at: usize) -> Result<S
             done,
             standing,
             inside,
+            near,
         },
     ) = note
     {
         view.done = Some(done);
         view.standing = standing;
         view.inside = inside;
+        view.near = near;
     }
-    message_of(alloc, &view, fault)
+    Ok(Told {
+        message: message_of(alloc, &view, fault)?,
+        related: related(&view, fault),
+    })
 }
 
 /// What is told of the fault that `check` answers for the tree of a text: the name, what it stands for and where that was first
@@ -400,10 +491,14 @@ pub fn of_typing(
     let at = offset_in(text, fault.place());
     match parse(alloc, text) {
         Ok(unit) => {
-            let message = of_unit(alloc, &unit, fault, at.unwrap_or(usize::MAX));
+            let told = of_unit(alloc, &unit, fault, at.unwrap_or(usize::MAX));
             drop(unit);
-            let message = message?;
-            Ok(Some(Diagnostic { at, message }))
+            let Told { message, related } = told?;
+            Ok(Some(Diagnostic {
+                at,
+                message,
+                related,
+            }))
         }
         Err(SyntaxFault::OutOfMemory) => Err(AllocError),
         Err(fault) => {

@@ -11,8 +11,10 @@ mod expressions;
 mod statements;
 mod units;
 
-use super::code::{Function, Instruction};
+use super::code::{Element, Function, Instruction};
 use super::names::{Names, Standing};
+use super::warning::Warning;
+use cc_resolve::UnaryOperation;
 use cc_syntax::{Identifier, Signature};
 use std::alloc::{AllocError, Global};
 
@@ -35,12 +37,14 @@ pub enum Use {
     Constant,
 }
 
-/// What stands at an offset: what is done there, what the name stood for before, and in which function.
+/// What stands at an offset: what is done there, what the name stood for before, in which function, and which name in scope is nearest
+/// to one that stands for nothing.
 #[derive(Clone, Copy)]
 pub struct Note<'a> {
     pub done: Use,
     pub standing: Option<Standing<'a>>,
     pub inside: Option<&'a Signature>,
+    pub near: Option<&'a [u8]>,
 }
 
 /// A walk: the names in scope, how many variables the function has so far, and the function; the places of operators that can go
@@ -59,6 +63,9 @@ pub struct Walk<'a> {
     pub note: Option<Note<'a>>,
     pub code: Vec<Instruction<'a>>,
     pub functions: Vec<Function<'a>>,
+    pub warnings: Vec<Warning<'a>>,
+    // The first name that was used since a statement began.
+    first: Option<usize>,
     // How many words the objects so far have.
     words: usize,
     // Whether memory was refused for something that was to be written.
@@ -86,6 +93,8 @@ impl<'a> Walk<'a> {
             note: None,
             code: Vec::new(alloc),
             functions: Vec::new(alloc),
+            warnings: Vec::new(alloc),
+            first: None,
             words: 0,
             failed: false,
         })
@@ -98,6 +107,7 @@ impl<'a> Walk<'a> {
                 done,
                 standing,
                 inside: self.inside,
+                near: None,
             });
         }
     }
@@ -106,7 +116,60 @@ impl<'a> Walk<'a> {
     fn look_up(&mut self, name: &'a Identifier, done: Use) -> Option<Standing<'a>> {
         let standing = self.names.find(name.bytes.as_slice());
         self.note(name.at, done, standing);
+        self.first = self.first.or(Some(name.at));
+        if self.wanted == Some(name.at)
+            && standing.is_none()
+            && let Some(note) = &mut self.note
+        {
+            note.near = self.names.near(name.bytes.as_slice());
+        }
         standing
+    }
+
+    fn warn(&mut self, warning: Warning<'a>) {
+        self.failed |= self.warnings.push(warning).is_err();
+    }
+
+    // The constant that the instructions from a number on push, where they do nothing else.
+    fn constant_since(&self, start: usize) -> Option<u32> {
+        let count = self.code.len().saturating_sub(start);
+        match (self.code.get(start), self.code.get(start.saturating_add(1))) {
+            (Some(Instruction::Constant(word)), None) => Some(*word),
+            (Some(Instruction::Constant(word)), Some(Instruction::Unary(UnaryOperation::Negate)))
+                if count == 2 => Some(cc_words::sub(0, *word)),
+            _ => None,
+        }
+    }
+
+    // Warns of an index that the instructions from a number on push, where it is a constant outside its array.
+    fn warn_of_index(&mut self, start: usize, element: Element<'a>) {
+        if let Some(word) = self.constant_since(start)
+            && word as usize >= element.extent.length
+        {
+            self.warn(Warning::Index(element, word));
+        }
+    }
+
+    // Whether the instructions from a number on call something.
+    fn calls_since(&self, start: usize) -> bool {
+        for i in start..self.code.len() {
+            if let Some(Instruction::Call(_, _) | Instruction::Read | Instruction::Write) = self
+                .code
+                .get(i)
+            {
+                return true;
+            }
+        }
+        false
+    }
+
+    // Warns of an expression whose value is not used, where the instructions from a number on call nothing.
+    fn warn_of_effect(&mut self, start: usize) {
+        if let Some(at) = self.first
+            && !self.calls_since(start)
+        {
+            self.warn(Warning::NoEffect(at));
+        }
     }
 
     fn emit(&mut self, instruction: Instruction<'a>) {

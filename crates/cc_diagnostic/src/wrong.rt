@@ -161,6 +161,7 @@ fn told(alloc: Global, trouble: Trouble<'_>) -> Result<Diagnostic, AllocError> {
     Ok(Diagnostic {
         at: Some(place(trouble.wrong)),
         message,
+        related: None,
     })
 }
 

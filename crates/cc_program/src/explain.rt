@@ -2,7 +2,7 @@
 
 use super::fault::Fault;
 use cc_command_line::Task;
-use cc_diagnostic::{Diagnostic, of_name, of_syntax, of_typing, of_wrong};
+use cc_diagnostic::{Diagnostic, of_name, of_syntax, of_typing, of_wrong, warnings};
 use cc_link::{BuildFault, LinkFault, PieceFault};
 use cc_meaning::Cause;
 use std::alloc::{AllocError, Global};
@@ -82,6 +82,26 @@ pub fn explain_fault<W: Write>(
     match words_of(fault) {
         Some(words) => writeln!(writer, "cclib: {words}"),
         None => write_told(of_fault(alloc, text, fault), text, writer),
+    }
+}
+
+// Writes each of some warnings.
+fn write_each<W: Write>(list: &[Diagnostic], text: &[u8], writer: &mut W) -> io::Result<()> {
+    for diagnostic in list {
+        diagnostic.write(text, writer)?;
+    }
+    Ok(())
+}
+
+/// Writes what is warned of in a text that is a program. Nothing where memory for that runs out.
+pub fn explain_program<W: Write>(alloc: Global, text: &[u8], writer: &mut W) -> io::Result<()> {
+    match warnings(alloc, text) {
+        Ok(list) => {
+            let written = write_each(list.as_slice(), text, writer);
+            drop(list);
+            written
+        }
+        Err(_) => Ok(()),
     }
 }
 

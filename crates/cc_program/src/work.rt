@@ -3,7 +3,7 @@
 ghost use Rattle.std.specs.Prelude.{◌≤◌};
 
 use super::answer::{Answer, answer_for};
-use super::explain::{explain_fault, explain_wrong};
+use super::explain::{explain_fault, explain_program, explain_wrong};
 use super::fault::Fault;
 use super::source::read_source;
 use cc_command_line::Task;
@@ -127,7 +127,7 @@ fn try_perform<R: Read, W: Write>(
 fn explain<W: Write>(alloc: Global, task: &Task, performed: &Performed, writer: &mut W) {
     let text = performed.text.as_slice();
     let written = match &performed.told {
-        Ok(None) => Ok(()),
+        Ok(None) => explain_program(alloc, text, writer),
         Ok(Some(cause)) => explain_wrong(alloc, task, text, *cause, writer),
         Err(fault) => explain_fault(alloc, text, fault, writer),
     };
@@ -165,8 +165,9 @@ pub fn perform<H: AllocGlobal, R: Read, W: Write>(
 }
 
 /// Does a task as `perform` does, and writes to `explanations` what helps a person with a fault or with a run that went wrong: the
-/// place, as editors read it, what was found there and what was wanted, and the line of the text. Of a write to `writer` that fails
-/// it says so. Where memory for an explanation runs out, or it can not be written, there is none; the status is the same.
+/// place, as editors read it, what was found there and what was wanted, and the line of the text; of another program what is warned of.
+/// Of a write to `writer` that fails it says so. Where memory for an explanation runs out, or it can not be written, there is none; the
+/// status is the same.
 pub fn perform_and_explain<H: AllocGlobal, R: Read, W: Write, E: Write>(
     rt: &H,
     task: Task,

@@ -5,8 +5,13 @@ use cc_program::perform_and_explain;
 use std::alloc::Global;
 
 // Texts, what `check` writes for each, and what is explained.
-static CHECKED: [(&str, &str, &str); 4] = [
+static CHECKED: [(&str, &str, &str); 5] = [
     ("int main(void){}", "ok\n", ""),
+    (
+        "int a[4];\nint main(void){return a[4];}",
+        "ok\n",
+        "-:2:23: warning: index 4 is outside a[4]\n    2 | int main(void){return a[4];}\n      |                       ^\n",
+    ),
     (
         "int main(void){\n totl=1;\n}",
         "fault 11 Unknown at 2:2\n",
@@ -15,7 +20,7 @@ static CHECKED: [(&str, &str, &str); 4] = [
     (
         "int main(void){return 1 2;}",
         "fault 5 Unexpected at 1:25\n",
-        "-:1:25: unexpected '2', expected ';'\n    1 | int main(void){return 1 2;}\n      |                         ^\n",
+        "-:1:24: expected ';' before '2'\n    1 | int main(void){return 1 2;}\n      |                        ^\n",
     ),
     (
         "int add(int a,int b){return a+b;}\nint main(void){add(1);}",

@@ -125,14 +125,9 @@ impl<'a> Walk<'a> {
                 scalar_of(standing)
             }
             Expression::Element(name, index) => {
-                let standing = self.look_up(name, Use::Indexed);
-                let index = self.expression(index);
-                self.emit(Instruction::Element(Element {
-                    array: name,
-                    extent: extent_of(standing),
-                    index,
-                }));
-                scalar_of(standing)
+                let (element, scalar) = self.element(name, index);
+                self.emit(Instruction::Element(element));
+                scalar
             }
             Expression::Call(name, all) => {
                 let all = all.as_slice();
@@ -172,6 +167,21 @@ impl<'a> Walk<'a> {
                 common_type(first, second)
             }
         }
+    }
+
+    // Writes what pushes the index of an element, and answers the element and its type.
+    #[cycle(expressions)]
+    fn element(&mut self, name: &'a Identifier, index: &'a Expression) -> (Element<'a>, Scalar) {
+        let standing = self.look_up(name, Use::Indexed);
+        let start = self.code.len();
+        let index = self.expression(index);
+        let element = Element {
+            array: name,
+            extent: extent_of(standing),
+            index,
+        };
+        self.warn_of_index(start, element);
+        (element, scalar_of(standing))
     }
 
     #[cycle(expressions)]
@@ -223,7 +233,10 @@ impl<'a> Walk<'a> {
             Action::Assign(operator, target, right) => self.assignment(*operator, target, right),
             Action::Step(operator, target) => self.step(*operator, target),
             Action::Evaluate(tree) => {
+                let start = self.code.len();
+                self.first = None;
                 self.expression(tree);
+                self.warn_of_effect(start);
                 self.emit(Instruction::Drop)
             }
         }
@@ -269,16 +282,10 @@ impl<'a> Walk<'a> {
                 }
             }
             Target::Element(name, index) => {
-                let standing = self.look_up(name, Use::Indexed);
-                let index = self.expression(index);
-                let element = Element {
-                    array: name,
-                    extent: extent_of(standing),
-                    index,
-                };
+                let (element, scalar) = self.element(name, index);
                 Goal {
                     slot: Slot::Element(element),
-                    scalar: scalar_of(standing),
+                    scalar,
                 }
             }
         }

@@ -2,7 +2,9 @@
 
 use super::{Use, Walk};
 use crate::code::{Function, Instruction};
+use crate::ends::never_left;
 use crate::names::{Lead, Standing};
+use crate::warning::Warning;
 use cc_resolve::Extent;
 use cc_syntax::{
     ConstantExpression, External, Identifier, Object, Parameter, Signature, Statement,
@@ -10,6 +12,10 @@ use cc_syntax::{
 use cc_tokens::Scalar;
 use cc_typing::{Entity, object_words};
 use std::alloc::AllocError;
+
+fn is_main(name: &Identifier) -> bool {
+    name.bytes.as_slice() == b"main".as_slice()
+}
 
 impl<'a> Walk<'a> {
     // Declares a function where its name is new, and answers its number, where it is a function.
@@ -64,6 +70,9 @@ impl<'a> Walk<'a> {
         let start = self.code.len();
         self.parameters(parameters);
         self.statements(statements);
+        if signature.result.is_some() && !is_main(name) && !never_left(statements) {
+            self.warn(Warning::NoReturn(name));
+        }
         self.emit(Instruction::Constant(0));
         self.emit(Instruction::Return);
         Function {

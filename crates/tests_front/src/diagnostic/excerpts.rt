@@ -18,7 +18,7 @@ static LINES: [(&[u8], &str); 9] = [
     // the end of the text, with an end of its line before it or none
     (
         b"int x",
-        "-:1:6: unexpected end of the text, expected '=', '(', '[', ',' or ';'\n    1 | int x\n      |      ^\n",
+        "-:1:6: expected '=', '(', '[', ',' or ';' before the end of the text\n    1 | int x\n      |      ^\n",
     ),
     (
         b"int x;\n",
@@ -45,7 +45,7 @@ static LINES: [(&[u8], &str); 9] = [
     ),
     (
         b"int \xc3\xa9;",
-        "-:1:5: byte 0xc3 begins no token\n    1 | int \u{e9};\n      |     ^\n",
+        "-:1:5: U+00E9 begins no token: names have letters, digits and _ alone in this C, and outside comments there is no other\n    1 | int \u{e9};\n      |     ^\n",
     ),
 ];
 
@@ -85,7 +85,13 @@ fn long_names(rt: HostRuntime) {
 // Whether a diagnostic at an offset of a text is written so.
 fn writes(alloc: Global, text: &[u8], at: Option<usize>, told: &str) -> Result<bool, AllocError> {
     let message = String::from_str(alloc, "this")?;
-    let lines = written(alloc, text, Some(Diagnostic { at, message }))?;
+    let related = None;
+    let diagnostic = Diagnostic {
+        at,
+        message,
+        related,
+    };
+    let lines = written(alloc, text, Some(diagnostic))?;
     Ok(lines.as_slice() == told.as_bytes())
 }
 

@@ -20,42 +20,42 @@ static SPELLING: [(&str, &str); 18] = [
     ),
     (
         "#include <x>",
-        "-:1:1: '#' begins no token: there is no preprocessor
+        "-:1:1: '#' begins no token: there is no preprocessor in this C; leave it out: read_word and write_word are built in
     1 | #include <x>
       | ^
 ",
     ),
     (
         "int main(void){\n  \"a\";\n}",
-        "-:2:3: '\"' begins no token: there are no strings
+        "-:2:3: '\"' begins no token: there are no strings in this C; write_word(x) writes one word
     2 |   \"a\";
       |   ^
 ",
     ),
     (
         "int x='a';",
-        "-:1:7: ''' begins no token: there are no character constants
+        "-:1:7: ''' begins no token: there are no character constants in this C; write the character's number, 97 for a
     1 | int x='a';
       |       ^
 ",
     ),
     (
         "int main(void){return a.b;}",
-        "-:1:24: '.' begins no token: there are no structures and no floating constants
+        "-:1:24: '.' begins no token: there are no structures in this C; write a variable or an array for each member
     1 | int main(void){return a.b;}
       |                        ^
 ",
     ),
     (
         "int \\\nmain(void){}",
-        "-:1:5: a backslash before the end of a line joins no lines
+        "-:1:5: a backslash before the end of a line joins no lines in this C
     1 | int \\
       |     ^
 ",
     ),
     (
         "int x; // \\\nint y;",
-        "-:1:11: a backslash before the end of a line joins no lines
+        "-:1:11: a backslash before the end of a line joins no lines in this C
     1 | int x; // \\
       |           ^
 ",
@@ -69,28 +69,28 @@ static SPELLING: [(&str, &str); 18] = [
     ),
     (
         "int x=08;",
-        "-:1:7: '08' is no decimal, octal or hexadecimal constant
+        "-:1:7: '08' is no decimal, octal or hexadecimal constant: 8 is no octal digit, and a number that begins with 0 is octal
     1 | int x=08;
       |       ^
 ",
     ),
     (
         "int x=1L;",
-        "-:1:7: '1L' is no decimal, octal or hexadecimal constant
+        "-:1:7: '1L' is no decimal, octal or hexadecimal constant: there is no suffix l or L in this C; int and unsigned have 32 bits
     1 | int x=1L;
       |       ^
 ",
     ),
     (
         "int x=0xe+1;",
-        "-:1:7: '0xe+1' is no decimal, octal or hexadecimal constant
+        "-:1:7: '0xe+1' is no decimal, octal or hexadecimal constant: it has decimal digits, or hexadecimal ones behind 0x, and then u or nothing
     1 | int x=0xe+1;
       |       ^
 ",
     ),
     (
         "int x=1.5;",
-        "-:1:7: '1.5' is no decimal, octal or hexadecimal constant
+        "-:1:7: '1.5' is no decimal, octal or hexadecimal constant: there are no floating constants in this C; count in parts, as thousandths
     1 | int x=1.5;
       |       ^
 ",
@@ -150,7 +150,7 @@ static GRAMMAR: [(&str, &str); 37] = [
     ),
     (
         "struct s{int a;};",
-        "-:1:1: unexpected 'struct', expected a type
+        "-:1:1: unexpected 'struct': there is no struct in this C; write a variable or an array for each member
     1 | struct s{int a;};
       | ^
 ",
@@ -178,21 +178,21 @@ static GRAMMAR: [(&str, &str); 37] = [
     ),
     (
         "int *p;",
-        "-:1:5: unexpected '*', expected a name
+        "-:1:5: unexpected '*': there are no pointers in this C; write an array at file scope, and an index into it
     1 | int *p;
       |     ^
 ",
     ),
     (
         "int main",
-        "-:1:9: unexpected end of the text, expected '=', '(', '[', ',' or ';'
+        "-:1:9: expected '=', '(', '[', ',' or ';' before the end of the text
     1 | int main
       |         ^
 ",
     ),
     (
         "int main(void)x",
-        "-:1:15: unexpected 'x', expected '{' or ';'
+        "-:1:15: expected '{' or ';' before 'x'
     1 | int main(void)x
       |               ^
 ",
@@ -213,16 +213,19 @@ static GRAMMAR: [(&str, &str); 37] = [
     ),
     (
         "int f(int a b){}",
-        "-:1:13: unexpected 'b', expected ',' or ')'
+        "-:1:12: expected ',' or ')' before 'b'
     1 | int f(int a b){}
-      |             ^
+      |            ^
 ",
     ),
     (
         "int a[2;",
-        "-:1:8: unexpected ';', expected ']'
+        "-:1:8: expected ']' before ';'
     1 | int a[2;
       |        ^
+-:1:6: note: this '[' is not closed
+    1 | int a[2;
+      |      ^
 ",
     ),
     (
@@ -241,35 +244,35 @@ static GRAMMAR: [(&str, &str); 37] = [
     ),
     (
         "int a[2]={1 2};",
-        "-:1:13: unexpected '2', expected ',' or '}'
+        "-:1:12: expected ',' or '}' before '2'
     1 | int a[2]={1 2};
-      |             ^
+      |            ^
 ",
     ),
     (
         "int main(void){return 1 2;}",
-        "-:1:25: unexpected '2', expected ';'
+        "-:1:24: expected ';' before '2'
     1 | int main(void){return 1 2;}
-      |                         ^
+      |                        ^
 ",
     ),
     (
         "int main(void){\n  x=1\n  int y;\n}",
-        "-:3:3: unexpected 'int', expected ';'
-    3 |   int y;
-      |   ^
+        "-:2:6: expected ';' before 'int'
+    2 |   x=1
+      |      ^
 ",
     ),
     (
         "int main(void){\n  int x=1\n  int y;\n}",
-        "-:3:3: unexpected 'int', expected ',' or ';'
-    3 |   int y;
-      |   ^
+        "-:2:10: expected ',' or ';' before 'int'
+    2 |   int x=1
+      |          ^
 ",
     ),
     (
         "int main(void){else;}",
-        "-:1:16: unexpected 'else', expected a statement or '}'
+        "-:1:16: unexpected 'else': it stands without an 'if', whose statement would have to end directly before it
     1 | int main(void){else;}
       |                ^
 ",
@@ -279,11 +282,14 @@ static GRAMMAR: [(&str, &str); 37] = [
         "-:1:25: unexpected end of the text, expected a statement or '}'
     1 | int main(void){return 1;
       |                         ^
+-:1:15: note: this '{' is not closed
+    1 | int main(void){return 1;
+      |               ^
 ",
     ),
     (
         "int main(void){x}",
-        "-:1:17: unexpected '}', expected ';'
+        "-:1:17: expected ';' before '}'
     1 | int main(void){x}
       |                 ^
 ",
@@ -325,16 +331,16 @@ static GRAMMAR: [(&str, &str); 37] = [
     ),
     (
         "int main(void){for(int i=0;i<3)i++;}",
-        "-:1:31: unexpected ')', expected ';'
+        "-:1:31: expected ';' before ')'
     1 | int main(void){for(int i=0;i<3)i++;}
       |                               ^
 ",
     ),
     (
         "int main(void){break 1;}",
-        "-:1:22: unexpected '1', expected ';'
+        "-:1:21: expected ';' before '1'
     1 | int main(void){break 1;}
-      |                      ^
+      |                     ^
 ",
     ),
     (
@@ -346,16 +352,19 @@ static GRAMMAR: [(&str, &str); 37] = [
     ),
     (
         "int main(void){a=b=1;}",
-        "-:1:19: unexpected '=', expected ';'
+        "-:1:19: unexpected '=': there is no = inside an expression in this C; write a statement of its own, or == to compare
     1 | int main(void){a=b=1;}
       |                   ^
 ",
     ),
     (
         "int main(void){f(1;}",
-        "-:1:19: unexpected ';', expected ',' or ')'
+        "-:1:19: expected ',' or ')' before ';'
     1 | int main(void){f(1;}
       |                   ^
+-:1:17: note: this '(' is not closed
+    1 | int main(void){f(1;}
+      |                 ^
 ",
     ),
     (
@@ -374,21 +383,27 @@ static GRAMMAR: [(&str, &str); 37] = [
     ),
     (
         "int main(void){x=(1+2;}",
-        "-:1:22: unexpected ';', expected ')'
+        "-:1:22: expected ')' before ';'
     1 | int main(void){x=(1+2;}
       |                      ^
+-:1:18: note: this '(' is not closed
+    1 | int main(void){x=(1+2;}
+      |                  ^
 ",
     ),
     (
         "int main(void){x=(int +)1;}",
-        "-:1:23: unexpected '+', expected ')'
+        "-:1:22: expected ')' before '+'
     1 | int main(void){x=(int +)1;}
-      |                       ^
+      |                      ^
+-:1:18: note: this '(' is not closed
+    1 | int main(void){x=(int +)1;}
+      |                  ^
 ",
     ),
     (
         "int main(void){x=1+*2;}",
-        "-:1:20: unexpected '*', expected an expression
+        "-:1:20: unexpected '*': there are no pointers in this C; write an array at file scope, and an index into it
     1 | int main(void){x=1+*2;}
       |                    ^
 ",
@@ -399,7 +414,7 @@ static GRAMMAR: [(&str, &str); 37] = [
 static NAMES: [(&str, &str); 18] = [
     (
         "int total;\n\nint main(void){\n totl=1;\n}",
-        "-:4:2: 'totl' is not declared
+        "-:4:2: 'totl' is not declared: did you mean 'total'?
     4 |  totl=1;
       |  ^
 ",
@@ -434,7 +449,7 @@ static NAMES: [(&str, &str); 18] = [
     ),
     (
         "int x;int x;int main(void){}",
-        "-:1:11: 'x' is already declared at 1:5
+        "-:1:11: 'x' is already declared at 1:5: there are no tentative definitions in this C; declare it once
     1 | int x;int x;int main(void){}
       |           ^
 ",
@@ -444,6 +459,9 @@ static NAMES: [(&str, &str); 18] = [
         "-:1:26: 'a' is already declared at 1:20
     1 | int main(void){int a;int a;}
       |                          ^
+-:1:20: note: the first declaration
+    1 | int main(void){int a;int a;}
+      |                    ^
 ",
     ),
     (
@@ -451,6 +469,9 @@ static NAMES: [(&str, &str); 18] = [
         "-:1:18: 'a' is already declared at 1:11
     1 | int f(int a){int a;}int main(void){}
       |                  ^
+-:1:11: note: the first declaration
+    1 | int f(int a){int a;}int main(void){}
+      |           ^
 ",
     ),
     (
@@ -458,6 +479,9 @@ static NAMES: [(&str, &str); 18] = [
         "-:1:17: 'a' is already declared at 1:11
     1 | int f(int a,int a);int main(void){}
       |                 ^
+-:1:11: note: the first declaration
+    1 | int f(int a,int a);int main(void){}
+      |           ^
 ",
     ),
     (
@@ -465,12 +489,18 @@ static NAMES: [(&str, &str); 18] = [
         "-:1:11: 'f' is already declared at 1:5
     1 | int f;int f(void){}int main(void){}
       |           ^
+-:1:5: note: the first declaration
+    1 | int f;int f(void){}int main(void){}
+      |     ^
 ",
     ),
     (
         "int f(void){}\nint f(void){}\nint main(void){}",
         "-:2:5: 'f' is already defined at 1:5
     2 | int f(void){}
+      |     ^
+-:1:5: note: the first declaration
+    1 | int f(void){}
       |     ^
 ",
     ),
@@ -479,6 +509,9 @@ static NAMES: [(&str, &str); 18] = [
         "-:1:30: 'f' is already defined at 1:17
     1 | int f(void);int f(void){}int f(void){}int main(void){}
       |                              ^
+-:1:5: note: the first declaration
+    1 | int f(void);int f(void){}int f(void){}int main(void){}
+      |     ^
 ",
     ),
     (
@@ -486,6 +519,9 @@ static NAMES: [(&str, &str); 18] = [
         "-:1:17: 'f' is declared otherwise at 1:5
     1 | int f(void);int f(int);int main(void){}
       |                 ^
+-:1:5: note: the first declaration
+    1 | int f(void);int f(int);int main(void){}
+      |     ^
 ",
     ),
     (
@@ -599,28 +635,28 @@ static KINDS: [(&str, &str); 17] = [
     ),
     (
         "int n;int a[n];int main(void){}",
-        "-:1:13: this is no constant expression: it has a name or a call, or its value is not defined
+        "-:1:13: this is no constant expression: it has the name 'n'
     1 | int n;int a[n];int main(void){}
       |             ^
 ",
     ),
     (
         "int a[1/0];int main(void){}",
-        "-:1:7: this is no constant expression: it has a name or a call, or its value is not defined
+        "-:1:7: this is no constant expression: its value is not defined, for a division by 0 or a shift outside 0 to 31
     1 | int a[1/0];int main(void){}
       |       ^
 ",
     ),
     (
         "int x=read_word();int main(void){}",
-        "-:1:7: this is no constant expression: it has a name or a call, or its value is not defined
+        "-:1:7: this is no constant expression: it has a call of 'read_word'
     1 | int x=read_word();int main(void){}
       |       ^
 ",
     ),
     (
         "int a[2]={1,1<<32};int main(void){}",
-        "-:1:13: this is no constant expression: it has a name or a call, or its value is not defined
+        "-:1:13: this is no constant expression: its value is not defined, for a division by 0 or a shift outside 0 to 31
     1 | int a[2]={1,1<<32};int main(void){}
       |             ^
 ",

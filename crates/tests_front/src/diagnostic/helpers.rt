@@ -1,6 +1,6 @@
 // What is told of a text, as it is written.
 
-use cc_diagnostic::{Diagnostic, of_syntax, of_typing, of_wrong};
+use cc_diagnostic::{Diagnostic, of_syntax, of_typing, of_wrong, warnings};
 use cc_meaning::{Stop, interpret};
 use cc_syntax::{Unit, parse};
 use cc_typing::check;
@@ -24,11 +24,22 @@ pub fn written(
     Ok(lines)
 }
 
+// What is warned of in a text that is a program.
+fn warned(alloc: Global, text: &[u8]) -> Result<Vec<u8>, AllocError> {
+    let list = warnings(alloc, text)?;
+    let mut lines = Vec::new(alloc);
+    for diagnostic in list.as_slice() {
+        let _ = diagnostic.write(text, &mut lines);
+    }
+    drop(list);
+    Ok(lines)
+}
+
 fn of_unit(alloc: Global, text: &[u8], unit: Unit) -> Result<Vec<u8>, AllocError> {
     match check(alloc, unit) {
         Ok(typed) => {
             drop(typed);
-            Ok(Vec::new(alloc))
+            warned(alloc, text)
         }
         Err(fault) => {
             let told = of_typing(alloc, text, &fault);
@@ -38,7 +49,7 @@ fn of_unit(alloc: Global, text: &[u8], unit: Unit) -> Result<Vec<u8>, AllocError
     }
 }
 
-/// What is told of the first fault of a text; nothing for a program.
+/// What is told of the first fault of a text; of a program what is warned of.
 pub fn told_of(alloc: Global, text: &[u8]) -> Result<Vec<u8>, AllocError> {
     match parse(alloc, text) {
         Ok(unit) => of_unit(alloc, text, unit),

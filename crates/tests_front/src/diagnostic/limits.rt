@@ -153,7 +153,7 @@ fn limits(rt: HostRuntime) {
 fn functions(alloc: Global, count: usize) -> Result<Vec<u8>, AllocError> {
     let mut text = String::new(alloc);
     for i in 0..count {
-        let line = format!(in alloc; "int f{i}(void){{}}\n")?;
+        let line = format!(in alloc; "void f{i}(void){{}}\n")?;
         text.push_str(line.as_str())?;
         drop(line);
     }

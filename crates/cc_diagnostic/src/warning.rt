@@ -1,0 +1,196 @@
+// What is warned of in a program: it may run, but hardly as it was meant.
+//
+// The walk finds what stands in expressions and statements; here are what is read off the tokens, and the messages.
+
+use super::code::Element;
+use super::diagnostic::Diagnostic;
+use super::message::{Part, message};
+use super::walk::Walk;
+use cc_syntax::{Identifier, SyntaxFault, Unit, parse};
+use cc_tokens::{Next, Token, next_token};
+use std::alloc::{AllocError, Global};
+
+/// How many warnings are told at most.
+const MOST_WARNINGS: usize = 20;
+
+/// What is warned of.
+#[derive(Clone, Copy)]
+pub enum Warning<'a> {
+    /// A constant index outside its array.
+    Index(Element<'a>, u32),
+    /// A statement without effect, at the offset of its first name.
+    NoEffect(usize),
+    /// A function with a result whose end is reached.
+    NoReturn(&'a Identifier),
+}
+
+// The token at an offset or behind it.
+fn token_at(text: &[u8], at: usize) -> Option<Token> {
+    match next_token(text, at.min(text.len())) {
+        Next::Token(token) => Some(token),
+        Next::End | Next::Flawed(_, _) => None,
+    }
+}
+
+fn byte_at(text: &[u8], at: usize) -> u8 {
+    text.get(at).copied().unwrap_or(0)
+}
+
+// The offset of the brace that ends the body of the function whose name stands at an offset.
+fn end_of_body(text: &[u8], at: usize) -> usize {
+    let mut at = at;
+    let mut depth: usize = 0;
+    for _ in 0..text.len() {
+        let Some(token) = token_at(text, at) else {
+            return at;
+        };
+        let byte = byte_at(text, token.from);
+        if byte == b'{' {
+            depth = depth.saturating_add(1);
+        }
+        if byte == b'}' {
+            depth = depth.saturating_sub(1);
+            if depth == 0 {
+                return token.from;
+            }
+        }
+        at = token.to;
+    }
+    at
+}
+
+fn no_return(alloc: Global, text: &[u8], name: &Identifier) -> Result<Diagnostic, AllocError> {
+    let parts = [
+        Part::Words("warning: "),
+        Part::Token(name.bytes.as_slice()),
+        Part::Words(" has no return at its end, and gives 0 there"),
+    ];
+    let message = message(alloc, &parts)?;
+    Ok(Diagnostic {
+        at: Some(end_of_body(text, name.at)),
+        message,
+        related: None,
+    })
+}
+
+fn index(alloc: Global, element: Element<'_>, word: u32) -> Result<Diagnostic, AllocError> {
+    let parts = [
+        Part::Words("warning: index "),
+        Part::Word(element.index, word),
+        Part::Words(" is outside "),
+        Part::Name(element.array.bytes.as_slice()),
+        Part::Words("["),
+        Part::Count(element.extent.length),
+        Part::Words("]"),
+    ];
+    let message = message(alloc, &parts)?;
+    Ok(Diagnostic {
+        at: Some(element.array.at),
+        message,
+        related: None,
+    })
+}
+
+// A warning of words alone.
+fn plain(alloc: Global, at: usize, words: &str) -> Result<Diagnostic, AllocError> {
+    let message = String::from_str(alloc, words)?;
+    Ok(Diagnostic {
+        at: Some(at),
+        message,
+        related: None,
+    })
+}
+
+fn told(alloc: Global, text: &[u8], warning: Warning<'_>) -> Result<Diagnostic, AllocError> {
+    match warning {
+        Warning::NoReturn(name) => no_return(alloc, text, name),
+        Warning::Index(element, word) => index(alloc, element, word),
+        Warning::NoEffect(at) => plain(alloc, at, "warning: this statement has no effect"),
+    }
+}
+
+// What is said of `=` with a sign directly behind it, and a space behind that.
+fn of_sign(text: &[u8], token: Token) -> Option<&'static str> {
+    let is_assignment = byte_at(text, token.from) == b'='
+        && token.to == token.from.saturating_add(1);
+    let is_apart = byte_at(text, token.to.saturating_add(1)) == b' ';
+    match byte_at(text, token.to) {
+        b'+' if is_assignment && is_apart => Some("warning: '=+' sets, did you mean '+='?"),
+        b'-' if is_assignment && is_apart => Some("warning: '=-' sets, did you mean '-='?"),
+        _ => None,
+    }
+}
+
+// Adds what is warned of by the tokens of a text.
+fn add_signs(alloc: Global, text: &[u8], list: &mut Vec<Diagnostic>) -> Result<(), AllocError> {
+    let mut at = 0;
+    for _ in 0..text.len() {
+        let Some(token) = token_at(text, at) else {
+            return Ok(());
+        };
+        if let Some(said) = of_sign(text, token)
+            && list.len() < MOST_WARNINGS
+        {
+            list.push(plain(alloc, token.from, said)?)?;
+        }
+        at = token.to;
+    }
+    Ok(())
+}
+
+// Adds what a walk found.
+fn add_found(
+    alloc: Global,
+    text: &[u8],
+    found: &[Warning<'_>],
+    list: &mut Vec<Diagnostic>,
+) -> Result<(), AllocError> {
+    for warning in found {
+        if list.len() < MOST_WARNINGS {
+            list.push(told(alloc, text, *warning)?)?;
+        }
+    }
+    Ok(())
+}
+
+// What is warned of in a text in which a walk found this.
+fn all(alloc: Global, text: &[u8], found: &[Warning<'_>]) -> Result<Vec<Diagnostic>, AllocError> {
+    let mut list = Vec::new(alloc);
+    add_found(alloc, text, found, &mut list)?;
+    add_signs(alloc, text, &mut list)?;
+    Ok(list)
+}
+
+// What is warned of in a unit.
+fn of_unit(alloc: Global, unit: &Unit) -> Result<Vec<Diagnostic>, AllocError> {
+    let mut walk = Walk::new(alloc, Vec::new(alloc), None)?;
+    let walked = walk.externals(unit.externals());
+    let list = all(alloc, unit.text(), walk.warnings.as_slice());
+    drop(walk);
+    match walked {
+        Ok(()) => list,
+        Err(error) => {
+            drop(list);
+            Err(error)
+        }
+    }
+}
+
+/// What is warned of in a text that is a program, at most 20 warnings: a constant index outside its array, a statement without effect, a
+/// function whose end is reached without a `return`, and `=+` or `=-` with a space behind it.
+///
+/// `AllocError` where memory for it runs out.
+pub fn warnings(alloc: Global, text: &[u8]) -> Result<Vec<Diagnostic>, AllocError> {
+    match parse(alloc, text) {
+        Ok(unit) => {
+            let list = of_unit(alloc, &unit);
+            drop(unit);
+            list
+        }
+        Err(SyntaxFault::OutOfMemory) => Err(AllocError),
+        Err(fault) => {
+            drop(fault);
+            Ok(Vec::new(alloc))
+        }
+    }
+}
