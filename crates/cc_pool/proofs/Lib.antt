@@ -1,3 +1,4 @@
+pub mod Crossing
 pub mod Few
 pub mod Lists
 pub mod Multisets
