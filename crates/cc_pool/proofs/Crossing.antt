@@ -1,5 +1,4 @@
 -- What goes to a worker may go to another thread. The trees of a unit are recursive, so each type is shown by itself, from below.
-use Rattle.std.proofs.Common.{rules}
 use denote.Param.Send.{IsSend, IsSync, sendable, recorded_send, recorded_sync, view_send, view_sync, struct_send, struct_sync, enum_send, enum_sync}
 use denote.Struct.Declared.{shape}
 use denote.Enum.Declared.{shape as enum_shape}
@@ -132,7 +131,10 @@ answer_send : IsSend Answer.the_row
 answer_send = recorded_send _ _ _ Answer.the_type.to_one (enum_send (enum_shape Answer.the_type) ((piece_send, tt), ((refusal_send, tt), tt)))
 
 order_send : IsSend Order.the_row
-order_send = view_send _ _ _ _ _ (recorded_send order.the_field.row _ _ order.the_type.to_one (struct_send (shape order.the_type) (search sendable, (search sendable, (Arc-send _ typed_send typed_sync, (let a = answer_send in search rules, tt))))))
+order_send = view_send _ _ _ _ _ (recorded_send order.the_field.row _ _ order.the_type.to_one (struct_send (shape order.the_type) (search sendable, (search sendable, (Arc-send _ typed_send typed_sync, (let a = answer_send in search (sendable, crosses) depth 40 fits 40000, tt))))))
+
+pub item_field_send : IsSend (Item.the_field).row
+item_field_send = enum_send (enum_shape Item.the_type) ((order_send, tt), (tt, tt))
 
 pub item_send : IsSend Item.the_row
-item_send = recorded_send _ _ _ Item.the_type.to_one (enum_send (enum_shape Item.the_type) ((order_send, tt), (tt, tt)))
+item_send = recorded_send (Item.the_field).row _ _ Item.the_type.to_one item_field_send
