@@ -27,6 +27,21 @@ use Rattle.cc_pool.specs.contracts.answer.Answer as Answer
 use Rattle.cc_pool.specs.contracts.item.Order as Order
 use Rattle.cc_pool.specs.contracts.item.Order.TheInside as order
 use Rattle.cc_pool.specs.contracts.item.Item as Item
+use Rattle.cc_pool.specs.contracts.ends.Queue as Queue
+use denote.RattleType.{RattleType}
+use Rattle.atomic_table.proofs.shared.Seat.TheSendSync as seat
+use Rattle.atomic_table.proofs.badge.Badge.TheSendSync as badge
+use Rattle.crossbeam_channel.specs.contracts.channel.Sender as Sender
+use Rattle.std.specs.contracts.alloc.Global as Global
+use Rattle.std.specs.contracts.impls.GlobalAllocator.TheImpl as heap
+use Rattle.cc_pool.specs.declared.named.Queued.{Ghosts}
+use Rattle.cc_pool.specs.contracts.ends.Ends as Ends
+use Rattle.cc_pool.specs.contracts.ends.Ends.TheInside as ends
+use Rattle.cc_pool.specs.contracts.ends.Seat as Seat
+use Rattle.cc_pool.specs.contracts.ends.Seat.TheInside as seats
+use Rattle.cc_pool.specs.contracts.seats.Taker as Taker
+use Rattle.cc_pool.specs.contracts.seats.Taker.TheInside as takers
+use Rattle.cc_pool.proofs.Channels.{sender_send, receiver_send, sender_sync, receiver_sync}
 
 identifier_send : IsSend (Identifier.the_field).row
 identifier_send = search (sendable, crosses) depth 20
@@ -138,3 +153,21 @@ item_field_send = enum_send (enum_shape Item.the_type) ((order_send, tt), (tt, t
 
 pub item_send : IsSend Item.the_row
 item_send = recorded_send (Item.the_field).row _ _ Item.the_type.to_one item_field_send
+
+pub queue_send : IsSend (Queue.the_field).row
+queue_send = struct_send (shape Queue.the_type) (search (sender_send, item_send), (search (receiver_send, item_send), tt))
+
+pub queue_sync : IsSync (Queue.the_field).row
+queue_sync = struct_sync (shape Queue.the_type) (search (sender_sync, item_send), (search (receiver_sync, item_send), tt))
+
+pub ends_send : (N : RattleType) (q : Ghosts N.Denot) → IsSend N → IsSend (Ends.the_row N q)
+ends_send N q n = view_send _ _ _ _ _ (recorded_send (ends.the_field N q).row _ _ (ends.the_type N q).to_one (struct_send (shape (ends.the_type N q)) (queue_send, (search sendable, tt))))
+
+pub seat_send : (N : RattleType) (q : Ghosts N.Denot) → IsSend N → IsSend (Seat.the_row N q)
+seat_send N q n = view_send _ _ _ _ _ (recorded_send (seats.the_field N q).row _ _ (seats.the_type N q).to_one (struct_send (shape (seats.the_type N q)) (search (seat.the_send, badge.the_send) depth 5, (search sendable, tt))))
+
+pub taker_send : (N : RattleType) (q : Ghosts N.Denot) → IsSend N → IsSend (Taker.the_row N q)
+taker_send N q n = view_send _ _ _ _ _ (recorded_send (takers.the_field N q).row _ _ (takers.the_type N q).to_one (struct_send (shape (takers.the_type N q)) (let s = seat_send N q n in search sendable, tt)))
+
+pub back_send : (N : RattleType) (q : Ghosts N.Denot) → IsSend N → IsSend (Sender.the_field (Taker.the_row N q) Global.the_row heap.ghosts).row
+back_send N q n = let t = taker_send N q n in search (sendable, crosses) depth 40 fits 40000

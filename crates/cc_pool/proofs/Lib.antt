@@ -5,3 +5,4 @@ pub mod Multisets
 pub mod Pieces
 pub mod Refusals
 pub mod Rules
+pub mod Channels

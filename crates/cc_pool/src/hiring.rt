@@ -79,7 +79,6 @@ fn another<N: Queued>(back: &Sender<Taker<N>>) -> Result<Sender<Taker<N>>, Alloc
 }
 
 // Whether a thread was made that works so.
-#[tactic(auto, using(crate::proofs::Crossing::item_field_send, crate::proofs::Crossing::item_send))]
 fn spawned<N, R, G>(
     rt: R,
     alloc: Global,
