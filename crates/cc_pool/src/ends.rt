@@ -8,9 +8,9 @@ ghost use Rattle.cc_pool.specs.declared.rule.Role.TheVariants.{Owner, Out};
 ghost use Rattle.cc_pool.specs.Rule.{sends_one, takes_one, splits_one, joins_one, new_hand, first_hand, is_live};
 ghost use Rattle.cc_pool.specs.internal.AllTaken.{AllTaken};
 
+use crate::item::Item;
 use crate::named::Queued;
 use crate::rule::{Back, Cut, Hand, Law, Sends, Takes};
-use crate::item::Item;
 use crossbeam_channel::{RuledReceiver, RuledSender, bounded_with};
 use std::alloc::{AllocError, Global};
 use std::marker::{Model, PhantomData};

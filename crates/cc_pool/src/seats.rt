@@ -6,8 +6,8 @@ ghost use Rattle.cc_pool.specs.declared.rule.Role.TheVariants.{Owner, Out};
 ghost use Rattle.cc_pool.specs.Rule.{first_hand, new_hand};
 
 use crate::ends::{Ends, Seat};
-use crate::named::Queued;
 use crate::item::{Item, Order};
+use crate::named::Queued;
 use std::marker::Model;
 use std::sync::Wait;
 
@@ -85,12 +85,7 @@ impl<N: Queued> Model for Drained<N> {
 
 impl<N: Queued> Pass<N> {
     // Puts an order behind what was sent.
-    pub(crate) fn send<R: Wait>(
-        &mut self,
-        rt: &R,
-        ends: &Ends<N>,
-        order: Order,
-    ) -> Result<(), Item>
+    pub(crate) fn send<R: Wait>(&mut self, rt: &R, ends: &Ends<N>, order: Order) -> Result<(), Item>
         ensures ok { OnOk result (self.new.sent ≡ self.old.sent ++ Piece order ∷ []) }
         ensures err { OnErr result (self.new.sent ≡ self.old.sent) }
         ensures taken { self.new.taken ≡ self.old.taken }

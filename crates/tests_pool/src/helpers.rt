@@ -12,6 +12,7 @@ use std::thread;
 
 /// A text with one function, and one with two.
 pub const ONE: &[u8] = b"int main(void){return 1;}";
+
 pub const TWO: &[u8] = b"int f(int x){return x;}int main(void){return f(2);}";
 
 /// How often a gate yields before it gives up.

@@ -55,7 +55,11 @@ where
     requires { fresh ≡ N.queue }
 {
     let mut text = Vec::new(alloc);
-    repeat(&mut text, b"int x;int f(void){return x;}void first(void){", 1)?;
+    repeat(
+        &mut text,
+        b"int x;int f(void){return x;}void first(void){",
+        1,
+    )?;
     repeat(&mut text, b"x++;", 5_000)?;
     repeat(&mut text, b"}int main(void){", 1)?;
     repeat(&mut text, b"x++;", 5_001)?;
@@ -64,10 +68,12 @@ where
     let mut pass = pool.pass(rt);
     let ticket = pool.submit(rt, alloc, &mut pass, unit(alloc, text.as_slice())?)?;
     let told = match pool.collect(rt, alloc, ticket) {
-        Err(PoolFault::Piece {
-            function,
-            fault: PieceFault::FunctionTooLarge { at, length },
-        }) => (function, at, length),
+        Err(
+            PoolFault::Piece {
+                function,
+                fault: PieceFault::FunctionTooLarge { at, length },
+            },
+        ) => (function, at, length),
         other => {
             drop(other);
             (0, 0, 0)

@@ -16,7 +16,7 @@ returns-in-None c = λ rs h.
     let same = sym c.text.ensures ∙ agree c.text.result.now text c.ne.result c.ne.ensures c.if-ne.false in
     let refused = subst (λ (t : List ℕ). IsRefusedAt t r.function r.fault) same c.fault-why.ensures.refused in
     subst (λ (o : ℕ × PieceFault). IsLeastOf text (rs ++ r ∷ []) (Some o)) (λ i. (sym c.function-at.ensures i, sym c.fault-why.ensures.answer i))
-        (first_of_text text rs r same refused (subst (λ (o : Option (ℕ × PieceFault)). IsLeastOf text rs o) c.in-None.is h))
+    (first_of_text text rs r same refused (subst (λ (o : Option (ℕ × PieceFault)). IsLeastOf text rs o) c.in-None.is h))
 
 pub returns-else-function-at : goal.returns-else-function-at
 returns-else-function-at c = λ rs h.
@@ -25,5 +25,5 @@ returns-else-function-at c = λ rs h.
     let same = sym c.text.ensures ∙ agree c.text.result.now text c.ne.result c.ne.ensures c.if-ne.false in
     let refused = subst (λ (t : List ℕ). IsRefusedAt t r.function r.fault) same c.fault-why.ensures.refused in
     subst (λ (o : ℕ × PieceFault). IsLeastOf text (rs ++ r ∷ []) (Some o)) (λ i. (sym c.function-at.ensures i, sym c.fault-why.ensures.answer i))
-        (before_all text rs r c.in-Some.function c.in-Some.fault same refused (omega (arith, c.if-function-at.false, c.function-at.ensures))
-            (subst (λ (o : Option (ℕ × PieceFault)). IsLeastOf text rs o) c.in-Some.is h))
+    (before_all text rs r c.in-Some.function c.in-Some.fault same refused (omega (arith, c.if-function-at.false, c.function-at.ensures))
+    (subst (λ (o : Option (ℕ × PieceFault)). IsLeastOf text rs o) c.in-Some.is h))

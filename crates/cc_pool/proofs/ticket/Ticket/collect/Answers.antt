@@ -13,5 +13,5 @@ returns-in-Ok-clause-told g c =
     let text : c.text.result.now ≡ c.args.self.text = c.text.ensures.answer ∙ ap (λ (u : parsed.Unit). (source u).text) c.deref-in-Ok.ensures ∙ ap (λ (j : Job). j.text) c.self.view_is in
     let count : c.functions-functions.result ≡ c.args.self.functions = c.functions-functions.ensures ∙ ap (λ (u : parsed.Unit). length (defined_names (source u))) c.deref.ensures ∙ ap (λ (j : Job). j.functions) c.self.view_is in
     subst (λ (t : List ℕ). IfErr c.in_order.result (λ fault. IsTold t c.args.self.functions fault)) text
-        (subst (λ (n : ℕ). IfErr c.in_order.result (λ fault. IsTold c.text.result.now n fault)) count
-            (told_some c.text.result.now c.functions-functions.result c.in-Ok.came.pieces.items c.in-Ok.came.refusals.items c.in_order.result c.in_order.ensures.told))
+    (subst (λ (n : ℕ). IfErr c.in_order.result (λ fault. IsTold c.text.result.now n fault)) count
+    (told_some c.text.result.now c.functions-functions.result c.in-Ok.came.pieces.items c.in-Ok.came.refusals.items c.in_order.result c.in_order.ensures.told))
