@@ -2,4 +2,5 @@
 pub mod Line
 -- The numbers of the faults.
 pub mod Fault
+-- What only private contracts speak of.
 pub mod internal
