@@ -1,0 +1,6 @@
+-- What a line of a script says.
+pub mod Line
+-- The numbers of the faults.
+pub mod Fault
+-- What only private contracts speak of.
+pub mod internal

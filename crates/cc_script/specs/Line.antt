@@ -1,0 +1,93 @@
+-- What a line of a script says.
+use Rattle.std.specs.Prelude.{◌≡◌, ℕ, ◌+◌, ◌-◌, ◌*◌, Bool, ◌&&◌, ◌==◌, nat_le, nat_lt, if◌then◌else◌, List, [], ◌∷◌, length, Option, Some, None, codes}
+use Rattle.std.specs.List.{slice_split}
+use Rattle.std.specs.Char.{is_ascii_digit}
+use Rattle.std.specs.Str.{bytes_eq}
+use Rattle.cc_script.specs.declared.command.Command.{Command}
+use Rattle.cc_script.specs.declared.command.Command.TheVariants as command
+
+-- what a script asks for: a change with so many bytes of source behind its line, one without, or a look
+pub data Asked : Type 0 where
+  Add : (name : List ℕ) → (length : ℕ) → Asked
+  Replace : (name : List ℕ) → (length : ℕ) → Asked
+  Withdraw : (name : List ℕ) → Asked
+  Names : Asked
+  Run : (name : List ℕ) → (steps : ℕ) → Asked
+  Compact : Asked
+
+-- what a command of the code asks for
+abbrev pub asked_by : Command → Asked
+asked_by (command.Add name length) = Add name.now length
+asked_by (command.Replace name length) = Replace name.now length
+asked_by (command.Withdraw name) = Withdraw name.now
+asked_by command.List = Names
+asked_by (command.Run name steps) = Run name.now steps
+asked_by command.Compact = Compact
+
+-- ---- numbers
+
+-- the number that some digits make, behind those of n; none where a byte is no digit
+abbrev pub number_from : ℕ → List ℕ → Option ℕ
+number_from n [] = Some n
+number_from n (byte ∷ bytes) = if is_ascii_digit byte then number_from (10 * n + (byte - 48)) bytes else None
+
+-- a number that is not above the limit
+abbrev pub at_most : (limit : ℕ) → Option ℕ → Option ℕ
+at_most limit (Some n) = if nat_le n limit then Some n else None
+at_most limit None = None
+
+-- the number of 1 to so many digits, not above the limit, that stands there
+abbrev pub number_in : (digits limit : ℕ) → List ℕ → Option ℕ
+number_in digits limit bytes = if nat_lt 0 (length bytes) && nat_le (length bytes) digits then at_most limit (number_from 0 bytes) else None
+
+-- how many bytes a source has: 1 to 6 digits
+abbrev pub length_in : List ℕ → Option ℕ
+length_in bytes = number_in 6 999999 bytes
+
+-- how many instructions a run may take: 1 to 10 digits
+abbrev pub steps_in : List ℕ → Option ℕ
+steps_in bytes = number_in 10 1000000000 bytes
+
+-- ---- lines
+
+-- the words of a line, which stand between single spaces
+abbrev pub words : List ℕ → List (List ℕ)
+words line = slice_split (λ b. b == 32) line
+
+-- a word is no word of a line where it has no byte, as between two spaces
+abbrev pub is_word : List ℕ → Bool
+is_word bytes = nat_lt 0 (length bytes)
+
+abbrev pub one_word : (verb : List ℕ) → Option Asked
+one_word verb = if bytes_eq verb (codes "list") then Some Names else if bytes_eq verb (codes "compact") then Some Compact else None
+
+abbrev pub two_words : (verb name : List ℕ) → Option Asked
+two_words verb name = if bytes_eq verb (codes "withdraw") && is_word name then Some (Withdraw name) else None
+
+-- what is asked of a name with a number, where there is one
+abbrev pub with_number : (ℕ → Asked) → Option ℕ → Option Asked
+with_number make (Some n) = Some (make n)
+with_number make None = None
+
+abbrev pub three_words : (verb name digits : List ℕ) → Option Asked
+three_words verb name digits =
+    if is_word name then
+    (if bytes_eq verb (codes "add") then with_number (Add name) (length_in digits)
+    else if bytes_eq verb (codes "replace") then with_number (Replace name) (length_in digits)
+    else if bytes_eq verb (codes "run") then with_number (Run name) (steps_in digits)
+    else None)
+    else None
+
+abbrev pub asked_in : (words : List (List ℕ)) → Option Asked
+asked_in (verb ∷ []) = one_word verb
+asked_in (verb ∷ name ∷ []) = two_words verb name
+asked_in (verb ∷ name ∷ digits ∷ []) = three_words verb name digits
+asked_in words = None
+
+-- what a line asks for, if anything
+abbrev pub asked_of : (line : List ℕ) → Option Asked
+asked_of line = asked_in (words line)
+
+-- the line says this command
+abbrev pub IsLine : (line : List ℕ) → Command → Type 0
+IsLine line command = asked_of line ≡ Some (asked_by command)

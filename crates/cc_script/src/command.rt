@@ -1,0 +1,133 @@
+// What a line of a script asks for.
+
+ghost use Rattle.std.specs.Prelude.{◌≡◌, ◌≤◌, ◌<◌, ◌+◌, ◌++◌, ◌∷◌, [], ℕ, List, Option, Some, None, IfSome, length, option_map};
+ghost use Rattle.cc_script.specs.Line.{asked_by, asked_of, number_in, one_word, two_words, three_words, words};
+ghost use Rattle.cc_script.specs.internal.Cutting.{words_behind};
+
+/// The most instructions that a line may give a run.
+pub const MOST_STEPS: u64 = 1_000_000_000;
+
+// The most bytes of source that 6 digits can tell.
+const MOST_LENGTH: u64 = 999_999;
+
+/// What a line of a script asks for.
+#[derive(Clone, Copy, Drop)]
+pub enum Command<'a> {
+    /// Add a unit by that name, compiled from so many bytes of source behind the line.
+    Add { name: &'a [u8], length: usize },
+    /// Replace the unit by that name, in the same way.
+    Replace { name: &'a [u8], length: usize },
+    /// Withdraw the unit by that name.
+    Withdraw { name: &'a [u8] },
+    /// List the names of all units.
+    List,
+    /// Run the unit by that name for at most so many instructions.
+    Run { name: &'a [u8], steps: u64 },
+    /// Write the library anew, with one record for each unit.
+    Compact,
+}
+
+// The first word of a line, and what stands behind the space that ends it, if one does.
+fn cut(line: &[u8]) -> (&[u8], Option<&[u8]>)
+    ensures { words line.now ≡ words_behind result.0.now result.1 }
+{
+    for i in 0..line.len() {
+        if line[i] == b' ' {
+            return (&line[..i], Some(&line[i + 1..]));
+        }
+    }
+    (line, None)
+}
+
+// The number of 1 to so many digits, not above the limit, that stands there.
+fn number_in(bytes: &[u8], digits: usize, limit: u64) -> Option<u64>
+    requires { digits ≤ 10 }
+    ensures { result ≡ number_in digits limit bytes.now }
+{
+    if bytes.is_empty() || bytes.len() > digits {
+        return None;
+    }
+    let mut number = 0;
+    for i in 0..bytes.len() {
+        if !bytes[i].is_ascii_digit() {
+            return None;
+        }
+        number = 10 * number + u64::from(bytes[i] - b'0');
+    }
+    if number <= limit { Some(number) } else { None }
+}
+
+// How many bytes a source has.
+fn length_in(bytes: &[u8]) -> Option<usize>
+    ensures { result ≡ number_in 6 999999 bytes.now }
+{
+    match number_in(bytes, 6, MOST_LENGTH) {
+        Some(length) => Some(length as usize),
+        None => None,
+    }
+}
+
+// A command of one word.
+fn one_word<'a>(verb: &[u8]) -> Option<Command<'a>>
+    ensures { option_map asked_by result ≡ one_word verb.now }
+{
+    if verb == b"list".as_slice() {
+        Some(Command::List)
+    } else if verb == b"compact".as_slice() {
+        Some(Command::Compact)
+    } else {
+        None
+    }
+}
+
+// A command of two words.
+fn two_words<'a>(verb: &[u8], name: &'a [u8]) -> Option<Command<'a>>
+    ensures { option_map asked_by result ≡ two_words verb.now name.now }
+{
+    if verb == b"withdraw".as_slice() && !name.is_empty() {
+        Some(Command::Withdraw { name })
+    } else {
+        None
+    }
+}
+
+// A command of three words.
+fn three_words<'a>(verb: &[u8], name: &'a [u8], digits: &[u8]) -> Option<Command<'a>>
+    ensures { option_map asked_by result ≡ three_words verb.now name.now digits.now }
+{
+    if name.is_empty() {
+        return None;
+    }
+    if verb == b"add".as_slice() {
+        let length = length_in(digits)?;
+        return Some(Command::Add { name, length });
+    }
+    if verb == b"replace".as_slice() {
+        let length = length_in(digits)?;
+        return Some(Command::Replace { name, length });
+    }
+    if verb == b"run".as_slice() {
+        let steps = number_in(digits, 10, MOST_STEPS)?;
+        return Some(Command::Run { name, steps });
+    }
+    None
+}
+
+/// What a line asks for, which is said without its newline; none where it is no command.
+pub fn command_of(line: &[u8]) -> Option<Command<'_>>
+    ensures { option_map asked_by result ≡ asked_of line.now }
+{
+    let (verb, rest) = cut(line);
+    let Some(rest) = rest else {
+        return one_word(verb);
+    };
+    let (name, rest) = cut(rest);
+    let Some(rest) = rest else {
+        return two_words(verb, name);
+    };
+    let (digits, rest) = cut(rest);
+    match rest {
+        None => three_words(verb, name, digits),
+        Some(_) => None,
+    }
+}

@@ -1,0 +1,159 @@
+// The lines and the sources of a script, as they are read.
+
+ghost use Rattle.std.specs.Prelude.{◌≡◌, ◌≤◌, ◌<◌, ◌+◌, true, IfOk, IfSome};
+ghost use Rattle.cc_script.specs.internal.Reading.{IsWithinLine};
+
+use super::fault::ScriptFault;
+use std::alloc::Global;
+use std::io::Read;
+
+/// The most bytes that a script may have.
+pub const MOST_BYTES: usize = 16_777_216;
+
+/// The most bytes that a line may have, without its newline.
+pub const LINE_BYTES: usize = 128;
+
+/// How many bytes of a source are kept: one more than a source may have, so that a longer one is seen to be one.
+const KEPT_BYTES: usize = 65_537;
+
+/// What comes next in a script.
+#[derive(Clone, Copy, Drop)]
+pub enum Next {
+    /// A line of so many bytes, without its newline. One is there where the script ends behind at least one byte.
+    Line(usize),
+    /// More bytes of a line than it may have. The rest of it is still to be skipped.
+    TooLong,
+    /// The end of the script.
+    End,
+}
+
+/// How far a script has been read. No more is asked of its reader than what is needed here.
+#[derive(Drop)]
+pub struct Script {
+    piece: [u8; 4096],
+    // What was read and not handed out yet stands between these two.
+    next: usize,
+    end: usize,
+    // How many bytes more the script may have.
+    left: usize,
+    // Whether the reader was at its end.
+    is_over: bool,
+    ghost within: { (next ≤ end) × (end ≤ 4096) },
+}
+
+impl Script {
+    /// A script of which nothing has been read.
+    pub fn new() -> Script {
+        Script {
+            piece: [0; 4096],
+            next: 0,
+            end: 0,
+            left: MOST_BYTES,
+            is_over: false,
+        }
+    }
+
+    // Reads more, where all that was read has been handed out. Whether there is more.
+    fn fill<R: Read>(&mut self, reader: &mut R) -> Result<bool, ScriptFault>
+        ensures filled { IfOk result (λ is_more. is_more ≡ true → self.new.next < self.new.end) }
+        ensures left { self.new.left ≡ self.old.left }
+    {
+        if self.next < self.end {
+            return Ok(true);
+        }
+        if self.is_over {
+            return Ok(false);
+        }
+        let Ok(count) = reader.read(&mut self.piece) else {
+            return Err(ScriptFault::ReadFault);
+        };
+        self.next = 0;
+        self.end = count;
+        self.is_over = count == 0;
+        Ok(count > 0)
+    }
+
+    // The next byte, or none at the end.
+    fn byte<R: Read>(&mut self, reader: &mut R) -> Result<Option<u8>, ScriptFault>
+        ensures { IfOk result (λ next. IfSome next (λ byte. self.new.left + 1 ≡ self.old.left)) }
+    {
+        if !self.fill(reader)? {
+            return Ok(None);
+        }
+        if self.left == 0 {
+            return Err(ScriptFault::ScriptTooLong);
+        }
+        let byte = self.piece[self.next];
+        self.next += 1;
+        self.left -= 1;
+        Ok(Some(byte))
+    }
+
+    /// Reads the next line into `line`, up to its newline or the end of the script.
+    ///
+    /// 52 where the script has more bytes than it may have, 53 where it can't be read.
+    pub fn next_line<R: Read>(
+        &mut self,
+        reader: &mut R,
+        line: &mut [u8; LINE_BYTES],
+    ) -> Result<Next, ScriptFault>
+        ensures { IfOk result IsWithinLine }
+    {
+        for length in 0..LINE_BYTES {
+            match self.byte(reader)? {
+                None if length == 0 => return Ok(Next::End),
+                None | Some(b'\n') => return Ok(Next::Line(length)),
+                Some(byte) => line[length] = byte,
+            }
+        }
+        match self.byte(reader)? {
+            None | Some(b'\n') => Ok(Next::Line(LINE_BYTES)),
+            Some(_) => Ok(Next::TooLong),
+        }
+    }
+
+    /// Skips what is left of a line, and its newline.
+    ///
+    /// 52 and 53 as for a line.
+    pub fn skip_line<R: Read>(&mut self, reader: &mut R) -> Result<(), ScriptFault> {
+        while let Some(byte) = self.byte(reader)? {
+            if byte == b'\n' {
+                break;
+            }
+        }
+        Ok(())
+    }
+
+    /// The source of so many bytes that comes next: of one with more than 65,536 the first 65,537. None where there is no room
+    /// for it, and then too it is read.
+    ///
+    /// 51 where the script ends before it does, 52 and 53 as for a line.
+    pub fn source<R: Read>(
+        &mut self,
+        alloc: Global,
+        reader: &mut R,
+        length: usize,
+    ) -> Result<Option<Vec<u8>>, ScriptFault> {
+        let mut source = Vec::new(alloc);
+        let mut is_kept = true;
+        for _ in 0..length {
+            let Some(byte) = self.byte(reader)? else {
+                return Err(ScriptFault::EndOfScript);
+            };
+            if is_kept && source.len() < KEPT_BYTES {
+                is_kept = source.push(byte).is_ok();
+            }
+        }
+        Ok(if is_kept { Some(source) } else { None })
+    }
+
+    /// Whether a source ends here: by a newline, which is skipped, or by the end of the script.
+    ///
+    /// 52 and 53 as for a line.
+    pub fn is_at_line_end<R: Read>(&mut self, reader: &mut R) -> Result<bool, ScriptFault> {
+        match self.byte(reader)? {
+            None | Some(b'\n') => Ok(true),
+            Some(_) => Ok(false),
+        }
+    }
+}
