@@ -78,7 +78,6 @@ sender_send T V P g t = sending (channel T V P g) (rows_send T V P g t) (rows_sy
 pub receiver_send : (T V P : RattleType) (g : Ghosts P.Denot T.Denot V.Denot) → IsSend T → IsSend (Receiving.the_field (channel T V P g) Global.the_row heap.ghosts).row
 receiver_send T V P g t = receiving (channel T V P g) (rows_send T V P g t) (rows_sync T V P g t)
 
-
 pub sender_sync : (T V P : RattleType) (g : Ghosts P.Denot T.Denot V.Denot) → IsSend T → IsSync (Sending.the_field (channel T V P g) Global.the_row heap.ghosts).row
 sender_sync T V P g t = sending_sync (channel T V P g) (rows_send T V P g t) (rows_sync T V P g t)
 
