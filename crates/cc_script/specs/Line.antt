@@ -1,5 +1,5 @@
 -- What a line of a script says.
-use Rattle.std.specs.Prelude.{◌≡◌, ℕ, ◌+◌, ◌-◌, ◌*◌, Bool, ◌&&◌, ◌==◌, nat_le, nat_lt, if◌then◌else◌, List, [], ◌∷◌, length, Option, Some, None, codes}
+use Rattle.std.specs.Prelude.{ℕ, ◌+◌, ◌-◌, ◌*◌, Bool, ◌&&◌, ◌==◌, nat_le, nat_lt, if◌then◌else◌, List, [], ◌∷◌, length, Option, Some, None, codes}
 use Rattle.std.specs.List.{slice_split}
 use Rattle.std.specs.Char.{is_ascii_digit}
 use Rattle.std.specs.Str.{bytes_eq}
@@ -87,7 +87,3 @@ asked_in words = None
 -- what a line asks for, if anything
 abbrev pub asked_of : (line : List ℕ) → Option Asked
 asked_of line = asked_in (words line)
-
--- the line says this command
-abbrev pub IsLine : (line : List ℕ) → Command → Type 0
-IsLine line command = asked_of line ≡ Some (asked_by command)

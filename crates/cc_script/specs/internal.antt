@@ -1,3 +1,2 @@
 -- What only private contracts speak of.
 pub mod Cutting
-pub mod Reading

@@ -1,7 +1,7 @@
 // The lines and the sources of a script, as they are read.
 
 ghost use Rattle.std.specs.Prelude.{◌≡◌, ◌≤◌, ◌<◌, ◌+◌, true, IfOk, IfSome};
-ghost use Rattle.cc_script.specs.internal.Reading.{IsWithinLine};
+ghost use Rattle.cc_script.specs.Reading.{IsWithinLine};
 
 use super::fault::ScriptFault;
 use std::alloc::Global;
