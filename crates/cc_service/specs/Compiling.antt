@@ -29,8 +29,8 @@ pub record IsTooLarge (text : List ℕ) : Type 0 where
   pub count : length pieces ≡ length (functions tree)
   pub refused : linked (source_with text tree) pieces ≡ Err link.ImageTooLarge
 
--- 1 to 7 and 11 to 21 exactly as `parse` and `check` have them, 40 set aside. Only a program has another fault: 22 or 24 of the least
--- function that was refused, as the pool tells; 41 where the job's results ended early; 25 where linking refuses its pieces so.
+-- 1 to 7 and 11 to 21 exactly as `parse` and `check` have them, 40 set aside. Only a program has another fault: 22 or 24 of a function that
+-- has no piece for this reason (that it is the least one is the pool's to say); 41; 25 where linking refuses pieces of all functions so.
 abbrev pub IsCompileRefusal : List ℕ → ServiceFault → Type 0
 IsCompileRefusal text (Syntax f) = IsParseRefusal text f
 IsCompileRefusal text (Typing f) = (f ≡ typing.OutOfMemory) ⊎ IsRefusedTree text f
