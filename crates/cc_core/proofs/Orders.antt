@@ -18,10 +18,9 @@ use Rattle.cc_library.specs.declared.command.Command.TheVariants as command
 use Rattle.cc_library.specs.Apply.{Units, apply, kept, after, after_all, library_of, AreAccepted}
 use Rattle.cc_core.specs.declared.command.Numbered.{Numbered}
 use Rattle.cc_core.specs.Step.{commands, IsLongest}
-use Rattle.cc_core.specs.Run.{EachUnit, but_last}
+use Rattle.cc_core.specs.Run.{EachUnit, IsRightCommand, but_last}
 use Rattle.cc_core.specs.internal.Ready.{IsOfOrder, IsInEffect, IsFrontKept}
 use Rattle.cc_core.proofs.Lists.{take-push}
-use Rattle.cc_core.proofs.Whole.{IsRightCommand}
 
 cond_cases : {A : Type 0} (b : Bool) (x y z : A) → cond b x y ≡ z → (x ≡ z) ⊎ (y ≡ z)
 cond_cases true x y z is = inl is

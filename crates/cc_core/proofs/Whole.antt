@@ -20,15 +20,9 @@ use Rattle.cc_core.specs.declared.fault.Refusal.TheVariants as refusal
 use Rattle.cc_core.specs.StoreState.{StoreState}
 use Rattle.cc_core.specs.Store.{room_taken}
 use Rattle.cc_core.specs.Rules.{Rules, AreWhole}
-use Rattle.cc_core.specs.Run.{command_source}
+use Rattle.cc_core.specs.Run.{command_source, IsRightCommand}
 use Rattle.cc_core.proofs.Lists.{All-each}
 use Rattle.cc_core.specs.Job.{source_in, unless, with_unit, accepted, all_there, first_refused, made_pieces, built, command_of, closed, full, map_refusal, first_of_two, command_refusal, verdict}
-
--- the unit of a command, where it has one, is right
-abbrev pub IsRightCommand : (StoredUnit → Type 0) → Command → Type 0
-IsRightCommand is_right (command.Add name unit) = is_right unit
-IsRightCommand is_right (command.Replace name unit) = is_right unit
-IsRightCommand is_right (command.Withdraw name) = Unit {0}
 
 unless-Ok : {A E : Type 0} (o : Option E) (r : Result A E) (x : A) → unless o r ≡ Ok x → (o ≡ None) × (r ≡ Ok x)
 unless-Ok None r x is = (refl, is)

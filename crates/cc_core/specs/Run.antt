@@ -81,6 +81,12 @@ command_source (command.Add name unit) = Some unit.source
 command_source (command.Replace name unit) = Some unit.source
 command_source (command.Withdraw name) = None
 
+-- the unit of a command, where it has one, has this property
+abbrev pub IsRightCommand : (StoredUnit → Type 0) → Command → Type 0
+IsRightCommand is_right (command.Add name unit) = is_right unit
+IsRightCommand is_right (command.Replace name unit) = is_right unit
+IsRightCommand is_right (command.Withdraw name) = Unit {0}
+
 -- the four device steps of a commit, one after the other
 pub record Commits (client : ClientId) (numbered : Numbered) (old new : Core) : Type 0 where
   pub body_written : Core

@@ -1,6 +1,8 @@
 //! Laws of the protocol core, each the contract of a function that does nothing: what holds of every run, and how a run can go on.
 ghost use Rattle.std.specs.Prelude.{◌≡◌, ◌++◌, ℕ, Option, None, Some, List};
-ghost use Rattle.std.specs.FinMap.{get};
+ghost use Rattle.std.specs.FinMap.{get, empty};
+ghost use Rattle.cc_unit.specs.declared.unit.StoredUnit.{StoredUnit};
+ghost use Rattle.cc_library.specs.Apply.{Units, after};
 ghost use Rattle.cc_library.specs.declared.command.Command.{Command};
 ghost use Rattle.cc_core.specs.declared.contents.Contents.{Contents};
 ghost use Rattle.cc_core.specs.declared.event.Event.{Event};
@@ -12,7 +14,7 @@ ghost use Rattle.cc_core.specs.declared.ids.ClientId.{ClientId};
 ghost use Rattle.cc_core.specs.declared.ids.WorkerId.{WorkerId};
 ghost use Rattle.cc_core.specs.Rules.{HasBuilt};
 ghost use Rattle.cc_core.specs.Step.{Step, RewritesAll, Reopens, StepsCore, IsUp};
-ghost use Rattle.cc_core.specs.Run.{Turn, Run, EachUnit, IsRightOr, EachImageSurvives, EachImageIsRight, HandsIn, IsBeginning, IsAnyPiece, IsOfCrash, PutsSource, Commits, LeavesRecord, Rewrites, LeavesCompacted, live};
+ghost use Rattle.cc_core.specs.Run.{Turn, Run, EachUnit, IsRightCommand, IsRightOr, EachImageSurvives, EachImageIsRight, HandsIn, IsBeginning, IsAnyPiece, IsOfCrash, PutsSource, Commits, LeavesRecord, Rewrites, LeavesCompacted, live};
 ghost use Rattle.cc_core.specs.Turns.{BeginsSpelled, IsNoSubmit, IsNoTake, CanBeReady};
 
 use crate::build::Build;
@@ -55,6 +57,13 @@ pub fn crash_law<B: Build>()
 {
     survival_law::<B>();
 }
+
+/// What holds of each unit of a map holds of each after a command whose unit has it, and of each of the empty map, which has none.
+pub fn units_law()
+    ensures after { (holds : StoredUnit → Type 0) (library : Units) (command : Command)
+        → EachUnit holds library → IsRightCommand holds command → EachUnit holds (after library command) }
+    ensures none { (holds : StoredUnit → Type 0) → EachUnit holds empty }
+{}
 
 /// How a run can go on. Each step of an event that has one is a turn, where a piece that is handed in keeps what its type keeps, and a
 /// command that begins has a spelling; and one run goes on by another. Only a Submit gives a client a job, and only a Take gives a

@@ -36,7 +36,6 @@ use Rattle.cc_core.specs.Job as job
 use Rattle.cc_core.specs.Store.{append_of, gate_of, stepped, with_cells, FailsTo}
 use Rattle.cc_core.specs.StoreState.{StoreState}
 use Rattle.cc_core.specs.Step.{Begun, Begins, IsFree, commands, jobs_begun, numbered_now, ticked}
-use Rattle.cc_core.proofs.Held.{begin_most, begin_least}
 use Rattle.cc_history.specs.declared.command.Command.{Command}
 use Rattle.cc_history.specs.declared.entry.Entry.{Entry}
 use Rattle.cc_history.specs.declared.entry.Receipt.{Receipt}
@@ -51,7 +50,7 @@ use Rattle.cc_service.specs.Book.{BookView}
 use Rattle.cc_service.specs.Answers.{CommitAnswers, IsDone, IsRefused, failed_in}
 use Rattle.cc_service.specs.Disk.{ChangesDisk}
 use Rattle.cc_service.specs.Core.{Shows, ShowsDisk, ShowsOrder, Has, IsPhase, Steps, IsCommitOf, done_steps, refused_steps, failed_first, failed_last}
-use Rattle.cc_service.proofs.Disks.{within_is_image, within_is_written, written_same, committed_same, first_byte_kept}
+use Rattle.cc_service.proofs.Disks.{begin_most, begin_least, within_is_image, within_is_written, written_same, committed_same, first_byte_kept}
 
 -- ---- what the core's Begin comes to
 

@@ -8,11 +8,10 @@ use Rattle.cc_core.specs.Rules.{Rules}
 use Rattle.cc_core.specs.Step.{commands}
 use Rattle.cc_core.specs.declared.contents.Contents.{Contents}
 use Rattle.cc_core.specs.declared.event.Event.{Event}
-use Rattle.cc_core.specs.Run.{EachImageIsRight, EachImageSurvives, EachUnit, IsBeginning, IsRightOr, Run}
-use Rattle.cc_core.proofs.Orders.{EachUnit-after}
-use Rattle.cc_core.proofs.Whole.{IsRightCommand}
+use Rattle.cc_core.specs.Run.{EachImageIsRight, EachImageSurvives, EachUnit, IsBeginning, IsRightCommand, IsRightOr, Run}
 use Rattle.cc_library.specs.declared.command.Command.TheVariants as change
-use Rattle.cc_library.specs.Apply.{Units}
+use Rattle.cc_library.specs.Apply.{Units, after}
+use Rattle.cc_unit.specs.declared.unit.StoredUnit.{StoredUnit}
 use Rattle.cc_library.specs.Recovered.{Recovers}
 use Rattle.cc_history.specs.declared.entry.Entry.{Entry}
 use Rattle.cc_history.specs.History.{EachAgrees, HaveAgreed, Replays, units_after}
@@ -61,14 +60,16 @@ right_change base (change.Withdraw name) agreed = tt
 each_right : (base units : Units) → EachAgrees base units → EachUnit (IsRightOr is_right base) units
 each_right base units each name unit at = elim (each name unit at) [ inl there ↦ inl (name, there) | inr agreed ↦ inr agreed ]
 
-pub held_agrees : {D : Type 0} → ((base : Units) (history : List Entry) → HaveAgreed history → EachAgrees base (units_after base history)) → (book : BookView D) → Replays (chronicle_of book) → HaveAgreed book.history → AllAgreed book.failed
+pub held_agrees : {D : Type 0} → ((base : Units) (history : List Entry) → HaveAgreed history → EachAgrees base (units_after base history))
+    → ((holds : StoredUnit → Type 0) (library : Units) (c : made.Command) → EachUnit holds library → IsRightCommand holds c → EachUnit holds (after library c))
+    → (book : BookView D) → Replays (chronicle_of book) → HaveAgreed book.history → AllAgreed book.failed
     → (entries : ℕ) (image : List ℕ) (library : Units) → HoldsFrom book entries image → Recovers image library → EachUnit (IsRightOr is_right book.base) library
-held_agrees law book replays agreed failed entries image library (inl (j, _, _, alone)) recovers =
+held_agrees law stays book replays agreed failed entries image library (inl (j, _, _, alone)) recovers =
     subst (λ (u : Units). EachUnit (IsRightOr is_right book.base) u) (sym (alone.alone library recovers))
     (each_right book.base (units_after book.base (take j book.history)) (law book.base (take j book.history) (λ k e at. agreed k e (got_before j book.history k e at))))
-held_agrees law book replays agreed failed entries image library (inr (c, is, alone)) recovers =
+held_agrees law stays book replays agreed failed entries image library (inr (c, is, alone)) recovers =
     let one : HasAgreedUnit c = failed 0 c (ap (λ (l : List made.Command). slice_get l 0) is) in
     let map : EachUnit (IsRightOr is_right book.base) book.library.units =
     subst (λ (u : Units). EachUnit (IsRightOr is_right book.base) u) (sym replays.units) (each_right book.base (units_after book.base book.history) (law book.base book.history agreed)) in
     subst (λ (u : Units). EachUnit (IsRightOr is_right book.base) u) (sym (alone.alone library recovers))
-    (EachUnit-after (IsRightOr is_right book.base) book.library.units c map (right_change book.base c one))
+    (stays (IsRightOr is_right book.base) book.library.units c map (right_change book.base c one))

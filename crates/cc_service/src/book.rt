@@ -22,7 +22,7 @@ use crate::fault::BookFault;
 use crate::named::Named;
 use crate::recorded::RecordedLibrary;
 use cc_build::{CcBuild, made_units_are_built};
-use cc_core::laws::{crash_law, turn_law};
+use cc_core::laws::{crash_law, turn_law, units_law};
 use cc_disk::{Disk, History};
 use cc_history::{Asked, Command, Receipt, units_agree};
 use cc_library::{Library, LibraryFault, UnitMap};
@@ -243,6 +243,7 @@ impl<N: Named, D: Disk> Book<N, D> {
     {
         self.recorded.kept();
         units_agree();
+        units_law();
         crash_law::<CcBuild>();
     }
 }

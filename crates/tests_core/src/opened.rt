@@ -12,6 +12,7 @@ use crate::script::Line::{
     Ack, Add, Begin, Crash, Done, Recover, SyncBody, SyncGate, Take, Withdraw, WriteBody, WriteGate,
 };
 use crate::script::{Line, ONE, TWO, event, leaves, name_of, number_of};
+use cc_core::laws::units_law;
 use cc_core::state::State;
 use cc_disk::{Disk, MemoryDisk};
 use cc_journal::format;
@@ -31,6 +32,7 @@ fn with_unit(
     ensures right { IfOk result (λ l. EachUnit is_right l.units) }
     ensures kept { IfOk result (λ l. (image : List ℕ) → IsImage l.disk.cells image → RecoversAlone image l.units) }
 {
+    units_law();
     let name = name_of(letter)?;
     let piece = compiled(alloc, &source, 0)?;
     let unit = Arc::try_clone(piece.unit())?;
@@ -44,6 +46,7 @@ fn with_unit(
 fn two_units(alloc: Global) -> Result<MemoryDisk, Fail>
     ensures { IfOk result (λ disk. (units : Units) → Recovers (bytes_of disk.cells) units → EachUnit is_right units) }
 {
+    units_law();
     let mut disk = MemoryDisk::new(alloc, 300)?;
     format(&mut disk, 120)?;
     let library = match Library::open(alloc, disk) {

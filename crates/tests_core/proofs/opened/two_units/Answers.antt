@@ -5,7 +5,6 @@ use Rattle.cc_disk.specs.Past.{DiskState}
 use Rattle.cc_disk.specs.internal.Laws.{bytes_are_image}
 use Rattle.cc_library.specs.Recovered.{Recovers}
 use Rattle.cc_core.specs.Run.{EachUnit}
-use Rattle.cc_core.proofs.Orders.{EachUnit-empty}
 use Rattle.tests_core.specs.Builds.{is_right}
 use Rattle.tests_core.proofs.opened.two_units.Goals as goal
 
@@ -13,7 +12,7 @@ pub with_unit-requires : goal.with_unit-requires
 with_unit-requires c =
     let disk = c.format.new.disk in
     let none = c.in_ok-format.ensures.kept refl (bytes_of disk.cells) (bytes_are_image disk.cells) in
-    subst (EachUnit is_right) (sym (c.in-Ok.ensures.fresh refl 120 none.holds).1) (EachUnit-empty is_right)
+    subst (EachUnit is_right) (sym (c.in-Ok.ensures.fresh refl 120 none.holds).1) (c.units_law.ensures.none is_right)
 
 pub returns : goal.returns
 returns c = λ units recovers.

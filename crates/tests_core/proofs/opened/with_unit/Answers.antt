@@ -4,7 +4,6 @@ use Rattle.std.specs.Arc.{arc_value}
 use Rattle.cc_unit.specs.declared.unit.StoredUnit.{StoredUnit}
 use Rattle.cc_library.specs.declared.command.Command.TheVariants as command
 use Rattle.cc_core.specs.Run.{EachUnit}
-use Rattle.cc_core.proofs.Orders.{EachUnit-after}
 use Rattle.tests_core.specs.Builds.{Seen, is_right}
 use Rattle.tests_core.proofs.opened.with_unit.Goals as goal
 
@@ -13,4 +12,4 @@ returns-in-Ok-clause-right c =
     let unit : StoredUnit = arc_value c.in_ok-unit.unit in
     let same : unit ≡ c.piece.inside.unit = c.in_ok-unit.ensures ∙ c.unit.ensures ∙ sym (ap (λ (p : Seen). p.0) c.piece.view_is) in
     subst (EachUnit is_right) (sym (ap (λ v. v.units) c.in-Ok.ensures.leaves))
-    (EachUnit-after is_right c.args.library.units (command.Add c.in_ok-name.name unit) c.requires (subst is_right (sym same) c.piece.invariant))
+    (c.units_law.ensures.after is_right c.args.library.units (command.Add c.in_ok-name.name unit) c.requires (subst is_right (sym same) c.piece.invariant))
