@@ -1,14 +1,15 @@
 //! What the scripts of bench/ run: `bench TASK WORD.. [, TASK WORD..]` does each task in turn. Words that are a comma alone stand
 //! between two tasks.
 //!
-//! `compile FILE TIMES` and `count FILE` compile a text or count what its image executes (`compiler`); `machine CODE GLOBALS STEPS
-//! [WORD..]` runs words on the simulator (`machine`); `passes TASK FILE TIMES` does the passes up to the validator (`passes`);
-//! `store TASK FILE [NUMBER..]` works on a library of units on a file (`store`). `arguments` reads the command line, `words` files
-//! of words, and `units` makes units and their names.
+//! `compile FILE TIMES` and `count FILE` compile a text or count what its image executes (`compiler`); `list COUNT` adds to an
+//! instruction list (`list`); `machine CODE GLOBALS STEPS [WORD..]` runs words on the simulator (`machine`); `passes TASK FILE TIMES`
+//! does the passes up to the validator (`passes`); `store TASK FILE [NUMBER..]` works on a library of units on a file (`store`).
+//! `arguments` reads the command line, `words` files of words, and `units` makes units and their names.
 #![tactic(auto)]
 
 mod arguments;
 mod compiler;
+mod list;
 mod machine;
 mod passes;
 mod store;
@@ -38,10 +39,11 @@ fn perform(rt: &HostRuntime, task: &str, arguments: &mut Args) -> Result<()> {
     match task {
         "compile" => compiler::compile_again(rt, arguments)?,
         "count" => compiler::count(rt, arguments)?,
+        "list" => list::perform(rt, arguments)?,
         "machine" => return machine::run(rt, arguments),
         "passes" => passes::perform(rt, arguments)?,
         "store" => store::perform(rt, arguments)?,
-        _ => bail!("usage: bench compile|count|machine|passes|store WORD.. [, TASK WORD..]"),
+        _ => bail!("usage: bench compile|count|list|machine|passes|store WORD.. [, TASK WORD..]"),
     }
     match next_of_task(arguments) {
         Some(_more) => bail!("a task has too many words"),
