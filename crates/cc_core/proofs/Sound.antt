@@ -53,10 +53,10 @@ use Rattle.cc_core.specs.Job.{planned, IsPlanned, source_in, with_piece, closed,
 use Rattle.cc_core.specs.StoreState.{StoreState}
 use Rattle.cc_core.specs.Store.{IsFormatted, gate_of, stepped, due_after, first_written, rewrite_of, rewrite_stepped, RewriteFailsTo, crashed_store}
 use Rattle.cc_core.specs.Step.{Step, Begins, Begun, Advances, Fails, Acknowledges, RewritesAll, RewriteAdvances, RewriteFails, phase_after, Crashes, Reopens, StepsCore, IsUp, IsFree, IsStart, jobs_begun, ticked, numbered_now, commands}
-use Rattle.cc_core.specs.Run.{EachUnit, AreRising, live, EachImageSurvives, EachImageIsRight, PutsCommand, HandsIn, Turn, Run, IsBeginning, IsOpened, IsOfCrash, PutsSource, Commits, LeavesRecord, Rewrites, LeavesCompacted, Reached}
+use Rattle.cc_core.specs.Run.{EachUnit, IsRightCommand, AreRising, live, EachImageSurvives, EachImageIsRight, PutsCommand, HandsIn, Turn, Run, IsBeginning, IsOpened, IsOfCrash, PutsSource, Commits, LeavesRecord, Rewrites, LeavesCompacted, Reached}
 use Rattle.cc_core.specs.internal.Ready.{IsFitting, IsRewrite, IsRecoverable, IsReady, IsReadyIn}
 use Rattle.cc_core.proofs.Lists.{slice_get-set, slice_get-push, slice_get-last, Contains-slice_get, All-slice_get, take-push}
-use Rattle.cc_core.proofs.Whole.{IsRightCommand, IsNamed, IsLawful, IsOfSource, verdict_right, verdict_source, verdict_taken}
+use Rattle.cc_core.proofs.Whole.{IsNamed, IsLawful, IsOfSource, verdict_right, verdict_source, verdict_taken}
 use Rattle.cc_core.proofs.Orders.{found-insert, found-remove, no_push, EachUnit-empty, EachUnit-after, library-push, AreAccepted-push, AreAccepted-before, but_last-push}
 use Rattle.cc_core.proofs.Compacted.{compacted_fits, compacted_stands}
 use Rattle.cc_core.proofs.Rewrites.{whole, length-whole, first_within, rewrite_begins, rewrite_failed_images, done_held}

@@ -1,7 +1,6 @@
 //! Laws of the protocol core, each the contract of a function that does nothing: what holds of every run, and how a run can go on.
 ghost use Rattle.std.specs.Prelude.{◌≡◌, ◌++◌, ℕ, Option, None, Some, List};
 ghost use Rattle.std.specs.FinMap.{get, empty};
-ghost use Rattle.cc_unit.specs.declared.unit.StoredUnit.{StoredUnit};
 ghost use Rattle.cc_library.specs.Apply.{Units, after};
 ghost use Rattle.cc_library.specs.declared.command.Command.{Command};
 ghost use Rattle.cc_core.specs.declared.contents.Contents.{Contents};
@@ -58,11 +57,14 @@ pub fn crash_law<B: Build>()
     survival_law::<B>();
 }
 
-/// What holds of each unit of a map holds of each after a command whose unit has it, and of each of the empty map, which has none.
-pub fn units_law()
-    ensures after { (holds : StoredUnit → Type 0) (library : Units) (command : Command)
-        → EachUnit holds library → IsRightCommand holds command → EachUnit holds (after library command) }
-    ensures none { (holds : StoredUnit → Type 0) → EachUnit holds empty }
+/// What a command leaves of the units of a map. Where each is right, or each is right or found in a base, and so is the unit of the
+/// command, each is so after the command. The empty map has none.
+pub fn units_law<B: Build>()
+    ensures right { (library : Units) (command : Command)
+        → EachUnit B.is_right library → IsRightCommand B.is_right command → EachUnit B.is_right (after library command) }
+    ensures found { (base library : Units) (command : Command)
+        → EachUnit (IsRightOr B.is_right base) library → IsRightCommand (IsRightOr B.is_right base) command → EachUnit (IsRightOr B.is_right base) (after library command) }
+    ensures none { EachUnit B.is_right empty }
 {}
 
 /// How a run can go on. Each step of an event that has one is a turn, where a piece that is handed in keeps what its type keeps, and a

@@ -11,7 +11,6 @@ use Rattle.cc_core.specs.declared.event.Event.{Event}
 use Rattle.cc_core.specs.Run.{EachImageIsRight, EachImageSurvives, EachUnit, IsBeginning, IsRightCommand, IsRightOr, Run}
 use Rattle.cc_library.specs.declared.command.Command.TheVariants as change
 use Rattle.cc_library.specs.Apply.{Units, after}
-use Rattle.cc_unit.specs.declared.unit.StoredUnit.{StoredUnit}
 use Rattle.cc_library.specs.Recovered.{Recovers}
 use Rattle.cc_history.specs.declared.entry.Entry.{Entry}
 use Rattle.cc_history.specs.History.{EachAgrees, HaveAgreed, Replays, units_after}
@@ -61,7 +60,7 @@ each_right : (base units : Units) → EachAgrees base units → EachUnit (IsRigh
 each_right base units each name unit at = elim (each name unit at) [ inl there ↦ inl (name, there) | inr agreed ↦ inr agreed ]
 
 pub held_agrees : {D : Type 0} → ((base : Units) (history : List Entry) → HaveAgreed history → EachAgrees base (units_after base history))
-    → ((holds : StoredUnit → Type 0) (library : Units) (c : made.Command) → EachUnit holds library → IsRightCommand holds c → EachUnit holds (after library c))
+    → ((base library : Units) (c : made.Command) → EachUnit (IsRightOr is_right base) library → IsRightCommand (IsRightOr is_right base) c → EachUnit (IsRightOr is_right base) (after library c))
     → (book : BookView D) → Replays (chronicle_of book) → HaveAgreed book.history → AllAgreed book.failed
     → (entries : ℕ) (image : List ℕ) (library : Units) → HoldsFrom book entries image → Recovers image library → EachUnit (IsRightOr is_right book.base) library
 held_agrees law stays book replays agreed failed entries image library (inl (j, _, _, alone)) recovers =
@@ -72,4 +71,4 @@ held_agrees law stays book replays agreed failed entries image library (inr (c, 
     let map : EachUnit (IsRightOr is_right book.base) book.library.units =
     subst (λ (u : Units). EachUnit (IsRightOr is_right book.base) u) (sym replays.units) (each_right book.base (units_after book.base book.history) (law book.base book.history agreed)) in
     subst (λ (u : Units). EachUnit (IsRightOr is_right book.base) u) (sym (alone.alone library recovers))
-    (stays (IsRightOr is_right book.base) book.library.units c map (right_change book.base c one))
+    (stays book.base book.library.units c map (right_change book.base c one))

@@ -243,7 +243,7 @@ impl<N: Named, D: Disk> Book<N, D> {
     {
         self.recorded.kept();
         units_agree();
-        units_law();
+        units_law::<CcBuild>();
         crash_law::<CcBuild>();
     }
 }

@@ -32,7 +32,7 @@ fn with_unit(
     ensures right { IfOk result (λ l. EachUnit is_right l.units) }
     ensures kept { IfOk result (λ l. (image : List ℕ) → IsImage l.disk.cells image → RecoversAlone image l.units) }
 {
-    units_law();
+    units_law::<FewPieces>();
     let name = name_of(letter)?;
     let piece = compiled(alloc, &source, 0)?;
     let unit = Arc::try_clone(piece.unit())?;
@@ -46,7 +46,7 @@ fn with_unit(
 fn two_units(alloc: Global) -> Result<MemoryDisk, Fail>
     ensures { IfOk result (λ disk. (units : Units) → Recovers (bytes_of disk.cells) units → EachUnit is_right units) }
 {
-    units_law();
+    units_law::<FewPieces>();
     let mut disk = MemoryDisk::new(alloc, 300)?;
     format(&mut disk, 120)?;
     let library = match Library::open(alloc, disk) {

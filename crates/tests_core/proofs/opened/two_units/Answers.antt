@@ -12,7 +12,7 @@ pub with_unit-requires : goal.with_unit-requires
 with_unit-requires c =
     let disk = c.format.new.disk in
     let none = c.in_ok-format.ensures.kept refl (bytes_of disk.cells) (bytes_are_image disk.cells) in
-    subst (EachUnit is_right) (sym (c.in-Ok.ensures.fresh refl 120 none.holds).1) (c.units_law.ensures.none is_right)
+    subst (EachUnit is_right) (sym (c.in-Ok.ensures.fresh refl 120 none.holds).1) c.units_law.ensures.none
 
 pub returns : goal.returns
 returns c = λ units recovers.

@@ -32,4 +32,4 @@ returns-clause-since g c =
 pub returns-clause-units : goal.returns-clause-units
 returns-clause-units g c =
     subst (λ (b : BookSince g.row.D.Denot). (entries : ℕ) (image : List ℕ) (library : Units) → HoldsFrom b.book entries image → Recovers image library → EachUnit (IsRightOr is_right b.book.base) library) c.self.view_is
-    (held_agrees c.units_agree.ensures c.units_law.ensures.after c.self.inside.recorded c.kept.ensures.replays c.kept.ensures.agreed c.kept.ensures.agreed_failed)
+    (held_agrees c.units_agree.ensures c.units_law.ensures.found c.self.inside.recorded c.kept.ensures.replays c.kept.ensures.agreed c.kept.ensures.agreed_failed)
