@@ -27,13 +27,34 @@ static ROWS_1: [Row; 9] = [
     (
         "int a[4];\nint f(int x) { return x; }\nint main(void) {\n  int x = a;\n  x = x[1] + f;\n  a = 3;\n  f = x;\n  x(2);\n  return a(1);\n}\n",
         &[
-            ("4:11", "'a' is an array, declared at 1:5, and cannot be used as a value"),
-            ("5:7", "'x' is a variable, declared at 4:7, and cannot be indexed"),
-            ("5:14", "'f' is a function, declared at 2:5, and cannot be used as a value"),
-            ("6:3", "'a' is an array, declared at 1:5, and cannot be assigned to"),
-            ("7:3", "'f' is a function, declared at 2:5, and cannot be assigned to"),
-            ("8:3", "'x' is a variable, declared at 4:7, and cannot be called"),
-            ("9:10", "'a' is an array, declared at 1:5, and cannot be called"),
+            (
+                "4:11",
+                "'a' is an array, declared at 1:5, and cannot be used as a value",
+            ),
+            (
+                "5:7",
+                "'x' is a variable, declared at 4:7, and cannot be indexed",
+            ),
+            (
+                "5:14",
+                "'f' is a function, declared at 2:5, and cannot be used as a value",
+            ),
+            (
+                "6:3",
+                "'a' is an array, declared at 1:5, and cannot be assigned to",
+            ),
+            (
+                "7:3",
+                "'f' is a function, declared at 2:5, and cannot be assigned to",
+            ),
+            (
+                "8:3",
+                "'x' is a variable, declared at 4:7, and cannot be called",
+            ),
+            (
+                "9:10",
+                "'a' is an array, declared at 1:5, and cannot be called",
+            ),
         ],
     ),
     (
@@ -107,8 +128,14 @@ static ROWS_2: [Row; 8] = [
     (
         "int f(int x);\nvoid g(void);\nint main(void) {\n  g();\n  f(1);\n  g();\n  return f(2);\n}\n",
         &[
-            ("4:3", "'g' is called and never defined, only declared at 2:6"),
-            ("5:3", "'f' is called and never defined, only declared at 1:5"),
+            (
+                "4:3",
+                "'g' is called and never defined, only declared at 2:6",
+            ),
+            (
+                "5:3",
+                "'f' is called and never defined, only declared at 1:5",
+            ),
         ],
     ),
     (
@@ -138,18 +165,33 @@ static ROWS_2: [Row; 8] = [
         &[
             ("4:14", "'z' is not declared"),
             ("7:1", "'main' at 6:6 is no definition of int main(void)"),
-            ("3:11", "'f' is called and never defined, only declared at 1:5"),
+            (
+                "3:11",
+                "'f' is called and never defined, only declared at 1:5",
+            ),
         ],
     ),
     (
         "int t[3];\nint main(void) {\n  int i;\n  i[0] = 1;\n  t[u] = v + t;\n  t[i[1]]++;\n  ++t;\n  return i;\n}\n",
         &[
-            ("4:3", "'i' is a variable, declared at 3:7, and cannot be indexed"),
+            (
+                "4:3",
+                "'i' is a variable, declared at 3:7, and cannot be indexed",
+            ),
             ("5:5", "'u' is not declared"),
             ("5:10", "'v' is not declared"),
-            ("5:14", "'t' is an array, declared at 1:5, and cannot be used as a value"),
-            ("6:5", "'i' is a variable, declared at 3:7, and cannot be indexed"),
-            ("7:5", "'t' is an array, declared at 1:5, and cannot be assigned to"),
+            (
+                "5:14",
+                "'t' is an array, declared at 1:5, and cannot be used as a value",
+            ),
+            (
+                "6:5",
+                "'i' is a variable, declared at 3:7, and cannot be indexed",
+            ),
+            (
+                "7:5",
+                "'t' is an array, declared at 1:5, and cannot be assigned to",
+            ),
         ],
     ),
     (
@@ -177,18 +219,22 @@ static ROWS_3: [Row; 8] = [
     (
         "int read_word(int x) { return x; }\nint main(void) {\n  int x = read_word(1);\n  write_word();\n  write_word = 2;\n  return write_word(x, y);\n}\n",
         &[
-            ("1:5", "'read_word' is built in, as int read_word(void), and cannot be defined"),
+            (
+                "1:5",
+                "'read_word' is built in, as int read_word(void), and cannot be defined",
+            ),
             ("4:3", "'write_word' takes 1 argument, 0 given"),
-            ("5:3", "'write_word' is a function and cannot be assigned to"),
+            (
+                "5:3",
+                "'write_word' is a function and cannot be assigned to",
+            ),
             ("6:10", "'write_word' takes 1 argument, 2 given"),
             ("6:24", "'y' is not declared"),
         ],
     ),
     (
         "int main(void) {\n  int x = y;\n  return x;\n}\n",
-        &[
-            ("2:11", "'y' is not declared"),
-        ],
+        &[("2:11", "'y' is not declared")],
     ),
     (
         "int n = 2;\nint a[n] = {1, 2, 3};\nint b[] = {n, 2};\nint main(void) {\n  b[1] = c;\n  return a[2];\n}\n",
@@ -221,9 +267,7 @@ static ROWS_3: [Row; 8] = [
     ),
     (
         "int f(void) { return u; }\nint g(int a, int b, int c, int d, int e, int x, int y, int z, int w) { return v; }\nint main(void) { return 0; }\n",
-        &[
-            ("1:22", "'u' is not declared"),
-        ],
+        &[("1:22", "'u' is not declared")],
     ),
 ];
 // Whether the words stand among the bytes.
@@ -311,7 +355,14 @@ fn tells_at_last(alloc: Global, count: usize, told: usize, last: &[u8]) -> bool 
 #[test]
 fn twenty_at_most(rt: HostRuntime) {
     let further = b"-: further errors are not told: correct these first\n";
-    assert!(rt; tells_at_last(rt.alloc(), 20, 20, b"-:21:1: 'break' stands outside a loop\n"));
+    assert!(rt;
+        tells_at_last(
+            rt.alloc(),
+            20,
+            20,
+            b"-:21:1: 'break' stands outside a loop\n"
+        )
+    );
     assert!(rt; tells_at_last(rt.alloc(), 21, 21, further));
     assert!(rt; tells_at_last(rt.alloc(), 25, 21, further));
 }
