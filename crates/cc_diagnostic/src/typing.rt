@@ -440,15 +440,13 @@ struct Told {
     related: Option<Related>,
 }
 
-// What is told of a fault of a unit at an offset, of which this is noted.
-fn of_note(
-    alloc: Global,
-    unit: &Unit,
-    note: Option<Note<'_>>,
-    fault: &TypeFault,
+// The view of an offset of a unit, of which this is noted.
+fn view_of<'a>(
+    unit: &'a Unit,
+    note: Option<Note<'a>>,
+    declarations: &'a [Declaration<'a>],
     at: usize,
-) -> Result<Told, AllocError> {
-    let declarations = declarations(alloc, unit.externals())?;
+) -> View<'a> {
     let text = unit.text();
     let mut view = View {
         text,
@@ -458,7 +456,7 @@ fn of_note(
         standing: None,
         inside: None,
         near: None,
-        declarations: declarations.as_slice(),
+        declarations,
     };
     if let Some(
         Note {
@@ -474,6 +472,19 @@ fn of_note(
         view.inside = inside;
         view.near = near;
     }
+    view
+}
+
+// What is told of a fault of a unit at an offset, of which this is noted.
+fn of_note<'a>(
+    alloc: Global,
+    unit: &'a Unit,
+    note: Option<Note<'a>>,
+    fault: &TypeFault,
+    at: usize,
+) -> Result<Told, AllocError> {
+    let declarations = declarations(alloc, unit.externals())?;
+    let view = view_of(unit, note, declarations.as_slice(), at);
     Ok(Told {
         message: message_of(alloc, &view, fault)?,
         related: related(&view, fault),
@@ -483,10 +494,10 @@ fn of_note(
 /// What is told of a fault of a unit at an offset, of which this is noted.
 ///
 /// `AllocError` where memory for it runs out.
-pub fn told_of(
+pub fn told_of<'a>(
     alloc: Global,
-    unit: &Unit,
-    note: Option<Note<'_>>,
+    unit: &'a Unit,
+    note: Option<Note<'a>>,
     fault: &TypeFault,
     at: usize,
 ) -> Result<Diagnostic, AllocError> {
