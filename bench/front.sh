@@ -1,9 +1,9 @@
 #!/usr/bin/env bash
 # Shows by ratios within one run, of processor time, that `check` is linear in the text's length and that a turn of a loop has
 # one price: 64 KiB of text against 8 KiB (8 is linear), and 10 million turns against 1 million (10 is linear). Then how fast
-# `check` is where `gcc -fsyntax-only` is 1 (more is faster), over 64 KiB of each kind, without the starts of both programs, the two
+# `check` is where `gcc -fsyntax-only -w` is 1 (more is faster), over 64 KiB of each kind, without the starts of both programs, the two
 # in turn and each the best of ROUNDS runs (40); and the most memory of `check`, in bytes for each byte of text, without that of an
-# empty text.
+# empty text. `check` is `--quiet check`, since gcc does not warn either; how much longer it takes where it warns is told last.
 # Run by hand; the program has to be built (./cclib --help). CCLIB names another program in its place.
 set -eu
 here=$(cd "$(dirname "$0")/.." && pwd)
@@ -46,16 +46,16 @@ millis() {
   { time for _ in $(seq "$runs"); do "$@" >/dev/null; done; } 2>&1 | awk '{ printf "%d\n", ($1 + $2) * 1000 }'
 }
 
-echo | "$program" check >/dev/null || true
-empty() { "$program" check < "$work/empty.c"; }
+echo | "$program" --quiet check >/dev/null || true
+empty() { "$program" --quiet check < "$work/empty.c"; }
 echo 'int main(void){}' > "$work/empty.c"
 base=$(millis 40 empty)
 echo "40 starts of the program: $base ms"
 for kind in statements blocks comments names objects functions; do
   text "$kind" 8192 > "$work/small.c"
   text "$kind" 65536 > "$work/large.c"
-  small() { "$program" check < "$work/small.c"; }
-  large() { "$program" check < "$work/large.c"; }
+  small() { "$program" --quiet check < "$work/small.c"; }
+  large() { "$program" --quiet check < "$work/large.c"; }
   [ "$(large)" = ok ] || { echo "$kind: $(large)" >&2; exit 1; }
   s=$(millis 40 small); l=$(millis 40 large)
   echo "check, $kind: 8 KiB $s ms, 64 KiB $l ms; without the start of the program the ratio is $(python3 -c "print(round(($l-$base)/max(1,$s-$base),1))")"
@@ -88,7 +88,7 @@ ROUNDS = int(os.environ.get("ROUNDS", 40))
 
 def peak(path):
     """The most memory of `check`, in KiB."""
-    return int(subprocess.run([f"{work}/peak", path, program, "check"], capture_output=True, check=True).stdout)
+    return int(subprocess.run([f"{work}/peak", path, program, "--quiet", "check"], capture_output=True, check=True).stdout)
 
 
 def seconds(words, path):
@@ -100,22 +100,29 @@ def seconds(words, path):
 
 
 def least(path):
-    """The least time of `check` and of gcc, the two in turn."""
-    runs = [(seconds([program, "check"], path), seconds(["gcc", "-fsyntax-only", "-w", path], path)) for _ in range(ROUNDS)]
+    """The least time of `check`, of gcc, and of `check` that warns, in turn."""
+    all_words = [[program, "--quiet", "check"], ["gcc", "-fsyntax-only", "-w", path], [program, "check"]]
+    runs = [[seconds(words, path) for words in all_words] for _ in range(ROUNDS)]
     return [min(times) for times in zip(*runs)]
 
 
-start, ratios = least(f"{work}/empty.c"), []
+def mean(ratios):
+    """Their geometric mean."""
+    return math.exp(sum(map(math.log, ratios)) / len(ratios))
+
+
+start, ratios, warned = least(f"{work}/empty.c"), [], []
 floor = peak(f"{work}/empty.c")
 for kind in ["statements", "blocks", "comments", "names", "objects", "functions", "nested"]:
     path = f"{work}/{kind}.c"
-    mine, other = [time - before for time, before in zip(least(path), start)]
+    mine, other, warning = [time - before for time, before in zip(least(path), start)]
     memory = (peak(path) - floor) * 1024 / os.path.getsize(path)
     print(f"check, {kind}: {mine * 1000:.1f} ms, gcc -fsyntax-only {other * 1000:.1f} ms: {other / mine:.2f} times as fast; {memory:.0f} bytes of memory for a byte of text")
     if kind != "nested":
         ratios.append(other / mine)
-mean = math.exp(sum(map(math.log, ratios)) / len(ratios))
-print(f"check: {mean:.2f} times as fast as gcc -fsyntax-only (geometric mean of the six)")
+        warned.append(warning / mine)
+print(f"check: {mean(ratios):.2f} times as fast as gcc -fsyntax-only (geometric mean of the six)")
+print(f"check that warns: {mean(warned):.2f} times the time of check (geometric mean of the six)")
 P
 for turns in 1000000 10000000; do
   echo "int main(void){int i;while(i<$turns){i=i+1;}return i;}" > "$work/loop$turns.c"

@@ -20,8 +20,10 @@ mod diagnostic;
 mod ends;
 mod excerpt;
 mod expected;
+mod further;
 mod left_out;
 mod lexical;
+mod mended;
 mod message;
 mod names;
 mod near;
@@ -36,6 +38,7 @@ mod warning;
 mod wrong;
 
 pub use diagnostic::{Diagnostic, Related, of_name};
+pub use further::further_of_typing;
 pub use syntax::of_syntax;
 pub use typing::of_typing;
 pub use warning::warnings;

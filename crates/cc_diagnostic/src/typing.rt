@@ -32,8 +32,8 @@ struct View<'a> {
     declarations: &'a [Declaration<'a>],
 }
 
-// The word that begins at an offset.
-fn word_at(text: &[u8], at: usize) -> &[u8] {
+/// The word that begins at an offset.
+pub fn word_at(text: &[u8], at: usize) -> &[u8] {
     let rest = text.get(at..).unwrap_or(b"");
     let length = rest
         .iter()
@@ -410,8 +410,8 @@ fn message_of(alloc: Global, view: &View<'_>, fault: &TypeFault) -> Result<Strin
     }
 }
 
-// What a walk over a unit notes at an offset.
-fn noted<'a>(alloc: Global, unit: &'a Unit, at: usize) -> Result<Option<Note<'a>>, AllocError> {
+/// What a walk over a unit notes at an offset.
+pub fn noted<'a>(alloc: Global, unit: &'a Unit, at: usize) -> Result<Option<Note<'a>>, AllocError> {
     let mut walk = Walk::new(alloc, Vec::new(alloc), Some(at))?;
     let walked = walk.externals(unit.externals());
     let note = walk.note;
@@ -440,10 +440,13 @@ struct Told {
     related: Option<Related>,
 }
 
-// What is told of a fault of a unit at an offset.
-fn of_unit(alloc: Global, unit: &Unit, fault: &TypeFault, at: usize) -> Result<Told, AllocError> {
-    let note = noted(alloc, unit, at)?;
-    let declarations = declarations(alloc, unit.externals())?;
+// The view of an offset of a unit, of which this is noted.
+fn view_of<'a>(
+    unit: &'a Unit,
+    note: Option<Note<'a>>,
+    declarations: &'a [Declaration<'a>],
+    at: usize,
+) -> View<'a> {
     let text = unit.text();
     let mut view = View {
         text,
@@ -453,7 +456,7 @@ fn of_unit(alloc: Global, unit: &Unit, fault: &TypeFault, at: usize) -> Result<T
         standing: None,
         inside: None,
         near: None,
-        declarations: declarations.as_slice(),
+        declarations,
     };
     if let Some(
         Note {
@@ -469,10 +472,48 @@ fn of_unit(alloc: Global, unit: &Unit, fault: &TypeFault, at: usize) -> Result<T
         view.inside = inside;
         view.near = near;
     }
+    view
+}
+
+// What is told of a fault of a unit at an offset, of which this is noted.
+fn of_note<'a>(
+    alloc: Global,
+    unit: &'a Unit,
+    note: Option<Note<'a>>,
+    fault: &TypeFault,
+    at: usize,
+) -> Result<Told, AllocError> {
+    let declarations = declarations(alloc, unit.externals())?;
+    let view = view_of(unit, note, declarations.as_slice(), at);
     Ok(Told {
         message: message_of(alloc, &view, fault)?,
         related: related(&view, fault),
     })
+}
+
+/// What is told of a fault of a unit at an offset, of which this is noted.
+///
+/// `AllocError` where memory for it runs out.
+pub fn told_of<'a>(
+    alloc: Global,
+    unit: &'a Unit,
+    note: Option<Note<'a>>,
+    fault: &TypeFault,
+    at: usize,
+) -> Result<Diagnostic, AllocError> {
+    let Told { message, related } = of_note(alloc, unit, note, fault, at)?;
+    let at = Some(at);
+    Ok(Diagnostic {
+        at,
+        message,
+        related,
+    })
+}
+
+// What is told of a fault of a unit at an offset.
+fn of_unit(alloc: Global, unit: &Unit, fault: &TypeFault, at: usize) -> Result<Told, AllocError> {
+    let note = noted(alloc, unit, at)?;
+    of_note(alloc, unit, note, fault, at)
 }
 
 /// What is told of the fault that `check` answers for the tree of a text: the name, what it stands for and where that was first

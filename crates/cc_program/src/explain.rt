@@ -2,7 +2,9 @@
 
 use super::fault::Fault;
 use cc_command_line::Task;
-use cc_diagnostic::{Diagnostic, of_name, of_syntax, of_typing, of_wrong, warnings};
+use cc_diagnostic::{
+    Diagnostic, further_of_typing, of_name, of_syntax, of_typing, of_wrong, warnings,
+};
 use cc_link::{BuildFault, LinkFault, PieceFault};
 use cc_meaning::Cause;
 use std::alloc::{AllocError, Global};
@@ -71,8 +73,36 @@ fn write_told<W: Write>(
     }
 }
 
-/// Writes what is told of a fault of a text: its place with the line of the text, what was found there and what was wanted. Nothing
-/// where memory for that runs out.
+// Writes each of some diagnostics.
+fn write_each<W: Write>(list: &[Diagnostic], text: &[u8], writer: &mut W) -> io::Result<()> {
+    for diagnostic in list {
+        diagnostic.write(text, writer)?;
+    }
+    Ok(())
+}
+
+// Writes what is told of the errors behind a fault, where that is one of scope or type.
+fn write_further<W: Write>(
+    alloc: Global,
+    text: &[u8],
+    fault: &Fault,
+    writer: &mut W,
+) -> io::Result<()> {
+    let (Fault::Typing(first) | Fault::Build(BuildFault::Typing(first))) = fault else {
+        return Ok(());
+    };
+    match further_of_typing(alloc, text, first) {
+        Ok(list) => {
+            let written = write_each(list.as_slice(), text, writer);
+            drop(list);
+            written
+        }
+        Err(_) => Ok(()),
+    }
+}
+
+/// Writes what is told of a fault of a text: its place with the line of the text, what was found there and what was wanted; of one of
+/// scope or type the further ones too, up to twenty in all. Nothing where memory for that runs out.
 pub fn explain_fault<W: Write>(
     alloc: Global,
     text: &[u8],
@@ -81,16 +111,11 @@ pub fn explain_fault<W: Write>(
 ) -> io::Result<()> {
     match words_of(fault) {
         Some(words) => writeln!(writer, "cclib: {words}"),
-        None => write_told(of_fault(alloc, text, fault), text, writer),
+        None => {
+            write_told(of_fault(alloc, text, fault), text, writer)?;
+            write_further(alloc, text, fault, writer)
+        }
     }
-}
-
-// Writes each of some warnings.
-fn write_each<W: Write>(list: &[Diagnostic], text: &[u8], writer: &mut W) -> io::Result<()> {
-    for diagnostic in list {
-        diagnostic.write(text, writer)?;
-    }
-    Ok(())
 }
 
 /// Writes what is warned of in a text that is a program. Nothing where memory for that runs out.

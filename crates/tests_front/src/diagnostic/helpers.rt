@@ -1,9 +1,9 @@
 // What is told of a text, as it is written.
 
-use cc_diagnostic::{Diagnostic, of_syntax, of_typing, of_wrong, warnings};
+use cc_diagnostic::{Diagnostic, further_of_typing, of_syntax, of_typing, of_wrong, warnings};
 use cc_meaning::{Stop, interpret};
 use cc_syntax::{Unit, parse};
-use cc_typing::check;
+use cc_typing::{TypeFault, check};
 use std::alloc::{AllocError, Global};
 
 /// What is written of a diagnostic over a text, nothing where there is none.
@@ -45,6 +45,43 @@ fn of_unit(alloc: Global, text: &[u8], unit: Unit) -> Result<Vec<u8>, AllocError
             let told = of_typing(alloc, text, &fault);
             drop(fault);
             written(alloc, text, told?)
+        }
+    }
+}
+
+// What is told of a fault of a tree, and of those behind it.
+fn all_of_fault(
+    alloc: Global,
+    text: &[u8],
+    fault: &TypeFault,
+) -> Result<Vec<Diagnostic>, AllocError> {
+    let mut list = Vec::new(alloc);
+    if let Some(first) = of_typing(alloc, text, fault)? {
+        list.push(first)?;
+    }
+    for further in further_of_typing(alloc, text, fault)? {
+        list.push(further)?;
+    }
+    Ok(list)
+}
+
+/// What is told of the errors of scope and type of a text; nothing where it has no tree.
+pub fn errors_of(alloc: Global, text: &[u8]) -> Result<Vec<Diagnostic>, AllocError> {
+    match parse(alloc, text) {
+        Ok(unit) => match check(alloc, unit) {
+            Ok(typed) => {
+                drop(typed);
+                Ok(Vec::new(alloc))
+            }
+            Err(fault) => {
+                let list = all_of_fault(alloc, text, &fault);
+                drop(fault);
+                list
+            }
+        },
+        Err(fault) => {
+            drop(fault);
+            Ok(Vec::new(alloc))
         }
     }
 }

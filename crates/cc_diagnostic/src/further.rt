@@ -1,0 +1,302 @@
+// The errors of scope and type behind the first.
+//
+// `check` tells one. The next one is found in a copy of the text in which the one before is mended, so that no rule is written twice;
+// what is told of it is told of the text itself. A name that was told to be declared nowhere, or twice, is not told again, nor is what
+// only a mend has made wrong. Each turn checks the copy once and walks over the text, and there are 20 turns at most.
+
+use super::declarations::{Declaration, declarations, first_of, named_at};
+use super::diagnostic::Diagnostic;
+use super::mended::Mended;
+use super::message::words;
+use super::offset::offset_in;
+use super::typing::{noted, told_of, word_at};
+use super::walk::{Note, Use};
+use cc_syntax::{SyntaxFault, Unit, parse};
+use cc_typing::{TypeFault, check};
+use std::alloc::{AllocError, Global};
+use std::mem::replace;
+
+/// How many errors are told at most, the first among them.
+const MOST_TOLD: usize = 20;
+
+/// A fault of the copy, and its offset in the text.
+#[derive(Drop)]
+struct Found {
+    fault: TypeFault,
+    at: usize,
+}
+
+/// A search for errors: the text with its tree, what its file scope declares, and its copy; the names that it declares twice; the number
+/// and the offset of the fault that was mended last, the offset of the last one that was told, and whether 19 or 20 was found, which come
+/// behind all others; and what is told.
+#[derive(Drop)]
+struct Search<'a> {
+    unit: &'a Unit,
+    declarations: Vec<Declaration<'a>>,
+    copy: Mended,
+    twice: Vec<&'a [u8]>,
+    number: u32,
+    at: usize,
+    last: usize,
+    late: bool,
+    told: Vec<Diagnostic>,
+}
+
+// Whether a name is used.
+fn is_use(done: Use) -> bool {
+    match done {
+        Use::Read | Use::Indexed | Use::Written | Use::Called(_) => true,
+        Use::Declared | Use::Returned(_) | Use::Constant => false,
+    }
+}
+
+// The fault of a unit, where it breaks a rule and passes no limit.
+fn fault_of(alloc: Global, unit: Unit) -> Result<Option<TypeFault>, AllocError> {
+    match check(alloc, unit) {
+        Ok(typed) => {
+            drop(typed);
+            Ok(None)
+        }
+        Err(TypeFault::OutOfMemory) => Err(AllocError),
+        Err(TypeFault::TooMany(_)) => Ok(None),
+        Err(fault) => Ok(Some(fault)),
+    }
+}
+
+// The fault of a text that has a tree, and its offset behind so many bytes.
+fn found_in(alloc: Global, text: &[u8], shift: usize) -> Result<Option<Found>, AllocError> {
+    match parse(alloc, text) {
+        Ok(unit) => match fault_of(alloc, unit)? {
+            Some(fault) => {
+                let at = offset_in(text, fault.place()).unwrap_or(0);
+                let at = at.saturating_sub(shift);
+                Ok(Some(Found { fault, at }))
+            }
+            None => Ok(None),
+        },
+        Err(SyntaxFault::OutOfMemory) => Err(AllocError),
+        Err(fault) => {
+            drop(fault);
+            Ok(None)
+        }
+    }
+}
+
+impl<'a> Search<'a> {
+    fn new(alloc: Global, unit: &'a Unit) -> Result<Search<'a>, AllocError> {
+        Ok(Search {
+            unit,
+            declarations: declarations(alloc, unit.externals())?,
+            copy: Mended::new(alloc, unit.text())?,
+            twice: Vec::new(alloc),
+            number: 0,
+            at: 0,
+            last: 0,
+            late: false,
+            told: Vec::new(alloc),
+        })
+    }
+
+    fn is_twice(&self, word: &[u8]) -> bool {
+        for twice in self.twice.as_slice() {
+            if *twice == word {
+                return true;
+            }
+        }
+        false
+    }
+
+    // Whether a fault of the copy is one of the text that was not told.
+    fn is_new(&self, fault: &TypeFault, at: usize, note: Option<Note<'a>>) -> bool {
+        let word = word_at(self.unit.text(), at);
+        match (fault, note) {
+            (TypeFault::NoMain(_), _) => true,
+            (TypeFault::Undefined(_), _) => !self.is_twice(word),
+            _ if self.late || at <= self.last => false,
+            (TypeFault::Unknown(_), _) | (_, None) => true,
+            (_, Some(note)) => {
+                !is_use(note.done) || (note.standing.is_some() && !self.is_twice(word))
+            }
+        }
+    }
+
+    // Up to where a name that breaks a rule at an offset becomes another one: as far as it stands for nothing, or for the later of two.
+    fn until(&self, fault: &TypeFault, at: usize, word: &[u8]) -> usize {
+        let declared = self.declarations.as_slice();
+        let end = self.unit.text().len();
+        let here = at.saturating_add(1);
+        match fault {
+            TypeFault::Undefined(_) => end,
+            TypeFault::Redeclared(_) if named_at(declared, at).is_some() => end,
+            TypeFault::Unknown(_) => match first_of(declared, word) {
+                Some(declaration) => declaration.name.at.max(here),
+                None => end,
+            },
+            _ => here,
+        }
+    }
+
+    // Mends a name or a constant expression that breaks a rule at an offset.
+    fn mend_name(
+        &mut self,
+        alloc: Global,
+        fault: &TypeFault,
+        at: usize,
+        done: Use,
+    ) -> Result<(), AllocError> {
+        let word = word_at(self.unit.text(), at);
+        let until = self.until(fault, at, word);
+        let tokens = self.copy.tokens(alloc)?;
+        let mended = match (fault, done) {
+            (_, Use::Constant) => {
+                self.copy.mend_constant(tokens.as_slice(), at);
+                Ok(())
+            }
+            (TypeFault::WrongCount(_), Use::Declared) => {
+                self.copy.mend_length(tokens.as_slice(), word, at)
+            }
+            _ => self
+                .copy
+                .mend_name(tokens.as_slice(), word, done, at, until),
+        };
+        drop(tokens);
+        mended
+    }
+
+    // Keeps what is to be known later of a fault at an offset.
+    fn keep(&mut self, fault: &TypeFault, at: usize) -> Result<(), AllocError> {
+        self.number = fault.number();
+        self.at = at;
+        self.late |= matches!(fault, TypeFault::NoMain(_) | TypeFault::Undefined(_));
+        let declared = self.declarations.as_slice();
+        if matches!(fault, TypeFault::Redeclared(_)) && named_at(declared, at).is_some() {
+            self.twice.push(word_at(self.unit.text(), at))?;
+        }
+        Ok(())
+    }
+
+    // Mends a fault of the copy at an offset.
+    fn mend(
+        &mut self,
+        alloc: Global,
+        fault: &TypeFault,
+        at: usize,
+        note: Option<Note<'a>>,
+    ) -> Result<(), AllocError> {
+        self.keep(fault, at)?;
+        match fault {
+            TypeFault::NoMain(_) => self.copy.add_main(),
+            TypeFault::BadReturn(_) | TypeFault::BadBreak(_) => {
+                let end = at.saturating_add(word_at(self.unit.text(), at).len());
+                self.copy.blank(at, end);
+                Ok(())
+            }
+            _ => {
+                let done = match note {
+                    Some(note) => note.done,
+                    None => Use::Declared,
+                };
+                self.mend_name(alloc, fault, at, done)
+            }
+        }
+    }
+
+    // Tells of a fault of the copy at an offset, where it is new and not too many were told, and mends it. Answers whether it is not the
+    // one that was mended last.
+    fn turn(&mut self, alloc: Global, fault: &TypeFault, at: usize) -> Result<bool, AllocError> {
+        if at == self.at && fault.number() == self.number {
+            return Ok(false);
+        }
+        let note = noted(alloc, self.unit, at)?;
+        if self.is_new(fault, at, note) {
+            self.last = at;
+            // The first is told by another call.
+            if self.told.len() + 1 < MOST_TOLD {
+                let told = told_of(alloc, self.unit, note, fault, at)?;
+                self.told.push(told)?;
+            }
+        }
+        self.mend(alloc, fault, at, note)?;
+        Ok(true)
+    }
+
+    // The fault of the copy.
+    fn next(&self, alloc: Global) -> Result<Option<Found>, AllocError> {
+        let joined = self.copy.joined(alloc)?;
+        let found = found_in(alloc, joined.as_slice(), self.copy.shift());
+        drop(joined);
+        found
+    }
+
+    // Tells of the errors behind the one that was mended last.
+    fn go_on(&mut self, alloc: Global) -> Result<(), AllocError> {
+        for _ in 0..MOST_TOLD {
+            let Some(Found { fault, at }) = self.next(alloc)? else {
+                return Ok(());
+            };
+            let turned = self.turn(alloc, &fault, at);
+            drop(fault);
+            if !turned? {
+                return Ok(());
+            }
+        }
+        let message = words(alloc, "further errors are not told: correct these first")?;
+        let (at, related) = (None, None);
+        self.told.push(Diagnostic {
+            at,
+            message,
+            related,
+        })?;
+        Ok(())
+    }
+
+    // Tells of the errors behind the first one.
+    fn begin(&mut self, alloc: Global, first: &TypeFault) -> Result<(), AllocError> {
+        if let Some(at) = offset_in(self.unit.text(), first.place()) {
+            let note = noted(alloc, self.unit, at)?;
+            self.last = at;
+            self.mend(alloc, first, at, note)?;
+            self.go_on(alloc)?;
+        }
+        Ok(())
+    }
+}
+
+// What is told of the errors of a unit behind the first one.
+fn of_unit(alloc: Global, unit: &Unit, first: &TypeFault) -> Result<Vec<Diagnostic>, AllocError> {
+    let mut search = Search::new(alloc, unit)?;
+    let found = search.begin(alloc, first);
+    let told = replace(&mut search.told, Vec::new(alloc));
+    drop(search);
+    match found {
+        Ok(()) => Ok(told),
+        Err(error) => {
+            drop(told);
+            Err(error)
+        }
+    }
+}
+
+/// What is told of the errors of scope and type behind the first one, which is the fault that `check` answers for the tree of a text:
+/// up to 19, in the order of their places, those of 19 and 20 last, and that there are more. A limit that is passed (21) is told only where
+/// it is the first. Nothing for a text without a tree.
+///
+/// A text is checked 20 times at most. `AllocError` where memory for it runs out.
+pub fn further_of_typing(
+    alloc: Global,
+    text: &[u8],
+    first: &TypeFault,
+) -> Result<Vec<Diagnostic>, AllocError> {
+    match parse(alloc, text) {
+        Ok(unit) => {
+            let told = of_unit(alloc, &unit, first);
+            drop(unit);
+            told
+        }
+        Err(SyntaxFault::OutOfMemory) => Err(AllocError),
+        Err(fault) => {
+            drop(fault);
+            Ok(Vec::new(alloc))
+        }
+    }
+}

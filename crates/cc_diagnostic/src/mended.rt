@@ -1,0 +1,222 @@
+// A copy of a text in which errors of scope and type are mended, to find the next ones.
+//
+// A name that breaks a rule gets another first letter, with which it stands nowhere else, and a declaration in front of the text makes of
+// the new name what its use needs. A word that stands wrong becomes blank, and a constant expression that is none becomes `1`. So each
+// byte of the text keeps its offset.
+
+use super::walk::Use;
+use cc_tokens::{SyntaxFault, Token, tokens};
+use std::alloc::{AllocError, Global};
+
+/// With what a new name may begin.
+const LETTERS: &[u8] = b"ABCDEFGHIJKLMNOPQRSTUVWXYZabcdefghijklmnopqrstuvwxyz_";
+
+/// As many parameters as a function may have.
+const PARAMETERS: &[u8] = b"int a,int b,int c,int d,int e,int f,int g,int h";
+
+/// A copy of a text, and the declarations in front of it.
+#[derive(Drop)]
+pub struct Mended {
+    declared: Vec<u8>,
+    text: Vec<u8>,
+}
+
+// A word behind its first letter.
+fn tail(word: &[u8]) -> &[u8] {
+    word.get(1..).unwrap_or(b"")
+}
+
+// The first token behind an offset.
+fn token_behind(tokens: &[Token], at: usize) -> Option<Token> {
+    for token in tokens {
+        if token.from > at {
+            return Some(*token);
+        }
+    }
+    None
+}
+
+impl Mended {
+    /// A text, nothing mended.
+    pub fn new(alloc: Global, text: &[u8]) -> Result<Mended, AllocError> {
+        Ok(Mended {
+            declared: Vec::new(alloc),
+            text: Vec::from_slice(alloc, text)?,
+        })
+    }
+
+    /// How many bytes stand in front of the text.
+    pub fn shift(&self) -> usize {
+        self.declared.len()
+    }
+
+    /// The declarations, and the text behind them.
+    pub fn joined(&self, alloc: Global) -> Result<Vec<u8>, AllocError> {
+        let mut joined = Vec::from_slice(alloc, self.declared.as_slice())?;
+        match joined.extend_from_slice(self.text.as_slice()) {
+            Ok(()) => Ok(joined),
+            Err(error) => {
+                drop(joined);
+                Err(error)
+            }
+        }
+    }
+
+    /// The tokens of the text.
+    pub fn tokens(&self, alloc: Global) -> Result<Vec<Token>, AllocError> {
+        match tokens(alloc, self.text.as_slice()) {
+            Ok(tokens) => Ok(tokens),
+            Err(SyntaxFault::OutOfMemory) => Err(AllocError),
+            Err(fault) => {
+                drop(fault);
+                Ok(Vec::new(alloc))
+            }
+        }
+    }
+
+    fn byte(&self, at: usize) -> u8 {
+        self.text.get(at).copied().unwrap_or(b';')
+    }
+
+    fn put(&mut self, at: usize, byte: u8) {
+        if let Some(place) = self.text.get_mut(at) {
+            *place = byte;
+        }
+    }
+
+    /// Makes the bytes from an offset to another one blank. Ends of lines stay.
+    pub fn blank(&mut self, from: usize, to: usize) {
+        for at in from..to.min(self.text.len()) {
+            if self.byte(at) != b'\n' {
+                self.put(at, b' ');
+            }
+        }
+    }
+
+    // Whether a token is a word with another first letter.
+    fn is(&self, token: Token, letter: u8, word: &[u8]) -> bool {
+        let bytes = self.text.get(token.from..token.to).unwrap_or(b"");
+        bytes.first() == Some(&letter) && tail(bytes) == tail(word)
+    }
+
+    // Whether a word stands in the text with another first letter.
+    fn has(&self, tokens: &[Token], letter: u8, word: &[u8]) -> bool {
+        for token in tokens {
+            if self.is(*token, letter, word) {
+                return true;
+            }
+        }
+        false
+    }
+
+    // The first letter with which the name does not stand in the text; its own where there is none.
+    fn free_letter(&self, tokens: &[Token], word: &[u8]) -> u8 {
+        for letter in LETTERS {
+            if !self.has(tokens, *letter, word) {
+                return *letter;
+            }
+        }
+        word.first().copied().unwrap_or(b'_')
+    }
+
+    // Gives a name that stands at an offset another first letter, there and up to another offset.
+    fn rename(&mut self, tokens: &[Token], word: &[u8], letter: u8, at: usize, to: usize) {
+        let old = self.byte(at);
+        for token in tokens {
+            if at <= token.from && token.from < to && self.is(*token, old, word) {
+                self.put(token.from, letter);
+            }
+        }
+    }
+
+    // Declares a name with a first letter as a use needs it.
+    fn declare(&mut self, letter: u8, word: &[u8], done: Use) -> Result<(), AllocError> {
+        self.declared.extend_from_slice(b"int ")?;
+        self.declared.push(letter)?;
+        self.declared.extend_from_slice(tail(word))?;
+        match done {
+            Use::Called(count) => {
+                let length = count.saturating_mul(6).saturating_sub(1);
+                let parameters = PARAMETERS.get(..length).unwrap_or(PARAMETERS);
+                self.declared.push(b'(')?;
+                self.declared.extend_from_slice(parameters)?;
+                self.declared.extend_from_slice(b"){}")
+            }
+            Use::Indexed => self.declared.extend_from_slice(b"[1];"),
+            _ => self.declared.extend_from_slice(b";"),
+        }
+    }
+
+    /// Mends a name that breaks a rule at an offset: wherever it stands from there to another offset it becomes another one, which is declared
+    /// as it is used there. What is no use but a declaration declares it.
+    pub fn mend_name(
+        &mut self,
+        tokens: &[Token],
+        word: &[u8],
+        done: Use,
+        at: usize,
+        to: usize,
+    ) -> Result<(), AllocError> {
+        let letter = self.free_letter(tokens, word);
+        self.rename(tokens, word, letter, at, to);
+        match done {
+            Use::Declared => Ok(()),
+            _ => self.declare(letter, word, done),
+        }
+    }
+
+    // Where the constant expression ends that begins at an offset.
+    fn end_of_constant(&self, tokens: &[Token], at: usize) -> usize {
+        let mut depth: usize = 0;
+        for token in tokens {
+            if token.from >= at {
+                match self.byte(token.from) {
+                    b'(' | b'[' => depth = depth.saturating_add(1),
+                    b')' | b']' if depth > 0 => depth -= 1,
+                    b')' | b']' | b'}' | b';' => return token.from,
+                    b',' if depth == 0 => return token.from,
+                    _ => {}
+                }
+            }
+        }
+        self.text.len()
+    }
+
+    /// Mends a constant expression that begins at an offset and is none.
+    pub fn mend_constant(&mut self, tokens: &[Token], at: usize) {
+        let end = self.end_of_constant(tokens, at);
+        self.blank(at, end);
+        self.put(at, b'1');
+    }
+
+    /// Mends the length of an array whose name stands at an offset: its list gives it, or it is 1.
+    pub fn mend_length(
+        &mut self,
+        tokens: &[Token],
+        word: &[u8],
+        at: usize,
+    ) -> Result<(), AllocError> {
+        let Some(open) = token_behind(tokens, at) else {
+            return Ok(());
+        };
+        let close = self.end_of_constant(tokens, open.to);
+        self.blank(open.to, close);
+        let next = token_behind(tokens, close).map(|token| token.from);
+        if self.byte(next.unwrap_or(close)) == b'=' {
+            return Ok(());
+        }
+        if open.to < close {
+            self.put(open.to, b'1');
+            return Ok(());
+        }
+        // There is no room between the brackets, so the array stands in front of the text.
+        self.blank(open.from, close.saturating_add(1));
+        self.declare(self.byte(at), word, Use::Indexed)?;
+        self.mend_name(tokens, word, Use::Declared, at, at.saturating_add(1))
+    }
+
+    /// Adds a definition of `main` in front of the text.
+    pub fn add_main(&mut self) -> Result<(), AllocError> {
+        self.declared.extend_from_slice(b"int main(void){}")
+    }
+}
