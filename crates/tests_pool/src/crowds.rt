@@ -1,34 +1,42 @@
-// Many threads at once, on more pieces than the queue has places, while one worker of two is held.
+// Many threads share a pool of two workers, of which one is held: two with one text of two functions, and sixteen with so many pieces
+// that the queue of 64 places is full.
 
 ghost use Rattle.std.specs.Prelude.{◌≡◌};
 
-use super::helpers::{Hold, are_of, repeat, unit};
+use super::helpers::{Hold, LONG, are_of, repeat, unit};
 use cc_pool::{Fresh, Pass, Pool, Queued};
 use cc_typing::TypedUnit;
 use std::alloc::{AllocError, Global};
 use std::marker::Brand;
-use std::sync::atomic::{AtomicU64, Ordering};
+use std::sync::atomic::Ordering;
 use std::sync::{Arc, Wait};
 use std::test::Fail;
 use std::thread;
 use std::thread::Threads;
 
 #[test]
-fn crowds(rt: HostRuntime) -> Result<(), Fail> {
-    for (threads, functions) in [(2u64, 2usize), (16, 16)] {
-        let fresh = Fresh::new(rt.alloc())?;
-        let told = crowd::<Brand, HostRuntime>(&rt, rt.alloc(), fresh, threads, functions)?;
-        assert_eq!(rt; told, (threads, 1));
-    }
+fn two_passes_at_once(rt: HostRuntime) -> Result<(), Fail> {
+    let fresh = Fresh::new(rt.alloc())?;
+    let told = crowd::<Brand, HostRuntime>(&rt, rt.alloc(), fresh, 2, LONG.as_bytes())?;
+    assert_eq!(rt; told, (2, 1));
+    Ok(())
+}
+
+#[test]
+fn sixteen_fill_the_queue(rt: HostRuntime) -> Result<(), Fail> {
+    let text = functions(rt.alloc(), 64)?;
+    let fresh = Fresh::new(rt.alloc())?;
+    let told = crowd::<Brand, HostRuntime>(&rt, rt.alloc(), fresh, 16, text.as_slice())?;
+    assert_eq!(rt; told, (16, 1));
     Ok(())
 }
 
 // A text with so many functions, the last of which is `main`.
-fn text(alloc: Global, functions: usize) -> Result<Vec<u8>, AllocError> {
+fn functions(alloc: Global, count: usize) -> Result<Vec<u8>, AllocError> {
     let mut text = Vec::new(alloc);
     let mut name = Vec::new(alloc);
     name.push(b'f')?;
-    for _ in 1..functions {
+    for _ in 1..count {
         repeat(&mut text, b"int ", 1)?;
         repeat(&mut text, name.as_slice(), 1)?;
         repeat(&mut text, b"(int x){return x;}", 1)?;
@@ -45,7 +53,6 @@ fn round<N, R>(
     pool: &Pool<N>,
     mut pass: Pass<N>,
     unit: Arc<TypedUnit>,
-    functions: usize,
 ) -> (Pass<N>, bool)
 where
     N: Queued + Send + Sync + 'static,
@@ -56,7 +63,7 @@ where
     };
     let right = match pool.submit(rt, alloc, &mut pass, unit) {
         Ok(ticket) => match pool.collect(rt, alloc, ticket) {
-            Ok(pieces) => are_of(pieces.as_slice(), same.text(), functions),
+            Ok(pieces) => are_of(pieces.as_slice(), same.text(), same.functions()),
             Err(_) => false,
         },
         Err(_) => false,
@@ -64,27 +71,23 @@ where
     (pass, right)
 }
 
-// How many of so many threads got the right pieces of a unit with so many functions, and how many holds of job 0 ended before their
-// limit: it waits for all pieces of all others.
+// How many of so many threads got the right pieces of a text's unit, and how many holds of job 0 ended before their limit: one of its
+// pieces waits for all others of all jobs. The pool ends then, with all passes.
 fn crowd<N, R>(
     rt: &R,
     alloc: Global,
     fresh: Fresh,
     threads: u64,
-    functions: usize,
+    text: &[u8],
 ) -> Result<(u64, u64), Fail>
 where
     N: Queued + Send + Sync + 'static,
     R: Threads + Wait + Copy + Send + 'static,
     requires { fresh ≡ N.queue }
 {
-    let met = Arc::new(alloc, AtomicU64::new(0))?;
-    let hold = Hold {
-        least: (threads.saturating_sub(1)).saturating_mul(functions as u64),
-        others: Arc::new(alloc, AtomicU64::new(0))?,
-        met: Arc::try_clone(&met)?,
-    };
-    let unit = unit(alloc, text(alloc, functions)?.as_slice())?;
+    let unit = unit(alloc, text)?;
+    let pieces = threads.saturating_mul(unit.functions() as u64);
+    let (hold, signs) = Hold::new(alloc, pieces.saturating_sub(1))?;
     let pool = Arc::new(alloc, Pool::<N>::start(rt, alloc, fresh, 2, hold)?)?;
     let mut started = Vec::new(alloc);
     for _ in 0..threads {
@@ -92,9 +95,7 @@ where
         let pass = pool.pass(rt);
         let unit = Arc::try_clone(&unit)?;
         let handle = *rt;
-        let thread = thread::spawn(rt, move || {
-            round(&handle, alloc, &theirs, pass, unit, functions)
-        })?;
+        let thread = thread::spawn(rt, move || round(&handle, alloc, &theirs, pass, unit))?;
         started.push(thread)?;
     }
     let mut passes = Vec::new(alloc);
@@ -106,8 +107,9 @@ where
             right += 1;
         }
     }
-    if let Ok(pool) = Arc::try_unwrap(pool) {
-        pool.finish(rt, passes)?;
+    match Arc::try_unwrap(pool) {
+        Ok(pool) => pool.finish(rt, passes)?,
+        Err(_) => return Err(Fail::from("the pool is still shared")),
     }
-    Ok((right, met.load(Ordering::SeqCst)))
+    Ok((right, signs.met.load(Ordering::SeqCst)))
 }
