@@ -3,8 +3,9 @@
 //!
 //! `compile FILE TIMES` and `count FILE` compile a text or count what its image executes (`compiler`); `list COUNT` adds to an
 //! instruction list (`list`); `machine CODE GLOBALS STEPS [WORD..]` runs words on the simulator (`machine`); `passes TASK FILE TIMES`
-//! does the passes up to the validator (`passes`); `store TASK FILE [NUMBER..]` works on a library of units on a file (`store`).
-//! `arguments` reads the command line, `words` files of words, and `units` makes units and their names.
+//! does the passes up to the validator (`passes`); `pool TASK FILE NUMBER..` has a pool of workers compile (`pool`); `store TASK FILE
+//! [NUMBER..]` works on a library of units on a file (`store`). `arguments` reads the command line, `words` files of words, and `units`
+//! makes units and their names.
 #![tactic(auto)]
 
 mod arguments;
@@ -12,6 +13,7 @@ mod compiler;
 mod list;
 mod machine;
 mod passes;
+mod pool;
 mod store;
 mod units;
 mod words;
@@ -28,7 +30,15 @@ fn main(rt: HostRuntime) -> Result<()> {
     let _program = arguments.next();
     for _ in 0..MOST_TASKS {
         match arguments.next() {
-            Some(task) => perform(&rt, task.as_str(), &mut arguments)?,
+            Some(task) => {
+                if task.as_str() == "pool" {
+                    let work = pool::next_work(&rt, &mut arguments)?;
+                    pool::perform(&rt, rt.alloc(), work)?;
+                    end_of_task(&mut arguments)?;
+                } else {
+                    perform(&rt, task.as_str(), &mut arguments)?;
+                }
+            }
             None => return Ok(()),
         }
     }
@@ -43,8 +53,12 @@ fn perform(rt: &HostRuntime, task: &str, arguments: &mut Args) -> Result<()> {
         "machine" => return machine::run(rt, arguments),
         "passes" => passes::perform(rt, arguments)?,
         "store" => store::perform(rt, arguments)?,
-        _ => bail!("usage: bench compile|count|list|machine|passes|store WORD.. [, TASK WORD..]"),
+        _ => bail!("usage: bench compile|count|list|machine|passes|pool|store WORD.. [, TASK WORD..]"),
     }
+    end_of_task(arguments)
+}
+
+fn end_of_task(arguments: &mut Args) -> Result<()> {
     match next_of_task(arguments) {
         Some(_more) => bail!("a task has too many words"),
         None => Ok(()),

@@ -40,8 +40,8 @@ pub fn perform(rt: &HostRuntime, arguments: &mut Args) -> Result<()> {
     Ok(())
 }
 
-// The unit of that file.
-fn checked(rt: &HostRuntime, path: &str) -> Result<Arc<TypedUnit>> {
+/// The unit of that file.
+pub fn checked(rt: &HostRuntime, path: &str) -> Result<Arc<TypedUnit>> {
     let text = fs::read(rt, path)?;
     let unit = parse(rt.alloc(), text.as_slice())?;
     let typed = check(rt.alloc(), unit)?;

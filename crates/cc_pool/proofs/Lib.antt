@@ -5,4 +5,5 @@ pub mod Multisets
 pub mod Pieces
 pub mod Refusals
 pub mod Rules
+pub mod Sharing
 pub mod Channels

@@ -15,6 +15,10 @@ pub const ONE: &[u8] = b"int main(void){return 1;}";
 
 pub const TWO: &[u8] = b"int f(int x){return x;}int main(void){return f(2);}";
 
+/// A function that gives its argument, and a `main` with 24 locals that are alive over its call.
+pub const LONG: &str =
+    "int f(int x){return x;}int main(void){int v1=read_word();int v2=read_word();int v3=read_word();int v4=read_word();int v5=read_word();int v6=read_word();int v7=read_word();int v8=read_word();int v9=read_word();int v10=read_word();int v11=read_word();int v12=read_word();int v13=read_word();int v14=read_word();int v15=read_word();int v16=read_word();int v17=read_word();int v18=read_word();int v19=read_word();int v20=read_word();int v21=read_word();int v22=read_word();int v23=read_word();int v24=read_word();write_word(f(0));write_word(v1+v2+v3+v4+v5+v6+v7+v8+v9+v10+v11+v12+v13+v14+v15+v16+v17+v18+v19+v20+v21+v22+v23+v24);}";
+
 /// How often a gate yields before it gives up.
 const TURNS: u64 = 20_000_000;
 
@@ -61,22 +65,47 @@ pub fn are_of(pieces: &[Piece], text: &[u8], count: usize) -> bool {
     right
 }
 
-/// Holds the first piece of job 0 until so many pieces of other jobs have passed, or the turns are over, and tells whether it was let go
-/// before that.
+/// Holds the first piece of job 0 that comes, until so many other pieces have passed, or the turns are over, and tells whether it was let
+/// go before that.
 #[derive(Drop)]
 pub struct Hold {
-    pub least: u64,
+    least: u64,
+    // How many pieces of job 0 have come.
+    came: AtomicU64,
+    others: Arc<AtomicU64>,
+    met: Arc<AtomicU64>,
+}
+
+/// How many pieces have passed that were not held, and how many holds ended before their limit.
+#[derive(Drop)]
+pub struct Signs {
     pub others: Arc<AtomicU64>,
     pub met: Arc<AtomicU64>,
 }
 
+impl Hold {
+    /// A gate that holds until so many others have passed, and what it tells.
+    pub fn new(alloc: Global, least: u64) -> Result<(Hold, Signs), AllocError> {
+        let others = Arc::new(alloc, AtomicU64::new(0))?;
+        let met = Arc::new(alloc, AtomicU64::new(0))?;
+        let signs = Signs {
+            others: Arc::try_clone(&others)?,
+            met: Arc::try_clone(&met)?,
+        };
+        let hold = Hold {
+            least,
+            came: AtomicU64::new(0),
+            others,
+            met,
+        };
+        Ok((hold, signs))
+    }
+}
+
 impl Gate for Hold {
-    fn before(&self, job: u64, piece: u32) {
-        if job > 0 {
+    fn before(&self, job: u64, _piece: u32) {
+        if job > 0 || self.came.fetch_add(1, Ordering::SeqCst) > 0 {
             self.others.fetch_add(1, Ordering::SeqCst);
-            return;
-        }
-        if piece > 0 {
             return;
         }
         for _ in 0..TURNS {

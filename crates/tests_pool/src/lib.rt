@@ -1,9 +1,11 @@
 //! Tests of the pool: what no clause says of it.
 //!
-//! `helpers` has units, passes and a gate that holds a job; `tickets` what comes back of jobs, `held` a job that is held while others are
-//! made, `ends` how a pool ends, `same` the pool beside one thread.
+//! `helpers` has units, passes and a gate that holds a piece; `tickets` what comes back of jobs, `held` pieces and jobs that are held while
+//! others are made, `crowds` many threads that share a pool, `ends` how a pool ends, `same` the pool beside one thread, over `texts`.
 #![tactic(auto)]
 
+#[cfg(test)]
+mod crowds;
 #[cfg(test)]
 mod ends;
 #[cfg(test)]
@@ -12,5 +14,7 @@ mod held;
 mod helpers;
 #[cfg(test)]
 mod same;
+#[cfg(test)]
+mod texts;
 #[cfg(test)]
 mod tickets;
