@@ -5,7 +5,7 @@ use cc_program::perform_and_explain;
 use std::alloc::Global;
 
 // Texts, what `check` writes for each, and what is explained.
-static CHECKED: [(&str, &str, &str); 5] = [
+static CHECKED: [(&str, &str, &str); 6] = [
     ("int main(void){}", "ok\n", ""),
     (
         "int a[4];\nint main(void){return a[4];}",
@@ -16,6 +16,12 @@ static CHECKED: [(&str, &str, &str); 5] = [
         "int main(void){\n totl=1;\n}",
         "fault 11 Unknown at 2:2\n",
         "-:2:2: 'totl' is not declared\n    2 |  totl=1;\n      |  ^\n",
+    ),
+    // The answer is the first fault alone; what is explained has the others too.
+    (
+        "int main(void){\n totl=1;\n while(1){sums=2;continue;}\n break;\n}",
+        "fault 11 Unknown at 2:2\n",
+        "-:2:2: 'totl' is not declared\n    2 |  totl=1;\n      |  ^\n-:3:11: 'sums' is not declared\n    3 |  while(1){sums=2;continue;}\n      |           ^\n-:4:2: 'break' outside a loop\n    4 |  break;\n      |  ^\n",
     ),
     (
         "int main(void){return 1 2;}",
