@@ -53,7 +53,9 @@ fn perform(rt: &HostRuntime, task: &str, arguments: &mut Args) -> Result<()> {
         "machine" => return machine::run(rt, arguments),
         "passes" => passes::perform(rt, arguments)?,
         "store" => store::perform(rt, arguments)?,
-        _ => bail!("usage: bench compile|count|list|machine|passes|pool|store WORD.. [, TASK WORD..]"),
+        _ => bail!(
+            "usage: bench compile|count|list|machine|passes|pool|store WORD.. [, TASK WORD..]"
+        ),
     }
     end_of_task(arguments)
 }

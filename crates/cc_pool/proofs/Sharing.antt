@@ -28,11 +28,11 @@ pool_send N q n =
     let o = own_send N q n in
     let t = taker_send N q n in
     view_send _ _ _ _ _ (recorded_send (pools.the_field N q).row _ _ (pools.the_type N q).to_one (struct_send (shape (pools.the_type N q))
-        (ends_send N q n, (search (sendable, crosses) depth 10, (search (sendable, crosses) depth 40 fits 40000, (search sendable, (search (sendable, crosses) depth 10, tt)))))))
+    (ends_send N q n, (search (sendable, crosses) depth 10, (search (sendable, crosses) depth 40 fits 40000, (search sendable, (search (sendable, crosses) depth 10, tt)))))))
 
 pub pool_sync : (N : RattleType) (q : Ghosts N.Denot) → IsSend N → IsSync N → IsSync (Pool.the_row N q)
 pool_sync N q n y =
     let o = own_send N q n in
     let t = taker_send N q n in
     view_sync _ _ _ _ _ (recorded_sync (pools.the_field N q).row _ _ (pools.the_type N q).to_one (struct_sync (shape (pools.the_type N q))
-        (ends_sync N q y, (search (sendable, crosses) depth 10, (search (sendable, crosses) depth 40 fits 40000, (search sendable, (search (sendable, crosses) depth 10, tt)))))))
+    (ends_sync N q y, (search (sendable, crosses) depth 10, (search (sendable, crosses) depth 40 fits 40000, (search sendable, (search (sendable, crosses) depth 10, tt)))))))
