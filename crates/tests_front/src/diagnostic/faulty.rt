@@ -3,7 +3,7 @@
 // The place is that of the first line, the key words stand anywhere behind it. A row without them is a program of which nothing is
 // told.
 
-use super::helpers::told_of;
+use super::helpers::{has, told_of};
 use std::alloc::Global;
 
 /// A text, the place of what is told of it first, and key words of it.
@@ -844,11 +844,6 @@ static OTHERS_3: [Row; 21] = [
         "",
     ),
 ];
-
-// Whether the words stand among the bytes.
-fn has(bytes: &[u8], words: &[u8]) -> bool {
-    words.is_empty() || bytes.windows(words.len()).any(|window| window == words)
-}
 
 // Whether what is told of a row's text stands at its place, and has its key words.
 fn is_told(alloc: Global, row: &Row) -> bool {

@@ -2,7 +2,7 @@
 //
 // The places are those of gcc 12.2 and clang 14 where both tell of the same; what they only warn of, or do not tell, is worked by hand.
 
-use super::helpers::errors_of;
+use super::helpers::{errors_of, has};
 use cc_diagnostic::Diagnostic;
 use std::alloc::{AllocError, Global};
 
@@ -270,10 +270,6 @@ static ROWS_3: [Row; 8] = [
         &[("1:22", "'u' is not declared")],
     ),
 ];
-// Whether the words stand among the bytes.
-fn has(bytes: &[u8], words: &[u8]) -> bool {
-    bytes.windows(words.len()).any(|window| window == words)
-}
 
 // Whether a diagnostic over a text stands at a place, and has key words.
 fn is_told(alloc: Global, text: &str, diagnostic: &Diagnostic, place: &str, words: &str) -> bool {

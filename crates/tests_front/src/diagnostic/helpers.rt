@@ -136,3 +136,8 @@ pub fn told_of_run(
         _ => Ok(Vec::new(alloc)),
     }
 }
+
+/// Whether the words stand among the bytes.
+pub fn has(bytes: &[u8], words: &[u8]) -> bool {
+    words.is_empty() || bytes.windows(words.len()).any(|window| window == words)
+}
