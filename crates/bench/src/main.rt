@@ -3,14 +3,15 @@
 //!
 //! `compile FILE TIMES` and `count FILE` compile a text or count what its image executes (`compiler`); `machine CODE GLOBALS STEPS
 //! [WORD..]` runs words on the simulator (`machine`); `passes TASK FILE TIMES` does the passes up to the validator (`passes`);
-//! `store TASK FILE [NUMBER..]` works on a library of units on a file (`store`). `arguments` reads the command line, `words` files
-//! of words, and `units` makes units and their names.
+//! `stands SOURCE WORDS TIMES` looks whether a receipt stands (`stands`), `store TASK FILE [NUMBER..]` works on a library of units on
+//! a file (`store`). `arguments` reads the command line, `words` files of words, and `units` makes units and their names.
 #![tactic(auto)]
 
 mod arguments;
 mod compiler;
 mod machine;
 mod passes;
+mod stands;
 mod store;
 mod units;
 mod words;
@@ -40,8 +41,9 @@ fn perform(rt: &HostRuntime, task: &str, arguments: &mut Args) -> Result<()> {
         "count" => compiler::count(rt, arguments)?,
         "machine" => return machine::run(rt, arguments),
         "passes" => passes::perform(rt, arguments)?,
+        "stands" => stands::look_again(rt, arguments)?,
         "store" => store::perform(rt, arguments)?,
-        _ => bail!("usage: bench compile|count|machine|passes|store WORD.. [, TASK WORD..]"),
+        _ => bail!("usage: bench compile|count|machine|passes|stands|store WORD.. [, TASK WORD..]"),
     }
     match next_of_task(arguments) {
         Some(_more) => bail!("a task has too many words"),
