@@ -1,5 +1,11 @@
-// A service with its workers: `starting` opens one, `calls` has one client and two in threads, `gates` holds a worker, `devices` fails.
+// A service with its workers.
+//
+// `starting` opens one, `answers` makes each call, `calls` has one client and two in threads, `crowds` sixteen, `gates` holds a worker,
+// `devices` fails, `files` lets a service go and opens its file again.
+mod answers;
 mod calls;
+mod crowds;
 mod devices;
+mod files;
 mod gates;
 mod starting;

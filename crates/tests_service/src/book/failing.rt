@@ -1,10 +1,12 @@
 // A device that fails at each call of a script: what is answered then and later, and what a crash leaves.
-use crate::book::helpers::{SIZE, formatted, opened};
-use crate::book::model::{Call, Change, Model, shows};
 use crate::book::playing::{State, play};
+use crate::helpers::{SIZE, formatted, opened};
+use crate::model::{Call, Change, Model, shows};
 use cc_disk::{FuseDisk, FuseMode, MemoryDisk};
 use std::alloc::Global;
+use std::sync::Wait;
 use std::test::Fail;
+use std::thread::Threads;
 
 const A: usize = 0;
 
@@ -37,8 +39,14 @@ fn is_promised(alloc: Global, disk: MemoryDisk, state: &State) -> Result<bool, F
 
 // Plays the calls on a device that passes so many of its calls: the place of the one answered 35. An error where a crash leaves another
 // map than is promised.
-fn failed_at(alloc: Global, passes: u64, mode: FuseMode) -> Result<Option<usize>, Fail> {
+fn failed_at<R: Threads + Wait + Copy + Send + 'static>(
+    rt: &R,
+    alloc: Global,
+    passes: u64,
+    mode: FuseMode,
+) -> Result<Option<usize>, Fail> {
     let played = play(
+        rt,
         alloc,
         FuseDisk::new(formatted(alloc)?, passes, mode),
         &CALLS,
@@ -65,7 +73,7 @@ fn a_device_that_fails_at_each_call(rt: HostRuntime) -> Result<(), Fail> {
             } else {
                 None
             };
-            let found = failed_at(rt.alloc(), OPENING + call, mode)?;
+            let found = failed_at(&rt, rt.alloc(), OPENING + call, mode)?;
             assert!(rt; found == wanted, "device call {call}, {mode:?}: {found:?}");
         }
     }

@@ -3,16 +3,20 @@ ghost use Rattle.std.specs.Prelude.{◌≡◌, IsTrue};
 ghost use Rattle.cc_library.specs.Apply.{Units};
 ghost use Rattle.cc_library.specs.Recovered.{Recovers};
 
-use crate::book::helpers::{client_of, command_of, found, name_at};
-use crate::book::model::{Call, EMPTY, Model, after, is_reply, number_of};
+use crate::helpers::{TEXTS, bytes_at, found, name_at};
+use crate::model::{Call, Change, EMPTY, Model, after, is_reply, number_of};
 use cc_disk::Disk;
-use cc_history::{Asked, Receipt};
+use cc_history::{Asked, Command, Receipt};
 use cc_library::UnitMap;
-use cc_service::{Book, Client, Named, ServiceFault, close};
+use cc_link::compile;
+use cc_pool::{Fresh, NoGate, Pool};
+use cc_service::{Book, BookFault, Client, Named, close};
 use std::alloc::Global;
 use std::marker::Brand;
-use std::sync::ledger::Blank;
+use std::sync::Wait;
+use std::sync::ledger::{Blank, Share};
 use std::test::Fail;
+use std::thread::Threads;
 
 /// What has been answered so far.
 #[derive(Clone, Copy)]
@@ -29,6 +33,21 @@ pub struct State {
 pub struct Played<D: Disk> {
     pub disk: D,
     pub state: State,
+}
+
+// The command of a change.
+fn command_of(alloc: Global, change: Change) -> Result<Command, Fail> {
+    match change {
+        Change::Add(name, text) => Ok(Command::Add(
+            name_at(name)?,
+            compile(alloc, bytes_at(&TEXTS, text))?,
+        )),
+        Change::Replace(name, text) => Ok(Command::Replace(
+            name_at(name)?,
+            compile(alloc, bytes_at(&TEXTS, text))?,
+        )),
+        Change::Withdraw(name) => Ok(Command::Withdraw(name_at(name)?)),
+    }
 }
 
 // Makes a call: the number of its answer, and the receipt where there is one.
@@ -55,8 +74,8 @@ fn made<N: Named, D: Disk>(
     };
     match answer {
         Ok(receipt) => Ok((0, Some(receipt))),
-        Err(ServiceFault::Exists(receipt)) => Ok((31, Some(receipt))),
-        Err(ServiceFault::Absent(receipt)) => Ok((32, Some(receipt))),
+        Err(BookFault::Exists(receipt)) => Ok((31, Some(receipt))),
+        Err(BookFault::Absent(receipt)) => Ok((32, Some(receipt))),
         Err(fault) => {
             let number = fault.number();
             drop(fault);
@@ -162,39 +181,18 @@ fn step<N: Named, D: Disk>(
     }
 }
 
-// Plays the calls on a book over the disk, each by the first client or the other one, and ends the book with both.
-fn run<N: Named, D: Disk + Drop>(
+// Ends a book with its two clients.
+fn ended<N: Named, D: Disk + Drop>(
     alloc: Global,
-    disk: D,
-    base: UnitMap,
-    blank: Blank,
-    calls: &[(bool, Call)],
+    book: Book<N, D>,
+    rest: Share<N>,
+    one: Client<N>,
+    other: Client<N>,
+    state: State,
 ) -> Result<Played<D>, Fail>
-    requires name { blank.name ≡ N.name }
-    requires parts { (blank.parts ≡ N.parts) × (N.parts ≡ 3) }
-    requires base { IsTrue D.honest → (units : Units) → Recovers (D.seen disk) units → units ≡ base }
-    requires named { base ≡ N.base }
+    requires parts { rest.parts + 2 ≡ N.parts }
+    requires amount { rest.amount ≡ 0 }
 {
-    drop(base);
-    let (ledger, mut rest) = blank.open::<N>();
-    let mut book = match Book::open(alloc, disk, ledger) {
-        Ok(book) => book,
-        Err(refused) => {
-            drop(refused);
-            return Err(Fail::from("not opened"));
-        }
-    };
-    let mut one = client_of(alloc, 1, rest.split_off(1, 0));
-    let mut other = client_of(alloc, 2, rest.split_off(1, 0));
-    let mut state = State {
-        model: EMPTY,
-        failed: None,
-        entries: 0,
-    };
-    for (place, (first, call)) in calls.iter().enumerate() {
-        let client = if *first { &mut one } else { &mut other };
-        state = step(alloc, &mut book, client, &state, place, *call)?;
-    }
     let mut clients = Vec::new(alloc);
     clients.push(one)?;
     clients.push(other)?;
@@ -214,23 +212,76 @@ fn run<N: Named, D: Disk + Drop>(
     }
 }
 
-/// Plays the calls on a book over the disk: an error where an answer is not the model's.
-pub fn play<D: Disk + Drop>(
-    alloc: Global,
-    disk: D,
-    calls: &[(bool, Call)],
-) -> Result<Played<D>, Fail> {
-    let (disk, base) = found(alloc, disk)?;
-    over(alloc, disk, base, calls)
-}
-
-fn over<D: Disk + Drop>(
+// Plays the calls on a book over the disk, each by the first client or the other one, and ends the book with both.
+fn run<N, D, R>(
+    rt: &R,
     alloc: Global,
     disk: D,
     base: UnitMap,
+    blank: Blank,
+    queue: Fresh,
     calls: &[(bool, Call)],
 ) -> Result<Played<D>, Fail>
+where
+    N: Named + Send + Sync + 'static,
+    D: Disk + Drop,
+    R: Threads + Wait + Copy + Send + 'static,
+    requires name { blank.name ≡ N.name }
+    requires parts { (blank.parts ≡ N.parts) × (N.parts ≡ 3) }
+    requires queue { queue ≡ N.queue }
+    requires base { IsTrue D.honest → (units : Units) → Recovers (D.seen disk) units → units ≡ base }
+    requires named { base ≡ N.base }
+{
+    drop(base);
+    // A client has a pass of a pool.
+    let pool = Pool::<N>::start(rt, alloc, queue, 1, NoGate)?;
+    let (ledger, mut rest) = blank.open::<N>();
+    let mut book = match Book::open(alloc, disk, ledger) {
+        Ok(book) => book,
+        Err(refused) => {
+            drop(refused);
+            return Err(Fail::from("not opened"));
+        }
+    };
+    let mut one = Client::new(alloc, 1, rest.split_off(1, 0), pool.pass(rt));
+    let mut other = Client::new(alloc, 2, rest.split_off(1, 0), pool.pass(rt));
+    let mut state = State {
+        model: EMPTY,
+        failed: None,
+        entries: 0,
+    };
+    for (place, (first, call)) in calls.iter().enumerate() {
+        let client = if *first { &mut one } else { &mut other };
+        state = step(alloc, &mut book, client, &state, place, *call)?;
+    }
+    // It answers 41, since the clients have its passes.
+    drop(pool.finish(rt, Vec::new(alloc)));
+    ended(alloc, book, rest, one, other, state)
+}
+
+/// Plays the calls on a book over the disk: an error where an answer is not the model's.
+pub fn play<D, R>(rt: &R, alloc: Global, disk: D, calls: &[(bool, Call)]) -> Result<Played<D>, Fail>
+where
+    D: Disk + Drop,
+    R: Threads + Wait + Copy + Send + 'static,
+{
+    let (disk, base) = found(alloc, disk)?;
+    let queue = Fresh::new(alloc)?;
+    over(rt, alloc, disk, base, queue, calls)
+}
+
+fn over<D, R>(
+    rt: &R,
+    alloc: Global,
+    disk: D,
+    base: UnitMap,
+    queue: Fresh,
+    calls: &[(bool, Call)],
+) -> Result<Played<D>, Fail>
+where
+    D: Disk + Drop,
+    R: Threads + Wait + Copy + Send + 'static,
     requires base { IsTrue D.honest → (units : Units) → Recovers (D.seen disk) units → units ≡ base }
 {
-    run::<Brand, D>(alloc, disk, base, Blank::new(3), calls)
+    run::<Brand, D, R>(rt, alloc, disk, base, Blank::new(3), queue, calls)
 }

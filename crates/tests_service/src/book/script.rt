@@ -1,7 +1,7 @@
 // Twenty calls of two clients, with compactions between them, over a disk in memory and over one behind a fuse that holds.
-use crate::book::helpers::{formatted, opened};
-use crate::book::model::{Call, Change, shows};
 use crate::book::playing::{Played, play};
+use crate::helpers::{formatted, opened};
+use crate::model::{Call, Change, shows};
 use cc_disk::{Disk, FuseDisk, FuseMode};
 use std::alloc::Global;
 use std::test::Fail;
@@ -49,7 +49,7 @@ fn is_whole<D: Disk + Drop>(alloc: Global, played: Played<D>) -> Result<bool, Fa
 fn twenty_calls_of_two_clients(rt: HostRuntime) -> Result<(), Fail> {
     let alloc = rt.alloc();
     let fuse = FuseDisk::new(formatted(alloc)?, u64::MAX, FuseMode::Once);
-    assert!(rt; is_whole(alloc, play(alloc, formatted(alloc)?, &CALLS)?)?);
-    assert!(rt; is_whole(alloc, play(alloc, fuse, &CALLS)?)?);
+    assert!(rt; is_whole(alloc, play(&rt, alloc, formatted(alloc)?, &CALLS)?)?);
+    assert!(rt; is_whole(alloc, play(&rt, alloc, fuse, &CALLS)?)?);
     Ok(())
 }

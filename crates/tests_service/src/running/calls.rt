@@ -1,9 +1,7 @@
 // Calls of one client, and of two in threads.
 ghost use Rattle.std.specs.Prelude.{◌≡◌};
 
-use super::starting::{
-    ALL, Begun, Fused, OPENING, SMALL, alone, begun, both, names_on, number, opened,
-};
+use super::starting::{ALL, Begun, Fused, SMALL, alone, begun, both, number, opened};
 use cc_pool::NoGate;
 use cc_service::{BookFault, Client, MOST_CLIENTS, Named, ServiceFault};
 use std::alloc::Global;

@@ -1,11 +1,11 @@
 // A device that fails once.
 ghost use Rattle.std.specs.Prelude.{◌≡◌};
 
-use super::starting::{
-    ALL, Begun, Fused, OPENING, SMALL, TWO_FUNCTIONS, alone, begun, names_on, number, opened,
-};
+use super::starting::{Begun, Device, Fused, OPENING, SMALL, alone, begun, holds, number, opened};
+use crate::helpers::TEXTS;
+use crate::model::{EMPTY, Model, are_names};
 use cc_pool::NoGate;
-use cc_service::{BookFault, Client, Named, ServiceFault};
+use cc_service::{BookFault, Client, Named, Service, ServiceFault};
 use std::alloc::Global;
 use std::marker::Brand;
 use std::sync::Wait;
@@ -39,11 +39,18 @@ where
     let Ok(closed) = service.finish(rt, alloc, alone(alloc, client)?) else {
         return Ok(false);
     };
-    Ok(right && names_on(alloc, closed.library.into_disk())? == 0)
+    Ok(right && holds(alloc, closed.library.into_disk(), &EMPTY, &EMPTY)?)
 }
 
-// How many names there are after each of the five calls.
-const AFTER: [usize; 6] = [0, 1, 2, 2, 2, 1];
+// The maps before and after each of the five calls.
+const MAPS: [Model; 6] = [
+    [None, None, None],
+    [Some(0), None, None],
+    [Some(0), Some(0), None],
+    [Some(1), Some(0), None],
+    [Some(1), Some(0), None],
+    [Some(1), None, None],
+];
 
 // The five calls, by their places.
 fn call<N, R>(
@@ -58,16 +65,45 @@ where
     R: Wait,
 {
     match place {
-        0 => number(service.add(rt, alloc, client, b"a", SMALL)),
-        1 => number(service.add(rt, alloc, client, b"b", SMALL)),
-        2 => number(service.replace(rt, alloc, client, b"a", TWO_FUNCTIONS)),
+        0 => number(service.add(rt, alloc, client, b"a", TEXTS[0])),
+        1 => number(service.add(rt, alloc, client, b"b", TEXTS[0])),
+        2 => number(service.replace(rt, alloc, client, b"a", TEXTS[1])),
         3 => number(service.compact(rt, alloc)),
         _ => number(service.withdraw(rt, alloc, client, b"b")),
     }
 }
 
-// Makes the five calls, and ends. Answers how many were done before the one that failed, five where none did, and what the disk then has.
-fn five_calls<N, R>(rt: &R, alloc: Global, begun: Begun) -> Result<(usize, usize), Fail>
+// The map at a place.
+fn map_at(place: usize) -> Model {
+    if place < 6 { MAPS[place] } else { EMPTY }
+}
+
+// The place of the call that was answered 35, or 5; an error where one before it was not Ok, or one behind it not answered 36.
+fn failed_at<N, R>(
+    rt: &R,
+    alloc: Global,
+    service: &Fused<N>,
+    client: &mut Client<N>,
+) -> Result<usize, Fail>
+where
+    N: Named + Send + Sync + 'static,
+    R: Wait,
+{
+    let mut failed = 5usize;
+    for place in 0..5 {
+        let answer = call(rt, alloc, service, client, place);
+        if answer == 35 && failed == 5 {
+            failed = place;
+        } else if answer != if failed < 5 { 36 } else { 0 } {
+            return Err(Fail::from("another answer"));
+        }
+    }
+    Ok(failed)
+}
+
+// Makes the five calls, looks, and ends: the place of the one that failed, and whether the look, the end, and the disk after crashes are
+// as they should be.
+fn five_calls<N, R>(rt: &R, alloc: Global, begun: Begun) -> Result<(usize, bool), Fail>
 where
     N: Named + Send + Sync + 'static,
     R: Threads + Wait + Copy + Send + 'static,
@@ -75,35 +111,70 @@ where
 {
     let service = opened::<N, R, NoGate>(rt, alloc, begun, 1, NoGate)?;
     let mut client = service.client(rt, alloc)?;
-    let mut done = 0;
-    let mut failed = false;
-    for place in 0..5 {
-        let number = call(rt, alloc, &service, &mut client, place);
-        let wanted = if failed { 36 } else { 0 };
-        if number == 35 && !failed {
-            failed = true;
-        } else if number != wanted {
-            return Err(Fail::from("another answer"));
-        } else if number == 0 {
-            done += 1;
-        }
-    }
-    let Ok(closed) = service.finish(rt, alloc, alone(alloc, client)?) else {
-        return Err(Fail::from("not finished"));
+    let failed = failed_at(rt, alloc, &service, &mut client)?;
+    let before = map_at(failed);
+    let later = if failed < 5 {
+        map_at(failed + 1)
+    } else {
+        before
     };
-    Ok((done, names_on(alloc, closed.library.into_disk())?))
+    let listed = service.list(rt, alloc, &mut client)?;
+    let right = are_names(listed.names().as_slice(), &before);
+    match service.finish(rt, alloc, alone(alloc, client)?) {
+        Ok(closed) => Ok((
+            failed,
+            right && holds(alloc, closed.library.into_disk(), &before, &later)?,
+        )),
+        Err(_) => Err(Fail::from("not finished")),
+    }
 }
 
 #[test]
 fn a_device_that_fails_once(rt: HostRuntime) -> Result<(), Fail> {
     for passes in 0..21 {
         let begun = begun(rt.alloc(), OPENING + passes)?;
-        let (done, names) = five_calls::<Brand, HostRuntime>(&rt, rt.alloc(), begun)?;
-        assert_eq!(rt; done, passes as usize / 4);
+        let (failed, right) = five_calls::<Brand, HostRuntime>(&rt, rt.alloc(), begun)?;
         assert!(rt;
-            names == AFTER[done] || names == AFTER[(done + 1) % 6],
-            "{passes}: {names}"
+            right && failed == passes as usize / 4,
+            "{passes}: {failed}"
         );
+    }
+    Ok(())
+}
+
+// The device that a service does not open, with 35.
+fn not_opened<N, R>(rt: &R, alloc: Global, begun: Begun) -> Result<Device, Fail>
+where
+    N: Named + Send + Sync + 'static,
+    R: Threads + Wait + Copy + Send + 'static,
+    requires { (begun.fresh.ledger ≡ N.name) × (N.parts ≡ 1025) × (begun.fresh.queue ≡ N.queue) × (begun.base ≡ N.base) }
+{
+    let Begun {
+        device,
+        base,
+        fresh,
+    } = begun;
+    drop(base);
+    match Service::<N, Device>::open(rt, alloc, fresh, device, 1, NoGate) {
+        Ok(_) => Err(Fail::from("opened")),
+        Err((fault, device)) => {
+            let number = fault.number();
+            drop(fault);
+            if number == 35 {
+                Ok(device)
+            } else {
+                Err(Fail::from("another fault"))
+            }
+        }
+    }
+}
+
+#[test]
+fn an_opening_that_fails(rt: HostRuntime) -> Result<(), Fail> {
+    for passes in 0..OPENING {
+        let begun = begun(rt.alloc(), passes)?;
+        let device = not_opened::<Brand, HostRuntime>(&rt, rt.alloc(), begun)?;
+        assert!(rt; holds(rt.alloc(), device, &EMPTY, &EMPTY)?);
     }
     Ok(())
 }

@@ -4,9 +4,10 @@ ghost use Rattle.cc_disk.specs.Model.{bytes_of};
 ghost use Rattle.cc_library.specs.Apply.{Units};
 ghost use Rattle.cc_library.specs.Recovered.{Recovers};
 
-use crate::helpers::{formatted, found};
+use crate::helpers::{SIZE, formatted, found, opened as opened_library};
+use crate::model::{Model, shows};
 use cc_disk::{FuseDisk, FuseMode, MemoryDisk};
-use cc_library::{Library, UnitMap};
+use cc_library::UnitMap;
 use cc_pool::Gate;
 use cc_service::{Client, Fresh, Named, Service, ServiceFault};
 use std::alloc::Global;
@@ -43,7 +44,7 @@ pub struct Begun {
 
 /// On a formatted device, of which so many calls pass before one fails.
 pub fn begun(alloc: Global, passes: u64) -> Result<Begun, Fail> {
-    let (disk, base) = found(alloc, formatted(alloc, 4096)?)?;
+    let (disk, base) = found(alloc, formatted(alloc)?)?;
     let device = FuseDisk::new(disk, passes, FuseMode::Once);
     let fresh = Fresh::new(alloc)?;
     Ok(Begun {
@@ -124,10 +125,14 @@ pub fn both<N: Named>(
     Ok(clients)
 }
 
-/// How many names the library on the disk has.
-pub fn names_on(alloc: Global, device: Device) -> Result<usize, Fail> {
-    match Library::open(alloc, device.into_disk()) {
-        Ok(library) => Ok(library.list(alloc)?.len()),
-        Err(_) => Err(Fail::from("not opened again")),
+/// Whether the library on the disk has these units, after a crash that leaves 0x00, 0xa5 or 0xff wherever it may.
+pub fn holds(alloc: Global, device: Device, either: &Model, other: &Model) -> Result<bool, Fail> {
+    let disk = device.into_disk();
+    let mut right = true;
+    for byte in [0x00u8, 0xa5, 0xff] {
+        let choice = vec![in alloc; byte; SIZE]?;
+        let library = opened_library(alloc, disk.crash(alloc, &choice)?)?;
+        right = right && (shows(alloc, &library, either)? || shows(alloc, &library, other)?);
     }
+    Ok(right)
 }

@@ -1,5 +1,5 @@
 -- What the library's opening says of each image holds of the bytes themselves.
-use Rattle.tests_service.proofs.book.helpers.opened.Goals as goal
+use Rattle.tests_service.proofs.helpers.opened.Goals as goal
 
 pub returns-in-Ok : goal.returns-in-Ok
 returns-in-Ok g c = λ h units recovers.
