@@ -73,19 +73,18 @@ pub fn after(model: &Model, call: Call) -> Model {
 
 /// Whether these are the model's names, in order.
 pub fn are_names(names: &[Name], model: &Model) -> bool {
-    let mut at = 0usize;
+    let mut rest = names.iter();
     for place in 0..3usize {
         if text_of(model, place).is_some() {
-            match names.get(at) {
+            match rest.next() {
                 Some(name) => if name.bytes() != bytes_at(&NAMES, place) {
                     return false;
                 },
                 None => return false,
             }
-            at += 1;
         }
     }
-    at == names.len()
+    rest.next().is_none()
 }
 
 // Whether this is the source of the unit that the model has under a name.
@@ -183,7 +182,12 @@ fn are_standing(history: &[SharedEntry], receipts: &[Vec<Receipt>]) -> bool {
     let mut count = 0usize;
     for (client, own) in receipts.iter().enumerate() {
         for (before, receipt) in own.iter().enumerate() {
-            if !is_standing(history, receipt, client as u64, before as u64 + 1) {
+            if !is_standing(
+                history,
+                receipt,
+                client as u64,
+                (before as u64).saturating_add(1),
+            ) {
                 return false;
             }
         }
