@@ -1,4 +1,4 @@
--- A library may go to another thread where its disk may.
+-- Threads may share a service, and a client may go to another thread. Each type is shown by itself, from below.
 use denote.RattleType.{RattleType}
 use denote.Param.Send.{IsSend, IsSync, sendable, recorded_send, recorded_sync, view_send, view_sync, struct_send, struct_sync, enum_send, enum_sync}
 use denote.Struct.Declared.{shape}
@@ -37,6 +37,17 @@ use Rattle.cc_library.specs.contracts.units.UnitMap.TheInside as maps
 use Rattle.cc_library.specs.contracts.command.Command as Change
 use Rattle.cc_library.specs.contracts.library.Library as Library
 use Rattle.cc_library.specs.contracts.library.Library.TheInside as libraries
+use Rattle.cc_link.specs.contracts.compiled.CompiledUnit as CompiledUnit
+use Rattle.cc_link.specs.contracts.compiled.CompiledUnit.TheInside as compiled
+use Rattle.cc_history.specs.contracts.command.Command as Command
+use Rattle.cc_history.specs.contracts.command.Asked as Asked
+use Rattle.cc_history.specs.contracts.reply.NameList as NameList
+use Rattle.cc_history.specs.contracts.reply.NameList.TheInside as lists
+use Rattle.cc_history.specs.contracts.reply.Reply as Reply
+use Rattle.cc_history.specs.contracts.entry.Entry as Entry
+use Rattle.cc_history.specs.contracts.entry.SharedEntry as SharedEntry
+use Rattle.cc_history.specs.contracts.entry.SharedEntry.TheInside as entries
+use Rattle.cc_history.specs.contracts.entry.Receipt as Receipt
 
 history_send : (T : RattleType) → IsSend T → IsSend (History.the_row T)
 history_send T s = search (sendable, crosses) depth 20
@@ -115,3 +126,45 @@ map_send = view_send _ _ _ _ _ (recorded_send maps.the_field.row _ _ maps.the_ty
 
 pub library_send : (D : RattleType) (d : Ghosts D.Denot) → IsSend D → IsSend (Library.the_row D d)
 library_send D d s = view_send _ _ _ _ _ (recorded_send (libraries.the_field D d).row _ _ (libraries.the_type D d).to_one (struct_send (shape (libraries.the_type D d)) (log_send D d s, (map_send, (search sendable, tt)))))
+
+compiled_send : IsSend CompiledUnit.the_row
+compiled_send = view_send _ _ _ _ _ (recorded_send compiled.the_field.row _ _ compiled.the_type.to_one (struct_send (shape compiled.the_type) (Arc-send _ stored_send stored_sync, tt)))
+
+compiled_sync : IsSync CompiledUnit.the_row
+compiled_sync = view_sync _ _ _ _ _ (recorded_sync compiled.the_field.row _ _ compiled.the_type.to_one (struct_sync (shape compiled.the_type) (Arc-sync _ stored_send stored_sync, tt)))
+
+command_send : IsSend (Command.the_field).row
+command_send = enum_send (enum_shape Command.the_type) ((name_send, (compiled_send, tt)), ((name_send, (compiled_send, tt)), ((name_send, tt), tt)))
+
+command_sync : IsSync (Command.the_field).row
+command_sync = enum_sync (enum_shape Command.the_type) ((name_sync, (compiled_sync, tt)), ((name_sync, (compiled_sync, tt)), ((name_sync, tt), tt)))
+
+asked_send : IsSend (Asked.the_field).row
+asked_send = enum_send (enum_shape Asked.the_type) ((command_send, tt), ((name_send, tt), (tt, tt)))
+
+asked_sync : IsSync (Asked.the_field).row
+asked_sync = enum_sync (enum_shape Asked.the_type) ((command_sync, tt), ((name_sync, tt), (tt, tt)))
+
+list_send : IsSend NameList.the_row
+list_send = view_send _ _ _ _ _ (recorded_send lists.the_field.row _ _ lists.the_type.to_one (struct_send (shape lists.the_type) (Vec-send _ name_send, tt)))
+
+list_sync : IsSync NameList.the_row
+list_sync = view_sync _ _ _ _ _ (recorded_sync lists.the_field.row _ _ lists.the_type.to_one (struct_sync (shape lists.the_type) (Vec-sync _ name_sync, tt)))
+
+reply_send : IsSend (Reply.the_field).row
+reply_send = enum_send (enum_shape Reply.the_type) (tt, (tt, (tt, ((shared_send, tt), ((list_send, tt), tt)))))
+
+reply_sync : IsSync (Reply.the_field).row
+reply_sync = enum_sync (enum_shape Reply.the_type) (tt, (tt, (tt, ((shared_sync, tt), ((list_sync, tt), tt)))))
+
+entry_send : IsSend Entry.the_row
+entry_send = recorded_send _ _ _ Entry.the_type.to_one (struct_send (shape Entry.the_type) (search sendable, (search sendable, (asked_send, (reply_send, tt)))))
+
+entry_sync : IsSync Entry.the_row
+entry_sync = recorded_sync _ _ _ Entry.the_type.to_one (struct_sync (shape Entry.the_type) (search sendable, (search sendable, (asked_sync, (reply_sync, tt)))))
+
+shared_entry_send : IsSend SharedEntry.the_row
+shared_entry_send = view_send _ _ _ _ _ (recorded_send entries.the_field.row _ _ entries.the_type.to_one (struct_send (shape entries.the_type) (Arc-send _ entry_send entry_sync, tt)))
+
+receipt_send : IsSend Receipt.the_row
+receipt_send = recorded_send _ _ _ Receipt.the_type.to_one (struct_send (shape Receipt.the_type) (search sendable, (shared_entry_send, tt)))
