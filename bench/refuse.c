@@ -1,13 +1,14 @@
-/* A malloc put before the C library's: it refuses the allocation whose number the variable REFUSED says. */
+/* A malloc put before the C library's: it refuses the allocation whose number the variable REFUSED says, in whichever thread that is. */
 #define _GNU_SOURCE
 #include <dlfcn.h>
 #include <errno.h>
+#include <stdatomic.h>
 #include <stdlib.h>
 #include <unistd.h>
-static long count, number = -1;
+static atomic_long count, number = -1;
 static int refuse(void) {
     if (number < 0) { char *text = getenv("REFUSED"); number = text ? atol(text) : 0; }
-    return ++count == number;
+    return atomic_fetch_add(&count, 1) + 1 == number;
 }
 #define NEXT(type, name, ...) static type (*next)(__VA_ARGS__); if (!next) next = dlsym(RTLD_NEXT, name)
 void *malloc(size_t n) { NEXT(void *, "malloc", size_t); return refuse() ? 0 : next(n); }

@@ -2,7 +2,7 @@
 //!
 //! `source` reads the text, `answer` has the answer to a task for a text, `work` does a task, `fault` has every refusal with its
 //! line, `explain` what a person is told besides. Which words ask for which task is the matter of `cc_command_line`, what a text means that of the crates of the language.
-//! Hands out `answer_for`, `perform`, `perform_and_explain`, their types, and the definitions that the contracts name (`specs/`).
+//! Hands out `answer_for`, `run_image`, `perform`, `perform_and_explain`, their types, what writes an answer and what explains a fault, and the definitions that the contracts name (`specs/`).
 #![tactic(auto)]
 
 mod answer;
@@ -11,6 +11,7 @@ mod fault;
 mod source;
 mod work;
 
-pub use answer::{Answer, answer_for};
+pub use answer::{Answer, answer_for, run_image};
+pub use explain::explain_fault;
 pub use fault::Fault;
-pub use work::{perform, perform_and_explain};
+pub use work::{perform, perform_and_explain, write_answer};
