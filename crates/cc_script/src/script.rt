@@ -1,7 +1,8 @@
 // The lines and the sources of a script, as they are read.
 
-ghost use Rattle.std.specs.Prelude.{◌≡◌, ◌≤◌, ◌<◌, ◌+◌, true, IfOk, IfSome};
-ghost use Rattle.cc_script.specs.Reading.{IsWithinLine};
+ghost use Rattle.std.specs.Prelude.{◌≡◌, ◌≤◌, ◌<◌, ◌+◌, true, IfErr, IfOk, IfSome, OnOk, min, vec_len};
+ghost use Rattle.cc_script.specs.declared.fault.ScriptFault.TheVariants.{ReadFault};
+ghost use Rattle.cc_script.specs.Reading.{IsNotRead, IsNoSource, IsWithinLine};
 
 use super::fault::ScriptFault;
 use std::alloc::Global;
@@ -57,6 +58,7 @@ impl Script {
     fn fill<R: Read>(&mut self, reader: &mut R) -> Result<bool, ScriptFault>
         ensures filled { IfOk result (λ is_more. is_more ≡ true → self.new.next < self.new.end) }
         ensures left { self.new.left ≡ self.old.left }
+        ensures refused { IfErr result (λ fault. fault ≡ ReadFault) }
     {
         if self.next < self.end {
             return Ok(true);
@@ -75,7 +77,8 @@ impl Script {
 
     // The next byte, or none at the end.
     fn byte<R: Read>(&mut self, reader: &mut R) -> Result<Option<u8>, ScriptFault>
-        ensures { IfOk result (λ next. IfSome next (λ byte. self.new.left + 1 ≡ self.old.left)) }
+        ensures counted { IfOk result (λ next. IfSome next (λ byte. self.new.left + 1 ≡ self.old.left)) }
+        ensures refused { IfErr result (λ fault. IsNotRead self.new.left fault) }
     {
         if !self.fill(reader)? {
             return Ok(None);
@@ -97,7 +100,8 @@ impl Script {
         reader: &mut R,
         line: &mut [u8; LINE_BYTES],
     ) -> Result<Next, ScriptFault>
-        ensures { IfOk result IsWithinLine }
+        ensures within { IfOk result IsWithinLine }
+        ensures refused { IfErr result (λ fault. IsNotRead self.new.left fault) }
     {
         for length in 0..LINE_BYTES {
             match self.byte(reader)? {
@@ -115,7 +119,9 @@ impl Script {
     /// Skips what is left of a line, and its newline.
     ///
     /// 52 and 53 as for a line.
-    pub fn skip_line<R: Read>(&mut self, reader: &mut R) -> Result<(), ScriptFault> {
+    pub fn skip_line<R: Read>(&mut self, reader: &mut R) -> Result<(), ScriptFault>
+        ensures refused { IfErr result (λ fault. IsNotRead self.new.left fault) }
+    {
         while let Some(byte) = self.byte(reader)? {
             if byte == b'\n' {
                 break;
@@ -133,7 +139,11 @@ impl Script {
         alloc: Global,
         reader: &mut R,
         length: usize,
-    ) -> Result<Option<Vec<u8>>, ScriptFault> {
+    ) -> Result<Option<Vec<u8>>, ScriptFault>
+        ensures kept { IfOk result (λ source. IfSome source (λ bytes. vec_len bytes ≡ min length 65537)) }
+        ensures counted { OnOk result (self.new.left + length ≡ self.old.left) }
+        ensures refused { IfErr result (λ fault. IsNoSource self.new.left fault) }
+    {
         let mut source = Vec::new(alloc);
         let mut is_kept = true;
         for _ in 0..length {
@@ -150,7 +160,9 @@ impl Script {
     /// Whether a source ends here: by a newline, which is skipped, or by the end of the script.
     ///
     /// 52 and 53 as for a line.
-    pub fn is_at_line_end<R: Read>(&mut self, reader: &mut R) -> Result<bool, ScriptFault> {
+    pub fn is_at_line_end<R: Read>(&mut self, reader: &mut R) -> Result<bool, ScriptFault>
+        ensures refused { IfErr result (λ fault. IsNotRead self.new.left fault) }
+    {
         match self.byte(reader)? {
             None | Some(b'\n') => Ok(true),
             Some(_) => Ok(false),

@@ -1,11 +1,13 @@
 // The commands of a script, done by one client.
 
-use crate::talk::Talk;
+ghost use Rattle.std.specs.Prelude.{IfErr};
+ghost use Rattle.cc_session.specs.Session.{IsEnding};
+
+use crate::talk::{Sent, Talk};
 use cc_disk::Disk;
-use cc_history::Receipt;
 use cc_program::run_image;
 use cc_script::{Command, LINE_BYTES, MOST_BYTES, Next, ScriptFault, command_of};
-use cc_service::{Client, Named, Service, ServiceFault};
+use cc_service::{Client, Found, Named, Service};
 use std::alloc::Global;
 use std::io::{Read, Write};
 use std::sync::Wait;
@@ -20,21 +22,41 @@ pub(crate) struct Caller<'a, N: Named, H, D: Disk> {
 }
 
 impl<'a, N: Named + Send + Sync + 'static, H: Wait, D: Disk> Caller<'a, N, H, D> {
-    // Writes what a change was answered.
-    fn changed<R: Read, W: Write, E: Write>(
+    // The client, which makes no more calls here.
+    pub(crate) fn into_client(self) -> Client<N> {
+        self.client
+    }
+
+    fn add<R: Read, W: Write, E: Write>(
         &mut self,
         talk: &mut Talk<R, W, E>,
-        answer: Result<Receipt, ServiceFault>,
+        name: &[u8],
         source: &[u8],
-    ) -> Result<(), ScriptFault> {
-        match answer {
-            Ok(receipt) => {
-                let number = receipt.number;
-                drop(receipt);
-                talk.tell_number(number)
-            }
-            Err(fault) => talk.tell_refusal(self.alloc, fault, source),
-        }
+    ) -> Result<(), ScriptFault>
+        ensures { IfErr result IsEnding }
+    {
+        let answer = self
+            .service
+            .add(self.rt, self.alloc, &mut self.client, name, source);
+        let told = talk.tell_change(self.alloc, &answer, source);
+        drop(answer);
+        told
+    }
+
+    fn replace<R: Read, W: Write, E: Write>(
+        &mut self,
+        talk: &mut Talk<R, W, E>,
+        name: &[u8],
+        source: &[u8],
+    ) -> Result<(), ScriptFault>
+        ensures { IfErr result IsEnding }
+    {
+        let answer = self
+            .service
+            .replace(self.rt, self.alloc, &mut self.client, name, source);
+        let told = talk.tell_change(self.alloc, &answer, source);
+        drop(answer);
+        told
     }
 
     // Adds or replaces a unit whose source comes next.
@@ -44,94 +66,99 @@ impl<'a, N: Named + Send + Sync + 'static, H: Wait, D: Disk> Caller<'a, N, H, D>
         name: &[u8],
         length: usize,
         is_new: bool,
-    ) -> Result<(), ScriptFault> {
-        let (source, is_ended) = talk.source(self.alloc, length)?;
-        if !is_ended {
-            drop(source);
-            return talk.refuse_line(false);
+    ) -> Result<(), ScriptFault>
+        ensures { IfErr result IsEnding }
+    {
+        match talk.source(self.alloc, length)? {
+            Sent::Source(source) => {
+                let told = if is_new {
+                    self.add(talk, name, source.as_slice())
+                } else {
+                    self.replace(talk, name, source.as_slice())
+                };
+                drop(source);
+                told
+            }
+            Sent::NoRoom => talk.tell_no_memory(self.alloc),
+            Sent::Unended => talk.refuse_and_skip(),
         }
-        let Some(source) = source else {
-            return talk.tell_refusal(self.alloc, ServiceFault::OutOfMemory, &[]);
-        };
-        let answer = if is_new {
-            self.service.add(
-                self.rt,
-                self.alloc,
-                &mut self.client,
-                name,
-                source.as_slice(),
-            )
-        } else {
-            self.service.replace(
-                self.rt,
-                self.alloc,
-                &mut self.client,
-                name,
-                source.as_slice(),
-            )
-        };
-        self.changed(talk, answer, source.as_slice())
     }
 
     fn withdraw<R: Read, W: Write, E: Write>(
         &mut self,
         talk: &mut Talk<R, W, E>,
         name: &[u8],
-    ) -> Result<(), ScriptFault> {
+    ) -> Result<(), ScriptFault>
+        ensures { IfErr result IsEnding }
+    {
         let answer = self
             .service
             .withdraw(self.rt, self.alloc, &mut self.client, name);
-        self.changed(talk, answer, &[])
+        let told = talk.tell_change(self.alloc, &answer, &[]);
+        drop(answer);
+        told
     }
 
     fn list<R: Read, W: Write, E: Write>(
         &mut self,
         talk: &mut Talk<R, W, E>,
-    ) -> Result<(), ScriptFault> {
-        match self.service.list(self.rt, self.alloc, &mut self.client) {
-            Ok(listing) => {
-                let told = talk.tell_names(&listing);
-                drop(listing);
-                told
-            }
+    ) -> Result<(), ScriptFault>
+        ensures { IfErr result IsEnding }
+    {
+        let answer = self.service.list(self.rt, self.alloc, &mut self.client);
+        let told = match &answer {
+            Ok(listing) => talk.tell_names(listing),
             Err(fault) => talk.tell_refusal(self.alloc, fault, &[]),
-        }
+        };
+        drop(answer);
+        told
     }
 
-    // Runs a unit's image.
+    // Runs the image of a unit that was found.
+    fn run_found<R: Read, W: Write, E: Write>(
+        &self,
+        talk: &mut Talk<R, W, E>,
+        found: &Found,
+        steps: u64,
+    ) -> Result<(), ScriptFault>
+        ensures { IfErr result IsEnding }
+    {
+        let answer = run_image(self.alloc, &found.unit().stored().image, &[], steps);
+        let told = talk.tell_run(self.alloc, &answer);
+        drop(answer);
+        told
+    }
+
+    // Runs the image of a name's unit.
     fn run<R: Read, W: Write, E: Write>(
         &mut self,
         talk: &mut Talk<R, W, E>,
         name: &[u8],
         steps: u64,
-    ) -> Result<(), ScriptFault> {
-        let found = match self
+    ) -> Result<(), ScriptFault>
+        ensures { IfErr result IsEnding }
+    {
+        let answer = self
             .service
-            .get(self.rt, self.alloc, &mut self.client, name)
-        {
-            Ok(found) => found,
-            Err(fault) => return talk.tell_refusal(self.alloc, fault, &[]),
+            .get(self.rt, self.alloc, &mut self.client, name);
+        let told = match &answer {
+            Ok(found) => self.run_found(talk, found, steps),
+            Err(fault) => talk.tell_refusal(self.alloc, fault, &[]),
         };
-        let answer = run_image(self.alloc, &found.unit().stored().image, &[], steps);
-        drop(found);
-        match answer {
-            Ok(answer) => {
-                let told = talk.tell_run(&answer);
-                drop(answer);
-                told
-            }
-            Err(_) => talk.tell_refusal(self.alloc, ServiceFault::OutOfMemory, &[]),
-        }
+        drop(answer);
+        told
     }
 
     fn compact<R: Read, W: Write, E: Write>(
         &mut self,
         talk: &mut Talk<R, W, E>,
-    ) -> Result<(), ScriptFault> {
-        match self.service.compact(self.rt, self.alloc) {
-            Ok(()) => talk.tell_ok(),
-            Err(fault) => talk.tell_refusal(self.alloc, fault, &[]),
-        }
+    ) -> Result<(), ScriptFault>
+        ensures { IfErr result IsEnding }
+    {
+        let answer = self.service.compact(self.rt, self.alloc);
+        let told = talk.tell_done(self.alloc, &answer);
+        drop(answer);
+        told
     }
 
     // Does what a line asks for.
@@ -139,7 +166,9 @@ impl<'a, N: Named + Send + Sync + 'static, H: Wait, D: Disk> Caller<'a, N, H, D>
         &mut self,
         talk: &mut Talk<R, W, E>,
         line: &[u8],
-    ) -> Result<(), ScriptFault> {
+    ) -> Result<(), ScriptFault>
+        ensures { IfErr result IsEnding }
+    {
         match command_of(line) {
             Some(Command::Add { name, length }) => self.put(talk, name, length, true),
             Some(Command::Replace { name, length }) => self.put(talk, name, length, false),
@@ -147,7 +176,7 @@ impl<'a, N: Named + Send + Sync + 'static, H: Wait, D: Disk> Caller<'a, N, H, D>
             Some(Command::List) => self.list(talk),
             Some(Command::Run { name, steps }) => self.run(talk, name, steps),
             Some(Command::Compact) => self.compact(talk),
-            None => talk.refuse_line(true),
+            None => talk.refuse_line(),
         }
     }
 
@@ -155,13 +184,15 @@ impl<'a, N: Named + Send + Sync + 'static, H: Wait, D: Disk> Caller<'a, N, H, D>
     pub(crate) fn play<R: Read, W: Write, E: Write>(
         &mut self,
         talk: &mut Talk<R, W, E>,
-    ) -> Result<(), ScriptFault> {
+    ) -> Result<(), ScriptFault>
+        ensures { IfErr result IsEnding }
+    {
         let mut line = [0u8; LINE_BYTES];
         // Each line but the last takes a byte at least.
         for _ in 0..=MOST_BYTES {
             match talk.next_line(&mut line)? {
-                Next::Line(length) => self.obey(talk, line.get(..length).unwrap_or(&[]))?,
-                Next::TooLong => talk.refuse_line(false)?,
+                Next::Line(length) => self.obey(talk, &line[..length])?,
+                Next::TooLong => talk.refuse_and_skip()?,
                 Next::End => break,
             }
         }

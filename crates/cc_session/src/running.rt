@@ -1,10 +1,12 @@
 // A session, from the opening of its service to the end.
-ghost use Rattle.std.specs.Prelude.{◌≡◌, ◌≤◌, ◌<◌, ◌⊎◌, IsTrue, IfOk, IfErr, IfNone, IfSome, vec_len};
+ghost use Rattle.std.specs.Prelude.{◌≡◌, ◌≤◌, ◌<◌, ℕ, List, IsTrue, IfOk, IfErr, IfNone, IfSome, vec_len};
 ghost use Rattle.std.specs.Vec.{vec_capacity};
 ghost use Rattle.cc_disk.specs.Images.{OnlyReads};
+ghost use Rattle.cc_library.specs.Answers.{OpenFaults};
 ghost use Rattle.cc_library.specs.Apply.{Units};
 ghost use Rattle.cc_library.specs.Recovered.{Recovers};
-ghost use Rattle.cc_session.specs.Session.{IsFault, LeavesLibrary};
+ghost use Rattle.cc_service.specs.Fault.{fault_number};
+ghost use Rattle.cc_session.specs.Session.{IsBegun, IsEnding, IsKept, IsUnended, SessionEnds};
 
 use crate::calls::Caller;
 use crate::end::SessionEnd;
@@ -13,7 +15,7 @@ use cc_disk::Disk;
 use cc_library::{Library, LibraryFault, UnitMap};
 use cc_pool::NoGate;
 use cc_script::ScriptFault;
-use cc_service::{Client, Fresh, Named, Service, ServiceFault};
+use cc_service::{Client, Closed, Fresh, Named, Service, ServiceFault};
 use std::alloc::Global;
 use std::io::{self, Read, Write};
 use std::marker::Brand;
@@ -32,8 +34,10 @@ struct Begun<D: Disk> {
 // What a service on this disk begins with. The library is opened to learn what the disk recovers to, which a service's type names.
 fn begin<D: Disk + Drop>(alloc: Global, disk: D) -> Result<Begun<D>, (LibraryFault, D)>
     ensures base { IfOk result (λ b. IsTrue D.honest → (units : Units) → Recovers (D.seen b.disk) units → units ≡ b.base.value) }
+    ensures sound { IfOk result (λ b. D.failures b.disk ≡ D.failures disk) }
+    ensures refused { IfErr result (λ e. OpenFaults D.honest (D.seen disk) (D.failures disk) (D.failures e.1) e.0) }
     ensures reads { IfOk result (λ b. IsTrue D.honest → OnlyReads D.seen D.may_leave D.moment D.left_since disk b.disk) }
-    ensures refused { IfErr result (λ e. IsTrue D.honest → OnlyReads D.seen D.may_leave D.moment D.left_since disk e.1) }
+    ensures reads_refused { IfErr result (λ e. IsTrue D.honest → OnlyReads D.seen D.may_leave D.moment D.left_since disk e.1) }
 {
     let library = match Library::open(alloc, disk) {
         Ok(library) => library,
@@ -47,39 +51,45 @@ fn begin<D: Disk + Drop>(alloc: Global, disk: D) -> Result<Begun<D>, (LibraryFau
     }
 }
 
-// The first of two ends that is a fault.
-fn first(one: SessionEnd, other: SessionEnd) -> SessionEnd
-    requires { IsFault other }
-    ensures { IsFault result }
+// How a session ended whose service was not: the first of two faults.
+fn unended(played: SessionEnd, number: u32) -> SessionEnd
+    requires begun { IsBegun played }
+    requires least { 39 ≤ number }
+    requires most { number ≤ 40 }
+    ensures { IsUnended result }
 {
-    match one {
-        SessionEnd::Finished => other,
-        SessionEnd::Fault(number) => SessionEnd::Fault(number),
+    match played {
+        SessionEnd::Finished => SessionEnd::Fault(number),
+        SessionEnd::Fault(first) => SessionEnd::Fault(first),
     }
 }
 
-// Writes a refusal of the service's opening or end.
+// Writes a refusal of the service's opening or end; its number.
 fn refused<R: Read, W: Write, E: Write>(
     alloc: Global,
     talk: &mut Talk<R, W, E>,
     fault: ServiceFault,
-) -> SessionEnd
-    ensures { IsFault result }
+) -> u32
+    ensures { result ≡ fault_number fault }
 {
     let number = fault.number();
-    let _ = talk.tell_refusal(alloc, fault, &[]);
-    SessionEnd::Fault(number)
+    let _ = talk.tell_refusal(alloc, &fault, &[]);
+    drop(fault);
+    number
 }
 
 // How a session ended whose script did so.
 fn ended<R: Read, W: Write, E: Write>(
     talk: &mut Talk<R, W, E>,
     played: Result<(), ScriptFault>,
-) -> SessionEnd {
+) -> SessionEnd
+    requires { IfErr played IsEnding }
+    ensures { IsBegun result }
+{
     match played {
         Ok(()) => SessionEnd::Finished,
         Err(fault) => {
-            let _ = talk.tell(fault);
+            let _ = talk.tell_fault(fault);
             SessionEnd::Fault(fault.number())
         }
     }
@@ -101,21 +111,72 @@ where
     E: Write,
     D: Disk,
     requires { vec_len clients.old < vec_capacity clients.old }
+    ensures { IsBegun result }
 {
-    let client = match service.client(rt, alloc) {
-        Ok(client) => client,
-        Err(fault) => return refused(alloc, talk, fault),
-    };
-    let mut caller = Caller {
-        rt,
-        alloc,
-        service,
-        client,
-    };
-    let played = caller.play(talk);
-    let Caller { client, .. } = caller;
-    clients.push_reserved(client);
-    ended(talk, played)
+    match service.client(rt, alloc) {
+        Ok(client) => {
+            let mut caller = Caller {
+                rt,
+                alloc,
+                service,
+                client,
+            };
+            let played = caller.play(talk);
+            clients.push_reserved(caller.into_client());
+            ended(talk, played)
+        }
+        Err(fault) => SessionEnd::Fault(refused(alloc, talk, fault)),
+    }
+}
+
+// The disk of a service that was ended.
+fn disk_of<D: Disk>(closed: Closed<D>) -> D
+    ensures { result ≡ closed.library.disk }
+{
+    let Closed {
+        base,
+        library,
+        history,
+        failed: _,
+        receipts,
+    } = closed;
+    drop(base);
+    drop(history);
+    drop(receipts);
+    library.into_disk()
+}
+
+// Ends a service whose script was done.
+fn finish<N, H, R, W, E, D>(
+    rt: &H,
+    alloc: Global,
+    talk: &mut Talk<R, W, E>,
+    service: Service<N, D>,
+    clients: Vec<Client<N>>,
+    played: SessionEnd,
+) -> (Option<D>, SessionEnd)
+where
+    N: Named + Send + Sync + 'static,
+    H: Wait,
+    R: Read,
+    W: Write,
+    E: Write,
+    D: Disk + Drop,
+    requires { IsBegun played }
+    ensures unended { IfNone result.0 (IsUnended result.1) }
+    ensures begun { IfSome result.0 (λ after. IsBegun result.1) }
+    // Whatever bytes those were that recover to the map that the service's type names.
+    ensures kept { IfSome result.0 (λ after. (bytes : List ℕ) → (IsTrue D.honest → Recovers bytes N.base) → IsKept D.honest bytes D.may_leave after) }
+{
+    match service.finish(rt, alloc, clients) {
+        Ok(closed) => (Some(disk_of(closed)), played),
+        Err((fault, service, clients)) => {
+            drop(clients);
+            drop(service);
+            let number = refused(alloc, talk, fault);
+            (None, unended(played, number))
+        }
+    }
 }
 
 // Opens a service, does a script and ends the service.
@@ -133,13 +194,13 @@ where
     W: Write,
     E: Write,
     D: Disk + Drop,
-    requires names { (begun.fresh.ledger ≡ N.name) × (N.parts ≡ 1025) × (begun.fresh.queue ≡ N.queue) }
+    requires ledger { begun.fresh.ledger ≡ N.name }
+    requires parts { N.parts ≡ 1025 }
+    requires queue { begun.fresh.queue ≡ N.queue }
     requires named { IsTrue D.honest → (units : Units) → Recovers (D.seen begun.disk) units → units ≡ N.base }
     requires some { 1 ≤ workers }
     requires few { workers ≤ 8 }
-    ensures disk { IfNone result.0 (IsFault result.1) }
-    ensures kept { IsTrue D.honest → IfSome result.0 (λ d. (IsFault result.1 × OnlyReads D.seen D.may_leave D.moment D.left_since begun.disk d)
-        ⊎ LeavesLibrary D.may_leave N.base d) }
+    ensures { SessionEnds D.honest D.seen D.may_leave D.moment D.left_since D.failures begun.disk result.0 result.1 }
 {
     let Begun {
         disk,
@@ -148,19 +209,22 @@ where
     } = begun;
     let Ok(mut clients) = Vec::with_capacity(alloc, 1) else {
         drop(fresh);
-        return (Some(disk), refused(alloc, talk, ServiceFault::OutOfMemory));
+        let number = refused(
+            alloc,
+            talk,
+            ServiceFault::Opening(LibraryFault::OutOfMemory),
+        );
+        return (Some(disk), SessionEnd::Fault(number));
     };
-    let service = match Service::<N, D>::open(rt, alloc, fresh, disk, workers, NoGate) {
-        Ok(service) => service,
-        Err((fault, disk)) => return (Some(disk), refused(alloc, talk, fault)),
-    };
-    let end = play(rt, alloc, talk, &service, &mut clients);
-    match service.finish(rt, alloc, clients) {
-        Ok(closed) => (Some(closed.library.into_disk()), end),
-        Err((fault, service, clients)) => {
+    match Service::<N, D>::open(rt, alloc, fresh, disk, workers, NoGate) {
+        Ok(service) => {
+            let played = play(rt, alloc, talk, &service, &mut clients);
+            finish(rt, alloc, talk, service, clients, played)
+        }
+        Err((fault, disk)) => {
             drop(clients);
-            drop(service);
-            (None, first(end, refused(alloc, talk, fault)))
+            let number = refused(alloc, talk, fault);
+            (Some(disk), SessionEnd::Fault(number))
         }
     }
 }
@@ -180,19 +244,17 @@ where
     H: Threads + Wait + Copy + Send + 'static,
     requires some { 1 ≤ workers }
     requires few { workers ≤ 8 }
-    ensures disk { IfNone result.0 (IsFault result.1) }
-    ensures kept { IsTrue D.honest → IfSome result.0 (λ d. (IsFault result.1 × OnlyReads D.seen D.may_leave D.moment D.left_since disk d)
-        ⊎ ((base : Units) → Recovers (D.seen disk) base → LeavesLibrary D.may_leave base d)) }
+    ensures ends { SessionEnds D.honest D.seen D.may_leave D.moment D.left_since D.failures disk result.0 result.1 }
 {
     let mut talk = Talk::new(reader, writer, explanations);
     match begin(alloc, disk) {
         Ok(begun) => serve::<Brand, H, &mut R, &mut W, &mut E, D>(
             rt, alloc, &mut talk, begun, workers,
         ),
-        Err((fault, disk)) => (
-            Some(disk),
-            refused(alloc, &mut talk, ServiceFault::Opening(fault)),
-        ),
+        Err((fault, disk)) => {
+            let number = refused(alloc, &mut talk, ServiceFault::Opening(fault));
+            (Some(disk), SessionEnd::Fault(number))
+        }
     }
 }
 
@@ -214,11 +276,7 @@ where
     H: Threads + Wait + Copy + Send + 'static,
     requires some { 1 ≤ workers }
     requires few { workers ≤ 8 }
-    // None is handed back after a fault alone.
-    ensures disk { IfNone result.0 (IsFault result.1) }
-    // Of an honest disk: where the opening was refused, nothing but reads was done; else whatever a crash then leaves recovers.
-    ensures kept { IsTrue D.honest → IfSome result.0 (λ d. (IsFault result.1 × OnlyReads D.seen D.may_leave D.moment D.left_since disk d)
-        ⊎ ((base : Units) → Recovers (D.seen disk) base → LeavesLibrary D.may_leave base d)) }
+    ensures ends { SessionEnds D.honest D.seen D.may_leave D.moment D.left_since D.failures disk result.0 result.1 }
 {
     session_and_explain(rt, alloc, reader, writer, &mut io::sink(), disk, workers)
 }

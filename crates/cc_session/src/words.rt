@@ -1,10 +1,15 @@
-// What a person is told of a fault that stands in no text.
+// What a person is told of a fault besides its line.
 
+use cc_diagnostic::{Diagnostic, of_syntax, of_typing};
+use cc_program::{of_piece, write_told};
+use cc_service::ServiceFault;
+use std::alloc::{AllocError, Global};
 use std::io::{self, Write};
 
-/// What is told of a fault with this number; nothing of those that stand in a text.
+/// What is told of a fault with this number that stands in no text; nothing of others.
 pub fn words_of(number: u32) -> Option<&'static str> {
     match number {
+        25 => Some("the image would have more than 131072 words of code"),
         30 => Some("the service has made all the clients that it may"),
         31 => Some("the name has a unit already: `replace` puts another in its place"),
         32 => Some("the name has no unit"),
@@ -38,4 +43,32 @@ pub fn explain_words<W: Write>(number: u32, writer: &mut W) -> io::Result<()> {
         }
         None => Ok(()),
     }
+}
+
+// What is told of a fault that stands in the source that was sent.
+fn of_refusal(
+    alloc: Global,
+    source: &[u8],
+    fault: &ServiceFault,
+) -> Result<Option<Diagnostic>, AllocError> {
+    match fault {
+        ServiceFault::Syntax(fault) => Ok(Some(of_syntax(alloc, source, fault)?)),
+        ServiceFault::Typing(fault) => of_typing(alloc, source, fault),
+        ServiceFault::Piece { function: _, fault } => of_piece(alloc, source, *fault),
+        _ => Ok(None),
+    }
+}
+
+/// Writes what is told of a refusal: words, or the place in the source that was sent.
+pub(crate) fn explain_refusal<W: Write>(
+    alloc: Global,
+    source: &[u8],
+    fault: &ServiceFault,
+    writer: &mut W,
+) -> io::Result<()> {
+    if words_of(fault.number()).is_some() {
+        return explain_words(fault.number(), writer);
+    }
+    write_told(of_refusal(alloc, source, fault), source, writer)?;
+    writer.flush()
 }
