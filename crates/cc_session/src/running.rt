@@ -244,7 +244,7 @@ where
     H: Threads + Wait + Copy + Send + 'static,
     requires some { 1 ≤ workers }
     requires few { workers ≤ 8 }
-    ensures ends { SessionEnds D.honest D.seen D.may_leave D.moment D.left_since D.failures disk result.0 result.1 }
+    ensures answers { SessionEnds D.honest D.seen D.may_leave D.moment D.left_since D.failures disk result.0 result.1 }
 {
     let mut talk = Talk::new(reader, writer, explanations);
     match begin(alloc, disk) {
@@ -276,7 +276,7 @@ where
     H: Threads + Wait + Copy + Send + 'static,
     requires some { 1 ≤ workers }
     requires few { workers ≤ 8 }
-    ensures ends { SessionEnds D.honest D.seen D.may_leave D.moment D.left_since D.failures disk result.0 result.1 }
+    ensures answers { SessionEnds D.honest D.seen D.may_leave D.moment D.left_since D.failures disk result.0 result.1 }
 {
     session_and_explain(rt, alloc, reader, writer, &mut io::sink(), disk, workers)
 }

@@ -27,6 +27,10 @@ pub struct Asked<'a> {
     pub is_typed: bool,
 }
 
+/// What is told where there is no disk on the file for 35.
+const NO_FILE: &str =
+    "cclib: the file could not be opened, or another process has it open; where it is not there yet, `--format AREA` makes it\n";
+
 // The disk on the file, made anew where an area is given.
 fn disk_of(files: &HostRuntime, path: &str, area: Option<u32>) -> Result<FileDisk, LibraryFault> {
     let Some(area) = area else {
@@ -56,7 +60,13 @@ fn no_disk<W: Write, E: Write>(
 ) -> u8 {
     let _ = writeln!(writer, "fault {} {fault}", fault.number());
     let _ = writer.flush();
-    if !is_quiet {
+    if is_quiet {
+        return 1;
+    }
+    if fault.number() == 35 {
+        let _ = errors.write_all(NO_FILE.as_bytes());
+        let _ = errors.flush();
+    } else {
         let _ = explain_words(fault.number(), errors);
     }
     1

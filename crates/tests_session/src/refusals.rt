@@ -1,8 +1,9 @@
 // Lines and sources that are refused, and scripts that end too soon or are too long.
 
-use crate::helpers::answers;
+use crate::helpers::{answers, ends};
 use cc_session::SessionEnd;
 use std::alloc::{AllocError, Global};
+use std::io::{self, Read};
 use std::test::Fail;
 
 // Scripts in an area of 64 bytes, with their answers. After each refusal the script goes on.
@@ -108,20 +109,28 @@ fn lines_at_their_limit(rt: HostRuntime) -> Result<(), Fail> {
     Ok(())
 }
 
+/// Gives so many bytes `a`.
+#[derive(Drop)]
+struct Letters {
+    left: usize,
+}
+
+impl Read for Letters {
+    fn read(&mut self, buf: &mut [u8]) -> io::Result<usize> {
+        let count = buf.len().min(self.left);
+        buf[..count].fill(b'a');
+        self.left -= count;
+        Ok(count)
+    }
+}
+
 #[test]
 fn a_script_that_is_too_long(rt: HostRuntime) -> Result<(), Fail> {
-    let alloc = rt.alloc();
-    let script = long(alloc, 16_777_217)?;
-    let lines = "fault 50 BadLine\nfault 52 ScriptTooLong\n";
-    assert!(rt;
-        answers(
-            &rt,
-            alloc,
-            script.as_slice(),
-            64,
-            lines,
-            SessionEnd::Fault(52)
-        )?
-    );
+    let mut reader = Letters { left: 16_777_217 };
+    let mut written = Vec::new(rt.alloc());
+    let wanted = SessionEnd::Fault(52);
+    let right = ends(&rt, rt.alloc(), &mut reader, &mut written, 64, wanted)?;
+    let lines = b"fault 50 BadLine\nfault 52 ScriptTooLong\n".as_slice();
+    assert!(rt; right && written.as_slice() == lines);
     Ok(())
 }
