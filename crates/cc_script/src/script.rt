@@ -1,8 +1,10 @@
 // The lines and the sources of a script, as they are read.
 
-ghost use Rattle.std.specs.Prelude.{◌≡◌, ◌≤◌, ◌<◌, ◌+◌, true, IfErr, IfOk, IfSome, OnOk, min, vec_len};
-ghost use Rattle.cc_script.specs.declared.fault.ScriptFault.TheVariants.{ReadFault};
-ghost use Rattle.cc_script.specs.Reading.{IsNotRead, IsNoSource, IsWithinLine};
+ghost use Rattle.std.specs.Prelude.{◌≡◌, ◌≤◌, ◌<◌, ◌+◌, true, false, IfErr, IfOk, IfSome, OnOk, min, vec_len};
+ghost use Rattle.std.specs.Option.{option_map};
+ghost use Rattle.cc_script.specs.declared.fault.ScriptFault.TheVariants.{EndOfScript, ReadFault};
+ghost use Rattle.cc_script.specs.Reading.{HasFewer, IsEndOfLine, IsLineOf, IsNextOf, IsNotRead, IsNoSource, IsRestOfLine, IsSourceOf, IsWithinLine, rest_of};
+ghost use Rattle.std.specs.Io.KnownBytes.{IsAtEnd, Keeps};
 
 use super::fault::ScriptFault;
 use std::alloc::Global;
@@ -59,6 +61,9 @@ impl Script {
         ensures filled { IfOk result (λ is_more. is_more ≡ true → self.new.next < self.new.end) }
         ensures left { self.new.left ≡ self.old.left }
         ensures refused { IfErr result (λ fault. fault ≡ ReadFault) }
+        ensures bytes { OnOk result (Keeps (rest_of self.old.piece self.old.next self.old.end self.old.is_over (R.remaining reader.old))
+            (rest_of self.new.piece self.new.next self.new.end self.new.is_over (R.remaining reader.new))) }
+        ensures over { IfOk result (λ is_more. is_more ≡ false → IsAtEnd (rest_of self.new.piece self.new.next self.new.end self.new.is_over (R.remaining reader.new))) }
     {
         if self.next < self.end {
             return Ok(true);
@@ -78,6 +83,8 @@ impl Script {
     // The next byte, or none at the end.
     fn byte<R: Read>(&mut self, reader: &mut R) -> Result<Option<u8>, ScriptFault>
         ensures counted { IfOk result (λ next. IfSome next (λ byte. self.new.left + 1 ≡ self.old.left)) }
+        ensures bytes { IfOk result (λ next. IsNextOf (rest_of self.old.piece self.old.next self.old.end self.old.is_over (R.remaining reader.old)) next
+            (rest_of self.new.piece self.new.next self.new.end self.new.is_over (R.remaining reader.new))) }
         ensures refused { IfErr result (λ fault. IsNotRead self.new.left fault) }
     {
         if !self.fill(reader)? {
@@ -101,6 +108,8 @@ impl Script {
         line: &mut [u8; LINE_BYTES],
     ) -> Result<Next, ScriptFault>
         ensures within { IfOk result IsWithinLine }
+        ensures bytes { IfOk result (λ next. IsLineOf (rest_of self.old.piece self.old.next self.old.end self.old.is_over (R.remaining reader.old)) next line.new
+            (rest_of self.new.piece self.new.next self.new.end self.new.is_over (R.remaining reader.new))) }
         ensures refused { IfErr result (λ fault. IsNotRead self.new.left fault) }
     {
         for length in 0..LINE_BYTES {
@@ -120,6 +129,8 @@ impl Script {
     ///
     /// 52 and 53 as for a line.
     pub fn skip_line<R: Read>(&mut self, reader: &mut R) -> Result<(), ScriptFault>
+        ensures bytes { OnOk result (IsRestOfLine (rest_of self.old.piece self.old.next self.old.end self.old.is_over (R.remaining reader.old))
+            (rest_of self.new.piece self.new.next self.new.end self.new.is_over (R.remaining reader.new))) }
         ensures refused { IfErr result (λ fault. IsNotRead self.new.left fault) }
     {
         while let Some(byte) = self.byte(reader)? {
@@ -142,6 +153,9 @@ impl Script {
     ) -> Result<Option<Vec<u8>>, ScriptFault>
         ensures kept { IfOk result (λ source. IfSome source (λ bytes. vec_len bytes ≡ min length 65537)) }
         ensures counted { OnOk result (self.new.left + length ≡ self.old.left) }
+        ensures bytes { IfOk result (λ source. IsSourceOf (rest_of self.old.piece self.old.next self.old.end self.old.is_over (R.remaining reader.old)) length (option_map (λ bytes. bytes.items) source)
+            (rest_of self.new.piece self.new.next self.new.end self.new.is_over (R.remaining reader.new))) }
+        ensures ended { IfErr result (λ fault. fault ≡ EndOfScript → HasFewer length (rest_of self.old.piece self.old.next self.old.end self.old.is_over (R.remaining reader.old))) }
         ensures refused { IfErr result (λ fault. IsNoSource self.new.left fault) }
     {
         let mut source = Vec::new(alloc);
@@ -161,6 +175,8 @@ impl Script {
     ///
     /// 52 and 53 as for a line.
     pub fn is_at_line_end<R: Read>(&mut self, reader: &mut R) -> Result<bool, ScriptFault>
+        ensures bytes { IfOk result (λ is_ended. IsEndOfLine (rest_of self.old.piece self.old.next self.old.end self.old.is_over (R.remaining reader.old)) is_ended
+            (rest_of self.new.piece self.new.next self.new.end self.new.is_over (R.remaining reader.new))) }
         ensures refused { IfErr result (λ fault. IsNotRead self.new.left fault) }
     {
         match self.byte(reader)? {

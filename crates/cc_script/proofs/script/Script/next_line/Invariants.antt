@@ -1,0 +1,13 @@
+-- What was read so far stands at the front of the line, and has no newline.
+use Rattle.std.proofs.Common.{◌≢◌, ◌≤◌, ℕ, List, take}
+use Rattle.std.specs.Prelude.{All}
+use Rattle.std.specs.Io.KnownBytes.{Consumes}
+use Rattle.cc_script.specs.Reading.{rest_of}
+use Rattle.cc_script.proofs.script.Script.next_line.Given as goal
+
+abbrev pub invariant-loop-length : goal.invariant-loop-length
+invariant-loop-length g l = record {
+  none : All (λ b. b ≢ 10) (take l.length l.line);
+  bytes : Consumes (rest_of l.initial.self.piece l.initial.self.next l.initial.self.end l.initial.self.is_over (g.R.Read.remaining l.initial.reader))
+      (rest_of l.self.piece l.self.next l.self.end l.self.is_over (g.R.Read.remaining l.reader)) (take l.length l.line);
+}
