@@ -12,4 +12,4 @@ spawn-requires-send-F g c κs within =
     search (sendable, crosses, pool_send, pool_sync, pass_send, typed_send, typed_sync) depth 12
 
 pub spawn-requires-send-T : goal.spawn-requires-send-T
-spawn-requires-send-T g c κs within = let n = c.type_bounds.send-N in search (sendable, pass_send) depth 12
+spawn-requires-send-T g c κs within = let n = c.type_bounds.send-N in search (sendable, crosses, pass_send) depth 40 fits 40000
