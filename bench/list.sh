@@ -10,17 +10,18 @@ count=${1:-300}
 work=$(mktemp -d)
 trap 'rm -rf "$work"' EXIT
 ${CC:-cc} -O1 -shared -fPIC -o "$work/refuse.so" "$top/bench/refuse.c" -ldl
-wanted="1 $((count * (count - 1) / 2))"
+sum=$((count * (count - 1) / 2))
+wanted="1 $sum"
 refused=0 elsewhere=0
 for ((n = 1; ; n++)); do
-    said=$(REFUSED=$n LD_PRELOAD="$work/refuse.so" "$program" list "$count" 3>"$work/all" 2>&1) || said="status: $said"
-    [ ! -s "$work/all" ] || break
+    said=$(REFUSED=$n LD_PRELOAD="$work/refuse.so" "$program" list "$count" 2>&1) || said="status: $said"
     case $said in
         "$wanted") refused=$((refused + 1)) ;;
-        "0 "*) echo "list.sh: allocation $n was refused and not told" >&2; exit 1 ;;
-        # The program's own words, before the list is there or after its work.
+        # The run has fewer allocations, once each item has met a refusal.
+        "0 $sum") [ "$refused" -lt "$count" ] || break; elsewhere=$((elsewhere + 1)) ;;
         *emory* | "status: "*) elsewhere=$((elsewhere + 1)) ;;
         *) echo "list.sh: allocation $n: $said" >&2; exit 1 ;;
     esac
 done
+[ "$refused" -ge "$count" ] || { echo "list.sh: only $refused of $count items met a refusal" >&2; exit 1; }
 echo "$((n - 1)) allocations, each refused once: $refused in the list, its item handed back and added again; $elsewhere outside it"

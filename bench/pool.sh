@@ -37,7 +37,7 @@ refuse() {
     while :; do
         number=$((number + 1)) found=0
         : > "$work/told"
-        REFUSED=$number LD_PRELOAD=$work/refuse.so timeout 20 "$program" pool jobs "$work/8.c" 2 2 2 > "$work/found" 2> "$work/said" 3> "$work/told" || found=$?
+        timeout 20 env REFUSED=$number LD_PRELOAD="$work/refuse.so" "$program" pool jobs "$work/8.c" 2 2 2 > "$work/found" 2> "$work/said" 3> "$work/told" || found=$?
         if [ -s "$work/told" ]; then break; fi
         if [ "$found" -eq 1 ] && [ ! -s "$work/found" ] && [ -s "$work/said" ]; then
             stopped=$((stopped + 1))
@@ -52,9 +52,8 @@ refuse() {
             elif [ "$gone" -gt 0 ]; then lost=$((lost + 1))
             elif [ "$no_memory" -gt 0 ] || [ "$end" -ne 0 ]; then short=$((short + 1))
             elif [ "$whole" -eq 4 ]; then usual=$((usual + 1))
-            else
-                echo "pool.sh: allocation $number: $(cat "$work/found")" >&2
-                exit 1
+            # A thread that hands jobs in was not begun.
+            else short=$((short + 1))
             fi
         fi
     done
