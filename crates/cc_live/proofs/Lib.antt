@@ -1,5 +1,3 @@
--- What a row holds when one of its words has changed, and where one row's words lie within another's.
-pub mod Bits
 -- What a join of two rows is.
 pub mod Joining
 -- What is live behind a node.

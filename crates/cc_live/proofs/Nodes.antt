@@ -9,7 +9,7 @@ use Rattle.cc_rtl.specs.Live.{reads}
 use Rattle.cc_rtl.specs.Positions.{position_of, graph_of}
 use Rattle.cc_rtl.proofs.Places.{position_is}
 use Rattle.cc_flow.specs.Lattice.{Equivalent}
-use Rattle.cc_live.specs.Rows.{holds}
+use Rattle.cc_rows.specs.Rows.{holds}
 use Rattle.cc_live.specs.internal.Facts.{Below, nothing, in_front, carries}
 use Rattle.cc_live.specs.internal.Laws.{laws}
 

@@ -9,10 +9,12 @@ use Rattle.cc_rtl.specs.Rtl.{Rtl, Labelled, Node, IsRtl, node_at, successors}
 use Rattle.cc_rtl.specs.Live.{Sets, in_some, live_behind, AreLive}
 use Rattle.cc_rtl.specs.Positions.{position_of, graph_of}
 use Rattle.cc_rtl.proofs.Places.{placed, past, node_of_position}
-use Rattle.cc_live.specs.Rows.{holds, rows_at}
+use Rattle.cc_rows.specs.Rows.{holds}
+use Rattle.cc_live.specs.Rows.{rows_at}
 use Rattle.cc_live.specs.Liveness.{LieWithin, AreStronglyLive}
 use Rattle.cc_live.specs.internal.Facts.{Below, nothing, either, with_all, those, in_front, carries, AreLiveAs, AreLeastAs}
-use Rattle.cc_live.specs.internal.Holding.{holds-nothing, holds-either, in_those, those_in, with_all_first, list_in, in_front_cases, read_in_front, behind_in_front}
+use Rattle.cc_rows.specs.internal.Holding.{holds-nothing}
+use Rattle.cc_live.specs.internal.Holding.{holds-either, in_those, those_in, with_all_first, list_in, in_front_cases, read_in_front, behind_in_front}
 use Rattle.cc_live.proofs.Behind.{in_one, one_in, read_less, read_same}
 use Rattle.cc_live.proofs.Nodes.{nobody, carries_at, row_at, label_at, label_of_position, all_reads, read_among}
 

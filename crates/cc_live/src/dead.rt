@@ -4,7 +4,8 @@ ghost use Rattle.std.specs.Prelude.{◌≡◌, [], get_or, All, IsSome, IfOk, If
 ghost use Rattle.cc_rtl.specs.Rtl.{node_at, successors};
 ghost use Rattle.cc_rtl.specs.Code.{node_of};
 ghost use Rattle.cc_rtl.specs.Live.{AreLive, is_dead as is_dead_by};
-ghost use Rattle.cc_live.specs.Rows.{holds, rows_at};
+ghost use Rattle.cc_rows.specs.Rows.{holds};
+ghost use Rattle.cc_live.specs.Rows.{rows_at};
 ghost use Rattle.cc_live.specs.Liveness.{AreStronglyLive, without_dead, IsWithoutFaint, NothingIsDead};
 ghost use Rattle.cc_live.specs.internal.Dead.{dead_labels as dead_labels_of};
 

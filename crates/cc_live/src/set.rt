@@ -1,20 +1,21 @@
 //! Sets of registers, as rows of bits: register r is bit r % 64 of word r / 64.
 
-ghost use Rattle.std.specs.Prelude.{◌≡◌, ℕ, ◌+◌, ◌*◌, ◌<◌, ◌≤◌, ◌==◌, ◌||◌, ◌&&◌, not, length, slice_index, IsTrue, IsFalse, IfOk, IfErr};
+ghost use Rattle.std.specs.Prelude.{◌≡◌, ℕ, ◌==◌, ◌||◌, ◌&&◌, not, IfOk, IfErr};
 ghost use Rattle.cc_flow.specs.Lattice.{Equivalent};
-ghost use Rattle.cc_live.specs.Rows.{holds};
+ghost use Rattle.cc_rows.specs.Rows.{holds};
 ghost use Rattle.cc_live.specs.internal.Facts.{Below, nothing, either};
 ghost use Rattle.cc_live.specs.internal.Room.{room as room_of, height as height_of, bounded as room_bounded};
 ghost use Rattle.cc_live.specs.internal.Laws.{laws};
 
 use cc_flow::Facts;
+use cc_rows::BitRow;
 use std::alloc::{AllocError, Global};
 use std::marker::Model;
 
 /// A set of registers. Contracts see its words.
 #[derive(Drop)]
 pub struct RegisterSet {
-    words: Vec<u64>,
+    row: BitRow,
 }
 
 impl Model for RegisterSet {
@@ -23,9 +24,9 @@ impl Model for RegisterSet {
 
     ghost Value = { List ℕ };
 
-    ghost view = { λ s. s.words.items };
+    ghost view = { λ s. s.row };
 
-    ghost invariant = { λ s. length s.words.items ≤ most_words };
+    ghost invariant = { λ s. length s.row ≤ most_words };
 }
 
 impl RegisterSet {
@@ -33,24 +34,23 @@ impl RegisterSet {
     pub fn words(&self) -> &[u64]
         ensures { result.now ≡ self.now }
     {
-        self.words.as_slice()
+        self.row.words()
     }
 
     /// Whether a register is in it.
     pub fn contains(&self, register: u32) -> bool
         ensures { result ≡ holds self.now register }
     {
-        let word = word_at(self.words.as_slice(), register as usize / 64);
-        (word >> (register % 64)) & 1 == 1
+        self.row.contains(register as usize)
     }
 
     /// The same set once more.
     pub(crate) fn copy(&self, alloc: Global) -> Result<RegisterSet, AllocError>
         ensures { IfOk result (λ made. made ≡ self.now) }
     {
-        let mut words = Vec::new(alloc);
-        words.extend_from_slice(self.words.as_slice())?;
-        Ok(RegisterSet { words })
+        Ok(RegisterSet {
+            row: self.row.copy(alloc)?,
+        })
     }
 
     /// Puts a register in. Without memory the set stays as it was.
@@ -58,9 +58,7 @@ impl RegisterSet {
         ensures added { IfOk result (λ _. (r : ℕ) → holds self.new r ≡ (register == r || holds self.old r)) }
         ensures leaves { IfErr result (λ _. self.new ≡ self.old) }
     {
-        let at = register as usize / 64;
-        grow(&mut self.words, at + 1)?;
-        self.words[at] |= 1 << (register % 64);
+        self.row.insert(register as usize)?;
         Ok(())
     }
 
@@ -68,10 +66,7 @@ impl RegisterSet {
     pub(crate) fn remove(&mut self, register: u32)
         ensures { (r : ℕ) → holds self.new r ≡ (holds self.old r && not (register == r)) }
     {
-        let at = register as usize / 64;
-        if at < self.words.len() {
-            self.words[at] &= !(1 << (register % 64));
-        }
+        self.row.remove(register as usize);
     }
 }
 
@@ -105,55 +100,6 @@ impl Liveness {
     }
 }
 
-/// A word of a row; those past its end are 0.
-fn word_at(words: &[u64], at: usize) -> u64
-    ensures { result ≡ slice_index words.now at }
-{
-    match words.get(at) {
-        Some(word) => *word,
-        None => 0,
-    }
-}
-
-/// Makes a row no shorter than so many words. Without memory it stays as it was.
-fn grow(words: &mut Vec<u64>, least: usize) -> Result<(), AllocError>
-    ensures same { (k : ℕ) → slice_index words.new.items k ≡ slice_index words.old.items k }
-    ensures long { IfOk result (λ _. least ≤ length words.new.items) }
-    ensures few { (most : ℕ) → length words.old.items ≤ most → least ≤ most → length words.new.items ≤ most }
-    ensures leaves { IfErr result (λ _. words.new.items ≡ words.old.items) }
-{
-    if words.len() < least {
-        words.resize(least, 0)?;
-    }
-    Ok(())
-}
-
-/// Whether one row holds nothing that the other does not.
-fn lies_within(some: &[u64], all: &[u64]) -> bool
-    ensures within { IsTrue result → Below some.now all.now }
-    ensures not_within { IsFalse result → (r : ℕ) × (r < 64 * length some.now) × IsTrue (holds some.now r) × IsFalse (holds all.now r) }
-{
-    for (at, word) in some.iter().enumerate() {
-        let other = word_at(all, at);
-        let word = *word;
-        if word & !other != 0 {
-            return false;
-        }
-    }
-    true
-}
-
-/// Puts what one row holds into another that is no shorter.
-fn put_all(into: &mut Vec<u64>, from: &[u64])
-    requires { length from.now ≤ length into.old.items }
-    ensures long { length into.new.items ≡ length into.old.items }
-    ensures both { (r : ℕ) → holds into.new.items r ≡ (holds into.old.items r || holds from.now r) }
-{
-    for (at, word) in from.iter().enumerate() {
-        into[at] |= *word;
-    }
-}
-
 impl Facts for RegisterSet {
     ghost below = { Below };
 
@@ -167,17 +113,13 @@ impl Facts for RegisterSet {
 
     fn least(alloc: Global) -> Result<RegisterSet, AllocError> {
         Ok(RegisterSet {
-            words: Vec::new(alloc),
+            row: BitRow::new(alloc),
         })
     }
 
     fn join(&mut self, other: &RegisterSet) -> Result<bool, AllocError> {
-        if lies_within(other.words.as_slice(), self.words.as_slice()) {
-            return Ok(false);
-        }
-        grow(&mut self.words, other.words.len())?;
-        put_all(&mut self.words, other.words.as_slice());
-        Ok(true)
+        let rose = self.row.join(&other.row)?;
+        Ok(rose)
     }
 
     ghost laws = { laws };

@@ -1,6 +1,7 @@
 //! The nodes and blocks of a function as the solver takes them: side by side, by their positions.
 
-ghost use Rattle.std.specs.Prelude.{◌≡◌};
+ghost use Rattle.std.specs.Prelude.{◌≡◌, ◌≤◌};
+ghost use Rattle.cc_rows.specs.Rows.{most_width};
 ghost use Rattle.cc_validate.specs.internal.Positions.{carries, AreBeside};
 ghost use Rattle.cc_validate.specs.internal.Upward.{carries_up};
 
@@ -17,28 +18,30 @@ use std::marker::Model;
 pub struct Code<'a> {
     rtl: &'a Rtl,
     blocks: &'a [Block],
+    width: usize,
 }
 
 impl<'a> Model for Code<'a> {
     ghost use Rattle.std.specs.Prelude.{List};
     ghost use Rattle.cc_rtl.specs.Rtl as rtl;
     ghost use Rattle.cc_ltl.specs.declared.block.Block as ltl;
-    ghost use Rattle.cc_validate.specs.internal.Positions.{AreBeside, Sides};
+    ghost use Rattle.cc_validate.specs.internal.Positions.{IsCode, Sides};
 
     ghost Value = { Sides };
 
     ghost view = { λ c. record { nodes = c.rtl.now.nodes; blocks = c.blocks.now } };
 
-    ghost invariant = { λ c. AreBeside c.rtl.now.nodes c.blocks.now };
+    ghost invariant = { λ c. IsCode c.rtl.now.nodes c.blocks.now c.width };
 }
 
 impl<'a> Code<'a> {
-    /// Nodes with the blocks beside them.
-    pub fn new(rtl: &'a Rtl, blocks: &'a [Block]) -> Code<'a>
-        requires { AreBeside rtl.now.nodes blocks.now }
+    /// Nodes with the blocks beside them, and how many words the locations of one of them take.
+    pub fn new(rtl: &'a Rtl, blocks: &'a [Block], width: usize) -> Code<'a>
+        requires beside { AreBeside rtl.now.nodes blocks.now }
+        requires width { width ≤ most_width }
         ensures { result ≡ record { nodes = rtl.now.nodes; blocks = blocks.now } }
     {
-        Code { rtl, blocks }
+        Code { rtl, blocks, width }
     }
 }
 
@@ -53,7 +56,7 @@ impl<'a> Transfer<EquationSet> for Code<'a> {
     ) -> Result<EquationSet, AllocError> {
         let _few = self.rtl.len();
         match self.rtl.at(node) {
-            Some(rtl) => carry(alloc, rtl, &self.blocks[node], facts),
+            Some(rtl) => carry(rtl, &self.blocks[node], facts, self.width),
             None => EquationSet::least(alloc),
         }
     }

@@ -1,6 +1,7 @@
 //! The validator.
 
-ghost use Rattle.std.specs.Prelude.{◌≡◌, ◌↔◌, length, All, IfOk, IfErr, IfSome, IfNone, IsTrue, IsSome};
+ghost use Rattle.std.specs.Prelude.{◌≡◌, ◌↔◌, ◌≤◌, length, All, IfOk, IfErr, IfSome, IfNone, IsTrue, IsSome};
+ghost use Rattle.cc_rows.specs.Rows.{most_width};
 ghost use Rattle.cc_rtl.specs.Rtl.{node_at};
 ghost use Rattle.cc_ltl.specs.Ltl.{IsLtl};
 ghost use Rattle.cc_validate.specs.Solution.{IsAtEntry, HasSolution};
@@ -9,17 +10,13 @@ ghost use Rattle.cc_validate.specs.internal.Facts.{IsClean, HoldsParametersAlone
 
 use crate::beside::apart;
 use crate::code::Code;
-use crate::equation::Equation;
 use crate::fault::ValidateFault;
 use crate::pair::LtlPair;
 use crate::set::EquationSet;
 use cc_flow::solve_backward;
-use cc_ltl::{Location, Ltl};
+use cc_ltl::Ltl;
 use cc_rtl::{Rtl, RtlPair};
 use std::alloc::Global;
-
-// Parameters stand in x10 and up.
-const FIRST_ARGUMENT: u8 = 10;
 
 /// Why LTL was refused, and the pair that it was to stand for.
 #[derive(Drop)]
@@ -66,7 +63,7 @@ fn decide(alloc: Global, rtl: &Rtl, ltl: &Ltl) -> Result<(), ValidateFault>
         return Err(ValidateFault::Unvalidated { label });
     }
     let graph = rtl.graph(alloc)?;
-    let code = Code::new(rtl, blocks);
+    let code = Code::new(rtl, blocks, words_for(ltl.slots()));
     let least = solve_backward(alloc, &graph, &code)?;
     if let Some(label) = contradicted(rtl, least.as_slice()) {
         return Err(ValidateFault::Unvalidated { label });
@@ -76,6 +73,14 @@ fn decide(alloc: Global, rtl: &Rtl, ltl: &Ltl) -> Result<(), ValidateFault>
         return Err(ValidateFault::Unvalidated { label: rtl.entry() });
     }
     Ok(())
+}
+
+/// How many words the bits of the registers and so many slots take.
+fn words_for(slots: u16) -> usize
+    ensures { result ≤ most_width }
+{
+    let words = (32 + slots as usize) / 64 + 1;
+    if words < 16 { words } else { 16 }
 }
 
 /// A label whose facts contradict, where there is one.
@@ -102,32 +107,6 @@ fn parameters_alone(parameters: u32, facts: &EquationSet) -> bool
 {
     match facts.equations() {
         None => false,
-        Some(equations) => are_at_entry(parameters, equations),
-    }
-}
-
-fn are_at_entry(parameters: u32, equations: &[Equation]) -> bool
-    ensures { IsTrue result ↔ All (IsAtEntry parameters) equations.now }
-{
-    for e in equations {
-        if !is_at_entry(parameters, e) {
-            return false;
-        }
-    }
-    true
-}
-
-/// Whether this is known at entry: parameter i is in x(10 + i).
-fn is_at_entry(parameters: u32, e: &Equation) -> bool
-    ensures { IsTrue result ↔ IsAtEntry parameters e.now }
-{
-    match e.location {
-        Location::Register(register) => {
-            let number = register.number();
-            e.register < parameters
-                && number >= FIRST_ARGUMENT
-                && u32::from(number - FIRST_ARGUMENT) == e.register
-        }
-        Location::Slot(_) => false,
+        Some(equations) => equations.are_at_entry(parameters),
     }
 }

@@ -10,7 +10,8 @@ use Rattle.std.proofs.lemmas.Bool.Decides.{Decides-eqb, nat_tests}
 use Rattle.std.proofs.lemmas.List.{get_or_past}
 use Rattle.cc_rtl.specs.Rtl.{Node, Nop, Const, Move, Unary, Binary, Load, Store, Call, Read, Write, Branch, Return}
 use Rattle.cc_rtl.specs.Live.{reads, result, pure_result, among}
-use Rattle.cc_live.specs.Rows.{holds}
+use Rattle.cc_rows.specs.Rows.{holds}
+use Rattle.cc_rows.specs.internal.Holding.{bits_or, holds-nothing, within_row}
 use Rattle.cc_live.specs.internal.Facts.{Below, nothing, either, single, with_all, chosen, those, but_for, is_result, is_unread, in_front}
 
 -- ---- the bits of words
@@ -21,27 +22,8 @@ get_or-either (x ∷ a) [] i = sym (or_zero_r (get_or (x ∷ a) i 0))
 get_or-either (x ∷ a) (y ∷ b) zero = refl
 get_or-either (x ∷ a) (y ∷ b) (suc i) = get_or-either a b i
 
-pub max_bits : (p q : ℕ) → p < 2 → q < 2 → (max p q == 1) ≡ (p == 1 || q == 1)
-max_bits zero zero h k = refl
-max_bits zero (suc zero) h k = refl
-max_bits (suc zero) zero h k = refl
-max_bits (suc zero) (suc zero) h k = refl
-max_bits (suc (suc p)) q h k = absurd (omega arith)
-max_bits zero (suc (suc q)) h k = absurd (omega arith)
-max_bits (suc zero) (suc (suc q)) h k = absurd (omega arith)
-
-pub bits_or : (x y k : ℕ) → (bit_at (bit_or x y) k == 1) ≡ (bit_at x k == 1 || bit_at y k == 1)
-bits_or x y k = ap (λ n. n == 1) (bit_at_or x y k) ∙ max_bits (bit_at x k) (bit_at y k) (bit_at-lt x k) (bit_at-lt y k)
-
-pub holds-nothing : (r : ℕ) → holds nothing r ≡ false
-holds-nothing r = ap (λ n. n == 1) (bit_at-zero (r % 64))
-
 pub holds-either : (a b : List ℕ) (r : ℕ) → holds (either a b) r ≡ (holds a r || holds b r)
 holds-either a b r = ap (λ w. bit_at w (r % 64) == 1) (get_or-either a b (r / 64)) ∙ bits_or (get_or a (r / 64) 0) (get_or b (r / 64) 0) (r % 64)
-
--- a row holds nothing past its end
-pub holds-past : (row : List ℕ) (r : ℕ) → length row ≤ r / 64 → holds row r ≡ false
-holds-past row r h = ap (λ w. bit_at w (r % 64) == 1) (get_or_past row (r / 64) 0 h) ∙ holds-nothing r
 
 word_same : (q w : ℕ) → get_or (replicate q 0 ++ w ∷ []) q 0 ≡ w
 word_same zero w = refl
@@ -115,13 +97,6 @@ with_all_first rs row r h = holds-with_all rs row r ∙ or_left (among rs r) (ho
 
 pub with_all_rest : (rs row : List ℕ) (r : ℕ) → IsTrue (holds row r) → IsTrue (holds (with_all rs row) r)
 with_all_rest rs row r h = holds-with_all rs row r ∙ or_right (among rs r) (holds row r) h
-
--- a register that a row holds lies within it
-pub within_row : (row : List ℕ) (r : ℕ) → IsTrue (holds row r) → r < 64 * length row
-within_row row r h = elim (cases_lt (r / 64) (length row)) [
-  | inl lt ↦ omega arith
-  | inr ge ↦ absurd (let p = holds-past row r ge in cc)
-]
 
 pub in_those : (test : ℕ → Bool) (row : List ℕ) (r : ℕ) → IsTrue (holds (those test row) r) → IsTrue (holds row r) × IsTrue (test r)
 unfolding those

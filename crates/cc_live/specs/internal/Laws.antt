@@ -3,9 +3,10 @@ use Rattle.std.proofs.Common.{◌≡◌, ℕ, zero, suc, List, [], ◌∷◌, sy
 use Rattle.std.proofs.lemmas.Bool.{or_left, or_right}
 use Rattle.cc_flow.specs.Lattice.{IsLattice, Equivalent}
 use Rattle.cc_rtl.specs.Rtl.{Labelled}
-use Rattle.cc_live.specs.Rows.{holds}
+use Rattle.cc_rows.specs.Rows.{holds}
 use Rattle.cc_live.specs.internal.Facts.{Below, nothing, either, carries}
-use Rattle.cc_live.specs.internal.Holding.{holds-nothing, holds-either, in_front_up}
+use Rattle.cc_rows.specs.internal.Holding.{holds-nothing}
+use Rattle.cc_live.specs.internal.Holding.{holds-either, in_front_up}
 
 pub laws : IsLattice Below nothing either
 laws = record { reflexive = λ x r h. h; transitive = λ x y z h i r k. i r (h r k); least = least; first = first; second = second; within = within }

@@ -2,7 +2,7 @@
 use Rattle.std.proofs.Common.{◌∙◌, ap, sym, ◌||◌, ◌&&◌, not, ℕ, List}
 use Rattle.cc_rtl.specs.Code.{node_of}
 use Rattle.cc_rtl.specs.Live.{reads, result, among}
-use Rattle.cc_live.specs.Rows.{holds}
+use Rattle.cc_rows.specs.Rows.{holds}
 use Rattle.cc_live.specs.internal.Facts.{is_result}
 use Rattle.cc_live.specs.internal.Holding.{in_front_made}
 use Rattle.cc_live.proofs.transfer.in_front.Goals as goal

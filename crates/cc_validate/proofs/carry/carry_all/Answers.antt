@@ -1,28 +1,35 @@
--- What one equation more becomes is put to what the rest become.
-use Rattle.std.proofs.Common.{◌≡◌, ◌-◌, ◌<◌, ◌∷◌, drop, get_or, length, sym, ap, ◌∙◌, subst, arith}
-use Rattle.std.proofs.lemmas.List.{get_or_read}
+-- Through the moves behind, the operation, and with the operands through the moves before.
+use Rattle.std.proofs.Common.{◌∙◌, List, subst, sym}
 use Rattle.cc_flow.specs.Lattice.{Equivalent}
 use Rattle.cc_rtl.specs.Code.{node_of}
-use Rattle.cc_validate.specs.Equations.{before_moves, fate}
-use Rattle.cc_validate.specs.internal.Facts.{Below, with_fate, carried}
-use Rattle.cc_validate.proofs.Carrying.{same_trans, fate_same, drop_more}
+use Rattle.cc_validate.specs.declared.equation.Equation.{Equation}
+use Rattle.cc_validate.specs.Equations.{before_moves, fate, operands}
+use Rattle.cc_validate.specs.internal.Facts.{Facts, Below, carried}
+use Rattle.cc_validate.specs.internal.Carried.{AreCarried, AreBefore, IsBefore, IsContradicted, AreWith}
+use Rattle.cc_validate.proofs.Carried.{front_is, contradicted_is}
 use Rattle.cc_validate.proofs.carry.carry_all.Goals as goal
 
-pub loop-left-preserved : goal.loop-left-preserved
-loop-left-preserved c =
+pub returns-in-None : goal.returns-in-None
+returns-in-None c =
     let node = node_of c.args.node.now in
     let block = c.args.block.now in
-    let behind = c.args.behind.now in
-    let left = c.loop-left.left in
-    let d = c.index-behind-left.result in
-    let front = c.loop-left.front in
-    let here : left - 1 < length behind = omega arith in
-    let item : get_or behind (left - 1) d ≡ d = sym (get_or_read behind (left - 1) d here c.index-behind-left.is d) in
-    let e : drop (left - 1) behind ≡ d ∷ drop left behind = drop_more behind left d c.loop-left.invariant.within c.loop-left-test.true ∙ ap (λ x. x ∷ drop left behind) item in
-    let f = fate node block.operation (before_moves block.after d) in
-    let more = same_trans c.carry_one.new.front (with_fate f block.before front) (with_fate f block.before (carried node block (drop left behind)))
-    c.in_ok-carry_one.ensures (fate_same f block.before front (carried node block (drop left behind)) c.loop-left.invariant.so_far) in
-    record {
-      within = omega arith;
-      so_far = subst (λ xs. Equivalent Below c.carry_one.new.front (carried node block xs)) (sym e) more;
-    }
+    let es = c.args.behind.now in
+    let s1 = c.in_ok-behind.behind in
+    let after : AreCarried (before_moves block.after) es s1 = subst (λ (xs : List Equation). AreCarried (before_moves block.after) xs s1) c.in_ok-copy.ensures (subst (λ ms. AreCarried (before_moves ms) c.in_ok-copy.field-0 s1) c.moves.ensures.moves c.in_ok-behind.ensures) in
+    let out : IsContradicted (fate node block.operation) s1 = subst (IsBefore (fate node block.operation) s1) c.in-None.is c.in_ok-operate.ensures in
+    subst (λ (x : Facts). Equivalent Below x (carried node block es)) (sym c.contradiction.ensures) (contradicted_is node block es s1 after out)
+
+pub returns-in_ok-carry-in-Some : goal.returns-in_ok-carry-in-Some
+returns-in_ok-carry-in-Some c =
+    let node = node_of c.args.node.now in
+    let block = c.args.block.now in
+    let es = c.args.behind.now in
+    let s1 = c.in_ok-behind.behind in
+    let s2 = c.in-Some.front in
+    let s3 = c.put_operands.new.front in
+    let s4 = c.in_ok-carry-in-Some.field-0 in
+    let after : AreCarried (before_moves block.after) es s1 = subst (λ (xs : List Equation). AreCarried (before_moves block.after) xs s1) c.in_ok-copy.ensures (subst (λ ms. AreCarried (before_moves ms) c.in_ok-copy.field-0 s1) c.moves.ensures.moves c.in_ok-behind.ensures) in
+    let through : AreBefore (fate node block.operation) s1 s2 = subst (IsBefore (fate node block.operation) s1) c.in-Some.is c.in_ok-operate.ensures in
+    let more : AreWith (operands node block.operation) s2 s3 = c.in_ok-put_operands-in-Some.ensures in
+    let front : AreCarried (before_moves block.before) s3 s4 = subst (λ ms. AreCarried (before_moves ms) s3 s4) c.moves-in-Some.ensures.moves c.in_ok-carry-in-Some.ensures in
+    subst (λ (x : Facts). Equivalent Below x (carried node block es)) (sym c.of.ensures) (front_is node block es s1 s2 s3 s4 after through more front)

@@ -22,7 +22,7 @@ pub bounds-self-inside-node : goal.bounds-self-inside-node
 bounds-self-inside-node c =
     let nodes = c.self.inside.rtl.now.nodes in
     let here = slice_get_within nodes c.args.node _ c.in-Some.ensures in
-    let m = beside_length nodes c.self.inside.blocks.now c.self.invariant in
+    let m = beside_length nodes c.self.inside.blocks.now c.self.invariant.beside in
     omega (arith, here, m)
 
 pub offset_bounds-self-inside-node : goal.offset_bounds-self-inside-node
@@ -32,11 +32,11 @@ offset_bounds-self-inside-node c =
     let few = c.len-few.ensures.few in
     omega (arith, here, e, few)
 
-pub carry-requires : goal.carry-requires
-carry-requires c =
+pub carry-requires-clause-agrees : goal.carry-requires-clause-agrees
+carry-requires-clause-agrees c =
     let nodes = c.self.inside.rtl.now.nodes in
     let n : Labelled = record { label = c.args.node; node = node_of c.in-Some.rtl.now } in
-    let both = beside_at nodes c.self.inside.blocks.now c.args.node n c.index-self-node.result c.self.invariant (slice_get_within nodes c.args.node n c.in-Some.ensures) in
+    let both = beside_at nodes c.self.inside.blocks.now c.args.node n c.index-self-node.result c.self.invariant.beside (slice_get_within nodes c.args.node n c.in-Some.ensures) in
     subst (λ (m : Labelled). Agrees m.node (get_or c.self.inside.blocks.now c.args.node c.index-self-node.result).operation) (get_or_from_slice_get nodes c.args.node n n c.in-Some.ensures) both.1
 
 pub returns-in-Some : goal.returns-in-Some
@@ -46,7 +46,7 @@ returns-in-Some c =
     let n : Labelled = record { label = c.args.node; node = node_of c.in-Some.rtl.now } in
     let b = c.index-self-node.result in
     let here = slice_get_within nodes c.args.node n c.in-Some.ensures in
-    let m = beside_length nodes blocks c.self.invariant in
+    let m = beside_length nodes blocks c.self.invariant.beside in
     let at : carries nodes blocks c.args.node c.args.facts.now ≡ through n.node (get_or blocks c.args.node b) c.args.facts.now =
     carries_at nodes blocks c.args.node n b c.args.facts.now here (omega (arith, here, m)) ∙ ap (λ (k : Labelled). through k.node (get_or blocks c.args.node b) c.args.facts.now) (get_or_from_slice_get nodes c.args.node n n c.in-Some.ensures) in
     let is : carries c.args.self.now.nodes c.args.self.now.blocks c.args.node c.args.facts.now ≡ through n.node (get_or blocks c.args.node b) c.args.facts.now =

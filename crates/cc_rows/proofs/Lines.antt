@@ -1,0 +1,202 @@
+-- Loops over the rows or the columns of a table: what has been done before one of them.
+use Rattle.std.proofs.Common.{◌≡◌, ℕ, ◌+◌, ◌*◌, ◌/◌, ◌<◌, ◌≤◌, ◌∙◌, sym, ap, arith, refl, inl, inr, Bool, true, false, ◌==◌, ◌&&◌, ◌||◌, not, nat_lt, if◌then◌else◌}
+use Rattle.std.proofs.lemmas.Bool.{cases_eq, cases_lt, eq-eqb, ne_eqb}
+use Rattle.std.proofs.lemmas.Bool.Decides.{nat_tests}
+use Rattle.cc_rows.specs.Rows.{moved, row_moved}
+
+below : (j n : ℕ) → j < n → nat_lt j n ≡ true
+below j n h = grind (arith, nat_tests)
+
+not_below : (j n : ℕ) → n ≤ j → nat_lt j n ≡ false
+not_below j n h = grind (arith, nat_tests)
+
+same_below : (j n : ℕ) → (n ≡ j → ⊥) → nat_lt j (n + 1) ≡ nat_lt j n
+same_below j n d = elim (cases_lt j n) [
+  | inl lt ↦ below j (n + 1) (omega arith) ∙ sym (below j n lt)
+  | inr ge ↦ not_below j (n + 1) (omega arith) ∙ sym (not_below j n ge)
+]
+
+or_false : (b : Bool) → (b || false) ≡ b
+or_false true = refl
+or_false false = refl
+
+and_false : (b : Bool) → (b && false) ≡ false
+and_false true = refl
+and_false false = refl
+
+and_true : (b : Bool) → (b && true) ≡ b
+and_true true = refl
+and_true false = refl
+
+pub swap : (a b : Bool) → (a && b) ≡ (b && a)
+swap true true = refl
+swap true false = refl
+swap false true = refl
+swap false false = refl
+
+or_swap : (a b : Bool) → (a || b) ≡ (b || a)
+or_swap true true = refl
+or_swap true false = refl
+or_swap false true = refl
+or_swap false false = refl
+
+-- ---- the bits of a line put into another
+
+-- those of the places before c are put in
+abbrev pub PutBefore : (c : ℕ) → (own old now : ℕ → Bool) → Type 0
+PutBefore c own old now = (j : ℕ) → now j ≡ (old j || (nat_lt j c && own j))
+
+pub none_before : (own old : ℕ → Bool) → PutBefore 0 own old old
+none_before own old j = sym (or_false (old j)) ∙ ap (λ b. old j || (b && own j)) (sym (not_below j 0 (omega arith)))
+
+pub one_before : (c : ℕ) (own old now next : ℕ → Bool) → own c ≡ true → ((j : ℕ) → next j ≡ ((c == j) || now j)) → PutBefore c own old now → PutBefore (c + 1) own old next
+one_before c own old now next there puts h j = elim (cases_eq c j) [
+  | inl same ↦
+      puts j ∙ (ap (λ b. b || now j) (eq-eqb c j same)
+      ∙ (sym (or_true (old j)) ∙ (ap (λ b. old j || b) (sym (sym (ap own same) ∙ there)) ∙ ap (λ b. old j || (b && own j)) (sym (below j (c + 1) (omega arith))))))
+  | inr other ↦ puts j ∙ (ap (λ b. b || now j) (ne_eqb c j other) ∙ (h j ∙ ap (λ b. old j || (b && own j)) (sym (same_below j c other))))
+]
+  where
+    or_true : (b : Bool) → (b || true) ≡ true
+    or_true true = refl
+    or_true false = refl
+
+pub skipped : (c : ℕ) (own old now : ℕ → Bool) → own c ≡ false → PutBefore c own old now → PutBefore (c + 1) own old now
+skipped c own old now none h j = elim (cases_eq c j) [
+  | inl same ↦
+      h j ∙ (ap (λ b. old j || (b && own j)) (not_below j c (omega arith))
+      ∙ ap (λ b. old j || b) (sym (and_false (nat_lt j (c + 1))) ∙ ap (λ b. nat_lt j (c + 1) && b) (sym (sym (ap own same) ∙ none))))
+  | inr other ↦ h j ∙ ap (λ b. old j || (b && own j)) (sym (same_below j c other))
+]
+
+pub all_before : (c : ℕ) (own old now : ℕ → Bool) → ((j : ℕ) → c ≤ j → own j ≡ false) → PutBefore c own old now → (j : ℕ) → now j ≡ (old j || own j)
+all_before c own old now past h j = elim (cases_lt j c) [
+  | inl lt ↦ h j ∙ ap (λ b. old j || (b && own j)) (below j c lt)
+  | inr ge ↦ h j ∙ (ap (λ b. old j || (nat_lt j c && b)) (past j ge) ∙ (ap (λ b. old j || b) (and_false (nat_lt j c)) ∙ ap (λ b. old j || b) (sym (past j ge))))
+]
+
+-- a bit of row r is put there, and no other row changes
+pub row_put : (r c : ℕ) (bits : ℕ → Bool) (old now next : ℕ → ℕ → Bool) → bits c ≡ true → ((i j : ℕ) → next i j ≡ ((r == i && c == j) || now i j))
+    → ((i : ℕ) → PutBefore c (λ j. r == i && bits j) (old i) (now i)) → (i : ℕ) → PutBefore (c + 1) (λ j. r == i && bits j) (old i) (next i)
+row_put r c bits old now next there puts h i = elim (cases_eq r i) [
+  | inl same ↦
+      one_before c (λ j. r == i && bits j) (old i) (now i) (next i) (ap (λ b. b && bits c) (eq-eqb r i same) ∙ there)
+      (λ j. puts i j ∙ ap (λ b. (b && c == j) || now i j) (eq-eqb r i same)) (h i)
+  | inr other ↦ λ j. (puts i j ∙ ap (λ b. (b && c == j) || now i j) (ne_eqb r i other)) ∙ skipped c (λ k. r == i && bits k) (old i) (now i) (ap (λ b. b && bits c) (ne_eqb r i other)) (h i) j
+]
+
+pub row_skipped : (r c : ℕ) (bits : ℕ → Bool) (old now : ℕ → ℕ → Bool) → bits c ≡ false
+    → ((i : ℕ) → PutBefore c (λ j. r == i && bits j) (old i) (now i)) → (i : ℕ) → PutBefore (c + 1) (λ j. r == i && bits j) (old i) (now i)
+row_skipped r c bits old now none h i = skipped c (λ j. r == i && bits j) (old i) (now i) (ap (λ b. r == i && b) none ∙ and_false (r == i)) (h i)
+
+-- a whole row is put there
+pub rows_put : (r : ℕ) (bits : ℕ → ℕ → Bool) (now next : ℕ → ℕ → Bool) → ((i j : ℕ) → next i j ≡ (now i j || (r == i && bits r j)))
+    → ((c : ℕ) → PutBefore r (λ i. bits i c) (λ _. false) (λ i. now i c)) → (c : ℕ) → PutBefore (r + 1) (λ i. bits i c) (λ _. false) (λ i. next i c)
+rows_put r bits now next puts h c = go (bits r c) refl
+  where
+    go : (b : Bool) → bits r c ≡ b → PutBefore (r + 1) (λ i. bits i c) (λ _. false) (λ i. next i c)
+    go true e =
+        one_before r (λ i. bits i c) (λ _. false) (λ i. now i c) (λ i. next i c) e
+        (λ i. puts i c ∙ (ap (λ b. now i c || (r == i && b)) e ∙ (ap (λ b. now i c || b) (and_true (r == i)) ∙ or_swap (now i c) (r == i)))) (h c)
+    go false e = λ i. (puts i c ∙ (ap (λ b. now i c || (r == i && b)) e ∙ (ap (λ b. now i c || b) (and_false (r == i)) ∙ or_false (now i c)))) ∙ skipped r (λ i. bits i c) (λ _. false) (λ i. now i c) e (h c) i
+
+-- ---- in each line one bit moves to another place
+
+-- in those before line n
+abbrev pub MovedBefore : (n from to : ℕ) → (old now : ℕ → ℕ → Bool) → Type 0
+MovedBefore n from to old now = (i j : ℕ) → now i j ≡ (if nat_lt i n then moved from to (old i) j else old i j)
+
+pub none_moved : (from to : ℕ) (old : ℕ → ℕ → Bool) → MovedBefore 0 from to old old
+none_moved from to old i j = ap (λ b. if b then moved from to (old i) j else old i j) (sym (not_below i 0 (omega arith)))
+
+module _ (n from to : ℕ) (old now : ℕ → ℕ → Bool) where
+  -- another line than this
+  elsewhere : (i j : ℕ) → (n ≡ i → ⊥) → MovedBefore n from to old now → now i j ≡ (if nat_lt i (n + 1) then moved from to (old i) j else old i j)
+  elsewhere i j other h = h i j ∙ ap (λ b. if b then moved from to (old i) j else old i j) (sym (same_below i n other))
+
+  -- this line, as it was and as it is to be
+  was : (i j : ℕ) → n ≡ i → MovedBefore n from to old now → now i j ≡ old i j
+  was i j same h = h i j ∙ ap (λ b. if b then moved from to (old i) j else old i j) (not_below i n (omega arith))
+
+  is : (i j : ℕ) → n ≡ i → moved from to (old i) j ≡ (if nat_lt i (n + 1) then moved from to (old i) j else old i j)
+  is i j same = ap (λ b. if b then moved from to (old i) j else old i j) (sym (below i (n + 1) (omega arith)))
+
+  pub bit_moved : (mid next : ℕ → ℕ → Bool) → now n from ≡ true → ((i j : ℕ) → mid i j ≡ (now i j && not (n == i && from == j))) → ((i j : ℕ) → next i j ≡ ((n == i && to == j) || mid i j))
+      → MovedBefore n from to old now → MovedBefore (n + 1) from to old next
+  bit_moved mid next there takes puts h i j = elim (cases_eq n i) [
+    | inr other ↦ puts i j ∙ (ap (λ b. (b && to == j) || mid i j) (ne_eqb n i other) ∙ (takes i j ∙ (ap (λ b. now i j && not (b && from == j)) (ne_eqb n i other) ∙ (and_true (now i j) ∙ elsewhere i j other h))))
+    | inl same ↦
+        puts i j ∙ (ap (λ b. (b && to == j) || mid i j) (eq-eqb n i same)
+        ∙ (ap (λ b. (to == j) || b) (takes i j ∙ (ap (λ b. now i j && not (b && from == j)) (eq-eqb n i same) ∙ ap (λ b. b && not (from == j)) (was i j same h)))
+        ∙ (here (to == j) (sym (was i from same h) ∙ (ap (λ x. now x from) (sym same) ∙ there)) ∙ is i j same)))
+  ]
+    where
+      here : (b : Bool) → old i from ≡ true → (b || (old i j && not (from == j))) ≡ (if b then old i to || old i from else old i j && not (from == j))
+      here true e = sym (or_one (old i to) ∙ refl) ∙ ap (λ x. old i to || x) (sym e)
+        where
+          or_one : (b : Bool) → (b || true) ≡ true
+          or_one true = refl
+          or_one false = refl
+      here false e = refl
+
+  pub bit_skipped : now n from ≡ false → MovedBefore n from to old now → MovedBefore (n + 1) from to old now
+  bit_skipped none h i j = elim (cases_eq n i) [
+    | inr other ↦ elsewhere i j other h
+    | inl same ↦ was i j same h ∙ (here (to == j) refl (from == j) refl (sym (was i from same h) ∙ (ap (λ x. now x from) (sym same) ∙ none)) ∙ is i j same)
+  ]
+    where
+      at : (p q : ℕ) → (p == q) ≡ true → old i q ≡ old i p
+      at p q e = ap (old i) (let r : q ≡ p = grind (arith, nat_tests) in r)
+
+      here : (b : Bool) → (to == j) ≡ b → (d : Bool) → (from == j) ≡ d → old i from ≡ false → old i j ≡ (if b then old i to || old i from else old i j && not d)
+      here true e d f none = at to j e ∙ (sym (or_false (old i to)) ∙ ap (λ x. old i to || x) (sym none))
+      here false e true f none = at from j f ∙ (none ∙ sym (and_false (old i j)))
+      here false e false f none = sym (and_true (old i j))
+
+  pub all_moved : ((i j : ℕ) → n ≤ i → old i j ≡ false) → MovedBefore n from to old now → (i j : ℕ) → now i j ≡ moved from to (old i) j
+  all_moved past h i j = elim (cases_lt i n) [
+    | inl lt ↦ h i j ∙ ap (λ b. if b then moved from to (old i) j else old i j) (below i n lt)
+    | inr ge ↦ h i j ∙ (ap (λ b. if b then moved from to (old i) j else old i j) (not_below i n ge) ∙ none (to == j) ge)
+  ]
+    where
+      none : (b : Bool) → n ≤ i → old i j ≡ (if b then old i to || old i from else old i j && not (from == j))
+      none true ge = past i j ge ∙ sym (ap (λ x. x || old i from) (past i to ge) ∙ past i from ge)
+      none false ge = past i j ge ∙ sym (ap (λ x. x && not (from == j)) (past i j ge))
+
+-- ---- word by word a row's bits move to another row
+
+-- those of the columns in words before word n
+abbrev pub WordsMoved : (n from to : ℕ) → (old now : ℕ → ℕ → Bool) → Type 0
+WordsMoved n from to old now = (r c : ℕ) → now r c ≡ (if nat_lt (c / 64) n then row_moved from to old r c else old r c)
+
+pub no_words_moved : (from to : ℕ) (old : ℕ → ℕ → Bool) → WordsMoved 0 from to old old
+no_words_moved from to old r c = ap (λ b. if b then row_moved from to old r c else old r c) (sym (not_below (c / 64) 0 (omega arith)))
+
+-- a column is the same in both
+same_column : (from to r c : ℕ) (old now : ℕ → ℕ → Bool) → ((x : ℕ) → now x c ≡ old x c) → row_moved from to now r c ≡ row_moved from to old r c
+same_column from to r c old now same =
+    ap (λ x. if to == r then x || now from c else now r c && not (from == r)) (same to)
+    ∙ (ap (λ x. if to == r then old to c || x else now r c && not (from == r)) (same from)
+    ∙ ap (λ x. if to == r then old to c || old from c else x && not (from == r)) (same r))
+
+pub one_word_moved : (n from to : ℕ) (old now next : ℕ → ℕ → Bool) → ((r c : ℕ) → next r c ≡ (if n == c / 64 then row_moved from to now r c else now r c))
+    → WordsMoved n from to old now → WordsMoved (n + 1) from to old next
+one_word_moved n from to old now next moves h r c = elim (cases_eq n (c / 64)) [
+  | inr other ↦
+      moves r c ∙ (ap (λ b. if b then row_moved from to now r c else now r c) (ne_eqb n (c / 64) other)
+      ∙ (h r c ∙ ap (λ b. if b then row_moved from to old r c else old r c) (sym (same_below (c / 64) n other))))
+  | inl same ↦
+      moves r c ∙ (ap (λ b. if b then row_moved from to now r c else now r c) (eq-eqb n (c / 64) same)
+      ∙ (same_column from to r c old now (λ x. h x c ∙ ap (λ b. if b then row_moved from to old x c else old x c) (not_below (c / 64) n (omega (arith, same))))
+      ∙ ap (λ b. if b then row_moved from to old r c else old r c) (sym (below (c / 64) (n + 1) (omega (arith, same))))))
+]
+
+pub all_words_moved : (n from to : ℕ) (old now : ℕ → ℕ → Bool) → ((r c : ℕ) → 64 * n ≤ c → old r c ≡ false) → WordsMoved n from to old now → (r c : ℕ) → now r c ≡ row_moved from to old r c
+all_words_moved n from to old now past h r c = elim (cases_lt (c / 64) n) [
+  | inl lt ↦ h r c ∙ ap (λ b. if b then row_moved from to old r c else old r c) (below (c / 64) n lt)
+  | inr ge ↦ h r c ∙ (ap (λ b. if b then row_moved from to old r c else old r c) (not_below (c / 64) n ge) ∙ none (to == r) (omega (arith, ge)))
+]
+  where
+    none : (b : Bool) → 64 * n ≤ c → old r c ≡ (if b then old to c || old from c else old r c && not (from == r))
+    none true ge = past r c ge ∙ sym (ap (λ x. x || old from c) (past to c ge) ∙ past from c ge)
+    none false ge = past r c ge ∙ sym (ap (λ x. x && not (from == r)) (past r c ge))

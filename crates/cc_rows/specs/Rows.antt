@@ -1,0 +1,46 @@
+-- A row of bits, and rows of bits of one width, one behind the other.
+use Rattle.std.specs.Prelude.{ℕ, ◌+◌, ◌*◌, ◌/◌, ◌%◌, ◌^◌, List, get_or, Bool, ◌==◌, ◌&&◌, ◌||◌, not, nat_lt, length, if◌then◌else◌, ◌≤◌}
+use Rattle.std.specs.Int.{bit_at}
+
+-- a row is a list of words of 64 bits: bit k % 64 of word k / 64 says whether it holds number k; what is past its end it does not hold
+abbrev pub holds : (row : List ℕ) → (k : ℕ) → Bool
+holds row k = bit_at (get_or row (k / 64) 0) (k % 64) == 1
+
+-- rows of so many words each
+pub record Table : Type 0 where
+  pub width : ℕ
+  pub words : List ℕ
+
+-- the number that a table's words hold for bit c of row r
+abbrev pub key : (width r c : ℕ) → ℕ
+key width r c = 64 * (width * r) + c
+
+-- bit c of row r; there is none past a row's width, nor past the last row
+abbrev pub has : Table → (r c : ℕ) → Bool
+has t r c = nat_lt c (64 * t.width) && holds t.words (key t.width r c)
+
+-- the most words of a row of a table, the most rows, the most words of all
+abbrev pub most_width : ℕ
+most_width = 16
+
+abbrev pub most_rows : ℕ
+most_rows = 2 ^ 32
+
+abbrev pub most_words : ℕ
+most_words = 2 ^ 36
+
+-- rows of so many words, and none past so many rows
+pub record AreRows (width rows : ℕ) (words : List ℕ) : Type 0 where
+  pub narrow : width ≤ most_width
+  pub low : rows ≤ most_rows
+  pub few : length words ≤ width * rows
+
+-- a line of bits of which one has moved to another place; bits of which those of one column have, or of one row
+abbrev pub moved : (from to : ℕ) → (ℕ → Bool) → (place : ℕ) → Bool
+moved from to bit k = if to == k then bit to || bit from else bit k && not (from == k)
+
+abbrev pub column_moved : (from to : ℕ) → (ℕ → ℕ → Bool) → (r c : ℕ) → Bool
+column_moved from to bit r c = moved from to (bit r) c
+
+abbrev pub row_moved : (from to : ℕ) → (ℕ → ℕ → Bool) → (r c : ℕ) → Bool
+row_moved from to bit r c = moved from to (λ x. bit x c) r

@@ -1,0 +1,190 @@
+//! One row of bits: a set of numbers.
+
+ghost use Rattle.std.specs.Prelude.{◌≡◌, ℕ, ◌+◌, ◌*◌, ◌/◌, ◌%◌, ◌^◌, ◌<◌, ◌≤◌, ◌==◌, ◌||◌, ◌&&◌, not, [], get_or, length, slice_index, IsTrue, IsFalse, IfOk, IfErr};
+ghost use Rattle.std.specs.Int.{bit_at};
+ghost use Rattle.cc_rows.specs.Rows.{holds, most_words};
+
+use std::alloc::{AllocError, Global};
+use std::marker::Model;
+
+/// A set of numbers. Contracts see its words.
+#[derive(Drop)]
+pub struct BitRow {
+    words: Vec<u64>,
+}
+
+impl Model for BitRow {
+    ghost use Rattle.std.specs.Prelude.{List, ℕ, ◌≤◌, length};
+    ghost use Rattle.cc_rows.specs.Rows.{most_words};
+
+    ghost Value = { List ℕ };
+
+    ghost view = { λ s. s.words.items };
+
+    ghost invariant = { λ s. length s.words.items ≤ most_words };
+}
+
+impl BitRow {
+    /// No number. It takes no memory.
+    pub fn new(alloc: Global) -> BitRow
+        ensures { result ≡ [] }
+    {
+        BitRow {
+            words: Vec::new(alloc),
+        }
+    }
+
+    /// Its words: number k is bit k % 64 of word k / 64, and none past their end is in the set.
+    pub fn words(&self) -> &[u64]
+        ensures words { result.now ≡ self.now }
+        ensures few { length self.now ≤ most_words }
+    {
+        self.words.as_slice()
+    }
+
+    /// A word; those past the end are 0.
+    pub fn word(&self, at: usize) -> u64
+        ensures { result ≡ get_or self.now at 0 }
+    {
+        word_at(self.words.as_slice(), at)
+    }
+
+    /// Whether a number is in it.
+    pub fn contains(&self, k: usize) -> bool
+        ensures { result ≡ holds self.now k }
+    {
+        let word = word_at(self.words.as_slice(), k / 64);
+        (word >> (k % 64)) & 1 == 1
+    }
+
+    /// The same set once more.
+    pub fn copy(&self, alloc: Global) -> Result<BitRow, AllocError>
+        ensures { IfOk result (λ made. made ≡ self.now) }
+    {
+        let mut words = Vec::new(alloc);
+        words.extend_from_slice(self.words.as_slice())?;
+        Ok(BitRow { words })
+    }
+
+    /// The same set once more, with memory for so many words behind its end.
+    pub(crate) fn copy_with_room(&self, alloc: Global, room: usize) -> Result<BitRow, AllocError>
+        requires { room ≤ most_words }
+        ensures { IfOk result (λ made. made ≡ self.now) }
+    {
+        let own = self.words.as_slice();
+        let mut words = Vec::with_capacity(alloc, own.len() + room)?;
+        words.extend_from_slice(own)?;
+        Ok(BitRow { words })
+    }
+
+    /// Puts a number in. Without memory the set stays as it was.
+    pub fn insert(&mut self, k: usize) -> Result<(), AllocError>
+        requires { k / 64 < most_words }
+        ensures added { IfOk result (λ _. (i : ℕ) → holds self.new i ≡ (k == i || holds self.old i)) }
+        ensures few { (most : ℕ) → length self.old ≤ most → k / 64 < most → length self.new ≤ most }
+        ensures leaves { IfErr result (λ _. self.new ≡ self.old) }
+    {
+        let at = k / 64;
+        grow(&mut self.words, at + 1)?;
+        self.words[at] |= 1 << (k % 64);
+        Ok(())
+    }
+
+    /// Takes a number out.
+    pub fn remove(&mut self, k: usize)
+        ensures removed { (i : ℕ) → holds self.new i ≡ (holds self.old i && not (k == i)) }
+        ensures long { length self.new ≡ length self.old }
+    {
+        let at = k / 64;
+        if at < self.words.len() {
+            self.words[at] &= !(1 << (k % 64));
+        }
+    }
+
+    /// Takes out the numbers of one word.
+    pub(crate) fn clear_word(&mut self, at: usize)
+        ensures cleared { (i : ℕ) → holds self.new i ≡ (holds self.old i && not (at == i / 64)) }
+        ensures long { length self.new ≡ length self.old }
+    {
+        if at < self.words.len() {
+            self.words[at] = 0;
+        }
+    }
+
+    /// Puts in the numbers whose bits are set in a word, as those of the word at that place. Without memory the set stays as it was.
+    pub(crate) fn put_word(&mut self, at: usize, word: u64) -> Result<(), AllocError>
+        requires { at < most_words }
+        ensures put { IfOk result (λ _. (i : ℕ) → holds self.new i ≡ (holds self.old i || (at == i / 64 && bit_at word (i % 64) == 1))) }
+        ensures few { (most : ℕ) → length self.old ≤ most → at < most → length self.new ≤ most }
+        ensures leaves { IfErr result (λ _. self.new ≡ self.old) }
+    {
+        grow(&mut self.words, at + 1)?;
+        self.words[at] |= word;
+        Ok(())
+    }
+
+    /// Puts in what another set holds, and answers whether anything of it was missing. Without memory the set stays as it was.
+    pub fn join(&mut self, other: &BitRow) -> Result<bool, AllocError>
+        ensures both { IfOk result (λ _. (k : ℕ) → holds self.new k ≡ (holds self.old k || holds other.now k)) }
+        ensures unchanged { IfOk result (λ rose. IsFalse rose → self.new ≡ self.old) }
+        ensures rises { IfOk result (λ rose. IsTrue rose → (k : ℕ) × IsTrue (holds other.now k) × IsFalse (holds self.old k)) }
+        ensures few { (most : ℕ) → length self.old ≤ most → length other.now ≤ most → length self.new ≤ most }
+        ensures leaves { IfErr result (λ _. self.new ≡ self.old) }
+    {
+        if lies_within(other.words.as_slice(), self.words.as_slice()) {
+            return Ok(false);
+        }
+        grow(&mut self.words, other.words.len())?;
+        put_all(&mut self.words, other.words.as_slice());
+        Ok(true)
+    }
+}
+
+/// A word of a row; those past its end are 0.
+fn word_at(words: &[u64], at: usize) -> u64
+    ensures { result ≡ slice_index words.now at }
+{
+    match words.get(at) {
+        Some(word) => *word,
+        None => 0,
+    }
+}
+
+/// Makes a row no shorter than so many words. Without memory it stays as it was.
+fn grow(words: &mut Vec<u64>, least: usize) -> Result<(), AllocError>
+    ensures same { (k : ℕ) → slice_index words.new.items k ≡ slice_index words.old.items k }
+    ensures long { IfOk result (λ _. least ≤ length words.new.items) }
+    ensures few { (most : ℕ) → length words.old.items ≤ most → least ≤ most → length words.new.items ≤ most }
+    ensures leaves { IfErr result (λ _. words.new.items ≡ words.old.items) }
+{
+    if words.len() < least {
+        words.resize(least, 0)?;
+    }
+    Ok(())
+}
+
+/// Whether one row holds nothing that the other does not.
+fn lies_within(some: &[u64], all: &[u64]) -> bool
+    ensures within { IsTrue result → (k : ℕ) → IsTrue (holds some.now k) → IsTrue (holds all.now k) }
+    ensures not_within { IsFalse result → (k : ℕ) × IsTrue (holds some.now k) × IsFalse (holds all.now k) }
+{
+    for (at, word) in some.iter().enumerate() {
+        let other = word_at(all, at);
+        let word = *word;
+        if word & !other != 0 {
+            return false;
+        }
+    }
+    true
+}
+
+/// Puts what one row holds into another that is no shorter.
+fn put_all(into: &mut Vec<u64>, from: &[u64])
+    requires { length from.now ≤ length into.old.items }
+    ensures long { length into.new.items ≡ length into.old.items }
+    ensures both { (k : ℕ) → holds into.new.items k ≡ (holds into.old.items k || holds from.now k) }
+{
+    for (at, word) in from.iter().enumerate() {
+        into[at] |= *word;
+    }
+}

@@ -1,0 +1,209 @@
+//! Sets of equations without a contradiction. What lies in this file alone is how a set is kept: as rows of bits, a row for each
+//! pseudo-register, and in it a bit for each location. Rows past the last one with an equation take no memory, and rows are no wider than
+//! the locations of the function ask.
+
+ghost use Rattle.std.specs.Prelude.{◌≡◌, ◌<◌, ◌≤◌, ◌^◌, ◌↔◌, ◌≢◌, ◌==◌, ◌&&◌, ◌∷◌, [], ℕ, Some, Contains, if◌then◌else◌, IfOk, IfErr, IsTrue, IsFalse};
+ghost use Rattle.cc_flow.specs.Lattice.{Equivalent};
+ghost use Rattle.cc_rows.specs.Rows.{has, most_width, most_rows};
+ghost use Rattle.cc_ltl.specs.Ltl.{same_location};
+ghost use Rattle.cc_validate.specs.Equations.{before_move, before_moves, equation};
+ghost use Rattle.cc_validate.specs.Solution.{IsAtEntry};
+ghost use Rattle.cc_validate.specs.internal.Facts.{Below, join as join_of};
+ghost use Rattle.cc_validate.specs.internal.Room.{room as room_of, IsPlace};
+ghost use Rattle.cc_validate.specs.internal.Table.{number as number_of};
+ghost use Rattle.cc_validate.specs.internal.Carried.{AreCarried, AreLeft, AreWith, IsEntryBit};
+ghost use Rattle.cc_ltl.specs.declared.location.Location.TheVariants.{Register as in_register};
+ghost use Rattle.cc_validate.specs.declared.equation.Equation.{Equation};
+
+use crate::equation::Equation;
+use crate::moves::{source, target};
+use cc_ltl::{Location, Move};
+use cc_rows::BitRows;
+use std::alloc::{AllocError, Global};
+use std::marker::Model;
+
+// Parameters stand in x10 and up.
+const FIRST_ARGUMENT: usize = 10;
+
+/// A set of equations. Contracts see a list of them, in no order that counts.
+#[derive(Drop)]
+pub struct Equations {
+    bits: BitRows,
+}
+
+impl Model for Equations {
+    ghost use Rattle.std.specs.Prelude.{List};
+    ghost use Rattle.cc_validate.specs.declared.equation.Equation.{Equation};
+    ghost use Rattle.cc_validate.specs.internal.Table.{listed, AreEquations};
+
+    ghost Value = { List Equation };
+
+    ghost view = { λ s. listed s.bits };
+
+    ghost invariant = { λ s. AreEquations s.bits };
+}
+
+/// The bit of a location: registers, then slots.
+fn number(location: Location) -> usize
+    ensures number { result ≡ number_of location }
+    ensures place { IsPlace location }
+{
+    match location {
+        Location::Register(register) => register.number() as usize,
+        Location::Slot(slot) => 32 + slot.number() as usize,
+    }
+}
+
+/// The row of an equation.
+fn row(e: &Equation) -> usize
+    ensures row { result ≡ e.now.register }
+    ensures fits { e.now.register < 2 ^ 32 }
+{
+    e.register as usize
+}
+
+impl Equations {
+    /// None. It takes no memory.
+    pub fn new(alloc: Global) -> Equations
+        ensures { result ≡ [] }
+    {
+        Equations {
+            bits: BitRows::new(alloc),
+        }
+    }
+
+    /// The same set once more, with room for so many words of locations.
+    pub fn copy(&self, width: usize) -> Result<Equations, AllocError>
+        requires { width ≤ most_width }
+        ensures { IfOk result (λ made. made ≡ self.now) }
+    {
+        Ok(Equations {
+            bits: self.bits.copy(width)?,
+        })
+    }
+
+    /// Puts an equation in.
+    pub fn add(&mut self, e: Equation) -> Result<(), AllocError>
+        ensures added { IfOk result (λ _. AreWith (e ∷ []) self.old self.new) }
+        ensures leaves { IfErr result (λ _. self.new ≡ self.old) }
+    {
+        self.bits.insert(row(&e), number(e.location))?;
+        Ok(())
+    }
+
+    /// Puts in what another set has, and answers whether anything of it was missing. Without memory the set stays as it was.
+    pub fn join(&mut self, other: &Equations) -> Result<bool, AllocError>
+        ensures both { IfOk result (λ _. Equivalent Below (Some self.new) (join_of (Some self.old) (Some other.now))) }
+        ensures unchanged { IfOk result (λ rose. IsFalse rose → self.new ≡ self.old) }
+        ensures rises { IfOk result (λ rose. IsTrue rose → room_of (Some self.new) < room_of (Some self.old)) }
+        ensures leaves { IfErr result (λ _. self.new ≡ self.old) }
+    {
+        let rose = self.bits.join(&other.bits)?;
+        Ok(rose)
+    }
+
+    /// Becomes what has to hold in front of moves, so that it holds behind them.
+    pub fn carry(self, moves: &[Move]) -> Result<Equations, AllocError>
+        ensures { IfOk result (λ made. AreCarried (before_moves moves.now) self made) }
+    {
+        let mut made = self;
+        let mut left = moves.len();
+        while left > 0 {
+            left -= 1;
+            made = made.carry_one(&moves[left])?;
+        }
+        Ok(made)
+    }
+
+    /// The same of one move: what its target held, its source holds.
+    fn carry_one(self, m: &Move) -> Result<Equations, AllocError>
+        ensures { IfOk result (λ made. AreCarried (before_move m.now) self made) }
+    {
+        let Equations { mut bits } = self;
+        bits.move_column(number(target(m)), number(source(m)))?;
+        Ok(Equations { bits })
+    }
+
+    /// Puts one pseudo-register for another.
+    pub fn rename(self, to: u32, from: u32) -> Result<Equations, AllocError>
+        ensures { IfOk result (λ made. AreCarried (λ e. equation (if to == e.register then from else e.register) e.location) self made) }
+    {
+        let Equations { mut bits } = self;
+        bits.move_row(to as usize, from as usize)?;
+        Ok(Equations { bits })
+    }
+
+    /// Takes an equation out.
+    pub fn remove(&mut self, e: Equation)
+        ensures { AreLeft (λ x. e.register == x.register && same_location e.location x.location) self.old self.new }
+    {
+        self.bits.remove(row(&e), number(e.location));
+    }
+
+    /// What the types of their fields say of its equations.
+    pub fn fit(&self)
+        ensures { (e : Equation) → Contains self.now e → (e.register < 2 ^ 32) × IsPlace e.location }
+    {
+        let _bits = &self.bits;
+    }
+
+    /// Whether there is an equation on a pseudo-register.
+    pub fn has_register(&self, register: u32) -> bool
+        ensures some { IsTrue result → (e : Equation) × Contains self.now e × (e.register ≡ register) }
+        ensures none { IsFalse result → (e : Equation) → Contains self.now e → e.register ≢ register }
+    {
+        !self.bits.is_row_empty(register as usize)
+    }
+
+    /// Whether there is an equation on the register of this number.
+    pub fn has_place(&self, number: u8) -> bool
+        requires { number < 32 }
+        ensures some { IsTrue result → (e : Equation) × Contains self.now e × (e.location ≡ in_register number) }
+        ensures none { IsFalse result → (e : Equation) → Contains self.now e → e.location ≢ in_register number }
+    {
+        !self.bits.is_column_empty(number as usize)
+    }
+
+    /// Whether parameters alone are known, each at its location.
+    pub fn are_at_entry(&self, parameters: u32) -> bool
+        ensures { IsTrue result ↔ ((e : Equation) → Contains self.now e → IsAtEntry parameters e) }
+    {
+        let _bits = &self.bits;
+        are_entry_bits(&self.bits, parameters)
+    }
+}
+
+/// Whether each bit is that of a parameter and its location.
+fn are_entry_bits(bits: &BitRows, parameters: u32) -> bool
+    ensures all { IsTrue result → (r c : ℕ) → IsTrue (has bits.now r c) → IsEntryBit parameters r c }
+    ensures other { IsFalse result → (r c : ℕ) × IsTrue (has bits.now r c) × (IsEntryBit parameters r c → ⊥) }
+{
+    for r in 0..bits.rows() {
+        if !is_entry_row(bits, parameters, r) {
+            return false;
+        }
+    }
+    true
+}
+
+/// The same of one row.
+fn is_entry_row(bits: &BitRows, parameters: u32, r: usize) -> bool
+    requires { r < most_rows }
+    ensures all { IsTrue result → (c : ℕ) → IsTrue (has bits.now r c) → IsEntryBit parameters r c }
+    ensures other { IsFalse result → (c : ℕ) × IsTrue (has bits.now r c) × (IsEntryBit parameters r c → ⊥) }
+{
+    for c in 0..bits.columns() {
+        if bits.contains(r, c) && !is_entry_bit(parameters, r, c) {
+            return false;
+        }
+    }
+    true
+}
+
+/// Parameter i is in x(10 + i), and the last register is x31.
+fn is_entry_bit(parameters: u32, r: usize, c: usize) -> bool
+    requires { r < most_rows }
+    ensures { IsTrue result ↔ IsEntryBit parameters r c }
+{
+    r < parameters as usize && c == FIRST_ARGUMENT + r && c < 32
+}
