@@ -50,7 +50,8 @@ use Rattle.cc_service.specs.Book.{BookView}
 use Rattle.cc_service.specs.Answers.{CommitAnswers, IsDone, IsRefused, failed_in}
 use Rattle.cc_service.specs.Disk.{ChangesDisk}
 use Rattle.cc_service.specs.Core.{Shows, ShowsDisk, ShowsOrder, Has, IsPhase, Steps, IsCommitOf, done_steps, refused_steps, failed_first, failed_last}
-use Rattle.cc_service.proofs.Disks.{begin_most, within_is_image, within_is_written, written_same, committed_same, first_byte_kept}
+use Rattle.cc_core.proofs.Held.{begin_most}
+use Rattle.cc_service.proofs.Disks.{within_is_image, within_is_written, written_same, committed_same, first_byte_kept}
 
 -- ---- what the core's Begin comes to
 

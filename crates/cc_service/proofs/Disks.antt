@@ -6,13 +6,7 @@ use Rattle.cc_disk.specs.Model.{bytes_of, IsImage, unsettled, written, synced}
 use Rattle.cc_disk.specs.Images.{DiffersWithin, IsWritten}
 use Rattle.cc_disk.specs.internal.Laws.{bytes_are_image}
 use Rattle.cc_disk.proofs.Cells.{bytes_of-written, bytes_of-synced}
-use Rattle.cc_journal.specs.Commit.{Commit, IsCommitted, area_begin}
-use Rattle.cc_journal.proofs.Rewriting.{sides}
-
--- ---- where an area begins: behind the header, or behind the first area
-
-pub begin_most : (byte area : ℕ) → area_begin byte area ≤ 16 + area
-begin_most byte area = elim (sides byte area) [ inl h ↦ omega (arith, h.0) | inr h ↦ omega (arith, h.0) ]
+use Rattle.cc_journal.specs.Commit.{Commit, IsCommitted}
 
 -- ---- images of a disk with a range unsettled
 
