@@ -208,7 +208,23 @@ impl Came {
         }
         came
     }
+
+    // The four counts, as they come back from a thread.
+    fn counts(self) -> Counts {
+        (self.whole, self.no_memory, self.lost, self.other)
+    }
+
+    fn of((whole, no_memory, lost, other): Counts) -> Came {
+        Came {
+            whole,
+            no_memory,
+            lost,
+            other,
+        }
+    }
 }
+
+type Counts = (u32, u32, u32, u32);
 
 // Hands a unit in so many times, and collects its pieces each time.
 fn hand_in<N, R>(
@@ -218,7 +234,7 @@ fn hand_in<N, R>(
     mut pass: Pass<N>,
     unit: Arc<TypedUnit>,
     times: u32,
-) -> (Pass<N>, Came)
+) -> (Pass<N>, Counts)
 where
     N: Queued + Send + Sync + 'static,
     R: Wait,
@@ -230,7 +246,7 @@ where
             came = came.with(Came::one(unit.functions(), answer));
         }
     }
-    (pass, came)
+    (pass, came.counts())
 }
 
 // What comes of jobs from so many threads, and the number that the pool's end is refused with, 0 for Ok. Where a thread can't be started
@@ -273,7 +289,7 @@ where
     let mut came = Came::nothing();
     for thread in started {
         let (pass, more) = thread.join(rt);
-        came = came.with(more);
+        came = came.with(Came::of(more));
         drop(passes.push(pass));
     }
     match Arc::try_unwrap(pool) {
