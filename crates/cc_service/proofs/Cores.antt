@@ -50,8 +50,7 @@ use Rattle.cc_service.specs.Book.{BookView}
 use Rattle.cc_service.specs.Answers.{CommitAnswers, IsDone, IsRefused, failed_in}
 use Rattle.cc_service.specs.Disk.{ChangesDisk}
 use Rattle.cc_service.specs.Core.{Shows, ShowsDisk, ShowsOrder, Has, IsPhase, Steps, IsCommitOf, done_steps, refused_steps, failed_first, failed_last}
-use Rattle.cc_core.proofs.Held.{begin_most}
-use Rattle.cc_service.proofs.Disks.{within_is_image, within_is_written, written_same, committed_same, first_byte_kept}
+use Rattle.cc_service.proofs.Disks.{begin_most, begin_least, within_is_image, within_is_written, written_same, committed_same, first_byte_kept}
 
 -- ---- what the core's Begin comes to
 
@@ -203,7 +202,7 @@ module _ {D : Type 0} (seen : D → List ℕ) (may_leave : D → List ℕ → Ty
         holds = λ h _.
             let old = shows.holds h idle in
             let new = (facts h).0 in
-            let kept = first_byte_kept (append_of store c) (seen view.disk) (seen disk) (omega arith) (omega arith) (omega (arith, old.0.is_area.room)) (settled h).0 in
+            let kept = first_byte_kept (append_of store c) (seen view.disk) (seen disk) (omega (arith, begin_least store.area_byte store.area)) (omega (arith, begin_least store.area_byte store.area)) (omega (arith, old.0.is_area.room)) (settled h).0 in
             let was : get_or (seen view.disk) 0 0 ≡ old.0.area_byte = ap (λ (l : List ℕ). get_or l 0 0) old.0.bytes in
             let is : get_or (seen disk) 0 0 ≡ new.area_byte = ap (λ (l : List ℕ). get_or l 0 0) new.bytes in
             (new, sym is ∙ kept ∙ was ∙ old.1);

@@ -1,12 +1,26 @@
 -- A store of the core that shows a library's disk shows it after the steps of a commit, done or failed.
-use Rattle.std.proofs.Common.{◌≡◌, ℕ, zero, suc, ◌+◌, ◌≤◌, List, [], ◌∷◌, ◌++◌, length, take, drop, map, get_or, sym, ap, ◌∙◌, subst, arith, length-append, length-drop}
+use Rattle.std.proofs.Common.{◌≡◌, ℕ, zero, suc, ◌+◌, ◌*◌, ◌%◌, ◌<◌, ◌≤◌, List, [], ◌∷◌, ◌++◌, length, take, drop, map, get_or, sym, ap, ◌∙◌, subst, arith, length-append, length-drop}
+use Rattle.std.proofs.lemmas.Nat.{mod_below}
 use Rattle.std.proofs.lemmas.List.{length-map, length-take-le, take-append-drop, drop-drop, take-map, drop-map}
 use Rattle.cc_disk.specs.declared.cell.Cell.{Cell}
 use Rattle.cc_disk.specs.Model.{bytes_of, IsImage, unsettled, written, synced}
 use Rattle.cc_disk.specs.Images.{DiffersWithin, IsWritten}
 use Rattle.cc_disk.specs.internal.Laws.{bytes_are_image}
 use Rattle.cc_disk.proofs.Cells.{bytes_of-written, bytes_of-synced}
-use Rattle.cc_journal.specs.Commit.{Commit, IsCommitted}
+use Rattle.cc_journal.specs.Commit.{Commit, IsCommitted, area_begin}
+
+-- ---- where an area begins: behind the header, or behind the first area
+
+part_most : (b n : ℕ) → b < 2 → b * n ≤ n
+part_most zero n below = omega arith
+part_most (suc zero) n below = omega arith
+part_most (suc (suc b)) n below = absurd (omega arith)
+
+pub begin_most : (byte area : ℕ) → area_begin byte area ≤ 16 + area
+begin_most byte area = let le = part_most (byte % 2) area (mod_below byte 2 (omega arith)) in omega arith
+
+pub begin_least : (byte area : ℕ) → 16 ≤ area_begin byte area
+begin_least byte area = omega arith
 
 -- ---- images of a disk with a range unsettled
 

@@ -27,8 +27,7 @@ use Rattle.cc_service.specs.Answers.{CompactAnswers}
 use Rattle.cc_service.specs.Disk.{CompactsDisk}
 use Rattle.cc_service.specs.Core.{IsPhase, IsRewriteOf, Shows, Steps, rewritten_steps, rewrite_failed_first, rewrite_failed_last}
 use Rattle.cc_service.proofs.Cores.{has_byte, length-cells, length-written, order_same, phase_at}
-use Rattle.cc_core.proofs.Held.{begin_most}
-use Rattle.cc_service.proofs.Disks.{committed_same, within_is_image, written_same}
+use Rattle.cc_service.proofs.Disks.{begin_most, committed_same, within_is_image, written_same}
 
 module _ {D P : Type 0} (rules : Rules P) (honest : Bool) (seen : D → List ℕ) (may_leave : D → List ℕ → Type 0) where
   abbrev Shown : BookView D → Contents P → Type 0
