@@ -3,9 +3,9 @@
 //!
 //! `compile FILE TIMES` and `count FILE` compile a text or count what its image executes (`compiler`); `list COUNT` adds to an
 //! instruction list (`list`); `machine CODE GLOBALS STEPS [WORD..]` runs words on the simulator (`machine`); `passes TASK FILE TIMES`
-//! does the passes up to the validator (`passes`); `pool TASK FILE NUMBER..` has a pool of workers compile (`pool`); `store TASK FILE
-//! [NUMBER..]` works on a library of units on a file (`store`). `arguments` reads the command line, `words` files of words, and `units`
-//! makes units and their names.
+//! does the passes up to the validator (`passes`); `pool TASK FILE NUMBER..` has a pool of workers compile (`pool`); `stands SOURCE
+//! WORDS TIMES` looks whether a receipt stands (`stands`); `store TASK FILE [NUMBER..]` works on a library of units on a file
+//! (`store`). `arguments` reads the command line, `words` files of words, and `units` makes units and their names.
 #![tactic(auto)]
 
 mod arguments;
@@ -14,6 +14,7 @@ mod list;
 mod machine;
 mod passes;
 mod pool;
+mod stands;
 mod store;
 mod units;
 mod words;
@@ -52,9 +53,10 @@ fn perform(rt: &HostRuntime, task: &str, arguments: &mut Args) -> Result<()> {
         "list" => list::perform(rt, arguments)?,
         "machine" => return machine::run(rt, arguments),
         "passes" => passes::perform(rt, arguments)?,
+        "stands" => stands::look_again(rt, arguments)?,
         "store" => store::perform(rt, arguments)?,
         _ => bail!(
-            "usage: bench compile|count|list|machine|passes|pool|store WORD.. [, TASK WORD..]"
+            "usage: bench compile|count|list|machine|passes|pool|stands|store WORD.. [, TASK WORD..]"
         ),
     }
     end_of_task(arguments)
