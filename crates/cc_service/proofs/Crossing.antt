@@ -4,7 +4,7 @@ use denote.Param.Send.{IsSend, IsSync, sendable, recorded_send, recorded_sync, v
 use denote.Struct.Declared.{shape}
 use denote.Enum.Declared.{shape as enum_shape}
 use Rattle.std.proofs.Crossing.{crosses, Arc-send, Arc-sync, Vec-send, Vec-sync}
-use Rattle.std.proofs.MapsCrossing.{BTreeMap-send, BTreeMap-sync}
+use Rattle.std.proofs.MapsCrossing.{BTreeMap-send}
 use Rattle.cc_disk.specs.declared.disk.Disk.{Ghosts}
 use Rattle.cc_disk.specs.contracts.history.History as History
 use Rattle.cc_disk.specs.contracts.count.FailureCount as Count
@@ -49,7 +49,7 @@ use Rattle.cc_history.specs.contracts.entry.SharedEntry as SharedEntry
 use Rattle.cc_history.specs.contracts.entry.SharedEntry.TheInside as entries
 use Rattle.cc_history.specs.contracts.entry.Receipt as Receipt
 
-history_send : (T : RattleType) → IsSend T → IsSend (History.the_row T)
+pub history_send : (T : RattleType) → IsSend T → IsSend (History.the_row T)
 history_send T s = search (sendable, crosses) depth 20
 
 count_send : IsSend Count.the_row
@@ -118,10 +118,10 @@ shared_send = view_send _ _ _ _ _ (recorded_send shared.the_field.row _ _ shared
 shared_sync : IsSync SharedUnit.the_row
 shared_sync = view_sync _ _ _ _ _ (recorded_sync shared.the_field.row _ _ shared.the_type.to_one (struct_sync (shape shared.the_type) (Arc-sync _ stored_send stored_sync, tt)))
 
-change_send : IsSend Change.the_row
+pub change_send : IsSend Change.the_row
 change_send = let n = name_send in let s = Arc-send _ stored_send stored_sync in search (sendable, crosses) depth 20 fits 10000
 
-map_send : IsSend UnitMap.the_row
+pub map_send : IsSend UnitMap.the_row
 map_send = view_send _ _ _ _ _ (recorded_send maps.the_field.row _ _ maps.the_type.to_one (struct_send (shape maps.the_type) (BTreeMap-send _ _ _ eq.ghosts partial.ghosts name_send shared_send, tt)))
 
 pub library_send : (D : RattleType) (d : Ghosts D.Denot) → IsSend D → IsSend (Library.the_row D d)
@@ -163,8 +163,8 @@ entry_send = recorded_send _ _ _ Entry.the_type.to_one (struct_send (shape Entry
 entry_sync : IsSync Entry.the_row
 entry_sync = recorded_sync _ _ _ Entry.the_type.to_one (struct_sync (shape Entry.the_type) (search sendable, (search sendable, (asked_sync, (reply_sync, tt)))))
 
-shared_entry_send : IsSend SharedEntry.the_row
+pub shared_entry_send : IsSend SharedEntry.the_row
 shared_entry_send = view_send _ _ _ _ _ (recorded_send entries.the_field.row _ _ entries.the_type.to_one (struct_send (shape entries.the_type) (Arc-send _ entry_send entry_sync, tt)))
 
-receipt_send : IsSend Receipt.the_row
+pub receipt_send : IsSend Receipt.the_row
 receipt_send = recorded_send _ _ _ Receipt.the_type.to_one (struct_send (shape Receipt.the_type) (search sendable, (shared_entry_send, tt)))
