@@ -1,7 +1,7 @@
 // A device that fails at each call of a script: what is answered then and later, and what a crash leaves.
 use crate::book::playing::{State, play};
 use crate::helpers::{SIZE, formatted, opened};
-use crate::model::{Call, Change, Model, shows};
+use crate::model::{Call, Change, shows};
 use cc_disk::{FuseDisk, FuseMode, MemoryDisk};
 use std::alloc::Global;
 use std::sync::Wait;
@@ -30,11 +30,13 @@ const OPENING: u64 = 6;
 // Whether the library on a disk after a crash has what was acknowledged, with or without the change that failed.
 fn is_promised(alloc: Global, disk: MemoryDisk, state: &State) -> Result<bool, Fail> {
     let library = opened(alloc, disk)?;
-    let with: Model = match &state.failed {
-        Some((_, model)) => *model,
-        None => state.model,
-    };
-    Ok(shows(alloc, &library, &state.model)? || shows(alloc, &library, &with)?)
+    if shows(alloc, &library, &state.model)? {
+        return Ok(true);
+    }
+    match &state.failed {
+        Some((_, with)) => shows(alloc, &library, with),
+        None => Ok(false),
+    }
 }
 
 // Plays the calls on a device that passes so many of its calls: the place of the one answered 35. An error where a crash leaves another

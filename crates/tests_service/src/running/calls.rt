@@ -1,7 +1,7 @@
 // Calls of one client, and of two in threads.
 ghost use Rattle.std.specs.Prelude.{◌≡◌};
 
-use super::starting::{ALL, Begun, Fused, SMALL, alone, both, number, opened, prepared};
+use super::starting::{ALL, Begun, Fused, SMALL, absent_at, alone, both, number, opened, prepared};
 use cc_pool::NoGate;
 use cc_service::{BookFault, Client, MOST_CLIENTS, Named, ServiceFault};
 use std::alloc::Global;
@@ -34,12 +34,8 @@ where
         && got.unit().stored().source.bytes() == SMALL;
     let gone = service.withdraw(rt, alloc, &mut client, b"a")?;
     right = right && gone.number == 3;
-    match service.get(rt, alloc, &mut client, b"a") {
-        Err(ServiceFault::Book(BookFault::Absent(receipt))) => {
-            right = right && receipt.number == 4;
-        }
-        _ => right = false,
-    }
+    let absent = service.get(rt, alloc, &mut client, b"a");
+    right = right && absent_at(&absent) == 4;
     let Err((fault, service, clients)) = service.finish(rt, alloc, Vec::new(alloc)) else {
         return Ok(false);
     };

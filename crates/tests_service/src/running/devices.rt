@@ -2,12 +2,12 @@
 ghost use Rattle.std.specs.Prelude.{◌≡◌};
 
 use super::starting::{
-    Begun, Device, Fused, OPENING, SMALL, alone, holds, number, opened, prepared,
+    Begun, Device, Fused, OPENING, SMALL, absent_at, alone, holds, number, opened, prepared,
 };
 use crate::helpers::TEXTS;
 use crate::model::{EMPTY, Model, are_names};
 use cc_pool::NoGate;
-use cc_service::{BookFault, Client, Named, Service, ServiceFault};
+use cc_service::{Client, Named, Service};
 use std::alloc::Global;
 use std::marker::Brand;
 use std::sync::Wait;
@@ -32,12 +32,8 @@ where
     let mut client = service.client(rt, alloc)?;
     let mut right = number(service.add(rt, alloc, &mut client, b"a", SMALL)) == 35
         && number(service.add(rt, alloc, &mut client, b"b", SMALL)) == 36;
-    match service.get(rt, alloc, &mut client, b"a") {
-        Err(ServiceFault::Book(BookFault::Absent(receipt))) => {
-            right = right && receipt.number == 1;
-        }
-        _ => right = false,
-    }
+    let absent = service.get(rt, alloc, &mut client, b"a");
+    right = right && absent_at(&absent) == 1;
     let Ok(closed) = service.finish(rt, alloc, alone(alloc, client)?) else {
         return Ok(false);
     };

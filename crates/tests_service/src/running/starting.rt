@@ -1,5 +1,5 @@
 // Services that begin on a device.
-ghost use Rattle.std.specs.Prelude.{◌≡◌};
+ghost use Rattle.std.specs.Prelude.{◌≡◌, ◌≤◌};
 ghost use Rattle.cc_disk.specs.Model.{bytes_of};
 ghost use Rattle.cc_library.specs.Apply.{Units};
 ghost use Rattle.cc_library.specs.Recovered.{Recovers};
@@ -9,7 +9,7 @@ use crate::model::{Model, shows};
 use cc_disk::{FuseDisk, FuseMode, MemoryDisk};
 use cc_library::UnitMap;
 use cc_pool::Gate;
-use cc_service::{Client, Fresh, Named, Service, ServiceFault};
+use cc_service::{BookFault, Client, Fresh, Named, Service, ServiceFault};
 use std::alloc::Global;
 use std::sync::Wait;
 use std::test::Fail;
@@ -103,6 +103,14 @@ pub fn number<T: Drop>(answer: Result<T, ServiceFault>) -> u32 {
             drop(fault);
             number
         }
+    }
+}
+
+/// The number of the entry that says that a name has no unit; 0 where the answer is another.
+pub fn absent_at<T>(answer: &Result<T, ServiceFault>) -> u64 {
+    match answer {
+        Err(ServiceFault::Book(BookFault::Absent(receipt))) => receipt.number,
+        _ => 0,
     }
 }
 
