@@ -1,5 +1,5 @@
 -- What was read before a service was opened changes nothing of how its session ended.
-use Rattle.std.proofs.Common.{◌≡◌, ◌∙◌, ℕ, ◌+◌, ◌≤◌, List, Bool, IsTrue, Option, Some, None, inl, inr, refl, sym, subst, arith}
+use Rattle.std.proofs.Common.{◌≡◌, ◌∙◌, ℕ, ◌+◌, ◌≤◌, List, [], Bool, false, IsTrue, Option, Some, None, inl, inr, refl, sym, subst, arith}
 use Rattle.std.specs.Prelude.{◌⊎◌}
 use Rattle.cc_disk.specs.Images.{OnlyReads}
 use Rattle.cc_library.specs.Answers.{OpenFaults}
@@ -8,6 +8,9 @@ use Rattle.cc_library.specs.Recovered.{Recovers}
 use Rattle.cc_library.specs.declared.fault.LibraryFault.{LibraryFault}
 use Rattle.cc_library.specs.declared.fault.LibraryFault.TheVariants as library
 use Rattle.cc_journal.specs.Format.{HasHeader}
+use Rattle.cc_history.specs.History.{EachAgrees, IsLegal, units_after}
+use Rattle.cc_service.specs.Book.{BookView, RecoversTo}
+use Rattle.cc_service.specs.Promise.{SurvivesCrash}
 use Rattle.cc_service.specs.Serving.{IsNotOpened}
 use Rattle.cc_service.specs.declared.fault.ServiceFault.{ServiceFault}
 use Rattle.cc_service.specs.declared.fault.ServiceFault.TheVariants as service
@@ -51,6 +54,29 @@ pub unopened_on : (honest : Bool) (seen later : List ℕ) (before after : ℕ) (
 unopened_on honest seen later before after Finished same it = it
 unopened_on honest seen later before after (Fault number) same it =
     (it.0, (it.1.0, (it.1.1.0, not_opened_on honest seen later it.0 before after it.1.0 same it.1.1.1)))
+
+-- What is left of a service that was ended, by what its end says of the book.
+pub kept_by : {D : Type 0} (honest : Bool) (may_leave : D → List ℕ → Type 0) (named : Units) (book : BookView D) (after : D)
+    → after ≡ book.library.disk
+    → (IsTrue honest → book.base ≡ named)
+    → IsLegal book.base book.history
+    → book.library.units ≡ units_after book.base book.history
+    → EachAgrees book.base book.library.units
+    → (book.library.closed ≡ false → book.failed ≡ [])
+    → (IsTrue honest → (image : List ℕ) → may_leave book.library.disk image → RecoversTo book.library.units book.failed image)
+    → (IsTrue honest → (image : List ℕ) → may_leave book.library.disk image → SurvivesCrash book image)
+    → (bytes : List ℕ) → (IsTrue honest → Recovers bytes named) → IsKept honest bytes may_leave after
+kept_by {D} honest may_leave named book after disk base legal map agrees idle images survives bytes begun = record {
+  book = book;
+  disk = sym disk;
+  legal = legal;
+  map = map;
+  agrees = agrees;
+  idle = idle;
+  begun = λ h. subst (λ (units : Units). Recovers bytes units) (sym (base h)) (begun h);
+  images = λ h image leaves. images h image (subst (λ (d : D). may_leave d image) disk leaves);
+  survives = λ h image leaves. survives h image (subst (λ (d : D). may_leave d image) disk leaves);
+}
 
 -- what is left of one whose service was ended
 pub kept_on : {D : Type 0} (honest : Bool) (seen later : List ℕ) (may_leave : D → List ℕ → Type 0) (after : D) → (IsTrue honest → later ≡ seen)
