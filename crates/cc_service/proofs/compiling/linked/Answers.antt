@@ -1,14 +1,15 @@
 -- There is one piece of each function, so linking refuses them for the size of the image alone.
-use Rattle.std.proofs.Common.{◌≡◌, ◌⊎◌, inl, inr, length, List, Err, sym, ap, ◌∙◌}
+use Rattle.std.proofs.Common.{◌≡◌, ◌⊎◌, inl, inr, length, List, Result, Err, sym, ap, ◌∙◌}
 use Rattle.std.specs.Arc.{arc_value}
 use Rattle.cc_syntax.specs.Source.{source}
 use Rattle.cc_syntax.specs.Tree.{Source}
 use Rattle.cc_meaning.specs.Meaning.{functions}
+use Rattle.cc_unit.specs.declared.unit.StoredUnit.{StoredUnit}
 use Rattle.cc_emit.specs.Piece.{Piece}
 use Rattle.cc_link.specs.Linked.{linked}
 use Rattle.cc_link.specs.Pieces.{AreFrom}
 use Rattle.cc_link.specs.declared.fault.LinkFault.{LinkFault}
-use Rattle.cc_link.specs.declared.fault.LinkFault.TheVariants.{ImageTooLarge, OutOfMemory}
+use Rattle.cc_link.specs.declared.fault.LinkFault.TheVariants.{ImageTooLarge, Missing, Doubled, Stranger, OutOfMemory}
 use Rattle.cc_link.proofs.Deciding.{defined_long}
 use Rattle.cc_link.proofs.Own.{only_large}
 use Rattle.cc_service.proofs.compiling.linked.Goals as goal

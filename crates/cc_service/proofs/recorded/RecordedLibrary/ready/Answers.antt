@@ -1,5 +1,6 @@
 use Rattle.std.proofs.Common.{◌≡◌, ◌≢◌, ◌⊎◌, inr, true, false, None, length, sym, ap, ◌∙◌, rules}
 use Rattle.cc_history.specs.Closing.{AreApart}
+use Rattle.cc_service.specs.Answers.{IsNotClosed}
 use Rattle.cc_service.specs.Client.{holders}
 use Rattle.cc_service.specs.declared.fault.BookFault.TheVariants.{Estranged}
 use Rattle.cc_service.specs.internal.Apart.{HaveOwnNumbers}
