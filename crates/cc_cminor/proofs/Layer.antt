@@ -2,7 +2,7 @@
 -- source follows it.
 use Rattle.std.proofs.Common.{◌≡◌, ℕ, zero, suc, List, [], ◌∷◌, ◌++◌, Option, Some, None, option_map, refl, sym, ap, subst}
 use Rattle.cc_syntax.specs.Tree.{External}
-use Rattle.cc_runs.specs.Behavior.{Begins}
+use Rattle.cc_runs.specs.Behavior.{IsPrefixOf}
 use Rattle.cc_runs.specs.World.{World, Question, Answer, element, stored}
 use Rattle.cc_runs.specs.Run.{Move, Goes, Calls, Returns, Fails, tried}
 use Rattle.cc_runs.specs.Cuts.{IsLayer}
@@ -25,7 +25,7 @@ reached h (Goes d) = d.world
 reached h m = h
 
 abbrev Grows : World → Move Config → Type 0
-Grows h m = Begins h.output (reached h m).output
+Grows h m = IsPrefixOf h.output (reached h m).output
 
 skips_grow : (κ : Continuation) (l : ℕ → ℕ) (h : World) → Grows h (moves Skip κ l h)
 skips_grow Ends l h = begins_refl h.output

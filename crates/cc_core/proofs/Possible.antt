@@ -40,7 +40,7 @@ use Rattle.cc_core.specs.Rules.{Rules}
 use Rattle.cc_core.specs.Job.{planned, IsPlanned, with_piece, all_there, verdict}
 use Rattle.cc_core.specs.StoreState.{StoreState}
 use Rattle.cc_core.specs.Store.{stepped, due_after, FailsTo, first_written, rewrite_of, RewriteFailsTo, crashed_store, gate_of, with_cells}
-use Rattle.cc_core.specs.Step.{Step, IsImpossible, IsUp, IsFree, Submits, Takes, Begins, Begun, Advances, Fails, Acknowledges, RewritesAll, RewriteFails, Crashes, Reopens, StepsCore, EndsJob, EndsAll, FailsJob, FailsStep, jobs_begun, ticked, numbered_now}
+use Rattle.cc_core.specs.Step.{Step, IsImpossible, IsUp, IsFree, Submits, Takes, BeginsCommit, Begun, Advances, Fails, Acknowledges, RewritesAll, RewriteFails, Crashes, Reopens, StepsCore, EndsJob, EndsAll, FailsJob, FailsStep, jobs_begun, ticked, numbered_now}
 use Rattle.cc_core.specs.Run.{PutsCommand}
 use Rattle.cc_core.specs.internal.Answers.{Answers}
 use Rattle.cc_core.specs.internal.Ready.{IsRecoverable}
@@ -206,7 +206,7 @@ module _ {P : Type 0} where
   )
 
   pub begins : (rules : Rules P) (old : Contents P) (client : ClientId) (job : Job P) → IsFree old.core.phase → get old.jobs client.number ≡ Some job → IsTrue (all_there job.pieces)
-      → (reply : Option Reply) × (new : Contents P) × Begins rules client old reply new
+      → (reply : Option Reply) × (new : Contents P) × BeginsCommit rules client old reply new
   begins rules old client job free held ready =
       let v = verdict rules old.core.phase old.core.library old.core.store job in
       let b = begun old.core client v in

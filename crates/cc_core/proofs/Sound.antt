@@ -52,7 +52,7 @@ use Rattle.cc_core.specs.Rules.{Rules}
 use Rattle.cc_core.specs.Job.{planned, IsPlanned, source_in, with_piece, closed, verdict}
 use Rattle.cc_core.specs.StoreState.{StoreState}
 use Rattle.cc_core.specs.Store.{IsFormatted, gate_of, stepped, due_after, first_written, rewrite_of, rewrite_stepped, RewriteFailsTo, crashed_store}
-use Rattle.cc_core.specs.Step.{Step, Begins, Begun, Advances, Fails, Acknowledges, RewritesAll, RewriteAdvances, RewriteFails, phase_after, Crashes, Reopens, StepsCore, IsUp, IsFree, IsStart, jobs_begun, ticked, numbered_now, commands}
+use Rattle.cc_core.specs.Step.{Step, BeginsCommit, Begun, Advances, Fails, Acknowledges, RewritesAll, RewriteAdvances, RewriteFails, phase_after, Crashes, Reopens, StepsCore, IsUp, IsFree, IsStart, jobs_begun, ticked, numbered_now, commands}
 use Rattle.cc_core.specs.Run.{EachUnit, IsRightCommand, AreRising, live, EachImageSurvives, EachImageIsRight, PutsCommand, HandsIn, Turn, Run, IsBeginning, IsOpened, IsOfCrash, PutsSource, Commits, LeavesRecord, Rewrites, LeavesCompacted, Reached}
 use Rattle.cc_core.specs.internal.Ready.{IsFitting, IsRewrite, IsRecoverable, IsReady, IsReadyIn}
 use Rattle.cc_core.proofs.Lists.{slice_get-set, slice_get-push, slice_get-last, Contains-slice_get, All-slice_get, take-push}
@@ -612,7 +612,7 @@ module _ {P : Type 0} (rules : Rules P) (keeps : P → Type 0) where
     AllNamed-begun jobs client (Err refused) all = AllNamed-remove jobs client.number all
 
     -- what a beginning needs
-    begins_sound : (client : ClientId) (old : Contents P) (reply : Option Reply) (new : Contents P) → IsSound is_right old → Begins rules client old reply new → PutsCommand old.core new.core → IsSound is_right new
+    begins_sound : (client : ClientId) (old : Contents P) (reply : Option Reply) (new : Contents P) → IsSound is_right old → BeginsCommit rules client old reply new → PutsCommand old.core new.core → IsSound is_right new
     begins_sound client old reply new sound step puts =
         let core = old.core in
         let v = verdict rules core.phase core.library core.store step.job in

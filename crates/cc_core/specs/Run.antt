@@ -29,7 +29,7 @@ use Rattle.cc_core.specs.declared.sequence_number.SequenceNumber.{SequenceNumber
 use Rattle.cc_core.specs.Job.{source_in}
 use Rattle.cc_core.specs.Store.{gate_of, rewrite_of}
 use Rattle.cc_core.specs.Rules.{Rules}
-use Rattle.cc_core.specs.Step.{Step, IsImpossible, IsStart, Advances, RewritesAll, RewriteAdvances, Begins, commands}
+use Rattle.cc_core.specs.Step.{Step, IsImpossible, IsStart, Advances, RewritesAll, RewriteAdvances, BeginsCommit, commands}
 
 -- each unit of the library has this property
 abbrev pub EachUnit : (StoredUnit → Type 0) → Units → Type 0
@@ -176,7 +176,7 @@ module _ {P : Type 0} where
   -- a command that begins has the source that its client handed in; a withdrawal has none
   abbrev pub PutsSource : Rules P → ClientId → Contents P → Contents P → Type 0
   PutsSource rules client old new =
-      Begins rules client old None new → (job : Job P) × (numbered : Numbered) × (get old.jobs client.number ≡ Some job)
+      BeginsCommit rules client old None new → (job : Job P) × (numbered : Numbered) × (get old.jobs client.number ≡ Some job)
       × (new.core.order ≡ old.core.order ++ numbered ∷ []) × (command_source numbered.command ≡ source_in job.request)
 
   -- some events lead to these contents from a beginning whose units are right

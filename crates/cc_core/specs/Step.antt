@@ -239,7 +239,7 @@ module _ {P : Type 0} where
   jobs_begun jobs client (Err refused) = remove jobs client.number
 
   -- a job whose pieces are all there begins, where no other commits
-  pub record Begins (rules : Rules P) (client : ClientId) (old : Contents P) (reply : Option Reply) (new : Contents P) : Type 0 where
+  pub record BeginsCommit (rules : Rules P) (client : ClientId) (old : Contents P) (reply : Option Reply) (new : Contents P) : Type 0 where
     pub job : Job P
     pub free : IsFree old.core.phase
     pub held : get old.jobs client.number ≡ Some job
@@ -280,7 +280,7 @@ module _ {P : Type 0} where
   Step rules old (event.Take worker client part) reply new = Takes worker client part old reply new
   Step rules old (event.Done worker piece) reply new = Finishes rules worker piece old reply new
   Step rules old (event.Refuse worker number) reply new = Refuses worker number old reply new
-  Step rules old (event.Begin client) reply new = Begins rules client old reply new
+  Step rules old (event.Begin client) reply new = BeginsCommit rules client old reply new
   Step rules old event.WriteBody reply new = StepsCore (Advances due.WriteBody) old reply new
   Step rules old event.SyncBody reply new = StepsCore (Advances due.SyncBody) old reply new
   Step rules old event.WriteGate reply new = StepsCore (Advances due.WriteGate) old reply new

@@ -11,7 +11,7 @@ ghost use Rattle.cc_core.specs.internal.Answers.{Answers};
 ghost use Rattle.cc_library.specs.Body.{IsCommand};
 ghost use Rattle.cc_core.specs.internal.Ready.{IsReady};
 ghost use Rattle.cc_core.specs.Run.{PutsCommand, HandsIn};
-ghost use Rattle.cc_core.specs.Step.{Step, Submits, Takes, Finishes, Refuses, Begins, Begun, Acknowledges, EndsJob, IsFree, IsUp};
+ghost use Rattle.cc_core.specs.Step.{Step, Submits, Takes, Finishes, Refuses, BeginsCommit, Begun, Acknowledges, EndsJob, IsFree, IsUp};
 
 use crate::build::Build;
 use crate::command::{Numbered, Reply, Request};
@@ -342,7 +342,7 @@ pub(crate) fn begin<B: Build>(
     contents: &mut Contents<B::Piece>,
     client: ClientId,
 ) -> Answer
-    ensures answers { Answers (Begins B.rules client contents.old) result contents.old contents.new }
+    ensures answers { Answers (BeginsCommit B.rules client contents.old) result contents.old contents.new }
     ensures puts { OnOk result (PutsCommand contents.old.core contents.new.core) }
 {
     if !is_free(&contents.core.phase) {

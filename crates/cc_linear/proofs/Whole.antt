@@ -8,7 +8,7 @@ use Rattle.cc_ltl.specs.declared.operation.Operation.TheVariants.{Nop, Const, Un
 use Rattle.cc_ltl.specs.declared.block.Block.{Block}
 use Rattle.cc_ltl.specs.Ltl.{Ltl, Ascend, block_at}
 use Rattle.cc_validate.specs.Pair as above
-use Rattle.cc_validate.specs.Pair.{Leads, successors}
+use Rattle.cc_validate.specs.Pair.{Leads, next_labels}
 use Rattle.cc_linear.specs.declared.item.Item.{Item}
 use Rattle.cc_linear.specs.Targets.{targets, NoneIdle}
 use Rattle.cc_linear.specs.Pair.{IsPair}
@@ -46,7 +46,7 @@ first_of xs x = (0, (let z : 0 < suc (length xs) = omega arith in z), refl)
 second_of : (x y : ℕ) → Contains (x ∷ y ∷ []) y
 second_of x y = (1, (let z : 1 < 2 = omega arith in z), refl)
 
-successors_lead : (labels : List ℕ) (op : Operation) → ((n : ℕ) → Contains (successors op) n → Contains labels n) → LeadsIn labels op
+successors_lead : (labels : List ℕ) (op : Operation) → ((n : ℕ) → Contains (next_labels op) n → Contains labels n) → LeadsIn labels op
 successors_lead labels (Nop n) f = f n (first_of [] n)
 successors_lead labels (Const to word n) f = f n (first_of [] n)
 successors_lead labels (Unary operator to from n) f = f n (first_of [] n)

@@ -2,13 +2,13 @@
 use Rattle.std.proofs.Common.{◌≡◌, ℕ, suc, ◌+◌, ◌-◌, ◌*◌, ◌<◌, ◌≤◌, refl, sym, ap, ◌∙◌, subst, ◌⊎◌, inl, inr, arith}
 use Rattle.std.proofs.Math.Nat.{mul-le-mul_left}
 use Rattle.std.proofs.lemmas.Bool.{cases_lt}
-use Rattle.cc_runs.specs.Behavior.{Stop, Going, Ended, Wrong, Outcome, Begins, IsRight, EndsAlike, Shows, Follows}
+use Rattle.cc_runs.specs.Behavior.{Stop, Going, Ended, Wrong, Outcome, IsPrefixOf, IsRight, EndsAlike, Shows, Follows}
 use Rattle.cc_runs.specs.Cuts.{StaysBy}
 use Rattle.cc_runs.proofs.Behaving.{begins_refl, shows_same}
 
 -- the second goes on from the first
 pub record GoesOn {R : Type 0} (x y : Outcome R) : Type 0 where
-  pub output : Begins x.output y.output
+  pub output : IsPrefixOf x.output y.output
   pub stays : StaysBy x.stop x y
 
 -- what a run from the start owes to an outcome of the source at n steps
@@ -19,13 +19,13 @@ Matched z rate n a Wrong = Unit {0}
 
 module _ (at : ℕ → Outcome ℕ) (more : (m k : ℕ) → GoesOn (at m) (at (m + k))) (rate : ℕ) (source : ℕ → Outcome ℕ) (matched : (n : ℕ) → Matched at rate n (source n) (source n).stop) where
   abbrev Covered : Outcome ℕ → Outcome ℕ → Type 0
-  Covered z a = IsRight z.stop × Begins z.output a.output × EndsAlike z.stop a.stop
+  Covered z a = IsRight z.stop × IsPrefixOf z.output a.output × EndsAlike z.stop a.stop
 
   covered_refl : (a : Outcome ℕ) → IsRight a.stop → Covered a a
   covered_refl a ok = (ok, begins_refl a.output, λ r e. e)
 
   -- what goes on to a right outcome is covered by it
-  covered_by : (z a : Outcome ℕ) (t : Stop ℕ) → z.stop ≡ t → StaysBy t z a → IsRight a.stop → Begins z.output a.output → Covered z a
+  covered_by : (z a : Outcome ℕ) (t : Stop ℕ) → z.stop ≡ t → StaysBy t z a → IsRight a.stop → IsPrefixOf z.output a.output → Covered z a
   covered_by z a Going e stays ok b = (subst IsRight (sym e) tt, b, λ r f. absurd (let g : Going ≡ Ended r = sym e ∙ f in cc))
   covered_by z a (Ended q) e stays ok b = subst (Covered z) (sym stays) (covered_refl z (subst IsRight (sym e) tt))
   covered_by z a Wrong e stays ok b = subst (Covered z) (sym stays) (covered_refl z (subst (λ (y : Outcome ℕ). IsRight y.stop) stays ok))

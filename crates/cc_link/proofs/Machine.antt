@@ -7,7 +7,7 @@ use Rattle.cc_rv32.specs.declared.outcome.MachineOutcome.{MachineOutcome}
 use Rattle.cc_rv32.specs.declared.outcome.MachineOutcome.TheVariants.{Going as Runs, Exited, Trapped}
 use Rattle.cc_rv32.specs.Machine.{State, Turn, Continues, Exits, Traps, Run, turned, run_on, machine_run, seen, execute, executed, machine_step, instruction_at, branches, jumps, is_accessible, load_bytes, store_bytes, loaded, stored, is_taken, with_register, first_or_zero, rest_of}
 use Rattle.cc_words.specs.Words.{add}
-use Rattle.cc_runs.specs.Behavior.{Begins}
+use Rattle.cc_runs.specs.Behavior.{IsPrefixOf}
 use Rattle.cc_emit.specs.Contract.{Path}
 use Rattle.cc_link.specs.Agree.{shown}
 use Rattle.cc_runs.proofs.Behaving.{begins_refl, begins_on}
@@ -26,7 +26,7 @@ run_path code (suc m) k s t p =
     ap (λ n. machine_run code n (going s)) e ∙ ap (λ (x : Turn). machine_run code (m + k) (turned s x)) p.1 ∙ run_path code m k p.0 t p.2
 
 abbrev TurnGrows : List ℕ → Turn → Type 0
-TurnGrows o (Continues u) = Begins o u.output
+TurnGrows o (Continues u) = IsPrefixOf o u.output
 TurnGrows o (Exits w) = Unit {0}
 TurnGrows o Traps = Unit {0}
 
@@ -34,7 +34,7 @@ either : (o : List ℕ) (b : Bool) (x y : Turn) → TurnGrows o x → TurnGrows 
 either o true x y h k = h
 either o false x y h k = k
 
-when : (o : List ℕ) (b : Bool) (u : State) → Begins o u.output → TurnGrows o (if b then Continues u else Traps)
+when : (o : List ℕ) (b : Bool) (u : State) → IsPrefixOf o u.output → TurnGrows o (if b then Continues u else Traps)
 when o true u h = h
 when o false u h = tt
 
@@ -64,14 +64,14 @@ execute_grows Ecall s =
     let x = Continues (record s { pc = s.pc + 4; output = s.output ++ (s.registers 10 ∷ []) }) in
     let y = Continues (record s { pc = s.pc + 4; registers = with_register s.registers 10 (first_or_zero s.input); input = rest_of s.input }) in
     let z = if s.registers 17 == 93 then Exits (s.registers 10) else Traps in
-    let w : Begins s.output (s.output ++ (s.registers 10 ∷ [])) = (s.registers 10 ∷ [], refl) in
+    let w : IsPrefixOf s.output (s.output ++ (s.registers 10 ∷ [])) = (s.registers 10 ∷ [], refl) in
     either s.output (s.registers 17 == 1) x (if s.registers 17 == 2 then y else z) w (either s.output (s.registers 17 == 2) y z (begins_refl s.output) (exits s.output (s.registers 17 == 93) (s.registers 10)))
 
 executed_grows : (i : Option Instr) (s : State) → TurnGrows s.output (executed i s)
 executed_grows None s = tt
 executed_grows (Some i) s = execute_grows i s
 
-turned_on : (s : State) (t : Turn) → TurnGrows s.output t → Begins s.output (turned s t).state.output
+turned_on : (s : State) (t : Turn) → TurnGrows s.output t → IsPrefixOf s.output (turned s t).state.output
 turned_on s (Continues u) h = h
 turned_on s (Exits w) h = begins_refl s.output
 turned_on s Traps h = begins_refl s.output
@@ -86,7 +86,7 @@ unfolding machine_run
 trapped_run code zero s = refl
 trapped_run code (suc k) s = trapped_run code k s
 
-grows : (code : List ℕ) (k : ℕ) (o : MachineOutcome) (s : State) → Begins s.output (machine_run code k (record { state = s; outcome = o })).state.output
+grows : (code : List ℕ) (k : ℕ) (o : MachineOutcome) (s : State) → IsPrefixOf s.output (machine_run code k (record { state = s; outcome = o })).state.output
 unfolding machine_run
 grows code zero o s = begins_refl s.output
 grows code (suc k) Runs s =

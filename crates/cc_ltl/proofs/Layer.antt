@@ -3,7 +3,7 @@ use Rattle.std.proofs.Common.{◌≡◌, ℕ, List, [], Option, Some, None, refl
 use Rattle.std.specs.Prelude.{option_map}
 use Rattle.std.proofs.lemmas.List.{append-nil}
 use Rattle.std.proofs.lemmas.Option.{none-some, same_Some}
-use Rattle.cc_runs.specs.Behavior.{Begins}
+use Rattle.cc_runs.specs.Behavior.{IsPrefixOf}
 use Rattle.cc_runs.specs.World.{World, Question, Answer, element, stored}
 use Rattle.cc_runs.specs.Run.{Move as Moving, Goes, Calls, tried}
 use Rattle.cc_runs.specs.Cuts.{IsLayer}
@@ -25,7 +25,7 @@ tried_calls (Some y) go q resume e = (y, refl, e)
 tried_calls None go q resume e = absurd cc
 
 abbrev GrowsTo : World → Configuration → Type 0
-GrowsTo world d = Begins world.output d.world.output
+GrowsTo world d = IsPrefixOf world.output d.world.output
 
 same_goes : (c d : Configuration) → Goes c ≡ Goes d → c ≡ d
 same_goes c d e = cc

@@ -2,7 +2,7 @@
 use Rattle.std.proofs.Common.{◌≡◌, ℕ, ◌+◌, ◌-◌, ◌≤◌, List, [], ◌∷◌, length, refl, sym, ap, ◌∙◌, subst, arith}
 use Rattle.cc_syntax.specs.Tree.{External}
 use Rattle.cc_typing.specs.Typed.{IsTyped}
-use Rattle.cc_runs.specs.Behavior.{Begins}
+use Rattle.cc_runs.specs.Behavior.{IsPrefixOf}
 use Rattle.cc_runs.specs.World.{Answer, Effect, Gives, Unfinished, Failed}
 use Rattle.cc_runs.specs.Meaning.{Meaning, Later, written_by}
 use Rattle.cc_meaning.specs.Meaning.{Global, functions, initial_globals}
@@ -66,7 +66,7 @@ same_written (by_name.Failed cause o) = refl
 
 later_at : (more : ℕ) (e z : by_name.Effect by_name.Answer) → calls.WithMoreSteps more e z → Later more (numbered e) (numbered z)
 later_at more (by_name.Answers a left) z h = ap numbered h
-later_at more (by_name.Unfinished o) z h = subst (Begins o) (same_written z) h
+later_at more (by_name.Unfinished o) z h = subst (IsPrefixOf o) (same_written z) h
 later_at more (by_name.Failed cause o) z h = ap numbered h
 
 -- ---- the meaning
@@ -83,7 +83,7 @@ meaning_in unit typed =
       none_left = λ opened f ws h lt. ap numbered (has.none_left opened f ws (shared_in unit h) lt);
       too_deep = λ n f ws h lt. ap numbered (has.too_deep n f ws (shared_in unit h) lt);
       spends = λ n opened f ws h lt below. ap numbered (has.spends n opened f ws (shared_in unit h) lt below);
-      grows = λ n opened f ws h. subst (Begins h.output) (same_written (call_function unit n opened f ws (shared_in unit h))) ((calls_go_on unit opened f ws).grows n (shared_in unit h));
+      grows = λ n opened f ws h. subst (IsPrefixOf h.output) (same_written (call_function unit n opened f ws (shared_in unit h))) ((calls_go_on unit opened f ws).grows n (shared_in unit h));
       later = λ n more opened f ws h.
           later_at more (call_function unit n opened f ws (shared_in unit h)) (call_function unit (n + more) opened f ws (shared_in unit h)) ((calls_go_on unit opened f ws).later n more (shared_in unit h));
       exact = λ opened f ws h n left a e.

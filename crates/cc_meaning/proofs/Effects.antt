@@ -8,7 +8,7 @@ use Rattle.cc_resolve.specs.Layout.{names_before, layout_of, callee}
 use Rattle.cc_resolve.specs.declared.layout.Callee.TheVariants.{WriteWord, ReadWord, Defined}
 use Rattle.cc_meaning.specs.declared.outcome.Cause.{Cause}
 use Rattle.cc_meaning.specs.declared.outcome.Cause.TheVariants.{Depth}
-use Rattle.cc_runs.specs.Behavior.{Begins}
+use Rattle.cc_runs.specs.Behavior.{IsPrefixOf}
 use Rattle.cc_meaning.specs.Meaning.{Local, State, Run, Gives, Going, Wrong, Flow, then_do, execute_all, spend_of, Calls, Function, functions, bound, result_of, run_optional, read_input, most_open, calls, function_named}
 use Rattle.cc_meaning.specs.Function.{effect_of, state_within, name_of_function, call_function}
 use Rattle.cc_meaning.specs.Resolved.{arities, IsCalled}
@@ -22,7 +22,7 @@ use Rattle.cc_meaning.proofs.Numbers.{as_many_arities, name_of_number}
 
 -- ---- a larger bound changes nothing
 
-begins_both : (xs ys : List ℕ) → Begins xs ys → Begins ys xs → xs ≡ ys
+begins_both : (xs ys : List ℕ) → IsPrefixOf xs ys → IsPrefixOf ys xs → xs ≡ ys
 begins_both xs ys p q =
     let a : length ys ≡ length xs + length p.0 = sym (ap (λ (l : List ℕ). length l) p.1) ∙ length-append xs p.0 in
     let b : length xs ≡ length ys + length q.0 = sym (ap (λ (l : List ℕ). length l) q.1) ∙ length-append ys q.0 in
@@ -40,10 +40,10 @@ module _ {A : Type 0} (s : State) (go : ℕ → State → Run A) where
       let e : s.steps ≡ s.steps + 0 = omega arith in
       ap (λ k. go m (at s k)) e ∙ h 0 m (omega arith)
 
-  going_begins : (o : List ℕ) (m : ℕ) → s.steps < m → Lasts {A = A} Under s.steps (Going o) (λ b j. go b (at s j)) → Begins o (written (go m s))
+  going_begins : (o : List ℕ) (m : ℕ) → s.steps < m → Lasts {A = A} Under s.steps (Going o) (λ b j. go b (at s j)) → IsPrefixOf o (written (go m s))
   going_begins o m lt h =
       let e : s.steps + 0 ≡ s.steps = omega arith in
-      subst (λ k. Begins o (written (go m (at s k)))) e (h 0 m (omega arith))
+      subst (λ k. IsPrefixOf o (written (go m (at s k)))) e (h 0 m (omega arith))
 
   alike : (n m : ℕ) (r q : Run A) → go n s ≡ r → go m s ≡ q → s.steps < n → s.steps < m
       → Lasts Under s.steps r (λ b j. go b (at s j)) → Lasts Under s.steps q (λ b j. go b (at s j)) → r ≡ q
@@ -52,7 +52,7 @@ module _ {A : Type 0} (s : State) (go : ℕ → State → Run A) where
   alike n m (Going o) (Gives x t) e f lt lt' h h' = sym e ∙ gives_alike x t n lt h'
   alike n m (Going o) (Wrong cause p) e f lt lt' h h' = sym e ∙ wrong_alike cause p n lt h'
   alike n m (Going o) (Going p) e f lt lt' h h' =
-      ap Going (begins_both o p (subst (λ r. Begins o (written r)) f (going_begins o m lt' h)) (subst (λ r. Begins p (written r)) e (going_begins p n lt h')))
+      ap Going (begins_both o p (subst (λ r. IsPrefixOf o (written r)) f (going_begins o m lt' h)) (subst (λ r. IsPrefixOf p (written r)) e (going_begins p n lt h')))
 
 calls_alike : (fs : List Function) (opened : ℕ) (f ws : List ℕ) (s : State) (n m : ℕ) → s.steps < n → s.steps < m → calls n fs opened f ws s ≡ calls m fs opened f ws s
 calls_alike fs opened f ws s n m lt lt' =
@@ -119,7 +119,7 @@ later_of n extra (Wrong cause output) go h = ap effect_of (h extra (suc (n + ext
 pub calls_go_on : CallsGoOn
 calls_go_on unit opened f ws = record {
   grows = λ n h.
-      subst (λ o. Begins h.output o) (written_effect (calls (suc n) (functions unit) opened (name_of_function unit f) ws (state_within n h)))
+      subst (λ o. IsPrefixOf h.output o) (written_effect (calls (suc n) (functions unit) opened (name_of_function unit f) ws (state_within n h)))
       ((calls_steady (functions unit) opened (name_of_function unit f) ws).grows (suc n) (state_within n h));
   later = λ n extra h.
       later_of n extra (calls (suc n) (functions unit) opened (name_of_function unit f) ws (state_within n h)) (λ m j. calls m (functions unit) opened (name_of_function unit f) ws (state_within j h))
@@ -130,7 +130,7 @@ calls_go_on unit opened f ws = record {
 pub bodies_go_on : BodiesGoOn
 bodies_go_on unit opened f ws = record {
   grows = λ n h.
-      subst (λ o. Begins h.output o) (written_effect (run_optional (slice_get (functions unit) f) (suc n) (calls (suc n) (functions unit) (opened + 1)) ws (state_within n h)))
+      subst (λ o. IsPrefixOf h.output o) (written_effect (run_optional (slice_get (functions unit) f) (suc n) (calls (suc n) (functions unit) (opened + 1)) ws (state_within n h)))
       ((run_optional_steady (λ m. calls m (functions unit) (opened + 1)) (calls_steady (functions unit) (opened + 1)) (slice_get (functions unit) f) ws).grows (suc n) (state_within n h));
   later = λ n extra h.
       later_of n extra (run_optional (slice_get (functions unit) f) (suc n) (calls (suc n) (functions unit) (opened + 1)) ws (state_within n h))

@@ -3,7 +3,7 @@
 -- wrong goes wrong the same. Here for the ways in which parts are put together.
 use Rattle.std.proofs.Common.{◌≡◌, ℕ, zero, suc, ◌+◌, ◌<◌, ◌≤◌, List, [], ◌++◌, Option, Some, None, refl, sym, ap, ◌∙◌, subst, arith, append_assoc, append-nil}
 use Rattle.cc_meaning.specs.Meaning.{Local, State, Run, Gives, Going, Wrong, Flow, Falls, Breaks, Continues, Returns, then_do, choose, spend_of, behind_flow, behind_body, begin_body, turns, unless_decided}
-use Rattle.cc_runs.specs.Behavior.{Begins}
+use Rattle.cc_runs.specs.Behavior.{IsPrefixOf}
 
 -- the same state with so many steps left
 abbrev pub at : State → ℕ → State
@@ -17,44 +17,44 @@ written (Wrong cause output) = output
 
 -- ---- outputs that only grow
 
-pub begins_refl : (xs : List ℕ) → Begins xs xs
+pub begins_refl : (xs : List ℕ) → IsPrefixOf xs xs
 begins_refl xs = ([], append-nil xs)
 
-pub begins_trans : (xs ys zs : List ℕ) → Begins xs ys → Begins ys zs → Begins xs zs
+pub begins_trans : (xs ys zs : List ℕ) → IsPrefixOf xs ys → IsPrefixOf ys zs → IsPrefixOf xs zs
 begins_trans xs ys zs p q = (p.0 ++ q.0, sym (append_assoc xs p.0 q.0) ∙ ap (λ (l : List ℕ). l ++ q.0) p.1 ∙ q.1)
 
-pub begins_then : {A C : Type 0} (o : List ℕ) (r : Run A) (rest : A → State → Run C) → Begins o (written r)
-    → ((x : A) (t : State) → Begins t.output (written (rest x t))) → Begins o (written (then_do r rest))
+pub begins_then : {A C : Type 0} (o : List ℕ) (r : Run A) (rest : A → State → Run C) → IsPrefixOf o (written r)
+    → ((x : A) (t : State) → IsPrefixOf t.output (written (rest x t))) → IsPrefixOf o (written (then_do r rest))
 begins_then o (Gives x t) rest h f = begins_trans o t.output (written (rest x t)) h (f x t)
 begins_then o (Going output) rest h f = h
 begins_then o (Wrong cause output) rest h f = h
 
-pub begins_choose : {A : Type 0} (w : ℕ) (holds fails : State → Run A) (s : State) → Begins s.output (written (holds s))
-    → Begins s.output (written (fails s)) → Begins s.output (written (choose w holds fails s))
+pub begins_choose : {A : Type 0} (w : ℕ) (holds fails : State → Run A) (s : State) → IsPrefixOf s.output (written (holds s))
+    → IsPrefixOf s.output (written (fails s)) → IsPrefixOf s.output (written (choose w holds fails s))
 begins_choose zero holds fails s p q = q
 begins_choose (suc w) holds fails s p q = p
 
-pub begins_spend : {A : Type 0} (k : ℕ) (go : State → Run A) (s : State) → ((u : State) → Begins u.output (written (go u)))
-    → Begins s.output (written (spend_of k go s))
+pub begins_spend : {A : Type 0} (k : ℕ) (go : State → Run A) (s : State) → ((u : State) → IsPrefixOf u.output (written (go u)))
+    → IsPrefixOf s.output (written (spend_of k go s))
 begins_spend zero go s f = begins_refl s.output
 begins_spend (suc k) go s f = f (at s k)
 
-pub begins_flow : (flow : Flow) (go : State → Run Flow) (s : State) → Begins s.output (written (go s))
-    → Begins s.output (written (behind_flow flow go s))
+pub begins_flow : (flow : Flow) (go : State → Run Flow) (s : State) → IsPrefixOf s.output (written (go s))
+    → IsPrefixOf s.output (written (behind_flow flow go s))
 begins_flow Falls go s h = h
 begins_flow Breaks go s h = begins_refl s.output
 begins_flow Continues go s h = begins_refl s.output
 begins_flow (Returns w) go s h = begins_refl s.output
 
-pub begins_body : (flow : Flow) (go : State → Run Flow) (s : State) → Begins s.output (written (go s))
-    → Begins s.output (written (behind_body flow go s))
+pub begins_body : (flow : Flow) (go : State → Run Flow) (s : State) → IsPrefixOf s.output (written (go s))
+    → IsPrefixOf s.output (written (behind_body flow go s))
 begins_body Falls go s h = h
 begins_body Breaks go s h = begins_refl s.output
 begins_body Continues go s h = h
 begins_body (Returns w) go s h = begins_refl s.output
 
-pub begins_begin : (body go : State → Run Flow) (s : State) → ((u : State) → Begins u.output (written (body u)))
-    → ((u : State) → Begins u.output (written (go u))) → Begins s.output (written (begin_body body go s))
+pub begins_begin : (body go : State → Run Flow) (s : State) → ((u : State) → IsPrefixOf u.output (written (body u)))
+    → ((u : State) → IsPrefixOf u.output (written (go u))) → IsPrefixOf s.output (written (begin_body body go s))
 begins_begin body go s f g =
     begins_spend s.steps (λ t. then_do (body t) (λ flow u. behind_body flow go u)) s
     (λ u. begins_then u.output (body u) (λ flow v. behind_body flow go v) (f u) (λ flow v. begins_body flow go v (g v)))
@@ -66,7 +66,7 @@ begins_begin body go s f g =
 abbrev pub Lasts : {A B : Type 0} → (ℕ → B → Type 0) → ℕ → Run A → (B → ℕ → Run A) → Type 0
 Lasts {A} {B} Within k (Gives x t) go =
     (spent : ℕ) × (k ≡ spent + t.steps) × ((j : ℕ) (b : B) → Within (spent + j) b → go b (spent + j) ≡ Gives x (at t j))
-Lasts {A} {B} Within k (Going output) go = (j : ℕ) (b : B) → Within (k + j) b → Begins output (written (go b (k + j)))
+Lasts {A} {B} Within k (Going output) go = (j : ℕ) (b : B) → Within (k + j) b → IsPrefixOf output (written (go b (k + j)))
 Lasts {A} {B} Within k (Wrong cause output) go = (j : ℕ) (b : B) → Within (k + j) b → go b (k + j) ≡ Wrong cause output
 
 -- a bound that is large enough for some steps is so for fewer
@@ -81,7 +81,7 @@ pub lasts_by : {A B C : Type 0} (V : ℕ → C → Type 0) (W : ℕ → B → Ty
     → ((j : ℕ) (c : C) → V j c → W j (f c)) → ((j : ℕ) (c : C) → V j c → other c j ≡ go (f c) j) → Lasts W k r go → Lasts V k r other
 lasts_by V W f k (Gives x t) go other within same h = (h.0, h.1, λ j c v. same (h.0 + j) c v ∙ h.2 j (f c) (within (h.0 + j) c v))
 lasts_by V W f k (Going output) go other within same h = λ j c v.
-    subst (λ r. Begins output (written r)) (sym (same (k + j) c v)) (h j (f c) (within (k + j) c v))
+    subst (λ r. IsPrefixOf output (written r)) (sym (same (k + j) c v)) (h j (f c) (within (k + j) c v))
 lasts_by V W f k (Wrong cause output) go other within same h = λ j c v. same (k + j) c v ∙ h j (f c) (within (k + j) c v)
 
 -- after a first part that gives something, the rest
@@ -102,7 +102,7 @@ lasts_behind W low k spent x t first later (Going output) e go h = λ j b w.
     let same : then_do (first b (k + j)) (λ z v. later z b v) ≡ later x b (at t (t.steps + j)) =
     ap (λ n. then_do (first b n) (λ z v. later z b v)) f
     ∙ ap (λ r. then_do r (λ z v. later z b v)) (go (t.steps + j) b (low.lower _ _ b (omega arith) w)) in
-    subst (λ r. Begins output (written r)) (sym same) (h j b (low.lower _ _ b (omega arith) w))
+    subst (λ r. IsPrefixOf output (written r)) (sym same) (h j b (low.lower _ _ b (omega arith) w))
 lasts_behind W low k spent x t first later (Wrong cause output) e go h = λ j b w.
     let f : k + j ≡ spent + (t.steps + j) = omega arith in
     ap (λ n. then_do (first b n) (λ z v. later z b v)) f
@@ -112,7 +112,7 @@ lasts_behind W low k spent x t first later (Wrong cause output) e go h = λ j b 
 -- one part, then another
 pub lasts_then : {A C B : Type 0} (W : ℕ → B → Type 0) → Lowers W → (k : ℕ) (r : Run A) (first : B → ℕ → Run A) (rest : A → State → Run C) (later : A → B → State → Run C)
     → Lasts W k r first → ((x : A) (t : State) → t.steps ≤ k → Lasts W t.steps (rest x t) (λ b j. later x b (at t j)))
-    → ((x : A) (b : B) (t : State) → Begins t.output (written (later x b t)))
+    → ((x : A) (b : B) (t : State) → IsPrefixOf t.output (written (later x b t)))
     → Lasts W k (then_do r rest) (λ b j. then_do (first b j) (λ y u. later y b u))
 lasts_then W low k (Gives x t) first rest later h f g =
     lasts_behind W low k h.0 x t first later (rest x t) h.1 h.2 (f x t (let e : k ≡ h.0 + t.steps = h.1 in omega arith))
@@ -138,14 +138,14 @@ lasts_step V W i s (Gives x t) later within h = (
 )
 lasts_step V W i s (Going output) later within h = λ j b v.
     let e : suc i + j ≡ suc (i + j) = omega arith in
-    subst (λ n. Begins output (written (spend_of n (later b) (at s n)))) (sym e) (h j b (within (i + j) b (subst (λ n. V n b) e v)))
+    subst (λ n. IsPrefixOf output (written (spend_of n (later b) (at s n)))) (sym e) (h j b (within (i + j) b (subst (λ n. V n b) e v)))
 lasts_step V W i s (Wrong cause output) later within h = λ j b v.
     let e : suc i + j ≡ suc (i + j) = omega arith in
     ap (λ n. spend_of n (later b) (at s n)) e ∙ h j b (within (i + j) b (subst (λ n. V n b) e v))
 
 pub lasts_spend : {A B : Type 0} (V W : ℕ → B → Type 0) (k : ℕ) (s : State) (go : State → Run A) (later : B → State → Run A)
     → ((j : ℕ) (b : B) → V (suc j) b → W j b) → ((i : ℕ) → suc i ≡ k → Lasts W i (go (at s i)) (λ b j. later b (at s j)))
-    → ((b : B) (u : State) → Begins u.output (written (later b u)))
+    → ((b : B) (u : State) → IsPrefixOf u.output (written (later b u)))
     → Lasts V k (spend_of k go s) (λ b j. spend_of j (later b) (at s j))
 lasts_spend V W zero s go later within f g = λ j b v. begins_spend (0 + j) (later b) (at s (0 + j)) (g b)
 lasts_spend V W (suc i) s go later within f g = lasts_step V W i s (go (at s i)) later within (f i refl)
@@ -169,7 +169,7 @@ pub lasts_begin : {B : Type 0} (V W : ℕ → B → Type 0) → Lowers W → (s 
     → ((j : ℕ) (b : B) → V (suc j) b → W j b)
     → ((i : ℕ) → suc i ≡ s.steps → Lasts W i (body (at s i)) (λ b j. bodies b (at s j)))
     → ((u : State) → u.steps < s.steps → Lasts W u.steps (go u) (λ b j. later b (at u j)))
-    → ((b : B) (u : State) → Begins u.output (written (bodies b u))) → ((b : B) (u : State) → Begins u.output (written (later b u)))
+    → ((b : B) (u : State) → IsPrefixOf u.output (written (bodies b u))) → ((b : B) (u : State) → IsPrefixOf u.output (written (later b u)))
     → Lasts V s.steps (begin_body body go s) (λ b j. begin_body (bodies b) (later b) (at s j))
 lasts_begin V W low s body go bodies later within f g grows grows' =
     lasts_spend V W s.steps s (λ t. then_do (body t) (λ flow u. behind_body flow go u)) (λ b t. then_do (bodies b t) (λ flow u. behind_body flow (later b) u)) within
@@ -180,7 +180,7 @@ lasts_begin V W low s body go bodies later within f g grows grows' =
 -- ---- parts that are so from each state
 
 pub record Steady {A B : Type 0} (W : ℕ → B → Type 0) (part : B → State → Run A) : Type 0 where
-  pub grows : (b : B) (s : State) → Begins s.output (written (part b s))
+  pub grows : (b : B) (s : State) → IsPrefixOf s.output (written (part b s))
   pub lasts : (b : B) (s : State) → W s.steps b → Lasts W s.steps (part b s) (λ c j. part c (at s j))
 
 pub steady_gives : {A B : Type 0} (W : ℕ → B → Type 0) (x : A) → Steady W (λ (b : B) s. Gives x s)
@@ -267,10 +267,10 @@ module _ (test : ℕ → State → Run ℕ) (body behind : ℕ → State → Run
   turns_unfold zero n s h = absurd (omega arith)
   turns_unfold (suc i) n s h = refl
 
-  next_grows : (i n : ℕ) → ((s : State) → Begins s.output (written (turns_at i n s))) → (u : State) → Begins u.output (written (next_turn i n u))
+  next_grows : (i n : ℕ) → ((s : State) → IsPrefixOf s.output (written (turns_at i n s))) → (u : State) → IsPrefixOf u.output (written (next_turn i n u))
   next_grows i n f u = begins_then u.output (behind n u) (λ flow v. turns_at i n v) (behinds.grows n u) (λ flow v. f v)
 
-  turns_grow : (i n : ℕ) (s : State) → Begins s.output (written (turns_at i n s))
+  turns_grow : (i n : ℕ) (s : State) → IsPrefixOf s.output (written (turns_at i n s))
   turns_grow zero n s = begins_refl s.output
   turns_grow (suc i) n s =
       begins_then s.output (test n s) (λ w t. choose w (begin_body (body n) (next_turn i n)) (λ u. Gives Falls u) t) (tests.grows n s)

@@ -13,13 +13,13 @@ use Rattle.cc_typing.specs.Scope as scope
 use Rattle.cc_typing.specs.Scope.{Binding, Visible, in_scope, opened, declared, scope_behind, scope_behind_beginning}
 use Rattle.cc_typing.specs.Types.{value_type, target_type}
 use Rattle.cc_meaning.specs.Meaning.{Local, Global, State, Run, Gives, Wrong, Flow, Falls, Breaks, Continues, Returns, then_do, choose, Calls, local_word, words_of, with_local_word, with_element, variable_word, stored, read_element, write_element, given, unless_decided, evaluate, evaluate_all, evaluate_or, Destination, ToVariable, ToElement, destination, old_value, write, new_value, perform, perform_optional, with_local, declare, start, left_scope, in_block, return, execute, execute_all, behind_flow, Function, bound, result_of, run_body, run_optional, read_input, calls, function_named, most_open, spend, turns}
-use Rattle.cc_runs.specs.Behavior.{Begins}
+use Rattle.cc_runs.specs.Behavior.{IsPrefixOf}
 use Rattle.cc_meaning.specs.declared.outcome.Cause.TheVariants.{Index, Depth}
 use Rattle.cc_meaning.proofs.Lasting.{at, written, begins_refl, begins_spend, Lasts, lasts_gives, lasts_by, lasts_spend, Steady, steady_gives, steady_then, steady_choose, steady_unless, steady_flow, Under, under, steady_begin, steady_turns}
 
 -- ---- parts that are done at once
 
-read_grows : (o : Option ℕ) (s : State) → Begins s.output (written {A = ℕ} (elim o [ None ↦ Wrong Index s.output | Some w ↦ Gives w s ]))
+read_grows : (o : Option ℕ) (s : State) → IsPrefixOf s.output (written {A = ℕ} (elim o [ None ↦ Wrong Index s.output | Some w ↦ Gives w s ]))
 read_grows None s = begins_refl s.output
 read_grows (Some w) s = begins_refl s.output
 
@@ -34,7 +34,7 @@ read_steady x i = record {
   lasts = λ n s w. read_lasts (slice_get (words_of s.globals x) i) s;
 }
 
-write_grows : (b : Bool) (gs : List Global) (s : State) → Begins s.output (written (if b then Gives Falls (record s { globals = gs }) else Wrong Index s.output))
+write_grows : (b : Bool) (gs : List Global) (s : State) → IsPrefixOf s.output (written (if b then Gives Falls (record s { globals = gs }) else Wrong Index s.output))
 write_grows true gs s = begins_refl s.output
 write_grows false gs s = begins_refl s.output
 
@@ -49,7 +49,7 @@ write_element_steady x i w = record {
   lasts = λ n s u. write_lasts (nat_lt i (length (words_of s.globals x))) (with_element x i w s.globals) s;
 }
 
-stored_grows : (b : Bool) (ls : List Local) (gs : List Global) (s : State) → Begins s.output (if b then record s { locals = ls } else record s { globals = gs }).output
+stored_grows : (b : Bool) (ls : List Local) (gs : List Global) (s : State) → IsPrefixOf s.output (if b then record s { locals = ls } else record s { globals = gs }).output
 stored_grows true ls gs s = begins_refl s.output
 stored_grows false ls gs s = begins_refl s.output
 
@@ -258,7 +258,7 @@ begun writes reads allowed body ws n s =
 abbrev UpTo : ℕ → ℕ → Type 0
 UpTo k n = k < suc n
 
-input_grows : (input : List ℕ) (s : State) → Begins s.output (written (read_input input s))
+input_grows : (input : List ℕ) (s : State) → IsPrefixOf s.output (written (read_input input s))
 input_grows [] s = begins_refl s.output
 input_grows (w ∷ rest) s = begins_refl s.output
 
@@ -267,7 +267,7 @@ input_lasts [] s = lasts_gives UpTo 0 s
 input_lasts (w ∷ rest) s = lasts_gives UpTo w (record s { input = rest })
 
 begun_grows : (writes reads allowed : Bool) (body : ℕ → State → Run ℕ) (ws : List ℕ) → (allowed ≡ true → Steady Under body) → (n : ℕ) (s : State)
-    → Begins s.output (written (begun writes reads allowed body ws n s))
+    → IsPrefixOf s.output (written (begun writes reads allowed body ws n s))
 begun_grows true reads allowed body ws f n s = (ws, refl)
 begun_grows false true allowed body ws f n s = input_grows s.input s
 begun_grows false false true body ws f n s = begins_spend s.steps (λ t. body n t) s ((f refl).grows n)
@@ -299,7 +299,7 @@ calls_unfold fs opened f ws zero s h = absurd (omega arith)
 calls_unfold fs opened f ws (suc n) s h = refl
 
 calls_grow : (fs : List Function) (opened : ℕ) (f ws : List ℕ) → (nat_lt opened most_open ≡ true → Steady Under (body_part fs opened f ws)) → (n : ℕ) (s : State)
-    → Begins s.output (written (calls n fs opened f ws s))
+    → IsPrefixOf s.output (written (calls n fs opened f ws s))
 calls_grow fs opened f ws h zero s = begins_refl s.output
 calls_grow fs opened f ws h (suc n) s =
     begun_grows (same_name f (codes "write_word")) (same_name f (codes "read_word")) (nat_lt opened most_open) (body_part fs opened f ws) ws h n s

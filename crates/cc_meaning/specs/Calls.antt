@@ -5,7 +5,7 @@ use Rattle.cc_typing.specs.Typed.{IsTyped}
 use Rattle.cc_resolve.specs.Layout.{LaidObject, names_before, layout_of, callee}
 use Rattle.cc_resolve.specs.declared.layout.Callee.{Callee}
 use Rattle.cc_resolve.specs.declared.layout.Callee.TheVariants.{WriteWord, ReadWord, Defined}
-use Rattle.cc_runs.specs.Behavior.{Begins}
+use Rattle.cc_runs.specs.Behavior.{IsPrefixOf}
 use Rattle.cc_meaning.specs.Outcome as outcome
 use Rattle.cc_meaning.specs.Outcome.{Outcome}
 use Rattle.cc_meaning.specs.Meaning.{Local, Global, State, Run, Gives, Going, Wrong, Function, functions, read_input, calls, initial_globals, source_behavior}
@@ -47,13 +47,13 @@ output_of (Failed cause output) = output
 -- the second effect is what the first comes to with so many steps more
 abbrev pub WithMoreSteps : (more : ℕ) → Effect Answer → Effect Answer → Type 0
 WithMoreSteps more (Answers a left) z = z ≡ Answers a (left + more)
-WithMoreSteps more (Unfinished output) z = Begins output (output_of z)
+WithMoreSteps more (Unfinished output) z = IsPrefixOf output (output_of z)
 WithMoreSteps more (Failed cause output) z = z ≡ Failed cause output
 
 -- what a call or a body does, within a number of steps, on what is shared: it writes after what is written, with more steps it only
 -- goes on, and an answer takes just the steps that it spends, whatever else is left
 pub record EffectGoesOn (effect : ℕ → Shared → Effect Answer) : Type 0 where
-  pub grows : (n : ℕ) (h : Shared) → Begins h.output (output_of (effect n h))
+  pub grows : (n : ℕ) (h : Shared) → IsPrefixOf h.output (output_of (effect n h))
   pub later : (n more : ℕ) (h : Shared) → WithMoreSteps more (effect n h) (effect (n + more) h)
   pub exact : (h : Shared) → SpendsExactly (λ n. effect n h)
 

@@ -3,7 +3,7 @@
 use Rattle.std.specs.Prelude.{◌≡◌, ℕ, suc, ◌+◌, ◌-◌, ◌<◌, ◌≤◌, List, [], ◌++◌, length, map, unwrap_or, slice_get}
 use Rattle.cc_syntax.specs.Tree.{External, Source}
 use Rattle.cc_typing.specs.Typed.{IsTyped}
-use Rattle.cc_runs.specs.Behavior.{Begins}
+use Rattle.cc_runs.specs.Behavior.{IsPrefixOf}
 use Rattle.cc_meaning.specs.Outcome as outcome
 use Rattle.cc_meaning.specs.Outcome.{Stop, Outcome}
 use Rattle.cc_meaning.specs.Meaning.{Global, State, Run, Gives, Going, Wrong, Function, functions, calls, run_optional, most_open, source_behavior}
@@ -74,7 +74,7 @@ TypedUnitsHaveMeaning = (unit : List External) → IsTyped unit → HasMeaning u
 -- a run goes on from one that had fewer steps: it is the same where that one had ended or gone wrong, else that one's
 -- output begins its own
 abbrev pub GoesOn : Stop ℕ → Outcome ℕ → Outcome ℕ → Type 0
-GoesOn outcome.Going a z = Begins a.output z.output
+GoesOn outcome.Going a z = IsPrefixOf a.output z.output
 GoesOn (outcome.Ended w) a z = z ≡ a
 GoesOn (outcome.Wrong cause) a z = z ≡ a
 

@@ -1,7 +1,7 @@
 -- RTL is a layer: outputs grow, a call hands over the output so far and goes on from the answer's. So what keeps up follows.
 use Rattle.std.proofs.Common.{◌≡◌, ℕ, List, [], ◌∷◌, Option, Some, None, option_map, refl, subst}
 use Rattle.cc_words.specs.Operators.{apply_binary}
-use Rattle.cc_runs.specs.Behavior.{Begins}
+use Rattle.cc_runs.specs.Behavior.{IsPrefixOf}
 use Rattle.cc_runs.specs.World.{World, Answer, element}
 use Rattle.cc_runs.specs.Run.{Move, Goes, Calls, Returns, Fails, tried}
 use Rattle.cc_runs.specs.Cuts.{IsLayer}
@@ -15,7 +15,7 @@ use Rattle.cc_rtl.specs.internal.Translates.{Graph, graph_move}
 
 -- what a move keeps of the output so far
 abbrev Layered : (o : List ℕ) → Move Configuration → Type 0
-Layered o (Goes d) = Begins o (rtl_output d)
+Layered o (Goes d) = IsPrefixOf o (rtl_output d)
 Layered o (Calls q resume) = (q.world.output ≡ o) × ((a : Answer) → rtl_output (resume a) ≡ a.world.output)
 Layered o (Returns a) = Unit {0}
 Layered o Fails = Unit {0}

@@ -1,13 +1,13 @@
 -- What begins what, and that following is reflexive and transitive.
 use Rattle.std.proofs.Common.{◌≡◌, ℕ, List, [], ◌++◌, refl, sym, ap, ◌∙◌, subst, append_assoc}
 use Rattle.std.proofs.lemmas.List.{append-nil}
-use Rattle.cc_runs.specs.Behavior.{Stop, Going, Ended, Wrong, Outcome, IsRight, Begins, EndsAlike, Shows, Follows, FollowsForAll}
+use Rattle.cc_runs.specs.Behavior.{Stop, Going, Ended, Wrong, Outcome, IsRight, IsPrefixOf, EndsAlike, Shows, Follows, FollowsForAll}
 use Rattle.cc_runs.specs.Cuts.{StaysBy}
 
-pub begins_refl : (xs : List ℕ) → Begins xs xs
+pub begins_refl : (xs : List ℕ) → IsPrefixOf xs xs
 begins_refl xs = ([], append-nil xs)
 
-pub begins_on : (xs ys zs : List ℕ) → Begins xs ys → Begins ys zs → Begins xs zs
+pub begins_on : (xs ys zs : List ℕ) → IsPrefixOf xs ys → IsPrefixOf ys zs → IsPrefixOf xs zs
 begins_on xs ys zs a b = (a.0 ++ b.0, sym (append_assoc xs a.0 b.0) ∙ ap (λ l. l ++ b.0) a.1 ∙ b.1)
 
 pub stays_refl : {R : Type 0} (t : Stop R) (x : Outcome R) → StaysBy t x x
@@ -36,7 +36,7 @@ pub follows_same : {B R : Type 0} (a z : B → Outcome R) → ((b : B) → a b �
 follows_same {B} {R} a z same = record {
   reaches = λ n ok. (n, shows_same (a n) (z n) (same n) ok);
   never_wrong = λ ok m. subst (λ (y : Outcome R). IsRight y.stop) (same m) (ok m);
-  no_more = λ ok m. (m, subst (λ (y : Outcome R). Begins y.output (a m).output) (same m) (begins_refl (a m).output), subst (λ (y : Outcome R). EndsAlike y.stop (a m).stop) (same m) (λ r e. e));
+  no_more = λ ok m. (m, subst (λ (y : Outcome R). IsPrefixOf y.output (a m).output) (same m) (begins_refl (a m).output), subst (λ (y : Outcome R). EndsAlike y.stop (a m).stop) (same m) (λ r e. e));
 }
 
 pub follows_trans : {A B C R : Type 0} (a : A → Outcome R) (b : B → Outcome R) (z : C → Outcome R) → Follows a b → Follows b z → Follows a z

@@ -1,7 +1,7 @@
 -- Two cuts of one run are comparable: the shorter begins the longer.
 use Rattle.std.proofs.Common.{◌≡◌, ℕ, zero, suc, ◌+◌, ◌-◌, ◌≤◌, List, refl, sym, subst, ◌⊎◌, inl, inr, arith}
 use Rattle.std.proofs.lemmas.Bool.{cases_lt}
-use Rattle.cc_runs.specs.Behavior.{Going, Wrong, Outcome, Begins}
+use Rattle.cc_runs.specs.Behavior.{Going, Wrong, Outcome, IsPrefixOf}
 use Rattle.cc_runs.specs.Cuts.{Below, Comparable}
 use Rattle.cc_runs.specs.World.{Question, Answer, Effect, Gives, Unfinished, Failed}
 use Rattle.cc_runs.specs.Run.{Move, Goes, Calls, Returns, Fails, run, act, resumed, work, work_act, work_resumed}
@@ -16,18 +16,18 @@ le_cases m n = elim (cases_lt m n) [ inl h ↦ inl (omega arith) | inr h ↦ inr
 
 module _ {C : Type 0} (move : C → Move C) (output : C → List ℕ) (effect : ℕ → Question → Effect) (laws : HasEffects move output effect) where
   -- a run's output begins with what was written before it
-  starts_call : (k j : ℕ) (c : C) (resume : Answer → C) (e : Effect) → After output resume (output c) e → ((j : ℕ) (d : C) → Begins (output d) (run move output effect k j d).output) → Begins (output c) (resumed e resume (run move output effect k)).output
+  starts_call : (k j : ℕ) (c : C) (resume : Answer → C) (e : Effect) → After output resume (output c) e → ((j : ℕ) (d : C) → IsPrefixOf (output d) (run move output effect k j d).output) → IsPrefixOf (output c) (resumed e resume (run move output effect k)).output
   starts_call k j c resume (Gives a left) b ih = begins_on _ _ _ b (ih left (resume a))
   starts_call k j c resume (Unfinished o) b ih = b
   starts_call k j c resume (Failed o) b ih = b
 
-  starts_at : (k j : ℕ) (c : C) (m : Move C) → move c ≡ m → ((j : ℕ) (d : C) → Begins (output d) (run move output effect k j d).output) → Begins (output c) (act effect m (output c) j (run move output effect k)).output
+  starts_at : (k j : ℕ) (c : C) (m : Move C) → move c ≡ m → ((j : ℕ) (d : C) → IsPrefixOf (output d) (run move output effect k j d).output) → IsPrefixOf (output c) (act effect m (output c) j (run move output effect k)).output
   starts_at k j c (Goes d) e ih = begins_on _ _ _ (laws.grows c d e) (ih j d)
   starts_at k j c (Calls q resume) e ih = starts_call k j c resume (effect j q) (laws.answers c q resume e j) ih
   starts_at k j c (Returns r) e ih = begins_refl (output c)
   starts_at k j c Fails e ih = begins_refl (output c)
 
-  pub starts : (k j : ℕ) (c : C) → Begins (output c) (run move output effect k j c).output
+  pub starts : (k j : ℕ) (c : C) → IsPrefixOf (output c) (run move output effect k j c).output
   starts zero j c = begins_refl (output c)
   starts (suc k) j c = starts_at k j c (move c) refl (starts k)
 

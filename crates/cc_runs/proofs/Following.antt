@@ -2,7 +2,7 @@
 use Rattle.std.proofs.Common.{◌≡◌, ℕ, zero, suc, ◌+◌, ◌-◌, ◌*◌, ◌<◌, ◌≤◌, List, refl, sym, ap, ◌∙◌, subst, ◌⊎◌, inl, inr, arith}
 use Rattle.std.proofs.Math.Nat.{mul-le-mul_left}
 use Rattle.std.proofs.lemmas.Bool.{cases_lt}
-use Rattle.cc_runs.specs.Behavior.{Stop, Going, Ended, Wrong, Outcome, IsRight, Begins, EndsAlike, Shows, Follows, FollowsForAll}
+use Rattle.cc_runs.specs.Behavior.{Stop, Going, Ended, Wrong, Outcome, IsRight, IsPrefixOf, EndsAlike, Shows, Follows, FollowsForAll}
 use Rattle.cc_runs.specs.World.{World, Question, Answer, Effect, Gives, Unfinished, Failed}
 use Rattle.cc_runs.specs.Run.{Move, Goes, Calls, Returns, Fails, run, work, work_act, work_resumed}
 use Rattle.cc_runs.specs.Meaning.{Meaning, most_open, IsCall, call_effect, written_by, Later, IsExact, answered}
@@ -53,13 +53,13 @@ module _ {C : Type 0} (move : C → Move C) (output : C → List ℕ) (effect : 
   bounded (suc k) j c = within_move k j c (move c) refl (bounded k)
 
   abbrev Covered : Outcome Answer → Outcome Answer → Type 0
-  Covered z a = IsRight z.stop × Begins z.output a.output × EndsAlike z.stop a.stop
+  Covered z a = IsRight z.stop × IsPrefixOf z.output a.output × EndsAlike z.stop a.stop
 
   covered_refl : (a : Outcome Answer) → IsRight a.stop → Covered a a
   covered_refl a ok = (ok, begins_refl a.output, λ r e. e)
 
   -- what begins a right outcome is covered by it
-  covered_by : (z a : Outcome Answer) (t : Stop Answer) → z.stop ≡ t → StaysBy t z a → IsRight a.stop → Begins z.output a.output → Covered z a
+  covered_by : (z a : Outcome Answer) (t : Stop Answer) → z.stop ≡ t → StaysBy t z a → IsRight a.stop → IsPrefixOf z.output a.output → Covered z a
   covered_by z a Going e stays ok b = (subst IsRight (sym e) tt, b, λ r f. absurd (let g : Going ≡ Ended r = sym e ∙ f in cc))
   covered_by z a (Ended q) e stays ok b = subst (Covered z) (sym stays) (covered_refl z (subst IsRight (sym e) tt))
   covered_by z a Wrong e stays ok b = subst (Covered z) (sym stays) (covered_refl z (subst (λ (y : Outcome Answer). IsRight y.stop) stays ok))
@@ -121,8 +121,8 @@ is_going (Unfinished o) = Unit {0}
 is_going (Failed o) = ⊥
 
 module _ (meaning : Meaning) {C : Type 0} (move : C → Move C) (output : C → List ℕ) (layer : IsLayer move output) where
-  after_of : (resume : Answer → C) (o : List ℕ) (e : Effect) → ((a : Answer) → output (resume a) ≡ a.world.output) → Begins o (written_by e) → After output resume o e
-  after_of resume o (Gives a left) same b = subst (Begins o) (sym (same a)) b
+  after_of : (resume : Answer → C) (o : List ℕ) (e : Effect) → ((a : Answer) → output (resume a) ≡ a.world.output) → IsPrefixOf o (written_by e) → After output resume o e
+  after_of resume o (Gives a left) same b = subst (IsPrefixOf o) (sym (same a)) b
   after_of resume o (Unfinished p) same b = b
   after_of resume o (Failed p) same b = b
 
@@ -135,8 +135,8 @@ module _ (meaning : Meaning) {C : Type 0} (move : C → Move C) (output : C → 
       let f : Unfinished o ≡ Gives a (left - d) = sym u ∙ ap effect (sym back) ∙ x.1 (left - d) in
       absurd (subst is_going f tt)
 
-  then_of : (effect : ℕ → Effect) → IsExact effect → (j d : ℕ) (o : List ℕ) (resume : Answer → C) (z : Effect) → ((a : Answer) → output (resume a) ≡ a.world.output) → effect j ≡ Unfinished o → effect (j + d) ≡ z → Begins o (written_by z) → UnfinishedThen output resume o d z
-  then_of effect exact j d o resume (Gives a left) same u e b = (few_left effect exact j d left o a u e (cases_lt d left), subst (Begins o) (sym (same a)) b)
+  then_of : (effect : ℕ → Effect) → IsExact effect → (j d : ℕ) (o : List ℕ) (resume : Answer → C) (z : Effect) → ((a : Answer) → output (resume a) ≡ a.world.output) → effect j ≡ Unfinished o → effect (j + d) ≡ z → IsPrefixOf o (written_by z) → UnfinishedThen output resume o d z
+  then_of effect exact j d o resume (Gives a left) same u e b = (few_left effect exact j d left o a u e (cases_lt d left), subst (IsPrefixOf o) (sym (same a)) b)
   then_of effect exact j d o resume (Unfinished p) same u e b = b
   then_of effect exact j d o resume (Failed p) same u e b = b
 
@@ -153,7 +153,7 @@ module _ (meaning : Meaning) {C : Type 0} (move : C → Move C) (output : C → 
   pub effects_of : (d : ℕ) → HasEffects move output (call_effect meaning d)
   effects_of d = record {
     grows = layer.grows;
-    answers = λ c q resume e j. after_of resume (output c) (call_effect meaning d j q) (layer.resumes c q resume e) (subst (λ o. Begins o (written_by (call_effect meaning d j q))) (layer.hands_over c q resume e) (meaning.grows j d q.function q.arguments q.world));
+    answers = λ c q resume e j. after_of resume (output c) (call_effect meaning d j q) (layer.resumes c q resume e) (subst (λ o. IsPrefixOf o (written_by (call_effect meaning d j q))) (layer.hands_over c q resume e) (meaning.grows j d q.function q.arguments q.world));
     later = λ c q resume e j k. later_of (λ n. call_effect meaning d n q) (meaning.exact d q.function q.arguments q.world) j k resume (call_effect meaning d j q) (layer.resumes c q resume e) refl (meaning.later j k d q.function q.arguments q.world);
     within = λ c q resume e j. within_of (λ n. call_effect meaning d n q) (meaning.exact d q.function q.arguments q.world) j (call_effect meaning d j q) refl;
   }

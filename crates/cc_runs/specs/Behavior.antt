@@ -24,9 +24,9 @@ IsRight Going = Unit {0}
 IsRight (Ended r) = Unit {0}
 IsRight Wrong = ⊥
 
--- the first list is the front of the second
-abbrev pub Begins : List ℕ → List ℕ → Type 0
-Begins xs ys = (rest : List ℕ) × (xs ++ rest ≡ ys)
+-- the first list is a prefix of the second
+abbrev pub IsPrefixOf : List ℕ → List ℕ → Type 0
+IsPrefixOf xs ys = (rest : List ℕ) × (xs ++ rest ≡ ys)
 
 -- where the first has ended, the second has with the same result
 abbrev pub EndsAlike : {R : Type 0} → Stop R → Stop R → Type 0
@@ -41,7 +41,7 @@ Shows a z = IsRight z.stop × (z.output ≡ a.output) × EndsAlike a.stop z.stop
 pub record Follows {B C R : Type 0} (a : B → Outcome R) (z : C → Outcome R) : Type 0 where
   pub reaches : (n : B) → IsRight (a n).stop → (m : C) × Shows (a n) (z m)
   pub never_wrong : ((n : B) → IsRight (a n).stop) → (m : C) → IsRight (z m).stop
-  pub no_more : ((n : B) → IsRight (a n).stop) → (m : C) → (n : B) × Begins (z m).output (a n).output × EndsAlike (z m).stop (a n).stop
+  pub no_more : ((n : B) → IsRight (a n).stop) → (m : C) → (n : B) × IsPrefixOf (z m).output (a n).output × EndsAlike (z m).stop (a n).stop
 
 -- the same of a run that depends on words that nobody knows: it follows for every list of them, and for each bound of a there are
 -- two ends that are the same for all lists

@@ -1,6 +1,6 @@
 -- What the passes know of a unit's meaning: a call of each function, and its body after the call's step, all by number.
 use Rattle.std.specs.Prelude.{◌≡◌, ℕ, suc, ◌+◌, ◌-◌, ◌<◌, ◌≤◌, List, length}
-use Rattle.cc_runs.specs.Behavior.{Going, Ended, Wrong, Outcome, Begins, AreWords}
+use Rattle.cc_runs.specs.Behavior.{Going, Ended, Wrong, Outcome, IsPrefixOf, AreWords}
 use Rattle.cc_runs.specs.World.{World, Question, Answer, Effect, Gives, Unfinished, Failed, IsWorld}
 
 -- how many calls may be open
@@ -20,7 +20,7 @@ written_by (Failed o) = o
 -- the second effect is what the first comes to with so many steps more
 abbrev pub Later : (more : ℕ) → Effect → Effect → Type 0
 Later more (Gives a left) z = z ≡ Gives a (left + more)
-Later more (Unfinished o) z = Begins o (written_by z)
+Later more (Unfinished o) z = IsPrefixOf o (written_by z)
 Later more (Failed o) z = z ≡ Failed o
 
 -- a unit's meaning: `call n opened f ws h` is a call of function f within n steps while so many calls are open, `body` what the
@@ -39,7 +39,7 @@ pub record Meaning : Type 0 where
   pub spends : (n opened f : ℕ) (ws : List ℕ) (h : World) → f < functions → opened < most_open → call (suc n) opened f ws h ≡ body n opened f ws h
   -- whatever its number, a call writes after what is written; with more steps it only goes on; an answer takes just the steps that it
   -- spends
-  pub grows : (n opened f : ℕ) (ws : List ℕ) (h : World) → Begins h.output (written_by (call n opened f ws h))
+  pub grows : (n opened f : ℕ) (ws : List ℕ) (h : World) → IsPrefixOf h.output (written_by (call n opened f ws h))
   pub later : (n more opened f : ℕ) (ws : List ℕ) (h : World) → Later more (call n opened f ws h) (call (n + more) opened f ws h)
   pub exact : (opened f : ℕ) (ws : List ℕ) (h : World) → IsExact (λ n. call n opened f ws h)
 

@@ -35,7 +35,7 @@ use Rattle.cc_core.specs.Rules.{Rules}
 use Rattle.cc_core.specs.Job as job
 use Rattle.cc_core.specs.Store.{append_of, gate_of, stepped, with_cells, FailsTo}
 use Rattle.cc_core.specs.StoreState.{StoreState}
-use Rattle.cc_core.specs.Step.{Begun, Begins, IsFree, commands, jobs_begun, numbered_now, ticked}
+use Rattle.cc_core.specs.Step.{Begun, BeginsCommit, IsFree, commands, jobs_begun, numbered_now, ticked}
 use Rattle.cc_history.specs.declared.command.Command.{Command}
 use Rattle.cc_history.specs.declared.entry.Entry.{Entry}
 use Rattle.cc_history.specs.declared.entry.Receipt.{Receipt}
@@ -330,7 +330,7 @@ module _ {D P : Type 0} (rules : Rules P) (honest : Bool) (seen : D → List ℕ
   begun_state s client c = record s { core = record (ticked s.core) { order = s.core.order ++ numbered_now s.core c ∷ []; phase = Committing client (numbered_now s.core c) due.WriteBody } }
 
   begins : (s : Contents P) (client : ClientId) (c : made.Command) (has : Has rules s client c) → IsFree s.core.phase → job.command_refusal s.core.phase s.core.library s.core.store c ≡ None
-      → Begins rules client s None (begun_state s client c)
+      → BeginsCommit rules client s None (begun_state s client c)
   begins s client c has free is =
       let verdict = verdict_is s client c has None is in
       record {
