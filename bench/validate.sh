@@ -54,10 +54,10 @@ wide() {
     for ((v = 0; v < 8; v++)); do printf 'write_word(p%d);' $v; done
     printf 'return 0;}int main(void){}\n'
 }
-# one value written so often, straight on; VALUES values written in a loop of so many blocks
+# one value written in so many blocks, straight on; VALUES values written in a loop of so many: each write takes two
 written() {
     printf 'int main(void){int i;i=read_word();'
-    times "$1" 'write_word(i);'
+    times $(($1 / 2)) 'write_word(i);'
     printf 'return 0;}\n'
 }
 turned() {
@@ -66,7 +66,7 @@ turned() {
     for ((v = 0; v < values; v++)); do printf 'int v%d;' $v; done
     for ((v = 0; v < values; v++)); do printf 'v%d=read_word();' $v; done
     printf 'while(v0){'
-    for ((n = 1; n < $1; n++)); do printf 'write_word(v%d);' $((n % values)); done
+    for ((n = 0; n < $1 / 2; n++)); do printf 'write_word(v%d);' $((n % values)); done
     printf '}return 0;}\n'
 }
 

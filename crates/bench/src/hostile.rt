@@ -3,6 +3,7 @@
 //! FILE is a text of C; its first function is taken. Its LTL is that of `spill_all` with 495 slots, changed as SHAPE says:
 //! - `equal`: the first word read goes to every slot, and each word written comes from the next slot in turn;
 //! - `turning`: the first word read goes to every slot, and behind the first write the words of all slots turn: each goes to the slot below;
+//!   in these constants stay in their register, from which they are returned;
 //! - `moving`: the same, and in front of the ten writes after it stand 60,000 moves more, from a slot to a register and back;
 //! - `high`: slot 494 - s stands for slot s.
 //!
@@ -101,6 +102,8 @@ fn changed(alloc: Global, plain: &Ltl, shape: Shape) -> Result<Ltl> {
                 }
                 writes = writes.saturating_add(1);
             }
+            Operation::Const { .. } => after = kept(alloc, after, shape),
+            Operation::Return => before = returned(alloc, before, shape)?,
             _ => {}
         }
         blocks.push(Block {
@@ -156,6 +159,29 @@ fn spread(after: &mut Vec<Move>, shape: Shape) -> Result<()> {
         })?;
     }
     Ok(())
+}
+
+// Behind a constant: it goes to no slot.
+fn kept(alloc: Global, after: Vec<Move>, shape: Shape) -> Vec<Move> {
+    if matches!(shape, Shape::High) {
+        return after;
+    }
+    drop(after);
+    Vec::new(alloc)
+}
+
+// In front of a return: the constant in front of it is returned.
+fn returned(alloc: Global, before: Vec<Move>, shape: Shape) -> Result<Vec<Move>> {
+    if matches!(shape, Shape::High) {
+        return Ok(before);
+    }
+    drop(before);
+    let mut moves = Vec::new(alloc);
+    moves.push(Move::Between {
+        to: register(10)?,
+        from: register(28)?,
+    })?;
+    Ok(moves)
 }
 
 // In front of the write of this number.
