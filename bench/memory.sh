@@ -1,6 +1,7 @@
 #!/usr/bin/env bash
 # Refuses each allocation of the program in turn, over `check` and `interpret` of bench/memory.c, of the programs of
-# examples/ and of texts at the limits: each answer is the usual one, or `fault 40 OutOfMemory` with status 1. A `malloc` put
+# examples/ and of texts at the limits, and over `run` and `asm` of a text with two functions and 24 locals: each answer is the usual one,
+# or `fault 40 OutOfMemory` with status 1. A `malloc` put
 # before the C library's refuses allocation number N, for every N until a run ends before it.
 # The program has to be built (./cclib --help); gcc makes the `malloc`.
 set -eu
@@ -46,4 +47,15 @@ for file in "$top"/bench/memory.c "$top"/examples/*.c "$work"/*.c; do
     sweep "$file" interpret 100000 3 4294967295 4 0
 done
 sweep "$work/nothing.c" interpret ten
+
+# The passes of the compiler and the machine.
+{
+    printf 'int f(int x){return x;}int main(void){'
+    for v in $(seq 24); do printf 'int v%d=read_word();' "$v"; done
+    printf 'write_word(f(0));write_word(v1'
+    for v in $(seq 2 24); do printf '+v%d' "$v"; done
+    printf ');}'
+} > "$work/locals.c"
+sweep "$work/locals.c" run 10000 $(seq 24)
+sweep "$work/locals.c" asm
 echo "$total allocations refused, $refused times fault 40, else the usual answer"

@@ -1,4 +1,5 @@
-//! Compiling a text again and again, and counting what an image executes, for bench/code.sh and bench/compile.sh.
+//! Compiling a text again and again, and counting what an image executes, for bench/code.sh, bench/compile.sh and
+//! bench/memory_compile.sh.
 
 use crate::arguments::{next_argument, next_number};
 use anyhow::{Result, bail};
@@ -21,6 +22,28 @@ pub fn compile_again(rt: &HostRuntime, arguments: &mut Args) -> Result<()> {
     let file = next_argument(arguments)?;
     let words = compiled(rt, file.as_str(), next_number(arguments)?)?;
     println!(rt; "{words}")?;
+    Ok(())
+}
+
+/// `again FILE` compiles the text of FILE, and where memory is refused compiles it again. It prints how often memory was refused, and how many
+/// words the code of its image has.
+pub fn compile_after_refusal(rt: &HostRuntime, arguments: &mut Args) -> Result<()> {
+    let file = next_argument(arguments)?;
+    let text = fs::read(rt, file.as_str())?;
+    let mut refused = 0;
+    let unit = match compile(rt.alloc(), text.as_slice()) {
+        Ok(unit) => unit,
+        Err(fault) => {
+            if fault.number() != 40 {
+                bail!("another fault");
+            }
+            refused = 1;
+            compile(rt.alloc(), text.as_slice())?
+        }
+    };
+    let words = unit.stored().image.code.words().len();
+    drop(unit);
+    println!(rt; "{refused} {words}")?;
     Ok(())
 }
 

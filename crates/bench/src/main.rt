@@ -1,15 +1,17 @@
 //! What the scripts of bench/ run: `bench TASK WORD.. [, TASK WORD..]` does each task in turn. Words that are a comma alone stand
 //! between two tasks.
 //!
-//! `compile FILE TIMES` and `count FILE` compile a text or count what its image executes (`compiler`); `list COUNT` adds to an
-//! instruction list (`list`); `machine CODE GLOBALS STEPS [WORD..]` runs words on the simulator (`machine`); `passes TASK FILE TIMES`
-//! does the passes up to the validator (`passes`); `pool TASK FILE NUMBER..` has a pool of workers compile (`pool`); `store TASK FILE
-//! [NUMBER..]` works on a library of units on a file (`store`). `arguments` reads the command line, `words` files of words, and `units`
-//! makes units and their names.
+//! `compile FILE TIMES`, `again FILE` and `count FILE` compile a text, also once memory was refused, or count what its image executes
+//! (`compiler`); `hostile TASK SHAPE FILE TIMES` validates LTL that asks for much (`hostile`); `list COUNT` adds to an instruction list
+//! (`list`); `machine CODE GLOBALS STEPS [WORD..]` runs words on the simulator (`machine`); `passes TASK FILE TIMES` does the passes up to
+//! the validator (`passes`); `pool TASK FILE NUMBER..` has a pool of workers compile (`pool`); `store TASK FILE [NUMBER..]` works on a
+//! library of units on a file (`store`). `arguments` reads the command line, `words` files of words, and `units` makes units and their
+//! names.
 #![tactic(auto)]
 
 mod arguments;
 mod compiler;
+mod hostile;
 mod list;
 mod machine;
 mod passes;
@@ -47,14 +49,16 @@ fn main(rt: HostRuntime) -> Result<()> {
 
 fn perform(rt: &HostRuntime, task: &str, arguments: &mut Args) -> Result<()> {
     match task {
+        "again" => compiler::compile_after_refusal(rt, arguments)?,
         "compile" => compiler::compile_again(rt, arguments)?,
         "count" => compiler::count(rt, arguments)?,
+        "hostile" => hostile::perform(rt, arguments)?,
         "list" => list::perform(rt, arguments)?,
         "machine" => return machine::run(rt, arguments),
         "passes" => passes::perform(rt, arguments)?,
         "store" => store::perform(rt, arguments)?,
         _ => bail!(
-            "usage: bench compile|count|list|machine|passes|pool|store WORD.. [, TASK WORD..]"
+            "usage: bench again|compile|count|hostile|list|machine|passes|pool|store WORD.. [, TASK WORD..]"
         ),
     }
     end_of_task(arguments)

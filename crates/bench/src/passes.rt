@@ -48,8 +48,8 @@ pub fn checked(rt: &HostRuntime, path: &str) -> Result<Arc<TypedUnit>> {
     Ok(Arc::new(rt.alloc(), typed)?)
 }
 
-// The RTL of the first function.
-fn first_rtl(alloc: Global, unit: &Arc<TypedUnit>) -> Result<RtlPair> {
+/// The RTL of the first function.
+pub fn first_rtl(alloc: Global, unit: &Arc<TypedUnit>) -> Result<RtlPair> {
     if unit.functions() == 0 {
         bail!("there is no function");
     }
@@ -140,7 +140,8 @@ fn in_registers(alloc: Global, pair: &mut RtlPair) -> Result<Ltl> {
     Ok(ltl)
 }
 
-fn is_accepted(alloc: Global, pair: RtlPair, ltl: Ltl) -> Result<bool> {
+/// Whether the validator accepts it.
+pub fn is_accepted(alloc: Global, pair: RtlPair, ltl: Ltl) -> Result<bool> {
     match validate(alloc, pair, ltl) {
         Ok(pair) => {
             drop(pair);

@@ -6,6 +6,7 @@ ghost use Rattle.cc_rtl.specs.Rtl.{node_at};
 ghost use Rattle.cc_ltl.specs.Ltl.{IsLtl};
 ghost use Rattle.cc_validate.specs.Solution.{IsAtEntry, HasSolution};
 ghost use Rattle.cc_validate.specs.Fault.{IsRefusal};
+ghost use Rattle.cc_validate.specs.Pair.{tree_of, FollowsRtl};
 ghost use Rattle.cc_validate.specs.internal.Facts.{IsClean, HoldsParametersAlone};
 
 use crate::beside::apart;
@@ -27,11 +28,13 @@ pub struct Refused {
 
 /// The LTL in the place of the RTL, where equations show that it does what the RTL does.
 ///
-/// It is Ok exactly where the equations have a solution, whoever made the LTL. Else it is refused, and the pair comes back as it was:
+/// It is Ok exactly where the equations have a solution, whoever made the LTL. Then the LTL's run follows the RTL's, also where the source
+/// goes wrong and the RTL does not. Else it is refused, and the pair comes back as it was:
 /// with 24 there is no solution, and the fault names a label at which none can be; with 40 memory ran out.
 pub fn validate(alloc: Global, pair: RtlPair, ltl: Ltl) -> Result<LtlPair, Refused>
     ensures answer { IfOk result (λ made. made ≡ record { unit = pair.unit; function = pair.function; ltl = ltl }) }
     ensures solved { IfOk result (λ _. HasSolution pair.rtl ltl) }
+    ensures follows { IfOk result (λ made. FollowsRtl (tree_of made) made.function pair.rtl made.ltl) }
     ensures refused { IfErr result (λ refused. IsRefusal pair.rtl ltl refused.fault) }
     ensures hands_back { IfErr result (λ refused. refused.pair ≡ pair) }
 {

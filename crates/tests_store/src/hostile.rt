@@ -36,6 +36,17 @@ fn each_change_of_the_row(rt: HostRuntime) -> Result<(), Fail> {
 }
 
 #[test]
+fn the_longest_body_is_there_at_once(rt: HostRuntime) -> Result<(), Fail> {
+    let alloc = rt.alloc();
+    let mut disk = row_disk(alloc, &[(17, 0x3a)])?;
+    let bytes = bytes_of(alloc, &mut disk)?;
+    let body = part(&bytes, 21, 79);
+    assert!(rt; body.len() == 58);
+    assert!(rt; holds(alloc, disk, &[body]));
+    Ok(())
+}
+
+#[test]
 fn each_value_of_the_first_gate(rt: HostRuntime) -> Result<(), Fail> {
     let alloc = rt.alloc();
     for gate in 0..=255u8 {

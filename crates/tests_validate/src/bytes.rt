@@ -1,13 +1,14 @@
-// An allocation with operands exchanged, and the bytes of one with one byte changed.
+// An allocation with operands exchanged, the bytes of one with one byte changed, and all of their prefixes.
 
 use super::changes::{Change, changed};
 use super::pairs::{pair_of, unit_of};
-use super::texts::{DIFFERENCE, EMPTY};
+use super::texts::{DIFFERENCE, EMPTY, LONG};
 use cc_colour::spill_all;
 use cc_ltl::{Ltl, Operation, read_ltl, write_ltl};
-use cc_rtl::RtlPair;
+use cc_typing::TypedUnit;
 use cc_validate::validate;
 use std::alloc::Global;
+use std::sync::Arc;
 use std::test::Fail;
 
 // The operation with two operands, its operands exchanged, and its place.
@@ -61,53 +62,89 @@ fn exchanged_operands_are_refused(rt: HostRuntime) -> Result<(), Fail> {
     Ok(())
 }
 
-// The pair of the smallest function.
-fn smallest(alloc: Global) -> Result<RtlPair, Fail> {
-    let unit = unit_of(alloc, EMPTY)?;
-    pair_of(alloc, &unit, 0)
-}
-
 // Bytes are no function, or one that is refused, or one that is right.
-fn is_answered(alloc: Global, bytes: &[u8]) -> Result<bool, Fail> {
+fn is_answered(
+    alloc: Global,
+    unit: &Arc<TypedUnit>,
+    function: usize,
+    bytes: &[u8],
+) -> Result<bool, Fail> {
     match read_ltl(alloc, bytes) {
         Err(fault) => Ok(fault.number() == 37),
-        Ok(ltl) => match validate(alloc, smallest(alloc)?, ltl) {
+        Ok(ltl) => match validate(alloc, pair_of(alloc, unit, function)?, ltl) {
             Ok(_) => Ok(true),
             Err(refused) => Ok(refused.fault.number() == 24),
         },
     }
 }
 
-// The bytes with another one at a place.
-fn is_place_answered(alloc: Global, bytes: &[u8], place: usize) -> Result<bool, Fail> {
+// The bytes with another one at a place: of the 256 values one in so many, and at the next place the next ones.
+fn is_place_answered(
+    alloc: Global,
+    unit: &Arc<TypedUnit>,
+    function: usize,
+    bytes: &mut Vec<u8>,
+    place: usize,
+    one_in: usize,
+) -> Result<bool, Fail> {
+    let Some(usual) = bytes.as_slice().get(place).copied() else {
+        return Ok(false);
+    };
+    let mut right = true;
     for value in 0..=255u8 {
-        let mut changed = Vec::from_slice(alloc, bytes)?;
-        if let Some(byte) = changed.as_mut_slice().get_mut(place) {
-            *byte = value;
+        if one_in == 0 || (value as usize) % one_in == place % one_in {
+            if let Some(byte) = bytes.as_mut_slice().get_mut(place) {
+                *byte = value;
+            }
+            right = right && is_answered(alloc, unit, function, bytes.as_slice())?;
         }
-        if !is_answered(alloc, changed.as_slice())? {
+    }
+    if let Some(byte) = bytes.as_mut_slice().get_mut(place) {
+        *byte = usual;
+    }
+    Ok(right)
+}
+
+// Each byte of a function's allocation has other values, and each shorter prefix is no function.
+fn are_answered(alloc: Global, text: &str, function: usize, one_in: usize) -> Result<bool, Fail> {
+    let unit = unit_of(alloc, text)?;
+    let pair = pair_of(alloc, &unit, function)?;
+    let ltl = spill_all(alloc, pair.code())?;
+    let mut bytes = write_ltl(alloc, &ltl)?;
+    for place in 0..bytes.len() {
+        if !is_place_answered(alloc, &unit, function, &mut bytes, place, one_in)? {
             return Ok(false);
+        }
+    }
+    are_prefixes_refused(alloc, bytes.as_slice())
+}
+
+// Each prefix that is shorter has 37.
+fn are_prefixes_refused(alloc: Global, bytes: &[u8]) -> Result<bool, Fail> {
+    for end in 0..bytes.len() {
+        match read_ltl(alloc, &bytes[..end]) {
+            Err(fault) => {
+                if fault.number() != 37 {
+                    return Ok(false);
+                }
+            }
+            Ok(_) => return Ok(false),
         }
     }
     Ok(true)
 }
 
-fn are_answered(alloc: Global) -> Result<bool, Fail> {
-    let pair = smallest(alloc)?;
-    let ltl = spill_all(alloc, pair.code())?;
-    let three = ltl.blocks().len() == 3;
-    let bytes = write_ltl(alloc, &ltl)?;
-    for place in 0..bytes.len() {
-        if !is_place_answered(alloc, bytes.as_slice(), place)? {
-            return Ok(false);
-        }
-    }
-    Ok(three)
+#[test]
+fn bytes_of_small_functions_with_one_changed_are_answered(rt: HostRuntime) -> Result<(), Fail> {
+    let smallest = are_answered(rt.alloc(), EMPTY, 0, 1)?;
+    let identity = are_answered(rt.alloc(), LONG, 0, 1)?;
+    assert!(rt; smallest && identity);
+    Ok(())
 }
 
 #[test]
-fn bytes_with_one_changed_are_answered(rt: HostRuntime) -> Result<(), Fail> {
-    let right = are_answered(rt.alloc())?;
+fn bytes_of_a_long_function_with_one_changed_are_answered(rt: HostRuntime) -> Result<(), Fail> {
+    let right = are_answered(rt.alloc(), LONG, 1, 8)?;
     assert!(rt; right);
     Ok(())
 }
