@@ -1,6 +1,6 @@
 -- A compiled unit's pieces, put in the order of definitions, are all of its source's, and link to it as they did in the order they came in.
 use Rattle.std.proofs.Common.{◌≡◌, ℕ, zero, suc, ◌+◌, ◌<◌, ◌≤◌, ◌⊎◌, inl, inr, Bool, true, false, if◌then◌else◌, List, [], ◌∷◌, length, Option, Some, None, Result, Ok, Err, refl, sym, ap, ◌∙◌, subst, arith}
-use Rattle.std.specs.Prelude.{◌==◌, All, is_some, slice_get, unwrap_or}
+use Rattle.std.specs.Prelude.{◌==◌, is_some, slice_get, unwrap_or}
 use Rattle.std.specs.Coded.{Coded-set}
 use Rattle.std.specs.Option.{option_or}
 use Rattle.std.proofs.Math.Logic.{∥∥₁_elim, ∥∥₁_map, ∥∥₁_prop}
@@ -31,13 +31,6 @@ use Rattle.cc_core.specs.Rules.{IsBuilt}
 use Rattle.cc_build.specs.Compiling as build
 use Rattle.cc_build.specs.Plan.{IsPlan}
 use Rattle.cc_build.proofs.Plans.{program_planned}
-
--- what holds of each element holds of the one at a place, and the other way round
-holds_at : {X : Type 0} (P : X → Type 0) (xs : List X) (k : ℕ) (x : X) → All P xs → slice_get xs k ≡ Some x → P x
-holds_at P xs k x all is = subst P (get_or_from_slice_get xs k x x is) (all k x (slice_get_within xs k x is))
-
-holds_of_each : {X : Type 0} (P : X → Type 0) (xs : List X) → ((k : ℕ) (x : X) → slice_get xs k ≡ Some x → P x) → All P xs
-holds_of_each P xs each k d within = each k _ (slice_get-get_or xs k d within)
 
 abbrev IsNone : Option LinkFault → Type 0
 IsNone None = Unit {0}
@@ -189,7 +182,7 @@ module _ (tokens : TokensAreOne) (trees : TreesAreOne) (mains : TypedUnitsHaveMa
       let a = none_or (stranger s.text 0 ps) _ done.0 in
       let b = none_or (doubled [] 0 ps) _ a.1 in
       let c = none_or (missing ps 0 n) _ b.1 in
-      let so : IsSorted s.text ps 0 n = sort s.text ps (one_text s.text 0 ps a.0) (λ k q at. holds_at IsCompiled ps k q m.compiled at) 0 n c.0 in
+      let so : IsSorted s.text ps 0 n = sort s.text ps (one_text s.text 0 ps a.0) (λ k q at. subst IsCompiled (get_or_from_slice_get ps k q q at) (m.compiled k q (slice_get_within ps k q at))) 0 n c.0 in
       let text : unit.source ≡ s.text = sym (ap (λ (v : StoredUnit). v.source) done.1) in
       let same : bodies s.externals so.pieces ≡ bodies s.externals ps = in_order_same so.pieces ps 0 n so.items in
       let some : 1 ≤ length so.pieces = omega (arith, so.many, (mains s.externals m.checked.typed).below) in
@@ -208,6 +201,6 @@ module _ (tokens : TokensAreOne) (trees : TreesAreOne) (mains : TypedUnitsHaveMa
       record {
         pieces = so.pieces;
         whole = record { counted = planned; named = λ k q at. let it = so.named k q at in (it.0 ∙ sym text, it.1 ∙ omega arith) };
-        kept = holds_of_each build.Keeps so.pieces (λ k q at. record { compiled = so.each k q at; agree = agree });
+        kept = λ k q within. record { compiled = so.each k _ (slice_get-get_or so.pieces k q within); agree = agree };
         unit_is = unit_is;
       }

@@ -23,7 +23,6 @@ use Rattle.atomic_table.proofs.badge.Badge.TheSendSync as badge
 use Rattle.atomic_table.proofs.send_lease.SendLease.TheSendSync as leased
 use Rattle.std.specs.contracts.option.Option as Option
 use Rattle.atomic_table.specs.contracts.owned.Table as Table
-use Rattle.atomic_table.specs.contracts.send_lease.SendLease as Lease
 use Rattle.atomic_table.specs.declared.shared.TableRule.{Ghosts as TableGhosts}
 use Rattle.std.specs.contracts.alloc.Global as Global
 use Rattle.std.specs.contracts.impls.GlobalAllocator.TheImpl as heap

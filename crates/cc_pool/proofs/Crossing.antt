@@ -2,7 +2,7 @@
 use denote.Param.Send.{IsSend, IsSync, sendable, recorded_send, recorded_sync, view_send, view_sync, struct_send, struct_sync, enum_send, enum_sync}
 use denote.Struct.Declared.{shape}
 use denote.Enum.Declared.{shape as enum_shape}
-use Rattle.std.proofs.Crossing.{crosses, Arc-send, Arc-sync, Vec-send, Vec-sync, Box-send, Box-sync}
+use Rattle.std.proofs.Crossing.{crosses, Arc-send, Vec-send, Vec-sync, Box-send, Box-sync}
 use Rattle.cc_syntax.proofs.ast.Expression.TheLaws.TheKnot.{send-Expression, sync-Expression}
 use Rattle.cc_syntax.proofs.ast.Statement.TheLaws.TheKnot.{send-Statement, sync-Statement}
 use Rattle.cc_syntax.specs.contracts.ast.Identifier as Identifier

@@ -1,6 +1,5 @@
 -- What contracts say of passes.
 use Rattle.std.specs.Prelude.{◌≡◌, ℕ, zero, suc, ◌≤◌, List, [], ◌∷◌, ◌++◌, IsPermutation}
-use Rattle.cc_pool.specs.Job.{Task}
 use Rattle.cc_pool.specs.declared.item.Item.{Item}
 use Rattle.cc_pool.specs.declared.item.Item.TheVariants.{Piece, Stop}
 

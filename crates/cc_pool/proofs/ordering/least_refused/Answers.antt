@@ -1,5 +1,5 @@
-use Rattle.std.proofs.Common.{◌+◌, ◌++◌, ◌∷◌, [], List, ap, sym, ◌∙◌, subst, take}
-use Rattle.std.proofs.lemmas.List.{get_or_read, take_more, take_all}
+use Rattle.std.proofs.Common.{◌++◌, ◌∷◌, [], List, ap, sym, ◌∙◌, subst, take}
+use Rattle.std.proofs.lemmas.List.{get_or_read, take_more}
 use Rattle.cc_pool.specs.Answers.{NoPiece}
 use Rattle.cc_pool.specs.internal.Least.{IsLeastOf}
 use Rattle.cc_pool.proofs.ordering.least_refused.Goals as goal

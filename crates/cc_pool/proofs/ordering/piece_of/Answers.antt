@@ -1,4 +1,4 @@
-use Rattle.std.proofs.Common.{rules, arith, refl, sym, ap, ◌∙◌, subst, take, List, ◌∷◌, length}
+use Rattle.std.proofs.Common.{rules, sym, subst, List, ◌∷◌}
 use Rattle.std.proofs.lemmas.List.Sorted.{IsPermutation-swap_remove}
 use Rattle.std.specs.Prelude.{IsPermutation}
 use Rattle.cc_emit.specs.Piece.{Piece}
