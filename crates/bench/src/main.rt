@@ -1,12 +1,20 @@
 //! What the scripts of bench/ run: `bench TASK WORD.. [, TASK WORD..]` does each task in turn. Words that are a comma alone stand
 //! between two tasks.
 //!
+<<<<<<< ours
 //! `compile FILE TIMES`, `again FILE` and `count FILE` compile a text, also once memory was refused, or count what its image executes
 //! (`compiler`); `hostile TASK SHAPE FILE TIMES` validates LTL that asks for much (`hostile`); `list COUNT` adds to an instruction list
 //! (`list`); `machine CODE GLOBALS STEPS [WORD..]` runs words on the simulator (`machine`); `passes TASK FILE TIMES` does the passes up to
 //! the validator (`passes`); `pool TASK FILE NUMBER..` has a pool of workers compile (`pool`); `store TASK FILE [NUMBER..]` works on a
 //! library of units on a file (`store`). `arguments` reads the command line, `words` files of words, and `units` makes units and their
 //! names.
+=======
+//! `compile FILE TIMES` and `count FILE` compile a text or count what its image executes (`compiler`); `list COUNT` adds to an
+//! instruction list (`list`); `machine CODE GLOBALS STEPS [WORD..]` runs words on the simulator (`machine`); `passes TASK FILE TIMES`
+//! does the passes up to the validator (`passes`); `pool TASK FILE NUMBER..` has a pool of workers compile (`pool`); `stands SOURCE
+//! WORDS TIMES` looks whether a receipt stands (`stands`); `store TASK FILE [NUMBER..]` works on a library of units on a file
+//! (`store`). `arguments` reads the command line, `words` files of words, and `units` makes units and their names.
+>>>>>>> theirs
 #![tactic(auto)]
 
 mod arguments;
@@ -16,6 +24,7 @@ mod list;
 mod machine;
 mod passes;
 mod pool;
+mod stands;
 mod store;
 mod units;
 mod words;
@@ -56,9 +65,14 @@ fn perform(rt: &HostRuntime, task: &str, arguments: &mut Args) -> Result<()> {
         "list" => list::perform(rt, arguments)?,
         "machine" => return machine::run(rt, arguments),
         "passes" => passes::perform(rt, arguments)?,
+        "stands" => stands::look_again(rt, arguments)?,
         "store" => store::perform(rt, arguments)?,
         _ => bail!(
+<<<<<<< ours
             "usage: bench again|compile|count|hostile|list|machine|passes|pool|store WORD.. [, TASK WORD..]"
+=======
+            "usage: bench compile|count|list|machine|passes|pool|stands|store WORD.. [, TASK WORD..]"
+>>>>>>> theirs
         ),
     }
     end_of_task(arguments)
