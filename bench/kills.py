@@ -1,10 +1,12 @@
 #!/usr/bin/env python3
 """Kills a process that adds units to a file, again and again, and looks whether the file has every unit that was acknowledged.
 
-kills.py [COUNT] [FOLDER] [SEED]: so many kills (1000), on a file in that folder (this one), from a seed (1). The process prints the
-number of each unit once its `add` has answered Ok. It is killed (SIGKILL) at a random moment of its first 50 milliseconds;
-then the library has to open, with all that was printed and at most one unit more. The file is made anew once it is full.
-The program has to be built (rt run in crates/bench)."""
+kills.py [--session] [COUNT] [FOLDER] [SEED]: so many kills (1000), on a file in that folder (this one), from a seed (1). The process
+says of each unit that its add has answered Ok. It is killed (SIGKILL) at a random moment of its first 50 milliseconds; then the
+library has to open, with all that was said and at most one unit more. The file is made anew once it is full.
+
+The process is the program of crates/bench, and with --session it is `cclib library` with a script of adds, and a script of one `list`
+to look. Each has to be built (rt run in crates/bench, ./cclib)."""
 
 import os
 import random
@@ -13,48 +15,101 @@ import sys
 import tempfile
 import time
 
-PROGRAM = os.path.join(os.path.dirname(os.path.abspath(__file__)), "../crates/bench/out/bench")
+HERE = os.path.dirname(os.path.abspath(__file__))
 AREA = 1 << 20
-UNIT = ["200", "100"]
 
 
-def add(path, moment):
-    """Adds units until the moment comes: how many numbers were printed, and the last."""
-    process = subprocess.Popen([PROGRAM, "store", "add", path, "1000000", *UNIT], stdout=subprocess.PIPE)
+class Store:
+    """The library alone, by the program of crates/bench."""
+
+    PROGRAM = os.path.join(HERE, "../crates/bench/out/bench")
+    UNIT = ["200", "100"]
+
+    def make(self, path):
+        subprocess.run([self.PROGRAM, "store", "make", path, str(AREA)], check=True)
+
+    def add(self, path, before, moment):
+        """Adds units until the moment comes, behind so many: how many it has said, and whether the file is full."""
+        process = subprocess.Popen([self.PROGRAM, "store", "add", path, "1000000", *self.UNIT], stdout=subprocess.PIPE)
+        printed = until(process, moment)
+        # The last line may have been cut: it counts for nothing then.
+        numbers = [int(it) for it in printed.split("\n")[:-1]]
+        if numbers != list(range(before, before + len(numbers))):
+            sys.exit(f"kills.py: after {before} units the process printed {numbers[:3]}..")
+        return len(numbers), process.returncode == 0
+
+    def count(self, path):
+        found = subprocess.run([self.PROGRAM, "store", "count", path, *self.UNIT], capture_output=True, text=True)
+        if found.returncode:
+            sys.exit(f"kills.py: {found.stderr}")
+        return int(found.stdout)
+
+
+class Session:
+    """A session of the program over the running service, by a script on standard input."""
+
+    PROGRAM = os.path.join(HERE, "../crates/cclib/out/cclib")
+    UNIT = "int f(int x){return x*3;}int main(void){int i;int s=0;for(i=0;i<9;i++)s+=f(i);write_word(s);return s;}"
+
+    def run(self, path, script, *options):
+        done = subprocess.run([self.PROGRAM, "library", path, *options, "--quiet"], input=script, capture_output=True, text=True)
+        if done.returncode:
+            sys.exit(f"kills.py: {done.stdout}")
+        return done.stdout.split("\n")[:-1]
+
+    def make(self, path):
+        self.run(path, "", "--format", str(AREA))
+
+    def add(self, path, before, moment):
+        script = path + ".script"
+        with open(script, "w") as file:
+            for number in range(before, before + 2000):
+                file.write(f"add u{number} {len(self.UNIT)}\n{self.UNIT}\n")
+        with open(script) as file:
+            process = subprocess.Popen([self.PROGRAM, "library", path, "--quiet"], stdin=file, stdout=subprocess.PIPE)
+            printed = until(process, moment)
+        lines = printed.split("\n")[:-1]
+        said = [it for it in lines if it.startswith("ok ")]
+        if said != [f"ok {it + 1}" for it in range(len(said))] or lines[: len(said)] != said:
+            sys.exit(f"kills.py: the session printed {lines[:3]}..")
+        return len(said), "fault 34 Full" in lines
+
+    def count(self, path):
+        names = [it[5:] for it in self.run(path, "list\n")[:-1]]
+        if sorted(names) != sorted(f"u{it}" for it in range(len(names))):
+            sys.exit(f"kills.py: {len(names)} units, and not the first ones")
+        return len(names)
+
+
+def until(process, moment):
+    """What a process prints until the moment comes, in which it is killed."""
     time.sleep(moment)
     process.kill()
-    printed, _ = process.communicate()
-    # The last line may have been cut: it counts for nothing then.
-    numbers = [int(it) for it in printed.decode().split("\n")[:-1]]
-    return numbers, process.returncode
+    return process.communicate()[0].decode()
 
 
 def main():
-    kills = int(sys.argv[1]) if len(sys.argv) > 1 else 1000
-    folder = sys.argv[2] if len(sys.argv) > 2 else "."
-    chance = random.Random(int(sys.argv[3]) if len(sys.argv) > 3 else 1)
+    words = [it for it in sys.argv[1:] if it != "--session"]
+    store = Session() if "--session" in sys.argv else Store()
+    kills = int(words[0]) if words else 1000
+    folder = words[1] if len(words) > 1 else "."
+    chance = random.Random(int(words[2]) if len(words) > 2 else 1)
     killed = ended = acknowledged = more = lost = files = before = 0
     with tempfile.TemporaryDirectory(dir=folder) as work:
         path = os.path.join(work, "disk")
         while killed < kills:
             if not os.path.exists(path):
-                subprocess.run([PROGRAM, "store", "make", path, str(AREA)], check=True)
+                store.make(path)
                 files, before = files + 1, 0
-            numbers, status = add(path, chance.uniform(0, 0.05))
-            if numbers != list(range(before, before + len(numbers))):
-                sys.exit(f"kills.py: after {before} units the process printed {numbers[:3]}..")
-            found = subprocess.run([PROGRAM, "store", "count", path, *UNIT], capture_output=True, text=True)
-            if found.returncode:
-                sys.exit(f"kills.py: after {killed} kills: {found.stderr}")
-            count, kept = int(found.stdout), before + len(numbers)
-            acknowledged += len(numbers)
+            said, is_full = store.add(path, before, chance.uniform(0, 0.05))
+            count, kept = store.count(path), before + said
+            acknowledged += said
             lost += max(kept - count, 0)
             if count > kept + 1:
                 sys.exit(f"kills.py: {count} units, {kept} acknowledged")
             more += count == kept + 1
             before = count
-            if status == 0:
-                # It ended before the moment: the area is full.
+            if is_full:
                 ended += 1
                 os.remove(path)
             else:

@@ -1,20 +1,12 @@
 //! What the scripts of bench/ run: `bench TASK WORD.. [, TASK WORD..]` does each task in turn. Words that are a comma alone stand
 //! between two tasks.
 //!
-<<<<<<< ours
 //! `compile FILE TIMES`, `again FILE` and `count FILE` compile a text, also once memory was refused, or count what its image executes
 //! (`compiler`); `hostile TASK SHAPE FILE TIMES` validates LTL that asks for much (`hostile`); `list COUNT` adds to an instruction list
 //! (`list`); `machine CODE GLOBALS STEPS [WORD..]` runs words on the simulator (`machine`); `passes TASK FILE TIMES` does the passes up to
-//! the validator (`passes`); `pool TASK FILE NUMBER..` has a pool of workers compile (`pool`); `store TASK FILE [NUMBER..]` works on a
-//! library of units on a file (`store`). `arguments` reads the command line, `words` files of words, and `units` makes units and their
-//! names.
-=======
-//! `compile FILE TIMES` and `count FILE` compile a text or count what its image executes (`compiler`); `list COUNT` adds to an
-//! instruction list (`list`); `machine CODE GLOBALS STEPS [WORD..]` runs words on the simulator (`machine`); `passes TASK FILE TIMES`
-//! does the passes up to the validator (`passes`); `pool TASK FILE NUMBER..` has a pool of workers compile (`pool`); `stands SOURCE
-//! WORDS TIMES` looks whether a receipt stands (`stands`); `store TASK FILE [NUMBER..]` works on a library of units on a file
-//! (`store`). `arguments` reads the command line, `words` files of words, and `units` makes units and their names.
->>>>>>> theirs
+//! the validator (`passes`); `pool TASK FILE NUMBER..` has a pool of workers compile (`pool`); `stands SOURCE WORDS TIMES` looks whether a
+//! receipt stands (`stands`); `store TASK FILE [NUMBER..]` works on a library of units on a file (`store`). `arguments` reads the command
+//! line, `words` files of words, and `units` makes units and their names.
 #![tactic(auto)]
 
 mod arguments;
@@ -68,11 +60,7 @@ fn perform(rt: &HostRuntime, task: &str, arguments: &mut Args) -> Result<()> {
         "stands" => stands::look_again(rt, arguments)?,
         "store" => store::perform(rt, arguments)?,
         _ => bail!(
-<<<<<<< ours
-            "usage: bench again|compile|count|hostile|list|machine|passes|pool|store WORD.. [, TASK WORD..]"
-=======
-            "usage: bench compile|count|list|machine|passes|pool|stands|store WORD.. [, TASK WORD..]"
->>>>>>> theirs
+            "usage: bench again|compile|count|hostile|list|machine|passes|pool|stands|store WORD.. [, TASK WORD..]"
         ),
     }
     end_of_task(arguments)

@@ -1,2 +1,2 @@
--- What a task may be.
+-- What the program may be asked to do.
 pub mod Task

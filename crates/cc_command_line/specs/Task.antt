@@ -1,7 +1,9 @@
--- What a task may be.
-use Rattle.std.specs.Prelude.{◌≤◌, ℕ}
+-- What the program may be asked to do.
+use Rattle.std.specs.Prelude.{◌≤◌, ℕ, Option, Some, None}
 use Rattle.cc_command_line.specs.declared.command_line.Task.{Task}
 use Rattle.cc_command_line.specs.declared.command_line.Task.TheVariants.{Check, Interpret, Run, Asm}
+use Rattle.cc_command_line.specs.declared.command_line.Work.{Work}
+use Rattle.cc_command_line.specs.declared.command_line.Work.TheVariants.{One, Library}
 
 -- how many steps a run may take, or instructions
 abbrev pub most_steps : ℕ
@@ -12,3 +14,12 @@ IsWithinLimits Check = Unit {0}
 IsWithinLimits (Interpret steps words) = steps ≤ most_steps
 IsWithinLimits (Run steps words) = steps ≤ most_steps
 IsWithinLimits Asm = Unit {0}
+
+-- how many bytes an area may have, where one is to be made
+abbrev pub IsArea : Option ℕ → Type 0
+IsArea None = Unit {0}
+IsArea (Some area) = (64 ≤ area) × (area ≤ 1073741824)
+
+abbrev pub IsAllowed : Work → Type 0
+IsAllowed (One task) = IsWithinLimits task
+IsAllowed (Library disk area workers) = IsArea area × (1 ≤ workers) × (workers ≤ 8)

@@ -1,8 +1,10 @@
 // The command line.
 
-ghost use Rattle.std.specs.Prelude.{◌≤◌, IfOk, IfSome};
-ghost use Rattle.cc_command_line.specs.Task.{IsWithinLimits};
+ghost use Rattle.std.specs.Prelude.{◌≤◌, IfOk};
+ghost use Rattle.cc_command_line.specs.Task.{IsWithinLimits, IsAllowed};
 
+use crate::library::{library_command, library_of};
+use crate::numbers::number_in;
 use clap::error::ErrorKind;
 use clap::{Arg, ArgAction, ArgMatches, Command, Error};
 use std::alloc::{AllocError, Global};
@@ -25,11 +27,33 @@ Examples:
   cclib check < examples/quotient.c
   cclib interpret 1000 < examples/quotient.c
   cclib run 10000 2 104 105 < examples/checksum.c
+  cclib library units.disk --format 65536 < examples/units.script
 
 The C program is read from standard input. The WORDs are the program's own input;
 a negative one is written modulo 4294967296: 4294967293 for -3.
 
+`library` reads a script of commands in place of a program:
+
+  add a 16           compiles the 16 bytes that follow and keeps them as `a`: ok 1
+  int main(void){}
+  run a 1000         exited 0
+  list               unit a, then ok 3
+
 Exit status: 0 for an answer, 1 for a fault, 2 for a command line that is refused.";
+
+/// What the program is asked to do.
+#[derive(Drop)]
+pub enum Work {
+    /// A task for the text on standard input.
+    One(Task),
+    /// The script on standard input, over the library in the file `disk`, which is made anew with two areas of `area` bytes where that is
+    /// given, by so many workers.
+    Library {
+        disk: String,
+        area: Option<u32>,
+        workers: usize,
+    },
+}
 
 /// What the program is asked to do with the text on standard input.
 #[derive(Drop)]
@@ -116,14 +140,18 @@ fn command<'a>(alloc: Global) -> Result<Command<'a>, AllocError> {
         .help("Explain no fault on standard error");
     let whole = Command::new(alloc, "cclib")
         .version("0.1.0")
-        .about("Reads a C program from standard input: checks, interprets, compiles and runs it")
+        .about(
+            "Reads a C program from standard input: checks, interprets, compiles and runs it, or keeps compiled programs in a file",
+        )
         .after_help(WHOLE_HELP)
         .subcommand_required(true)
         .arg(quiet)?
         .subcommand(plain_command(alloc, "check", check))?;
     let whole = with_part(whole, runner_command(alloc, &INTERPRET))?;
     let whole = with_part(whole, runner_command(alloc, &RUN))?;
-    whole.subcommand(plain_command(alloc, "asm", "Compile the program and list its image"))
+    let asm = "Compile the program and list its image";
+    let whole = whole.subcommand(plain_command(alloc, "asm", asm))?;
+    with_part(whole, library_command(alloc))
 }
 
 // The error of clap for a word of that command that breaks this rule.
@@ -141,26 +169,13 @@ pub fn refused_bytes(alloc: Global) -> Result<Error, AllocError> {
     )
 }
 
-// The number of steps that a text of digits stands for.
-fn steps_in(text: &str) -> Option<u64>
-    ensures { IfSome result (λ steps. steps ≤ MOST_STEPS) }
-{
-    if !text.bytes().all(|b| b.is_ascii_digit()) {
-        return None;
-    }
-    match text.parse::<u64>() {
-        Ok(steps) if steps <= MOST_STEPS => Some(steps),
-        _ => None,
-    }
-}
-
 fn steps_of(alloc: Global, runner: &Runner, given: &ArgMatches<'_>) -> Result<u64, Error>
     ensures { IfOk result (λ steps. steps ≤ MOST_STEPS) }
 {
     let Some(text) = given.get_str("STEPS") else {
         return Err(refused(alloc, runner, STEPS_RULE)?);
     };
-    match steps_in(text) {
+    match number_in(text, 0, MOST_STEPS) {
         Some(steps) => Ok(steps),
         None => Err(refused(alloc, runner, STEPS_RULE)?),
     }
@@ -213,10 +228,22 @@ fn task_of(alloc: Global, matches: &ArgMatches<'_>) -> Result<Task, Error>
     }
 }
 
-/// What a command line asks for: a task, and whether no fault of it is to be explained.
+fn work_of(alloc: Global, matches: &ArgMatches<'_>) -> Result<Work, Error>
+    ensures { IfOk result IsAllowed }
+{
+    if let Some(("library", given)) = matches.subcommand() {
+        return library_of(alloc, given);
+    }
+    match task_of(alloc, matches) {
+        Ok(task) => Ok(Work::One(task)),
+        Err(error) => Err(error),
+    }
+}
+
+/// What a command line asks for: the work, and whether no fault of it is to be explained.
 #[derive(Drop)]
 pub struct Request {
-    pub task: Task,
+    pub work: Work,
     pub is_quiet: bool,
 }
 
@@ -224,24 +251,24 @@ pub struct Request {
 ///
 /// The error is clap's: its text goes to standard error and its status is 2, but for a text of help.
 pub fn read_request<'a, S: AsStr>(alloc: Global, words: &'a [S]) -> Result<Request, Error>
-    ensures { IfOk result (λ request. IsWithinLimits request.task) }
+    ensures { IfOk result (λ request. IsAllowed request.work) }
 {
     let matches = command(alloc)?.try_get_matches_from(words)?;
     let is_quiet = matches.get_flag(QUIET);
-    let task = task_of(alloc, &matches);
+    let work = work_of(alloc, &matches);
     drop(matches);
-    match task {
-        Ok(task) => Ok(Request { task, is_quiet }),
+    match work {
+        Ok(work) => Ok(Request { work, is_quiet }),
         Err(error) => Err(error),
     }
 }
 
-/// The task that a command line asks for, as `read_request` reads it.
-pub fn line<'a, S: AsStr>(alloc: Global, words: &'a [S]) -> Result<Task, Error>
-    ensures { IfOk result IsWithinLimits }
+/// The work that a command line asks for, as `read_request` reads it.
+pub fn line<'a, S: AsStr>(alloc: Global, words: &'a [S]) -> Result<Work, Error>
+    ensures { IfOk result IsAllowed }
 {
     match read_request(alloc, words) {
-        Ok(Request { task, is_quiet: _ }) => Ok(task),
+        Ok(Request { work, is_quiet: _ }) => Ok(work),
         Err(error) => Err(error),
     }
 }

@@ -1,9 +1,13 @@
-//! The command line of the program: which words ask for which task.
+//! The command line of the program: which words ask for what.
 //!
-//! It stands on `clap` alone and knows nothing of the language, so it is proved beside the crates that do. Hands out `read_request`,
-//! `line`, `Task` and its limit, and the definition that their contracts name (`specs/`).
+//! It stands on `clap` alone and knows nothing of the language, so it is proved beside the crates that do. `command_line` reads it,
+//! `library` has the command for a library, `numbers` the numbers. Hands out `read_request`, `line`, `Work`, `Task` and the limits, and
+//! the definitions that their contracts name (`specs/`).
 #![tactic(auto)]
 
 mod command_line;
+mod library;
+mod numbers;
 
-pub use command_line::{MOST_STEPS, Request, Task, line, read_request, refused_bytes};
+pub use command_line::{MOST_STEPS, Request, Task, Work, line, read_request, refused_bytes};
+pub use library::{LEAST_AREA, MOST_AREA, MOST_WORKERS};

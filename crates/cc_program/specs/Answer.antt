@@ -41,10 +41,14 @@ abbrev pub IsRan : (steps : ℕ) → (words text : List ℕ) → Answer → Type
 IsRan steps words text (Ran o) = (p : ProgramOf text) × (outcome_tree o ≡ source_behavior p.program words steps)
 IsRan steps words text answer = ⊥
 
--- what `run` answers: what an image that agrees with the text does on the input words within so many instructions
+-- what an image does on the input words within so many instructions
+abbrev pub IsRunOf : Image → (steps : ℕ) → (words : List ℕ) → Answer → Type 0
+IsRunOf image steps words (Executed output outcome) = machine_behavior image words steps ≡ record { outcome = outcome; output = output.items }
+IsRunOf image steps words answer = ⊥
+
+-- what `run` answers: what an image that agrees with the text does
 abbrev pub IsExecuted : (steps : ℕ) → (words text : List ℕ) → Answer → Type 0
-IsExecuted steps words text (Executed output outcome) = (image : Image) × Agree text image × (machine_behavior image words steps ≡ record { outcome = outcome; output = output.items })
-IsExecuted steps words text answer = ⊥
+IsExecuted steps words text answer = (image : Image) × Agree text image × IsRunOf image steps words answer
 
 -- what `asm` answers: the listing of an image that agrees with the text
 abbrev pub IsListed : (text : List ℕ) → Answer → Type 0

@@ -3,18 +3,19 @@
 ghost use Rattle.std.specs.Prelude.{◌≡◌, IfOk, IfErr};
 ghost use Rattle.cc_syntax.specs.Source.{source};
 ghost use Rattle.cc_link.specs.Agree.{Agree};
-ghost use Rattle.cc_program.specs.Answer.{IsProgram, IsAccepted, IsRan, IsExecuted, IsListed, Answers, IsRefused};
+ghost use Rattle.cc_program.specs.Answer.{IsProgram, IsAccepted, IsRan, IsRunOf, IsExecuted, IsListed, Answers, IsRefused};
 
 use super::fault::Fault;
 use cc_command_line::Task;
 use cc_link::{CompiledUnit, compile};
 use cc_meaning::{Outcome, interpret};
+use cc_rv32::image::Image;
 use cc_rv32::listing::list;
 use cc_rv32::machine::Machine;
 use cc_rv32::outcome::MachineOutcome;
 use cc_syntax::parse;
 use cc_typing::{TypedUnit, check};
-use std::alloc::Global;
+use std::alloc::{AllocError, Global};
 
 /// What a task answers, before it is written.
 #[derive(Drop)]
@@ -87,6 +88,30 @@ fn compiled(alloc: Global, text: &[u8]) -> Result<CompiledUnit, Fault>
     }
 }
 
+/// What an image does on the input words within so many instructions. `AllocError` where memory was refused as it ran.
+pub fn run_image(
+    alloc: Global,
+    image: &Image,
+    words: &[u32],
+    steps: u64,
+) -> Result<Answer, AllocError>
+    ensures { IfOk result (λ answer. IsRunOf image.now steps words.now answer) }
+{
+    let Ok(mut machine) = Machine::new(alloc, image, words) else {
+        return Err(AllocError);
+    };
+    let Ok(outcome) = machine.run(steps) else {
+        drop(machine);
+        return Err(AllocError);
+    };
+    let output = Vec::from_slice(alloc, machine.output());
+    drop(machine);
+    match output {
+        Ok(output) => Ok(Answer::Executed(output, outcome)),
+        Err(_) => Err(AllocError),
+    }
+}
+
 // What the program's image does on the input words. 40 where memory was refused as it ran.
 fn executed(alloc: Global, text: &[u8], words: &[u32], steps: u64) -> Result<Answer, Fault>
     ensures answer { IfOk result (λ answer. IsExecuted steps words.now text.now answer) }
@@ -96,19 +121,10 @@ fn executed(alloc: Global, text: &[u8], words: &[u32], steps: u64) -> Result<Ans
         Ok(unit) => unit,
         Err(fault) => return Err(fault),
     };
-    let Ok(mut machine) = Machine::new(alloc, &unit.stored().image, words) else {
-        drop(unit);
-        return Err(Fault::OutOfMemory);
-    };
+    let answer = run_image(alloc, &unit.stored().image, words, steps);
     drop(unit);
-    let Ok(outcome) = machine.run(steps) else {
-        drop(machine);
-        return Err(Fault::OutOfMemory);
-    };
-    let output = Vec::from_slice(alloc, machine.output());
-    drop(machine);
-    match output {
-        Ok(output) => Ok(Answer::Executed(output, outcome)),
+    match answer {
+        Ok(answer) => Ok(answer),
         Err(_) => Err(Fault::OutOfMemory),
     }
 }

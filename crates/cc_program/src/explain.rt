@@ -23,8 +23,8 @@ fn words_of(fault: &Fault) -> Option<&'static str> {
     }
 }
 
-// What is told of a function that is not compiled.
-fn of_piece(
+/// What is told of a function that is not compiled; nothing of want of memory.
+pub fn of_piece(
     alloc: Global,
     text: &[u8],
     fault: PieceFault,
@@ -61,8 +61,8 @@ fn of_fault(alloc: Global, text: &[u8], fault: &Fault) -> Result<Option<Diagnost
     }
 }
 
-// Writes what is told, where there is something and memory for it.
-fn write_told<W: Write>(
+/// Writes what is told of a text, where there is something and there was memory for it.
+pub fn write_told<W: Write>(
     told: Result<Option<Diagnostic>, AllocError>,
     text: &[u8],
     writer: &mut W,

@@ -9,6 +9,7 @@ use cc_meaning::MeaningFault;
 use cc_syntax::{Place, SyntaxFault};
 use cc_typing::TypeFault;
 use std::alloc::AllocError;
+use std::fmt::Display;
 use std::io::{self, Write};
 use thiserror::Error;
 
@@ -82,25 +83,44 @@ impl Fault {
         }
     }
 
-    /// Writes the fault's line for the text that has it, as `fault 5 Unexpected at 1:25` or `fault 22 FunctionTooLarge in main`.
+    /// Writes the fault's line for the text that has it, as `write_fault_line` does.
     pub fn write_line<W: Write>(&self, text: &[u8], writer: &mut W) -> io::Result<()> {
-        let number = self.number();
-        if let Some(Place { line, column }) = self.place() {
-            return writeln!(writer, "fault {number} {self} at {line}:{column}");
-        }
-        write!(writer, "fault {number} {self}")?;
-        match self.of_function() {
-            Some(PieceFault::FunctionTooLarge { at, length }) => {
-                write_name(text, at, length, writer)?;
-            }
-            Some(PieceFault::Unvalidated { at, length, label }) => {
-                write_name(text, at, length, writer)?;
-                write!(writer, " at label {label}")?;
-            }
-            Some(PieceFault::OutOfMemory) | None => {}
-        }
-        writeln!(writer)
+        write_fault_line(
+            self.number(),
+            self,
+            self.place(),
+            self.of_function(),
+            text,
+            writer,
+        )
     }
+}
+
+/// Writes the line of a fault for the text that has it: its number and its name; where it stands in the text its place, as
+/// `fault 5 Unexpected at 1:25`; where it is one of a function that one's name, as `fault 22 FunctionTooLarge in main`.
+pub fn write_fault_line<F: Display, W: Write>(
+    number: u32,
+    fault: &F,
+    place: Option<Place>,
+    function: Option<PieceFault>,
+    text: &[u8],
+    writer: &mut W,
+) -> io::Result<()> {
+    if let Some(Place { line, column }) = place {
+        return writeln!(writer, "fault {number} {fault} at {line}:{column}");
+    }
+    write!(writer, "fault {number} {fault}")?;
+    match function {
+        Some(PieceFault::FunctionTooLarge { at, length }) => {
+            write_name(text, at, length, writer)?;
+        }
+        Some(PieceFault::Unvalidated { at, length, label }) => {
+            write_name(text, at, length, writer)?;
+            write!(writer, " at label {label}")?;
+        }
+        Some(PieceFault::OutOfMemory) | None => {}
+    }
+    writeln!(writer)
 }
 
 // In which function a fault is: the name of so many bytes that begins there in the text.

@@ -47,7 +47,8 @@ fn write_run<W: Write>(output: &[u32], outcome: MachineOutcome, writer: &mut W) 
     }
 }
 
-fn write_answer<W: Write>(answer: &Answer, writer: &mut W) -> io::Result<()> {
+/// Writes an answer, and flushes the writer.
+pub fn write_answer<W: Write>(answer: &Answer, writer: &mut W) -> io::Result<()> {
     match answer {
         Answer::Accepted => writeln!(writer, "ok")?,
         Answer::Ran(outcome) => write_outcome(outcome, writer)?,

@@ -1,22 +1,28 @@
-// The program `cclib`: reads a C program from standard input, and checks, interprets, runs or lists it. How a command line is read is the
-// matter of `cc_command_line`, how a task is done that of `cc_program`, what the stack needs that of `stack`.
+// The program `cclib`: reads a C program from standard input, and checks, interprets, runs or lists it, or does a script over a library.
+// How a command line is read is the matter of `cc_command_line`, how a task is done that of `cc_program`, a script that of `cc_session`, the
+// file of a library that of `filing`, what the stack needs that of `stack`.
 #![tactic(auto)]
 
+mod filing;
 mod stack;
 
-use cc_command_line::{Request, read_request, refused_bytes};
+use cc_command_line::{Request, Task, Work, read_request, refused_bytes};
 use cc_program::{Fault, perform, perform_and_explain};
 use clap::Error;
 use clap::error::ErrorKind;
+use filing::{Asked, library};
 use stack::reserve_stack;
 use std::alloc::AllocError;
-use std::io::{self, BufWriter, Write};
+use std::io::{self, BufWriter, IsTerminal, Write};
 use std::process::ExitCode;
 use std::rt::Env;
+use std::sync::Wait;
+use std::thread::Threads;
 
 /// Does what the command line asks; the status is 0 for an answer, 1 for a fault, 2 for a refused command line.
 fn main(rt: HostRuntime) -> ExitCode {
-    match run(&rt, rt.stderr()) {
+    let is_typed = rt.stdin().is_terminal();
+    match run(&rt, &rt, rt.stderr(), is_typed) {
         Ok(status) => ExitCode::from(status),
         Err(_) => {
             let _ = Fault::OutOfMemory.write_line(b"", &mut io::writer(&rt));
@@ -28,10 +34,10 @@ fn main(rt: HostRuntime) -> ExitCode {
 // Does a task; the error is want of memory before it began.
 fn start<R: AllocGlobal + Input + Print, E: Write + Drop>(
     rt: &R,
-    request: Request,
+    task: Task,
+    is_quiet: bool,
     errors: E,
 ) -> Result<u8, AllocError> {
-    let Request { task, is_quiet } = request;
     let (Ok(mut writer), Ok(mut errors)) = (
         BufWriter::new(rt.alloc(), io::writer(rt)),
         BufWriter::new(rt.alloc(), errors),
@@ -55,11 +61,16 @@ fn refuse<R: Eprint + Print>(rt: &R, error: Error) -> Result<u8, AllocError> {
     Ok(if error.exit_code() == 0 { 0 } else { 2 })
 }
 
-// The status; the error is want of memory before the task began.
-fn run<R: AllocGlobal + Env + Input + Print + Eprint, E: Write + Drop>(
+// The status; the error is want of memory before the work began. Files are opened by a handle of their own.
+fn run<R, E: Write + Drop>(
     rt: &R,
+    files: &HostRuntime,
     errors: E,
-) -> Result<u8, AllocError> {
+    is_typed: bool,
+) -> Result<u8, AllocError>
+where
+    R: AllocGlobal + Env + Input + Print + Eprint + Threads + Wait + Copy + Send + 'static,
+{
     reserve_stack(rt.alloc())?;
     let words = match std::env::args(rt) {
         Ok(words) => words,
@@ -71,8 +82,25 @@ fn run<R: AllocGlobal + Env + Input + Print + Eprint, E: Write + Drop>(
     let words: Vec<String> = words.collect(rt.alloc())?;
     let asked = read_request(rt.alloc(), words.as_slice());
     drop(words);
-    match asked {
-        Ok(request) => start(rt, request, errors),
-        Err(error) => refuse(rt, error),
+    let Request { work, is_quiet } = match asked {
+        Ok(request) => request,
+        Err(error) => return refuse(rt, error),
+    };
+    match work {
+        Work::One(task) => start(rt, task, is_quiet, errors),
+        Work::Library {
+            disk,
+            area,
+            workers,
+        } => {
+            let asked = Asked {
+                path: disk.as_str(),
+                area,
+                workers,
+                is_quiet,
+                is_typed,
+            };
+            library(rt, files, asked, errors)
+        }
     }
 }

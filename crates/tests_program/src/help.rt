@@ -7,7 +7,7 @@ static VERSION: &str = "cclib 0.1.0
 ";
 
 static HELP: &str = "\
-Reads a C program from standard input: checks, interprets, compiles and runs it
+Reads a C program from standard input: checks, interprets, compiles and runs it, or keeps compiled programs in a file
 
 Usage: cclib [OPTIONS] <COMMAND>
 
@@ -16,6 +16,7 @@ Commands:
   interpret  Print the words that the program writes, and how it ends, by the definition of C
   run        Compile the program and run its image: print the words that it writes, and how it ends
   asm        Compile the program and list its image
+  library    Keep compiled programs in a file that survives a power cut, by the commands of a script
   help       Print this message or the help of the given subcommand(s)
 
 Options:
@@ -27,9 +28,17 @@ Examples:
   cclib check < examples/quotient.c
   cclib interpret 1000 < examples/quotient.c
   cclib run 10000 2 104 105 < examples/checksum.c
+  cclib library units.disk --format 65536 < examples/units.script
 
 The C program is read from standard input. The WORDs are the program's own input;
 a negative one is written modulo 4294967296: 4294967293 for -3.
+
+`library` reads a script of commands in place of a program:
+
+  add a 16           compiles the 16 bytes that follow and keeps them as `a`: ok 1
+  int main(void){}
+  run a 1000         exited 0
+  list               unit a, then ok 3
 
 Exit status: 0 for an answer, 1 for a fault, 2 for a command line that is refused.
 ";

@@ -1,10 +1,10 @@
 // The command line.
 
-use cc_command_line::{Request, Task, line, read_request, refused_bytes};
+use cc_command_line::{Request, Task, Work, line, read_request, refused_bytes};
 use std::alloc::Global;
 
 fn asks_to_check(alloc: Global, words: &'static [&'static str]) -> bool {
-    matches!(line(alloc, words), Ok(Task::Check))
+    matches!(line(alloc, words), Ok(Work::One(Task::Check)))
 }
 
 fn asks_to_interpret(
@@ -14,7 +14,7 @@ fn asks_to_interpret(
     input: &[u32],
 ) -> bool {
     match line(alloc, words) {
-        Ok(Task::Interpret(found, given)) => found == steps && given.as_slice() == input,
+        Ok(Work::One(Task::Interpret(found, given))) => found == steps && given.as_slice() == input,
         other => {
             drop(other);
             false
@@ -24,7 +24,7 @@ fn asks_to_interpret(
 
 fn asks_to_run(alloc: Global, words: &'static [&'static str], steps: u64, input: &[u32]) -> bool {
     match line(alloc, words) {
-        Ok(Task::Run(found, given)) => found == steps && given.as_slice() == input,
+        Ok(Work::One(Task::Run(found, given))) => { found == steps && given.as_slice() == input }
         other => {
             drop(other);
             false
@@ -33,7 +33,47 @@ fn asks_to_run(alloc: Global, words: &'static [&'static str], steps: u64, input:
 }
 
 fn asks_for_listing(alloc: Global, words: &'static [&'static str]) -> bool {
-    matches!(line(alloc, words), Ok(Task::Asm))
+    matches!(line(alloc, words), Ok(Work::One(Task::Asm)))
+}
+
+fn asks_for_library(
+    alloc: Global,
+    words: &'static [&'static str],
+    path: &str,
+    wanted: Option<u32>,
+    count: usize,
+) -> bool {
+    match line(alloc, words) {
+        Ok(
+            Work::Library {
+                disk,
+                area,
+                workers,
+            },
+        ) => disk.as_str() == path && area == wanted && workers == count,
+        other => {
+            drop(other);
+            false
+        }
+    }
+}
+
+#[test]
+fn libraries(rt: HostRuntime) {
+    let words = &["cclib", "library", "units.disk"];
+    assert!(rt; asks_for_library(rt.alloc(), words, "units.disk", None, 2));
+    let words = &[
+        "cclib",
+        "library",
+        "--workers",
+        "8",
+        "a",
+        "--format",
+        "1073741824",
+    ];
+    assert!(rt; asks_for_library(rt.alloc(), words, "a", Some(1_073_741_824), 8));
+    let words = &["cclib", "library", "a", "--format=64", "--workers=1"];
+    assert!(rt; asks_for_library(rt.alloc(), words, "a", Some(64), 1));
 }
 
 #[test]
@@ -71,7 +111,7 @@ fn is_refused(alloc: Global, words: &'static [&'static str]) -> bool {
     }
 }
 
-static REFUSED: [&[&str]; 14] = [
+static REFUSED: [&[&str]; 20] = [
     &["cclib", "interpret", "1000000001"],
     &["cclib", "interpret", "+5"],
     &["cclib", "interpret", "-1"],
@@ -86,6 +126,12 @@ static REFUSED: [&[&str]; 14] = [
     &["cclib", "asm", "5"],
     &["cclib", "check", "5"],
     &["cclib"],
+    &["cclib", "library"],
+    &["cclib", "library", "a", "--workers", "0"],
+    &["cclib", "library", "a", "--workers", "9"],
+    &["cclib", "library", "a", "--format", "63"],
+    &["cclib", "library", "a", "--format", "1073741825"],
+    &["cclib", "library", "a", "--format", "+64"],
 ];
 
 #[test]
@@ -105,8 +151,8 @@ static QUIET: [(&[&str], bool); 4] = [
 
 fn asks_for_quiet(alloc: Global, words: &'static [&'static str]) -> Option<bool> {
     match read_request(alloc, words) {
-        Ok(Request { task, is_quiet }) => {
-            drop(task);
+        Ok(Request { work, is_quiet }) => {
+            drop(work);
             Some(is_quiet)
         }
         Err(error) => {
@@ -124,7 +170,7 @@ fn quiet_words(rt: HostRuntime) {
 }
 
 // Command lines, and a part of the text that is printed for each.
-static PRINTED: [(&[&str], &str); 7] = [
+static PRINTED: [(&[&str], &str); 9] = [
     (&["cclib", "interpret", "+5"], "Usage: cclib interpret"),
     (&["cclib", "run", "+5"], "Usage: cclib run"),
     (&["cclib", "interpret", "5", "-1"], "as 4294967295 for -1"),
@@ -135,6 +181,11 @@ static PRINTED: [(&[&str], &str); 7] = [
         "cclib interpret 1000 < examples/quotient.c",
     ),
     (&["cclib", "check", "--help"], "--quiet"),
+    (
+        &["cclib", "library", "--help"],
+        "cclib library units.disk --format 65536 < examples/units.script",
+    ),
+    (&["cclib", "library", "a", "--workers", "9"], "from 1 to 8"),
 ];
 
 fn prints(alloc: Global, words: &'static [&'static str], part: &str) -> bool {

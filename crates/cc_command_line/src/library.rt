@@ -1,0 +1,114 @@
+// The command `library`.
+
+ghost use Rattle.std.specs.Prelude.{◌≤◌, IfOk, IfSome};
+ghost use Rattle.cc_command_line.specs.Task.{IsAllowed};
+
+use crate::command_line::Work;
+use crate::numbers::number_in;
+use clap::error::ErrorKind;
+use clap::{Arg, ArgAction, ArgMatches, Command, Error};
+use std::alloc::{AllocError, Global};
+
+/// The least bytes of an area.
+pub const LEAST_AREA: u64 = 64;
+
+/// The most bytes of an area.
+pub const MOST_AREA: u64 = 1_073_741_824;
+
+/// The most workers of a service.
+pub const MOST_WORKERS: u64 = 8;
+
+const FORMAT: &str = "format";
+
+const AREA_RULE: &str = "AREA is a decimal number of bytes from 64 to 1073741824";
+
+const WORKERS: &str = "workers";
+
+const WORKERS_RULE: &str = "N is a decimal number from 1 to 8";
+
+// What a person reads below the options of the command.
+const LIBRARY_HELP: &str = "\
+The script comes on standard input, one command a line:
+  add NAME LEN       compile the LEN bytes that follow the line, and keep them as the unit NAME
+  replace NAME LEN   the same in place of the unit that NAME has
+  withdraw NAME      take the unit of NAME out
+  list               print the names of all units
+  run NAME STEPS     run the image of NAME for at most so many instructions
+  compact            write the file anew, without what was replaced and withdrawn
+
+A newline follows the LEN bytes. What is answered `ok` is kept, whatever happens to the computer.
+
+Example, with a new file:
+  cclib library units.disk --format 65536 < examples/units.script";
+
+/// The command with its options.
+pub(crate) fn library_command<'a>(alloc: Global) -> Result<Command<'a>, AllocError> {
+    let disk = Arg::new(alloc, "DISK")
+        .required(true)
+        .help("The file that has the library");
+    let area = Arg::new(alloc, FORMAT)
+        .long(FORMAT)
+        .value_name("AREA")
+        .action(ArgAction::Set)
+        .help(
+            "Make the file anew, with room for AREA bytes of records: 64 to 1073741824. What it had is lost",
+        );
+    let workers = Arg::new(alloc, WORKERS)
+        .long(WORKERS)
+        .value_name("N")
+        .action(ArgAction::Set)
+        .default_value("2")
+        .help("How many threads compile: 1 to 8");
+    let begun = Command::new(alloc, "library")
+        .about(
+            "Keep compiled programs in a file that survives a power cut, by the commands of a script",
+        )
+        .after_help(LIBRARY_HELP)
+        .arg(disk)?
+        .arg(area)?;
+    begun.arg(workers)
+}
+
+// The error of clap for a value that breaks this rule.
+fn refused(alloc: Global, rule: &'static str) -> Result<Error, AllocError> {
+    let mut part = library_command(alloc)?.bin_name("cclib library")?;
+    part.error(ErrorKind::ValueValidation, rule)
+}
+
+fn area_of(alloc: Global, given: &ArgMatches<'_>) -> Result<Option<u32>, Error>
+    ensures { IfOk result (λ area. IfSome area (λ a. (64 ≤ a) × (a ≤ 1073741824))) }
+{
+    let Some(text) = given.get_str(FORMAT) else {
+        return Ok(None);
+    };
+    match number_in(text, LEAST_AREA, MOST_AREA) {
+        Some(area) => Ok(Some(area as u32)),
+        None => Err(refused(alloc, AREA_RULE)?),
+    }
+}
+
+fn workers_of(alloc: Global, given: &ArgMatches<'_>) -> Result<usize, Error>
+    ensures { IfOk result (λ workers. (1 ≤ workers) × (workers ≤ 8)) }
+{
+    let Some(text) = given.get_str(WORKERS) else {
+        return Err(refused(alloc, WORKERS_RULE)?);
+    };
+    match number_in(text, 1, MOST_WORKERS) {
+        Some(workers) => Ok(workers as usize),
+        None => Err(refused(alloc, WORKERS_RULE)?),
+    }
+}
+
+/// What the command asks for.
+pub(crate) fn library_of(alloc: Global, given: &ArgMatches<'_>) -> Result<Work, Error>
+    ensures { IfOk result IsAllowed }
+{
+    let area = area_of(alloc, given)?;
+    let workers = workers_of(alloc, given)?;
+    let disk = String::from_str(alloc, given.get_str("DISK").unwrap_or(""))?;
+    Ok(Work::Library {
+        disk,
+        area,
+        workers,
+    })
+}

@@ -1,0 +1,16 @@
+// Numbers on the command line: digits alone, since clap by itself takes a sign.
+
+ghost use Rattle.std.specs.Prelude.{◌≤◌, IfSome};
+
+/// The number between two limits that a text of digits stands for.
+pub(crate) fn number_in(text: &str, least: u64, most: u64) -> Option<u64>
+    ensures { IfSome result (λ number. (least ≤ number) × (number ≤ most)) }
+{
+    if !text.bytes().all(|b| b.is_ascii_digit()) {
+        return None;
+    }
+    match text.parse::<u64>() {
+        Ok(number) if least <= number && number <= most => Some(number),
+        _ => None,
+    }
+}

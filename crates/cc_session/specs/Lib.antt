@@ -1,0 +1,2 @@
+-- How sessions end.
+pub mod Session

@@ -1,0 +1,201 @@
+// The commands of a script, done by one client.
+
+ghost use Rattle.std.specs.Prelude.{IfErr};
+ghost use Rattle.cc_session.specs.Session.{IsEnding};
+
+use crate::talk::{Sent, Talk};
+use cc_disk::Disk;
+use cc_program::run_image;
+use cc_script::{Command, LINE_BYTES, MOST_BYTES, Next, ScriptFault, command_of};
+use cc_service::{Client, Found, Named, Service};
+use std::alloc::Global;
+use std::io::{Read, Write};
+use std::sync::Wait;
+
+// A client of a service.
+#[derive(Drop)]
+pub(crate) struct Caller<'a, N: Named, H, D: Disk> {
+    pub(crate) rt: &'a H,
+    pub(crate) alloc: Global,
+    pub(crate) service: &'a Service<N, D>,
+    pub(crate) client: Client<N>,
+}
+
+impl<'a, N: Named + Send + Sync + 'static, H: Wait, D: Disk> Caller<'a, N, H, D> {
+    // The client, which makes no more calls here.
+    pub(crate) fn into_client(self) -> Client<N> {
+        self.client
+    }
+
+    fn add<R: Read, W: Write, E: Write>(
+        &mut self,
+        talk: &mut Talk<R, W, E>,
+        name: &[u8],
+        source: &[u8],
+    ) -> Result<(), ScriptFault>
+        ensures { IfErr result IsEnding }
+    {
+        let answer = self
+            .service
+            .add(self.rt, self.alloc, &mut self.client, name, source);
+        let told = talk.tell_change(self.alloc, &answer, source);
+        drop(answer);
+        told
+    }
+
+    fn replace<R: Read, W: Write, E: Write>(
+        &mut self,
+        talk: &mut Talk<R, W, E>,
+        name: &[u8],
+        source: &[u8],
+    ) -> Result<(), ScriptFault>
+        ensures { IfErr result IsEnding }
+    {
+        let answer = self
+            .service
+            .replace(self.rt, self.alloc, &mut self.client, name, source);
+        let told = talk.tell_change(self.alloc, &answer, source);
+        drop(answer);
+        told
+    }
+
+    // Adds or replaces a unit whose source comes next.
+    fn put<R: Read, W: Write, E: Write>(
+        &mut self,
+        talk: &mut Talk<R, W, E>,
+        name: &[u8],
+        length: usize,
+        is_new: bool,
+    ) -> Result<(), ScriptFault>
+        ensures { IfErr result IsEnding }
+    {
+        match talk.source(self.alloc, length)? {
+            Sent::Source(source) => {
+                let told = if is_new {
+                    self.add(talk, name, source.as_slice())
+                } else {
+                    self.replace(talk, name, source.as_slice())
+                };
+                drop(source);
+                told
+            }
+            Sent::NoRoom => talk.tell_no_memory(self.alloc),
+            Sent::Unended => talk.refuse_and_skip(),
+        }
+    }
+
+    fn withdraw<R: Read, W: Write, E: Write>(
+        &mut self,
+        talk: &mut Talk<R, W, E>,
+        name: &[u8],
+    ) -> Result<(), ScriptFault>
+        ensures { IfErr result IsEnding }
+    {
+        let answer = self
+            .service
+            .withdraw(self.rt, self.alloc, &mut self.client, name);
+        let told = talk.tell_change(self.alloc, &answer, &[]);
+        drop(answer);
+        told
+    }
+
+    fn list<R: Read, W: Write, E: Write>(
+        &mut self,
+        talk: &mut Talk<R, W, E>,
+    ) -> Result<(), ScriptFault>
+        ensures { IfErr result IsEnding }
+    {
+        let answer = self.service.list(self.rt, self.alloc, &mut self.client);
+        let told = match &answer {
+            Ok(listing) => talk.tell_names(listing),
+            Err(fault) => talk.tell_refusal(self.alloc, fault, &[]),
+        };
+        drop(answer);
+        told
+    }
+
+    // Runs the image of a unit that was found.
+    fn run_found<R: Read, W: Write, E: Write>(
+        &self,
+        talk: &mut Talk<R, W, E>,
+        found: &Found,
+        steps: u64,
+    ) -> Result<(), ScriptFault>
+        ensures { IfErr result IsEnding }
+    {
+        let answer = run_image(self.alloc, &found.unit().stored().image, &[], steps);
+        let told = talk.tell_run(self.alloc, &answer);
+        drop(answer);
+        told
+    }
+
+    // Runs the image of a name's unit.
+    fn run<R: Read, W: Write, E: Write>(
+        &mut self,
+        talk: &mut Talk<R, W, E>,
+        name: &[u8],
+        steps: u64,
+    ) -> Result<(), ScriptFault>
+        ensures { IfErr result IsEnding }
+    {
+        let answer = self
+            .service
+            .get(self.rt, self.alloc, &mut self.client, name);
+        let told = match &answer {
+            Ok(found) => self.run_found(talk, found, steps),
+            Err(fault) => talk.tell_refusal(self.alloc, fault, &[]),
+        };
+        drop(answer);
+        told
+    }
+
+    fn compact<R: Read, W: Write, E: Write>(
+        &mut self,
+        talk: &mut Talk<R, W, E>,
+    ) -> Result<(), ScriptFault>
+        ensures { IfErr result IsEnding }
+    {
+        let answer = self.service.compact(self.rt, self.alloc);
+        let told = talk.tell_done(self.alloc, &answer);
+        drop(answer);
+        told
+    }
+
+    // Does what a line asks for.
+    fn obey<R: Read, W: Write, E: Write>(
+        &mut self,
+        talk: &mut Talk<R, W, E>,
+        line: &[u8],
+    ) -> Result<(), ScriptFault>
+        ensures { IfErr result IsEnding }
+    {
+        match command_of(line) {
+            Some(Command::Add { name, length }) => self.put(talk, name, length, true),
+            Some(Command::Replace { name, length }) => self.put(talk, name, length, false),
+            Some(Command::Withdraw { name }) => self.withdraw(talk, name),
+            Some(Command::List) => self.list(talk),
+            Some(Command::Run { name, steps }) => self.run(talk, name, steps),
+            Some(Command::Compact) => self.compact(talk),
+            None => talk.refuse_line(),
+        }
+    }
+
+    // Does what a script asks for, up to its end or a fault that ends it.
+    pub(crate) fn play<R: Read, W: Write, E: Write>(
+        &mut self,
+        talk: &mut Talk<R, W, E>,
+    ) -> Result<(), ScriptFault>
+        ensures { IfErr result IsEnding }
+    {
+        let mut line = [0u8; LINE_BYTES];
+        // Each line but the last takes a byte at least.
+        for _ in 0..=MOST_BYTES {
+            match talk.next_line(&mut line)? {
+                Next::Line(length) => self.obey(talk, &line[..length])?,
+                Next::TooLong => talk.refuse_and_skip()?,
+                Next::End => break,
+            }
+        }
+        Ok(())
+    }
+}

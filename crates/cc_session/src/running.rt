@@ -1,0 +1,282 @@
+// A session, from the opening of its service to the end.
+ghost use Rattle.std.specs.Prelude.{◌≡◌, ◌≤◌, ◌<◌, ℕ, List, IsTrue, IfOk, IfErr, IfNone, IfSome, vec_len};
+ghost use Rattle.std.specs.Vec.{vec_capacity};
+ghost use Rattle.cc_disk.specs.Images.{OnlyReads};
+ghost use Rattle.cc_library.specs.Answers.{OpenFaults};
+ghost use Rattle.cc_library.specs.Apply.{Units};
+ghost use Rattle.cc_library.specs.Recovered.{Recovers};
+ghost use Rattle.cc_service.specs.Fault.{fault_number};
+ghost use Rattle.cc_session.specs.Session.{IsBegun, IsEnding, IsKept, IsUnended, SessionEnds};
+
+use crate::calls::Caller;
+use crate::end::SessionEnd;
+use crate::talk::Talk;
+use cc_disk::Disk;
+use cc_library::{Library, LibraryFault, UnitMap};
+use cc_pool::NoGate;
+use cc_script::ScriptFault;
+use cc_service::{Client, Closed, Fresh, Named, Service, ServiceFault};
+use std::alloc::Global;
+use std::io::{self, Read, Write};
+use std::marker::Brand;
+use std::snapshot::Snapshot;
+use std::sync::Wait;
+use std::thread::Threads;
+
+// What a service begins with: its disk, the map that this recovers to, and what no type names yet.
+#[derive(Drop)]
+struct Begun<D: Disk> {
+    disk: D,
+    base: Snapshot<UnitMap>,
+    fresh: Fresh,
+}
+
+// What a service on this disk begins with. The library is opened to learn what the disk recovers to, which a service's type names.
+fn begin<D: Disk + Drop>(alloc: Global, disk: D) -> Result<Begun<D>, (LibraryFault, D)>
+    ensures base { IfOk result (λ b. IsTrue D.honest → (units : Units) → Recovers (D.seen b.disk) units → units ≡ b.base.value) }
+    ensures sound { IfOk result (λ b. D.failures b.disk ≡ D.failures disk) }
+    ensures refused { IfErr result (λ e. OpenFaults D.honest (D.seen disk) (D.failures disk) (D.failures e.1) e.0) }
+    ensures reads { IfOk result (λ b. IsTrue D.honest → OnlyReads D.seen D.may_leave D.moment D.left_since disk b.disk) }
+    ensures reads_refused { IfErr result (λ e. IsTrue D.honest → OnlyReads D.seen D.may_leave D.moment D.left_since disk e.1) }
+{
+    let library = match Library::open(alloc, disk) {
+        Ok(library) => library,
+        Err(refused) => return Err(refused),
+    };
+    let base = Snapshot::of(library.units());
+    let disk = library.into_disk();
+    match Fresh::new(alloc) {
+        Ok(fresh) => Ok(Begun { disk, base, fresh }),
+        Err(_) => Err((LibraryFault::OutOfMemory, disk)),
+    }
+}
+
+// How a session ended whose service was not: the first of two faults.
+fn unended(played: SessionEnd, number: u32) -> SessionEnd
+    requires begun { IsBegun played }
+    requires least { 39 ≤ number }
+    requires most { number ≤ 40 }
+    ensures { IsUnended result }
+{
+    match played {
+        SessionEnd::Finished => SessionEnd::Fault(number),
+        SessionEnd::Fault(first) => SessionEnd::Fault(first),
+    }
+}
+
+// Writes a refusal of the service's opening or end; its number.
+fn refused<R: Read, W: Write, E: Write>(
+    alloc: Global,
+    talk: &mut Talk<R, W, E>,
+    fault: ServiceFault,
+) -> u32
+    ensures { result ≡ fault_number fault }
+{
+    let number = fault.number();
+    let _ = talk.tell_refusal(alloc, &fault, &[]);
+    drop(fault);
+    number
+}
+
+// How a session ended whose script did so.
+fn ended<R: Read, W: Write, E: Write>(
+    talk: &mut Talk<R, W, E>,
+    played: Result<(), ScriptFault>,
+) -> SessionEnd
+    requires { IfErr played IsEnding }
+    ensures { IsBegun result }
+{
+    match played {
+        Ok(()) => SessionEnd::Finished,
+        Err(fault) => {
+            let _ = talk.tell_fault(fault);
+            SessionEnd::Fault(fault.number())
+        }
+    }
+}
+
+// Does a script by one client of a service.
+fn play<N, H, R, W, E, D>(
+    rt: &H,
+    alloc: Global,
+    talk: &mut Talk<R, W, E>,
+    service: &Service<N, D>,
+    clients: &mut Vec<Client<N>>,
+) -> SessionEnd
+where
+    N: Named + Send + Sync + 'static,
+    H: Wait,
+    R: Read,
+    W: Write,
+    E: Write,
+    D: Disk,
+    requires { vec_len clients.old < vec_capacity clients.old }
+    ensures { IsBegun result }
+{
+    match service.client(rt, alloc) {
+        Ok(client) => {
+            let mut caller = Caller {
+                rt,
+                alloc,
+                service,
+                client,
+            };
+            let played = caller.play(talk);
+            clients.push_reserved(caller.into_client());
+            ended(talk, played)
+        }
+        Err(fault) => SessionEnd::Fault(refused(alloc, talk, fault)),
+    }
+}
+
+// The disk of a service that was ended.
+fn disk_of<D: Disk>(closed: Closed<D>) -> D
+    ensures { result ≡ closed.library.disk }
+{
+    let Closed {
+        base,
+        library,
+        history,
+        failed: _,
+        receipts,
+    } = closed;
+    drop(base);
+    drop(history);
+    drop(receipts);
+    library.into_disk()
+}
+
+// Ends a service whose script was done.
+fn finish<N, H, R, W, E, D>(
+    rt: &H,
+    alloc: Global,
+    talk: &mut Talk<R, W, E>,
+    service: Service<N, D>,
+    clients: Vec<Client<N>>,
+    played: SessionEnd,
+) -> (Option<D>, SessionEnd)
+where
+    N: Named + Send + Sync + 'static,
+    H: Wait,
+    R: Read,
+    W: Write,
+    E: Write,
+    D: Disk + Drop,
+    requires { IsBegun played }
+    ensures unended { IfNone result.0 (IsUnended result.1) }
+    ensures begun { IfSome result.0 (λ after. IsBegun result.1) }
+    // Whatever bytes those were that recover to the map that the service's type names.
+    ensures kept { IfSome result.0 (λ after. (bytes : List ℕ) → (IsTrue D.honest → Recovers bytes N.base) → IsKept D.honest bytes D.may_leave after) }
+{
+    match service.finish(rt, alloc, clients) {
+        Ok(closed) => (Some(disk_of(closed)), played),
+        Err((fault, service, clients)) => {
+            drop(clients);
+            drop(service);
+            let number = refused(alloc, talk, fault);
+            (None, unended(played, number))
+        }
+    }
+}
+
+// Opens a service, does a script and ends the service.
+fn serve<N, H, R, W, E, D>(
+    rt: &H,
+    alloc: Global,
+    talk: &mut Talk<R, W, E>,
+    begun: Begun<D>,
+    workers: usize,
+) -> (Option<D>, SessionEnd)
+where
+    N: Named + Send + Sync + 'static,
+    H: Threads + Wait + Copy + Send + 'static,
+    R: Read,
+    W: Write,
+    E: Write,
+    D: Disk + Drop,
+    requires ledger { begun.fresh.ledger ≡ N.name }
+    requires parts { N.parts ≡ 1025 }
+    requires queue { begun.fresh.queue ≡ N.queue }
+    requires named { IsTrue D.honest → (units : Units) → Recovers (D.seen begun.disk) units → units ≡ N.base }
+    requires some { 1 ≤ workers }
+    requires few { workers ≤ 8 }
+    ensures { SessionEnds D.honest D.seen D.may_leave D.moment D.left_since D.failures begun.disk result.0 result.1 }
+{
+    let Begun {
+        disk,
+        base: _,
+        fresh,
+    } = begun;
+    let Ok(mut clients) = Vec::with_capacity(alloc, 1) else {
+        drop(fresh);
+        let number = refused(
+            alloc,
+            talk,
+            ServiceFault::Opening(LibraryFault::OutOfMemory),
+        );
+        return (Some(disk), SessionEnd::Fault(number));
+    };
+    match Service::<N, D>::open(rt, alloc, fresh, disk, workers, NoGate) {
+        Ok(service) => {
+            let played = play(rt, alloc, talk, &service, &mut clients);
+            finish(rt, alloc, talk, service, clients, played)
+        }
+        Err((fault, disk)) => {
+            drop(clients);
+            let number = refused(alloc, talk, fault);
+            (Some(disk), SessionEnd::Fault(number))
+        }
+    }
+}
+
+/// Does the commands of a script as `session` does, and writes to `explanations` what helps a person with a fault: the place in the source
+/// that was sent, as `check` tells it, or a few words. Where such a write fails the session goes on.
+pub fn session_and_explain<H, R: Read, W: Write, E: Write, D: Disk + Drop>(
+    rt: &H,
+    alloc: Global,
+    reader: &mut R,
+    writer: &mut W,
+    explanations: &mut E,
+    disk: D,
+    workers: usize,
+) -> (Option<D>, SessionEnd)
+where
+    H: Threads + Wait + Copy + Send + 'static,
+    requires some { 1 ≤ workers }
+    requires few { workers ≤ 8 }
+    ensures answers { SessionEnds D.honest D.seen D.may_leave D.moment D.left_since D.failures disk result.0 result.1 }
+{
+    let mut talk = Talk::new(reader, writer, explanations);
+    match begin(alloc, disk) {
+        Ok(begun) => serve::<Brand, H, &mut R, &mut W, &mut E, D>(
+            rt, alloc, &mut talk, begun, workers,
+        ),
+        Err((fault, disk)) => {
+            let number = refused(alloc, &mut talk, ServiceFault::Opening(fault));
+            (Some(disk), SessionEnd::Fault(number))
+        }
+    }
+}
+
+/// Opens the library on a disk as a service with so many workers, 1 to 8, does the commands of a script by one client, and ends the
+/// service.
+///
+/// The script comes from `reader`, each answer goes to `writer`, which is flushed behind it. A refusal writes its fault's line, and the
+/// session goes on; a fault of the opening, of the script (51 to 54; of 54 there is no line) or of the service's end ends it. The disk is
+/// handed back but after a fault of the service's end.
+pub fn session<H, R: Read, W: Write, D: Disk + Drop>(
+    rt: &H,
+    alloc: Global,
+    reader: &mut R,
+    writer: &mut W,
+    disk: D,
+    workers: usize,
+) -> (Option<D>, SessionEnd)
+where
+    H: Threads + Wait + Copy + Send + 'static,
+    requires some { 1 ≤ workers }
+    requires few { workers ≤ 8 }
+    ensures answers { SessionEnds D.honest D.seen D.may_leave D.moment D.left_since D.failures disk result.0 result.1 }
+{
+    session_and_explain(rt, alloc, reader, writer, &mut io::sink(), disk, workers)
+}

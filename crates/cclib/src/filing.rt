@@ -1,0 +1,131 @@
+// The command `library`: a session over a file.
+
+ghost use Rattle.std.specs.Prelude.{◌≤◌};
+
+use cc_disk::FileDisk;
+use cc_journal::format;
+use cc_library::LibraryFault;
+use cc_session::{SessionEnd, explain_words, session, session_and_explain};
+use std::alloc::AllocError;
+use std::io::{self, BufWriter, Input, Print, Write};
+use std::sync::Wait;
+use std::thread::Threads;
+
+/// What is expected of a person.
+const GREETING: &str =
+    "cclib: add NAME LEN, replace NAME LEN, withdraw NAME, list, run NAME STEPS or compact, one a line; \
+    a source of LEN bytes follows its line; end by Ctrl-D\n";
+
+/// What the command line says of a library.
+#[derive(Clone, Copy, Drop)]
+pub struct Asked<'a> {
+    pub path: &'a str,
+    pub area: Option<u32>,
+    pub workers: usize,
+    pub is_quiet: bool,
+    /// Whether the script comes from a person.
+    pub is_typed: bool,
+}
+
+/// What is told where there is no disk on the file for 35.
+const NO_FILE: &str =
+    "cclib: the file could not be opened, or another process has it open; where it is not there yet, `--format AREA` makes it\n";
+
+// The disk on the file, made anew where an area is given.
+fn disk_of(files: &HostRuntime, path: &str, area: Option<u32>) -> Result<FileDisk, LibraryFault> {
+    let Some(area) = area else {
+        return match FileDisk::open(files, path) {
+            Ok(disk) => Ok(disk),
+            Err(_) => Err(LibraryFault::DiskFault),
+        };
+    };
+    let Ok(mut disk) = FileDisk::create(files, path, 16 + 2 * area as usize) else {
+        return Err(LibraryFault::DiskFault);
+    };
+    match format(&mut disk, area) {
+        Ok(()) => Ok(disk),
+        Err(fault) => {
+            drop(disk);
+            Err(LibraryFault::from(fault))
+        }
+    }
+}
+
+// Writes why there is no disk; the status.
+fn no_disk<W: Write, E: Write>(
+    fault: LibraryFault,
+    writer: &mut W,
+    errors: &mut E,
+    is_quiet: bool,
+) -> u8 {
+    let _ = writeln!(writer, "fault {} {fault}", fault.number());
+    let _ = writer.flush();
+    if is_quiet {
+        return 1;
+    }
+    if fault.number() == 35 {
+        let _ = errors.write_all(NO_FILE.as_bytes());
+        let _ = errors.flush();
+    } else {
+        let _ = explain_words(fault.number(), errors);
+    }
+    1
+}
+
+fn status(end: SessionEnd) -> u8 {
+    match end {
+        SessionEnd::Finished => 0,
+        SessionEnd::Fault(_) => 1,
+    }
+}
+
+/// Does the script on standard input over the library in a file; the status. The error is want of memory before it began.
+pub fn library<R, E: Write + Drop>(
+    rt: &R,
+    files: &HostRuntime,
+    asked: Asked<'_>,
+    errors: E,
+) -> Result<u8, AllocError>
+where
+    R: AllocGlobal + Input + Print + Threads + Wait + Copy + Send + 'static,
+    requires some { 1 ≤ asked.workers }
+    requires few { asked.workers ≤ 8 }
+{
+    let (Ok(mut writer), Ok(mut errors)) = (
+        BufWriter::new(rt.alloc(), io::writer(rt)),
+        BufWriter::new(rt.alloc(), errors),
+    ) else {
+        return Err(AllocError);
+    };
+    let disk = match disk_of(files, asked.path, asked.area) {
+        Ok(disk) => disk,
+        Err(fault) => return Ok(no_disk(fault, &mut writer, &mut errors, asked.is_quiet)),
+    };
+    let mut reader = rt.reader();
+    let (disk, end) = if asked.is_quiet {
+        session(
+            rt,
+            rt.alloc(),
+            &mut reader,
+            &mut writer,
+            disk,
+            asked.workers,
+        )
+    } else {
+        if asked.is_typed {
+            let _ = errors.write_all(GREETING.as_bytes());
+            let _ = errors.flush();
+        }
+        session_and_explain(
+            rt,
+            rt.alloc(),
+            &mut reader,
+            &mut writer,
+            &mut errors,
+            disk,
+            asked.workers,
+        )
+    };
+    drop(disk);
+    Ok(status(end))
+}

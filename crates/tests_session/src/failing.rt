@@ -1,0 +1,98 @@
+// Streams and disks that fail.
+
+use crate::helpers::{ends, formatted};
+use cc_disk::{FuseDisk, FuseMode, MemoryDisk};
+use cc_session::{SessionEnd, session};
+use std::io::{self, ErrorKind, Read, Write};
+use std::test::Fail;
+
+/// Gives `l` at its first read, and fails from then on.
+#[derive(Drop)]
+struct FailsSecond {
+    reads: u8,
+}
+
+impl Read for FailsSecond {
+    fn read(&mut self, buf: &mut [u8]) -> io::Result<usize> {
+        if self.reads == 0 && !buf.is_empty() {
+            self.reads = 1;
+            buf[0] = b'l';
+            return Ok(1);
+        }
+        Err(io::Error::from(ErrorKind::BrokenPipe))
+    }
+}
+
+/// Refuses every write.
+#[derive(Drop)]
+struct Refuses;
+
+impl Write for Refuses {
+    fn write(&mut self, _buf: &[u8]) -> io::Result<usize> {
+        Err(io::Error::from(ErrorKind::BrokenPipe))
+    }
+
+    fn flush(&mut self) -> io::Result<()> {
+        Ok(())
+    }
+}
+
+#[test]
+fn a_read_that_fails(rt: HostRuntime) -> Result<(), Fail> {
+    let mut reader = FailsSecond { reads: 0 };
+    let mut written = Vec::new(rt.alloc());
+    let right = ends(
+        &rt,
+        rt.alloc(),
+        &mut reader,
+        &mut written,
+        64,
+        SessionEnd::Fault(53),
+    )?;
+    assert!(rt; right && written.as_slice() == b"fault 53 ReadFault\n".as_slice());
+    Ok(())
+}
+
+#[test]
+fn a_write_that_fails(rt: HostRuntime) -> Result<(), Fail> {
+    let mut reader = b"list\n".as_slice();
+    let mut writer = Refuses;
+    let right = ends(
+        &rt,
+        rt.alloc(),
+        &mut reader,
+        &mut writer,
+        64,
+        SessionEnd::Fault(54),
+    )?;
+    assert!(rt; right);
+    Ok(())
+}
+
+#[test]
+fn a_disk_that_is_no_library(rt: HostRuntime) -> Result<(), Fail> {
+    let alloc = rt.alloc();
+    let mut reader = b"list\n".as_slice();
+    let mut written = Vec::new(alloc);
+    let disk = MemoryDisk::new(alloc, 144)?;
+    let (disk, end) = session(&rt, alloc, &mut reader, &mut written, disk, 1);
+    assert!(rt; disk.is_some() && end == SessionEnd::Fault(38));
+    assert!(rt; written.as_slice() == b"fault 38 NotALibrary\n".as_slice());
+    Ok(())
+}
+
+// The device fails in the first change: later ones are refused, looks go on, and the session ends as usual.
+#[test]
+fn a_device_that_fails_once(rt: HostRuntime) -> Result<(), Fail> {
+    let alloc = rt.alloc();
+    let mut reader =
+        b"add a 16\nint main(void){}\nadd b 16\nint main(void){}\ncompact\nlist\n".as_slice();
+    let mut written = Vec::new(alloc);
+    // Twice three calls open the library.
+    let disk = FuseDisk::new(formatted(alloc, 4096)?, 8, FuseMode::Once);
+    let (disk, end) = session(&rt, alloc, &mut reader, &mut written, disk, 2);
+    assert!(rt; disk.is_some() && end == SessionEnd::Finished);
+    let lines = b"fault 35 DiskFault\nfault 36 Closed\nfault 36 Closed\nok 1\n".as_slice();
+    assert!(rt; written.as_slice() == lines);
+    Ok(())
+}

@@ -1,0 +1,52 @@
+// Scripts on formatted disks.
+
+use cc_disk::MemoryDisk;
+use cc_journal::format;
+use cc_session::{SessionEnd, session};
+use std::alloc::Global;
+use std::io::{Read, Write};
+use std::sync::Wait;
+use std::test::Fail;
+use std::thread::Threads;
+
+/// A formatted disk with two areas of this size.
+pub fn formatted(alloc: Global, area: u32) -> Result<MemoryDisk, Fail> {
+    let mut disk = MemoryDisk::new(alloc, 16 + 2 * area as usize)?;
+    format(&mut disk, area)?;
+    Ok(disk)
+}
+
+/// Whether a session over these streams on a disk with this area ends so, and gives the disk back.
+pub fn ends<H, R: Read, W: Write>(
+    rt: &H,
+    alloc: Global,
+    reader: &mut R,
+    writer: &mut W,
+    area: u32,
+    wanted: SessionEnd,
+) -> Result<bool, Fail>
+where
+    H: Threads + Wait + Copy + Send + 'static,
+{
+    let disk = formatted(alloc, area)?;
+    let (disk, end) = session(rt, alloc, reader, writer, disk, 1);
+    Ok(end == wanted && disk.is_some())
+}
+
+/// Whether a script on such a disk is answered by these lines, and ends so.
+pub fn answers<H>(
+    rt: &H,
+    alloc: Global,
+    script: &[u8],
+    area: u32,
+    lines: &str,
+    wanted: SessionEnd,
+) -> Result<bool, Fail>
+where
+    H: Threads + Wait + Copy + Send + 'static,
+{
+    let mut reader = script;
+    let mut written = Vec::new(alloc);
+    let right = ends(rt, alloc, &mut reader, &mut written, area, wanted)?;
+    Ok(right && written.as_slice() == lines.as_bytes())
+}
