@@ -31,7 +31,9 @@ use Rattle.cc_emit.specs.declared.step.Step.{Step}
 use Rattle.cc_emit.specs.declared.step.Step.TheVariants.{One}
 use Rattle.cc_emit.specs.Contract.{Code, IsPlace, Path, Shares}
 use Rattle.cc_emit.specs.Frames.{Frame}
-use Rattle.cc_emit.specs.Emission.{Direct, NonzeroOf, Recipe, ZeroOf, ZeroOfExchanged, addi, branch_items, branch_size, const_items, const_size, distance, high, low, prologue_size, recipe, recipe_items, recipe_size, unary_instr}
+use Rattle.cc_emit.specs.Emission.{addi, branch_items, branch_size, const_items, const_size, distance, high, low, prologue_size, recipe, recipe_items, recipe_size, unary_instr}
+use Rattle.cc_emit.specs.declared.recipe.Recipe.{Recipe}
+use Rattle.cc_emit.specs.declared.recipe.Recipe.TheVariants.{Direct, NonzeroOf, ZeroOf, ZeroOfExchanged}
 use Rattle.cc_emit.proofs.Fine.{IsTarget}
 use Rattle.cc_emit.proofs.Basics.{in_stack, in_globals, high_low, high_word, first_word, eqb_yes, eqb_says, same_first, got}
 use Rattle.cc_emit.proofs.Stepping.{items_behind, steps_from, place_stands}

@@ -26,7 +26,12 @@ use Rattle.cc_emit.specs.declared.step.Step.{Step}
 use Rattle.cc_emit.specs.declared.step.Step.TheVariants.{One, Immediate, LoadAt, StoreAt}
 use Rattle.cc_emit.specs.Contract.{AreFit}
 use Rattle.cc_emit.specs.Frames.{Frame, frame_size}
-use Rattle.cc_emit.specs.Emission.{Direct, NonzeroOf, NonzeroOfImmediate, OnZero, Recipe, ShiftBy, WithImmediate, WordRecipe, ZeroOf, ZeroOfExchanged, ZeroOfImmediate, addi, branch_items, const_items, element_at, emitted, epilogue, framed_items, high, is_near, items_of, items_of_one, kept_items, load_at, long_size, low, move_item, prologue, prologue_size, recipe, recipe_items, restoring, saving, short_place, size, stack_moved, store_at, stack_moved_size, unary_instr, word_recipe, word_recipe_items}
+use Rattle.cc_emit.specs.Emission.{addi, branch_items, const_items, element_at, emitted, epilogue, framed_items, high, is_near, items_of, items_of_one, kept_items, load_at, long_size, low, move_item, prologue, prologue_size, recipe, recipe_items, restoring, saving, short_place, size, stack_moved, store_at, stack_moved_size, unary_instr, word_recipe, word_recipe_items}
+use Rattle.cc_emit.specs.declared.recipe.Recipe.{Recipe}
+use Rattle.cc_emit.specs.internal.Room.{HasRoom}
+use Rattle.cc_emit.specs.declared.recipe.WordRecipe.{WordRecipe}
+use Rattle.cc_emit.specs.declared.recipe.Recipe.TheVariants.{Direct, NonzeroOf, ZeroOf, ZeroOfExchanged}
+use Rattle.cc_emit.specs.declared.recipe.WordRecipe.TheVariants.{NonzeroOfImmediate, OnZero, ShiftBy, WithImmediate, ZeroOfImmediate}
 use Rattle.cc_emit.proofs.Fine.{AreFineSteps, AreSavable, IsFine, IsFineStep, IsFineMove, IsFrame, IsSavable}
 use Rattle.cc_emit.proofs.Basics.{LowIs, low_is, eqb_denies}
 use Rattle.cc_emit.proofs.Places.{AreSeen, Nears, length_saving, length_stack_moved, near_offset, seen_first, seen_next, short_place_le, stays_near}
@@ -118,14 +123,6 @@ module _ (functions long : ℕ) where
   one_fit meaning base f near labels a Read e is u n le = ((omega arith, omega arith, (omega arith, omega arith)), (tt, tt))
   one_fit meaning base f near labels a Write e is u n le = ((omega arith, omega arith, (omega arith, omega arith)), (tt, tt))
   one_fit meaning base f near labels a Return e is u n le = epilogue_fit f is
-
-  -- what a recipe's instruction has to hold
-  abbrev HasRoom : WordRecipe → Type 0
-  HasRoom (WithImmediate i n) = IsImmediate n
-  HasRoom (ShiftBy i n) = n < 32
-  HasRoom (OnZero i) = Unit {0}
-  HasRoom (ZeroOfImmediate i n) = IsImmediate n
-  HasRoom (NonzeroOfImmediate i n) = IsImmediate n
 
   room_if : (b : Bool) (j k : WordRecipe) → HasRoom j → HasRoom k → HasRoom (if b then j else k)
   room_if true j k p q = p

@@ -21,7 +21,9 @@ use Rattle.cc_emit.specs.declared.step.Immediate as immediate
 use Rattle.cc_emit.specs.declared.step.Step.{Step}
 use Rattle.cc_emit.specs.declared.step.Step.TheVariants.{Immediate, LoadAt, StoreAt}
 use Rattle.cc_emit.specs.Contract.{Path}
-use Rattle.cc_emit.specs.Emission.{const_items, const_size, element_at, high, kept_items, kept_size, load_at, long_size, low, store_at, word_recipe, word_recipe_items, word_recipe_size, WordRecipe, WithImmediate, ShiftBy, OnZero, ZeroOfImmediate, NonzeroOfImmediate}
+use Rattle.cc_emit.specs.Emission.{const_items, const_size, element_at, high, kept_items, kept_size, load_at, long_size, low, store_at, word_recipe, word_recipe_items, word_recipe_size}
+use Rattle.cc_emit.specs.declared.recipe.WordRecipe.{WordRecipe}
+use Rattle.cc_emit.specs.declared.recipe.WordRecipe.TheVariants.{WithImmediate, ShiftBy, OnZero, ZeroOfImmediate, NonzeroOfImmediate}
 use Rattle.cc_emit.proofs.Fine.{IsTarget}
 use Rattle.cc_emit.proofs.Basics.{eqb_says, got, high_low, high_word, put_register}
 use Rattle.cc_emit.proofs.Stepping.{is_exchanged, items_behind, operation_on, operator_of}

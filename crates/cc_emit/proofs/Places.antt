@@ -14,7 +14,11 @@ use Rattle.cc_emit.specs.declared.item.Item.TheVariants.{Plain}
 use Rattle.cc_emit.specs.declared.step.Step.{Step}
 use Rattle.cc_emit.specs.declared.step.Step.TheVariants.{One, Immediate, LoadAt, StoreAt}
 use Rattle.cc_emit.specs.Frames.{Frame, frame_size}
-use Rattle.cc_emit.specs.Emission.{Recipe, Direct, ZeroOf, ZeroOfExchanged, NonzeroOf, WordRecipe, WithImmediate, ShiftBy, OnZero, ZeroOfImmediate, NonzeroOfImmediate, word_recipe, word_recipe_items, word_recipe_size, high, low, stack_moved, stack_moved_size, restoring, saving, epilogue, prologue_size, recipe, recipe_items, recipe_size, branch_items, branch_size, const_items, const_size, kept_items, kept_size, element_at, load_at, store_at, items_of_one, items_of, size_of_one, size, long_size, distance, reaches, is_label, is_near, long_place, short_place, emitted}
+use Rattle.cc_emit.specs.Emission.{word_recipe, word_recipe_items, word_recipe_size, high, low, stack_moved, stack_moved_size, restoring, saving, epilogue, prologue_size, recipe, recipe_items, recipe_size, branch_items, branch_size, const_items, const_size, kept_items, kept_size, element_at, load_at, store_at, items_of_one, items_of, size_of_one, size, long_size, distance, reaches, is_label, is_near, long_place, short_place, emitted}
+use Rattle.cc_emit.specs.declared.recipe.Recipe.{Recipe}
+use Rattle.cc_emit.specs.declared.recipe.WordRecipe.{WordRecipe}
+use Rattle.cc_emit.specs.declared.recipe.Recipe.TheVariants.{Direct, ZeroOf, ZeroOfExchanged, NonzeroOf}
+use Rattle.cc_emit.specs.declared.recipe.WordRecipe.TheVariants.{WithImmediate, ShiftBy, OnZero, ZeroOfImmediate, NonzeroOfImmediate}
 
 -- ---- sizes
 

@@ -17,7 +17,11 @@ use Rattle.cc_rv32.specs.Machine.{State, computed, execute, immediate_operation,
 use Rattle.cc_emit.specs.declared.step.Immediate as immediate
 use Rattle.cc_emit.specs.declared.step.Immediate.TheVariants as immediates
 use Rattle.cc_emit.specs.Steps.{is_short, has_word}
-use Rattle.cc_emit.specs.Emission.{Direct, NonzeroOf, NonzeroOfImmediate, OnZero, Recipe, ShiftBy, WithImmediate, WordRecipe, ZeroOf, ZeroOfExchanged, ZeroOfImmediate, low, recipe, unary_instr, word_recipe}
+use Rattle.cc_emit.specs.Emission.{low, recipe, unary_instr, word_recipe}
+use Rattle.cc_emit.specs.declared.recipe.Recipe.{Recipe}
+use Rattle.cc_emit.specs.declared.recipe.WordRecipe.{WordRecipe}
+use Rattle.cc_emit.specs.declared.recipe.Recipe.TheVariants.{Direct, NonzeroOf, ZeroOf, ZeroOfExchanged}
+use Rattle.cc_emit.specs.declared.recipe.WordRecipe.TheVariants.{NonzeroOfImmediate, OnZero, ShiftBy, WithImmediate, ZeroOfImmediate}
 use Rattle.cc_emit.proofs.Basics.{LowIs, eqb_denies, eqb_says, low_is}
 use Rattle.cc_emit.proofs.Stepping.{is_exchanged, operator_of}
 

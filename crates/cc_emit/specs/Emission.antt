@@ -28,6 +28,10 @@ use Rattle.cc_rv32.specs.declared.instr.BranchOperation.TheVariants.{Beq, Bne}
 use Rattle.cc_emit.specs.declared.item.Item.{Item}
 use Rattle.cc_emit.specs.declared.item.Item.TheVariants as item
 use Rattle.cc_emit.specs.declared.item.Item.TheVariants.{Plain, Go}
+use Rattle.cc_emit.specs.declared.recipe.Recipe.{Recipe}
+use Rattle.cc_emit.specs.declared.recipe.Recipe.TheVariants.{Direct, ZeroOf, ZeroOfExchanged, NonzeroOf}
+use Rattle.cc_emit.specs.declared.recipe.WordRecipe.{WordRecipe}
+use Rattle.cc_emit.specs.declared.recipe.WordRecipe.TheVariants.{WithImmediate, ShiftBy, OnZero, ZeroOfImmediate, NonzeroOfImmediate}
 use Rattle.cc_emit.specs.declared.step.Immediate as immediate
 use Rattle.cc_emit.specs.declared.step.Immediate.TheVariants as immediates
 use Rattle.cc_emit.specs.declared.step.Step.{Step}
@@ -99,12 +103,6 @@ unary_instr IsZero to from = instr.OpImm Sltiu to from 1
 
 -- how an operator on two words is made: by one instruction; or by asking whether the word that one gives is zero, with the operands as
 -- they are or exchanged; or whether it is not
-pub data Recipe : Type 0 where
-  Direct : Operation → Recipe
-  ZeroOf : Operation → Recipe
-  ZeroOfExchanged : Operation → Recipe
-  NonzeroOf : Operation → Recipe
-
 abbrev pub recipe : binary.Binary → Recipe
 recipe Add = Direct operation.Add
 recipe Sub = Direct operation.Sub
@@ -172,13 +170,6 @@ items_of_one base f near labels place Return = epilogue f
 
 -- how an operator on a register and a word is made: by one instruction with an immediate, by a shift, or by one instruction on 0 and the
 -- register; or by asking whether the word that an instruction with an immediate gives is zero, or whether it is not
-pub data WordRecipe : Type 0 where
-  WithImmediate : ImmediateOperation → (immediate : ℕ) → WordRecipe
-  ShiftBy : ShiftOperation → (count : ℕ) → WordRecipe
-  OnZero : Operation → WordRecipe
-  ZeroOfImmediate : ImmediateOperation → (immediate : ℕ) → WordRecipe
-  NonzeroOfImmediate : ImmediateOperation → (immediate : ℕ) → WordRecipe
-
 abbrev pub word_recipe : immediate.Immediate → (word : ℕ) → WordRecipe
 word_recipe immediates.Add w = WithImmediate Addi (low w)
 word_recipe immediates.Sub w = WithImmediate Addi (low (neg w))

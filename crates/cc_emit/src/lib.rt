@@ -5,8 +5,8 @@
 //! `specs/Contract.antt`.
 //!
 //! `emitting` is the pass. `step` has the steps, `bases` the objects' addresses, `frame` which registers are saved and where, `tables` the
-//! places of labels and which branches are near; `emission` puts the items of each step, with the help of `constants`, `operators` and
-//! `instructions`.
+//! places of labels and which branches are near; `emission` puts the items of each step, with the help of `constants`, `recipe`,
+//! `operators` and `instructions`.
 #![tactic(auto)]
 
 mod bases;
@@ -18,6 +18,7 @@ mod instructions;
 mod item;
 mod operators;
 mod piece;
+mod recipe;
 mod step;
 mod tables;
 

@@ -12,7 +12,7 @@ ghost use Rattle.cc_emit.specs.internal.Behind.{near_behind, behind, label_of, I
 
 use crate::constants::{constant_size, kept_size};
 use crate::frame::Frame;
-use crate::operators::{binary_size, immediate_size};
+use crate::recipe::{Recipe, WordRecipe};
 use crate::step::Step;
 use cc_linear::Item as LinearItem;
 use std::alloc::{AllocError, Global};
@@ -133,7 +133,7 @@ fn long_size_of_one(frame: &Frame, item: &LinearItem) -> usize
         | LinearItem::Read
         | LinearItem::Write => 2,
         LinearItem::Const { word, .. } => constant_size(*word),
-        LinearItem::Binary { operator, .. } => binary_size(*operator),
+        LinearItem::Binary { operator, .. } => Recipe::of(*operator).size(),
         LinearItem::Load { .. } | LinearItem::Store { .. } => 4,
         LinearItem::Return => frame.saved().len() + frame.moves() + 1,
     }
@@ -146,7 +146,7 @@ pub(crate) fn long_size(frame: &Frame, step: &Step) -> usize
 {
     match step {
         Step::One(item) => long_size_of_one(frame, item),
-        Step::Immediate { operator, word, .. } => immediate_size(*operator, *word),
+        Step::Immediate { operator, word, .. } => WordRecipe::of(*operator, *word).size(),
         Step::LoadAt {
             to,
             index,
