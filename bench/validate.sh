@@ -10,13 +10,14 @@
 # the validator and with it, also where the highest slots are used; and LTL that somebody hostile might hand in (crates/bench/src/hostile.rt):
 # a value equal to 495 slots over 1,000 blocks and over 2,000 (the goal is at most 2.5 times the time), and a loop of 1,000 blocks of which
 # one turns 495 slots (the goal is 10 seconds), for one value and for 64, and with 60,000 moves more in ten of its blocks.
-# The program has to be built (rt run in crates/bench), or BENCH names one that is. Memory is told by python3.
+# The program has to be built (rt run in crates/bench), or BENCH names one that is. Needs a C compiler, for bench/peak.c.
 set -eu
 top=$(cd "$(dirname "$0")/.." && pwd)
 program=${BENCH:-$top/crates/bench/out/bench}
 [ -x "$program" ] || { echo "validate.sh: build the program first: (cd crates/bench && rt run)" >&2; exit 1; }
 folder=$(mktemp -d)
 trap 'rm -rf "$folder"' EXIT
+${CC:-cc} -O1 -o "$folder/peak" "$top/bench/peak.c"
 rounds=${ROUNDS:-3} work=${WORK:-400000}
 
 # times COUNT TEXT: the text so often
@@ -83,12 +84,7 @@ timed() {
 best() { awk '{ t = $1 + $2 } NR == 1 || t < low { low = t } END { printf "%.4f", low }' "$folder/$1"; }
 
 # peak COMMAND..: the most memory that it took, in MB
-peak() {
-    python3 -c '
-import resource, subprocess, sys
-subprocess.run(sys.argv[1:], stdout=subprocess.DEVNULL, check=True)
-print("%.1f" % (resource.getrusage(resource.RUSAGE_CHILDREN).ru_maxrss / 1024))' "$@"
-}
+peak() { "$folder/peak" "$@"; }
 
 # sized KIND NODES: makes the text of that kind with so many nodes or a few less, and prints how many it has
 sized() {

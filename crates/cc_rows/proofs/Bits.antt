@@ -63,6 +63,19 @@ removed row s w r read lt = elim (cases_eq (r / 64) (s / 64)) [
     changed : ℕ
     changed = bit_and w (bit_not w64 (1 * 2 ^ (s % 64) % 2 ^ 64))
 
+-- the same of the bit of a word
+pub removed_at : (row : List ℕ) (at i w r : ℕ) → i < 64 → w ≡ get_or row at 0 → at < length row → holds (set row at (bit_and w (bit_not w64 (1 * 2 ^ i % 2 ^ 64)))) r ≡ (holds row r && not (64 * at + i == r))
+removed_at row at i w r small read lt =
+    subst (λ q. holds (set row q (bit_and w (bit_not w64 (1 * 2 ^ i % 2 ^ 64)))) r ≡ (holds row r && not (64 * at + i == r))) place
+    (subst (λ k. holds (set row ((64 * at + i) / 64) (bit_and w (bit_not w64 (1 * 2 ^ k % 2 ^ 64)))) r ≡ (holds row r && not (64 * at + i == r))) of
+    (removed row (64 * at + i) w r (read ∙ ap (λ q. get_or row q 0) (sym place)) (omega (arith, place, lt))))
+  where
+    place : (64 * at + i) / 64 ≡ at
+    place = omega (arith, small)
+
+    of : (64 * at + i) % 64 ≡ i
+    of = omega (arith, small)
+
 -- what is past a row's end need not be taken out
 pub removed_past : (row : List ℕ) (s r : ℕ) → length row ≤ s / 64 → holds row r ≡ (holds row r && not (s == r))
 removed_past row s r past = elim (cases_eq s r) [

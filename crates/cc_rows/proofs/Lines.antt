@@ -1,8 +1,13 @@
 -- Loops over the rows or the columns of a table: what has been done before one of them.
-use Rattle.std.proofs.Common.{◌≡◌, ℕ, ◌+◌, ◌*◌, ◌/◌, ◌<◌, ◌≤◌, ◌∙◌, sym, ap, arith, refl, inl, inr, Bool, true, false, ◌==◌, ◌&&◌, ◌||◌, not, nat_lt, if◌then◌else◌}
+use Rattle.std.proofs.Common.{◌≡◌, ℕ, List, length, ◌+◌, ◌*◌, ◌/◌, ◌%◌, ◌<◌, ◌≤◌, ◌∙◌, sym, ap, arith, refl, inl, inr, Bool, true, false, ◌==◌, ◌&&◌, ◌||◌, not, nat_lt, if◌then◌else◌}
 use Rattle.std.proofs.lemmas.Bool.{cases_eq, cases_lt, eq-eqb, ne_eqb}
 use Rattle.std.proofs.lemmas.Bool.Decides.{nat_tests}
-use Rattle.cc_rows.specs.Rows.{moved, row_moved}
+use Rattle.std.proofs.Math.Nat.{mul-suc, mul-le-mul_left, lt_of_mul-lt-mul_left}
+use Rattle.cc_rows.specs.Rows.{holds, key, moved, row_moved}
+use Rattle.cc_rows.specs.internal.Holding.{bit, holds-past}
+use Rattle.cc_rows.proofs.Bits.{moved_none}
+use Rattle.cc_rows.proofs.Keys.{next_row}
+use Rattle.cc_rows.proofs.Tables.{moved_bit}
 
 below : (j n : ℕ) → j < n → nat_lt j n ≡ true
 below j n h = grind (arith, nat_tests)
@@ -132,15 +137,66 @@ module _ (n from to : ℕ) (old now : ℕ → ℕ → Bool) where
         ∙ is i j same))))
   ]
 
-  pub all_moved : ((i j : ℕ) → n ≤ i → old i j ≡ false) → MovedBefore n from to old now → (i j : ℕ) → now i j ≡ moved from to (old i) j
+  -- where the lines from here on have no such bit, all have moved
+  pub all_moved : ((i : ℕ) → n ≤ i → now i from ≡ false) → MovedBefore n from to old now → (i j : ℕ) → now i j ≡ moved from to (old i) j
   all_moved past h i j = elim (cases_lt i n) [
     | inl lt ↦ h i j ∙ ap (λ b. if b then moved from to (old i) j else old i j) (below i n lt)
-    | inr ge ↦ h i j ∙ (ap (λ b. if b then moved from to (old i) j else old i j) (not_below i n ge) ∙ none (to == j) ge)
+    | inr ge ↦ stays j ge ∙ moved_none from to (old i) (sym (stays from ge) ∙ past i ge) j
   ]
     where
-      none : (b : Bool) → n ≤ i → old i j ≡ (if b then old i to || old i from else old i j && not (from == j))
-      none true ge = past i j ge ∙ sym (ap (λ x. x || old i from) (past i to ge) ∙ past i from ge)
-      none false ge = past i j ge ∙ sym (ap (λ x. x && not (from == j)) (past i j ge))
+      stays : (k : ℕ) → n ≤ i → now i k ≡ old i k
+      stays k ge = h i k ∙ ap (λ b. if b then moved from to (old i) k else old i k) (not_below i n ge)
+
+-- the same in a row of rows of so many words: where the next row's words are, and that no row was put behind the last one
+pub record MovedTo (r width from to at target : ℕ) (old now : List ℕ) : Type 0 where
+  pub here : at ≡ width * r + from / 64
+  pub goes : target ≡ 64 * (width * r) + to
+  pub few : (rows : ℕ) → length old ≤ width * rows → length now ≤ width * rows
+  pub moved : MovedBefore r from to (bit width old) (bit width now)
+
+pub nowhere_moved : (width from to at target : ℕ) (words : List ℕ) → at ≡ from / 64 → target ≡ to → MovedTo 0 width from to at target words words
+nowhere_moved width from to at target words a t = record {
+  here = a ∙ (let z : width * 0 ≡ 0 = omega arith in omega (arith, z));
+  goes = t ∙ (let z : width * 0 ≡ 0 = omega arith in omega (arith, z));
+  few = λ rows h. h;
+  moved = none_moved from to (bit width words);
+}
+
+-- one row more: it is one of the rows, so what is put in lies before their end
+module _ (r width from to at target : ℕ) (old now next : List ℕ) (h : MovedTo r width from to at target old now) (f : from < 64 * width) (t : to < 64 * width) where
+  -- a row that has a word is one of so many rows that hold the words
+  inside : (many : ℕ) → length now ≤ width * many → at < length now → r < many
+  inside many few lt = let here = h.here in lt_of_mul-lt-mul_left width {m = r} {n = many} (omega (arith, here, few, lt))
+
+  pub before_end : (many : ℕ) → length now ≤ width * many → at < length now → target / 64 < width * many
+  before_end many few lt = let next = next_row width r many (inside many few lt) in let goes = h.goes in omega (arith, goes, next, t)
+
+  pub still_few : at < length now → ((most : ℕ) → length now ≤ most → target / 64 < most → length next ≤ most) → (many : ℕ) → length old ≤ width * many → length next ≤ width * many
+  still_few lt grows many few = grows (width * many) (h.few many few) (before_end many (h.few many few) lt)
+
+  pub row_moved_on : at < length now → ((most : ℕ) → length now ≤ most → target / 64 < most → length next ≤ most)
+      → ((k : ℕ) → holds next k ≡ moved (64 * at + from % 64) target (holds now) k) → MovedTo (r + 1) width from to (at + width) (target + 64 * width) old next
+  row_moved_on lt grows moves = record {
+    here = let more = mul-suc width r in let here = h.here in omega (arith, more, here);
+    goes = let more = mul-suc width r in let goes = h.goes in omega (arith, more, goes);
+    few = still_few lt grows;
+    moved = line_moved r from to (bit width old) (bit width now) (bit width next)
+        (moved_bit width r from to now next f t (λ k. moves k ∙ (ap (λ n. moved n target (holds now) k) number ∙ ap (λ n. moved (key width r from) n (holds now) k) (h.goes)))) h.moved;
+  }
+    where
+      number : 64 * at + from % 64 ≡ key width r from
+      number = let here = h.here in omega (arith, here)
+
+  pub all_rows_moved : length now ≤ at → (i j : ℕ) → bit width now i j ≡ moved from to (bit width old i) j
+  all_rows_moved end = all_moved r from to (bit width old) (bit width now) past h.moved
+    where
+      later : (i : ℕ) → r ≤ i → width * r ≤ width * i
+      later i le = mul-le-mul_left {m = r} {n = i} width le
+
+      past : (i : ℕ) → r ≤ i → bit width now i from ≡ false
+      past i le =
+          ap (λ b. nat_lt from (64 * width) && b) (holds-past now (key width i from) (let here = h.here in let more = later i le in omega (arith, here, more, end)))
+          ∙ and_false (nat_lt from (64 * width))
 
 -- ---- word by word a row's bits move to another row
 

@@ -2,7 +2,8 @@
 
 ghost use Rattle.std.specs.Prelude.{◌≡◌, ℕ, ◌+◌, ◌*◌, ◌/◌, ◌%◌, ◌^◌, ◌<◌, ◌≤◌, ◌==◌, ◌||◌, ◌&&◌, not, [], get_or, length, slice_index, IsTrue, IsFalse, IfOk, IfErr};
 ghost use Rattle.std.specs.Int.{bit_at};
-ghost use Rattle.cc_rows.specs.Rows.{holds, moved as moved_of, most_words};
+ghost use Rattle.cc_rows.specs.Rows.{holds, AreRows, moved as moved_of, column_moved, most_words};
+ghost use Rattle.cc_rows.specs.internal.Holding.{bit as bit_of};
 
 use std::alloc::{AllocError, Global};
 use std::marker::Model;
@@ -100,19 +101,40 @@ impl BitRow {
         }
     }
 
-    /// Puts in one number for another, where that one is in. Where memory runs out, that one may be out.
-    pub(crate) fn move_bit(&mut self, from: usize, to: usize) -> Result<(), AllocError>
-        requires { to / 64 < most_words }
-        ensures moved { IfOk result (λ _. (k : ℕ) → holds self.new k ≡ moved_of from to (holds self.old) k) }
+    /// Moves the bit of each row, of so many words each, from one column to another. Where memory runs out, some may have moved.
+    pub(crate) fn move_column(
+        &mut self,
+        width: usize,
+        from: usize,
+        to: usize,
+    ) -> Result<(), AllocError>
+        requires rows { (rows : ℕ) × AreRows width rows self.old }
+        requires from { from < 64 * width }
+        requires to { to < 64 * width }
+        ensures moved { IfOk result (λ _. (r c : ℕ) → bit_of width self.new r c ≡ column_moved from to (bit_of width self.old) r c) }
+        ensures few { (rows : ℕ) → length self.old ≤ width * rows → length self.new ≤ width * rows }
+    {
+        let mut at = from / 64;
+        let mut target = to;
+        while at < self.words.len() {
+            self.move_bit(at, from % 64, target)?;
+            at += width;
+            target += 64 * width;
+        }
+        Ok(())
+    }
+
+    /// Puts in one number for that of a word's bit, where that one is in. Where memory runs out, that one may be out.
+    fn move_bit(&mut self, at: usize, bit: usize, to: usize) -> Result<(), AllocError>
+        requires at { at < length self.old }
+        requires bit { bit < 64 }
+        requires to { to / 64 < most_words }
+        ensures moved { IfOk result (λ _. (k : ℕ) → holds self.new k ≡ moved_of (64 * at + bit) to (holds self.old) k) }
         ensures few { (most : ℕ) → length self.old ≤ most → to / 64 < most → length self.new ≤ most }
     {
-        let at = from / 64;
-        if at >= self.words.len() {
-            return Ok(());
-        }
         let word = self.words[at];
-        if is_set(word, from) {
-            self.words[at] = word & !(1 << (from % 64));
+        if is_set(word, bit) {
+            self.words[at] = word & !(1 << bit);
             self.insert(to)?;
         }
         Ok(())

@@ -6,11 +6,11 @@ ghost use Rattle.std.specs.Prelude.{◌≡◌, ◌<◌, ◌≤◌, ◌^◌, ◌�
 ghost use Rattle.cc_flow.specs.Lattice.{Equivalent};
 ghost use Rattle.cc_rows.specs.Rows.{has, most_width, most_rows};
 ghost use Rattle.cc_ltl.specs.Ltl.{same_location};
-ghost use Rattle.cc_validate.specs.Equations.{before_move, before_moves, equation};
+ghost use Rattle.cc_validate.specs.Equations.{before_moves, equation};
 ghost use Rattle.cc_validate.specs.Solution.{IsAtEntry};
 ghost use Rattle.cc_validate.specs.internal.Facts.{Below, join as join_of};
 ghost use Rattle.cc_validate.specs.internal.Room.{room as room_of, IsPlace};
-ghost use Rattle.cc_validate.specs.internal.Table.{number as number_of};
+ghost use Rattle.cc_validate.specs.internal.Table.{number as number_of, listed, AreEquations};
 ghost use Rattle.cc_validate.specs.internal.Carried.{AreCarried, AreLeft, AreWith, IsEntryBit};
 ghost use Rattle.cc_ltl.specs.declared.location.Location.TheVariants.{Register as in_register};
 ghost use Rattle.cc_validate.specs.declared.equation.Equation.{Equation};
@@ -106,21 +106,8 @@ impl Equations {
     pub fn carry(self, moves: &[Move]) -> Result<Equations, AllocError>
         ensures { IfOk result (λ made. AreCarried (before_moves moves.now) self made) }
     {
-        let mut made = self;
-        let mut left = moves.len();
-        while left > 0 {
-            left -= 1;
-            made = made.carry_one(&moves[left])?;
-        }
-        Ok(made)
-    }
-
-    /// The same of one move: what its target held, its source holds.
-    fn carry_one(self, m: &Move) -> Result<Equations, AllocError>
-        ensures { IfOk result (λ made. AreCarried (before_move m.now) self made) }
-    {
         let Equations { mut bits } = self;
-        bits.move_column(number(target(m)), number(source(m)))?;
+        carry_bits(&mut bits, moves)?;
         Ok(Equations { bits })
     }
 
@@ -171,6 +158,21 @@ impl Equations {
         let _bits = &self.bits;
         are_entry_bits(&self.bits, parameters)
     }
+}
+
+/// The same of their bits: what each move's target held, its source holds, from the last move on.
+fn carry_bits(bits: &mut BitRows, moves: &[Move]) -> Result<(), AllocError>
+    requires { AreEquations bits.old }
+    ensures bits { IfOk result (λ _. AreEquations bits.new) }
+    ensures carried { IfOk result (λ _. AreCarried (before_moves moves.now) (listed bits.old) (listed bits.new)) }
+{
+    let mut left = moves.len();
+    while left > 0 {
+        left -= 1;
+        let m = &moves[left];
+        bits.move_column(number(target(m)), number(source(m)))?;
+    }
+    Ok(())
 }
 
 /// Whether each bit is that of a parameter and its location.

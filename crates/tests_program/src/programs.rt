@@ -191,12 +191,23 @@ static INPUT: [u32; 24] = [
     1, 2, 3, 4, 5, 6, 7, 8, 9, 10, 11, 12, 13, 14, 15, 16, 17, 18, 19, 20, 21, 22, 23, 24,
 ];
 
-// Whether a text writes a fault's line with the status 1.
+// Whether these bytes are one line with its end.
+fn is_one_line(written: &[u8]) -> bool {
+    let mut ends = 0usize;
+    for byte in written {
+        if *byte == b'\n' {
+            ends = ends.saturating_add(1);
+        }
+    }
+    ends == 1 && written.ends_with(b"\n".as_slice())
+}
+
+// Whether a text writes a fault's line alone with the status 1.
 fn has_fault<H: AllocGlobal>(rt: &H, text: &[u8]) -> bool {
     let mut reader = text;
     let mut written = Vec::new(rt.alloc());
     let status = perform(rt, Task::Check, &mut reader, &mut written);
-    status == 1 && written.as_slice().starts_with(b"fault ".as_slice())
+    status == 1 && written.as_slice().starts_with(b"fault ".as_slice()) && is_one_line(written.as_slice())
 }
 
 // A text that ends anywhere is a program or has one fault line.

@@ -5,6 +5,7 @@ use super::pairs::{pair_of, unit_of};
 use super::texts::{DIFFERENCE, EMPTY, LONG};
 use cc_colour::spill_all;
 use cc_ltl::{Ltl, Operation, read_ltl, write_ltl};
+use cc_rtl::RtlPair;
 use cc_typing::TypedUnit;
 use cc_validate::validate;
 use std::alloc::Global;
@@ -62,67 +63,90 @@ fn exchanged_operands_are_refused(rt: HostRuntime) -> Result<(), Fail> {
     Ok(())
 }
 
-// Bytes are no function, or one that is refused, or one that is right.
-fn is_answered(
+// Bytes are no function, or one that is refused, or one that is right: the RTL to ask with again. None where they are answered otherwise.
+fn answered(
     alloc: Global,
     unit: &Arc<TypedUnit>,
     function: usize,
+    pair: RtlPair,
     bytes: &[u8],
-) -> Result<bool, Fail> {
+) -> Result<Option<RtlPair>, Fail> {
     match read_ltl(alloc, bytes) {
-        Err(fault) => Ok(fault.number() == 37),
-        Ok(ltl) => match validate(alloc, pair_of(alloc, unit, function)?, ltl) {
-            Ok(_) => Ok(true),
-            Err(refused) => Ok(refused.fault.number() == 24),
+        Err(fault) => Ok(if fault.number() == 37 {
+            Some(pair)
+        } else {
+            None
+        }),
+        Ok(ltl) => match validate(alloc, pair, ltl) {
+            Ok(_) => Ok(Some(pair_of(alloc, unit, function)?)),
+            Err(refused) => Ok(if refused.fault.number() == 24 {
+                Some(refused.pair)
+            } else {
+                None
+            }),
         },
     }
 }
 
-// The bytes with another one at a place: of the 256 values one in so many, and at the next place the next ones.
-fn is_place_answered(
+// The bytes with each value at a place.
+fn place_answered(
     alloc: Global,
     unit: &Arc<TypedUnit>,
     function: usize,
+    pair: RtlPair,
     bytes: &mut Vec<u8>,
     place: usize,
-    one_in: usize,
-) -> Result<bool, Fail> {
+) -> Result<Option<RtlPair>, Fail> {
     let Some(usual) = bytes.as_slice().get(place).copied() else {
-        return Ok(false);
+        return Ok(None);
     };
-    let mut right = true;
+    let mut left = Some(pair);
     for value in 0..=255u8 {
-        if one_in == 0 || (value as usize) % one_in == place % one_in {
-            if let Some(byte) = bytes.as_mut_slice().get_mut(place) {
-                *byte = value;
-            }
-            right = right && is_answered(alloc, unit, function, bytes.as_slice())?;
+        if let Some(byte) = bytes.as_mut_slice().get_mut(place) {
+            *byte = value;
         }
+        left = match left {
+            Some(pair) => answered(alloc, unit, function, pair, bytes.as_slice())?,
+            None => None,
+        };
     }
     if let Some(byte) = bytes.as_mut_slice().get_mut(place) {
         *byte = usual;
     }
-    Ok(right)
+    Ok(left)
 }
 
-// Each byte of a function's allocation has other values, and each shorter prefix is no function.
-fn are_answered(alloc: Global, text: &str, function: usize, one_in: usize) -> Result<bool, Fail> {
+// Each byte of a function's allocation has each value, of the bytes one in so many, from a first one on.
+fn are_answered(
+    alloc: Global,
+    text: &str,
+    function: usize,
+    first: usize,
+    one_in: usize,
+) -> Result<bool, Fail> {
     let unit = unit_of(alloc, text)?;
     let pair = pair_of(alloc, &unit, function)?;
     let ltl = spill_all(alloc, pair.code())?;
     let mut bytes = write_ltl(alloc, &ltl)?;
+    let mut left = Some(pair);
     for place in 0..bytes.len() {
-        if !is_place_answered(alloc, &unit, function, &mut bytes, place, one_in)? {
-            return Ok(false);
+        if one_in == 0 || place % one_in == first {
+            left = match left {
+                Some(pair) => place_answered(alloc, &unit, function, pair, &mut bytes, place)?,
+                None => None,
+            };
         }
     }
-    are_prefixes_refused(alloc, bytes.as_slice())
+    Ok(left.is_some())
 }
 
-// Each prefix that is shorter has 37.
-fn are_prefixes_refused(alloc: Global, bytes: &[u8]) -> Result<bool, Fail> {
+// Each prefix of a function's allocation that is shorter has 37.
+fn are_prefixes_refused(alloc: Global, text: &str, function: usize) -> Result<bool, Fail> {
+    let unit = unit_of(alloc, text)?;
+    let ltl = spill_all(alloc, pair_of(alloc, &unit, function)?.code())?;
+    let bytes = write_ltl(alloc, &ltl)?;
     for end in 0..bytes.len() {
-        match read_ltl(alloc, &bytes[..end]) {
+        match read_ltl(alloc, &bytes.as_slice()[..end]) {
             Err(fault) => {
                 if fault.number() != 37 {
                     return Ok(false);
@@ -135,16 +159,46 @@ fn are_prefixes_refused(alloc: Global, bytes: &[u8]) -> Result<bool, Fail> {
 }
 
 #[test]
+fn prefixes_are_no_functions(rt: HostRuntime) -> Result<(), Fail> {
+    let smallest = are_prefixes_refused(rt.alloc(), EMPTY, 0)?;
+    let identity = are_prefixes_refused(rt.alloc(), LONG, 0)?;
+    let long = are_prefixes_refused(rt.alloc(), LONG, 1)?;
+    assert!(rt; smallest && identity && long);
+    Ok(())
+}
+
+#[test]
 fn bytes_of_small_functions_with_one_changed_are_answered(rt: HostRuntime) -> Result<(), Fail> {
-    let smallest = are_answered(rt.alloc(), EMPTY, 0, 1)?;
-    let identity = are_answered(rt.alloc(), LONG, 0, 1)?;
+    let smallest = are_answered(rt.alloc(), EMPTY, 0, 0, 1)?;
+    let identity = are_answered(rt.alloc(), LONG, 0, 0, 1)?;
     assert!(rt; smallest && identity);
     Ok(())
 }
 
 #[test]
-fn bytes_of_a_long_function_with_one_changed_are_answered(rt: HostRuntime) -> Result<(), Fail> {
-    let right = are_answered(rt.alloc(), LONG, 1, 8)?;
+fn each_first_byte_of_four_of_a_long_function_is_answered(rt: HostRuntime) -> Result<(), Fail> {
+    let right = are_answered(rt.alloc(), LONG, 1, 0, 4)?;
+    assert!(rt; right);
+    Ok(())
+}
+
+#[test]
+fn each_second_byte_of_four_of_a_long_function_is_answered(rt: HostRuntime) -> Result<(), Fail> {
+    let right = are_answered(rt.alloc(), LONG, 1, 1, 4)?;
+    assert!(rt; right);
+    Ok(())
+}
+
+#[test]
+fn each_third_byte_of_four_of_a_long_function_is_answered(rt: HostRuntime) -> Result<(), Fail> {
+    let right = are_answered(rt.alloc(), LONG, 1, 2, 4)?;
+    assert!(rt; right);
+    Ok(())
+}
+
+#[test]
+fn each_fourth_byte_of_four_of_a_long_function_is_answered(rt: HostRuntime) -> Result<(), Fail> {
+    let right = are_answered(rt.alloc(), LONG, 1, 3, 4)?;
     assert!(rt; right);
     Ok(())
 }

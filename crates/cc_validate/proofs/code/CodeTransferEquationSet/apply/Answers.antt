@@ -1,5 +1,5 @@
 -- Inside, a position's node and block agree, and carry; past the end nothing is made.
-use Rattle.std.proofs.Common.{◌≡◌, ◌<◌, length, get_or, sym, ap, ◌∙◌, subst, arith, IfOk}
+use Rattle.std.proofs.Common.{◌≡◌, get_or, sym, ap, ◌∙◌, subst, arith, IfOk}
 use Rattle.std.proofs.lemmas.Option.{slice_get_within, get_or_from_slice_get}
 use Rattle.cc_flow.specs.Lattice.{Equivalent}
 use Rattle.cc_rtl.specs.Rtl.{Labelled}
