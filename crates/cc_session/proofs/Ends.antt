@@ -53,7 +53,7 @@ pub unopened_on : (honest : Bool) (seen later : List ℕ) (before after : ℕ) (
     → IsUnopened honest later before after end → IsUnopened honest seen before after end
 unopened_on honest seen later before after Finished same it = it
 unopened_on honest seen later before after (Fault number) same it =
-    (it.0, (it.1.0, (it.1.1.0, not_opened_on honest seen later it.0 before after it.1.0 same it.1.1.1)))
+    (it.0, it.1, it.2, not_opened_on honest seen later it.0 before after it.1 same it.3)
 
 -- What is left of a service that was ended, by what its end says of the book.
 pub kept_by : {D : Type 0} (honest : Bool) (may_leave : D → List ℕ → Type 0) (named : Units) (book : BookView D) (after : D)
