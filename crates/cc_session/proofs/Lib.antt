@@ -1,2 +1,4 @@
 pub mod Ends
+pub mod Lines
 pub mod Playing
+pub mod Putting

@@ -1,12 +1,12 @@
 -- What is known of the rest of a script is carried from step to step.
-use Rattle.std.proofs.Common.{◌≡◌, ◌≢◌, ◌∙◌, ℕ, suc, ◌+◌, ◌<◌, ◌≤◌, Bool, true, false, List, [], ◌∷◌, ◌++◌, length, take, Option, Some, None, Result, Ok, Err, refl, sym, ap, subst, append_assoc, arith, inl, inr}
-use Rattle.std.specs.Prelude.{◌⊎◌, All, IfSome, nat_le}
+use Rattle.std.proofs.Common.{◌≡◌, ◌∙◌, ℕ, ◌+◌, ◌<◌, ◌≤◌, Bool, true, false, List, [], ◌∷◌, ◌++◌, length, take, Option, Some, None, Result, Ok, Err, refl, sym, ap, subst, append_assoc, arith, inl, inr}
+use Rattle.std.specs.Prelude.{◌⊎◌, ◌≢◌, All, IfSome, OnOk, nat_le}
 use Rattle.std.proofs.lemmas.Grind.{common_steps}
 use Rattle.std.proofs.lemmas.List.{length-append}
-use Rattle.std.proofs.lemmas.List.Elements.{All-append, All-cons}
+use Rattle.std.proofs.lemmas.List.Elements.{All-append}
 use Rattle.std.proofs.lemmas.Bool.Decides.{nat_tests}
 use Rattle.cc_script.specs.Line.{Asked, asked_of}
-use Rattle.cc_script.specs.Reading.{Between, IsLine, IsNext, IsSource}
+use Rattle.cc_script.specs.Reading.{Between, IsLine, IsNext, IsSource, rest_from}
 use Rattle.cc_script.specs.declared.script.Next.TheVariants.{TooLong}
 use Rattle.cc_history.specs.History.{Holder}
 use Rattle.cc_session.specs.Playing.{IsPlayed, IsPlayedInPart, IsStep, Obeys, Plays, Turn, asked_by_line}
@@ -119,3 +119,27 @@ played_before script first turns rest last plays = record { turns = turns; rest 
 pub played_up_to : (script : List ℕ) (first : Holder) (turns : List Turn) (rest : List ℕ) (client last : Holder) → Plays script first turns rest client
     → (last ≡ client) ⊎ ((after : List ℕ) × IsStep rest after client last) → IsPlayedInPart script first last
 played_up_to script first turns rest client last plays it = record { turns = turns; rest = rest; client = client; plays = plays; then_is = it }
+
+-- nothing of it yet
+pub played_none : (x : Option (List ℕ)) (h : Holder) → Between x x (λ b a. (turns : List Turn) × Plays b h turns a h)
+played_none None h = tt
+played_none (Some b) h = ([], (refl, refl))
+
+-- ---- lines that are refused, and sources
+
+-- a step whose line is skipped
+pub skipped : {T E : Type 0} (answer : Result T E) (Does : List ℕ → List ℕ → Holder → Holder → Type 0) (x y z : Option (List ℕ)) (h : Holder) (P : List ℕ → List ℕ → Type 0)
+    → Between x y P → OnOk answer (Between y z (λ b a. (rest : List ℕ) × IsLine b rest a))
+    → ((b m a : List ℕ) → P b m → ((rest : List ℕ) × IsLine m rest a) → Does b a h h) → IsDone Does x z h h answer
+skipped (Ok t) Does x y z h P one two on = between_then x y z P (λ b a. (rest : List ℕ) × IsLine b rest a) (λ b a. Does b a h h) one two on
+skipped (Err e) Does x y z h P one two on = known x _ (λ b. inl refl)
+
+-- a source, and the end of its line behind it
+pub source_step : (b m a : List ℕ) (count : ℕ) (kept : List ℕ) → IsSource b count (Some kept) m → IsLine m [] a
+    → (source : List ℕ) × (rest : List ℕ) × (b ≡ source ++ rest) × (length source ≡ count) × IsLine rest [] a × (kept ≡ take 65537 source)
+source_step b m a count kept read line = (read.source, m, read.front, read.count_is, line, read.kept_is)
+
+-- a script of which nothing has been read
+pub unread : (remaining : Option (List ℕ)) → rest_from [] false remaining ≡ remaining
+unread None = refl
+unread (Some bytes) = refl

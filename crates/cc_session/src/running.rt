@@ -170,10 +170,10 @@ where
     D: Disk + Drop,
     requires { IsBegun played }
     ensures unended { IfNone result.0 (IsUnended result.1) }
-    ensures begun { IfSome result.0 (λ after. result.1 ≡ played) }
+    ensures begun { IfSome result.0 (λ after. IsBegun result.1) }
     // Whatever bytes those were that recover to the map that the service's type names, and whatever the script was.
     ensures kept { IfSome result.0 (λ after. (bytes : List ℕ) → (IsTrue D.honest → Recovers bytes N.base)
-        → (script : Option (List ℕ)) → HaveCalled script clients.items played → IsKept D.honest bytes D.may_leave script played after) }
+        → (script : Option (List ℕ)) → HaveCalled script clients.items played → IsKept D.honest bytes D.may_leave script result.1 after) }
 {
     match service.finish(rt, alloc, clients) {
         Ok(closed) => (Some(disk_of(closed)), played),

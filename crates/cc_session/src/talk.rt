@@ -1,6 +1,6 @@
 // The three streams of a session: its script, its answers, and what explains its faults.
 
-ghost use Rattle.std.specs.Prelude.{◌≡◌, ◌≤◌, ℕ, List, [], false, IfErr, IfOk, OnOk};
+ghost use Rattle.std.specs.Prelude.{◌≡◌, ◌≤◌, ℕ, List, IfErr, IfOk, OnOk};
 ghost use Rattle.cc_script.specs.Reading.{Between, IsLine, IsNext, IsWithinLine, rest_of};
 ghost use Rattle.cc_session.specs.internal.Ending.{IsEnding};
 ghost use Rattle.cc_session.specs.internal.Steps.{HasSent};
@@ -92,7 +92,7 @@ fn write_refusal<W: Write>(fault: &ServiceFault, source: &[u8], writer: &mut W) 
 
 impl<R: Read, W: Write, E: Write> Talk<R, W, E> {
     pub(crate) fn new(reader: R, answers: W, explanations: E) -> Talk<R, W, E>
-        ensures { rest_of result.script (R.remaining result.reader) ≡ rest_of (record { held = []; is_over = false; left = 16777216 }) (R.remaining reader) }
+        ensures { rest_of result.script (R.remaining result.reader) ≡ R.remaining reader }
     {
         Talk {
             script: Script::new(),
