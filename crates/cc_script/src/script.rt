@@ -1,12 +1,16 @@
 // The lines and the sources of a script, as they are read.
 
-ghost use Rattle.std.specs.Prelude.{◌≡◌, ◌≤◌, ◌<◌, ◌+◌, true, IfErr, IfOk, IfSome, OnOk, min, vec_len};
-ghost use Rattle.cc_script.specs.declared.fault.ScriptFault.TheVariants.{ReadFault};
-ghost use Rattle.cc_script.specs.Reading.{IsNotRead, IsNoSource, IsWithinLine};
+ghost use Rattle.std.specs.Prelude.{◌≡◌, ◌≤◌, ◌<◌, ◌+◌, ℕ, List, [], length, true, false, IfErr, IfOk, IfSome, OnOk, min, vec_len};
+ghost use Rattle.std.specs.Option.{option_map};
+ghost use Rattle.cc_script.specs.declared.fault.ScriptFault.TheVariants.{EndOfScript, ReadFault};
+ghost use Rattle.cc_script.specs.Reading.{Between, HasFewer, IsLine, IsLineEnd, IsNext, IsNotRead, IsNoSource, IsSource, IsWithinLine, rest_of};
+ghost use Rattle.cc_script.specs.internal.Bytes.{IsNextByte};
+ghost use Rattle.std.specs.Io.KnownBytes.{IsAtEnd, Keeps};
 
 use super::fault::ScriptFault;
 use std::alloc::Global;
 use std::io::Read;
+use std::marker::Model;
 
 /// The most bytes that a script may have.
 pub const MOST_BYTES: usize = 16_777_216;
@@ -28,7 +32,8 @@ pub enum Next {
     End,
 }
 
-/// How far a script has been read. No more is asked of its reader than what is needed here.
+/// How far a script has been read. No more is asked of its reader than what is needed here. A clause sees what was read and not handed out,
+/// whether the reader was at its end, and how many bytes more the script may have.
 #[derive(Drop)]
 pub struct Script {
     piece: [u8; 4096],
@@ -42,9 +47,20 @@ pub struct Script {
     ghost within: { (next ≤ end) × (end ≤ 4096) },
 }
 
+impl Model for Script {
+    ghost use Rattle.std.specs.Prelude.{slice_range};
+    ghost use Rattle.cc_script.specs.Reading.{ScriptView};
+
+    ghost Value = { ScriptView };
+
+    ghost view = { λ s. record { held = slice_range s.piece s.next s.end; is_over = s.is_over; left = s.left } };
+}
+
 impl Script {
     /// A script of which nothing has been read.
-    pub fn new() -> Script {
+    pub fn new() -> Script
+        ensures { result ≡ record { held = []; is_over = false; left = 16777216 } }
+    {
         Script {
             piece: [0; 4096],
             next: 0,
@@ -56,9 +72,12 @@ impl Script {
 
     // Reads more, where all that was read has been handed out. Whether there is more.
     fn fill<R: Read>(&mut self, reader: &mut R) -> Result<bool, ScriptFault>
-        ensures filled { IfOk result (λ is_more. is_more ≡ true → self.new.next < self.new.end) }
+        ensures filled { IfOk result (λ is_more. is_more ≡ true → 0 < length self.new.held) }
         ensures left { self.new.left ≡ self.old.left }
         ensures refused { IfErr result (λ fault. fault ≡ ReadFault) }
+        ensures bytes { OnOk result (Keeps (rest_of self.old (R.remaining reader.old))
+            (rest_of self.new (R.remaining reader.new))) }
+        ensures over { IfOk result (λ is_more. is_more ≡ false → IsAtEnd (rest_of self.new (R.remaining reader.new))) }
     {
         if self.next < self.end {
             return Ok(true);
@@ -78,6 +97,8 @@ impl Script {
     // The next byte, or none at the end.
     fn byte<R: Read>(&mut self, reader: &mut R) -> Result<Option<u8>, ScriptFault>
         ensures counted { IfOk result (λ next. IfSome next (λ byte. self.new.left + 1 ≡ self.old.left)) }
+        ensures bytes { IfOk result (λ next. IsNextByte (rest_of self.old (R.remaining reader.old)) next
+            (rest_of self.new (R.remaining reader.new))) }
         ensures refused { IfErr result (λ fault. IsNotRead self.new.left fault) }
     {
         if !self.fill(reader)? {
@@ -101,6 +122,8 @@ impl Script {
         line: &mut [u8; LINE_BYTES],
     ) -> Result<Next, ScriptFault>
         ensures within { IfOk result IsWithinLine }
+        ensures bytes { IfOk result (λ next. Between (rest_of self.old (R.remaining reader.old))
+            (rest_of self.new (R.remaining reader.new)) (λ before after. IsNext before next line.new after)) }
         ensures refused { IfErr result (λ fault. IsNotRead self.new.left fault) }
     {
         for length in 0..LINE_BYTES {
@@ -120,6 +143,8 @@ impl Script {
     ///
     /// 52 and 53 as for a line.
     pub fn skip_line<R: Read>(&mut self, reader: &mut R) -> Result<(), ScriptFault>
+        ensures bytes { OnOk result (Between (rest_of self.old (R.remaining reader.old))
+            (rest_of self.new (R.remaining reader.new)) (λ before after. (rest : List ℕ) × IsLine before rest after)) }
         ensures refused { IfErr result (λ fault. IsNotRead self.new.left fault) }
     {
         while let Some(byte) = self.byte(reader)? {
@@ -142,6 +167,9 @@ impl Script {
     ) -> Result<Option<Vec<u8>>, ScriptFault>
         ensures kept { IfOk result (λ source. IfSome source (λ bytes. vec_len bytes ≡ min length 65537)) }
         ensures counted { OnOk result (self.new.left + length ≡ self.old.left) }
+        ensures bytes { IfOk result (λ source. Between (rest_of self.old (R.remaining reader.old))
+            (rest_of self.new (R.remaining reader.new)) (λ before after. IsSource before length (option_map (λ bytes. bytes.items) source) after)) }
+        ensures ended { IfErr result (λ fault. fault ≡ EndOfScript → HasFewer (rest_of self.old (R.remaining reader.old)) length) }
         ensures refused { IfErr result (λ fault. IsNoSource self.new.left fault) }
     {
         let mut source = Vec::new(alloc);
@@ -161,6 +189,8 @@ impl Script {
     ///
     /// 52 and 53 as for a line.
     pub fn is_at_line_end<R: Read>(&mut self, reader: &mut R) -> Result<bool, ScriptFault>
+        ensures bytes { IfOk result (λ is_ended. Between (rest_of self.old (R.remaining reader.old))
+            (rest_of self.new (R.remaining reader.new)) (λ before after. IsLineEnd before is_ended after)) }
         ensures refused { IfErr result (λ fault. IsNotRead self.new.left fault) }
     {
         match self.byte(reader)? {

@@ -1,1 +1,5 @@
 pub mod Ends
+pub mod Lines
+pub mod Obeying
+pub mod Playing
+pub mod Putting

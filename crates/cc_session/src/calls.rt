@@ -1,7 +1,12 @@
 // The commands of a script, done by one client.
 
-ghost use Rattle.std.specs.Prelude.{IfErr};
-ghost use Rattle.cc_session.specs.Session.{IsEnding};
+ghost use Rattle.std.specs.Prelude.{◌≡◌, Option, IfErr};
+ghost use Rattle.cc_script.specs.Line.{asked_of};
+ghost use Rattle.cc_script.specs.Reading.{rest_of};
+ghost use Rattle.cc_service.specs.Serving.{Adds, GetAnswers, ListAnswers, PutAnswers, Replaces, WithdrawAnswers};
+ghost use Rattle.cc_session.specs.Playing.{Calls, IsSent, Obeys};
+ghost use Rattle.cc_session.specs.internal.Ending.{IsEnding};
+ghost use Rattle.cc_session.specs.internal.Steps.{IsDone, IsPlayedBy, asking};
 
 use crate::talk::{Sent, Talk};
 use cc_disk::Disk;
@@ -23,7 +28,9 @@ pub(crate) struct Caller<'a, N: Named, H, D: Disk> {
 
 impl<'a, N: Named + Send + Sync + 'static, H: Wait, D: Disk> Caller<'a, N, H, D> {
     // The client, which makes no more calls here.
-    pub(crate) fn into_client(self) -> Client<N> {
+    pub(crate) fn into_client(self) -> Client<N>
+        ensures { result ≡ self.entry.client }
+    {
         self.client
     }
 
@@ -33,7 +40,9 @@ impl<'a, N: Named + Send + Sync + 'static, H: Wait, D: Disk> Caller<'a, N, H, D>
         name: &[u8],
         source: &[u8],
     ) -> Result<(), ScriptFault>
-        ensures { IfErr result IsEnding }
+        ensures ending { IfErr result IsEnding }
+        ensures rest { rest_of talk.new.script (R.remaining talk.new.reader) ≡ rest_of talk.old.script (R.remaining talk.old.reader) }
+        ensures called { Calls (PutAnswers (Adds name.now source.now) name.now source.now self.old.client.holder self.new.client.holder) }
     {
         let answer = self
             .service
@@ -49,7 +58,9 @@ impl<'a, N: Named + Send + Sync + 'static, H: Wait, D: Disk> Caller<'a, N, H, D>
         name: &[u8],
         source: &[u8],
     ) -> Result<(), ScriptFault>
-        ensures { IfErr result IsEnding }
+        ensures ending { IfErr result IsEnding }
+        ensures rest { rest_of talk.new.script (R.remaining talk.new.reader) ≡ rest_of talk.old.script (R.remaining talk.old.reader) }
+        ensures called { Calls (PutAnswers (Replaces name.now source.now) name.now source.now self.old.client.holder self.new.client.holder) }
     {
         let answer = self
             .service
@@ -67,7 +78,9 @@ impl<'a, N: Named + Send + Sync + 'static, H: Wait, D: Disk> Caller<'a, N, H, D>
         length: usize,
         is_new: bool,
     ) -> Result<(), ScriptFault>
-        ensures { IfErr result IsEnding }
+        ensures ending { IfErr result IsEnding }
+        ensures done { IsDone (λ before after old new. IsSent (asking is_new) name.now length before after old new) (rest_of talk.old.script (R.remaining talk.old.reader)) (rest_of talk.new.script (R.remaining talk.new.reader))
+            self.old.client.holder self.new.client.holder result }
     {
         match talk.source(self.alloc, length)? {
             Sent::Source(source) => {
@@ -89,7 +102,9 @@ impl<'a, N: Named + Send + Sync + 'static, H: Wait, D: Disk> Caller<'a, N, H, D>
         talk: &mut Talk<R, W, E>,
         name: &[u8],
     ) -> Result<(), ScriptFault>
-        ensures { IfErr result IsEnding }
+        ensures ending { IfErr result IsEnding }
+        ensures rest { rest_of talk.new.script (R.remaining talk.new.reader) ≡ rest_of talk.old.script (R.remaining talk.old.reader) }
+        ensures called { Calls (WithdrawAnswers name.now self.old.client.holder self.new.client.holder) }
     {
         let answer = self
             .service
@@ -103,7 +118,9 @@ impl<'a, N: Named + Send + Sync + 'static, H: Wait, D: Disk> Caller<'a, N, H, D>
         &mut self,
         talk: &mut Talk<R, W, E>,
     ) -> Result<(), ScriptFault>
-        ensures { IfErr result IsEnding }
+        ensures ending { IfErr result IsEnding }
+        ensures rest { rest_of talk.new.script (R.remaining talk.new.reader) ≡ rest_of talk.old.script (R.remaining talk.old.reader) }
+        ensures called { Calls (ListAnswers self.old.client.holder self.new.client.holder) }
     {
         let answer = self.service.list(self.rt, self.alloc, &mut self.client);
         let told = match &answer {
@@ -121,7 +138,8 @@ impl<'a, N: Named + Send + Sync + 'static, H: Wait, D: Disk> Caller<'a, N, H, D>
         found: &Found,
         steps: u64,
     ) -> Result<(), ScriptFault>
-        ensures { IfErr result IsEnding }
+        ensures ending { IfErr result IsEnding }
+        ensures rest { rest_of talk.new.script (R.remaining talk.new.reader) ≡ rest_of talk.old.script (R.remaining talk.old.reader) }
     {
         let answer = run_image(self.alloc, &found.unit().stored().image, &[], steps);
         let told = talk.tell_run(self.alloc, &answer);
@@ -136,7 +154,9 @@ impl<'a, N: Named + Send + Sync + 'static, H: Wait, D: Disk> Caller<'a, N, H, D>
         name: &[u8],
         steps: u64,
     ) -> Result<(), ScriptFault>
-        ensures { IfErr result IsEnding }
+        ensures ending { IfErr result IsEnding }
+        ensures rest { rest_of talk.new.script (R.remaining talk.new.reader) ≡ rest_of talk.old.script (R.remaining talk.old.reader) }
+        ensures called { Calls (GetAnswers name.now self.old.client.holder self.new.client.holder) }
     {
         let answer = self
             .service
@@ -153,7 +173,9 @@ impl<'a, N: Named + Send + Sync + 'static, H: Wait, D: Disk> Caller<'a, N, H, D>
         &mut self,
         talk: &mut Talk<R, W, E>,
     ) -> Result<(), ScriptFault>
-        ensures { IfErr result IsEnding }
+        ensures ending { IfErr result IsEnding }
+        ensures rest { rest_of talk.new.script (R.remaining talk.new.reader) ≡ rest_of talk.old.script (R.remaining talk.old.reader) }
+        ensures client { self.new.client.holder ≡ self.old.client.holder }
     {
         let answer = self.service.compact(self.rt, self.alloc);
         let told = talk.tell_done(self.alloc, &answer);
@@ -167,7 +189,9 @@ impl<'a, N: Named + Send + Sync + 'static, H: Wait, D: Disk> Caller<'a, N, H, D>
         talk: &mut Talk<R, W, E>,
         line: &[u8],
     ) -> Result<(), ScriptFault>
-        ensures { IfErr result IsEnding }
+        ensures ending { IfErr result IsEnding }
+        ensures done { IsDone (λ before after old new. Obeys (asked_of line.now) before after old new) (rest_of talk.old.script (R.remaining talk.old.reader)) (rest_of talk.new.script (R.remaining talk.new.reader))
+            self.old.client.holder self.new.client.holder result }
     {
         match command_of(line) {
             Some(Command::Add { name, length }) => self.put(talk, name, length, true),
@@ -185,7 +209,8 @@ impl<'a, N: Named + Send + Sync + 'static, H: Wait, D: Disk> Caller<'a, N, H, D>
         &mut self,
         talk: &mut Talk<R, W, E>,
     ) -> Result<(), ScriptFault>
-        ensures { IfErr result IsEnding }
+        ensures ending { IfErr result IsEnding }
+        ensures played { IsPlayedBy (rest_of talk.old.script (R.remaining talk.old.reader)) self.old.client.holder self.new.client.holder result }
     {
         let mut line = [0u8; LINE_BYTES];
         // Each line but the last takes a byte at least.
@@ -193,9 +218,9 @@ impl<'a, N: Named + Send + Sync + 'static, H: Wait, D: Disk> Caller<'a, N, H, D>
             match talk.next_line(&mut line)? {
                 Next::Line(length) => self.obey(talk, &line[..length])?,
                 Next::TooLong => talk.refuse_and_skip()?,
-                Next::End => break,
+                Next::End => return Ok(()),
             }
         }
-        Ok(())
+        Err(ScriptFault::ScriptTooLong)
     }
 }

@@ -1,12 +1,15 @@
 // A session, from the opening of its service to the end.
-ghost use Rattle.std.specs.Prelude.{◌≡◌, ◌≤◌, ◌<◌, ℕ, List, IsTrue, IfOk, IfErr, IfNone, IfSome, vec_len};
+ghost use Rattle.std.specs.Prelude.{◌≡◌, ◌≤◌, ◌<◌, ℕ, List, [], Option, IsTrue, IfOk, IfErr, IfNone, IfSome, vec_len};
 ghost use Rattle.std.specs.Vec.{vec_capacity};
 ghost use Rattle.cc_disk.specs.Images.{OnlyReads};
 ghost use Rattle.cc_library.specs.Answers.{OpenFaults};
 ghost use Rattle.cc_library.specs.Apply.{Units};
 ghost use Rattle.cc_library.specs.Recovered.{Recovers};
 ghost use Rattle.cc_service.specs.Fault.{fault_number};
-ghost use Rattle.cc_session.specs.Session.{IsBegun, IsEnding, IsKept, IsUnended, SessionEnds};
+ghost use Rattle.cc_script.specs.Reading.{rest_of};
+ghost use Rattle.cc_session.specs.Session.{IsBegun, IsKept, IsUnended, SessionEnds};
+ghost use Rattle.cc_session.specs.internal.Ending.{IsEnding};
+ghost use Rattle.cc_session.specs.internal.Steps.{EndsFor, HaveCalled};
 
 use crate::calls::Caller;
 use crate::end::SessionEnd;
@@ -84,7 +87,8 @@ fn ended<R: Read, W: Write, E: Write>(
     played: Result<(), ScriptFault>,
 ) -> SessionEnd
     requires { IfErr played IsEnding }
-    ensures { IsBegun result }
+    ensures begun { IsBegun result }
+    ensures end { EndsFor played result }
 {
     match played {
         Ok(()) => SessionEnd::Finished,
@@ -110,8 +114,10 @@ where
     W: Write,
     E: Write,
     D: Disk,
-    requires { vec_len clients.old < vec_capacity clients.old }
-    ensures { IsBegun result }
+    requires room { vec_len clients.old < vec_capacity clients.old }
+    requires none { clients.old.items ≡ [] }
+    ensures begun { IsBegun result }
+    ensures called { HaveCalled (rest_of talk.old.script (R.remaining talk.old.reader)) clients.new.items result }
 {
     match service.client(rt, alloc) {
         Ok(client) => {
@@ -165,8 +171,9 @@ where
     requires { IsBegun played }
     ensures unended { IfNone result.0 (IsUnended result.1) }
     ensures begun { IfSome result.0 (λ after. IsBegun result.1) }
-    // Whatever bytes those were that recover to the map that the service's type names.
-    ensures kept { IfSome result.0 (λ after. (bytes : List ℕ) → (IsTrue D.honest → Recovers bytes N.base) → IsKept D.honest bytes D.may_leave after) }
+    // Whatever bytes those were that recover to the map that the service's type names, and whatever the script was.
+    ensures kept { IfSome result.0 (λ after. (bytes : List ℕ) → (IsTrue D.honest → Recovers bytes N.base)
+        → (script : Option (List ℕ)) → HaveCalled script clients.items played → IsKept D.honest bytes D.may_leave script result.1 after) }
 {
     match service.finish(rt, alloc, clients) {
         Ok(closed) => (Some(disk_of(closed)), played),
@@ -200,7 +207,7 @@ where
     requires named { IsTrue D.honest → (units : Units) → Recovers (D.seen begun.disk) units → units ≡ N.base }
     requires some { 1 ≤ workers }
     requires few { workers ≤ 8 }
-    ensures { SessionEnds D.honest D.seen D.may_leave D.moment D.left_since D.failures begun.disk result.0 result.1 }
+    ensures { SessionEnds D.honest D.seen D.may_leave D.moment D.left_since D.failures (rest_of talk.old.script (R.remaining talk.old.reader)) begun.disk result.0 result.1 }
 {
     let Begun {
         disk,
@@ -244,7 +251,7 @@ where
     H: Threads + Wait + Copy + Send + 'static,
     requires some { 1 ≤ workers }
     requires few { workers ≤ 8 }
-    ensures answers { SessionEnds D.honest D.seen D.may_leave D.moment D.left_since D.failures disk result.0 result.1 }
+    ensures answers { SessionEnds D.honest D.seen D.may_leave D.moment D.left_since D.failures (R.remaining reader.old) disk result.0 result.1 }
 {
     let mut talk = Talk::new(reader, writer, explanations);
     match begin(alloc, disk) {
@@ -276,7 +283,7 @@ where
     H: Threads + Wait + Copy + Send + 'static,
     requires some { 1 ≤ workers }
     requires few { workers ≤ 8 }
-    ensures answers { SessionEnds D.honest D.seen D.may_leave D.moment D.left_since D.failures disk result.0 result.1 }
+    ensures answers { SessionEnds D.honest D.seen D.may_leave D.moment D.left_since D.failures (R.remaining reader.old) disk result.0 result.1 }
 {
     session_and_explain(rt, alloc, reader, writer, &mut io::sink(), disk, workers)
 }

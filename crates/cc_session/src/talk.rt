@@ -1,8 +1,9 @@
 // The three streams of a session: its script, its answers, and what explains its faults.
 
-ghost use Rattle.std.specs.Prelude.{◌≤◌, IfErr, IfOk};
-ghost use Rattle.cc_script.specs.Reading.{IsWithinLine};
-ghost use Rattle.cc_session.specs.Session.{IsEnding};
+ghost use Rattle.std.specs.Prelude.{◌≡◌, ◌≤◌, ℕ, List, IfErr, IfOk, OnOk};
+ghost use Rattle.cc_script.specs.Reading.{Between, IsLine, IsNext, IsWithinLine, rest_of};
+ghost use Rattle.cc_session.specs.internal.Ending.{IsEnding};
+ghost use Rattle.cc_session.specs.internal.Steps.{HasSent};
 
 use crate::words::{explain_refusal, explain_words};
 use cc_history::Receipt;
@@ -90,7 +91,9 @@ fn write_refusal<W: Write>(fault: &ServiceFault, source: &[u8], writer: &mut W) 
 }
 
 impl<R: Read, W: Write, E: Write> Talk<R, W, E> {
-    pub(crate) fn new(reader: R, answers: W, explanations: E) -> Talk<R, W, E> {
+    pub(crate) fn new(reader: R, answers: W, explanations: E) -> Talk<R, W, E>
+        ensures { rest_of result.script (R.remaining result.reader) ≡ R.remaining reader }
+    {
         Talk {
             script: Script::new(),
             reader,
@@ -103,13 +106,17 @@ impl<R: Read, W: Write, E: Write> Talk<R, W, E> {
     pub(crate) fn next_line(&mut self, line: &mut [u8; LINE_BYTES]) -> Result<Next, ScriptFault>
         ensures within { IfOk result IsWithinLine }
         ensures ending { IfErr result IsEnding }
+        ensures bytes { IfOk result (λ next. Between (rest_of self.old.script (R.remaining self.old.reader))
+            (rest_of self.new.script (R.remaining self.new.reader)) (λ before after. IsNext before next line.new after)) }
     {
         self.script.next_line(&mut self.reader, line)
     }
 
     // The source that comes next.
     pub(crate) fn source(&mut self, alloc: Global, length: usize) -> Result<Sent, ScriptFault>
-        ensures { IfErr result IsEnding }
+        ensures ending { IfErr result IsEnding }
+        ensures bytes { IfOk result (λ sent. Between (rest_of self.old.script (R.remaining self.old.reader))
+            (rest_of self.new.script (R.remaining self.new.reader)) (λ before after. HasSent before length sent after)) }
     {
         let source = self.script.source(alloc, &mut self.reader, length)?;
         match self.script.is_at_line_end(&mut self.reader) {
@@ -130,14 +137,17 @@ impl<R: Read, W: Write, E: Write> Talk<R, W, E> {
 
     // Says that a line is no command.
     pub(crate) fn refuse_line(&mut self) -> Result<(), ScriptFault>
-        ensures { IfErr result IsEnding }
+        ensures ending { IfErr result IsEnding }
+        ensures rest { rest_of self.new.script (R.remaining self.new.reader) ≡ rest_of self.old.script (R.remaining self.old.reader) }
     {
         self.tell_fault(ScriptFault::BadLine)
     }
 
     // The same of a line that was not read to its end, which is skipped.
     pub(crate) fn refuse_and_skip(&mut self) -> Result<(), ScriptFault>
-        ensures { IfErr result IsEnding }
+        ensures ending { IfErr result IsEnding }
+        ensures bytes { OnOk result (Between (rest_of self.old.script (R.remaining self.old.reader))
+            (rest_of self.new.script (R.remaining self.new.reader)) (λ before after. (rest : List ℕ) × IsLine before rest after)) }
     {
         self.tell_fault(ScriptFault::BadLine)?;
         self.script.skip_line(&mut self.reader)
@@ -145,7 +155,8 @@ impl<R: Read, W: Write, E: Write> Talk<R, W, E> {
 
     // Writes the names of a library.
     pub(crate) fn tell_names(&mut self, listing: &Listing) -> Result<(), ScriptFault>
-        ensures { IfErr result IsEnding }
+        ensures ending { IfErr result IsEnding }
+        ensures rest { rest_of self.new.script (R.remaining self.new.reader) ≡ rest_of self.old.script (R.remaining self.old.reader) }
     {
         written(write_listing(listing, &mut self.answers))
     }
@@ -156,7 +167,8 @@ impl<R: Read, W: Write, E: Write> Talk<R, W, E> {
         alloc: Global,
         answer: &Result<Answer, AllocError>,
     ) -> Result<(), ScriptFault>
-        ensures { IfErr result IsEnding }
+        ensures ending { IfErr result IsEnding }
+        ensures rest { rest_of self.new.script (R.remaining self.new.reader) ≡ rest_of self.old.script (R.remaining self.old.reader) }
     {
         match answer {
             Ok(answer) => written(write_answer(answer, &mut self.answers)),
@@ -166,7 +178,8 @@ impl<R: Read, W: Write, E: Write> Talk<R, W, E> {
 
     // Writes that memory ran out.
     pub(crate) fn tell_no_memory(&mut self, alloc: Global) -> Result<(), ScriptFault>
-        ensures { IfErr result IsEnding }
+        ensures ending { IfErr result IsEnding }
+        ensures rest { rest_of self.new.script (R.remaining self.new.reader) ≡ rest_of self.old.script (R.remaining self.old.reader) }
     {
         let fault = ServiceFault::OutOfMemory;
         let told = self.tell_refusal(alloc, &fault, &[]);
@@ -180,7 +193,8 @@ impl<R: Read, W: Write, E: Write> Talk<R, W, E> {
         alloc: Global,
         answer: &Result<(), ServiceFault>,
     ) -> Result<(), ScriptFault>
-        ensures { IfErr result IsEnding }
+        ensures ending { IfErr result IsEnding }
+        ensures rest { rest_of self.new.script (R.remaining self.new.reader) ≡ rest_of self.old.script (R.remaining self.old.reader) }
     {
         match answer {
             Ok(()) => written(write_ok(&mut self.answers)),
@@ -195,7 +209,8 @@ impl<R: Read, W: Write, E: Write> Talk<R, W, E> {
         answer: &Result<Receipt, ServiceFault>,
         source: &[u8],
     ) -> Result<(), ScriptFault>
-        ensures { IfErr result IsEnding }
+        ensures ending { IfErr result IsEnding }
+        ensures rest { rest_of self.new.script (R.remaining self.new.reader) ≡ rest_of self.old.script (R.remaining self.old.reader) }
     {
         match answer {
             Ok(receipt) => written(write_number(receipt.number, &mut self.answers)),
@@ -205,7 +220,8 @@ impl<R: Read, W: Write, E: Write> Talk<R, W, E> {
 
     // Writes the line of a fault of the script, and explains it. Of one of the answers there is no line.
     pub(crate) fn tell_fault(&mut self, fault: ScriptFault) -> Result<(), ScriptFault>
-        ensures { IfErr result IsEnding }
+        ensures ending { IfErr result IsEnding }
+        ensures rest { rest_of self.new.script (R.remaining self.new.reader) ≡ rest_of self.old.script (R.remaining self.old.reader) }
     {
         let answer = if fault.number() == 54 {
             Ok(())
@@ -223,7 +239,8 @@ impl<R: Read, W: Write, E: Write> Talk<R, W, E> {
         fault: &ServiceFault,
         source: &[u8],
     ) -> Result<(), ScriptFault>
-        ensures { IfErr result IsEnding }
+        ensures ending { IfErr result IsEnding }
+        ensures rest { rest_of self.new.script (R.remaining self.new.reader) ≡ rest_of self.old.script (R.remaining self.old.reader) }
     {
         let answer = written(write_refusal(fault, source, &mut self.answers));
         let _ = explain_refusal(alloc, source, fault, &mut self.explanations);

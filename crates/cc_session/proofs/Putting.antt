@@ -1,0 +1,41 @@
+-- A line with a source behind it is a step.
+use Rattle.std.proofs.Common.{◌≡◌, ◌∙◌, ℕ, ◌<◌, List, [], ◌∷◌, ◌++◌, length, take, Option, Result, Vec, Global, refl, sym, subst, arith, inl, inr}
+use Rattle.std.specs.Prelude.{◌≢◌, OnOk}
+use Rattle.std.proofs.lemmas.List.Elements.{All-cons, All-nil}
+use Rattle.cc_script.specs.Reading.{Between, IsLine}
+use Rattle.cc_history.specs.declared.command.Command.{Command}
+use Rattle.cc_history.specs.History.{Holder}
+use Rattle.cc_service.specs.Serving.{PutAnswers}
+use Rattle.cc_session.specs.Playing.{Calls, IsSent}
+use Rattle.cc_session.specs.internal.Steps.{HasSent, IsDone}
+use Rattle.cc_session.specs.declared.talk.Sent.TheVariants.{Source, Unended}
+use Rattle.cc_session.proofs.Playing.{between_map, done_of, line_behind, skipped}
+
+-- a source that was handed to the service
+pub put_step : {T E : Type 0} (answer : Result T E) (Asks : (name source : List ℕ) → Command → Type 0) (name : List ℕ) (bytes : Vec ℕ Global) (sent : List ℕ) → sent ≡ bytes.items
+    → (count : ℕ) (x y z : Option (List ℕ)) (old new : Holder) → Between x y (λ b a. HasSent b count (Source bytes) a)
+    → z ≡ y → Calls (PutAnswers (Asks name sent) name sent old new) → IsDone (λ b a o n. IsSent Asks name count b a o n) x z old new answer
+put_step answer Asks name bytes sent same count x y z old new read rest called =
+    done_of answer (λ b a o n. IsSent Asks name count b a o n) x z old new
+    (subst (λ (o : Option (List ℕ)). Between x o (λ b a. IsSent Asks name count b a old new)) (sym rest)
+    (between_map x y (λ b a. HasSent b count (Source bytes) a) (λ b a. IsSent Asks name count b a old new) read (λ b a it. record {
+      source = it.0;
+      rest = it.1;
+      front = it.2;
+      count_is = it.3;
+      called = inl (it.4, inl (subst (λ (k : List ℕ). Calls (PutAnswers (Asks name k) name k old new)) (same ∙ it.5) called));
+    })))
+
+-- one behind which another byte stands than a newline
+pub skip_step : {T E : Type 0} (answer : Result T E) (Asks : (name source : List ℕ) → Command → Type 0) (name : List ℕ) (count : ℕ) (x y z : Option (List ℕ)) (h : Holder)
+    → Between x y (λ b a. HasSent b count Unended a) → OnOk answer (Between y z (λ b a. (rest : List ℕ) × IsLine b rest a))
+    → IsDone (λ b a o n. IsSent Asks name count b a o n) x z h h answer
+skip_step answer Asks name count x y z h read skips =
+    skipped answer (λ b a o n. IsSent Asks name count b a o n) x y z h (λ b a. HasSent b count Unended a) read skips (λ b m a it line. record {
+      source = it.0;
+      rest = it.1 ∷ m;
+      front = it.2;
+      count_is = it.3;
+      called = inr ((it.1 ∷ []) ++ line.0, omega arith,
+          line_behind (it.1 ∷ m) (it.1 ∷ []) m line.0 a refl (All-cons (λ (byte : ℕ). byte ≢ 10) it.1 [] it.4 (All-nil (λ (byte : ℕ). byte ≢ 10))) line.1, refl);
+    })

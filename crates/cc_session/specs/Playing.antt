@@ -1,0 +1,68 @@
+-- What a script is to the client that does it: line by line a call of the service, and what its answer makes of the client.
+use Rattle.std.specs.Prelude.{◌≡◌, ◌⊎◌, ◌<◌, ℕ, List, [], ◌∷◌, ◌++◌, length, take, nat_le, if◌then◌else◌, Option, Some, None, Result}
+use Rattle.cc_script.specs.Line.{Asked, Add, Replace, Withdraw, Names, Run, Compact, asked_of}
+use Rattle.cc_script.specs.Reading.{IsLine}
+use Rattle.cc_history.specs.declared.command.Command.{Command}
+use Rattle.cc_history.specs.declared.entry.Receipt.{Receipt}
+use Rattle.cc_history.specs.History.{Holder}
+use Rattle.cc_service.specs.Serving.{Adds, Replaces, GetAnswers, ListAnswers, PutAnswers, WithdrawAnswers}
+use Rattle.cc_service.specs.declared.fault.ServiceFault.{ServiceFault}
+
+-- the client called, and this is what such a call makes of it, with some answer
+abbrev pub Calls : (Answers : Result Receipt ServiceFault → Type 0) → Type 0
+Calls Answers = (answer : Result Receipt ServiceFault) × Answers answer
+
+-- The source behind a line: so many bytes, then a newline or the end. The call takes them; of more than 65,536 it takes 65,537, which are
+-- too many. Where there is no room for them, or where another byte follows, nothing is called; then the rest of that line is skipped.
+pub record IsSent (Asks : (name source : List ℕ) → Command → Type 0) (name : List ℕ) (count : ℕ) (before after : List ℕ) (old new : Holder) : Type 0 where
+  pub source : List ℕ
+  pub rest : List ℕ
+  pub front : before ≡ source ++ rest
+  pub count_is : length source ≡ count
+  pub called :
+      (IsLine rest [] after × (Calls (PutAnswers (Asks name (take 65537 source)) name (take 65537 source) old new) ⊎ (new ≡ old)))
+      ⊎ ((behind : List ℕ) × (0 < length behind) × IsLine rest behind after × (new ≡ old))
+
+-- what a line asks for is done; nothing where it asks for nothing
+abbrev pub Obeys : Option Asked → (before after : List ℕ) (old new : Holder) → Type 0
+Obeys (Some (Add name count)) before after old new = IsSent Adds name count before after old new
+Obeys (Some (Replace name count)) before after old new = IsSent Replaces name count before after old new
+Obeys (Some (Withdraw name)) before after old new = (after ≡ before) × Calls (WithdrawAnswers name old new)
+Obeys (Some Names) before after old new = (after ≡ before) × Calls (ListAnswers old new)
+Obeys (Some (Run name steps)) before after old new = (after ≡ before) × Calls (GetAnswers name old new)
+Obeys (Some Compact) before after old new = (after ≡ before) × (new ≡ old)
+Obeys None before after old new = (after ≡ before) × (new ≡ old)
+
+-- what a line asks for; one of more than 128 bytes asks for nothing
+abbrev pub asked_by_line : List ℕ → Option Asked
+asked_by_line line = if nat_le (length line) 128 then asked_of line else None
+
+-- one line is done, with the source behind it where it has one
+pub record IsStep (before after : List ℕ) (old new : Holder) : Type 0 where
+  pub line : List ℕ
+  pub rest : List ℕ
+  pub is_line : IsLine before line rest
+  pub obeyed : Obeys (asked_by_line line) rest after old new
+
+-- what is left of the script behind a step, and the client then
+pub record Turn : Type 0 where
+  pub rest : List ℕ
+  pub client : Holder
+
+-- line by line, from what is left and the client before
+abbrev pub Plays : (before : List ℕ) (old : Holder) → List Turn → (after : List ℕ) (new : Holder) → Type 0
+Plays before old [] after new = (after ≡ before) × (new ≡ old)
+Plays before old (turn ∷ turns) after new = IsStep before turn.rest old turn.client × Plays turn.rest turn.client turns after new
+
+-- the whole script is done
+pub record IsPlayed (script : List ℕ) (first last : Holder) : Type 0 where
+  pub turns : List Turn
+  pub plays : Plays script first turns [] last
+
+-- a front of it is done; of the step behind it perhaps the call, whose answer could not be written
+pub record IsPlayedInPart (script : List ℕ) (first last : Holder) : Type 0 where
+  pub turns : List Turn
+  pub rest : List ℕ
+  pub client : Holder
+  pub plays : Plays script first turns rest client
+  pub then_is : (last ≡ client) ⊎ ((after : List ℕ) × IsStep rest after client last)

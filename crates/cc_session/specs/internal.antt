@@ -1,0 +1,5 @@
+-- What only private contracts speak of.
+-- the ends of scripts
+pub mod Ending
+-- how far a script has been done
+pub mod Steps
