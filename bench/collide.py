@@ -1,6 +1,7 @@
 #!/usr/bin/env python3
 """Shows by ratios within one run that names chosen to collide make no text slow: the processor time of `check` over a text of 64 KiB
-whose names have one place in a table by the pack's `FoldHasher`, against the same text with names of no pattern.
+whose names have one place in a table by the pack's `FoldHasher`, against the same text with another last letter in each name, so that the
+names begin alike as often, in the same order, and have no pattern by the hash.
 
     bench/collide.py [PROGRAM]
 
@@ -52,13 +53,18 @@ def colliding(folder, count):
     return subprocess.run([program, str(count), "ff0007ff", "5a000123"], check=True, capture_output=True, text=True).stdout.split()
 
 
-def plain(count):
+def plain(names):
+    """The same names with another last letter each: names that begin alike cost longer comparisons, which is no matter of the hash."""
     random.seed(1)
     letters = "abcdefghijklmnopqrstuvwxyzABCDEFGHIJKLMNOPQRSTUVWXYZ_"
-    names = {}
-    while len(names) < count:
-        names["".join(random.choice(letters) for _ in range(6))] = None
-    return list(names)
+    taken, others = set(names), []
+    for name in names:
+        other = name
+        while other in taken:
+            other = name[:5] + random.choice(letters)
+        taken.add(other)
+        others.append(other)
+    return others
 
 
 def objects(names):
@@ -101,11 +107,12 @@ def main():
             return seconds(path, 10)
 
         start = timed("int main(void){}")
-        one, other = colliding(folder, 10000), plain(10000)
+        one = colliding(folder, 10000)
         assert len(one) == 10000, len(one)
+        other = plain(one)
         for kind, make in ("objects", objects), ("uses", uses), ("locals", locals_):
             attacked, usual = timed(make(one)) - start, timed(make(other)) - start
-            print(f"check, {kind}: {attacked * 1000:.1f} ms where the names collide, {usual * 1000:.1f} ms else: ratio {attacked / usual:.1f}")
+            print(f"check, {kind}: {attacked * 1000:.1f} ms where the names collide, {usual * 1000:.1f} ms else: ratio {attacked / usual:.2f}")
 
 
 main()

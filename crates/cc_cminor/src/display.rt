@@ -3,40 +3,7 @@
 
 use super::code::{Expression, Statement};
 use super::pair::CminorPair;
-use cc_words::{Binary, Unary};
 use std::fmt;
-
-fn unary_name(operator: Unary) -> &'static str {
-    match operator {
-        Unary::Neg => "neg",
-        Unary::Complement => "complement",
-        Unary::IsZero => "is_zero",
-    }
-}
-
-fn binary_name(operator: Binary) -> &'static str {
-    match operator {
-        Binary::Add => "add",
-        Binary::Sub => "sub",
-        Binary::Mul => "mul",
-        Binary::DivS => "div_s",
-        Binary::DivU => "div_u",
-        Binary::RemS => "rem_s",
-        Binary::RemU => "rem_u",
-        Binary::Shl => "shl",
-        Binary::ShrS => "shr_s",
-        Binary::ShrU => "shr_u",
-        Binary::And => "and",
-        Binary::Or => "or",
-        Binary::Xor => "xor",
-        Binary::Eq => "eq",
-        Binary::Ne => "ne",
-        Binary::LtS => "lt_s",
-        Binary::LtU => "lt_u",
-        Binary::LeS => "le_s",
-        Binary::LeU => "le_u",
-    }
-}
 
 impl fmt::Display for Expression {
     fn fmt<W: fmt::Write>(&self, f: &mut fmt::Formatter<W>) -> fmt::Result {
@@ -44,11 +11,11 @@ impl fmt::Display for Expression {
             Expression::Constant(word) => write!(f, "{word}"),
             Expression::Local(variable) => write!(f, "v{variable}"),
             Expression::Unary(operator, operand) => {
-                let name = unary_name(*operator);
+                let name = operator.name();
                 write!(f, "{name}({operand})")
             }
             Expression::Binary(operator, left, right) => {
-                let name = binary_name(*operator);
+                let name = operator.name();
                 write!(f, "{name}({left}, {right})")
             }
             Expression::Load(object, index) => write!(f, "o{object}[{index}]"),

@@ -5,6 +5,7 @@
 
 use crate::interference::Code;
 use crate::nodes::{beside_constant, operands, result};
+use crate::operation::{Used, nothing_used, operation_of};
 use crate::parallel::{Transfer, in_parallel, push_move};
 use crate::places::Places;
 use crate::registers::{
@@ -409,7 +410,7 @@ impl Draft<'_> {
             }
             node => self.used(node),
         };
-        operation(node, used)
+        operation_of(node, used)
     }
 
     // The registers of an operation that may have any.
@@ -429,75 +430,5 @@ impl Draft<'_> {
             used.to = self.give();
         }
         used
-    }
-}
-
-/// The registers of an operation: of its operands in their order, and of its result. Of what it has not, any.
-#[derive(Clone, Copy)]
-struct Used {
-    first: Register,
-    second: Register,
-    to: Register,
-}
-
-fn nothing_used() -> Used {
-    let any = numbered(31);
-    Used {
-        first: any,
-        second: any,
-        to: any,
-    }
-}
-
-// The operation of a node on these registers.
-fn operation(node: &Node, used: Used) -> Operation {
-    match node {
-        Node::Nop { next } | Node::Move { next, .. } => Operation::Nop { next: *next },
-        Node::Const { word, next, .. } => Operation::Const {
-            to: used.to,
-            word: *word,
-            next: *next,
-        },
-        Node::Unary { operator, next, .. } => Operation::Unary {
-            operator: *operator,
-            to: used.to,
-            from: used.first,
-            next: *next,
-        },
-        Node::Binary { operator, next, .. } => Operation::Binary {
-            operator: *operator,
-            to: used.to,
-            left: used.first,
-            right: used.second,
-            next: *next,
-        },
-        Node::Load { object, next, .. } => Operation::Load {
-            object: *object,
-            to: used.to,
-            index: used.first,
-            next: *next,
-        },
-        Node::Store { object, next, .. } => Operation::Store {
-            object: *object,
-            index: used.first,
-            from: used.second,
-            next: *next,
-        },
-        Node::Call { function, next, .. } => Operation::Call {
-            function: *function,
-            next: *next,
-        },
-        Node::Read { next, .. } => Operation::Read { next: *next },
-        Node::Write { next, .. } => Operation::Write { next: *next },
-        Node::Branch {
-            if_nonzero,
-            if_zero,
-            ..
-        } => Operation::Branch {
-            from: used.first,
-            if_nonzero: *if_nonzero,
-            if_zero: *if_zero,
-        },
-        Node::Return { .. } => Operation::Return,
     }
 }

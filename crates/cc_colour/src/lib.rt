@@ -4,7 +4,7 @@
 //! `spill` keeps each pseudo-register in a slot of its own and uses registers for one operation at a time; `slots` says which slot.
 //! `allocate` shares registers: `webs` is what one place is chosen for (over `points` and `forest`), `interference` which webs want
 //! different ones, `order` and `select` choose registers, `places` slots, `blocks` writes the code, and `parallel` puts its moves in
-//! order. `nodes`, `live`, `registers` and `bits` are small types below.
+//! order. `operation` is a node's operation on chosen registers; `nodes`, `live`, `registers` and `bits` are small types below.
 #![tactic(auto)]
 
 mod allocate;
@@ -14,6 +14,7 @@ mod forest;
 mod interference;
 mod live;
 mod nodes;
+mod operation;
 mod order;
 mod parallel;
 mod places;

@@ -5,8 +5,9 @@
 
 ghost use Rattle.std.specs.Prelude.{◌≡◌, ◌<◌, ◌≤◌, ◌^◌, [], length, IfOk};
 
+use crate::operation::{Used, operation_of};
 use crate::slots::Slots;
-use cc_ltl::{Block, Ltl, Move, Moves, Operation, Register};
+use cc_ltl::{Block, Ltl, Move, Moves, Register};
 use cc_rtl::{Node, Rtl};
 use std::alloc::{AllocError, Global};
 
@@ -54,7 +55,7 @@ fn block(
     Ok(Block {
         label,
         before: in_order(before),
-        operation: operation(node),
+        operation: operation_of(node, scratch()),
         after: in_order(after),
     })
 }
@@ -170,56 +171,12 @@ fn spill(alloc: Global, slots: Slots, to: u32, from: Register) -> Result<Vec<Mov
     Ok(moves)
 }
 
-// The operation on registers: operands in x28 and x29, the result in x28. A move of RTL needs moves alone.
-fn operation(node: &Node) -> Operation {
-    match node {
-        Node::Nop { next } | Node::Move { next, .. } => Operation::Nop { next: *next },
-        Node::Const { word, next, .. } => Operation::Const {
-            to: left(),
-            word: *word,
-            next: *next,
-        },
-        Node::Unary { operator, next, .. } => Operation::Unary {
-            operator: *operator,
-            to: left(),
-            from: left(),
-            next: *next,
-        },
-        Node::Binary { operator, next, .. } => Operation::Binary {
-            operator: *operator,
-            to: left(),
-            left: left(),
-            right: right(),
-            next: *next,
-        },
-        Node::Load { object, next, .. } => Operation::Load {
-            object: *object,
-            to: left(),
-            index: left(),
-            next: *next,
-        },
-        Node::Store { object, next, .. } => Operation::Store {
-            object: *object,
-            index: left(),
-            from: right(),
-            next: *next,
-        },
-        Node::Call { function, next, .. } => Operation::Call {
-            function: *function,
-            next: *next,
-        },
-        Node::Read { next, .. } => Operation::Read { next: *next },
-        Node::Write { next, .. } => Operation::Write { next: *next },
-        Node::Branch {
-            if_nonzero,
-            if_zero,
-            ..
-        } => Operation::Branch {
-            from: left(),
-            if_nonzero: *if_nonzero,
-            if_zero: *if_zero,
-        },
-        Node::Return { .. } => Operation::Return,
+// The registers of every operation: operands in x28 and x29, the result in x28. A move of RTL needs moves alone.
+fn scratch() -> Used {
+    Used {
+        first: left(),
+        second: right(),
+        to: left(),
     }
 }
 

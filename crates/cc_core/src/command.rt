@@ -1,3 +1,5 @@
+//! What clients ask, the commands that go into the order, each with a number of its own, and what is answered.
+
 ghost use Rattle.std.specs.Prelude.{◌≡◌, IfOk};
 
 use crate::fault::Refusal;

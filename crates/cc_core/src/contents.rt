@@ -1,3 +1,5 @@
+//! What a state holds: the library with its order and its disk, how far a commit or a rewrite is, jobs, and what workers hold.
+
 use crate::command::Numbered;
 use crate::ids::ClientId;
 use crate::job::{Job, Work};

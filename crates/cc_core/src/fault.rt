@@ -1,3 +1,5 @@
+//! Why an event takes no step, why a command is refused, and why a build makes nothing, each with its number.
+
 ghost use Rattle.std.specs.Prelude.{◌≡◌};
 
 use std::alloc::AllocError;

@@ -1,3 +1,5 @@
+//! Clients, workers, calls and pieces are told apart by numbers.
+
 /// A client, by any number.
 #[derive(Clone, Copy)]
 pub struct ClientId {

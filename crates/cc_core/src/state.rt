@@ -1,3 +1,5 @@
+//! The machine: a state, the step of an event, and the runs that lead to it from a beginning.
+
 ghost use Rattle.std.specs.Prelude.{◌≡◌, ◌≢◌, ◌↔◌, ◌≤◌, ◌^◌, true, ℕ, Option, IfOk, IfErr, OnErr, OnOk, IsErrOf, All, Contains, List};
 ghost use Rattle.std.specs.FinMap.{empty};
 ghost use Rattle.cc_disk.specs.Model.{bytes_of, IsImage};

@@ -2,10 +2,7 @@
 use Rattle.std.specs.Prelude.{ℕ, List, [], ◌++◌, codes}
 use Rattle.std.specs.List.{flat_map}
 use Rattle.std.specs.Fmt.{decimal}
-use Rattle.cc_words.specs.declared.operators.Unary.{Unary as UnaryOperator}
-use Rattle.cc_words.specs.declared.operators.Unary.TheVariants.{Neg, Complement, IsZero}
-use Rattle.cc_words.specs.declared.operators.Binary.{Binary as BinaryOperator}
-use Rattle.cc_words.specs.declared.operators.Binary.TheVariants.{Add, Sub, Mul, DivS, DivU, RemS, RemU, Shl, ShrS, ShrU, And, Or, Xor, Eq, Ne, LtS, LtU, LeS, LeU}
+use Rattle.cc_words.specs.Operators.{unary_text, binary_text}
 use Rattle.cc_ltl.specs.declared.operation.Move.{Move}
 use Rattle.cc_ltl.specs.declared.operation.Move.TheVariants.{Between, Reload, Spill}
 use Rattle.cc_ltl.specs.declared.operation.Operation.{Operation}
@@ -18,32 +15,6 @@ register_text r = codes "x" ++ decimal r
 
 abbrev pub slot_text : ℕ → List ℕ
 slot_text i = codes "slot" ++ decimal i
-
-abbrev pub unary_text : UnaryOperator → List ℕ
-unary_text Neg = codes "neg"
-unary_text Complement = codes "complement"
-unary_text IsZero = codes "is_zero"
-
-abbrev pub binary_text : BinaryOperator → List ℕ
-binary_text Add = codes "add"
-binary_text Sub = codes "sub"
-binary_text Mul = codes "mul"
-binary_text DivS = codes "div_s"
-binary_text DivU = codes "div_u"
-binary_text RemS = codes "rem_s"
-binary_text RemU = codes "rem_u"
-binary_text Shl = codes "shl"
-binary_text ShrS = codes "shr_s"
-binary_text ShrU = codes "shr_u"
-binary_text And = codes "and"
-binary_text Or = codes "or"
-binary_text Xor = codes "xor"
-binary_text Eq = codes "eq"
-binary_text Ne = codes "ne"
-binary_text LtS = codes "lt_s"
-binary_text LtU = codes "lt_u"
-binary_text LeS = codes "le_s"
-binary_text LeU = codes "le_u"
 
 -- what gets a word, and what it gets
 abbrev pub assigned : (to from : List ℕ) → List ℕ

@@ -1,13 +1,12 @@
 //! A function as text: its slots and its entry, and a line for each block.
 
 ghost use Rattle.std.specs.Prelude.{◌≡◌, Some};
-ghost use Rattle.cc_ltl.specs.Listing.{register_text, slot_text, unary_text, binary_text, move_text, operation_text, next_text, block_text, ltl_text};
+ghost use Rattle.cc_ltl.specs.Listing.{register_text, slot_text, move_text, operation_text, next_text, block_text, ltl_text};
 
 use crate::block::Block;
 use crate::location::{Register, Slot};
 use crate::ltl::Ltl;
 use crate::operation::{Move, Operation};
-use cc_words::{Binary, Unary};
 use std::fmt;
 
 impl fmt::Display for Register {
@@ -55,7 +54,7 @@ impl fmt::Display for Operation {
                 from,
                 ..
             } => {
-                let name = unary_name(*operator);
+                let name = operator.name();
                 write!(f, "{to} = {name} {from}")
             }
             Operation::Binary {
@@ -65,7 +64,7 @@ impl fmt::Display for Operation {
                 right,
                 ..
             } => {
-                let name = binary_name(*operator);
+                let name = operator.name();
                 write!(f, "{to} = {name} {left}, {right}")
             }
             Operation::Load {
@@ -148,41 +147,5 @@ impl fmt::Display for Ltl {
             write!(f, "{block}\n")?;
         }
         Ok(())
-    }
-}
-
-fn unary_name(operator: Unary) -> &'static str
-    ensures { result.now ≡ unary_text operator }
-{
-    match operator {
-        Unary::Neg => "neg",
-        Unary::Complement => "complement",
-        Unary::IsZero => "is_zero",
-    }
-}
-
-fn binary_name(operator: Binary) -> &'static str
-    ensures { result.now ≡ binary_text operator }
-{
-    match operator {
-        Binary::Add => "add",
-        Binary::Sub => "sub",
-        Binary::Mul => "mul",
-        Binary::DivS => "div_s",
-        Binary::DivU => "div_u",
-        Binary::RemS => "rem_s",
-        Binary::RemU => "rem_u",
-        Binary::Shl => "shl",
-        Binary::ShrS => "shr_s",
-        Binary::ShrU => "shr_u",
-        Binary::And => "and",
-        Binary::Or => "or",
-        Binary::Xor => "xor",
-        Binary::Eq => "eq",
-        Binary::Ne => "ne",
-        Binary::LtS => "lt_s",
-        Binary::LtU => "lt_u",
-        Binary::LeS => "le_s",
-        Binary::LeU => "le_u",
     }
 }

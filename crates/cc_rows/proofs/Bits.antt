@@ -1,6 +1,6 @@
 -- What a row holds when one of its words has changed, and where the words of one row lie within those of another: register by register,
 -- by the word that has its bit.
-use Rattle.std.proofs.Common.{◌≡◌, ◌≢◌, ℕ, ◌+◌, ◌-◌, ◌*◌, ◌/◌, ◌%◌, ◌^◌, ◌<◌, ◌≤◌, List, length, get_or, set, refl, sym, ap, ◌∙◌, subst, Bool, true, false, ◌==◌, ◌&&◌, ◌||◌, not, IsTrue, IsFalse, arith, inl, inr, w64, min}
+use Rattle.std.proofs.Common.{◌≡◌, ◌≢◌, ℕ, ◌+◌, ◌-◌, ◌*◌, ◌/◌, ◌%◌, ◌^◌, ◌<◌, ◌≤◌, List, length, get_or, set, refl, sym, ap, ◌∙◌, subst, Bool, true, false, ◌==◌, ◌&&◌, ◌||◌, not, if◌then◌else◌, IsTrue, IsFalse, arith, inl, inr, w64, min}
 use Rattle.std.specs.Int.{bit_at, bit_not, trailing_zeros}
 use Rattle.std.specs.Int.RustNames.{bit_or}
 use Rattle.std.specs.Int.Bits.{bit_and}
@@ -8,7 +8,7 @@ use Rattle.std.proofs.lemmas.List.{get_or-set_other, get_or-set_same, length-set
 use Rattle.std.proofs.lemmas.Nat.{and_le_l}
 use Rattle.std.proofs.lemmas.Nat.Bits.{bit_at-zero, bit_at_and, bit_at_not, bit_at-lt, bit_at_set_same, bit_at_set_other, bit_at_clear_same, bit_at_clear_other, bit_at-trailing_zeros}
 use Rattle.std.proofs.lemmas.Bool.{cases_eq, cases_lt, eq-eqb, ne_eqb, eqb-true}
-use Rattle.cc_rows.specs.Rows.{holds}
+use Rattle.cc_rows.specs.Rows.{holds, moved}
 use Rattle.cc_rows.specs.internal.Holding.{holds-past, bits_or, within_row}
 
 -- ---- one word changed
@@ -69,6 +69,34 @@ removed_past row s r past = elim (cases_eq s r) [
   | inl same ↦ holds-past row r (subst (λ x. length row ≤ x / 64) same past) ∙ gone row s r same
   | inr other ↦ kept row s r other
 ]
+
+-- ---- one number put in for another
+
+-- where it is in, it is taken out and the other put in
+pub moved_on : (from to : ℕ) (old mid new : ℕ → Bool) → old from ≡ true → ((k : ℕ) → mid k ≡ (old k && not (from == k))) → ((k : ℕ) → new k ≡ (to == k || mid k))
+    → (k : ℕ) → new k ≡ moved from to old k
+moved_on from to old mid new there takes puts k = puts k ∙ (ap (λ b. to == k || b) (takes k) ∙ here (to == k))
+  where
+    or_true : (b : Bool) → true ≡ (b || true)
+    or_true true = refl
+    or_true false = refl
+
+    here : (b : Bool) → (b || (old k && not (from == k))) ≡ (if b then old to || old from else old k && not (from == k))
+    here true = or_true (old to) ∙ ap (λ x. old to || x) (sym there)
+    here false = refl
+
+-- where it is out, nothing changes
+pub moved_none : (from to : ℕ) (old : ℕ → Bool) → old from ≡ false → (k : ℕ) → old k ≡ moved from to old k
+moved_none from to old none k = here (to == k) refl (from == k) refl
+  where
+    or_none : (b : Bool) → b ≡ (b || false)
+    or_none true = refl
+    or_none false = refl
+
+    here : (b : Bool) → (to == k) ≡ b → (d : Bool) → (from == k) ≡ d → old k ≡ (if b then old to || old from else old k && not d)
+    here true e d f = ap old (sym (eqb-true to k e)) ∙ (or_none (old to) ∙ ap (λ x. old to || x) (sym none))
+    here false e true f = ap old (sym (eqb-true from k f)) ∙ (none ∙ and_false (old k))
+    here false e false f = and_true (old k)
 
 -- ---- words within words
 

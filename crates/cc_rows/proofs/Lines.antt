@@ -121,37 +121,16 @@ module _ (n from to : ℕ) (old now : ℕ → ℕ → Bool) where
   is : (i j : ℕ) → n ≡ i → moved from to (old i) j ≡ (if nat_lt i (n + 1) then moved from to (old i) j else old i j)
   is i j same = ap (λ b. if b then moved from to (old i) j else old i j) (sym (below i (n + 1) (omega arith)))
 
-  pub bit_moved : (mid next : ℕ → ℕ → Bool) → now n from ≡ true → ((i j : ℕ) → mid i j ≡ (now i j && not (n == i && from == j))) → ((i j : ℕ) → next i j ≡ ((n == i && to == j) || mid i j))
-      → MovedBefore n from to old now → MovedBefore (n + 1) from to old next
-  bit_moved mid next there takes puts h i j = elim (cases_eq n i) [
-    | inr other ↦ puts i j ∙ (ap (λ b. (b && to == j) || mid i j) (ne_eqb n i other) ∙ (takes i j ∙ (ap (λ b. now i j && not (b && from == j)) (ne_eqb n i other) ∙ (and_true (now i j) ∙ elsewhere i j other h))))
+  pub line_moved : (next : ℕ → ℕ → Bool) → ((i j : ℕ) → next i j ≡ (if n == i then moved from to (now i) j else now i j)) → MovedBefore n from to old now → MovedBefore (n + 1) from to old next
+  line_moved next moves h i j = elim (cases_eq n i) [
+    | inr other ↦ moves i j ∙ (ap (λ b. if b then moved from to (now i) j else now i j) (ne_eqb n i other) ∙ elsewhere i j other h)
     | inl same ↦
-        puts i j ∙ (ap (λ b. (b && to == j) || mid i j) (eq-eqb n i same)
-        ∙ (ap (λ b. (to == j) || b) (takes i j ∙ (ap (λ b. now i j && not (b && from == j)) (eq-eqb n i same) ∙ ap (λ b. b && not (from == j)) (was i j same h)))
-        ∙ (here (to == j) (sym (was i from same h) ∙ (ap (λ x. now x from) (sym same) ∙ there)) ∙ is i j same)))
+        moves i j ∙ (ap (λ b. if b then moved from to (now i) j else now i j) (eq-eqb n i same)
+        ∙ (ap (λ x. if to == j then x || now i from else now i j && not (from == j)) (was i to same h)
+        ∙ (ap (λ x. if to == j then old i to || x else now i j && not (from == j)) (was i from same h)
+        ∙ (ap (λ x. if to == j then old i to || old i from else x && not (from == j)) (was i j same h)
+        ∙ is i j same))))
   ]
-    where
-      here : (b : Bool) → old i from ≡ true → (b || (old i j && not (from == j))) ≡ (if b then old i to || old i from else old i j && not (from == j))
-      here true e = sym (or_one (old i to) ∙ refl) ∙ ap (λ x. old i to || x) (sym e)
-        where
-          or_one : (b : Bool) → (b || true) ≡ true
-          or_one true = refl
-          or_one false = refl
-      here false e = refl
-
-  pub bit_skipped : now n from ≡ false → MovedBefore n from to old now → MovedBefore (n + 1) from to old now
-  bit_skipped none h i j = elim (cases_eq n i) [
-    | inr other ↦ elsewhere i j other h
-    | inl same ↦ was i j same h ∙ (here (to == j) refl (from == j) refl (sym (was i from same h) ∙ (ap (λ x. now x from) (sym same) ∙ none)) ∙ is i j same)
-  ]
-    where
-      at : (p q : ℕ) → (p == q) ≡ true → old i q ≡ old i p
-      at p q e = ap (old i) (let r : q ≡ p = grind (arith, nat_tests) in r)
-
-      here : (b : Bool) → (to == j) ≡ b → (d : Bool) → (from == j) ≡ d → old i from ≡ false → old i j ≡ (if b then old i to || old i from else old i j && not d)
-      here true e d f none = at to j e ∙ (sym (or_false (old i to)) ∙ ap (λ x. old i to || x) (sym none))
-      here false e true f none = at from j f ∙ (none ∙ sym (and_false (old i j)))
-      here false e false f none = sym (and_true (old i j))
 
   pub all_moved : ((i j : ℕ) → n ≤ i → old i j ≡ false) → MovedBefore n from to old now → (i j : ℕ) → now i j ≡ moved from to (old i) j
   all_moved past h i j = elim (cases_lt i n) [

@@ -1,11 +1,11 @@
 -- What a table has when its words have changed, bit by bit.
-use Rattle.std.proofs.Common.{◌≡◌, ◌≢◌, ℕ, ◌+◌, ◌*◌, ◌/◌, ◌%◌, ◌^◌, get_or, w64, ◌<◌, ◌≤◌, List, length, ◌∙◌, sym, ap, arith, refl, inl, inr, Bool, true, false, ◌==◌, ◌&&◌, ◌||◌, not, nat_lt, IsTrue, IsFalse}
-use Rattle.std.proofs.lemmas.Bool.{cases_eq, cases_lt, eq-eqb, ne_eqb, and_from}
+use Rattle.std.proofs.Common.{◌≡◌, ◌≢◌, ℕ, ◌+◌, ◌*◌, ◌/◌, ◌%◌, ◌^◌, get_or, w64, ◌<◌, ◌≤◌, List, length, ◌∙◌, sym, ap, arith, refl, inl, inr, Bool, true, false, ◌==◌, ◌&&◌, ◌||◌, not, nat_lt, if◌then◌else◌, IsTrue, IsFalse}
+use Rattle.std.proofs.lemmas.Bool.{cases_eq, cases_lt, eq-eqb, ne_eqb, eqb-true, and_from}
 use Rattle.std.proofs.lemmas.Bool.Decides.{nat_tests}
 use Rattle.std.specs.Int.{bit_at, trailing_zeros}
 use Rattle.std.proofs.lemmas.Nat.Bits.{bit_at-trailing_zeros}
-use Rattle.cc_rows.specs.Rows.{holds, key}
-use Rattle.cc_rows.specs.internal.Holding.{holds-nothing, holds-past, within_row}
+use Rattle.cc_rows.specs.Rows.{holds, key, moved}
+use Rattle.cc_rows.specs.internal.Holding.{bit, holds-nothing, holds-past, within_row}
 use Rattle.cc_rows.proofs.Keys.{next_row, same_key, of_key}
 
 -- ---- tests
@@ -81,6 +81,41 @@ removed_none w r c words h i j = elim (cases_lt j (64 * w)) [
   | inr ge ↦ ap (λ b. b && holds words (key w i j)) (not_below j (64 * w) ge) ∙ ap (λ b. (b && holds words (key w i j)) && not (r == i && c == j)) (sym (not_below j (64 * w) ge))
 ]
 
+pub past_columns : (w : ℕ) (words : List ℕ) (r c : ℕ) → 64 * w ≤ c → (nat_lt c (64 * w) && holds words (key w r c)) ≡ false
+past_columns w words r c h = ap (λ b. b && holds words (key w r c)) (not_below c (64 * w) h)
+
+-- in one row a bit moves to another column, where one number is put in for another
+pub moved_bit : (w n from to : ℕ) (old new : List ℕ) → from < 64 * w → to < 64 * w → ((k : ℕ) → holds new k ≡ moved (key w n from) (key w n to) (holds old) k)
+    → (i j : ℕ) → bit w new i j ≡ (if n == i then moved from to (bit w old i) j else bit w old i j)
+moved_bit w n from to old new f t moves i j = elim (cases_lt j (64 * w)) [
+  | inr ge ↦
+      past_columns w new i j ge ∙ sym (none (n == i) ge)
+  | inl lt ↦
+      ap (λ b. b && holds new (key w i j)) (below j (64 * w) lt)
+      ∙ (moves (key w i j)
+      ∙ (ap (λ b. if b then holds old (key w n to) || holds old (key w n from) else holds old (key w i j) && not (key w n from == key w i j)) (same_bit w n to i j t lt)
+      ∙ (ap (λ b. if n == i && to == j then holds old (key w n to) || holds old (key w n from) else holds old (key w i j) && not b) (same_bit w n from i j f lt)
+      ∙ here lt (n == i) refl)))
+]
+  where
+    none : (b : Bool) → 64 * w ≤ j → (if b then moved from to (bit w old i) j else bit w old i j) ≡ false
+    none true ge =
+        ap (λ b. if b then bit w old i to || bit w old i from else bit w old i j && not (from == j)) (ne_eqb to j (λ e. absurd (omega (arith, e, ge, t))))
+        ∙ ap (λ b. b && not (from == j)) (past_columns w old i j ge)
+    none false ge = past_columns w old i j ge
+
+    inside : (x : ℕ) → x < 64 * w → holds old (key w i x) ≡ bit w old i x
+    inside x lt = ap (λ b. b && holds old (key w i x)) (sym (below x (64 * w) lt))
+
+    here : j < 64 * w → (b : Bool) → (n == i) ≡ b → (if b && to == j then holds old (key w n to) || holds old (key w n from) else holds old (key w i j) && not (b && from == j))
+        ≡ (if b then moved from to (bit w old i) j else bit w old i j)
+    here lt true e =
+        ap (λ x. if to == j then holds old (key w x to) || holds old (key w x from) else holds old (key w i j) && not (from == j)) (eqb-true n i e)
+        ∙ (ap (λ x. if to == j then x || holds old (key w i from) else holds old (key w i j) && not (from == j)) (inside to t)
+        ∙ (ap (λ x. if to == j then bit w old i to || x else holds old (key w i j) && not (from == j)) (inside from f)
+        ∙ ap (λ x. if to == j then bit w old i to || bit w old i from else x && not (from == j)) (inside j lt)))
+    here lt false e = and_true (holds old (key w i j)) ∙ inside j lt
+
 -- ---- all bits
 
 pub past_rows : (w n : ℕ) (words : List ℕ) → length words ≤ w * n → (r c : ℕ) → n ≤ r → (nat_lt c (64 * w) && holds words (key w r c)) ≡ false
@@ -88,9 +123,6 @@ past_rows w n words h r c le = ap (λ b. nat_lt c (64 * w) && b) (holds-past wor
   where
     more : (r : ℕ) → n ≤ r → w * n ≤ w * r
     more r le = elim (cases_eq n r) [ inl same ↦ (let m = ap (λ x. w * x) same in omega (arith, m)) | inr other ↦ (let m = next_row w n r (omega arith) in omega (arith, m)) ]
-
-pub past_columns : (w : ℕ) (words : List ℕ) (r c : ℕ) → 64 * w ≤ c → (nat_lt c (64 * w) && holds words (key w r c)) ≡ false
-past_columns w words r c h = ap (λ b. b && holds words (key w r c)) (not_below c (64 * w) h)
 
 pub joined_bits : (w : ℕ) (new a b : List ℕ) → ((k : ℕ) → holds new k ≡ (holds a k || holds b k))
     → (r c : ℕ) → (nat_lt c (64 * w) && holds new (key w r c)) ≡ ((nat_lt c (64 * w) && holds a (key w r c)) || (nat_lt c (64 * w) && holds b (key w r c)))

@@ -2,7 +2,7 @@
 
 ghost use Rattle.std.specs.Prelude.{◌≡◌, ℕ, ◌+◌, ◌*◌, ◌/◌, ◌%◌, ◌^◌, ◌<◌, ◌≤◌, ◌==◌, ◌||◌, ◌&&◌, not, [], get_or, length, slice_index, IsTrue, IsFalse, IfOk, IfErr};
 ghost use Rattle.std.specs.Int.{bit_at};
-ghost use Rattle.cc_rows.specs.Rows.{holds, most_words};
+ghost use Rattle.cc_rows.specs.Rows.{holds, moved as moved_of, most_words};
 
 use std::alloc::{AllocError, Global};
 use std::marker::Model;
@@ -53,8 +53,7 @@ impl BitRow {
     pub fn contains(&self, k: usize) -> bool
         ensures { result ≡ holds self.now k }
     {
-        let word = word_at(self.words.as_slice(), k / 64);
-        (word >> (k % 64)) & 1 == 1
+        is_set(word_at(self.words.as_slice(), k / 64), k)
     }
 
     /// The same set once more.
@@ -101,6 +100,24 @@ impl BitRow {
         }
     }
 
+    /// Puts in one number for another, where that one is in. Where memory runs out, that one may be out.
+    pub(crate) fn move_bit(&mut self, from: usize, to: usize) -> Result<(), AllocError>
+        requires { to / 64 < most_words }
+        ensures moved { IfOk result (λ _. (k : ℕ) → holds self.new k ≡ moved_of from to (holds self.old) k) }
+        ensures few { (most : ℕ) → length self.old ≤ most → to / 64 < most → length self.new ≤ most }
+    {
+        let at = from / 64;
+        if at >= self.words.len() {
+            return Ok(());
+        }
+        let word = self.words[at];
+        if is_set(word, from) {
+            self.words[at] = word & !(1 << (from % 64));
+            self.insert(to)?;
+        }
+        Ok(())
+    }
+
     /// Takes out the numbers of one word.
     pub(crate) fn clear_word(&mut self, at: usize)
         ensures cleared { (i : ℕ) → holds self.new i ≡ (holds self.old i && not (at == i / 64)) }
@@ -134,10 +151,16 @@ impl BitRow {
         if lies_within(other.words.as_slice(), self.words.as_slice()) {
             return Ok(false);
         }
-        grow(&mut self.words, other.words.len())?;
-        put_all(&mut self.words, other.words.as_slice());
+        put_words(&mut self.words, other.words.as_slice())?;
         Ok(true)
     }
+}
+
+/// Whether a word has the bit of a number.
+fn is_set(word: u64, k: usize) -> bool
+    ensures { result ≡ (bit_at word (k % 64) == 1) }
+{
+    (word >> (k % 64)) & 1 == 1
 }
 
 /// A word of a row; those past its end are 0.
@@ -176,6 +199,21 @@ fn lies_within(some: &[u64], all: &[u64]) -> bool
         }
     }
     true
+}
+
+/// Puts what one row holds into another. Without memory that one stays as it was.
+fn put_words(into: &mut Vec<u64>, from: &[u64]) -> Result<(), AllocError>
+    ensures both { IfOk result (λ _. (k : ℕ) → holds into.new.items k ≡ (holds into.old.items k || holds from.now k)) }
+    ensures few { (most : ℕ) → length into.old.items ≤ most → length from.now ≤ most → length into.new.items ≤ most }
+    ensures leaves { IfErr result (λ _. into.new.items ≡ into.old.items) }
+{
+    if into.is_empty() {
+        into.extend_from_slice(from)?;
+        return Ok(());
+    }
+    grow(into, from.len())?;
+    put_all(into, from);
+    Ok(())
 }
 
 /// Puts what one row holds into another that is no shorter.

@@ -1,7 +1,8 @@
 //! Rows of bits of one width, one behind the other: a set of pairs.
 
-ghost use Rattle.std.specs.Prelude.{◌≡◌, ℕ, ◌+◌, ◌*◌, ◌/◌, ◌^◌, ◌<◌, ◌≤◌, ◌==◌, ◌||◌, ◌&&◌, not, false, if◌then◌else◌, IsTrue, IsFalse, IfOk, IfErr};
+ghost use Rattle.std.specs.Prelude.{◌≡◌, ℕ, ◌+◌, ◌*◌, ◌/◌, ◌^◌, ◌<◌, ◌≤◌, ◌==◌, ◌||◌, ◌&&◌, not, false, length, nat_lt, if◌then◌else◌, IsTrue, IsFalse, IfOk, IfErr};
 ghost use Rattle.cc_rows.specs.Rows.{has, most_width, most_rows, column_moved, row_moved};
+ghost use Rattle.cc_rows.specs.internal.Holding.{bit};
 
 use crate::row::BitRow;
 use std::alloc::{AllocError, Global};
@@ -160,12 +161,22 @@ impl BitRows {
         requires { to < 64 * most_width }
         ensures { IfOk result (λ _. (r c : ℕ) → has self.new r c ≡ column_moved from to (has self.old) r c) }
     {
-        for r in 0..self.rows() {
-            if self.contains(r, from) {
-                self.remove(r, from);
-                self.insert(r, to)?;
-            }
+        if to >= 64 * self.width {
+            let wide = self.widened(to / 64 + 1)?;
+            *self = wide;
         }
+        self.move_within(from, to)
+    }
+
+    /// The same to a column for which the rows have room.
+    fn move_within(&mut self, from: usize, to: usize) -> Result<(), AllocError>
+        requires { to < 64 * self.old.width }
+        ensures { IfOk result (λ _. (r c : ℕ) → has self.new r c ≡ column_moved from to (has self.old) r c) }
+    {
+        if from >= 64 * self.width {
+            return Ok(());
+        }
+        move_column_of(&mut self.bits, self.width, self.rows, from, to)?;
         Ok(())
     }
 
@@ -282,6 +293,28 @@ impl BitRows {
         *self = mine;
         Ok(rose)
     }
+}
+
+/// Moves the bit of each of so many rows, of so many words each, from one column to another.
+fn move_column_of(
+    bits: &mut BitRow,
+    width: usize,
+    rows: usize,
+    from: usize,
+    to: usize,
+) -> Result<(), AllocError>
+    requires narrow { width ≤ most_width }
+    requires low { rows ≤ most_rows }
+    requires from { from < 64 * width }
+    requires to { to < 64 * width }
+    ensures moved { IfOk result (λ _. (r c : ℕ) → bit width bits.new r c ≡ (if nat_lt r rows then column_moved from to (bit width bits.old) r c else bit width bits.old r c)) }
+    ensures few { length bits.old ≤ width * rows → length bits.new ≤ width * rows }
+{
+    for r in 0..rows {
+        let start = 64 * (width * r);
+        bits.move_bit(start + from, start + to)?;
+    }
+    Ok(())
 }
 
 /// The greater of two numbers.

@@ -2,7 +2,6 @@
 
 use crate::node::Node;
 use crate::rtl::Rtl;
-use cc_words::{Binary, Unary};
 use std::fmt;
 
 impl fmt::Display for Rtl {
@@ -30,7 +29,7 @@ impl fmt::Display for Node {
                 from,
                 next,
             } => {
-                let operator = unary_name(*operator);
+                let operator = operator.name();
                 write!(f, "r{to} = {operator} r{from} -> {next}")
             }
             Node::Binary {
@@ -40,7 +39,7 @@ impl fmt::Display for Node {
                 right,
                 next,
             } => {
-                let operator = binary_name(*operator);
+                let operator = operator.name();
                 write!(f, "r{to} = {operator} r{left}, r{right} -> {next}")
             }
             Node::Load {
@@ -79,37 +78,5 @@ impl fmt::Display for Node {
             } => write!(f, "branch r{from} -> {if_nonzero}, {if_zero}"),
             Node::Return { from } => write!(f, "return r{from}"),
         }
-    }
-}
-
-fn unary_name(operator: Unary) -> &'static str {
-    match operator {
-        Unary::Neg => "neg",
-        Unary::Complement => "complement",
-        Unary::IsZero => "is_zero",
-    }
-}
-
-fn binary_name(operator: Binary) -> &'static str {
-    match operator {
-        Binary::Add => "add",
-        Binary::Sub => "sub",
-        Binary::Mul => "mul",
-        Binary::DivS => "div_s",
-        Binary::DivU => "div_u",
-        Binary::RemS => "rem_s",
-        Binary::RemU => "rem_u",
-        Binary::Shl => "shl",
-        Binary::ShrS => "shr_s",
-        Binary::ShrU => "shr_u",
-        Binary::And => "and",
-        Binary::Or => "or",
-        Binary::Xor => "xor",
-        Binary::Eq => "eq",
-        Binary::Ne => "ne",
-        Binary::LtS => "lt_s",
-        Binary::LtU => "lt_u",
-        Binary::LeS => "le_s",
-        Binary::LeU => "le_u",
     }
 }

@@ -1,6 +1,6 @@
 -- The whole number that a word stands for, and each operation on words as a formula over whole numbers.
 pub mod Words
--- The operators of the intermediate languages, and what each gives.
+-- The operators of the intermediate languages, what each gives, and its name.
 pub mod Operators
 -- Worked values of these, each by computation; no contract rests on them.
 pub mod rows

@@ -1,5 +1,5 @@
--- The operators of the intermediate languages, three on one word and nineteen on two, and what each gives.
-use Rattle.std.specs.Prelude.{ℕ, Option, Some}
+-- The operators of the intermediate languages, three on one word and nineteen on two: what each gives, and its name in a listing.
+use Rattle.std.specs.Prelude.{ℕ, List, Option, Some, codes}
 use Rattle.cc_words.specs.declared.operators.Unary.{Unary}
 use Rattle.cc_words.specs.declared.operators.Unary.TheVariants.{Neg, Complement, IsZero}
 use Rattle.cc_words.specs.declared.operators.Binary.{Binary}
@@ -33,3 +33,31 @@ apply_binary LtS a b = Some (lt_s a b)
 apply_binary LtU a b = Some (lt_u a b)
 apply_binary LeS a b = Some (le_s a b)
 apply_binary LeU a b = Some (le_u a b)
+
+-- the name of an operator on one word
+abbrev pub unary_text : Unary → List ℕ
+unary_text Neg = codes "neg"
+unary_text Complement = codes "complement"
+unary_text IsZero = codes "is_zero"
+
+-- the name of an operator on two words
+abbrev pub binary_text : Binary → List ℕ
+binary_text Add = codes "add"
+binary_text Sub = codes "sub"
+binary_text Mul = codes "mul"
+binary_text DivS = codes "div_s"
+binary_text DivU = codes "div_u"
+binary_text RemS = codes "rem_s"
+binary_text RemU = codes "rem_u"
+binary_text Shl = codes "shl"
+binary_text ShrS = codes "shr_s"
+binary_text ShrU = codes "shr_u"
+binary_text And = codes "and"
+binary_text Or = codes "or"
+binary_text Xor = codes "xor"
+binary_text Eq = codes "eq"
+binary_text Ne = codes "ne"
+binary_text LtS = codes "lt_s"
+binary_text LtU = codes "lt_u"
+binary_text LeS = codes "le_s"
+binary_text LeU = codes "le_u"

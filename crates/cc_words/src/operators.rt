@@ -2,7 +2,7 @@
 //! and no others, so they and what they give stand here once.
 
 ghost use Rattle.std.specs.Prelude.{◌≡◌};
-ghost use Rattle.cc_words.specs.Operators.{apply_unary, apply_binary};
+ghost use Rattle.cc_words.specs.Operators.{apply_unary, apply_binary, unary_text, binary_text};
 
 use super::{
     add, div_s, div_u, eq, le_s, le_u, lt_s, lt_u, mul, ne, rem_s, rem_u, shl, shr_s, shr_u, sub,
@@ -28,6 +28,17 @@ impl Unary {
             Unary::Neg => sub(0, word),
             Unary::Complement => !word,
             Unary::IsZero => eq(word, 0),
+        }
+    }
+
+    /// Its name in a listing.
+    pub fn name(self) -> &'static str
+        ensures { result.now ≡ unary_text self }
+    {
+        match self {
+            Unary::Neg => "neg",
+            Unary::Complement => "complement",
+            Unary::IsZero => "is_zero",
         }
     }
 }
@@ -102,6 +113,33 @@ impl Binary {
             Binary::LtU => Some(lt_u(left, right)),
             Binary::LeS => Some(le_s(left, right)),
             Binary::LeU => Some(le_u(left, right)),
+        }
+    }
+
+    /// Its name in a listing.
+    pub fn name(self) -> &'static str
+        ensures { result.now ≡ binary_text self }
+    {
+        match self {
+            Binary::Add => "add",
+            Binary::Sub => "sub",
+            Binary::Mul => "mul",
+            Binary::DivS => "div_s",
+            Binary::DivU => "div_u",
+            Binary::RemS => "rem_s",
+            Binary::RemU => "rem_u",
+            Binary::Shl => "shl",
+            Binary::ShrS => "shr_s",
+            Binary::ShrU => "shr_u",
+            Binary::And => "and",
+            Binary::Or => "or",
+            Binary::Xor => "xor",
+            Binary::Eq => "eq",
+            Binary::Ne => "ne",
+            Binary::LtS => "lt_s",
+            Binary::LtU => "lt_u",
+            Binary::LeS => "le_s",
+            Binary::LeU => "le_u",
         }
     }
 }

@@ -1,0 +1,76 @@
+//! The operation of LTL that stands for a node, once its registers are chosen.
+
+use crate::registers::numbered;
+use cc_ltl::{Operation, Register};
+use cc_rtl::Node;
+
+/// The registers of an operation: of its operands in their order, and of its result. Of what it has not, any.
+#[derive(Clone, Copy)]
+pub struct Used {
+    pub first: Register,
+    pub second: Register,
+    pub to: Register,
+}
+
+/// Any registers, for a node without operands and result.
+pub fn nothing_used() -> Used {
+    let any = numbered(31);
+    Used {
+        first: any,
+        second: any,
+        to: any,
+    }
+}
+
+/// The operation of a node on these registers.
+pub fn operation_of(node: &Node, used: Used) -> Operation {
+    match node {
+        Node::Nop { next } | Node::Move { next, .. } => Operation::Nop { next: *next },
+        Node::Const { word, next, .. } => Operation::Const {
+            to: used.to,
+            word: *word,
+            next: *next,
+        },
+        Node::Unary { operator, next, .. } => Operation::Unary {
+            operator: *operator,
+            to: used.to,
+            from: used.first,
+            next: *next,
+        },
+        Node::Binary { operator, next, .. } => Operation::Binary {
+            operator: *operator,
+            to: used.to,
+            left: used.first,
+            right: used.second,
+            next: *next,
+        },
+        Node::Load { object, next, .. } => Operation::Load {
+            object: *object,
+            to: used.to,
+            index: used.first,
+            next: *next,
+        },
+        Node::Store { object, next, .. } => Operation::Store {
+            object: *object,
+            index: used.first,
+            from: used.second,
+            next: *next,
+        },
+        Node::Call { function, next, .. } => Operation::Call {
+            function: *function,
+            next: *next,
+        },
+        Node::Read { next, .. } => Operation::Read { next: *next },
+        Node::Write { next, .. } => Operation::Write { next: *next },
+        Node::Branch {
+            if_nonzero,
+            if_zero,
+            ..
+        } => Operation::Branch {
+            from: used.first,
+            if_nonzero: *if_nonzero,
+            if_zero: *if_zero,
+        },
+        Node::Return { .. } => Operation::Return,
+    }
+}
