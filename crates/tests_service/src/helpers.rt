@@ -6,7 +6,7 @@ ghost use Rattle.cc_library.specs.Recovered.{Recovers};
 use cc_disk::{Disk, MemoryDisk};
 use cc_journal::format;
 use cc_library::{Library, Name, UnitMap};
-use std::alloc::Global;
+use std::alloc::{AllocError, Global};
 use std::test::Fail;
 
 /// The names, by their places.
@@ -36,6 +36,23 @@ pub fn name_at(place: usize) -> Result<Name, Fail> {
         Ok(name) => Ok(name),
         Err(_) => Err(Fail::from("no name")),
     }
+}
+
+/// A text: its head, a part so many times, and its end.
+pub fn repeated(
+    alloc: Global,
+    head: &[u8],
+    part: &[u8],
+    times: usize,
+    end: &[u8],
+) -> Result<Vec<u8>, AllocError> {
+    let mut text = Vec::new(alloc);
+    text.extend_from_slice(head)?;
+    for _ in 0..times {
+        text.extend_from_slice(part)?;
+    }
+    text.extend_from_slice(end)?;
+    Ok(text)
 }
 
 /// A disk without a record.

@@ -1,7 +1,7 @@
 // A service with its workers.
 //
-// `starting` opens one, `answers` makes each call, `calls` has one client and two in threads, `crowds` sixteen, `gates` holds a worker,
-// `devices` fails, `files` lets a service go and opens its file again, `memory` has a growth refused.
+// `starting` opens one, `reading` reads answers, `answers` makes each call, `calls` has one client and two in threads, `crowds` sixteen,
+// `gates` holds a worker, `devices` fails, `files` lets a service go and opens its file again, `memory` has a growth refused.
 mod answers;
 mod calls;
 mod crowds;
@@ -9,4 +9,5 @@ mod devices;
 mod files;
 mod gates;
 mod memory;
+mod reading;
 mod starting;

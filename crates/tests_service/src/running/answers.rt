@@ -1,10 +1,12 @@
 // What one client is answered: each call on its happy path, and each refusal of names, texts and the map.
 ghost use Rattle.std.specs.Prelude.{◌≡◌};
 
-use super::starting::{ALL, Begun, Fused, alone, number, opened, prepared};
-use crate::helpers::TEXTS;
-use crate::model::{are_names, replayed, shows};
+use super::reading::{done_at, is_found, is_listed, number};
+use super::starting::{ALL, Begun, Fused, alone, ended, opened, prepared};
+use crate::helpers::{TEXTS, repeated};
+use crate::model::{EMPTY, replayed, shows};
 use cc_disk::Disk;
+use cc_history::Receipt;
 use cc_pool::NoGate;
 use cc_service::{Client, Closed, Named, ServiceFault};
 use std::alloc::Global;
@@ -31,67 +33,40 @@ where
 {
     let service = opened::<N, R, NoGate>(rt, alloc, begun, 2, NoGate)?;
     let mut client = service.client(rt, alloc)?;
-    let changed = are_changed(rt, alloc, &service, &mut client)?;
-    let seen = are_seen(rt, alloc, &service, &mut client)?;
+    let changed = are_changed(rt, alloc, &service, &mut client);
+    let seen = are_seen(rt, alloc, &service, &mut client);
     let refused = are_refused(rt, alloc, &service, &mut client)?;
     let last = match client.last() {
         Some(receipt) => receipt.number,
         None => 0,
     };
     let right = changed && seen && refused && last == 11 && client.receipts().len() == 11;
-    match service.finish(rt, alloc, alone(alloc, client)?) {
-        Ok(closed) => Ok(right && is_whole(alloc, &closed)?),
-        Err(_) => Ok(false),
-    }
+    let closed = ended(rt, alloc, service, alone(alloc, client)?)?;
+    Ok(right && is_whole(alloc, &closed)?)
 }
 
 // Looks at no names, adds two, the later one first, puts another unit in place of the other: entries 1 to 4.
-fn are_changed<N, R>(
-    rt: &R,
-    alloc: Global,
-    service: &Fused<N>,
-    client: &mut Client<N>,
-) -> Result<bool, Fail>
+fn are_changed<N, R>(rt: &R, alloc: Global, service: &Fused<N>, client: &mut Client<N>) -> bool
 where
     N: Named + Send + Sync + 'static,
     R: Wait,
 {
-    let none = service.list(rt, alloc, client)?;
-    let later = service.add(rt, alloc, client, b"b", TEXTS[0])?;
-    let earlier = service.add(rt, alloc, client, b"a", TEXTS[1])?;
-    let other = service.replace(rt, alloc, client, b"a", TEXTS[2])?;
-    Ok(
-        none.receipt().number == 1
-            && none.names().as_slice().len() == 0
-            && later.number == 2
-            && earlier.number == 3
-            && other.number == 4,
-    )
+    is_listed(service.list(rt, alloc, client), 1, &EMPTY)
+        && done_at(service.add(rt, alloc, client, b"b", TEXTS[0])) == 2
+        && done_at(service.add(rt, alloc, client, b"a", TEXTS[1])) == 3
+        && done_at(service.replace(rt, alloc, client, b"a", TEXTS[2])) == 4
 }
 
 // Looks at one name and at all, before and after a compaction, which is no entry: entries 5 to 7.
-fn are_seen<N, R>(
-    rt: &R,
-    alloc: Global,
-    service: &Fused<N>,
-    client: &mut Client<N>,
-) -> Result<bool, Fail>
+fn are_seen<N, R>(rt: &R, alloc: Global, service: &Fused<N>, client: &mut Client<N>) -> bool
 where
     N: Named + Send + Sync + 'static,
     R: Wait,
 {
-    let before = service.list(rt, alloc, client)?;
-    service.compact(rt, alloc)?;
-    let found = service.get(rt, alloc, client, b"a")?;
-    let after = service.list(rt, alloc, client)?;
-    Ok(
-        before.receipt().number == 5
-            && are_names(before.names().as_slice(), &AFTER)
-            && found.receipt().number == 6
-            && found.unit().stored().source.bytes() == TEXTS[2]
-            && after.receipt().number == 7
-            && are_names(after.names().as_slice(), &AFTER),
-    )
+    is_listed(service.list(rt, alloc, client), 5, &AFTER)
+        && number(service.compact(rt, alloc)) == 0
+        && is_found(service.get(rt, alloc, client, b"a"), 6, TEXTS[2])
+        && is_listed(service.list(rt, alloc, client), 7, &AFTER)
 }
 
 // Names that are none, texts that are none, and names that have a unit or none: the last four are entries 8 to 11.
@@ -108,7 +83,7 @@ where
     let long = [b'a'; 33];
     let names = number(service.withdraw(rt, alloc, client, b"A")) == 33
         && number(service.add(rt, alloc, client, b"", TEXTS[0])) == 33
-        && number(service.replace(rt, alloc, client, b"A", TEXTS[0])) == 33
+        && number(service.replace(rt, alloc, client, b"A", b"/*")) == 33
         && number(service.get(rt, alloc, client, &long)) == 33;
     let texts = are_texts_refused(rt, alloc, service, client)?;
     let counted = client.receipts().len() == 7;
@@ -119,17 +94,27 @@ where
     Ok(names && texts && counted && map)
 }
 
-// Whether a fault has this number, at this column of the first line, or nowhere where that is 0.
-fn is_at(fault: &ServiceFault, number: u32, column: usize) -> bool {
-    fault.number() == number
-        && match fault.place() {
-            Some(place) => place.line == 1 && place.column == column,
-            None => column == 0,
+// Whether an answer is the fault with this number, at this column of the first line, or nowhere where that is 0.
+fn is_refused_at(answer: Result<Receipt, ServiceFault>, number: u32, column: usize) -> bool {
+    match answer {
+        Ok(receipt) => {
+            drop(receipt);
+            false
         }
+        Err(fault) => {
+            let right = fault.number() == number
+                && match fault.place() {
+                    Some(place) => place.line == 1 && place.column == column,
+                    None => column == 0,
+                };
+            drop(fault);
+            right
+        }
+    }
 }
 
-// Texts with an unclosed comment, another token than is expected, and an unknown name; one that is too long for a text, and one for
-// the area.
+// Texts with an unclosed comment, another token than is expected, and an unknown name; one that is too long for a text, one with too many
+// nodes for a function, and one that is too long for the area.
 fn are_texts_refused<N, R>(
     rt: &R,
     alloc: Global,
@@ -140,24 +125,23 @@ where
     N: Named + Send + Sync + 'static,
     R: Wait,
 {
-    let long = vec![in alloc; b' '; 65537]?;
-    let texts: [(&[u8], u32, usize); 4] = [
+    let long = repeated(alloc, b"", b" ", 65537, b"")?;
+    let nodes = repeated(alloc, b"int main(void){", b"write_word(0);", 4097, b"}")?;
+    let full = repeated(alloc, b"", b" ", 5000, TEXTS[0])?;
+    let texts: [(&[u8], u32, usize); 6] = [
         (b"/*", 2, 1),
         (b"int main(void){return 1 2;}", 5, 25),
         (b"int main(void){x=1;}", 11, 16),
         (long.as_slice(), 7, 0),
+        (nodes.as_slice(), 22, 0),
+        (full.as_slice(), 34, 0),
     ];
     let mut right = true;
     for (text, number, column) in texts.iter() {
-        right = right
-            && match service.add(rt, alloc, client, b"c", *text) {
-                Ok(_) => false,
-                Err(fault) => is_at(&fault, *number, *column),
-            };
+        let answer = service.add(rt, alloc, client, b"c", *text);
+        right = right && is_refused_at(answer, *number, *column);
     }
-    let mut full = vec![in alloc; b' '; 5000]?;
-    full.extend_from_slice(TEXTS[0])?;
-    Ok(right && number(service.add(rt, alloc, client, b"c", full.as_slice())) == 34)
+    Ok(right)
 }
 
 // What the end hands out: the base without a name, the library with the map, and a history and receipts that the model makes too.

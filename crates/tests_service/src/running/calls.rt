@@ -1,10 +1,12 @@
 // Calls of one client, and of two in threads.
 ghost use Rattle.std.specs.Prelude.{◌≡◌};
 
-use super::starting::{ALL, Begun, Fused, SMALL, absent_at, alone, both, number, opened, prepared};
+use super::reading::{absent_at, done_at, is_found, number};
+use super::starting::{ALL, Begun, Fused, SMALL, alone, both, ended, opened, prepared};
 use cc_pool::NoGate;
 use cc_service::{BookFault, Client, MOST_CLIENTS, Named, ServiceFault};
 use std::alloc::Global;
+use std::cmp::{max, min};
 use std::marker::Brand;
 use std::sync::Wait;
 use std::test::Fail;
@@ -27,25 +29,47 @@ where
 {
     let service = opened::<N, R, NoGate>(rt, alloc, begun, 1, NoGate)?;
     let mut client = service.client(rt, alloc)?;
-    let added = service.add(rt, alloc, &mut client, b"a", SMALL)?;
-    let got = service.get(rt, alloc, &mut client, b"a")?;
-    let mut right = added.number == 1
-        && got.receipt().number == 2
-        && got.unit().stored().source.bytes() == SMALL;
-    let gone = service.withdraw(rt, alloc, &mut client, b"a")?;
-    right = right && gone.number == 3;
-    let absent = service.get(rt, alloc, &mut client, b"a");
-    right = right && absent_at(&absent) == 4;
-    let Err((fault, service, clients)) = service.finish(rt, alloc, Vec::new(alloc)) else {
-        return Ok(false);
-    };
-    drop(clients);
-    right = right && is_estranged(&fault, 4);
-    drop(fault);
-    let Ok(closed) = service.finish(rt, alloc, alone(alloc, client)?) else {
-        return Ok(false);
-    };
-    Ok(right && closed.history.len() == 4 && closed.receipts[0].len() == 4)
+    let right = are_answered(rt, alloc, &service, &mut client);
+    let (service, refused) = ended_without(rt, alloc, service)?;
+    let closed = ended(rt, alloc, service, alone(alloc, client)?)?;
+    Ok(
+        right
+            && refused
+            && closed.history.len() == 4
+            && closed.receipts.len() == 1
+            && closed.receipts[0].len() == 4,
+    )
+}
+
+fn are_answered<N, R>(rt: &R, alloc: Global, service: &Fused<N>, client: &mut Client<N>) -> bool
+where
+    N: Named + Send + Sync + 'static,
+    R: Wait,
+{
+    done_at(service.add(rt, alloc, client, b"a", SMALL)) == 1
+        && is_found(service.get(rt, alloc, client, b"a"), 2, SMALL)
+        && done_at(service.withdraw(rt, alloc, client, b"a")) == 3
+        && absent_at(service.get(rt, alloc, client, b"a")) == 4
+}
+
+// The service, whose end is refused without its client, and whether it is as it has to be.
+fn ended_without<N, R>(rt: &R, alloc: Global, service: Fused<N>) -> Result<(Fused<N>, bool), Fail>
+where
+    N: Named + Send + Sync + 'static,
+    R: Wait,
+{
+    match service.finish(rt, alloc, Vec::new(alloc)) {
+        Ok(closed) => {
+            drop(closed);
+            Err(Fail::from("ended without its client"))
+        }
+        Err((fault, service, clients)) => {
+            drop(clients);
+            let right = is_estranged(&fault, 4);
+            drop(fault);
+            Ok((service, right))
+        }
+    }
 }
 
 // Whether it is 39 with this number and no entry.
@@ -61,13 +85,13 @@ fn is_estranged(fault: &ServiceFault, at: u64) -> bool {
 #[test]
 fn two_clients_add_one_name(rt: HostRuntime) -> Result<(), Fail> {
     let begun = prepared(rt.alloc(), ALL)?;
-    let sum = two_threads::<Brand, HostRuntime>(&rt, rt.alloc(), begun)?;
-    assert_eq!(rt; sum, 31);
+    let numbers = two_threads::<Brand, HostRuntime>(&rt, rt.alloc(), begun)?;
+    assert_eq!(rt; numbers, (0, 31));
     Ok(())
 }
 
-// The sum of the numbers of both answers, 0 for Ok.
-fn two_threads<N, R>(rt: &R, alloc: Global, begun: Begun) -> Result<u32, Fail>
+// The numbers of both answers, the lesser one first, 0 for Ok.
+fn two_threads<N, R>(rt: &R, alloc: Global, begun: Begun) -> Result<(u32, u32), Fail>
 where
     N: Named + Send + Sync + 'static,
     R: Threads + Wait + Copy + Send + Sync + 'static,
@@ -84,13 +108,12 @@ where
     );
     let (one, first) = a;
     let (other, second) = b;
-    let Ok(closed) = service.finish(rt, alloc, both(alloc, one, other)?) else {
-        return Ok(0);
-    };
-    if closed.history.len() == 2 && closed.receipts[0].len() == 1 && closed.receipts[1].len() == 1 {
-        Ok(first + second)
+    let closed = ended(rt, alloc, service, both(alloc, one, other)?)?;
+    let once = closed.receipts.iter().all(|own| own.len() == 1);
+    if closed.history.len() == 2 && closed.receipts.len() == 2 && once {
+        Ok((min(first, second), max(first, second)))
     } else {
-        Ok(0)
+        Err(Fail::from("another history"))
     }
 }
 
@@ -123,5 +146,6 @@ where
         clients.push(service.client(rt, alloc)?)?;
     }
     let refused = number(service.client(rt, alloc));
-    Ok(refused == 30 && service.finish(rt, alloc, clients).is_ok())
+    drop(ended(rt, alloc, service, clients)?);
+    Ok(refused == 30)
 }

@@ -1,7 +1,8 @@
 // Sixteen clients in threads of their own, whose history is replayed against the model.
 ghost use Rattle.std.specs.Prelude.{◌≡◌};
 
-use super::starting::{ALL, Begun, Fused, number, opened, prepared};
+use super::reading::number;
+use super::starting::{ALL, Begun, Fused, ended, opened, prepared};
 use crate::helpers::{NAMES, TEXTS, bytes_at};
 use crate::model::{replayed, shows};
 use cc_pool::NoGate;
@@ -45,9 +46,7 @@ where
         right = right && expected;
         back.push(client)?;
     }
-    let Ok(closed) = service.finish(rt, alloc, back) else {
-        return Ok(false);
-    };
+    let closed = ended(rt, alloc, service, back)?;
     match replayed(closed.history.as_slice(), closed.receipts.as_slice()) {
         Some(model) => Ok(right && shows(alloc, &closed.library, &model)?),
         None => Ok(false),

@@ -1,11 +1,12 @@
 // A device that fails once.
 ghost use Rattle.std.specs.Prelude.{◌≡◌};
 
+use super::reading::{absent_at, is_listed, number};
 use super::starting::{
-    Begun, Device, Fused, OPENING, SMALL, absent_at, alone, holds, number, opened, prepared,
+    Begun, Device, Fused, OPENING, SMALL, alone, ended, holds, opened, prepared,
 };
 use crate::helpers::TEXTS;
-use crate::model::{EMPTY, Model, are_names};
+use crate::model::{EMPTY, Model};
 use cc_pool::NoGate;
 use cc_service::{Client, Named, Service};
 use std::alloc::Global;
@@ -30,13 +31,10 @@ where
 {
     let service = opened::<N, R, NoGate>(rt, alloc, begun, 1, NoGate)?;
     let mut client = service.client(rt, alloc)?;
-    let mut right = number(service.add(rt, alloc, &mut client, b"a", SMALL)) == 35
-        && number(service.add(rt, alloc, &mut client, b"b", SMALL)) == 36;
-    let absent = service.get(rt, alloc, &mut client, b"a");
-    right = right && absent_at(&absent) == 1;
-    let Ok(closed) = service.finish(rt, alloc, alone(alloc, client)?) else {
-        return Ok(false);
-    };
+    let right = number(service.add(rt, alloc, &mut client, b"a", SMALL)) == 35
+        && number(service.add(rt, alloc, &mut client, b"b", SMALL)) == 36
+        && absent_at(service.get(rt, alloc, &mut client, b"a")) == 1;
+    let closed = ended(rt, alloc, service, alone(alloc, client)?)?;
     Ok(right && holds(alloc, closed.library.into_disk(), &EMPTY, &EMPTY)?)
 }
 
@@ -116,15 +114,11 @@ where
     } else {
         before
     };
-    let listed = service.list(rt, alloc, &mut client)?;
-    let right = are_names(listed.names().as_slice(), &before);
-    match service.finish(rt, alloc, alone(alloc, client)?) {
-        Ok(closed) => Ok((
-            failed,
-            right && holds(alloc, closed.library.into_disk(), &before, &later)?,
-        )),
-        Err(_) => Err(Fail::from("not finished")),
-    }
+    let next = (client.receipts().len() as u64).saturating_add(1);
+    let listed = is_listed(service.list(rt, alloc, &mut client), next, &before);
+    let closed = ended(rt, alloc, service, alone(alloc, client)?)?;
+    let right = holds(alloc, closed.library.into_disk(), &before, &later)?;
+    Ok((failed, listed && right))
 }
 
 #[test]
@@ -154,15 +148,18 @@ where
     } = begun;
     drop(base);
     match Service::<N, Device>::open(rt, alloc, fresh, device, 1, NoGate) {
-        Ok(_) => Err(Fail::from("opened")),
+        Ok(service) => {
+            drop(service);
+            Err(Fail::from("opened"))
+        }
         Err((fault, device)) => {
             let number = fault.number();
             drop(fault);
-            if number == 35 {
-                Ok(device)
-            } else {
-                Err(Fail::from("another fault"))
+            if number != 35 {
+                drop(device);
+                return Err(Fail::from("another fault"));
             }
+            Ok(device)
         }
     }
 }

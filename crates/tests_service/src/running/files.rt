@@ -1,6 +1,7 @@
 // A service on a file: one that is let go without an end, and what the next one finds.
 ghost use Rattle.std.specs.Prelude.{◌≡◌};
 
+use super::reading::{done_at, is_found};
 use super::starting::alone;
 use crate::helpers::{AREA, SIZE, TEXTS};
 use crate::model::shows;
@@ -42,15 +43,39 @@ where
     requires { (fresh.ledger ≡ N.name) × (N.parts ≡ 1025) × (fresh.queue ≡ N.queue) }
 {
     match Service::<N, FileDisk>::open(rt, alloc, fresh, disk, 1, NoGate) {
-        Ok(_) => Err(Fail::from("opened")),
+        Ok(service) => {
+            drop(service);
+            Err(Fail::from("opened"))
+        }
         Err((fault, disk)) => {
             let number = fault.number();
             drop(fault);
-            if number == 38 {
-                Ok(disk)
-            } else {
-                Err(Fail::from("another fault"))
+            if number != 38 {
+                drop(disk);
+                return Err(Fail::from("another fault"));
             }
+            Ok(disk)
+        }
+    }
+}
+
+// The service on a file, with one worker.
+fn opened<N, R>(
+    rt: &R,
+    alloc: Global,
+    fresh: Fresh,
+    disk: FileDisk,
+) -> Result<Service<N, FileDisk>, Fail>
+where
+    N: Named + Send + Sync + 'static,
+    R: Threads + Wait + Copy + Send + 'static,
+    requires { (fresh.ledger ≡ N.name) × (N.parts ≡ 1025) × (fresh.queue ≡ N.queue) }
+{
+    match Service::open(rt, alloc, fresh, disk, 1, NoGate) {
+        Ok(service) => Ok(service),
+        Err(back) => {
+            drop(back);
+            Err(Fail::from("not opened"))
         }
     }
 }
@@ -62,14 +87,9 @@ where
     R: Threads + Wait + Copy + Send + 'static,
     requires { (fresh.ledger ≡ N.name) × (N.parts ≡ 1025) × (fresh.queue ≡ N.queue) }
 {
-    match Service::<N, FileDisk>::open(rt, alloc, fresh, disk, 1, NoGate) {
-        Ok(service) => {
-            let mut client = service.client(rt, alloc)?;
-            let receipt = service.add(rt, alloc, &mut client, b"a", TEXTS[2])?;
-            Ok(receipt.number == 1)
-        }
-        Err(_) => Ok(false),
-    }
+    let service = opened::<N, R>(rt, alloc, fresh, disk)?;
+    let mut client = service.client(rt, alloc)?;
+    Ok(done_at(service.add(rt, alloc, &mut client, b"a", TEXTS[2])) == 1)
 }
 
 // Finds what the other one added: it is in the base, and in no entry of the new history.
@@ -79,20 +99,19 @@ where
     R: Threads + Wait + Copy + Send + 'static,
     requires { (fresh.ledger ≡ N.name) × (N.parts ≡ 1025) × (fresh.queue ≡ N.queue) }
 {
-    let service = match Service::<N, FileDisk>::open(rt, alloc, fresh, disk, 1, NoGate) {
-        Ok(service) => service,
-        Err(_) => return Ok(false),
-    };
+    let service = opened::<N, R>(rt, alloc, fresh, disk)?;
     let mut client = service.client(rt, alloc)?;
-    let found = service.get(rt, alloc, &mut client, b"a")?;
-    let right = found.receipt().number == 1 && found.unit().stored().source.bytes() == TEXTS[2];
+    let found = is_found(service.get(rt, alloc, &mut client, b"a"), 1, TEXTS[2]);
     match service.finish(rt, alloc, alone(alloc, client)?) {
         Ok(closed) => Ok(
-            right
+            found
                 && closed.history.len() == 1
                 && closed.base.names(alloc)?.len() == 1
                 && shows(alloc, &closed.library, &[Some(2), None, None])?,
         ),
-        Err(_) => Ok(false),
+        Err(back) => {
+            drop(back);
+            Err(Fail::from("not finished"))
+        }
     }
 }

@@ -1,8 +1,9 @@
 // A worker that a gate holds: the other one works, and other clients are answered.
 ghost use Rattle.std.specs.Prelude.{◌≡◌};
 
+use super::reading::number;
 use super::starting::{
-    ALL, Begun, Fused, SMALL, TWO_FUNCTIONS, alone, both, number, opened, prepared,
+    ALL, Begun, Fused, SMALL, TWO_FUNCTIONS, alone, both, ended, opened, prepared,
 };
 use cc_pool::Gate;
 use cc_service::{Client, Named};
@@ -104,10 +105,8 @@ where
     let service = opened::<N, R, Holds>(rt, alloc, begun, 2, gate)?;
     let mut client = service.client(rt, alloc)?;
     let answer = number(service.add(rt, alloc, &mut client, b"a", TWO_FUNCTIONS));
-    match service.finish(rt, alloc, alone(alloc, client)?) {
-        Ok(_) => Ok(answer),
-        Err(_) => Err(Fail::from("not finished")),
-    }
+    drop(ended(rt, alloc, service, alone(alloc, client)?)?);
+    Ok(answer)
 }
 
 #[test]
@@ -118,20 +117,20 @@ fn another_client_is_answered(rt: HostRuntime) -> Result<(), Fail> {
         signs: theirs,
         calls_count: false,
     };
-    let sum = held_by_a_client::<Brand, HostRuntime>(&rt, rt.alloc(), begun, gate, &mine)?;
-    assert_eq!(rt; sum, 0);
+    let numbers = held_by_a_client::<Brand, HostRuntime>(&rt, rt.alloc(), begun, gate, &mine)?;
+    assert_eq!(rt; numbers, (0, 0));
     assert_eq!(rt; mine.ended.load(Ordering::SeqCst), 1);
     Ok(())
 }
 
-// The sum of the numbers of two answers: of an `add` that is held, and of one that is begun and answered during the hold.
+// The numbers of two answers: of an `add` that is held, and of one that is begun and answered during the hold.
 fn held_by_a_client<N, R>(
     rt: &R,
     alloc: Global,
     begun: Begun,
     gate: Holds,
     signs: &Signs,
-) -> Result<u32, Fail>
+) -> Result<(u32, u32), Fail>
 where
     N: Named + Send + Sync + 'static,
     R: Threads + Wait + Copy + Send + Sync + 'static,
@@ -148,10 +147,8 @@ where
     );
     let (one, first) = a;
     let (other, second) = b;
-    match service.finish(rt, alloc, both(alloc, one, other)?) {
-        Ok(_) => Ok(first + second),
-        Err(_) => Err(Fail::from("not finished")),
-    }
+    drop(ended(rt, alloc, service, both(alloc, one, other)?)?);
+    Ok((first, second))
 }
 
 fn adds<N, R>(

@@ -1,9 +1,10 @@
 // An `add` of which a growth is refused. bench/memory_service.sh refuses each allocation of this test in turn, so one in all.
 ghost use Rattle.std.specs.Prelude.{◌≡◌};
 
-use super::starting::{ALL, Begun, Fused, TWO_FUNCTIONS, alone, number, opened, prepared};
+use super::reading::number;
+use super::starting::{ALL, Begun, Device, Fused, TWO_FUNCTIONS, alone, ended, opened, prepared};
 use cc_pool::NoGate;
-use cc_service::{Client, Named};
+use cc_service::{Client, Closed, Named};
 use std::alloc::Global;
 use std::marker::Brand;
 use std::sync::Wait;
@@ -62,19 +63,32 @@ where
     let Some(entries) = adds_twice(rt, alloc, &service, &mut client) else {
         return Ok(false);
     };
-    let ended = match service.finish(rt, alloc, alone(alloc, client)?) {
+    let closed = ended_at_last(rt, alloc, service, alone(alloc, client)?)?;
+    Ok(closed.history.len() == entries && closed.library.list(alloc)?.len() == 1)
+}
+
+// What is left of a service, whose end is asked for again where memory ran out at it.
+fn ended_at_last<N, R>(
+    rt: &R,
+    alloc: Global,
+    service: Fused<N>,
+    clients: Vec<Client<N>>,
+) -> Result<Closed<Device>, Fail>
+where
+    N: Named + Send + Sync + 'static,
+    R: Wait,
+{
+    match service.finish(rt, alloc, clients) {
         Ok(closed) => Ok(closed),
         Err((fault, service, clients)) => {
             let number = fault.number();
             drop(fault);
             if number != 40 {
-                return Ok(false);
+                drop(service);
+                drop(clients);
+                return Err(Fail::from("another fault"));
             }
-            service.finish(rt, alloc, clients)
+            ended(rt, alloc, service, clients)
         }
-    };
-    match ended {
-        Ok(closed) => Ok(closed.history.len() == entries && closed.library.list(alloc)?.len() == 1),
-        Err(_) => Ok(false),
     }
 }

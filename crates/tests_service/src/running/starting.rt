@@ -9,7 +9,7 @@ use crate::model::{Model, shows};
 use cc_disk::{FuseDisk, FuseMode, MemoryDisk};
 use cc_library::UnitMap;
 use cc_pool::Gate;
-use cc_service::{BookFault, Client, Fresh, Named, Service, ServiceFault};
+use cc_service::{Client, Closed, Fresh, Named, Service};
 use std::alloc::Global;
 use std::sync::Wait;
 use std::test::Fail;
@@ -91,26 +91,23 @@ where
     }
 }
 
-/// The number of an answer, 0 for Ok.
-pub fn number<T: Drop>(answer: Result<T, ServiceFault>) -> u32 {
-    match answer {
-        Ok(done) => {
-            drop(done);
-            0
+/// What is left of a service that ends with all its clients.
+pub fn ended<N, R>(
+    rt: &R,
+    alloc: Global,
+    service: Fused<N>,
+    clients: Vec<Client<N>>,
+) -> Result<Closed<Device>, Fail>
+where
+    N: Named + Send + Sync + 'static,
+    R: Wait,
+{
+    match service.finish(rt, alloc, clients) {
+        Ok(closed) => Ok(closed),
+        Err(back) => {
+            drop(back);
+            Err(Fail::from("not finished"))
         }
-        Err(fault) => {
-            let number = fault.number();
-            drop(fault);
-            number
-        }
-    }
-}
-
-/// The number of the entry that says that a name has no unit; 0 where the answer is another.
-pub fn absent_at<T>(answer: &Result<T, ServiceFault>) -> u64 {
-    match answer {
-        Err(ServiceFault::Book(BookFault::Absent(receipt))) => receipt.number,
-        _ => 0,
     }
 }
 
