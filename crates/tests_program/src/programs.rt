@@ -207,7 +207,9 @@ fn has_fault<H: AllocGlobal>(rt: &H, text: &[u8]) -> bool {
     let mut reader = text;
     let mut written = Vec::new(rt.alloc());
     let status = perform(rt, Task::Check, &mut reader, &mut written);
-    status == 1 && written.as_slice().starts_with(b"fault ".as_slice()) && is_one_line(written.as_slice())
+    status == 1
+        && written.as_slice().starts_with(b"fault ".as_slice())
+        && is_one_line(written.as_slice())
 }
 
 // A text that ends anywhere is a program or has one fault line.
