@@ -151,5 +151,8 @@ module _ {D : Type 0} (seen : D → List ℕ) (may_leave : D → List ℕ → Ty
         λ h. reads_on a b d (reads h) (later h),
       )
   ends_on honest failures script now a b (Some d) end heard sound reads (inr (begun, kept)) =
-      inr (begun, kept_on honest (seen a) (seen b) may_leave script end d (λ h. (reads h).same)
-          (subst (λ (o : Option (List ℕ)). IsKept honest (seen b) may_leave o end d) heard kept))
+      inr (
+        begun,
+        kept_on honest (seen a) (seen b) may_leave script end d (λ h. (reads h).same)
+            (subst (λ (o : Option (List ℕ)). IsKept honest (seen b) may_leave o end d) heard kept),
+      )

@@ -45,9 +45,9 @@ pub line_ends : (x y m : Option (List ℕ)) (start old new : Holder) (n : ℕ) (
     → IfSome x (λ b. IsPlayedInPart b start new)
 line_ends x y m start old new n line few one next ended =
     let last = known_then y m (λ b a. IsNext b (Line n) line a) (λ b. (new ≡ old) ⊎ ((a : List ℕ) × Obeys (asked_of (take n line)) b a old new))
-        (λ b. (new ≡ old) ⊎ ((a : List ℕ) × IsStep b a old new)) next ended (λ b k is how. elim how [
-        | inl same ↦ inl same
-        | inr it ↦ inr (it.0, obeyed_step b k it.0 (take n line) old new (short n line few) is it.1)
-        ]) in
+    (λ b. (new ≡ old) ⊎ ((a : List ℕ) × IsStep b a old new)) next ended (λ b k is how. elim how [
+      | inl same ↦ inl same
+      | inr it ↦ inr (it.0, obeyed_step b k it.0 (take n line) old new (short n line few) is it.1)
+    ]) in
     known_then x y (λ b a. Played start old b a) (λ b. (new ≡ old) ⊎ ((a : List ℕ) × IsStep b a old new)) (λ b. IsPlayedInPart b start new) one last
     (λ b k plays how. played_up_to b start plays.0 k old new plays.1 how)

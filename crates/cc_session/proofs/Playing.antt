@@ -74,7 +74,7 @@ line_behind before front between rest after is plain line = record {
   ends = elim line.ends [
     | inl newline ↦ inl (is ∙ (ap (λ (l : List ℕ). front ++ l) newline ∙ sym (append_assoc front rest (10 ∷ after))))
     | inr over ↦ inr (is ∙ ap (λ (l : List ℕ). front ++ l) over.0, over.1)
-    ];
+  ];
 }
 
 -- a line of more bytes than it may have is a step that does nothing

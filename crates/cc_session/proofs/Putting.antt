@@ -36,6 +36,10 @@ skip_step answer Asks name count x y z h read skips =
       rest = it.1 ∷ m;
       front = it.2;
       count_is = it.3;
-      called = inr ((it.1 ∷ []) ++ line.0, omega arith,
-          line_behind (it.1 ∷ m) (it.1 ∷ []) m line.0 a refl (All-cons (λ (byte : ℕ). byte ≢ 10) it.1 [] it.4 (All-nil (λ (byte : ℕ). byte ≢ 10))) line.1, refl);
+      called = inr (
+        (it.1 ∷ []) ++ line.0,
+        omega arith,
+        line_behind (it.1 ∷ m) (it.1 ∷ []) m line.0 a refl (All-cons (λ (byte : ℕ). byte ≢ 10) it.1 [] it.4 (All-nil (λ (byte : ℕ). byte ≢ 10))) line.1,
+        refl,
+      );
     })
