@@ -164,10 +164,11 @@ def refuse(work):
         number += 1
         fresh(path, 4096)
         open(told, "w").close()
-        environment = {**os.environ, "REFUSED": str(number), "LD_PRELOAD": library_path}
-        words = ["bash", "-c", f'exec "$0" "$@" 3> {told}', PROGRAM, "library", path, "--quiet"]
+        # The shell's own memory is not refused.
+        put = f'exec env REFUSED={number} LD_PRELOAD={library_path} "$0" "$@" 3> {told}'
+        words = ["bash", "-c", put, PROGRAM, "library", path, "--quiet"]
         try:
-            ran = subprocess.run(words, input=script(), capture_output=True, text=True, env=environment, timeout=60)
+            ran = subprocess.run(words, input=script(), capture_output=True, text=True, timeout=60)
         except subprocess.TimeoutExpired:
             sys.exit(f"session.py: allocation {number}: the session did not end within a minute")
         answers = Answers(ran.stdout.split("\n")[:-1])
