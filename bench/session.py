@@ -69,6 +69,7 @@ class Answers:
         self.units = {}
         self.number = 0
         self.refused = 0
+        self.may_skip = False
 
     def next(self):
         if not self.lines:
@@ -87,6 +88,10 @@ class Answers:
 
     def counted(self, line):
         self.number += 1
+        # A run that had no memory may have its look in the history.
+        if self.may_skip and line == f"ok {self.number + 1}":
+            self.number += 1
+        self.may_skip = False
         self.want(line, f"ok {self.number}")
 
     def change(self, command):
@@ -116,6 +121,7 @@ class Answers:
     def run(self, name):
         line = self.next()
         if self.is_refused(line):
+            self.may_skip = True
             return
         self.number += 1
         if name not in self.units:
