@@ -69,6 +69,7 @@ class Answers:
         self.units = {}
         self.number = 0
         self.refused = 0
+        self.may_skip = False
 
     def next(self):
         if not self.lines:
@@ -87,6 +88,10 @@ class Answers:
 
     def counted(self, line):
         self.number += 1
+        # A run that had no memory may have its look in the history.
+        if self.may_skip and line == f"ok {self.number + 1}":
+            self.number += 1
+        self.may_skip = False
         self.want(line, f"ok {self.number}")
 
     def change(self, command):
@@ -116,6 +121,7 @@ class Answers:
     def run(self, name):
         line = self.next()
         if self.is_refused(line):
+            self.may_skip = True
             return
         self.number += 1
         if name not in self.units:
@@ -164,10 +170,11 @@ def refuse(work):
         number += 1
         fresh(path, 4096)
         open(told, "w").close()
-        environment = {**os.environ, "REFUSED": str(number), "LD_PRELOAD": library_path}
-        words = ["bash", "-c", f'exec "$0" "$@" 3> {told}', PROGRAM, "library", path, "--quiet"]
+        # The shell's own memory is not refused.
+        put = f'exec env REFUSED={number} LD_PRELOAD={library_path} "$0" "$@" 3> {told}'
+        words = ["bash", "-c", put, PROGRAM, "library", path, "--quiet"]
         try:
-            ran = subprocess.run(words, input=script(), capture_output=True, text=True, env=environment, timeout=60)
+            ran = subprocess.run(words, input=script(), capture_output=True, text=True, timeout=60)
         except subprocess.TimeoutExpired:
             sys.exit(f"session.py: allocation {number}: the session did not end within a minute")
         answers = Answers(ran.stdout.split("\n")[:-1])
