@@ -44,7 +44,7 @@ impl Model for Store {
 }
 
 impl Store {
-    /// A formatted disk of `16 + 2 * area` bytes without a record. Its only fault is want of memory.
+    /// A formatted disk of `16 + 2 * area` bytes without a record. Its only fault is lack of memory.
     pub(crate) fn new(alloc: Global, area: u32) -> Result<Store, AllocError>
         requires least { 64 ≤ area }
         requires most { area ≤ 2 ^ 30 }

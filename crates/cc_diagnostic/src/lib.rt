@@ -10,7 +10,7 @@
 //! runs once more, to tell of a run that went wrong (`wrong`).
 //!
 //! The answers themselves are those of the crates below: what is told here rests on the text and the answer alone, and no promise
-//! rests on it. Each call is safe, ends, and refuses nothing but for want of memory.
+//! rests on it. Each call is safe, ends, and refuses nothing but for lack of memory.
 #![tactic(auto)]
 
 mod around;

@@ -40,7 +40,7 @@ IsParseRefusal text (fault.Unexpected p) = BreaksAt UnexpectedAt text p
 IsParseRefusal text (fault.TooDeep p) = BreaksAt TooDeepAt text p
 IsParseRefusal text f = IsTokenRefusal text f
 
--- what `parse` may answer for a text, want of memory set aside: the tree that it spells, or why it has none
+-- what `parse` may answer for a text, lack of memory set aside: the tree that it spells, or why it has none
 abbrev pub IsParseAnswer : List ℕ → Result (List External) SyntaxFault → Type 0
 IsParseAnswer text (Ok tree) = (length text ≤ most_bytes) × SpellsText text tree
 IsParseAnswer text (Err fault.OutOfMemory) = ⊥

@@ -120,7 +120,7 @@ pub fn trees_are_determined()
     ensures no_fault { SpelledHaveNoFault }
 {}
 
-/// What `parse` answers is a function of the text, want of memory set aside: each text has exactly one answer, its tree or
+/// What `parse` answers is a function of the text, lack of memory set aside: each text has exactly one answer, its tree or
 /// one fault with one number and place.
 pub fn parse_is_determined()
     ensures one { ParseAnswersAreOne }

@@ -43,7 +43,7 @@ IsTypeRefusal s fault =
     ⊎ (((all_offences s.externals ≡ []) × (defines_main s.externals ≡ false) × (fault ≡ NoMain (place_of s.text (length s.text))))
     ⊎ ((all_offences s.externals ≡ []) × (defines_main s.externals ≡ true) × IsFaultOfFirst s.text (undefined_calls s.externals) fault))
 
--- what `check` may answer for a unit, want of memory set aside: no fault where it is typed within the limits, else why it is
+-- what `check` may answer for a unit, lack of memory set aside: no fault where it is typed within the limits, else why it is
 -- refused
 abbrev pub IsTypeAnswer : Source → Option TypeFault → Type 0
 IsTypeAnswer s None = IsTyped s.externals × IsWithinLimits s.externals

@@ -16,7 +16,7 @@ pub data Verdict : Type 0 where
 abbrev pub source_with : List ℕ → List External → Source
 source_with text tree = record { text = text; externals = tree }
 
--- what the two calls may answer for a text, want of memory set aside
+-- what the two calls may answer for a text, lack of memory set aside
 abbrev pub IsVerdict : List ℕ → Verdict → Type 0
 IsVerdict text (NoTree f) = IsParseAnswer text (Err f)
 IsVerdict text (NotTyped f) = (tree : List External) × IsParseAnswer text (Ok tree) × IsTypeAnswer (source_with text tree) (Some f)

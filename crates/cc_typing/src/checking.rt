@@ -188,7 +188,7 @@ fn place_in(text: &[u8], at: usize) -> Place
     place_at(text, at.min(text.len()))
 }
 
-/// What `check` answers is a function of the unit, want of memory set aside: each unit is typed within the limits, or has
+/// What `check` answers is a function of the unit, lack of memory set aside: each unit is typed within the limits, or has
 /// exactly one fault with one number and place. So what `parse` and then `check` answer is a function of the text.
 pub fn check_is_determined()
     ensures one { TypeAnswersAreOne }

@@ -79,7 +79,7 @@ fn status(end: SessionEnd) -> u8 {
     }
 }
 
-/// Does the script on standard input over the library in a file; the status. The error is want of memory before it began.
+/// Does the script on standard input over the library in a file; the status. The error is lack of memory before it began.
 pub fn library<R, E: Write + Drop>(
     rt: &R,
     files: &HostRuntime,

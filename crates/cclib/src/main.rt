@@ -31,7 +31,7 @@ fn main(rt: HostRuntime) -> ExitCode {
     }
 }
 
-// Does a task; the error is want of memory before it began.
+// Does a task; the error is lack of memory before it began.
 fn start<R: AllocGlobal + Input + Print, E: Write + Drop>(
     rt: &R,
     task: Task,
@@ -61,7 +61,7 @@ fn refuse<R: Eprint + Print>(rt: &R, error: Error) -> Result<u8, AllocError> {
     Ok(if error.exit_code() == 0 { 0 } else { 2 })
 }
 
-// The status; the error is want of memory before the work began. Files are opened by a handle of their own.
+// The status; the error is lack of memory before the work began. Files are opened by a handle of their own.
 fn run<R, E: Write + Drop>(
     rt: &R,
     files: &HostRuntime,
