@@ -59,7 +59,7 @@ pub record IsPlayed (script : List ℕ) (first last : Holder) : Type 0 where
   pub turns : List Turn
   pub plays : Plays script first turns [] last
 
--- a front of it is done; of the step behind it perhaps the call, whose answer could not be written
+-- a prefix of it is done; of the step behind it perhaps the call, whose answer could not be written
 pub record IsPlayedInPart (script : List ℕ) (first last : Holder) : Type 0 where
   pub turns : List Turn
   pub rest : List ℕ

@@ -41,7 +41,7 @@ pub record HasClient (script : Option (List ℕ)) (history : List Entry) (Plays 
   pub own : IsOwn last
   pub closed : IsClosed history (last ∷ [])
 
--- The calls of a session, by how it ended: those of the whole script; or of a front of it; none for 30
+-- The calls of a session, by how it ended: those of the whole script; or of a prefix of it; none for 30
 abbrev pub HasCalls : (script : Option (List ℕ)) (history : List Entry) → SessionEnd → Type 0
 HasCalls script history Finished = HasClient script history IsPlayed
 HasCalls script history (Fault number) = ((number ≡ 30) × (history ≡ [])) ⊎ HasClient script history IsPlayedInPart
