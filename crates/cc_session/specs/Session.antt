@@ -46,7 +46,8 @@ abbrev pub HasCalls : (script : Option (List ℕ)) (history : List Entry) → Se
 HasCalls script history Finished = HasClient script history IsPlayed
 HasCalls script history (Fault number) = ((number ≡ 30) × (history ≡ [])) ⊎ HasClient script history IsPlayedInPart
 
--- What is left of a session whose service was ended: its library, with the history of its calls, which are those of the script, from the map on that the disk recovers to.
+-- What is left of a session whose service was ended: its library, with the history of its calls, which are those of the script, from the map
+-- on that the disk recovers to.
 -- Whatever a crash then leaves recovers to that library's map, or to that with or without the change in which the device failed. So it holds
 -- each change that was acknowledged, in order, and each unit in it was there before or agrees with its source.
 pub record IsKept {D : Type 0} (honest : Bool) (bytes : List ℕ) (may_leave : D → List ℕ → Type 0) (script : Option (List ℕ)) (end : SessionEnd) (after : D) : Type 0 where
