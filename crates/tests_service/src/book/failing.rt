@@ -30,13 +30,7 @@ const OPENING: u64 = 6;
 // Whether the library on a disk after a crash has what was acknowledged, with or without the change that failed.
 fn is_promised(alloc: Global, disk: MemoryDisk, state: &State) -> Result<bool, Fail> {
     let library = opened(alloc, disk)?;
-    if shows(alloc, &library, &state.model)? {
-        return Ok(true);
-    }
-    match &state.failed {
-        Some((_, with)) => shows(alloc, &library, with),
-        None => Ok(false),
-    }
+    Ok(shows(alloc, &library, &state.model)? || shows(alloc, &library, &state.with)?)
 }
 
 // Plays the calls on a device that passes so many of its calls: the place of the one answered 35. An error where a crash leaves another
@@ -60,10 +54,7 @@ fn failed_at<R: Threads + Wait + Copy + Send + 'static>(
             return Err(Fail::from("another map after a crash"));
         }
     }
-    match played.state.failed {
-        Some((place, _)) => Ok(Some(place)),
-        None => Ok(None),
-    }
+    Ok(played.state.failed)
 }
 
 #[test]

@@ -23,8 +23,10 @@ use std::thread::Threads;
 pub struct State {
     /// The map with each change that was answered Ok.
     pub model: Model,
-    /// Where a call was answered 35: its place, and the map with its change.
-    pub failed: Option<(usize, Model)>,
+    /// The place of the call that was answered 35, where one was.
+    pub failed: Option<usize>,
+    /// The map with that call's change too, where one was.
+    pub with: Model,
     entries: usize,
 }
 
@@ -125,9 +127,15 @@ fn recorded<N: Named>(
     } else {
         state.model
     };
+    let with = if state.failed.is_none() {
+        model
+    } else {
+        state.with
+    };
     Some(State {
         model,
         failed: state.failed,
+        with,
         entries,
     })
 }
@@ -148,9 +156,12 @@ fn refused(state: &State, place: usize, call: Call, number: u32) -> Option<State
     match number {
         0 => if compacts { Some(*state) } else { None },
         35 => if number_of(&state.model, call) == 0 {
+            let with = after(&state.model, call);
+            let model = state.model;
             Some(State {
-                model: state.model,
-                failed: Some((place, after(&state.model, call))),
+                model,
+                failed: Some(place),
+                with,
                 entries: state.entries,
             })
         } else {
@@ -248,6 +259,7 @@ where
     let mut state = State {
         model: EMPTY,
         failed: None,
+        with: EMPTY,
         entries: 0,
     };
     for (place, (first, call)) in calls.iter().enumerate() {
