@@ -3,19 +3,24 @@
 //! `make FILE AREA` makes the file and formats it, with areas of AREA bytes. `add FILE COUNT SOURCE WORDS` adds COUNT units, or as
 //! many as fit, each with SOURCE bytes of source and WORDS words of code, and prints the number of each once it is acknowledged.
 //! `count FILE SOURCE WORDS` prints how many there are, where they are those. `open FILE TIMES` opens the library on the file and
-//! reads the file so many times each, in turn, and prints the least time of each in nanoseconds.
+//! reads the file so many times each, in turn, and prints the least time of each in nanoseconds. `commits FILE COUNT SOURCE WORDS` adds
+//! COUNT units to a library in memory and to the one on the file, and prints the mean time of a commit of each in nanoseconds.
 //! `write FILE OFFSET LENGTH` writes so many bytes from that offset on, and prints the number of the answer, 0 for Ok.
 
 use crate::arguments::{next_argument, next_number};
 use crate::units::{name_of, next_unit};
 use anyhow::{Result, bail};
-use cc_disk::{Disk, FileDisk};
+use cc_disk::{Disk, FileDisk, MemoryDisk};
 use cc_journal::format;
 use cc_library::{Library, LibraryFault};
+use cc_unit::StoredUnit;
 use std::env::Args;
 use std::fs;
 use std::sync::Arc;
 use std::time::Instant;
+
+/// Room for one unit of 16 KiB.
+const AREA_OF_ONE: u32 = 17_000;
 
 /// The task that the next words name.
 pub fn perform(rt: &HostRuntime, arguments: &mut Args) -> Result<()> {
@@ -26,6 +31,7 @@ pub fn perform(rt: &HostRuntime, arguments: &mut Args) -> Result<()> {
         "add" => add(rt, file.as_str(), arguments),
         "count" => count(rt, file.as_str(), arguments),
         "open" => open(rt, file.as_str(), next_number(arguments)?),
+        "commits" => commits(rt, file.as_str(), arguments),
         "write" => write(rt, file.as_str(), arguments),
         _ => bail!("no such task"),
     }
@@ -95,6 +101,43 @@ fn open(rt: &HostRuntime, path: &str, times: u32) -> Result<()> {
     }
     println!(rt; "{opening} {reading}")?;
     Ok(())
+}
+
+// The mean times of a commit in memory, each to a library of its own with room for one unit, and of a commit to the file.
+fn commits(rt: &HostRuntime, path: &str, arguments: &mut Args) -> Result<()> {
+    let alloc = rt.alloc();
+    let count = next_number(arguments)?;
+    let unit = Arc::new(alloc, next_unit(alloc, arguments)?)?;
+    let mut memory = 0u128;
+    for _ in 0..count {
+        memory = memory.saturating_add(one_in_memory(rt, &unit)?);
+    }
+    let mut library = opened(rt, path)?;
+    let start = Instant::now(rt)?;
+    for number in 0..count as usize {
+        library.add(alloc, name_of(alloc, number)?, Arc::try_clone(&unit)?)?;
+    }
+    let file = start.elapsed(rt)?.as_nanos();
+    let times = u128::from(count.max(1));
+    println!(rt; "{} {}", memory / times, file / times)?;
+    Ok(())
+}
+
+// The time of one commit to a new library in memory.
+fn one_in_memory(rt: &HostRuntime, unit: &Arc<StoredUnit>) -> Result<u128> {
+    let alloc = rt.alloc();
+    let mut disk = MemoryDisk::new(alloc, 16 + 2 * AREA_OF_ONE as usize)?;
+    format(&mut disk, AREA_OF_ONE)?;
+    let mut library = match Library::open(alloc, disk) {
+        Ok(library) => library,
+        Err((fault, disk)) => {
+            drop(disk);
+            return Err(fault.into());
+        }
+    };
+    let start = Instant::now(rt)?;
+    library.add(alloc, name_of(alloc, 0)?, Arc::try_clone(unit)?)?;
+    Ok(start.elapsed(rt)?.as_nanos())
 }
 
 fn write(rt: &HostRuntime, path: &str, arguments: &mut Args) -> Result<()> {

@@ -16,7 +16,7 @@ use crate::end::SessionEnd;
 use crate::talk::Talk;
 use cc_disk::Disk;
 use cc_library::{Library, LibraryFault, UnitMap};
-use cc_pool::NoGate;
+use cc_pool::{Gate, NoGate};
 use cc_script::ScriptFault;
 use cc_service::{Client, Closed, Fresh, Named, Service, ServiceFault};
 use std::alloc::Global;
@@ -187,12 +187,13 @@ where
 }
 
 // Opens a service, does a script and ends the service.
-fn serve<N, H, R, W, E, D>(
+fn serve<N, H, R, W, E, D, G>(
     rt: &H,
     alloc: Global,
     talk: &mut Talk<R, W, E>,
     begun: Begun<D>,
     workers: usize,
+    gate: G,
 ) -> (Option<D>, SessionEnd)
 where
     N: Named + Send + Sync + 'static,
@@ -201,6 +202,7 @@ where
     W: Write,
     E: Write,
     D: Disk + Drop,
+    G: Gate + Drop + Send + Sync + 'static,
     requires ledger { begun.fresh.ledger ≡ N.name }
     requires parts { N.parts ≡ 1025 }
     requires queue { begun.fresh.queue ≡ N.queue }
@@ -216,6 +218,7 @@ where
     } = begun;
     let Ok(mut clients) = Vec::with_capacity(alloc, 1) else {
         drop(fresh);
+        drop(gate);
         let number = refused(
             alloc,
             talk,
@@ -223,7 +226,7 @@ where
         );
         return (Some(disk), SessionEnd::Fault(number));
     };
-    match Service::<N, D>::open(rt, alloc, fresh, disk, workers, NoGate) {
+    match Service::<N, D>::open(rt, alloc, fresh, disk, workers, gate) {
         Ok(service) => {
             let played = play(rt, alloc, talk, &service, &mut clients);
             finish(rt, alloc, talk, service, clients, played)
@@ -237,8 +240,9 @@ where
 }
 
 /// Does the commands of a script as `session` does, and writes to `explanations` what helps a person with a fault: the place in the source
-/// that was sent, as `check` tells it, or a few words. Where such a write fails the session goes on.
-pub fn session_and_explain<H, R: Read, W: Write, E: Write, D: Disk + Drop>(
+/// that was sent, as `check` tells it, or a few words. Where such a write fails the session goes on. The workers pass `gate`, so that who
+/// waits can be told how far a long `add` is.
+pub fn session_and_explain<H, R: Read, W: Write, E: Write, D: Disk + Drop, G>(
     rt: &H,
     alloc: Global,
     reader: &mut R,
@@ -246,19 +250,22 @@ pub fn session_and_explain<H, R: Read, W: Write, E: Write, D: Disk + Drop>(
     explanations: &mut E,
     disk: D,
     workers: usize,
+    gate: G,
 ) -> (Option<D>, SessionEnd)
 where
     H: Threads + Wait + Copy + Send + 'static,
+    G: Gate + Drop + Send + Sync + 'static,
     requires some { 1 ≤ workers }
     requires few { workers ≤ 8 }
     ensures answers { SessionEnds D.honest D.seen D.may_leave D.moment D.left_since D.failures (R.remaining reader.old) disk result.0 result.1 }
 {
     let mut talk = Talk::new(reader, writer, explanations);
     match begin(alloc, disk) {
-        Ok(begun) => serve::<Brand, H, &mut R, &mut W, &mut E, D>(
-            rt, alloc, &mut talk, begun, workers,
+        Ok(begun) => serve::<Brand, H, &mut R, &mut W, &mut E, D, G>(
+            rt, alloc, &mut talk, begun, workers, gate,
         ),
         Err((fault, disk)) => {
+            drop(gate);
             let number = refused(alloc, &mut talk, ServiceFault::Opening(fault));
             (Some(disk), SessionEnd::Fault(number))
         }
@@ -285,5 +292,14 @@ where
     requires few { workers ≤ 8 }
     ensures answers { SessionEnds D.honest D.seen D.may_leave D.moment D.left_since D.failures (R.remaining reader.old) disk result.0 result.1 }
 {
-    session_and_explain(rt, alloc, reader, writer, &mut io::sink(), disk, workers)
+    session_and_explain(
+        rt,
+        alloc,
+        reader,
+        writer,
+        &mut io::sink(),
+        disk,
+        workers,
+        NoGate,
+    )
 }

@@ -5,6 +5,7 @@ ghost use Rattle.std.specs.Prelude.{◌≤◌};
 use cc_disk::FileDisk;
 use cc_journal::format;
 use cc_library::LibraryFault;
+use cc_pool::Gate;
 use cc_session::{SessionEnd, explain_words, session, session_and_explain};
 use std::alloc::AllocError;
 use std::io::{self, BufWriter, Input, Print, Write};
@@ -25,6 +26,26 @@ pub struct Asked<'a> {
     pub is_quiet: bool,
     /// Whether the script comes from a person.
     pub is_typed: bool,
+    /// Whether a person sees standard error.
+    pub is_watched: bool,
+}
+
+// Tells a person how far a long `add` is: the workers pass it before each function.
+#[derive(Drop)]
+struct Progress<R> {
+    rt: R,
+    is_shown: bool,
+}
+
+/// How many functions are compiled between two words about them.
+const STEP: u32 = 16;
+
+impl<R: Eprint> Gate for Progress<R> {
+    fn before(&self, _job: u64, piece: u32) {
+        if self.is_shown && piece > 0 && piece % STEP == 0 {
+            let _ = eprintln!(self.rt; "cclib: compiling, {piece} functions so far");
+        }
+    }
 }
 
 /// What is told where there is no disk on the file for 35.
@@ -87,7 +108,7 @@ pub fn library<R, E: Write + Drop>(
     errors: E,
 ) -> Result<u8, AllocError>
 where
-    R: AllocGlobal + Input + Print + Threads + Wait + Copy + Send + 'static,
+    R: AllocGlobal + Input + Print + Eprint + Threads + Wait + Copy + Send + Sync + 'static,
     requires some { 1 ≤ asked.workers }
     requires few { asked.workers ≤ 8 }
 {
@@ -116,6 +137,10 @@ where
             let _ = errors.write_all(GREETING.as_bytes());
             let _ = errors.flush();
         }
+        let progress = Progress {
+            rt: *rt,
+            is_shown: asked.is_watched,
+        };
         session_and_explain(
             rt,
             rt.alloc(),
@@ -124,6 +149,7 @@ where
             &mut errors,
             disk,
             asked.workers,
+            progress,
         )
     };
     drop(disk);

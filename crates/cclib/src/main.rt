@@ -19,10 +19,20 @@ use std::rt::Env;
 use std::sync::Wait;
 use std::thread::Threads;
 
+// Where a person sits: who writes standard input, and who sees standard error.
+#[derive(Clone, Copy)]
+struct Persons {
+    is_typed: bool,
+    is_watched: bool,
+}
+
 /// Does what the command line asks; the status is 0 for an answer, 1 for a fault, 2 for a refused command line.
 fn main(rt: HostRuntime) -> ExitCode {
-    let is_typed = rt.stdin().is_terminal();
-    match run(&rt, &rt, rt.stderr(), is_typed) {
+    let persons = Persons {
+        is_typed: rt.stdin().is_terminal(),
+        is_watched: rt.stderr().is_terminal(),
+    };
+    match run(&rt, &rt, rt.stderr(), persons) {
         Ok(status) => ExitCode::from(status),
         Err(_) => {
             let _ = Fault::OutOfMemory.write_line(b"", &mut io::writer(&rt));
@@ -66,10 +76,10 @@ fn run<R, E: Write + Drop>(
     rt: &R,
     files: &HostRuntime,
     errors: E,
-    is_typed: bool,
+    persons: Persons,
 ) -> Result<u8, AllocError>
 where
-    R: AllocGlobal + Env + Input + Print + Eprint + Threads + Wait + Copy + Send + 'static,
+    R: AllocGlobal + Env + Input + Print + Eprint + Threads + Wait + Copy + Send + Sync + 'static,
 {
     reserve_stack(rt.alloc())?;
     let words = match std::env::args(rt) {
@@ -98,7 +108,8 @@ where
                 area,
                 workers,
                 is_quiet,
-                is_typed,
+                is_typed: persons.is_typed,
+                is_watched: persons.is_watched,
             };
             library(rt, files, asked, errors)
         }
