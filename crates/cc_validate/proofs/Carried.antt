@@ -102,7 +102,7 @@ contradicted_is node block es s1 after (e, i, is) = (go (carried node block es) 
 
 -- ---- one move, by the bits
 
-same_number : (a b : Location) → IsPlace a → IsPlace b → number a ≡ number b → a ≡ b
+pub same_number : (a b : Location) → IsPlace a → IsPlace b → number a ≡ number b → a ≡ b
 same_number (Register a) (Register b) h k e = ap {B = Location} Register e
 same_number (Slot a) (Slot b) h k e = ap {B = Location} Slot (let i : 32 + a ≡ 32 + b = e in omega arith)
 same_number (Register a) (Slot b) h k e = absurd (let i : a ≡ 32 + b = e in omega arith)
@@ -115,7 +115,7 @@ other_place a b d = go (same_location a b) refl
     go true e = absurd (d (same_place_is a b e))
     go false e = e
 
-same_test : (a b : Location) → a ≡ b → same_location a b ≡ true
+pub same_test : (a b : Location) → a ≡ b → same_location a b ≡ true
 same_test a b e = subst (λ x. same_location a x ≡ true) e (same_place_refl a)
 
 module _ (old new : Table) (m : Move) (from : IsPlace (target m)) (to : IsPlace (source m)) (h : (r c : ℕ) → has new r c ≡ column_moved (number (target m)) (number (source m)) (has old) r c) where

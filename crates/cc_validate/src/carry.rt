@@ -14,10 +14,11 @@ use crate::operation::operate;
 use crate::set::EquationSet;
 use cc_ltl::Block;
 use cc_rtl::Node;
-use std::alloc::AllocError;
+use std::alloc::{AllocError, Global};
 
 /// What is to hold in front of a block, of what is to hold behind it. Rows are made with room for so many words of locations.
 pub fn carry(
+    alloc: Global,
     node: &Node,
     block: &Block,
     behind: &EquationSet,
@@ -29,12 +30,13 @@ pub fn carry(
 {
     match behind.equations() {
         None => Ok(EquationSet::contradiction()),
-        Some(equations) => carry_all(node, block, equations, width),
+        Some(equations) => carry_all(alloc, node, block, equations, width),
     }
 }
 
 /// The same of some equations.
 fn carry_all(
+    alloc: Global,
     node: &Node,
     block: &Block,
     behind: &Equations,
@@ -44,12 +46,12 @@ fn carry_all(
     requires width { width ≤ most_width }
     ensures { IfOk result (λ front. Equivalent Below front (through (node_of node.now) block.now (Some behind.now))) }
 {
-    let behind = behind.copy(width)?.carry(block.after.moves())?;
+    let behind = behind.copy(width)?.carry(alloc, block.after.moves())?;
     match operate(behind, node, &block.operation)? {
         None => Ok(EquationSet::contradiction()),
         Some(mut front) => {
             put_operands(&mut front, node, &block.operation)?;
-            Ok(EquationSet::of(front.carry(block.before.moves())?))
+            Ok(EquationSet::of(front.carry(alloc, block.before.moves())?))
         }
     }
 }

@@ -56,7 +56,7 @@ impl<'a> Transfer<EquationSet> for Code<'a> {
     ) -> Result<EquationSet, AllocError> {
         let _few = self.rtl.len();
         match self.rtl.at(node) {
-            Some(rtl) => carry(rtl, &self.blocks[node], facts, self.width),
+            Some(rtl) => carry(alloc, rtl, &self.blocks[node], facts, self.width),
             None => EquationSet::least(alloc),
         }
     }

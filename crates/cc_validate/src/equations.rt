@@ -1,23 +1,26 @@
 //! Sets of equations without a contradiction. What lies in this file alone is how a set is kept: as rows of bits, a row for each
 //! pseudo-register, and in it a bit for each location. Rows past the last one with an equation take no memory, and rows are no wider than
-//! the locations of the function ask.
+//! the locations of the function ask. Through moves a set goes one by one, column to column; through more moves than there are locations
+//! it goes at once, by a table of where each location's word comes from.
 
-ghost use Rattle.std.specs.Prelude.{◌≡◌, ◌<◌, ◌≤◌, ◌^◌, ◌↔◌, ◌≢◌, ◌==◌, ◌&&◌, ◌∷◌, [], ℕ, Some, Contains, if◌then◌else◌, IfOk, IfErr, IsTrue, IsFalse};
+ghost use Rattle.std.specs.Prelude.{◌≡◌, ◌+◌, ◌<◌, ◌≤◌, ◌^◌, ◌↔◌, ◌≢◌, ◌==◌, ◌&&◌, ◌∷◌, [], ℕ, Some, Contains, get_or, length, if◌then◌else◌, IfOk, IfErr, IsTrue, IsFalse};
 ghost use Rattle.cc_flow.specs.Lattice.{Equivalent};
 ghost use Rattle.cc_rows.specs.Rows.{has, most_width, most_rows};
 ghost use Rattle.cc_ltl.specs.Ltl.{same_location};
 ghost use Rattle.cc_validate.specs.Equations.{before_moves, equation};
 ghost use Rattle.cc_validate.specs.Solution.{IsAtEntry};
 ghost use Rattle.cc_validate.specs.internal.Facts.{Below, join as join_of};
-ghost use Rattle.cc_validate.specs.internal.Room.{room as room_of, IsPlace};
+ghost use Rattle.cc_validate.specs.internal.Room.{room as room_of, IsPlace, most_places};
 ghost use Rattle.cc_validate.specs.internal.Table.{number as number_of, listed, AreEquations};
 ghost use Rattle.cc_validate.specs.internal.Carried.{AreCarried, AreLeft, AreWith, IsEntryBit};
+ghost use Rattle.cc_validate.specs.internal.Origins.{AreSent};
 ghost use Rattle.cc_ltl.specs.declared.location.Location.TheVariants.{Register as in_register};
 ghost use Rattle.cc_validate.specs.declared.equation.Equation.{Equation};
 
 use crate::equation::Equation;
-use crate::moves::{source, target};
-use cc_ltl::{Location, Move};
+use crate::moves::{number, source, target};
+use crate::origins::{PLACES, origins};
+use cc_ltl::Move;
 use cc_rows::BitRows;
 use std::alloc::{AllocError, Global};
 use std::marker::Model;
@@ -41,17 +44,6 @@ impl Model for Equations {
     ghost view = { λ s. listed s.bits };
 
     ghost invariant = { λ s. AreEquations s.bits };
-}
-
-/// The bit of a location: registers, then slots.
-fn number(location: Location) -> usize
-    ensures number { result ≡ number_of location }
-    ensures place { IsPlace location }
-{
-    match location {
-        Location::Register(register) => register.number() as usize,
-        Location::Slot(slot) => 32 + slot.number() as usize,
-    }
 }
 
 /// The row of an equation.
@@ -103,10 +95,14 @@ impl Equations {
     }
 
     /// Becomes what has to hold in front of moves, so that it holds behind them.
-    pub fn carry(self, moves: &[Move]) -> Result<Equations, AllocError>
+    pub fn carry(self, alloc: Global, moves: &[Move]) -> Result<Equations, AllocError>
         ensures { IfOk result (λ made. AreCarried (before_moves moves.now) self made) }
     {
         let Equations { mut bits } = self;
+        if moves.len() > PLACES {
+            let bits = carry_at_once(alloc, &bits, moves)?;
+            return Ok(Equations { bits });
+        }
         carry_bits(&mut bits, moves)?;
         Ok(Equations { bits })
     }
@@ -171,6 +167,42 @@ fn carry_bits(bits: &mut BitRows, moves: &[Move]) -> Result<(), AllocError>
         left -= 1;
         let m = &moves[left];
         bits.move_column(number(target(m)), number(source(m)))?;
+    }
+    Ok(())
+}
+
+/// The same of bits, each put at once where its word comes from: made anew, by a table.
+fn carry_at_once(alloc: Global, bits: &BitRows, moves: &[Move]) -> Result<BitRows, AllocError>
+    requires { AreEquations bits.now }
+    ensures bits { IfOk result (λ made. AreEquations made) }
+    ensures carried { IfOk result (λ made. AreCarried (before_moves moves.now) (listed bits.now) (listed made)) }
+{
+    let origins = origins(alloc, moves)?;
+    let mut made = BitRows::new(alloc);
+    for r in 0..bits.rows() {
+        put_row(bits, r, origins.as_slice(), &mut made)?;
+    }
+    Ok(made)
+}
+
+/// Puts in the bits of one row, behind those of the rows before it.
+fn put_row(
+    bits: &BitRows,
+    r: usize,
+    origins: &[usize],
+    made: &mut BitRows,
+) -> Result<(), AllocError>
+    requires row { r < most_rows }
+    requires bits { AreEquations bits.now }
+    requires long { length origins.now ≡ most_places }
+    requires places { (c : ℕ) → get_or origins.now c 0 < most_places }
+    requires before { AreSent (λ i c. (i < r) × IsTrue (has bits.now i c)) origins.now made.old }
+    ensures { IfOk result (λ _. AreSent (λ i c. (i < r + 1) × IsTrue (has bits.now i c)) origins.now made.new) }
+{
+    for (c, origin) in origins.iter().enumerate() {
+        if bits.contains(r, c) {
+            made.insert(r, *origin)?;
+        }
     }
     Ok(())
 }

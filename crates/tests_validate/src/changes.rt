@@ -236,7 +236,8 @@ pub fn changed_moves(
     Ok(Some(changed))
 }
 
-fn as_moves(moves: Vec<Move>) -> Result<Moves, Fail> {
+/// Moves of a block, where there are not too many.
+pub fn as_moves(moves: Vec<Move>) -> Result<Moves, Fail> {
     match Moves::new(moves) {
         Ok(moves) => Ok(moves),
         Err(moves) => {

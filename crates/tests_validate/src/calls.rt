@@ -1,0 +1,90 @@
+// Where a value may stand while another function runs. By the standard calling convention of RISC-V a call keeps x8, x9 and x18 to x27
+// (s0 to s11), and whatever stands in another register is lost.
+
+use super::changes::as_moves;
+use super::pairs::{pair_of, unit_of};
+use cc_colour::spill_all;
+use cc_ltl::{Block, Ltl, Move, Moves, Register};
+use cc_validate::validate;
+use std::alloc::Global;
+use std::test::Fail;
+
+// Function 1 needs its parameter once more, behind a call and without one.
+static BEHIND_A_CALL: &str = "int g(void){return 7;}int f(int x){g();return x;}int main(void){}";
+
+static WITHOUT_A_CALL: &str = "int g(void){return 7;}int f(int x){return x;}int main(void){}";
+
+static KEPT: [u8; 12] = [8, 9, 18, 19, 20, 21, 22, 23, 24, 25, 26, 27];
+
+// The parameter in that register, in place of slot 0, where `spill_all` puts it.
+fn moved(each: Move, place: Register) -> Move {
+    match each {
+        Move::Spill { slot, from } if slot.number() == 0 => Move::Between { to: place, from },
+        Move::Reload { to, slot } if slot.number() == 0 => Move::Between { to, from: place },
+        other => other,
+    }
+}
+
+fn all_moved(alloc: Global, moves: &[Move], place: Register) -> Result<Moves, Fail> {
+    let mut made = Vec::new(alloc);
+    for each in moves {
+        made.push(moved(*each, place))?;
+    }
+    as_moves(made)
+}
+
+fn in_register(alloc: Global, spilled: &Ltl, place: Register) -> Result<Ltl, Fail> {
+    let mut blocks = Vec::new(alloc);
+    for block in spilled.blocks() {
+        blocks.push(Block {
+            label: block.label,
+            before: all_moved(alloc, block.before.moves(), place)?,
+            operation: block.operation,
+            after: all_moved(alloc, block.after.moves(), place)?,
+        })?;
+    }
+    match Ltl::new(spilled.slots(), spilled.entry(), blocks) {
+        Ok(ltl) => Ok(ltl),
+        Err(blocks) => {
+            drop(blocks);
+            Err(Fail::from("no function"))
+        }
+    }
+}
+
+// What the validator says of the function with its parameter in a register all the time: a fault's number, or 0.
+fn answer(alloc: Global, text: &str, place: Register) -> Result<u32, Fail> {
+    let unit = unit_of(alloc, text)?;
+    let pair = pair_of(alloc, &unit, 1)?;
+    let spilled = spill_all(alloc, pair.code())?;
+    let ltl = in_register(alloc, &spilled, place)?;
+    match validate(alloc, pair, ltl) {
+        Ok(_) => Ok(0),
+        Err(refused) => Ok(refused.fault.number()),
+    }
+}
+
+#[test]
+fn a_value_lives_over_a_call_in_a_kept_register_alone(rt: HostRuntime) -> Result<(), Fail> {
+    for number in 7..32u8 {
+        let Some(place) = Register::new(number) else {
+            return Err(Fail::from("no register"));
+        };
+        let wanted = if KEPT.as_slice().contains(&number) {
+            0
+        } else {
+            24
+        };
+        assert_eq!(rt;
+            answer(rt.alloc(), BEHIND_A_CALL, place)?,
+            wanted,
+            "x{number} over a call"
+        );
+        assert_eq!(rt;
+            answer(rt.alloc(), WITHOUT_A_CALL, place)?,
+            0,
+            "x{number} without a call"
+        );
+    }
+    Ok(())
+}

@@ -1,0 +1,102 @@
+// Words that turn through three slots, by few moves and by more than there are locations.
+
+use super::changes::{Change, changed};
+use super::pairs::{pair_of, unit_of};
+use cc_colour::spill_all;
+use cc_ltl::{Ltl, Move, Register, Slot};
+use cc_validate::validate;
+use std::alloc::Global;
+use std::test::Fail;
+
+static TEXT: &str = "int f(int a,int b,int c){return (a-b)/c;}int main(void){}";
+
+fn register(number: u8) -> Result<Register, Fail> {
+    match Register::new(number) {
+        Some(register) => Ok(register),
+        None => Err(Fail::from("no register")),
+    }
+}
+
+fn slot(number: u16) -> Result<Slot, Fail> {
+    match Slot::new(number) {
+        Some(slot) => Ok(slot),
+        None => Err(Fail::from("no slot")),
+    }
+}
+
+// Parameter i goes to slot i + shift, of slots 0 to 2 in a ring; then each of the three words goes to the slot below, so many times.
+fn turned(alloc: Global, shift: u16, turns: u32) -> Result<Vec<Move>, Fail> {
+    let mut moves = Vec::new(alloc);
+    for number in 0..3u8 {
+        moves.push(Move::Spill {
+            slot: slot(u16::from(number).saturating_add(shift) % 3)?,
+            from: register(10 + number)?,
+        })?;
+    }
+    for _ in 0..turns {
+        turn(&mut moves)?;
+    }
+    Ok(moves)
+}
+
+fn turn(moves: &mut Vec<Move>) -> Result<(), Fail> {
+    let (lowest, over) = (register(30)?, register(31)?);
+    moves.push(Move::Reload {
+        to: lowest,
+        slot: slot(0)?,
+    })?;
+    for number in 0..2u16 {
+        moves.push(Move::Reload {
+            to: over,
+            slot: slot(number + 1)?,
+        })?;
+        moves.push(Move::Spill {
+            slot: slot(number)?,
+            from: over,
+        })?;
+    }
+    moves.push(Move::Spill {
+        slot: slot(2)?,
+        from: lowest,
+    })?;
+    Ok(())
+}
+
+fn entry_place(ltl: &Ltl) -> usize {
+    for (place, block) in ltl.blocks().iter().enumerate() {
+        if block.label == ltl.entry() {
+            return place;
+        }
+    }
+    ltl.blocks().len()
+}
+
+// What the validator says where the parameters get to their slots so: a fault's number, or 0.
+fn answer(alloc: Global, shift: u16, turns: u32) -> Result<u32, Fail> {
+    let unit = unit_of(alloc, TEXT)?;
+    let pair = pair_of(alloc, &unit, 0)?;
+    let spilled = spill_all(alloc, pair.code())?;
+    let change = Change::Before(turned(alloc, shift, turns)?);
+    let Some(ltl) = changed(alloc, &spilled, entry_place(&spilled), change)? else {
+        return Err(Fail::from("no function"));
+    };
+    match validate(alloc, pair, ltl) {
+        Ok(_) => Ok(0),
+        Err(refused) => Ok(refused.fault.number()),
+    }
+}
+
+#[test]
+fn words_are_where_the_turns_leave_them(rt: HostRuntime) -> Result<(), Fail> {
+    for turns in [0u32, 1, 2, 3, 87, 88, 89, 90, 9_999, 10_000, 10_001] {
+        for shift in 0..3u16 {
+            let wanted = if turns % 3 == u32::from(shift) { 0 } else { 24 };
+            assert_eq!(rt;
+                answer(rt.alloc(), shift, turns)?,
+                wanted,
+                "{turns} turns, shifted by {shift}"
+            );
+        }
+    }
+    Ok(())
+}
