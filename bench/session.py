@@ -6,6 +6,9 @@ session.py refuse [FOLDER]             each allocation of a session, from its fi
                                        find the units that were acknowledged, and no others
 session.py workers [FOLDER [COUNT]]    the time of COUNT (20) `add`s of a unit of 64 functions with 1 worker by that with 2, 3 and 4, in turn, ten
                                        rounds; the best of each counts, without the best of a session of no command
+session.py commits [FOLDER [COUNT]]    commits a second of one client, COUNT (960) calls that each compile a text and put its unit under one name, by
+                                       those of sqlite (sqlite.c: WAL, synchronous FULL, one connection) that puts as many bytes, in turn, five
+                                       rounds; the best of each counts, ours without the best of a session of no command. Needs libsqlite3-dev
 
 The file lies in FOLDER (this one). The program has to be built (./cclib), or CCLIB names one that is; refuse needs gcc."""
 
@@ -227,14 +230,43 @@ def workers(work, count):
     print(f"load {os.getloadavg()[0]:.1f} on {os.cpu_count()} processors")
 
 
+def commits(work, count):
+    path, base, program = (os.path.join(work, it) for it in ("disk", "base", "sqlite"))
+    subprocess.run(["gcc", "-O2", "-pthread", "-o", program, os.path.join(TOP, "bench/sqlite.c"), "-lsqlite3"], check=True)
+    fresh(path, 4096)
+    library(path, f"add a {len(UNIT)}\n{UNIT}\n")
+    with open(path, "rb") as disk:
+        length = int.from_bytes(disk.read()[17:21], "little")
+    ours, theirs, idle = [], [], []
+    for _ in range(5):
+        for lines in ("", "".join(f"{'replace' if it else 'add'} a {len(UNIT)}\n{UNIT}\n" for it in range(count))):
+            fresh(path, 400 * count)
+            begin = time.perf_counter()
+            done = library(path, lines, "--workers", "4")
+            (ours if lines else idle).append(time.perf_counter() - begin)
+            if done.returncode or done.stdout.count("ok ") != (count if lines else 0):
+                sys.exit(f"session.py: {done.stdout[:200]!r}")
+        for name in (base, base + "-wal", base + "-shm"):
+            if os.path.exists(name):
+                os.remove(name)
+        said = subprocess.run([program, base, "1", str(count), str(length)], capture_output=True, text=True, check=True).stdout.split()
+        if int(said[0]) != count:
+            sys.exit(f"session.py: sqlite acknowledged {said[0]} of {count}")
+        theirs.append(int(said[1]) / 1e9)
+    net = min(ours) - min(idle)
+    print(f"one client, bodies of {length} bytes: {count / net:.0f} commits a second, sqlite {count / min(theirs):.0f}; ratio {min(theirs) / net:.2f}")
+
+
 def main():
-    if len(sys.argv) < 2 or sys.argv[1] not in ("refuse", "workers"):
+    if len(sys.argv) < 2 or sys.argv[1] not in ("refuse", "workers", "commits"):
         sys.exit(__doc__)
     if not os.access(PROGRAM, os.X_OK):
         sys.exit("session.py: build the program first: ./cclib --version does not, ./cclib check does")
     with tempfile.TemporaryDirectory(dir=sys.argv[2] if len(sys.argv) > 2 else ".") as work:
         if sys.argv[1] == "refuse":
             refuse(work)
+        elif sys.argv[1] == "commits":
+            commits(work, int(sys.argv[3]) if len(sys.argv) > 3 else 960)
         else:
             workers(work, int(sys.argv[3]) if len(sys.argv) > 3 else 20)
 
