@@ -17,7 +17,7 @@ use std::thread::Threads;
 const CLIENTS: usize = 16;
 
 /// How many calls each client makes.
-const CALLS: u64 = 40;
+const CALLS: u64 = 500;
 
 #[test]
 fn sixteen_clients(rt: HostRuntime) -> Result<(), Fail> {
