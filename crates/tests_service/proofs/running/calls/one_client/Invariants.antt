@@ -1,0 +1,11 @@
+-- What the parameter names: the ledger and the queue, and the map that was found.
+use Rattle.tests_service.proofs.running.calls.one_client.Given as goal
+
+abbrev pub ghosts-four_calls-N-Ledger : goal.ghosts-four_calls-N-Ledger
+ghosts-four_calls-N-Ledger g a = record { name = a.begun.fresh.ledger; parts = 1025 }
+
+abbrev pub ghosts-four_calls-N-Queued : goal.ghosts-four_calls-N-Queued
+ghosts-four_calls-N-Queued g a = record { queue = a.begun.fresh.queue }
+
+abbrev pub ghosts-four_calls-N-Named : goal.ghosts-four_calls-N-Named
+ghosts-four_calls-N-Named g a = record { base = a.begun.base }
