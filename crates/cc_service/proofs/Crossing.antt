@@ -26,6 +26,7 @@ use Rattle.cc_unit.specs.contracts.unit.Source as Source
 use Rattle.cc_unit.specs.contracts.unit.Source.TheInside as sources
 use Rattle.cc_unit.specs.contracts.unit.StoredUnit as StoredUnit
 use Rattle.cc_unit.specs.contracts.unit.Certificate as Certificate
+use Rattle.cc_unit.specs.contracts.unit.Certificate.TheInside as certificates
 use Rattle.cc_library.specs.contracts.name.Name as Name
 use Rattle.cc_library.specs.contracts.name.NamePartialEq.TheImpl as eq
 use Rattle.cc_library.specs.contracts.name.NamePartialOrd.TheImpl as partial
@@ -95,10 +96,10 @@ image_sync : IsSync (Image.the_field).row
 image_sync = struct_sync (shape Image.the_type) (code_sync, (globals_sync, tt))
 
 certificate_send : IsSend Certificate.the_row
-certificate_send = recorded_send _ _ _ Certificate.the_type.to_one (enum_send (enum_shape Certificate.the_type) tt)
+certificate_send = view_send _ _ _ _ _ (recorded_send certificates.the_field.row _ _ certificates.the_type.to_one (struct_send (shape certificates.the_type) (search (sendable, crosses) depth 20, tt)))
 
 certificate_sync : IsSync Certificate.the_row
-certificate_sync = recorded_sync _ _ _ Certificate.the_type.to_one (enum_sync (enum_shape Certificate.the_type) tt)
+certificate_sync = view_sync _ _ _ _ _ (recorded_sync certificates.the_field.row _ _ certificates.the_type.to_one (struct_sync (shape certificates.the_type) (search (sendable, crosses) depth 20, tt)))
 
 stored_send : IsSend StoredUnit.the_row
 stored_send = recorded_send _ _ _ StoredUnit.the_type.to_one (struct_send (shape StoredUnit.the_type) (source_send, (image_send, (let c = certificate_send in search (sendable, crosses) depth 20, tt))))
