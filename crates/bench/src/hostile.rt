@@ -22,6 +22,7 @@ const SLOTS: u16 = 495;
 
 // Of how many writes the moves have more in front, and how many times a slot's word goes to a register and back there.
 const LONG: u32 = 10;
+
 const TIMES: u16 = 30_000;
 
 /// What is changed.
@@ -185,12 +186,7 @@ fn returned(alloc: Global, before: Vec<Move>, shape: Shape) -> Result<Vec<Move>>
 }
 
 // In front of the write of this number.
-fn before_write(
-    alloc: Global,
-    before: Vec<Move>,
-    shape: Shape,
-    number: u32,
-) -> Result<Vec<Move>> {
+fn before_write(alloc: Global, before: Vec<Move>, shape: Shape, number: u32) -> Result<Vec<Move>> {
     match shape {
         Shape::Equal => {
             drop(before);

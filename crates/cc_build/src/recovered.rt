@@ -19,7 +19,7 @@ use std::alloc::Global;
 /// For every interleaving of clients, workers and committer, with crashes and failures of the disk anywhere in it, from a fresh disk on or
 /// from one that was opened with a library on it.
 pub fn headline<B: Build>()
-    // Whatever a crash leaves of the disk recovers: to the library of a front of the commands in the order of their commits, which holds
+    // Whatever a crash leaves of the disk recovers: to the library of a prefix of the commands in the order of their commits, which holds
     // every acknowledged command and lacks at most the last. This holds of any build, so of the one that compiles, whatever pieces workers
     // hand in, and whatever units were found at the opening; to read it nothing of C is needed.
     ensures survives { (first new : Contents B.Piece) (events : List (Event B.Piece))

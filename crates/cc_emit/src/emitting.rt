@@ -16,7 +16,7 @@ const MOST_ITEMS: usize = 1 << 59;
 /// The code of a function of a unit, as its items: those of `specs/Emission.antt`, at most 15 for an item of Linear or for two of them.
 /// That the machine does with them what the function does belongs to the answer's type.
 ///
-/// It fails only for want of memory (40); the pair is gone then.
+/// It fails only for lack of memory (40); the pair is gone then.
 pub fn emit(alloc: Global, pair: LinearPair) -> Result<Piece, AllocError>
     ensures unit { IfOk result (λ piece. piece.unit ≡ pair.unit) }
     ensures function { IfOk result (λ piece. piece.function ≡ pair.function) }

@@ -11,7 +11,7 @@ pool_fault_number (Piece function fault) = piece_fault_number fault
 pool_fault_number WorkersGone = 41
 pool_fault_number OutOfMemory = 40
 
--- the text is a program's, and this function of it has no piece, for a reason other than want of memory
+-- the text is a program's, and this function of it has no piece, for a reason other than lack of memory
 abbrev pub IsRefusedAt : List ℕ → (function : ℕ) → PieceFault → Type 0
 IsRefusedAt text function fault = ∥ HasNoPiece text function fault ∥₁ × (fault ≢ piece.OutOfMemory)
 

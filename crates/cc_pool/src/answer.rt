@@ -22,7 +22,7 @@ pub enum Answer {
     Refused(Refusal),
 }
 
-/// A function that has no piece, for another reason than want of memory. Contracts see its text, its number and the reason.
+/// A function that has no piece, for another reason than lack of memory. Contracts see its text, its number and the reason.
 #[derive(Drop)]
 pub struct Refusal {
     unit: Arc<TypedUnit>,

@@ -23,7 +23,7 @@ fn words_of(fault: &Fault) -> Option<&'static str> {
     }
 }
 
-/// What is told of a function that is not compiled; nothing of want of memory.
+/// What is told of a function that is not compiled; nothing of lack of memory.
 pub fn of_piece(
     alloc: Global,
     text: &[u8],

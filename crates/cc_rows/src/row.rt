@@ -173,8 +173,7 @@ impl BitRow {
         if lies_within(other.words.as_slice(), self.words.as_slice()) {
             return Ok(false);
         }
-        grow(&mut self.words, other.words.len())?;
-        put_all(&mut self.words, other.words.as_slice());
+        put_words(&mut self.words, other.words.as_slice())?;
         Ok(true)
     }
 }
@@ -222,6 +221,21 @@ fn lies_within(some: &[u64], all: &[u64]) -> bool
         }
     }
     true
+}
+
+/// Puts what one row holds into another. Without memory that one stays as it was.
+fn put_words(into: &mut Vec<u64>, from: &[u64]) -> Result<(), AllocError>
+    ensures both { IfOk result (λ _. (k : ℕ) → holds into.new.items k ≡ (holds into.old.items k || holds from.now k)) }
+    ensures few { (most : ℕ) → length into.old.items ≤ most → length from.now ≤ most → length into.new.items ≤ most }
+    ensures leaves { IfErr result (λ _. into.new.items ≡ into.old.items) }
+{
+    if into.is_empty() {
+        into.extend_from_slice(from)?;
+        return Ok(());
+    }
+    grow(into, from.len())?;
+    put_all(into, from);
+    Ok(())
 }
 
 /// Puts what one row holds into another that is no shorter.
