@@ -17,6 +17,7 @@ use Rattle.cc_resolve.specs.declared.operations.UnaryOperation.{UnaryOperation}
 use Rattle.cc_resolve.specs.declared.operations.UnaryOperation.TheVariants as single
 use Rattle.cc_resolve.specs.declared.operations.BinaryOperation.{BinaryOperation}
 use Rattle.cc_resolve.specs.declared.operations.BinaryOperation.TheVariants as word
+use Rattle.cc_words.specs.declared.operators.Width.TheVariants.{Word}
 use Rattle.cc_cminor.specs.Cminor.{Expression, Constant, Local, Load, Statement, Skip, Set, Store, Sequence, If, Block, Exit, Return}
 use Rattle.cc_cminor.specs.Code.{in_sequence}
 use Rattle.cc_cminor.specs.Size.{expression_size, expressions_size, statement_size}
@@ -146,7 +147,7 @@ module _ (g : Layout) where
     put_size (Variable x) v k = let a = read_size (number_in v.locals x.text) (object_of g x.text) in omega arith
     put_size (Element x e) v k =
         let a = plain_size g v e in
-        let b = used_size (is_plain e) (plain g v e) (put_expr g v k e) k 2 (12 * tokens e) (λ i. Set k (Load (object_of g x.text) i)) (omega arith) (put_size e v k) (λ x. omega arith) in
+        let b = used_size (is_plain e) (plain g v e) (put_expr g v k e) k 2 (12 * tokens e) (λ i. Set k (Load Word (object_of g x.text) i)) (omega arith) (put_size e v k) (λ x. omega arith) in
         omega arith
     put_size (tree.Call f es) v k =
         let a = all_plain_size g v es in
@@ -197,8 +198,8 @@ module _ (g : Layout) where
       let t : Scalar = target_type (types_in v) (AtElement x i) in
       let o : ℕ = object_of g x.text in
       let a = put_size i v (free v) in
-      let b = h (suc (free v)) 9 (λ e. Store o (Local (free v)) (combined op t u (Load o (Local (free v))) e))
-      (λ y. let c = combined_size op t u (Load o (Local (free v))) y in omega arith) in
+      let b = h (suc (free v)) 9 (λ e. Store Word o (Local (free v)) (combined op t u (Load Word o (Local (free v))) e))
+      (λ y. let c = combined_size op t u (Load Word o (Local (free v))) y in omega arith) in
       omega arith
 
   performed_size : (a : Action) (v : Environment) → statement_size (performed g v a) ≤ 12 * action_tokens a

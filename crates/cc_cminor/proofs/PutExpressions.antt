@@ -22,6 +22,7 @@ use Rattle.cc_runs.specs.World as world
 use Rattle.cc_runs.specs.World.{World, Question, Answer, Effect, first_or_zero, rest_of}
 use Rattle.cc_runs.specs.Run as layer
 use Rattle.cc_runs.specs.Run.{Move, Goes, Calls, tried, run, work, act, work_act, work_resumed}
+use Rattle.cc_words.specs.declared.operators.Width.TheVariants.{Word}
 use Rattle.cc_cminor.specs.Cminor.{Expression, Constant, Local, Load, then_value, value, values, put, Statement, Skip, Set, Call, Read, Write, Sequence, If, Continuation, Then, Config, config, chosen, cminor_move}
 use Rattle.cc_cminor.specs.Code.{in_sequence}
 use Rattle.cc_cminor.specs.internal.Lowering.{free, object_of, variable_of, unary_of, truth_of, binary_of, Kind, Conjunction, Disjunction, Strict, kind, is_strict, is_plain, are_plain, plain, all_plain, used, called_on, count, locals_from, last_value, invoked, connected, put_expr, put_all}
@@ -332,10 +333,10 @@ module _ (effect : ℕ → Question → Effect) (g : Layout) where
       puts (Number t w) v k κ l s known le lt h = set_comes k (Constant w) κ v.locals l s (Gives w s) le h (refl, refl)
       puts (Variable x) v k κ l s known le lt h = set_comes k (variable_of g v x.text) κ v.locals l s (Gives (variable_word x.text s) s) le h (refl, variable_value g v x.text s l known h)
       puts (Element x e) v k κ l s known le lt h =
-          used_comes (Puts k κ v.locals l) (is_plain e) (plain g v e) (put_expr g v k e) k (λ i. Set k (Load (object_of g x.text) i)) κ v.locals l s (evaluate e (types_in v) call s) (λ i t. read_element x.text i t) h
+          used_comes (Puts k κ v.locals l) (is_plain e) (plain g v e) (put_expr g v k e) k (λ i. Set k (Load Word (object_of g x.text) i)) κ v.locals l s (evaluate e (types_in v) call s) (λ i t. read_element x.text i t) h
           (λ p. plain_is g call e v l s p known.1 h) (λ μ. puts e v k μ l s known.1 le lt h)
           (λ y m u w less fits same is. puts_from k κ v.locals l m _ u.steps (read_element x.text w u) same
-          (set_comes k (Load (object_of g x.text) y) κ v.locals m u (read_element x.text w u) le fits (subst (λ o. PlainIs (read_element x.text w u) u o) (sym (element_value g x.text y w m u known.0 fits.sized is)) (plain_read x.text w u))))
+          (set_comes k (Load Word (object_of g x.text) y) κ v.locals m u (read_element x.text w u) le fits (subst (λ o. PlainIs (read_element x.text w u) u o) (sym (element_value g x.text y w m u known.0 fits.sized is)) (plain_read x.text w u))))
       puts (tree.Call f es) v k κ l s known le lt h =
           let c : Callee = callee g f.text in
           called_comes (Puts k κ v.locals l) (are_plain es) (all_plain g v es) (in_sequence (put_all g v k es)) k (count es) (λ us. invoked c k us) κ v.locals l s (evaluate_all es (types_in v) call s) (λ ws t. call f.text ws t) h

@@ -19,11 +19,13 @@ use Rattle.cc_syntax.specs.Tree.{Name, Expr, Exprs, none, more, Number, Variable
 use Rattle.cc_meaning.specs.Meaning as meaning
 use Rattle.cc_meaning.specs.Meaning.{Global, State, Run, Gives, then_do, given, unless_decided, read_element, Calls, evaluate, evaluate_all, local_word, with_local_word, variable_word, words_of, with_element}
 use Rattle.cc_meaning.specs.Calls.{Size, sizes}
-use Rattle.cc_meaning.specs.Numbered.{words_in}
-use Rattle.cc_runs.specs.World.{World, object_words, element, stored}
+use Rattle.cc_meaning.specs.Numbered.{objects_of}
+use Rattle.cc_runs.specs.World.{Object, World, element, object_with, stored}
 use Rattle.cc_resolve.specs.Layout.{LaidObject, Layout, object_number, extent_of}
 use Rattle.cc_resolve.specs.Environment.{Environment, types_in, number_in}
 use Rattle.cc_resolve.specs.Operations.{operation}
+use Rattle.cc_words.specs.declared.operators.Width.TheVariants.{Word}
+use Rattle.cc_words.specs.Widths.{same_width}
 use Rattle.cc_cminor.specs.Cminor.{Expression, Constant, Local, Unary, Binary, Load, then_value, value, values, put}
 use Rattle.cc_cminor.specs.internal.Lowering.{object_of, read_of, variable_of, unary_of, binary_of, Kind, Strict, Conjunction, Disjunction, kind, is_strict, is_plain, are_plain, plain, all_plain}
 use Rattle.cc_cminor.proofs.Known.{IsObject, IsPlaced, IsVariable, Known, AllKnown}
@@ -128,29 +130,33 @@ abbrev other_sizes : List Size → List Size
 other_sizes [] = []
 other_sizes (z ∷ zs) = zs
 
-found_by : (b : Bool) (ws vs : List ℕ) (rest : List (List ℕ)) (o : Option ℕ) (n : ℕ) → (if b then Some 0 else option_map suc o) ≡ Some n → ((m : ℕ) → o ≡ Some m → get_or rest m [] ≡ vs)
-    → get_or (ws ∷ rest) n [] ≡ (if b then ws else vs)
-found_by true ws vs rest o n e f = let k : 0 ≡ n = cc in ap (λ i. get_or (ws ∷ rest) i []) (sym k)
-found_by false ws vs rest None n e f = absurd (cc)
-found_by false ws vs rest (Some m) n e f = let k : suc m ≡ n = cc in ap (λ i. get_or (ws ∷ rest) i []) (sym k) ∙ f m refl
+-- an object of such words
+abbrev of_words : List ℕ → Object
+of_words ws = record { width = Word; words = ws }
 
--- an object's words by its number
-pub found_object : (gs : List Global) (ps : List LaidObject) (x : List ℕ) (n : ℕ) → sizes gs ≡ laid_sizes ps → object_number ps x ≡ Some n → get_or (words_in gs) n [] ≡ words_of gs x
+found_by : (b : Bool) (ws vs : List ℕ) (rest : List Object) (o : Option ℕ) (n : ℕ) → (if b then Some 0 else option_map suc o) ≡ Some n → ((m : ℕ) → o ≡ Some m → get_or rest m (of_words []) ≡ of_words vs)
+    → get_or (of_words ws ∷ rest) n (of_words []) ≡ of_words (if b then ws else vs)
+found_by true ws vs rest o n e f = let k : 0 ≡ n = cc in ap (λ i. get_or (of_words ws ∷ rest) i (of_words [])) (sym k)
+found_by false ws vs rest None n e f = absurd (cc)
+found_by false ws vs rest (Some m) n e f = let k : suc m ≡ n = cc in ap (λ i. get_or (of_words ws ∷ rest) i (of_words [])) (sym k) ∙ f m refl
+
+-- an object by its number
+pub found_object : (gs : List Global) (ps : List LaidObject) (x : List ℕ) (n : ℕ) → sizes gs ≡ laid_sizes ps → object_number ps x ≡ Some n → get_or (objects_of gs) n (of_words []) ≡ of_words (words_of gs x)
 found_object gs [] x n e f = absurd (cc)
 found_object [] (p ∷ ps) x n e f = absurd (let q : ◌≡◌ {A = List Size} [] (laid_sizes (p ∷ ps)) = e in cc)
 found_object (g ∷ gs) (p ∷ ps) x n e f =
     let name : g.name ≡ p.name = ap (λ (z : Size). z.name) (ap first_size e) in
-    found_by (same_name g.name x) g.words (words_of gs x) (words_in gs) (object_number ps x) n
+    found_by (same_name g.name x) g.words (words_of gs x) (objects_of gs) (object_number ps x) n
     (ap (λ y. if same_name y x then Some 0 else option_map suc (object_number ps x)) name ∙ f)
     (λ m k. found_object gs ps x m (ap other_sizes e) k)
 
-changed_by : (b : Bool) (g : Global) (gs other : List Global) (i w : ℕ) (vs : List ℕ) (o : Option ℕ) (n : ℕ) → (if b then Some 0 else option_map suc o) ≡ Some n → ((m : ℕ) → o ≡ Some m → set (words_in gs) m (set vs i w) ≡ words_in other)
-    → set (g.words ∷ words_in gs) n (set (if b then g.words else vs) i w) ≡ words_in (if b then record g { words = slice_set g.words i w } ∷ gs else g ∷ other)
-changed_by true g gs other i w vs o n e f = let k : 0 ≡ n = cc in ap (λ k. set (g.words ∷ words_in gs) k (set g.words i w)) (sym k)
+changed_by : (b : Bool) (g : Global) (gs other : List Global) (i w : ℕ) (vs : List ℕ) (o : Option ℕ) (n : ℕ) → (if b then Some 0 else option_map suc o) ≡ Some n → ((m : ℕ) → o ≡ Some m → set (objects_of gs) m (of_words (set vs i w)) ≡ objects_of other)
+    → set (of_words g.words ∷ objects_of gs) n (of_words (set (if b then g.words else vs) i w)) ≡ objects_of (if b then record g { words = slice_set g.words i w } ∷ gs else g ∷ other)
+changed_by true g gs other i w vs o n e f = let k : 0 ≡ n = cc in ap (λ k. set (of_words g.words ∷ objects_of gs) k (of_words (set g.words i w))) (sym k)
 changed_by false g gs other i w vs None n e f = absurd (cc)
-changed_by false g gs other i w vs (Some m) n e f = let k : suc m ≡ n = cc in ap (λ k. set (g.words ∷ words_in gs) k (set vs i w)) (sym k) ∙ ap (λ rest. g.words ∷ rest) (f m refl)
+changed_by false g gs other i w vs (Some m) n e f = let k : suc m ≡ n = cc in ap (λ k. set (of_words g.words ∷ objects_of gs) k (of_words (set vs i w))) (sym k) ∙ ap (λ rest. of_words g.words ∷ rest) (f m refl)
 
-changed_object : (gs : List Global) (ps : List LaidObject) (x : List ℕ) (n i w : ℕ) → sizes gs ≡ laid_sizes ps → object_number ps x ≡ Some n → set (words_in gs) n (set (words_of gs x) i w) ≡ words_in (with_element x i w gs)
+changed_object : (gs : List Global) (ps : List LaidObject) (x : List ℕ) (n i w : ℕ) → sizes gs ≡ laid_sizes ps → object_number ps x ≡ Some n → set (objects_of gs) n (of_words (set (words_of gs x) i w)) ≡ objects_of (with_element x i w gs)
 changed_object gs [] x n i w e f = absurd (cc)
 changed_object [] (p ∷ ps) x n i w e f = absurd (let q : ◌≡◌ {A = List Size} [] (laid_sizes (p ∷ ps)) = e in cc)
 changed_object (g ∷ gs) (p ∷ ps) x n i w e f =
@@ -179,14 +185,14 @@ size_object (g ∷ gs) (p ∷ ps) x e =
 
 -- an element by its object's number
 pub element_object : (gs : List Global) (ps : List LaidObject) (x : List ℕ) (n i : ℕ) (input output : List ℕ) → sizes gs ≡ laid_sizes ps → object_number ps x ≡ Some n
-    → element (record { globals = words_in gs; input = input; output = output }) n i ≡ slice_get (words_of gs x) i
-element_object gs ps x n i input output e f = ap (λ ws. slice_get ws i) (found_object gs ps x n e f)
+    → element (record { globals = objects_of gs; input = input; output = output }) Word n i ≡ slice_get (words_of gs x) i
+element_object gs ps x n i input output e f = ap (λ (o : Object). if same_width o.width Word then slice_get o.words i else None) (found_object gs ps x n e f)
 
 pub stored_object : (gs : List Global) (ps : List LaidObject) (x : List ℕ) (n i w : ℕ) (input output : List ℕ) → sizes gs ≡ laid_sizes ps → object_number ps x ≡ Some n → i < length (words_of gs x)
-    → stored (record { globals = words_in gs; input = input; output = output }) n i w ≡ Some (record { globals = words_in (with_element x i w gs); input = input; output = output })
+    → stored (record { globals = objects_of gs; input = input; output = output }) Word n i w ≡ Some (record { globals = objects_of (with_element x i w gs); input = input; output = output })
 stored_object gs ps x n i w input output e f lt =
-    ap (λ ws. option_map (λ old. record { globals = set (words_in gs) n (set ws i w); input = input; output = output }) (slice_get ws i)) (found_object gs ps x n e f)
-    ∙ ap (λ o. option_map (λ old. record { globals = set (words_in gs) n (set (words_of gs x) i w); input = input; output = output }) o) (slice_get-get_or (words_of gs x) i 0 lt)
+    ap (λ (o : Object). option_map (λ old. record { globals = set (objects_of gs) n (object_with o i w); input = input; output = output }) (if same_width o.width Word then slice_get o.words i else None)) (found_object gs ps x n e f)
+    ∙ ap (λ o. option_map (λ old. record { globals = set (objects_of gs) n (of_words (set (words_of gs x) i w)); input = input; output = output }) o) (slice_get-get_or (words_of gs x) i 0 lt)
     ∙ ap (λ gs. Some (record { globals = gs; input = input; output = output })) (changed_object gs ps x n i w e f)
 
 -- ---- operators
@@ -310,9 +316,9 @@ module _ (g : Layout) where
   pub fits_put : (ns : List (List ℕ)) (s : State) (l : ℕ → ℕ) (k w : ℕ) → length ns ≤ k → Fits ns s l → Fits ns s (put l k w)
   fits_put ns s l k w le h = fits_same ns s l (put l k w) (λ i lt. put_below l k w i (omega arith)) h
 
-  object_is : (s : State) (x : List ℕ) (i : ℕ) → IsObject g x → sizes s.globals ≡ laid_sizes g.objects → element (world_at s) (object_of g x) i ≡ slice_get (words_of s.globals x) i
+  object_is : (s : State) (x : List ℕ) (i : ℕ) → IsObject g x → sizes s.globals ≡ laid_sizes g.objects → element (world_at s) Word (object_of g x) i ≡ slice_get (words_of s.globals x) i
   object_is s x i known e =
-      ap (λ o. element (world_at s) (unwrap_or o 0) i) known.1 ∙ element_object s.globals g.objects x known.0 i s.input s.output e known.1
+      ap (λ o. element (world_at s) Word (unwrap_or o 0) i) known.1 ∙ element_object s.globals g.objects x known.0 i s.input s.output e known.1
 
   variable_by : (o : Option ℕ) (x : List ℕ) (s : State) (l : ℕ → ℕ) → sizes s.globals ≡ laid_sizes g.objects → local_word s.locals x ≡ option_map l o → IsPlaced g o x
       → value (read_of o (object_of g x)) l (world_at s) ≡ Some (variable_word x s)
@@ -332,14 +338,14 @@ module _ (g : Layout) where
       variable_by (number_in v.locals x) x s l h.sized (reads s.locals l x h.holds ∙ ap (λ ns. option_map l (number_in ns x)) h.names) known
 
   pub element_value : (x : List ℕ) (e : Expression) (i : ℕ) (l : ℕ → ℕ) (s : State) → IsObject g x → sizes s.globals ≡ laid_sizes g.objects → value e l (world_at s) ≡ Some i
-      → value (Load (object_of g x) e) l (world_at s) ≡ slice_get (words_of s.globals x) i
-  element_value x e i l s known sized is = ap (λ o. then_value o (λ j. element (world_at s) (object_of g x) j)) is ∙ object_is s x i known sized
+      → value (Load Word (object_of g x) e) l (world_at s) ≡ slice_get (words_of s.globals x) i
+  element_value x e i l s known sized is = ap (λ o. then_value o (λ j. element (world_at s) Word (object_of g x) j)) is ∙ object_is s x i known sized
 
   pub plain_is : (call : Calls) (e : Expr) (v : Environment) (l : ℕ → ℕ) (s : State) → is_plain e ≡ true → Known g v e → Fits v.locals s l → PlainIs (evaluate e (types_in v) call s) s (value (plain g v e) l (world_at s))
   plain_is call (Number t n) v l s p known h = (refl, refl)
   plain_is call (Variable x) v l s p known h = (refl, variable_value v x.text s l known h)
   plain_is call (Element x e) v l s p known h =
-      plain_then (evaluate e (types_in v) call s) (value (plain g v e) l (world_at s)) s (λ i t. read_element x.text i t) (λ i. element (world_at s) (object_of g x.text) i)
+      plain_then (evaluate e (types_in v) call s) (value (plain g v e) l (world_at s)) s (λ i t. read_element x.text i t) (λ i. element (world_at s) Word (object_of g x.text) i)
       (plain_is call e v l s p known.1 h) (λ i. subst (λ o. PlainIs (read_element x.text i s) s o) (sym (object_is s x.text i known.0 h.sized)) (plain_read x.text i s))
   plain_is call (tree.Call f es) v l s p known h = absurd (let q : false ≡ true = p in cc)
   plain_is call (Parenthesised e) v l s p known h = plain_is call e v l s p known h

@@ -4,6 +4,7 @@ ghost use Rattle.std.specs.Prelude.{◌≡◌, IfOk};
 ghost use Rattle.cc_typing.specs.Scope.{found};
 ghost use Rattle.cc_typing.specs.Types.{variable_type, element_type};
 ghost use Rattle.cc_resolve.specs.Environment.{types_in};
+ghost use Rattle.cc_words.specs.declared.operators.Width.TheVariants.{Word};
 ghost use Rattle.cc_cminor.specs.Cminor as cminor;
 ghost use Rattle.cc_cminor.specs.Code.{expression_of, statement_of};
 ghost use Rattle.cc_cminor.specs.internal.Lowering.{object_of, variable_of, variable_set};
@@ -13,6 +14,7 @@ use super::boxes::{boxed_expression, boxed_statement, constant};
 use super::code::{Expression, Statement};
 use super::taken::{Taken, at_once, kept};
 use cc_resolve::Environment;
+use cc_words::Width;
 use std::alloc::{AllocError, Global};
 
 /// The number of the object of a name; of a name that no object has, 0.
@@ -34,7 +36,7 @@ pub fn read_variable(
         Some(number) => Expression::Local(number),
         None => {
             let zero = constant(alloc, 0)?;
-            Expression::Load(object(names, name), zero)
+            Expression::Load(Width::Word, object(names, name), zero)
         }
     };
     boxed_expression(alloc, expression)
@@ -53,7 +55,7 @@ pub fn set_variable(
         Some(number) => Statement::Set(number, value),
         None => {
             let zero = constant(alloc, 0)?;
-            Statement::Store(object(names, name), zero, value)
+            Statement::Store(Width::Word, object(names, name), zero, value)
         }
     };
     boxed_statement(alloc, statement)
@@ -77,14 +79,14 @@ pub fn element(
     index: Taken,
 ) -> Result<Taken, AllocError>
     ensures scalar { IfOk result (λ u. u.scalar ≡ element_type (found (types_in names.now) name.now)) }
-    ensures value { IfOk result (λ u. taken_of u.before u.expression ≡ kept k (code_before index.before) (cminor.Load (object_of names.now.layout name.now) (expression_of index.expression.value))) }
+    ensures value { IfOk result (λ u. taken_of u.before u.expression ≡ kept k (code_before index.before) (cminor.Load Word (object_of names.now.layout name.now) (expression_of index.expression.value))) }
 {
     let Taken {
         scalar: _,
         before,
         expression,
     } = index;
-    let load = Expression::Load(object(names, name), expression);
+    let load = Expression::Load(Width::Word, object(names, name), expression);
     let load = boxed_expression(alloc, load)?;
     kept(alloc, k, names.element_type(name), before, load)
 }

@@ -19,6 +19,7 @@ use super::taken::{Taken, behind, word};
 use cc_resolve::Environment;
 use cc_syntax::{Action, BinaryOperator, Expression as Tree, Identifier, Scalar, Target};
 use cc_typing::{applied_operator, step_operator, working_type};
+use cc_words::Width;
 use std::alloc::{AllocError, Global};
 
 // What is written, of an old value in a type and a right side in another.
@@ -86,11 +87,11 @@ fn store_element(
     let name = name.bytes.as_slice();
     let object = object(names, name);
     let waited = local(alloc, k)?;
-    let old = boxed_expression(alloc, Expression::Load(object, waited))?;
+    let old = boxed_expression(alloc, Expression::Load(Width::Word, object, waited))?;
     let target = names.element_type(name);
     let new = combine(alloc, operator, target, scalar, old, expression)?;
     let index = local(alloc, k)?;
-    let store = boxed_statement(alloc, Statement::Store(object, index, new))?;
+    let store = boxed_statement(alloc, Statement::Store(Width::Word, object, index, new))?;
     behind(alloc, before, store)
 }
 

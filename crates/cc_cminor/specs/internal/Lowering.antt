@@ -22,6 +22,7 @@ use Rattle.cc_resolve.specs.declared.operations.UnaryOperation.{UnaryOperation}
 use Rattle.cc_resolve.specs.declared.operations.UnaryOperation.TheVariants as single
 use Rattle.cc_resolve.specs.declared.operations.BinaryOperation.{BinaryOperation}
 use Rattle.cc_resolve.specs.declared.operations.BinaryOperation.TheVariants as word
+use Rattle.cc_words.specs.declared.operators.Width.TheVariants.{Word}
 use Rattle.cc_cminor.specs.Cminor.{Expression, Constant, Local, Unary, Binary, Load, Statement, Skip, Set, Store, Call, Read, Write, Sequence, If, Loop, Block, Exit, Return}
 use Rattle.cc_cminor.specs.Code.{in_sequence}
 
@@ -36,11 +37,11 @@ object_of g x = unwrap_or (object_number g.objects x) 0
 -- ---- variables and operators
 
 abbrev pub read_of : Option ℕ → (object : ℕ) → Expression
-read_of None o = Load o (Constant 0)
+read_of None o = Load Word o (Constant 0)
 read_of (Some i) o = Local i
 
 abbrev pub write_to : Option ℕ → (object : ℕ) → Expression → Statement
-write_to None o e = Store o (Constant 0) e
+write_to None o e = Store Word o (Constant 0) e
 write_to (Some i) o e = Set i e
 
 abbrev pub variable_of : Layout → Environment → List ℕ → Expression
@@ -132,7 +133,7 @@ are_plain (more e rest) = is_plain e && are_plain rest
 abbrev pub plain : Layout → Environment → Expr → Expression
 plain g v (Number t n) = Constant n
 plain g v (Variable x) = variable_of g v x.text
-plain g v (Element x e) = Load (object_of g x.text) (plain g v e)
+plain g v (Element x e) = Load Word (object_of g x.text) (plain g v e)
 plain g v (tree.Call f es) = Constant 0
 plain g v (Parenthesised e) = plain g v e
 plain g v (tree.Unary op e) = unary_of op (plain g v e)
@@ -186,7 +187,7 @@ abbrev mutual
   pub put_expr : Layout → Environment → ℕ → Expr → Statement
   put_expr g v k (Number t n) = Set k (Constant n)
   put_expr g v k (Variable x) = Set k (variable_of g v x.text)
-  put_expr g v k (Element x e) = used (is_plain e) (plain g v e) (put_expr g v k e) k (λ i. Set k (Load (object_of g x.text) i))
+  put_expr g v k (Element x e) = used (is_plain e) (plain g v e) (put_expr g v k e) k (λ i. Set k (Load Word (object_of g x.text) i))
   put_expr g v k (tree.Call f es) =
       called_on (are_plain es) (all_plain g v es) (in_sequence (put_all g v k es)) k (count es) (λ us. invoked (callee g f.text) k us)
   put_expr g v k (Parenthesised e) = put_expr g v k e
@@ -222,7 +223,7 @@ abbrev pub assigned : Layout → Environment → Target → (Scalar → Expressi
 assigned g v (AtVariable x) f go = go (free v) (λ e. variable_set g v x.text (f (target_type (types_in v) (AtVariable x)) (variable_of g v x.text) e))
 assigned g v (AtElement x i) f go =
     Sequence (put_expr g v (free v) i)
-    (go (suc (free v)) (λ e. Store (object_of g x.text) (Local (free v)) (f (target_type (types_in v) (AtElement x i)) (Load (object_of g x.text) (Local (free v))) e)))
+    (go (suc (free v)) (λ e. Store Word (object_of g x.text) (Local (free v)) (f (target_type (types_in v) (AtElement x i)) (Load Word (object_of g x.text) (Local (free v))) e)))
 
 abbrev pub performed : Layout → Environment → Action → Statement
 performed g v (Assign op target e) = assigned g v target (λ t old new. combined (applied_operator op) t (value_type (types_in v) e) old new) (λ k f. using g v k e f)

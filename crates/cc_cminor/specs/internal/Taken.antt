@@ -9,6 +9,7 @@ use Rattle.cc_typing.specs.Types.{variable_type, element_type}
 use Rattle.cc_resolve.specs.Layout.{Layout}
 use Rattle.cc_resolve.specs.Environment.{Environment, types_in}
 use Rattle.cc_words.specs.declared.operators.Binary as two
+use Rattle.cc_words.specs.declared.operators.Width.TheVariants.{Word}
 use Rattle.cc_cminor.specs.Cminor.{Expression, Constant, Local, Binary, Load, Statement, Set, Store, Sequence, If}
 use Rattle.cc_cminor.specs.Code.{expression_of, statement_of}
 use Rattle.cc_cminor.specs.declared.code.Expression as value
@@ -109,7 +110,7 @@ above_target v (AtElement x i) = suc (free v)
 
 -- an element is set whose index waits in variable k
 abbrev pub element_set : Layout → Environment → ℕ → Option BinaryOperator → List ℕ → Scalar → Expression → Statement
-element_set g v k op x t e = Store (object_of g x) (Local k) (combined op (element_type (found (types_in v) x)) t (Load (object_of g x) (Local k)) e)
+element_set g v k op x t e = Store Word (object_of g x) (Local k) (combined op (element_type (found (types_in v) x)) t (Load Word (object_of g x) (Local k)) e)
 
 -- a target is set, with an operator on its old value or without, to a right side of a type
 abbrev pub assigned_to : Layout → Environment → Option BinaryOperator → Target → Scalar → Option Statement → Expression → Statement
