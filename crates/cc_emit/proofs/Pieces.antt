@@ -9,6 +9,7 @@ use Rattle.cc_typing.specs.Scope.{FileScope, file_scope_behind, first_file_scope
 use Rattle.cc_typing.specs.declared.rule.Offence.{Offence}
 use Rattle.cc_meaning.specs.Meaning.{Function, functions, functions_from, text_of}
 use Rattle.cc_meaning.specs.Numbered.{arity_in, objects_in}
+use Rattle.cc_runs.specs.World.{Size}
 use Rattle.cc_runs.specs.Tracks.{TracksForAll}
 use Rattle.cc_linear.specs.Linear.{labels, IsItem, IsLinear, linear_move, linear_output, linear_start}
 use Rattle.cc_linear.specs.Pair as above
@@ -61,7 +62,7 @@ items_do : (p : above.Pair) → IsWithinLimits (above.tree_of p) → IsLinear p.
     → AreOf (above.tree_of p) p.function (pair_items p)
 items_do p limits linear keeps meaning is layout in_order =
     let tree = above.tree_of p in
-    let base : layout.base ≡ object_address (objects_in tree) = λ i g. (in_order g ∙ ap (λ (o : List ℕ). object_address o g) is.objects) i in
+    let base : layout.base ≡ object_address (objects_in tree) = λ i g. (in_order g ∙ ap (λ (o : List Size). object_address o g) is.objects) i in
     let fits : AllByRecursion (IsItem p.slots meaning.functions (labels p.code)) p.code = subst (λ n. AllByRecursion (IsItem p.slots n (labels p.code)) p.code) (sym is.functions) linear.fit in
     let few : (g : ℕ) → meaning.arity g ≤ 8 = λ g. subst (λ (arity : ℕ → ℕ). arity g ≤ 8) (sym is.arity) (few_parameters tree limits g) in
     let frame = frame_of p.slots p.code in
