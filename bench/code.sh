@@ -1,5 +1,5 @@
 #!/usr/bin/env bash
-# The quality of the code: how many instructions each of eight programs executes, and how many words its code has.
+# The quality of the code: how many instructions each program of bench/programs executes, and how many words its code has.
 # bench/code.sh [SIMULATOR COMPILER..]: where the command of a plain simulator of the machine and of a C compiler for it are given, the
 # compiler's words run there, unoptimised, and the ratio is our count by the compiler's: less than 1 is better than it, as in
 # bench/code.sh './rv32sim -d' clang --target=riscv32 or bench/code.sh './rv32sim -d' riscv64-unknown-elf-gcc

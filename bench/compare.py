@@ -1,7 +1,7 @@
 #!/usr/bin/env python3
 """Compares what the interpreter, the compiled program and gcc's program write, for random programs whose meaning the standard fixes.
 
-compare.py [COUNT] [SEED]: so many programs (100), from a seed (1). The programs have both types, casts, all operators, arrays, locals,
+compare.py [COUNT] [SEED]: so many programs (100), from a seed (1). The programs have both types, casts, all operators, arrays of words and of bytes, locals,
 functions of up to eight parameters without side effects, words of the input and all statements but goto; shifts and divisions are
 guarded, and sums wrap (-fwrapv). The words have to be the same, and the word that main returns; gcc tells only the last eight bits of
 that. A program in which an operation goes wrong is passed over, once it is seen that it is compiled. The program has to be built
@@ -24,6 +24,7 @@ void write_word(int w) { printf("%%d\\n", w); }
 BEGIN = """int f(int, unsigned);
 int p[4] = {1, -2, 3};
 unsigned q[] = {0xffffffff, 7, 2147483648u, 1};
+unsigned char r[4] = {300, -1, 7}, e[] = {0x180, 1, 255, 3000000000u};
 int a = 5, b = -7, c;
 unsigned u = 3, v = ~0u, w;
 int f(int x, unsigned y) { int k = x; k *= 3; return k ^ y; }
@@ -53,7 +54,7 @@ class Writer:
         x = self.random.random()
         if x < 0.3:
             return self.one_of(*CONSTANTS)
-        return self.one_of(*VARIABLES) if x < 0.7 else f"{self.one_of('p', 'q')}[{self.random.randrange(4)}]"
+        return self.one_of(*VARIABLES) if x < 0.7 else f"{self.one_of('p', 'q', 'r', 'e')}[{self.random.randrange(4)}]"
 
     def expression(self, depth):
         if depth == 0:
@@ -84,7 +85,7 @@ class Writer:
         return f"{e()}{self.one_of('+', '-', '*', '&', '^', '|', '<', '==')}1"
 
     def target(self):
-        return self.one_of(*VARIABLES, f"p[({self.expression(1)})&3]", f"q[({self.expression(1)})&3]")
+        return self.one_of(*VARIABLES, *[f"{it}[({self.expression(1)})&3]" for it in "pqre"])
 
     def fresh(self):
         self.names += 1

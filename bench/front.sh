@@ -3,7 +3,8 @@
 # one price: 64 KiB of text against 8 KiB (8 is linear), and 10 million turns against 1 million (10 is linear). Then how fast
 # `check` is where `gcc -fsyntax-only -w` is 1 (more is faster), over 64 KiB of each kind, without the starts of both programs, the two
 # in turn and each the best of ROUNDS runs (40); and the most memory of `check`, in bytes for each byte of text, without that of an
-# empty text. `check` is `--quiet check`, since gcc does not warn either; how much longer it takes where it warns is told last.
+# empty text; and what initialisers of an array of bytes cost by those of an array of words. `check` is `--quiet check`, since gcc does not
+# warn either; how much longer it takes where it warns is told last.
 # Run by hand; the program has to be built (./cclib --help). CCLIB names another program in its place.
 set -eu
 here=$(cd "$(dirname "$0")/.." && pwd)
@@ -121,6 +122,14 @@ for kind in ["statements", "blocks", "comments", "names", "objects", "functions"
     if kind != "nested":
         ratios.append(other / mine)
         warned.append(warning / mine)
+# Initialisers: 16,000 of an array of words, and the same of an array of bytes.
+took = {}
+for kind, name in [("int", "words"), ("unsigned char", "bytes")]:
+    path = f"{work}/{name}.c"
+    with open(path, "w", encoding="utf-8") as text:
+        text.write(f"{kind} a[]={{{','.join(str(100 + i % 156) for i in range(16000))}}};int main(void){{return a[9];}}")
+    took[name] = (least(path)[0] - start[0]) / os.path.getsize(path)
+print(f"check, 16,000 initialisers of bytes by as many of words, for a byte of text: {took['bytes'] / took['words']:.3f}")
 print(f"check: {mean(ratios):.2f} times as fast as gcc -fsyntax-only (geometric mean of the six)")
 print(f"check that warns: {mean(warned):.2f} times the time of check (geometric mean of the six)")
 P

@@ -1,5 +1,5 @@
 #!/usr/bin/env bash
-# The interpreter's speed on eight programs of different kinds of work: the processor seconds of each. Where the commands of a
+# The interpreter's speed on programs of different kinds of work: the processor seconds of each. Where the commands of a
 # plain simulator of the machine and of a C compiler for it are given, the compiler's words run there too, unoptimised, and the
 # ratio is our time by the simulator's: bench/interpret.sh './rv32sim -d' clang --target=riscv32, or with riscv64-unknown-elf-gcc
 # The two run in turn, and the best of ROUNDS runs (5) counts. PROGRAM is what runs `interpret STEPS` on its standard input; if

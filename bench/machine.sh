@@ -3,7 +3,7 @@
 # millions of instructions a processor second.
 # bench/machine.sh [SIMULATOR [COMPILER..]]: where a plain simulator's command is given, it runs the same words, as
 # `SIMULATOR CODE GLOBALS STEPS`, and the ratio is our speed by its speed, so 1.0 or more is as fast. Where the command of a C
-# compiler is given too, its words of the eight programs of bench/programs, unoptimised, run on both:
+# compiler is given too, its words of the programs of bench/programs, unoptimised, run on both:
 # bench/machine.sh './rv32sim -d' clang --target=riscv32, or with riscv64-unknown-elf-gcc
 # The two run in turn, and the best of ROUNDS runs (5) counts. The program is built by `rt run` where it is missing.
 set -eu

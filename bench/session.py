@@ -249,7 +249,7 @@ def commits(work, count):
         for name in (base, base + "-wal", base + "-shm"):
             if os.path.exists(name):
                 os.remove(name)
-        said = subprocess.run([program, base, "1", str(count), str(length)], capture_output=True, text=True, check=True).stdout.split()
+        said = subprocess.run([program, "put", base, "1", str(count), str(length)], capture_output=True, text=True, check=True).stdout.split()
         if int(said[0]) != count:
             sys.exit(f"session.py: sqlite acknowledged {said[0]} of {count}")
         theirs.append(int(said[1]) / 1e9)

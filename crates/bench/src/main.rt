@@ -4,9 +4,10 @@
 //! `compile FILE TIMES`, `again FILE` and `count FILE` compile a text, also once memory was refused, or count what its image executes
 //! (`compiler`); `hostile TASK SHAPE FILE TIMES` validates LTL that asks for much (`hostile`); `list COUNT` adds to an instruction list
 //! (`list`); `machine CODE GLOBALS STEPS [WORD..]` runs words on the simulator (`machine`); `passes TASK FILE TIMES` does the passes up to
-//! the validator (`passes`); `pool TASK FILE NUMBER..` has a pool of workers compile (`pool`); `stands SOURCE WORDS TIMES` looks whether a
-//! receipt stands (`stands`); `store TASK FILE [NUMBER..]` works on a library of units on a file (`store`). `arguments` reads the command
-//! line, `words` files of words, and `units` makes units and their names.
+//! the validator (`passes`); `pool TASK FILE NUMBER..` has a pool of workers compile (`pool`); `service TASK FILE WORKERS CLIENTS CALLS SOURCE`
+//! has clients call a service (`service`); `stands SOURCE WORDS TIMES` looks whether a receipt stands (`stands`); `store TASK FILE
+//! [NUMBER..]` works on a library of units on a file (`store`). `arguments` reads the command line, `words` files of words, and `units`
+//! makes units and their names.
 #![tactic(auto)]
 
 mod arguments;
@@ -16,6 +17,7 @@ mod list;
 mod machine;
 mod passes;
 mod pool;
+mod service;
 mod stands;
 mod store;
 mod units;
@@ -37,6 +39,10 @@ fn main(rt: HostRuntime) -> Result<()> {
                 if task.as_str() == "pool" {
                     let work = pool::next_work(&rt, &mut arguments)?;
                     pool::perform(&rt, rt.alloc(), work)?;
+                    end_of_task(&mut arguments)?;
+                } else if task.as_str() == "service" {
+                    let work = service::next_work(&rt, &mut arguments)?;
+                    service::perform(&rt, rt.alloc(), work)?;
                     end_of_task(&mut arguments)?;
                 } else {
                     perform(&rt, task.as_str(), &mut arguments)?;
@@ -60,7 +66,7 @@ fn perform(rt: &HostRuntime, task: &str, arguments: &mut Args) -> Result<()> {
         "stands" => stands::look_again(rt, arguments)?,
         "store" => store::perform(rt, arguments)?,
         _ => bail!(
-            "usage: bench again|compile|count|hostile|list|machine|passes|pool|stands|store WORD.. [, TASK WORD..]"
+            "usage: bench again|compile|count|hostile|list|machine|passes|pool|service|stands|store WORD.. [, TASK WORD..]"
         ),
     }
     end_of_task(arguments)

@@ -1,6 +1,6 @@
 -- A compiled unit's pieces, put in the order of definitions, are all of its source's, and link to it as they did in the order they came in.
 use Rattle.std.proofs.Common.{◌≡◌, ℕ, zero, suc, ◌+◌, ◌<◌, ◌≤◌, ◌⊎◌, inl, inr, Bool, true, false, if◌then◌else◌, List, [], ◌∷◌, length, Option, Some, None, Result, Ok, Err, refl, sym, ap, ◌∙◌, subst, arith}
-use Rattle.std.specs.Prelude.{◌==◌, is_some, slice_get, unwrap_or}
+use Rattle.std.specs.Prelude.{◌==◌, is_some, slice_get}
 use Rattle.std.specs.Coded.{Coded-set}
 use Rattle.std.specs.Option.{option_or}
 use Rattle.std.proofs.Math.Logic.{∥∥₁_elim, ∥∥₁_map, ∥∥₁_prop}
@@ -15,12 +15,12 @@ use Rattle.cc_meaning.specs.Meaning.{functions}
 use Rattle.cc_meaning.specs.Calls.{TypedUnitsHaveMain}
 use Rattle.cc_unit.specs.declared.unit.StoredUnit.{StoredUnit}
 use Rattle.cc_unit.specs.contracts.unit.StoredUnit as stored
-use Rattle.cc_emit.specs.declared.item.Item.{Item}
 use Rattle.cc_emit.specs.Piece.{Piece}
 use Rattle.cc_link.specs.Laws.{LinkedUnitsAgree}
 use Rattle.cc_link.specs.Pieces.{AreFrom}
 use Rattle.cc_link.specs.Link.{code_words, most_code}
-use Rattle.cc_link.specs.Linked.{same_bytes, stranger, doubled, items_of, missing, in_order, bodies, image_of, link_refusal, unit_of, unless_refused, linked}
+use Rattle.cc_link.specs.Certificate.{certificate_of}
+use Rattle.cc_link.specs.Linked.{same_bytes, stranger, doubled, piece_of, missing, put_first, in_order, ordered, all_items, all_ltl, bodies, image_of, link_refusal, unit_of, unless_refused, linked}
 use Rattle.cc_link.specs.Made.{IsCompiled, IsMade}
 use Rattle.cc_link.specs.declared.fault.LinkFault.{LinkFault}
 use Rattle.cc_link.specs.declared.fault.LinkFault.TheVariants.{Missing}
@@ -46,37 +46,21 @@ not_refused (Some f) made u e = absurd (let h : ◌≡◌ {A = Result StoredUnit
 
 -- ---- the piece of a function
 
-abbrev find : List Piece → (f : ℕ) → Option Piece
-find [] f = None
-find (p ∷ ps) f = if p.function == f then Some p else find ps f
-
-abbrev items_in : Option Piece → Option (List Item)
-items_in None = None
-items_in (Some p) = Some p.items
-
-items_find : (ps : List Piece) (f : ℕ) → items_of ps f ≡ items_in (find ps f)
-items_find [] f = refl
-items_find (p ∷ ps) f = by (p.function == f) (items_find ps f)
-  where
-    by : (b : Bool) → items_of ps f ≡ items_in (find ps f) → (if b then Some p.items else items_of ps f) ≡ items_in (if b then Some p else find ps f)
-    by true again = refl
-    by false again = again
-
 abbrev IsFound : List ℕ → ℕ → Piece → Type 0
 IsFound text f p = ((source p.unit).text ≡ text) × (p.function ≡ f) × IsCompiled p
 
-found : (text : List ℕ) (ps : List Piece) (f : ℕ) (p : Piece) → AreOfText text ps → ((k : ℕ) (q : Piece) → slice_get ps k ≡ Some q → IsCompiled q) → find ps f ≡ Some p → IsFound text f p
+found : (text : List ℕ) (ps : List Piece) (f : ℕ) (p : Piece) → AreOfText text ps → ((k : ℕ) (q : Piece) → slice_get ps k ≡ Some q → IsCompiled q) → piece_of ps f ≡ Some p → IsFound text f p
 found text [] f p of each is = absurd (let h : ◌≡◌ {A = Option Piece} None (Some p) = is in cc)
 found text (q ∷ ps) f p of each is = by (q.function == f) refl (λ rest. found text ps f p of.1 (λ k r at. each (suc k) r at) rest) is
   where
-    by : (b : Bool) → (q.function == f) ≡ b → (find ps f ≡ Some p → IsFound text f p) → (if b then Some q else find ps f) ≡ Some p → IsFound text f p
+    by : (b : Bool) → (q.function == f) ≡ b → (piece_of ps f ≡ Some p → IsFound text f p) → (if b then Some q else piece_of ps f) ≡ Some p → IsFound text f p
     by true e again here = let same : q ≡ p = let h : ◌≡◌ {A = Option Piece} (Some q) (Some p) = here in cc in subst (λ (r : Piece). IsFound text f r) same (of.0, eqb-true q.function f e, each 0 q refl)
     by false e again here = again here
 
-split : (ps : List Piece) (from count : ℕ) → missing ps from (suc count) ≡ None → (p : Piece) × (find ps from ≡ Some p) × (missing ps (suc from) count ≡ None)
-split ps from count e = by (find ps from) refl (sym (ap (λ (o : Option (List Item)). if is_some o then missing ps (suc from) count else Some (Missing from)) (items_find ps from)) ∙ e)
+split : (ps : List Piece) (from count : ℕ) → missing ps from (suc count) ≡ None → (p : Piece) × (piece_of ps from ≡ Some p) × (missing ps (suc from) count ≡ None)
+split ps from count e = by (piece_of ps from) refl e
   where
-    by : (o : Option Piece) → find ps from ≡ o → (if is_some (items_in o) then missing ps (suc from) count else Some (Missing from)) ≡ None → (p : Piece) × (find ps from ≡ Some p) × (missing ps (suc from) count ≡ None)
+    by : (o : Option Piece) → piece_of ps from ≡ o → (if is_some o then missing ps (suc from) count else Some (Missing from)) ≡ None → (p : Piece) × (piece_of ps from ≡ Some p) × (missing ps (suc from) count ≡ None)
     by None is h = absurd (subst IsNone (sym h) tt)
     by (Some p) is h = (p, is, h)
 
@@ -88,7 +72,7 @@ record IsSorted (text : List ℕ) (ps : List Piece) (from count : ℕ) : Type 0 
   many : length pieces ≡ count
   each : (k : ℕ) (q : Piece) → slice_get pieces k ≡ Some q → IsCompiled q
   named : (k : ℕ) (q : Piece) → slice_get pieces k ≡ Some q → ((source q.unit).text ≡ text) × (q.function ≡ from + k)
-  items : (f : ℕ) → from ≤ f → f < from + count → items_of pieces f ≡ items_of ps f
+  firsts : (f : ℕ) → from ≤ f → f < from + count → piece_of pieces f ≡ piece_of ps f
 
 each_of : (p : Piece) (qs : List Piece) → IsCompiled p → ((k : ℕ) (q : Piece) → slice_get qs k ≡ Some q → IsCompiled q) → (k : ℕ) (q : Piece) → slice_get (p ∷ qs) k ≡ Some q → IsCompiled q
 each_of p qs one rest zero q at = let same : p ≡ q = cc in subst IsCompiled same one
@@ -99,13 +83,13 @@ named_of : (text : List ℕ) (from : ℕ) (p : Piece) (qs : List Piece) → ((so
 named_of text from p qs one rest zero q at = let same : p ≡ q = cc in subst (λ (r : Piece). ((source r.unit).text ≡ text) × (r.function ≡ from + 0)) same (one.0, one.1 ∙ omega arith)
 named_of text from p qs one rest (suc k) q at = let it = rest k q at in (it.0, it.1 ∙ omega arith)
 
-items_at : (ps rest : List Piece) (p : Piece) (from count f : ℕ) → find ps from ≡ Some p → p.function ≡ from → ((g : ℕ) → suc from ≤ g → g < suc from + count → items_of rest g ≡ items_of ps g) → from ≤ f → f < from + suc count → items_of (p ∷ rest) f ≡ items_of ps f
-items_at ps rest p from count f is own again low high = by (p.function == f) refl (cases_lt from f)
+found_at : (ps rest : List Piece) (p : Piece) (from count f : ℕ) → piece_of ps from ≡ Some p → p.function ≡ from → ((g : ℕ) → suc from ≤ g → g < suc from + count → piece_of rest g ≡ piece_of ps g) → from ≤ f → f < from + suc count → piece_of (p ∷ rest) f ≡ piece_of ps f
+found_at ps rest p from count f is own again low high = by (p.function == f) refl (cases_lt from f)
   where
-    by : (b : Bool) → (p.function == f) ≡ b → (from < f) ⊎ (f ≤ from) → (if b then Some p.items else items_of rest f) ≡ items_of ps f
+    by : (b : Bool) → (p.function == f) ≡ b → (from < f) ⊎ (f ≤ from) → (if b then Some p else piece_of rest f) ≡ piece_of ps f
     by true e order =
         let here : from ≡ f = sym own ∙ eqb-true p.function f e in
-        sym (items_find ps f ∙ ap items_in (ap (find ps) (sym here) ∙ is))
+        sym (ap (piece_of ps) (sym here) ∙ is)
     by false e (inl lt) = again f (omega (arith, lt)) (omega (arith, high))
     by false e (inr le) = absurd (let same : p.function ≡ f = omega (arith, own, le, low) in let d : false ≡ true = sym e ∙ eq-eqb p.function f same in cc)
 
@@ -116,7 +100,7 @@ sort text ps of each from zero e = record {
   many = refl;
   each = λ k q at. absurd (let h : ◌≡◌ {A = Option Piece} None (Some q) = at in cc);
   named = λ k q at. absurd (let h : ◌≡◌ {A = Option Piece} None (Some q) = at in cc);
-  items = λ f low high. absurd (omega (arith, low, high));
+  firsts = λ f low high. absurd (omega (arith, low, high));
 }
 sort text ps of each from (suc count) e =
     let s = split ps from count e in
@@ -128,15 +112,15 @@ sort text ps of each from (suc count) e =
       many = ap suc rest.many;
       each = each_of s.0 rest.pieces one.2 rest.each;
       named = named_of text from s.0 rest.pieces (one.0, one.1) rest.named;
-      items = λ f low high. items_at ps rest.pieces s.0 from count f s.1 one.1 rest.items low high;
+      firsts = λ f low high. found_at ps rest.pieces s.0 from count f s.1 one.1 rest.firsts low high;
     }
 
-in_order_same : (xs ys : List Piece) (from count : ℕ) → ((f : ℕ) → from ≤ f → f < from + count → items_of xs f ≡ items_of ys f) → in_order xs from count ≡ in_order ys from count
+in_order_same : (xs ys : List Piece) (from count : ℕ) → ((f : ℕ) → from ≤ f → f < from + count → piece_of xs f ≡ piece_of ys f) → in_order xs from count ≡ in_order ys from count
 in_order_same xs ys from zero h = refl
 in_order_same xs ys from (suc count) h =
     let rest = in_order_same xs ys (suc from) count (λ f low high. h f (omega (arith, low)) (omega (arith, high))) in
     let first = h from (omega arith) (omega arith) in
-    λ i. unwrap_or (first i) [] ∷ rest i
+    λ i. put_first (first i) (rest i)
 
 -- ---- out of a truncation
 
@@ -154,17 +138,17 @@ make_unit s unit (p ∷ rest) text own some is tree =
     let here : linked (source p.unit) (p ∷ rest) ≡ Ok unit = ap (λ (z : Source). linked z (p ∷ rest)) same ∙ is in
     ap (λ (b : Bool). if b then build.numbered (linked (source p.unit) (p ∷ rest)) else Err 28) (ap (λ (t : List ℕ). same_bytes (source p.unit).text t) text ∙ ap (λ (t : List ℕ). same_bytes t s.text) own.0 ∙ same_itself s.text) ∙ ap build.numbered here
 
-none_missing : (ps : List Piece) (from count : ℕ) → missing ps from count ≡ None → (f : ℕ) → f < count → is_some (items_of ps (from + f)) ≡ true
+none_missing : (ps : List Piece) (from count : ℕ) → missing ps from count ≡ None → (f : ℕ) → f < count → is_some (piece_of ps (from + f)) ≡ true
 none_missing ps from zero e f lt = absurd (omega arith)
-none_missing ps from (suc count) e f lt = by (is_some (items_of ps from)) (λ d g less. none_missing ps (suc from) count d g less) refl e f lt
+none_missing ps from (suc count) e f lt = by (is_some (piece_of ps from)) (λ d g less. none_missing ps (suc from) count d g less) refl e f lt
   where
-    by : (b : Bool) → (missing ps (suc from) count ≡ None → (g : ℕ) → g < count → is_some (items_of ps (suc from + g)) ≡ true) → is_some (items_of ps from) ≡ b → (if b then missing ps (suc from) count else Some (Missing from)) ≡ None → (f : ℕ) → f < suc count → is_some (items_of ps (from + f)) ≡ true
-    by true again is e zero lt = let same : from + 0 ≡ from = omega arith in ap (λ n. is_some (items_of ps n)) same ∙ is
-    by true again is e (suc g) lt = let same : from + suc g ≡ suc from + g = omega arith in ap (λ n. is_some (items_of ps n)) same ∙ again e g (omega arith)
+    by : (b : Bool) → (missing ps (suc from) count ≡ None → (g : ℕ) → g < count → is_some (piece_of ps (suc from + g)) ≡ true) → is_some (piece_of ps from) ≡ b → (if b then missing ps (suc from) count else Some (Missing from)) ≡ None → (f : ℕ) → f < suc count → is_some (piece_of ps (from + f)) ≡ true
+    by true again is e zero lt = let same : from + 0 ≡ from = omega arith in ap (λ n. is_some (piece_of ps n)) same ∙ is
+    by true again is e (suc g) lt = let same : from + suc g ≡ suc from + g = omega arith in ap (λ n. is_some (piece_of ps n)) same ∙ again e g (omega arith)
     by false again is e f lt = absurd (subst IsNone (sym e) tt)
 
-there : (ps : List Piece) (n f : ℕ) → missing ps 0 n ≡ None → f < n → is_some (items_of ps f) ≡ true
-there ps n f e lt = let same : 0 + f ≡ f = omega arith in sym (ap (λ k. is_some (items_of ps k)) same) ∙ none_missing ps 0 n e f lt
+there : (ps : List Piece) (n f : ℕ) → missing ps 0 n ≡ None → f < n → is_some (piece_of ps f) ≡ true
+there ps n f e lt = let same : 0 + f ≡ f = omega arith in sym (ap (λ k. is_some (piece_of ps k)) same) ∙ none_missing ps 0 n e f lt
 
 texts : (text : List ℕ) (from : ℕ) (ps : List Piece) → AreFrom text from ps → AreOfText text ps
 texts text from [] own = tt
@@ -184,13 +168,13 @@ module _ (tokens : TokensAreOne) (trees : TreesAreOne) (mains : TypedUnitsHaveMa
       let c = none_or (missing ps 0 n) _ b.1 in
       let so : IsSorted s.text ps 0 n = sort s.text ps (one_text s.text 0 ps a.0) (λ k q at. subst IsCompiled (get_or_from_slice_get ps k q q at) (m.compiled k q (slice_get_within ps k q at))) 0 n c.0 in
       let text : unit.source ≡ s.text = sym (ap (λ (v : StoredUnit). v.source) done.1) in
-      let same : bodies s.externals so.pieces ≡ bodies s.externals ps = in_order_same so.pieces ps 0 n so.items in
+      let same : ordered s.externals so.pieces ≡ ordered s.externals ps = in_order_same so.pieces ps 0 n so.firsts in
       let some : 1 ≤ length so.pieces = omega (arith, so.many, (mains s.externals m.checked.typed).below) in
       let whole : linked s so.pieces ≡ Ok unit =
       linked_ok s so.pieces (no_stranger s.text 0 0 so.pieces so.own) (none_doubled s.text [] 0 0 so.pieces (λ g i. absurd (let d : false ≡ true = i in cc)) so.own)
-      (none_left so.pieces 0 n (λ f low high. ap is_some (so.items f low high) ∙ there ps n f c.0 (omega (arith, high))))
-      (subst (λ fs. code_words fs ≤ most_code) (sym same) (small (bodies s.externals ps) c.1))
-      ∙ ap Ok (ap (λ fs. record { source = s.text; image = image_of s.externals fs; certificate = None }) same ∙ done.1) in
+      (none_left so.pieces 0 n (λ f low high. ap is_some (so.firsts f low high) ∙ there ps n f c.0 (omega (arith, high))))
+      (subst (λ qs. code_words (all_items qs) ≤ most_code) (sym same) (small (bodies s.externals ps) c.1))
+      ∙ ap Ok (ap (λ qs. record { source = s.text; image = image_of s.externals (all_items qs); certificate = Some (certificate_of (all_ltl qs)) }) same ∙ done.1) in
       let planned : IsPlan unit.source (Ok (length so.pieces)) =
       ∥∥₁_elim m.spelled ∥∥₁_prop (λ (h : SpellsText s.text s.externals).
       subst (λ (k : ℕ). IsPlan unit.source (Ok k)) (defined_long s ∙ sym so.many)

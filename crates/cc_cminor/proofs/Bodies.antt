@@ -12,9 +12,9 @@ use Rattle.cc_meaning.specs.Meaning.{Global, State, Run, Gives, Flow, Falls, Bre
 use Rattle.cc_meaning.specs.Function.{Shared, effect_of, state_within, call_function}
 use Rattle.cc_meaning.specs.Resolved as resolved
 use Rattle.cc_meaning.specs.Resolved.{arities, IsResolved}
-use Rattle.cc_meaning.specs.Calls.{Size, sizes, shared_of, called, CallsAreEffects, CallsKeepObjects, FunctionsAreNumbered, ObjectsAreNumbered, ObjectsAreSized}
+use Rattle.cc_meaning.specs.Calls.{Size, size, sizes, laid_size, laid_sizes, shared_of, called, CallsAreEffects, CallsKeepObjects, FunctionsAreNumbered, ObjectsAreNumbered, ObjectsAreSized}
 use Rattle.cc_meaning.specs.Numbered as by_number
-use Rattle.cc_meaning.specs.Numbered.{words_in, world_of, named, shared_in, numbered, call_in, body_in, arity_in, IsMeaningOf, CallsAreNumbered}
+use Rattle.cc_meaning.specs.Numbered.{objects_of, world_of, named, shared_in, numbered, call_in, body_in, arity_in, IsMeaningOf, CallsAreNumbered}
 use Rattle.cc_typing.specs.Typed.{IsTyped}
 use Rattle.cc_runs.specs.Behavior.{Ended}
 use Rattle.cc_runs.specs.World as world
@@ -27,7 +27,7 @@ use Rattle.cc_cminor.specs.Pair.{KeepsUp}
 use Rattle.cc_cminor.specs.internal.Lowering.{body_code}
 use Rattle.cc_cminor.proofs.Paths.{world_at, Reaches, Comes}
 use Rattle.cc_cminor.proofs.Known.{AllKnownIn, all_known_in}
-use Rattle.cc_cminor.proofs.Variables.{names_of, Holds, laid_sizes, Fits}
+use Rattle.cc_cminor.proofs.Variables.{names_of, Holds, Fits}
 use Rattle.cc_cminor.proofs.PutExpressions.{CallIs, CallFacts}
 use Rattle.cc_cminor.proofs.LoweredStatements.{GivesBack, Loosely, all_comes}
 
@@ -49,32 +49,32 @@ other_names : List (List ℕ) → List (List ℕ)
 other_names [] = []
 other_names (x ∷ xs) = xs
 
-first_number : List ℕ → ℕ
-first_number [] = 0
-first_number (n ∷ ns) = n
-
-other_numbers : List ℕ → List ℕ
-other_numbers [] = []
-other_numbers (n ∷ ns) = ns
+-- a size without its name
+abbrev unnamed : Size → world.Size
+unnamed z = record { width = z.width; elements = z.elements }
 
 -- objects of a world with the names of the layout
-sized_named : (ps : List LaidObject) (xs ws : List (List ℕ)) → xs ≡ map (λ (p : LaidObject). p.name) ps → map (λ (w : List ℕ). length w) ws ≡ map (λ (p : LaidObject). p.extent.length) ps
-    → (sizes (named xs ws) ≡ laid_sizes ps) × (words_in (named xs ws) ≡ ws)
+sized_named : (ps : List LaidObject) (xs : List (List ℕ)) (os : List world.Object) → xs ≡ map (λ (p : LaidObject). p.name) ps → map world.size_of os ≡ map unnamed (laid_sizes ps)
+    → (sizes (named xs os) ≡ laid_sizes ps) × (objects_of (named xs os) ≡ os)
 sized_named [] [] [] e f = (refl, refl)
-sized_named [] [] (w ∷ ws) e f = absurd (let q : ◌≡◌ {A = List ℕ} (length w ∷ map (λ (w : List ℕ). length w) ws) [] = f in cc)
-sized_named [] (x ∷ xs) ws e f = absurd (let q : ◌≡◌ {A = List (List ℕ)} (x ∷ xs) [] = e in cc)
-sized_named (p ∷ ps) [] ws e f = absurd (let q : ◌≡◌ {A = List (List ℕ)} [] (p.name ∷ map (λ (p : LaidObject). p.name) ps) = e in cc)
-sized_named (p ∷ ps) (x ∷ xs) [] e f = absurd (let q : ◌≡◌ {A = List ℕ} [] (p.extent.length ∷ map (λ (p : LaidObject). p.extent.length) ps) = f in cc)
-sized_named (p ∷ ps) (x ∷ xs) (w ∷ ws) e f =
+sized_named [] [] (o ∷ os) e f = absurd (let q : ◌≡◌ {A = List world.Size} (world.size_of o ∷ map world.size_of os) [] = f in cc)
+sized_named [] (x ∷ xs) os e f = absurd (let q : ◌≡◌ {A = List (List ℕ)} (x ∷ xs) [] = e in cc)
+sized_named (p ∷ ps) [] os e f = absurd (let q : ◌≡◌ {A = List (List ℕ)} [] (p.name ∷ map (λ (p : LaidObject). p.name) ps) = e in cc)
+sized_named (p ∷ ps) (x ∷ xs) [] e f = absurd (let q : ◌≡◌ {A = List world.Size} [] (unnamed (laid_size p) ∷ map unnamed (laid_sizes ps)) = f in cc)
+sized_named (p ∷ ps) (x ∷ xs) (o ∷ os) e f =
     let q : ◌≡◌ {A = List (List ℕ)} (x ∷ xs) (p.name ∷ map (λ (p : LaidObject). p.name) ps) = e in
-    let r : ◌≡◌ {A = List ℕ} (length w ∷ map (λ (w : List ℕ). length w) ws) (p.extent.length ∷ map (λ (p : LaidObject). p.extent.length) ps) = f in
+    let r : ◌≡◌ {A = List world.Size} (world.size_of o ∷ map world.size_of os) (unnamed (laid_size p) ∷ map unnamed (laid_sizes ps)) = f in
     let name : x ≡ p.name = cc in
     let names : xs ≡ map (λ (p : LaidObject). p.name) ps = cc in
-    let size : length w ≡ p.extent.length = cc in
-    let rest : map (λ (w : List ℕ). length w) ws ≡ map (λ (p : LaidObject). p.extent.length) ps = cc in
-    let h = sized_named ps xs ws names rest in (
-      ap (λ y. record { name = y; words = length w } ∷ sizes (named xs ws)) name ∙ ap (λ n. record { name = p.name; words = n } ∷ sizes (named xs ws)) size ∙ ap (λ zs. record { name = p.name; words = p.extent.length } ∷ zs) h.0,
-      ap (λ vs. w ∷ vs) h.1,
+    let size : world.size_of o ≡ unnamed (laid_size p) = cc in
+    let rest : map world.size_of os ≡ map unnamed (laid_sizes ps) = cc in
+    let long : length o.words ≡ p.extent.length = ap (λ (z : world.Size). z.elements) size in
+    let width : o.width ≡ p.extent.width = ap (λ (z : world.Size). z.width) size in
+    let h = sized_named ps xs os names rest in (
+      ap (λ y. record { name = y; width = o.width; elements = length o.words } ∷ sizes (named xs os)) name
+          ∙ ap (λ u. record { name = p.name; width = u; elements = length o.words } ∷ sizes (named xs os)) width
+          ∙ ap (λ n. record { name = p.name; width = p.extent.width; elements = n } ∷ sizes (named xs os)) long ∙ ap (λ zs. laid_size p ∷ zs) h.0,
+      ap (λ others. o ∷ others) h.1,
     )
 
 -- ---- the end of a run
@@ -170,9 +170,9 @@ module _ (effects : CallsAreEffects) (keep : CallsKeepObjects) (functions_are : 
       let function : Function = record { name = r.signature.name.text; parameters = ps; body = r.body; visible = r.environment.visible } in
       let effect : ℕ → Question → Effect = call_effect m (opened + 1) in
       let H : Shared = shared_in unit h in
-      let all : (sizes H.globals ≡ laid_sizes g.objects) × (words_in H.globals ≡ h.globals) =
+      let all : (sizes H.globals ≡ laid_sizes g.objects) × (objects_of H.globals ≡ h.globals) =
       sized_named g.objects (by_number.names_of (initial_globals unit)) h.globals (objects_are unit)
-      (call.world.sizes ∙ is.objects ∙ objects_words (initial_globals unit) ∙ sized unit typed) in
+      (call.world.sizes ∙ is.objects ∙ unnamed_sizes (initial_globals unit) ∙ ap (map unnamed) (sized unit typed)) in
       let s : State = record (state_within n H) { locals = bound ps ws [] } in
       let arity : arity_in unit f ≡ length ps =
       ap (λ o. unwrap_or o 0) (slice_get-map (λ (g : Function). length g.parameters) (functions unit) f ∙ ap (λ o. option_map (λ (g : Function). length g.parameters) o) r.function) in
@@ -197,6 +197,6 @@ module _ (effects : CallsAreEffects) (keep : CallsKeepObjects) (functions_are : 
       (subst (λ e. Kept effect n e (config (body_code g r.environment r.body) Ends (first_variables ws) h)) body
       (subst (λ c. Kept effect n (body_in unit n opened f ws h) c) start kept))
     where
-      objects_words : (gs : List Global) → map (λ (ws : List ℕ). length ws) (words_in gs) ≡ map (λ (g : Global). length g.words) gs
-      objects_words [] = refl
-      objects_words (g ∷ gs) = ap (λ ns. length g.words ∷ ns) (objects_words gs)
+      unnamed_sizes : (gs : List Global) → map world.size_of (objects_of gs) ≡ map unnamed (sizes gs)
+      unnamed_sizes [] = refl
+      unnamed_sizes (g ∷ gs) = ap (λ zs. unnamed (size g) ∷ zs) (unnamed_sizes gs)

@@ -20,7 +20,7 @@ use Rattle.cc_resolve.specs.declared.operations.BinaryOperation.TheVariants as w
 use Rattle.cc_cminor.specs.Cminor.{Expression, Constant, Local, Load, Statement, Skip, Set, Store, Sequence, If, Block, Exit, Return}
 use Rattle.cc_cminor.specs.Code.{in_sequence}
 use Rattle.cc_cminor.specs.Size.{expression_size, expressions_size, statement_size}
-use Rattle.cc_cminor.specs.internal.Lowering.{free, object_of, read_of, write_to, variable_of, variable_set, single_or, unary_of, truth_of, operation_of, binary_of, Kind, Conjunction, Disjunction, Strict, kind, is_plain, are_plain, plain, all_plain, used, called_on, count, locals_from, last_value, invoked, connected, put_expr, put_all, using, using_or, combined, assigned, performed, performed_optional, initialised, declared_code, started, leaving, lowered, all_lowered, body_code}
+use Rattle.cc_cminor.specs.internal.Lowering.{free, object_of, width_of, read_of, write_to, variable_of, variable_set, single_or, unary_of, truth_of, operation_of, binary_of, Kind, Conjunction, Disjunction, Strict, kind, is_plain, are_plain, plain, all_plain, used, called_on, count, locals_from, last_value, invoked, connected, put_expr, put_all, using, using_or, combined, assigned, performed, performed_optional, initialised, declared_code, started, leaving, lowered, all_lowered, body_code}
 use Rattle.cc_cminor.proofs.Tokens.{tokens, tokens_all, tokens_or, target_tokens, action_tokens, optional_tokens, declared_tokens, beginning_tokens, statement_tokens, statements_tokens}
 
 read_size : (o : Option ℕ) (n : ℕ) → expression_size (read_of o n) ≤ 2
@@ -146,7 +146,7 @@ module _ (g : Layout) where
     put_size (Variable x) v k = let a = read_size (number_in v.locals x.text) (object_of g x.text) in omega arith
     put_size (Element x e) v k =
         let a = plain_size g v e in
-        let b = used_size (is_plain e) (plain g v e) (put_expr g v k e) k 2 (12 * tokens e) (λ i. Set k (Load (object_of g x.text) i)) (omega arith) (put_size e v k) (λ x. omega arith) in
+        let b = used_size (is_plain e) (plain g v e) (put_expr g v k e) k 2 (12 * tokens e) (λ i. Set k (Load (width_of g x.text) (object_of g x.text) i)) (omega arith) (put_size e v k) (λ x. omega arith) in
         omega arith
     put_size (tree.Call f es) v k =
         let a = all_plain_size g v es in
@@ -197,8 +197,8 @@ module _ (g : Layout) where
       let t : Scalar = target_type (types_in v) (AtElement x i) in
       let o : ℕ = object_of g x.text in
       let a = put_size i v (free v) in
-      let b = h (suc (free v)) 9 (λ e. Store o (Local (free v)) (combined op t u (Load o (Local (free v))) e))
-      (λ y. let c = combined_size op t u (Load o (Local (free v))) y in omega arith) in
+      let b = h (suc (free v)) 9 (λ e. Store (width_of g x.text) o (Local (free v)) (combined op t u (Load (width_of g x.text) o (Local (free v))) e))
+      (λ y. let c = combined_size op t u (Load (width_of g x.text) o (Local (free v))) y in omega arith) in
       omega arith
 
   performed_size : (a : Action) (v : Environment) → statement_size (performed g v a) ≤ 12 * action_tokens a

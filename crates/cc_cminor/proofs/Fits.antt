@@ -27,7 +27,7 @@ use Rattle.cc_meaning.specs.Resolved.{arities, IsCalled, ExprResolved, ExprsReso
 use Rattle.cc_cminor.specs.Cminor.{Expression, Constant, Local, Unary, Load, Statement, Skip, Set, Store, Sequence, If, Loop, Block, Exit, Return}
 use Rattle.cc_cminor.specs.Code.{in_sequence}
 use Rattle.cc_cminor.specs.Numbers.{ExpressionFits, ExpressionsFit, StatementFits}
-use Rattle.cc_cminor.specs.internal.Lowering.{free, object_of, read_of, write_to, variable_of, variable_set, single_or, unary_of, operation_of, binary_of, truth_of, Kind, Conjunction, Disjunction, Strict, kind, is_plain, are_plain, plain, all_plain, used, count, locals_from, last_value, invoked, called_on, connected, put_expr, put_all, using, using_or, combined, assigned, performed, performed_optional, initialised, declared_code, started, leaving, lowered, all_lowered, body_code}
+use Rattle.cc_cminor.specs.internal.Lowering.{free, object_of, width_of, read_of, write_to, variable_of, variable_set, single_or, unary_of, operation_of, binary_of, truth_of, Kind, Conjunction, Disjunction, Strict, kind, is_plain, are_plain, plain, all_plain, used, count, locals_from, last_value, invoked, called_on, connected, put_expr, put_all, using, using_or, combined, assigned, performed, performed_optional, initialised, declared_code, started, leaving, lowered, all_lowered, body_code}
 use Rattle.cc_cminor.proofs.Known.{behind_layout, beginning_layout}
 use Rattle.cc_cminor.proofs.Tokens.{tokens, tokens_all, tokens_or, target_tokens, action_tokens, optional_tokens}
 use Rattle.cc_cminor.proofs.Longest.{larger, longest, longest_in, longest_declared, longest_beginning}
@@ -208,7 +208,7 @@ module _ (unit : List External) (g : Layout) (functions : length (arities unit) 
     put_fits (Variable x) v k is h f le = ((let lt : k < 1024 = omega arith in lt), plain_fits (Variable x) v f)
     put_fits (Element x e) v k is h f le =
         let lt : k < 1024 = omega arith in
-        used_fits (is_plain e) (plain g v e) (put_expr g v k e) k (λ i. Set k (Load (object_of g x.text) i)) (plain_fits e v f) (put_fits e v k is h.1 f (omega arith)) lt (λ y i. (lt, (object_fits x.text, i)))
+        used_fits (is_plain e) (plain g v e) (put_expr g v k e) k (λ i. Set k (Load (width_of g x.text) (object_of g x.text) i)) (plain_fits e v f) (put_fits e v k is h.1 f (omega arith)) lt (λ y i. (lt, (object_fits x.text, i)))
     put_fits (tree.Call f es) v k is h fr le =
         let few = few_arguments es in
         called_fits (are_plain es) (all_plain g v es) (in_sequence (put_all g v k es)) k (count es) (callee g f.text) (all_plain_fit es v fr)
@@ -252,8 +252,8 @@ module _ (unit : List External) (g : Layout) (functions : length (arities unit) 
       let fr : free v ≤ 1024 = omega arith in
       let lt : free v < 1024 = omega arith in (
         put_fits e v (free v) is h.1 fr (omega arith),
-        i (suc (free v)) (λ y. Store (object_of g x.text) (Local (free v)) (f t (Load (object_of g x.text) (Local (free v))) y)) (omega arith)
-            (λ y q. (object_fits x.text, lt, p t (Load (object_of g x.text) (Local (free v))) y (object_fits x.text, lt) q)),
+        i (suc (free v)) (λ y. Store (width_of g x.text) (object_of g x.text) (Local (free v)) (f t (Load (width_of g x.text) (object_of g x.text) (Local (free v))) y)) (omega arith)
+            (λ y q. (object_fits x.text, lt, p t (Load (width_of g x.text) (object_of g x.text) (Local (free v))) y (object_fits x.text, lt) q)),
       )
 
   performed_fits : (a : Action) (v : Environment) → v.layout ≡ g → ActionResolved (arities unit) v a → free v + action_tokens a ≤ 1024 → StatementFits (performed g v a)

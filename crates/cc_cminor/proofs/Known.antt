@@ -17,7 +17,7 @@ abbrev pub IsObject : Layout → List ℕ → Type 0
 IsObject g x = (number : ℕ) × (object_number g.objects x ≡ Some number)
 
 abbrev pub IsPlaced : Layout → Option ℕ → List ℕ → Type 0
-IsPlaced g None x = IsObject g x × ((extent_of g.objects x).length ≡ 1)
+IsPlaced g None x = IsObject g x × resolved.IsOneWord (extent_of g.objects x)
 IsPlaced g (Some i) x = Unit {0}
 
 abbrev pub IsVariable : Layout → Environment → List ℕ → Type 0
@@ -108,7 +108,7 @@ same_count (more e rest) = let h = same_count rest in omega arith
 
 module _ (a : List ℕ) (g : Layout) (many : length a ≡ length g.functions) where
   placed_of : (o : Option ℕ) (v : Environment) (x : List ℕ) → v.layout ≡ g → resolved.IsPlaced o v x → IsPlaced g o x
-  placed_of None v x e h = (subst (λ (g : Layout). IsObject g x) e h.0, subst (λ (g : Layout). (extent_of g.objects x).length ≡ 1) e h.1)
+  placed_of None v x e h = (subst (λ (g : Layout). IsObject g x) e h.0, subst (λ (g : Layout). resolved.IsOneWord (extent_of g.objects x)) e h.1)
   placed_of (Some i) v x e h = tt
 
   variable_of : (v : Environment) (x : List ℕ) → v.layout ≡ g → resolved.IsVariable v x → IsVariable g v x

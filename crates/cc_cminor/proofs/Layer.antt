@@ -42,9 +42,9 @@ exits_grow i (Leaving κ) l h = begins_refl h.output
 moves_grow : (s : Statement) (κ : Continuation) (l : ℕ → ℕ) (h : World) → Grows h (moves s κ l h)
 moves_grow Skip κ l h = skips_grow κ l h
 moves_grow (Set x e) κ l h = tried_case (Grows h) (value e l h) _ (begins_refl h.output) (λ w. begins_refl h.output)
-moves_grow (Store o i e) κ l h =
+moves_grow (Store width o i e) κ l h =
     tried_case (Grows h) (value i l h) _ (begins_refl h.output) (λ j. tried_case (Grows h) (value e l h) _ (begins_refl h.output) (λ w.
-    stored_case (Grows h) h (element h o j) _ _ (begins_refl h.output) (λ old. begins_refl h.output)))
+    stored_case (Grows h) h (element h width o j) _ _ (begins_refl h.output) (λ old. begins_refl h.output)))
 moves_grow (Call to f es) κ l h = tried_case (Grows h) (values es l h) _ (begins_refl h.output) (λ ws. begins_refl h.output)
 moves_grow (Read to) κ l h = begins_refl h.output
 moves_grow (Write e) κ l h = tried_case (Grows h) (value e l h) _ (begins_refl h.output) (λ w. (w ∷ [], refl))
@@ -82,9 +82,9 @@ exits_ask i (Leaving κ) l h = (refl, λ a. refl)
 moves_ask : (s : Statement) (κ : Continuation) (l : ℕ → ℕ) (h : World) → Asks h (moves s κ l h)
 moves_ask Skip κ l h = skips_ask κ l h
 moves_ask (Set x e) κ l h = tried_case (Asks h) (value e l h) _ (refl, λ a. refl) (λ w. (refl, λ a. refl))
-moves_ask (Store o i e) κ l h =
+moves_ask (Store width o i e) κ l h =
     tried_case (Asks h) (value i l h) _ (refl, λ a. refl) (λ j. tried_case (Asks h) (value e l h) _ (refl, λ a. refl) (λ w.
-    stored_case (Asks h) h (element h o j) _ _ (refl, λ a. refl) (λ old. (refl, λ a. refl))))
+    stored_case (Asks h) h (element h width o j) _ _ (refl, λ a. refl) (λ old. (refl, λ a. refl))))
 moves_ask (Call to f es) κ l h = tried_case (Asks h) (values es l h) _ (refl, λ a. refl) (λ ws. (refl, λ a. refl))
 moves_ask (Read to) κ l h = (refl, λ a. refl)
 moves_ask (Write e) κ l h = tried_case (Asks h) (value e l h) _ (refl, λ a. refl) (λ w. (refl, λ a. refl))

@@ -1,11 +1,12 @@
 -- What the limits of a typed unit say: its parameters, locals, functions and objects are few.
-use Rattle.std.proofs.Common.{◌≡◌, ℕ, zero, suc, ◌+◌, ◌<◌, ◌≤◌, Bool, true, false, if◌then◌else◌, nat_lt, List, [], ◌∷◌, ◌++◌, length, map, take, drop, Option, Some, None, is_some, not, option_map, slice_get, refl, sym, ap, ◌∙◌, arith}
+use Rattle.std.proofs.Common.{◌≡◌, ℕ, zero, suc, ◌+◌, ◌/◌, ◌<◌, ◌≤◌, Bool, true, false, if◌then◌else◌, nat_lt, List, [], ◌∷◌, ◌++◌, length, map, take, drop, Option, Some, None, is_some, not, option_map, unwrap_or, slice_get, refl, sym, ap, ◌∙◌, arith}
 use Rattle.std.proofs.lemmas.Bool.{ltb-false}
 use Rattle.cc_tokens.specs.declared.scalar.Scalar.{Scalar}
-use Rattle.cc_syntax.specs.Tree.{Name, Stmts, Signature, ConstantExpr, Object, Single, Array, External, Declaration, Definition, Objects}
-use Rattle.cc_typing.specs.Scope.{FileScope, with_object, file_scope_behind, first_file_scope}
-use Rattle.cc_typing.specs.Types.{array_length, object_words, constant_word, elements_of_word, value_type}
-use Rattle.cc_typing.specs.Rules.{broken, broken_if, value_offences, constant_offences, optional_constant_offences, constants_offences, length_offences, object_offences, objects_offences, external_offences, externals_offences, offences}
+use Rattle.cc_tokens.specs.declared.scalar.Scalar.TheVariants.{Int}
+use Rattle.cc_syntax.specs.Tree.{Name, Stmts, Signature, ConstantExpr, Object, Single, Array, Bytes, External, Declaration, Definition, Objects}
+use Rattle.cc_typing.specs.Scope.{Elements, FileScope, with_declared, with_object, file_scope_behind, first_file_scope}
+use Rattle.cc_typing.specs.Types.{array_length, array_elements, object_elements, object_words, constant_word, elements_of_word, value_type}
+use Rattle.cc_typing.specs.Rules.{broken, broken_if, value_offences, constant_offences, optional_constant_offences, constants_offences, length_offences, named_array_offences, object_offences, objects_offences, external_offences, externals_offences, offences}
 use Rattle.cc_typing.specs.Limits.{most_words, too_many, past, parameter_excesses, locals, function_names, objects, object_name, word_excesses, external_excesses, externals_excesses, excesses}
 use Rattle.cc_typing.specs.Typed.{IsTyped, IsWithinLimits, definitions}
 use Rattle.cc_typing.specs.declared.rule.Offence.{Offence}
@@ -68,7 +69,7 @@ words_append : (os ps : List Object) → HaveWords os → HaveWords ps → HaveW
 words_append [] ps h i = i
 words_append (o ∷ os) ps h i = (h.0, words_append os ps h.1 i)
 
-some_length : (n : Option ℕ) (given at : ℕ) → is_some n ≡ true → length_offences n given at ≡ [] → 1 ≤ elim n as (λ _. ℕ) [ None ↦ 0 | Some k ↦ k ]
+some_length : (n : Option ℕ) (given at : ℕ) → is_some n ≡ true → length_offences n given at ≡ [] → 1 ≤ unwrap_or n 0
 some_length None given at i e = absurd (let d : ◌≡◌ {A = Bool} false true = i in cc)
 some_length (Some zero) given at i e = absurd (let l = ap length e in let f : 1 ≡ 0 = l in omega arith)
 some_length (Some (suc n)) given at i e = omega arith
@@ -85,13 +86,21 @@ length_known : (f : FileScope) (n : Option ConstantExpr) (values : List Constant
 length_known f None values e = refl
 length_known f (Some c) values e = known_length (constant_word c) (elements_of_word (value_type [] c.expr)) (constant_known (constant_word c) (value_offences f.bindings c.expr) c.at e)
 
-object_has_words : (t : Scalar) (o : Object) (f : FileScope) → object_offences t o f ≡ [] → 1 ≤ object_words o
-object_has_words t (Single x initial) f e = omega arith
-object_has_words t (Array x n values) f e =
-    let behind = length_offences (array_length n values) (length values) x.at ++ constants_offences (with_object t (Array x n values) f).bindings values in
+array_has_elements : (t : Scalar) (x : Name) (n : Option ConstantExpr) (values : List ConstantExpr) (f : FileScope) → named_array_offences t x n values f ≡ [] → 1 ≤ array_elements n values
+array_has_elements t x n values f e =
+    let list = constants_offences (with_declared x.text (Elements t) f).bindings values in
+    let behind = length_offences (array_length n values) (length values) x.at ++ list in
     let parts = right_empty _ (optional_constant_offences f.bindings n ++ behind) e in
     some_length (array_length n values) (length values) x.at (length_known f n values (left_empty (optional_constant_offences f.bindings n) behind parts))
-    (left_empty (length_offences (array_length n values) (length values) x.at) (constants_offences (with_object t (Array x n values) f).bindings values) (right_empty (optional_constant_offences f.bindings n) behind parts))
+    (left_empty (length_offences (array_length n values) (length values) x.at) list (right_empty (optional_constant_offences f.bindings n) behind parts))
+
+object_has_words : (t : Scalar) (o : Object) (f : FileScope) → object_offences t o f ≡ [] → 1 ≤ object_words o
+object_has_words t (Single x initial) f e = omega arith
+object_has_words t (Array x n values) f e = array_has_elements t x n values f e
+object_has_words t (Bytes x n values) f e = filled (array_elements n values) (array_has_elements Int x n values f e)
+  where
+    filled : (n : ℕ) → 1 ≤ n → 1 ≤ (n + 3) / 4
+    filled n h = omega arith
 
 objects_have_words : (t : Scalar) (os : List Object) (f : FileScope) → objects_offences t os f ≡ [] → HaveWords os
 objects_have_words t [] f e = tt
@@ -119,7 +128,7 @@ words_fit (o ∷ rest) taken h le e = by (nat_lt most_words (taken + object_word
 
 laid_many : (at : ℕ) (os : List Object) → length (laid_from at os) ≡ length os
 laid_many at [] = refl
-laid_many at (o ∷ rest) = ap suc (laid_many (at + object_words o) rest)
+laid_many at (o ∷ rest) = ap suc (laid_many (at + object_elements o) rest)
 
 pub few_objects : (unit : List External) → IsTyped unit → IsWithinLimits unit → length (laid_from 0 (objects unit)) ≤ 65536
 few_objects unit typed h =

@@ -16,7 +16,7 @@ use Rattle.cc_meaning.specs.Resolved.{arities, IsCalled, ExprResolved, ExprsReso
 use Rattle.cc_cminor.specs.Cminor.{Expression, Constant, Local, Load, Statement, Skip, Set, Store, Sequence, If, Loop, Block, Exit, Return}
 use Rattle.cc_cminor.specs.Code.{in_sequence}
 use Rattle.cc_cminor.specs.Pair.{AreCalls}
-use Rattle.cc_cminor.specs.internal.Lowering.{free, object_of, variable_of, variable_set, write_to, unary_of, binary_of, truth_of, Kind, Conjunction, Disjunction, Strict, kind, is_plain, are_plain, plain, all_plain, used, count, locals_from, invoked, called_on, connected, put_expr, put_all, using, using_or, combined, assigned, performed, performed_optional, initialised, declared_code, started, leaving, lowered, all_lowered, body_code}
+use Rattle.cc_cminor.specs.internal.Lowering.{free, object_of, width_of, variable_of, variable_set, write_to, unary_of, binary_of, truth_of, Kind, Conjunction, Disjunction, Strict, kind, is_plain, are_plain, plain, all_plain, used, count, locals_from, invoked, called_on, connected, put_expr, put_all, using, using_or, combined, assigned, performed, performed_optional, initialised, declared_code, started, leaving, lowered, all_lowered, body_code}
 use Rattle.cc_cminor.proofs.Known.{behind_layout, beginning_layout}
 
 many : (es : Exprs) → count_of es ≡ count es
@@ -74,7 +74,7 @@ module _ (unit : List External) (g : Layout) where
     put_calls : (e : Expr) (v : Environment) (k : ℕ) → v.layout ≡ g → ExprResolved (arities unit) v e → AreCalls unit (put_expr g v k e)
     put_calls (Number t n) v k is h = tt
     put_calls (Variable x) v k is h = tt
-    put_calls (Element x e) v k is h = used_calls (is_plain e) (plain g v e) (put_expr g v k e) k (λ i. Set k (Load (object_of g x.text) i)) (put_calls e v k is h.1) (λ x. tt)
+    put_calls (Element x e) v k is h = used_calls (is_plain e) (plain g v e) (put_expr g v k e) k (λ i. Set k (Load (width_of g x.text) (object_of g x.text) i)) (put_calls e v k is h.1) (λ x. tt)
     put_calls (tree.Call f es) v k is h =
         called_calls (are_plain es) (all_plain g v es) (in_sequence (put_all g v k es)) k (count es) (callee g f.text) (sequence_calls (put_all g v k es) (put_all_calls es v k is h.1)) (many_plain g v es)
         (subst (λ (l : Layout). IsCalled (arities unit) (callee l f.text) (count es)) is (subst (λ n. IsCalled (arities unit) (callee v.layout f.text) n) (many es) h.0))
@@ -109,7 +109,7 @@ module _ (unit : List External) (g : Layout) where
       (λ e. write_calls (number_in v.locals x.text) (object_of g x.text) (f (target_type (types_in v) (AtVariable x)) (variable_of g v x.text) e))
   assigned_calls (AtElement x e) v f go is h i = (
     put_calls e v (free v) is h.1,
-    i (suc (free v)) (λ y. Store (object_of g x.text) (Local (free v)) (f (target_type (types_in v) (AtElement x e)) (Load (object_of g x.text) (Local (free v))) y)) (λ y. tt),
+    i (suc (free v)) (λ y. Store (width_of g x.text) (object_of g x.text) (Local (free v)) (f (target_type (types_in v) (AtElement x e)) (Load (width_of g x.text) (object_of g x.text) (Local (free v))) y)) (λ y. tt),
   )
 
   performed_calls : (a : Action) (v : Environment) → v.layout ≡ g → ActionResolved (arities unit) v a → AreCalls unit (performed g v a)

@@ -2,7 +2,7 @@
 use Rattle.std.proofs.Common.{◌≡◌, ℕ, suc, ◌+◌, ◌-◌, ◌≤◌, List, [], ◌∷◌, refl, ap, ◌∙◌, arith, add_assoc}
 use Rattle.cc_meaning.specs.Meaning as meaning
 use Rattle.cc_meaning.specs.Meaning.{State, Run, Gives, then_do}
-use Rattle.cc_meaning.specs.Numbered.{words_in}
+use Rattle.cc_meaning.specs.Numbered.{objects_of}
 use Rattle.cc_runs.specs.Behavior.{Going, Outcome}
 use Rattle.cc_runs.specs.World as world
 use Rattle.cc_runs.specs.World.{Question, Answer, Effect}
@@ -13,7 +13,7 @@ use Rattle.cc_cminor.specs.Code.{in_sequence}
 
 -- what the functions share, by number
 abbrev pub world_at : State → world.World
-world_at s = record { globals = words_in s.globals; input = s.input; output = s.output }
+world_at s = record { globals = objects_of s.globals; input = s.input; output = s.output }
 
 -- what is to be done after the first of some statements
 abbrev pub after_list : List Statement → Continuation → Continuation

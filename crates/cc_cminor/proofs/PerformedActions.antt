@@ -16,17 +16,20 @@ use Rattle.cc_typing.specs.Names.{same_name}
 use Rattle.cc_resolve.specs.Layout.{Layout}
 use Rattle.cc_resolve.specs.Environment.{Environment, types_in, number_in, with_local, with_locals, behind_beginning}
 use Rattle.cc_meaning.specs.Meaning as meaning
-use Rattle.cc_meaning.specs.Calls.{sizes}
+use Rattle.cc_meaning.specs.Calls.{Size, size, sizes, laid_sizes}
 use Rattle.cc_meaning.specs.Meaning.{Global, State, Run, Gives, Flow, Falls, then_do, given, read_element, write_element, evaluate, evaluate_or, Destination, ToVariable, ToElement, destination, old_value, write, new_value, perform, perform_optional, stored, declare, start, words_of, local_word, with_local_word, with_element, variable_word}
 use Rattle.cc_runs.specs.World as world
 use Rattle.cc_runs.specs.World.{World, Question, Effect}
 use Rattle.cc_runs.specs.Run.{Goes, tried}
+use Rattle.cc_words.specs.Widths.{kept}
+use Rattle.cc_words.specs.declared.operators.Width.{Width}
+use Rattle.cc_words.specs.declared.operators.Width.TheVariants.{Word}
 use Rattle.cc_cminor.specs.Cminor.{Expression, Constant, Local, Load, then_value, value, put, Statement, Skip, Set, Store, Sequence, Continuation, Then, Config, config}
 use Rattle.cc_cminor.specs.Code.{in_sequence}
-use Rattle.cc_cminor.specs.internal.Lowering.{free, object_of, variable_of, write_to, variable_set, kind, Strict, is_plain, plain, put_expr, using, using_or, combined, assigned, performed, performed_optional, initialised, declared_code, started}
+use Rattle.cc_cminor.specs.internal.Lowering.{free, object_of, width_of, variable_of, write_to, variable_set, kind, Strict, is_plain, plain, put_expr, using, using_or, combined, assigned, performed, performed_optional, initialised, declared_code, started}
 use Rattle.cc_cminor.proofs.Known.{IsObject, IsPlaced, IsVariable, Known, KnownOr, KnownTarget, KnownAction, KnownOptional, KnownDeclared, KnownBeginning}
 use Rattle.cc_cminor.proofs.Paths.{world_at, after_list, Comes, comes_moved, comes_then, comes_here, comes_first, comes_next}
-use Rattle.cc_cminor.proofs.Variables.{name_is_itself, holds_same, put_here, put_below, reads, writes, written_names, laid_sizes, size_object, stored_object, binary_value, PlainIs, plain_then, plain_given, plain_read, Fits, fits_length, variable_value, element_value, plain_is}
+use Rattle.cc_cminor.proofs.Variables.{name_is_itself, holds_same, put_here, put_below, reads, writes, written_names, size_object, stored_object, binary_value, PlainIs, plain_then, plain_given, plain_read, Fits, fits_length, variable_value, element_value, plain_is}
 use Rattle.cc_cminor.proofs.PutExpressions.{CallFacts, Puts, used_comes, puts}
 
 -- the operator takes both operands
@@ -47,9 +50,9 @@ applied_takes_both assignment.And = refl
 applied_takes_both assignment.Xor = refl
 applied_takes_both assignment.Or = refl
 
-kept_by : (b : Bool) (g : Global) (i w : ℕ) (rest other : List Global) → sizes other ≡ sizes rest → sizes (if b then record g { words = slice_set g.words i w } ∷ rest else g ∷ other) ≡ sizes (g ∷ rest)
-kept_by true g i w rest other e = ap (λ (n : ℕ). record { name = g.name; words = n } ∷ sizes rest) (length-set g.words i w)
-kept_by false g i w rest other e = ap (λ zs. record { name = g.name; words = length g.words } ∷ zs) e
+kept_by : (b : Bool) (g : Global) (i w : ℕ) (rest other : List Global) → sizes other ≡ sizes rest → sizes (if b then record g { words = slice_set g.words i (kept g.width w) } ∷ rest else g ∷ other) ≡ sizes (g ∷ rest)
+kept_by true g i w rest other e = ap (λ (n : ℕ). record { name = g.name; width = g.width; elements = n } ∷ sizes rest) (length-set g.words i (kept g.width w))
+kept_by false g i w rest other e = ap (λ zs. size g ∷ zs) e
 
 element_keeps : (x : List ℕ) (i w : ℕ) (gs : List Global) → sizes (with_element x i w gs) ≡ sizes gs
 element_keeps x i w [] = refl
@@ -82,9 +85,9 @@ module _ (effect : ℕ → Question → Effect) (g : Layout) where
   local_fits ns x w i s l e h =
       record { names = written_names x w s.locals ∙ h.names; holds = writes s.locals l x w i (ap (λ xs. number_in xs x) h.names ∙ e) h.holds; sized = h.sized }
 
-  object_written : (x : List ℕ) (i w : ℕ) (s : State) → IsObject g x → sizes s.globals ≡ laid_sizes g.objects → i < length (words_of s.globals x) → world.stored (world_at s) (object_of g x) i w ≡ Some (world_at (record s { globals = with_element x i w s.globals }))
+  object_written : (x : List ℕ) (i w : ℕ) (s : State) → IsObject g x → sizes s.globals ≡ laid_sizes g.objects → i < length (words_of s.globals x) → world.stored (world_at s) (width_of g x) (object_of g x) i w ≡ Some (world_at (record s { globals = with_element x i w s.globals }))
   object_written x i w s known e lt =
-      ap (λ o. world.stored (world_at s) (unwrap_or o 0) i w) known.1 ∙ stored_object s.globals g.objects x known.0 i w s.input s.output e known.1 lt
+      ap (λ o. world.stored (world_at s) (width_of g x) (unwrap_or o 0) i w) known.1 ∙ stored_object s.globals g.objects x known.0 i w s.input s.output e known.1 lt
 
   element_fits : (ns : List (List ℕ)) (x : List ℕ) (i w : ℕ) (s : State) (l : ℕ → ℕ) → Fits g ns s l → Fits g ns (record s { globals = with_element x i w s.globals }) l
   element_fits ns x i w s l h = record { names = h.names; holds = h.holds; sized = element_keeps x i w s.globals ∙ h.sized }
@@ -95,12 +98,12 @@ module _ (effect : ℕ → Question → Effect) (g : Layout) where
       let none_here : local_word s.locals x ≡ None = reads s.locals l x h.holds ∙ ap (λ xs. option_map l (number_in xs x)) h.names ∙ ap (option_map l) num in
       let t : State = record s { globals = with_element x 0 w s.globals } in
       let same : stored x w s ≡ t = ap (λ (o : Option ℕ). if is_some o then record s { locals = with_local_word x w s.locals } else t) none_here in
-      let size : length (words_of s.globals x) ≡ 1 = size_object s.globals g.objects x h.sized ∙ placed.1 in
+      let size : length (words_of s.globals x) ≡ 1 = size_object s.globals g.objects x h.sized ∙ placed.1.0 in
       let o : ℕ = object_of g x in
-      subst (λ u. Comes effect (Falling κ ns) (config (Store o (Constant 0) e) κ l (world_at s)) s.steps (Gives Falls u)) (sym same)
-      (comes_moved effect (Falling κ ns) (config (Store o (Constant 0) e) κ l (world_at s)) (config Skip κ l (world_at t)) s.steps (Gives Falls t)
-      (ap (λ (p : Option ℕ). tried p (λ w. tried (world.stored (world_at s) o 0 w) (λ y. Goes (config Skip κ l y)))) is
-      ∙ ap (λ (p : Option World). tried p (λ y. Goes (config Skip κ l y))) (object_written x 0 w s placed.0 h.sized (omega arith)))
+      subst (λ u. Comes effect (Falling κ ns) (config (Store Word o (Constant 0) e) κ l (world_at s)) s.steps (Gives Falls u)) (sym same)
+      (comes_moved effect (Falling κ ns) (config (Store Word o (Constant 0) e) κ l (world_at s)) (config Skip κ l (world_at t)) s.steps (Gives Falls t)
+      (ap (λ (p : Option ℕ). tried p (λ w. tried (world.stored (world_at s) Word o 0 w) (λ y. Goes (config Skip κ l y)))) is
+      ∙ ap (λ (p : Option World). tried p (λ y. Goes (config Skip κ l y))) (ap (λ (u : Width). world.stored (world_at s) u o 0 w) (sym placed.1.1) ∙ object_written x 0 w s placed.0 h.sized (omega arith)))
       (comes_here effect (Falling κ ns) (config Skip κ l (world_at t)) Falls t (record { falls = refl; stops = record { variables = l; at = refl; fits = element_fits ns x 0 w s l h } })))
   stored_by (Some i) ns x w e κ l s num placed h is =
       let t : State = record s { locals = with_local_word x w s.locals } in
@@ -118,20 +121,20 @@ module _ (effect : ℕ → Question → Effect) (g : Layout) where
   variable_comes v x e κ l s (meaning.Wrong cause o) placed h p = tt
 
   written_by : (b : Bool) (ns : List (List ℕ)) (x : List ℕ) (k i w : ℕ) (e : Expression) (κ : Continuation) (l : ℕ → ℕ) (s : State) → IsObject g x → nat_lt i (length (words_of s.globals x)) ≡ b → l k ≡ i → Fits g ns s l → value e l (world_at s) ≡ Some w
-      → Comes effect (Falling κ ns) (config (Store (object_of g x) (Local k) e) κ l (world_at s)) s.steps (if b then Gives Falls (record s { globals = with_element x i w s.globals }) else meaning.Wrong Index s.output)
+      → Comes effect (Falling κ ns) (config (Store (width_of g x) (object_of g x) (Local k) e) κ l (world_at s)) s.steps (if b then Gives Falls (record s { globals = with_element x i w s.globals }) else meaning.Wrong Index s.output)
   written_by true ns x k i w e κ l s known lt at h is =
       let t : State = record s { globals = with_element x i w s.globals } in
       let o : ℕ = object_of g x in
-      comes_moved effect (Falling κ ns) (config (Store o (Local k) e) κ l (world_at s)) (config Skip κ l (world_at t)) s.steps (Gives Falls t)
-      (ap (λ p. tried p (λ w. tried (world.stored (world_at s) o (l k) w) (λ y. Goes (config Skip κ l y)))) is
-      ∙ ap (λ (p : Option World). tried p (λ y. Goes (config Skip κ l y))) (ap (λ j. world.stored (world_at s) o j w) at ∙ object_written x i w s known h.sized (ltb-true i (length (words_of s.globals x)) lt)))
+      comes_moved effect (Falling κ ns) (config (Store (width_of g x) o (Local k) e) κ l (world_at s)) (config Skip κ l (world_at t)) s.steps (Gives Falls t)
+      (ap (λ p. tried p (λ w. tried (world.stored (world_at s) (width_of g x) o (l k) w) (λ y. Goes (config Skip κ l y)))) is
+      ∙ ap (λ (p : Option World). tried p (λ y. Goes (config Skip κ l y))) (ap (λ j. world.stored (world_at s) (width_of g x) o j w) at ∙ object_written x i w s known h.sized (ltb-true i (length (words_of s.globals x)) lt)))
       (comes_here effect (Falling κ ns) (config Skip κ l (world_at t)) Falls t (record { falls = refl; stops = record { variables = l; at = refl; fits = element_fits ns x i w s l h } }))
   written_by false ns x k i w e κ l s known lt at h is = tt
 
   element_comes : (ns : List (List ℕ)) (x : List ℕ) (k i : ℕ) (e : Expression) (κ : Continuation) (l : ℕ → ℕ) (s : State) (r : Run ℕ) → IsObject g x → l k ≡ i → Fits g ns s l → PlainIs r s (value e l (world_at s))
-      → Comes effect (Falling κ ns) (config (Store (object_of g x) (Local k) e) κ l (world_at s)) s.steps (then_do r (λ new z. write_element x i new z))
+      → Comes effect (Falling κ ns) (config (Store (width_of g x) (object_of g x) (Local k) e) κ l (world_at s)) s.steps (then_do r (λ new z. write_element x i new z))
   element_comes ns x k i e κ l s (Gives w u) known at h p =
-      subst (λ t. Comes effect (Falling κ ns) (config (Store (object_of g x) (Local k) e) κ l (world_at s)) s.steps (write_element x i w t)) (sym p.0) (written_by (nat_lt i (length (words_of s.globals x))) ns x k i w e κ l s known refl at h p.1)
+      subst (λ t. Comes effect (Falling κ ns) (config (Store (width_of g x) (object_of g x) (Local k) e) κ l (world_at s)) s.steps (write_element x i w t)) (sym p.0) (written_by (nat_lt i (length (words_of s.globals x))) ns x k i w e κ l s known refl at h p.1)
   element_comes ns x k i e κ l s (meaning.Going o) known at h p = absurd p
   element_comes ns x k i e κ l s (meaning.Wrong cause o) known at h p = tt
 
@@ -179,7 +182,7 @@ module _ (effect : ℕ → Question → Effect) (g : Layout) where
         let t : Scalar = target_type (types_in v) (AtElement x i) in
         let k : ℕ = free v in
         let o : ℕ = object_of g x.text in
-        let f : Expression → Statement = λ e. Store o (Local k) (combined aop t u (Load o (Local k)) e) in
+        let f : Expression → Statement = λ e. Store (width_of g x.text) o (Local k) (combined aop t u (Load (width_of g x.text) o (Local k)) e) in
         let X : Statement = code (suc k) f in
         let rest : Destination → State → Run Flow = λ d t'. then_do (right t') (λ w z. then_do (new_value aop t u d w z) (λ new y. write d new y)) in
         let go : ℕ → State → Run Flow = λ j t'. rest (ToElement x.text j) t' in
@@ -193,8 +196,8 @@ module _ (effect : ℕ → Question → Effect) (g : Layout) where
         (takes (suc k) f κ q.variables z (λ w y. then_do (new_value aop t u (ToElement x.text j) w y) (λ new y. write (ToElement x.text j) new y)) (omega arith) (omega arith) q.fits
         (λ e m y w below fits same is.
         let here : m k ≡ j = same k (omega arith) ∙ q.is in
-        element_comes v.locals x.text k j (combined aop t u (Load o (Local k)) e) κ m y (new_value aop t u (ToElement x.text j) w y) known.0 here fits
-        (new_by aop t u (ToElement x.text j) (Load o (Local k)) e w m y both
+        element_comes v.locals x.text k j (combined aop t u (Load (width_of g x.text) o (Local k)) e) κ m y (new_value aop t u (ToElement x.text j) w y) known.0 here fits
+        (new_by aop t u (ToElement x.text j) (Load (width_of g x.text) o (Local k)) e w m y both
         (subst (λ p. PlainIs (read_element x.text j y) y p) (sym (element_value g x.text (Local k) j m y known.0 fits.sized (ap (λ a. Some a) here))) (plain_read x.text j y)) is)))))))
 
     pub performed_comes : (a : Action) (v : Environment) (κ : Continuation) (l : ℕ → ℕ) (s : State) → KnownAction g v a → s.steps < n → Fits g v.locals s l

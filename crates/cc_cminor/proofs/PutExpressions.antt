@@ -16,7 +16,7 @@ use Rattle.cc_resolve.specs.declared.layout.Callee.TheVariants.{WriteWord, ReadW
 use Rattle.cc_meaning.specs.Meaning as meaning
 use Rattle.cc_meaning.specs.Meaning.{State, Run, Gives, then_do, choose, given, unless_decided, read_element, read_input, evaluate, evaluate_all, variable_word}
 use Rattle.cc_meaning.specs.Function as by_name
-use Rattle.cc_meaning.specs.Calls.{sizes, shared_of, after_call, KeepsObjects}
+use Rattle.cc_meaning.specs.Calls.{sizes, laid_sizes, shared_of, after_call, KeepsObjects}
 use Rattle.cc_meaning.specs.Numbered.{world_of, numbered}
 use Rattle.cc_runs.specs.World as world
 use Rattle.cc_runs.specs.World.{World, Question, Answer, Effect, first_or_zero, rest_of}
@@ -24,10 +24,10 @@ use Rattle.cc_runs.specs.Run as layer
 use Rattle.cc_runs.specs.Run.{Move, Goes, Calls, tried, run, work, act, work_act, work_resumed}
 use Rattle.cc_cminor.specs.Cminor.{Expression, Constant, Local, Load, then_value, value, values, put, Statement, Skip, Set, Call, Read, Write, Sequence, If, Continuation, Then, Config, config, chosen, cminor_move}
 use Rattle.cc_cminor.specs.Code.{in_sequence}
-use Rattle.cc_cminor.specs.internal.Lowering.{free, object_of, variable_of, unary_of, truth_of, binary_of, Kind, Conjunction, Disjunction, Strict, kind, is_strict, is_plain, are_plain, plain, all_plain, used, called_on, count, locals_from, last_value, invoked, connected, put_expr, put_all}
+use Rattle.cc_cminor.specs.internal.Lowering.{free, object_of, width_of, variable_of, unary_of, truth_of, binary_of, Kind, Conjunction, Disjunction, Strict, kind, is_strict, is_plain, are_plain, plain, all_plain, used, called_on, count, locals_from, last_value, invoked, connected, put_expr, put_all}
 use Rattle.cc_cminor.proofs.Known.{IsCalled, Known, AllKnown}
 use Rattle.cc_cminor.proofs.Paths.{world_at, Exact, one_call, Comes, comes_moved, comes_then, comes_as, comes_here, after_list, comes_first, comes_next, runs, works}
-use Rattle.cc_cminor.proofs.Variables.{put_here, put_below, unary_value, binary_value, strict_undecided, is_conjunction, is_disjunction, PlainIs, plain_given, plain_read, laid_sizes, Fits, fits_put, variable_value, element_value, plain_is, all_plain_is, truth_twice}
+use Rattle.cc_cminor.proofs.Variables.{put_here, put_below, unary_value, binary_value, strict_undecided, is_conjunction, is_disjunction, PlainIs, plain_given, plain_read, Fits, fits_put, variable_value, element_value, plain_is, all_plain_is, truth_twice}
 
 -- what a call of function f on some words does: the caller goes on as the effect says, which the unit's meaning gives by number
 pub record CallIs (effect : ℕ → Question → Effect) (call : meaning.Calls) (x ws : List ℕ) (f : ℕ) (s : State) : Type 0 where
@@ -332,10 +332,10 @@ module _ (effect : ℕ → Question → Effect) (g : Layout) where
       puts (Number t w) v k κ l s known le lt h = set_comes k (Constant w) κ v.locals l s (Gives w s) le h (refl, refl)
       puts (Variable x) v k κ l s known le lt h = set_comes k (variable_of g v x.text) κ v.locals l s (Gives (variable_word x.text s) s) le h (refl, variable_value g v x.text s l known h)
       puts (Element x e) v k κ l s known le lt h =
-          used_comes (Puts k κ v.locals l) (is_plain e) (plain g v e) (put_expr g v k e) k (λ i. Set k (Load (object_of g x.text) i)) κ v.locals l s (evaluate e (types_in v) call s) (λ i t. read_element x.text i t) h
+          used_comes (Puts k κ v.locals l) (is_plain e) (plain g v e) (put_expr g v k e) k (λ i. Set k (Load (width_of g x.text) (object_of g x.text) i)) κ v.locals l s (evaluate e (types_in v) call s) (λ i t. read_element x.text i t) h
           (λ p. plain_is g call e v l s p known.1 h) (λ μ. puts e v k μ l s known.1 le lt h)
           (λ y m u w less fits same is. puts_from k κ v.locals l m _ u.steps (read_element x.text w u) same
-          (set_comes k (Load (object_of g x.text) y) κ v.locals m u (read_element x.text w u) le fits (subst (λ o. PlainIs (read_element x.text w u) u o) (sym (element_value g x.text y w m u known.0 fits.sized is)) (plain_read x.text w u))))
+          (set_comes k (Load (width_of g x.text) (object_of g x.text) y) κ v.locals m u (read_element x.text w u) le fits (subst (λ o. PlainIs (read_element x.text w u) u o) (sym (element_value g x.text y w m u known.0 fits.sized is)) (plain_read x.text w u))))
       puts (tree.Call f es) v k κ l s known le lt h =
           let c : Callee = callee g f.text in
           called_comes (Puts k κ v.locals l) (are_plain es) (all_plain g v es) (in_sequence (put_all g v k es)) k (count es) (λ us. invoked c k us) κ v.locals l s (evaluate_all es (types_in v) call s) (λ ws t. call f.text ws t) h

@@ -12,7 +12,7 @@ use Rattle.cc_resolve.specs.Layout.{Layout, callee}
 use Rattle.cc_resolve.specs.Environment.{Environment, types_in}
 use Rattle.cc_cminor.specs.Cminor.{Expression, Local, Load, Statement, Set, Sequence, If}
 use Rattle.cc_cminor.specs.Code.{in_sequence}
-use Rattle.cc_cminor.specs.internal.Lowering.{object_of, binary_of, unary_of, Kind, Conjunction, Disjunction, Strict, kind, is_strict, is_plain, are_plain, plain, all_plain, used, called_on, count, locals_from, invoked, connected, put_expr, put_all, using, using_or}
+use Rattle.cc_cminor.specs.internal.Lowering.{object_of, width_of, binary_of, unary_of, Kind, Conjunction, Disjunction, Strict, kind, is_strict, is_plain, are_plain, plain, all_plain, used, called_on, count, locals_from, invoked, connected, put_expr, put_all, using, using_or}
 use Rattle.cc_cminor.specs.internal.Taken.{Taken, taken_as, taken, taken_or, waiting, behind_code, put_in, right_from, joined, conditionally}
 
 and_plain : (d : Kind) (p q : Bool) (op : BinaryOperator) (t : Scalar) (a b : Expression) (l r h : Statement) (k : ℕ)
@@ -47,7 +47,7 @@ module _ (g : Layout) (v : Environment) where
   plain-put : (k : ℕ) (e : Expr) → is_plain e ≡ true → put_expr g v k e ≡ Set k (plain g v e)
   plain-put k (Number t n) h = refl
   plain-put k (Variable x) h = refl
-  plain-put k (Element x e) h = ap (λ p. used p (plain g v e) (put_expr g v k e) k (λ i. Set k (Load (object_of g x.text) i))) h
+  plain-put k (Element x e) h = ap (λ p. used p (plain g v e) (put_expr g v k e) k (λ i. Set k (Load (width_of g x.text) (object_of g x.text) i))) h
   plain-put k (tree.Call f es) h = absurd (let q : false ≡ true = h in cc)
   plain-put k (Parenthesised e) h = plain-put k e h
   plain-put k (tree.Unary op e) h = ap (λ p. used p (plain g v e) (put_expr g v k e) k (λ a. Set k (unary_of op a))) h

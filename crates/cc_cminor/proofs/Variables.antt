@@ -18,14 +18,17 @@ use Rattle.cc_syntax.specs.Tree as tree
 use Rattle.cc_syntax.specs.Tree.{Name, Expr, Exprs, none, more, Number, Variable, Element, Parenthesised, Cast, Conditional}
 use Rattle.cc_meaning.specs.Meaning as meaning
 use Rattle.cc_meaning.specs.Meaning.{Global, State, Run, Gives, then_do, given, unless_decided, read_element, Calls, evaluate, evaluate_all, local_word, with_local_word, variable_word, words_of, with_element}
-use Rattle.cc_meaning.specs.Calls.{Size, sizes}
-use Rattle.cc_meaning.specs.Numbered.{words_in}
-use Rattle.cc_runs.specs.World.{World, object_words, element, stored}
+use Rattle.cc_meaning.specs.Calls.{Size, sizes, laid_sizes}
+use Rattle.cc_meaning.specs.Numbered.{objects_of}
+use Rattle.cc_runs.specs.World.{Object, World, element, object_with, stored}
 use Rattle.cc_resolve.specs.Layout.{LaidObject, Layout, object_number, extent_of}
 use Rattle.cc_resolve.specs.Environment.{Environment, types_in, number_in}
 use Rattle.cc_resolve.specs.Operations.{operation}
+use Rattle.cc_words.specs.declared.operators.Width.{Width}
+use Rattle.cc_words.specs.declared.operators.Width.TheVariants.{Byte, Word}
+use Rattle.cc_words.specs.Widths.{same_width, kept}
 use Rattle.cc_cminor.specs.Cminor.{Expression, Constant, Local, Unary, Binary, Load, then_value, value, values, put}
-use Rattle.cc_cminor.specs.internal.Lowering.{object_of, read_of, variable_of, unary_of, binary_of, Kind, Strict, Conjunction, Disjunction, kind, is_strict, is_plain, are_plain, plain, all_plain}
+use Rattle.cc_cminor.specs.internal.Lowering.{object_of, width_of, read_of, variable_of, unary_of, binary_of, Kind, Strict, Conjunction, Disjunction, kind, is_strict, is_plain, are_plain, plain, all_plain}
 use Rattle.cc_cminor.proofs.Known.{IsObject, IsPlaced, IsVariable, Known, AllKnown}
 use Rattle.cc_cminor.proofs.Paths.{world_at}
 
@@ -116,46 +119,59 @@ written_names y w (x ∷ older) = names_by (same_name x.name y) x w older (with_
 
 -- ---- objects
 
--- the objects' names and numbers of words, as the layout has them
-abbrev pub laid_sizes : List LaidObject → List Size
-laid_sizes ps = map (λ (p : LaidObject). record { name = p.name; words = p.extent.length }) ps
-
 abbrev first_size : List Size → Size
-first_size [] = record { name = []; words = 0 }
+first_size [] = record { name = []; width = Word; elements = 0 }
 first_size (z ∷ zs) = z
 
 abbrev other_sizes : List Size → List Size
 other_sizes [] = []
 other_sizes (z ∷ zs) = zs
 
-found_by : (b : Bool) (ws vs : List ℕ) (rest : List (List ℕ)) (o : Option ℕ) (n : ℕ) → (if b then Some 0 else option_map suc o) ≡ Some n → ((m : ℕ) → o ≡ Some m → get_or rest m [] ≡ vs)
-    → get_or (ws ∷ rest) n [] ≡ (if b then ws else vs)
-found_by true ws vs rest o n e f = let k : 0 ≡ n = cc in ap (λ i. get_or (ws ∷ rest) i []) (sym k)
-found_by false ws vs rest None n e f = absurd (cc)
-found_by false ws vs rest (Some m) n e f = let k : suc m ≡ n = cc in ap (λ i. get_or (ws ∷ rest) i []) (sym k) ∙ f m refl
+-- an object of such elements
+abbrev object : Width → List ℕ → Object
+object u ws = record { width = u; words = ws }
 
--- an object's words by its number
-pub found_object : (gs : List Global) (ps : List LaidObject) (x : List ℕ) (n : ℕ) → sizes gs ≡ laid_sizes ps → object_number ps x ≡ Some n → get_or (words_in gs) n [] ≡ words_of gs x
+abbrev no_object : Object
+no_object = object Word []
+
+-- how wide the elements of a name's object are
+abbrev width_by_name : List Global → List ℕ → Width
+width_by_name [] x = Word
+width_by_name (g ∷ gs) x = if same_name g.name x then g.width else width_by_name gs x
+
+found_by : (b : Bool) (k u : Width) (ws vs : List ℕ) (rest : List Object) (o : Option ℕ) (n : ℕ) → (if b then Some 0 else option_map suc o) ≡ Some n → ((m : ℕ) → o ≡ Some m → get_or rest m no_object ≡ object u vs)
+    → get_or (object k ws ∷ rest) n no_object ≡ object (if b then k else u) (if b then ws else vs)
+found_by true k u ws vs rest o n e f = let z : 0 ≡ n = cc in ap (λ i. get_or (object k ws ∷ rest) i no_object) (sym z)
+found_by false k u ws vs rest None n e f = absurd (cc)
+found_by false k u ws vs rest (Some m) n e f = let z : suc m ≡ n = cc in ap (λ i. get_or (object k ws ∷ rest) i no_object) (sym z) ∙ f m refl
+
+-- an object by its number
+found_object : (gs : List Global) (ps : List LaidObject) (x : List ℕ) (n : ℕ) → sizes gs ≡ laid_sizes ps → object_number ps x ≡ Some n → get_or (objects_of gs) n no_object ≡ object (width_by_name gs x) (words_of gs x)
 found_object gs [] x n e f = absurd (cc)
 found_object [] (p ∷ ps) x n e f = absurd (let q : ◌≡◌ {A = List Size} [] (laid_sizes (p ∷ ps)) = e in cc)
 found_object (g ∷ gs) (p ∷ ps) x n e f =
     let name : g.name ≡ p.name = ap (λ (z : Size). z.name) (ap first_size e) in
-    found_by (same_name g.name x) g.words (words_of gs x) (words_in gs) (object_number ps x) n
+    found_by (same_name g.name x) g.width (width_by_name gs x) g.words (words_of gs x) (objects_of gs) (object_number ps x) n
     (ap (λ y. if same_name y x then Some 0 else option_map suc (object_number ps x)) name ∙ f)
     (λ m k. found_object gs ps x m (ap other_sizes e) k)
 
-changed_by : (b : Bool) (g : Global) (gs other : List Global) (i w : ℕ) (vs : List ℕ) (o : Option ℕ) (n : ℕ) → (if b then Some 0 else option_map suc o) ≡ Some n → ((m : ℕ) → o ≡ Some m → set (words_in gs) m (set vs i w) ≡ words_in other)
-    → set (g.words ∷ words_in gs) n (set (if b then g.words else vs) i w) ≡ words_in (if b then record g { words = slice_set g.words i w } ∷ gs else g ∷ other)
-changed_by true g gs other i w vs o n e f = let k : 0 ≡ n = cc in ap (λ k. set (g.words ∷ words_in gs) k (set g.words i w)) (sym k)
-changed_by false g gs other i w vs None n e f = absurd (cc)
-changed_by false g gs other i w vs (Some m) n e f = let k : suc m ≡ n = cc in ap (λ k. set (g.words ∷ words_in gs) k (set vs i w)) (sym k) ∙ ap (λ rest. g.words ∷ rest) (f m refl)
+changed_by : (b : Bool) (g : Global) (gs other : List Global) (i w : ℕ) (u : Width) (vs : List ℕ) (o : Option ℕ) (n : ℕ) → (if b then Some 0 else option_map suc o) ≡ Some n
+    → ((m : ℕ) → o ≡ Some m → set (objects_of gs) m (object u (set vs i (kept u w))) ≡ objects_of other)
+    → set (object g.width g.words ∷ objects_of gs) n (object (if b then g.width else u) (set (if b then g.words else vs) i (kept (if b then g.width else u) w)))
+    ≡ objects_of (if b then record g { words = slice_set g.words i (kept g.width w) } ∷ gs else g ∷ other)
+changed_by true g gs other i w u vs o n e f = let z : 0 ≡ n = cc in ap (λ k. set (object g.width g.words ∷ objects_of gs) k (object g.width (set g.words i (kept g.width w)))) (sym z)
+changed_by false g gs other i w u vs None n e f = absurd (cc)
+changed_by false g gs other i w u vs (Some m) n e f =
+    let z : suc m ≡ n = cc in
+    ap (λ k. set (object g.width g.words ∷ objects_of gs) k (object u (set vs i (kept u w)))) (sym z) ∙ ap (λ rest. object g.width g.words ∷ rest) (f m refl)
 
-changed_object : (gs : List Global) (ps : List LaidObject) (x : List ℕ) (n i w : ℕ) → sizes gs ≡ laid_sizes ps → object_number ps x ≡ Some n → set (words_in gs) n (set (words_of gs x) i w) ≡ words_in (with_element x i w gs)
+changed_object : (gs : List Global) (ps : List LaidObject) (x : List ℕ) (n i w : ℕ) → sizes gs ≡ laid_sizes ps → object_number ps x ≡ Some n
+    → set (objects_of gs) n (object (width_by_name gs x) (set (words_of gs x) i (kept (width_by_name gs x) w))) ≡ objects_of (with_element x i w gs)
 changed_object gs [] x n i w e f = absurd (cc)
 changed_object [] (p ∷ ps) x n i w e f = absurd (let q : ◌≡◌ {A = List Size} [] (laid_sizes (p ∷ ps)) = e in cc)
 changed_object (g ∷ gs) (p ∷ ps) x n i w e f =
     let name : g.name ≡ p.name = ap (λ (z : Size). z.name) (ap first_size e) in
-    changed_by (same_name g.name x) g gs (with_element x i w gs) i w (words_of gs x) (object_number ps x) n
+    changed_by (same_name g.name x) g gs (with_element x i w gs) i w (width_by_name gs x) (words_of gs x) (object_number ps x) n
     (ap (λ y. if same_name y x then Some 0 else option_map suc (object_number ps x)) name ∙ f)
     (λ m k. changed_object gs ps x m i w (ap other_sizes e) k)
 
@@ -167,36 +183,62 @@ extent_by : (b : Bool) (p : LaidObject) (ps : List LaidObject) (x : List ℕ) �
 extent_by true p ps x = refl
 extent_by false p ps x = refl
 
--- how many words an object has
+-- how many elements an object has
 pub size_object : (gs : List Global) (ps : List LaidObject) (x : List ℕ) → sizes gs ≡ laid_sizes ps → length (words_of gs x) ≡ (extent_of ps x).length
 size_object [] [] x e = refl
 size_object [] (p ∷ ps) x e = absurd (let q : ◌≡◌ {A = List Size} [] (laid_sizes (p ∷ ps)) = e in cc)
 size_object (g ∷ gs) [] x e = absurd (let q : ◌≡◌ {A = List Size} (sizes (g ∷ gs)) [] = e in cc)
 size_object (g ∷ gs) (p ∷ ps) x e =
     let name : g.name ≡ p.name = ap (λ (z : Size). z.name) (ap first_size e) in
-    size_by (same_name g.name x) g.words (words_of gs x) p.extent.length (extent_of ps x).length (ap (λ (z : Size). z.words) (ap first_size e)) (size_object gs ps x (ap other_sizes e))
+    size_by (same_name g.name x) g.words (words_of gs x) p.extent.length (extent_of ps x).length (ap (λ (z : Size). z.elements) (ap first_size e)) (size_object gs ps x (ap other_sizes e))
     ∙ ap (λ y. if same_name y x then p.extent.length else (extent_of ps x).length) name ∙ sym (extent_by (same_name p.name x) p ps x)
+
+width_by : (b : Bool) (k u : Width) (p : LaidObject) (ps : List LaidObject) (x : List ℕ) → k ≡ p.extent.width → u ≡ (extent_of ps x).width → (if b then k else u) ≡ (if b then p.extent else extent_of ps x).width
+width_by true k u p ps x e f = e
+width_by false k u p ps x e f = f
+
+-- how wide they are
+width_object : (gs : List Global) (ps : List LaidObject) (x : List ℕ) → sizes gs ≡ laid_sizes ps → width_by_name gs x ≡ (extent_of ps x).width
+width_object [] [] x e = refl
+width_object [] (p ∷ ps) x e = absurd (let q : ◌≡◌ {A = List Size} [] (laid_sizes (p ∷ ps)) = e in cc)
+width_object (g ∷ gs) [] x e = absurd (let q : ◌≡◌ {A = List Size} (sizes (g ∷ gs)) [] = e in cc)
+width_object (g ∷ gs) (p ∷ ps) x e =
+    let name : g.name ≡ p.name = ap (λ (z : Size). z.name) (ap first_size e) in
+    width_by (same_name g.name x) g.width (width_by_name gs x) p ps x (ap (λ (z : Size). z.width) (ap first_size e)) (width_object gs ps x (ap other_sizes e))
+    ∙ ap (λ y. (if same_name y x then p.extent else extent_of ps x).width) name
+
+same_itself : (u : Width) → same_width u u ≡ true
+same_itself Byte = refl
+same_itself Word = refl
 
 -- an element by its object's number
 pub element_object : (gs : List Global) (ps : List LaidObject) (x : List ℕ) (n i : ℕ) (input output : List ℕ) → sizes gs ≡ laid_sizes ps → object_number ps x ≡ Some n
-    → element (record { globals = words_in gs; input = input; output = output }) n i ≡ slice_get (words_of gs x) i
-element_object gs ps x n i input output e f = ap (λ ws. slice_get ws i) (found_object gs ps x n e f)
+    → element (record { globals = objects_of gs; input = input; output = output }) (extent_of ps x).width n i ≡ slice_get (words_of gs x) i
+element_object gs ps x n i input output e f =
+    let k = width_by_name gs x in
+    subst (λ (u : Width). element (record { globals = objects_of gs; input = input; output = output }) u n i ≡ slice_get (words_of gs x) i) (width_object gs ps x e)
+    (ap (λ (o : Object). if same_width o.width k then slice_get o.words i else None) (found_object gs ps x n e f)
+    ∙ ap (λ b. if b then slice_get (words_of gs x) i else None) (same_itself k))
 
 pub stored_object : (gs : List Global) (ps : List LaidObject) (x : List ℕ) (n i w : ℕ) (input output : List ℕ) → sizes gs ≡ laid_sizes ps → object_number ps x ≡ Some n → i < length (words_of gs x)
-    → stored (record { globals = words_in gs; input = input; output = output }) n i w ≡ Some (record { globals = words_in (with_element x i w gs); input = input; output = output })
+    → stored (record { globals = objects_of gs; input = input; output = output }) (extent_of ps x).width n i w ≡ Some (record { globals = objects_of (with_element x i w gs); input = input; output = output })
 stored_object gs ps x n i w input output e f lt =
-    ap (λ ws. option_map (λ old. record { globals = set (words_in gs) n (set ws i w); input = input; output = output }) (slice_get ws i)) (found_object gs ps x n e f)
-    ∙ ap (λ o. option_map (λ old. record { globals = set (words_in gs) n (set (words_of gs x) i w); input = input; output = output }) o) (slice_get-get_or (words_of gs x) i 0 lt)
-    ∙ ap (λ gs. Some (record { globals = gs; input = input; output = output })) (changed_object gs ps x n i w e f)
+    let k = width_by_name gs x in
+    let vs = words_of gs x in
+    subst (λ (u : Width). stored (record { globals = objects_of gs; input = input; output = output }) u n i w ≡ Some (record { globals = objects_of (with_element x i w gs); input = input; output = output })) (width_object gs ps x e)
+    (ap (λ (o : Object). option_map (λ old. record { globals = set (objects_of gs) n (object_with o i (kept k w)); input = input; output = output }) (if same_width o.width k then slice_get o.words i else None)) (found_object gs ps x n e f)
+    ∙ ap (λ b. option_map (λ old. record { globals = set (objects_of gs) n (object k (set vs i (kept k w))); input = input; output = output }) (if b then slice_get vs i else None)) (same_itself k)
+    ∙ ap (λ o. option_map (λ old. record { globals = set (objects_of gs) n (object k (set vs i (kept k w))); input = input; output = output }) o) (slice_get-get_or vs i 0 lt)
+    ∙ ap (λ gs. Some (record { globals = gs; input = input; output = output })) (changed_object gs ps x n i w e f))
 
 -- ---- operators
 
 pub unary_value : (op : UnaryOperator) (e : Expression) (l : ℕ → ℕ) (h : World) → value (unary_of op e) l h ≡ then_value (value e l h) (λ a. Some (unary_word op a))
-unary_value prefix.Plus e l h = kept (value e l h)
+unary_value prefix.Plus e l h = same (value e l h)
   where
-    kept : (o : Option ℕ) → o ≡ then_value o (λ a. Some a)
-    kept None = refl
-    kept (Some a) = refl
+    same : (o : Option ℕ) → o ≡ then_value o (λ a. Some a)
+    same None = refl
+    same (Some a) = refl
 unary_value prefix.Minus e l h = refl
 unary_value prefix.Complement e l h = refl
 unary_value prefix.Not e l h = refl
@@ -310,17 +352,17 @@ module _ (g : Layout) where
   pub fits_put : (ns : List (List ℕ)) (s : State) (l : ℕ → ℕ) (k w : ℕ) → length ns ≤ k → Fits ns s l → Fits ns s (put l k w)
   fits_put ns s l k w le h = fits_same ns s l (put l k w) (λ i lt. put_below l k w i (omega arith)) h
 
-  object_is : (s : State) (x : List ℕ) (i : ℕ) → IsObject g x → sizes s.globals ≡ laid_sizes g.objects → element (world_at s) (object_of g x) i ≡ slice_get (words_of s.globals x) i
+  object_is : (s : State) (x : List ℕ) (i : ℕ) → IsObject g x → sizes s.globals ≡ laid_sizes g.objects → element (world_at s) (width_of g x) (object_of g x) i ≡ slice_get (words_of s.globals x) i
   object_is s x i known e =
-      ap (λ o. element (world_at s) (unwrap_or o 0) i) known.1 ∙ element_object s.globals g.objects x known.0 i s.input s.output e known.1
+      ap (λ o. element (world_at s) (width_of g x) (unwrap_or o 0) i) known.1 ∙ element_object s.globals g.objects x known.0 i s.input s.output e known.1
 
   variable_by : (o : Option ℕ) (x : List ℕ) (s : State) (l : ℕ → ℕ) → sizes s.globals ≡ laid_sizes g.objects → local_word s.locals x ≡ option_map l o → IsPlaced g o x
       → value (read_of o (object_of g x)) l (world_at s) ≡ Some (variable_word x s)
   variable_by None x s l e f h =
-      let size : length (words_of s.globals x) ≡ 1 = size_object s.globals g.objects x e ∙ h.1 in
+      let size : length (words_of s.globals x) ≡ 1 = size_object s.globals g.objects x e ∙ h.1.0 in
       let found : slice_get (words_of s.globals x) 0 ≡ Some (unwrap_or (slice_get (words_of s.globals x) 0) 0) =
       is_some_word (slice_get (words_of s.globals x) 0) _ (slice_get-get_or (words_of s.globals x) 0 0 (omega arith)) in
-      object_is s x 0 h.0 e ∙ found ∙ ap (λ (o : Option ℕ). Some (unwrap_or o (unwrap_or (slice_get (words_of s.globals x) 0) 0))) (sym f)
+      ap (λ (u : Width). element (world_at s) u (object_of g x) 0) (sym h.1.1) ∙ object_is s x 0 h.0 e ∙ found ∙ ap (λ (o : Option ℕ). Some (unwrap_or o (unwrap_or (slice_get (words_of s.globals x) 0) 0))) (sym f)
     where
       is_some_word : (o : Option ℕ) (w : ℕ) → o ≡ Some w → o ≡ Some (unwrap_or o 0)
       is_some_word None w e = absurd (cc)
@@ -332,14 +374,14 @@ module _ (g : Layout) where
       variable_by (number_in v.locals x) x s l h.sized (reads s.locals l x h.holds ∙ ap (λ ns. option_map l (number_in ns x)) h.names) known
 
   pub element_value : (x : List ℕ) (e : Expression) (i : ℕ) (l : ℕ → ℕ) (s : State) → IsObject g x → sizes s.globals ≡ laid_sizes g.objects → value e l (world_at s) ≡ Some i
-      → value (Load (object_of g x) e) l (world_at s) ≡ slice_get (words_of s.globals x) i
-  element_value x e i l s known sized is = ap (λ o. then_value o (λ j. element (world_at s) (object_of g x) j)) is ∙ object_is s x i known sized
+      → value (Load (width_of g x) (object_of g x) e) l (world_at s) ≡ slice_get (words_of s.globals x) i
+  element_value x e i l s known sized is = ap (λ o. then_value o (λ j. element (world_at s) (width_of g x) (object_of g x) j)) is ∙ object_is s x i known sized
 
   pub plain_is : (call : Calls) (e : Expr) (v : Environment) (l : ℕ → ℕ) (s : State) → is_plain e ≡ true → Known g v e → Fits v.locals s l → PlainIs (evaluate e (types_in v) call s) s (value (plain g v e) l (world_at s))
   plain_is call (Number t n) v l s p known h = (refl, refl)
   plain_is call (Variable x) v l s p known h = (refl, variable_value v x.text s l known h)
   plain_is call (Element x e) v l s p known h =
-      plain_then (evaluate e (types_in v) call s) (value (plain g v e) l (world_at s)) s (λ i t. read_element x.text i t) (λ i. element (world_at s) (object_of g x.text) i)
+      plain_then (evaluate e (types_in v) call s) (value (plain g v e) l (world_at s)) s (λ i t. read_element x.text i t) (λ i. element (world_at s) (width_of g x.text) (object_of g x.text) i)
       (plain_is call e v l s p known.1 h) (λ i. subst (λ o. PlainIs (read_element x.text i s) s o) (sym (object_is s x.text i known.0 h.sized)) (plain_read x.text i s))
   plain_is call (tree.Call f es) v l s p known h = absurd (let q : false ≡ true = p in cc)
   plain_is call (Parenthesised e) v l s p known h = plain_is call e v l s p known h

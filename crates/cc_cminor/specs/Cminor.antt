@@ -3,25 +3,26 @@
 use Rattle.std.specs.Prelude.{ℕ, zero, suc, ◌==◌, List, [], ◌∷◌, Option, Some, None, if◌then◌else◌, get_or}
 use Rattle.cc_words.specs.declared.operators.Unary as one
 use Rattle.cc_words.specs.declared.operators.Binary as two
+use Rattle.cc_words.specs.declared.operators.Width.{Width}
 use Rattle.cc_words.specs.Operators.{apply_unary, apply_binary}
 use Rattle.cc_runs.specs.World.{World, element, stored, next_word, after_read, after_write}
 use Rattle.cc_runs.specs.Run.{Move, Goes, Calls, Returns, Fails, tried}
 
 -- ---- syntax
 
--- an expression: a word, a variable, an operator on its operands, an element of an object
+-- an expression: a word, a variable, an operator on its operands, an element, so wide, of an object
 pub data Expression : Type 0 where
   Constant : (word : ℕ) → Expression
   Local : (variable : ℕ) → Expression
   Unary : one.Unary → Expression → Expression
   Binary : two.Binary → Expression → Expression → Expression
-  Load : (object : ℕ) → (index : Expression) → Expression
+  Load : (width : Width) → (object : ℕ) → (index : Expression) → Expression
 
 -- a statement. A call's or a read's result goes to a variable or is dropped; a loop goes on for ever; `Exit k` leaves k + 1 blocks
 pub data Statement : Type 0 where
   Skip : Statement
   Set : (variable : ℕ) → Expression → Statement
-  Store : (object : ℕ) → (index value : Expression) → Statement
+  Store : (width : Width) → (object : ℕ) → (index value : Expression) → Statement
   Call : (to : Option ℕ) → (function : ℕ) → List Expression → Statement
   Read : (to : Option ℕ) → Statement
   Write : Expression → Statement
@@ -43,13 +44,14 @@ abbrev pub then_value : {A B : Type 0} → Option A → (A → Option B) → Opt
 then_value None go = None
 then_value (Some a) go = go a
 
--- the value of an expression; none where an operator gives none, or an index lies outside its object
+-- the value of an expression; none where an operator gives none, where an index lies outside its object, or where the object's elements
+-- have another width
 abbrev pub value : Expression → Variables → World → Option ℕ
 value (Constant w) l h = Some w
 value (Local i) l h = Some (l i)
 value (Unary op e) l h = then_value (value e l h) (λ a. Some (apply_unary op a))
 value (Binary op a b) l h = then_value (value a l h) (λ x. then_value (value b l h) (λ y. apply_binary op x y))
-value (Load o e) l h = then_value (value e l h) (λ i. element h o i)
+value (Load width o e) l h = then_value (value e l h) (λ i. element h width o i)
 
 -- the values of some expressions
 abbrev pub values : List Expression → Variables → World → Option (List ℕ)
@@ -112,7 +114,7 @@ chosen (suc w) a b = a
 abbrev pub moves : Statement → Continuation → Variables → World → Move Config
 moves Skip κ l h = skips κ l h
 moves (Set x e) κ l h = tried (value e l h) (λ w. Goes (config Skip κ (put l x w) h))
-moves (Store o i e) κ l h = tried (value i l h) (λ j. tried (value e l h) (λ w. tried (stored h o j w) (λ g. Goes (config Skip κ l g))))
+moves (Store width o i e) κ l h = tried (value i l h) (λ j. tried (value e l h) (λ w. tried (stored h width o j w) (λ g. Goes (config Skip κ l g))))
 moves (Call to f es) κ l h =
     tried (values es l h) (λ ws. Calls (record { function = f; arguments = ws; world = h }) (λ a. config Skip κ (put_result l to a.value) a.world))
 moves (Read to) κ l h = Goes (config Skip κ (put_result l to (next_word h)) (after_read h))

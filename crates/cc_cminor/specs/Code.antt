@@ -10,7 +10,7 @@ expression_of (Constant w) = cminor.Constant w
 expression_of (Local i) = cminor.Local i
 expression_of (Unary' op p e) = cminor.Unary op (expression_of e)
 expression_of (Binary' op p a q b) = cminor.Binary op (expression_of a) (expression_of b)
-expression_of (Load' o p e) = cminor.Load o (expression_of e)
+expression_of (Load' width o p e) = cminor.Load width o (expression_of e)
 
 -- some expressions
 abbrev pub expressions_of : List Expression → List cminor.Expression
@@ -28,7 +28,7 @@ abbrev mutual
   pub statement_of : Statement → cminor.Statement
   statement_of Skip = cminor.Skip
   statement_of (Set x e) = cminor.Set x (expression_of e.value)
-  statement_of (Store o i e) = cminor.Store o (expression_of i.value) (expression_of e.value)
+  statement_of (Store width o i e) = cminor.Store width o (expression_of i.value) (expression_of e.value)
   statement_of (Call to f es) = cminor.Call to f (expressions_of es.items)
   statement_of (Read to) = cminor.Read to
   statement_of (Write e) = cminor.Write (expression_of e.value)

@@ -19,7 +19,7 @@ ExpressionFits (Constant w) = Unit {0}
 ExpressionFits (Local x) = x < most_variables
 ExpressionFits (Unary op e) = ExpressionFits e
 ExpressionFits (Binary op a b) = ExpressionFits a × ExpressionFits b
-ExpressionFits (Load o e) = (o < most_objects) × ExpressionFits e
+ExpressionFits (Load width o e) = (o < most_objects) × ExpressionFits e
 
 abbrev pub ExpressionsFit : List Expression → Type 0
 ExpressionsFit [] = Unit {0}
@@ -32,7 +32,7 @@ ResultFits (Some x) = x < most_variables
 abbrev pub StatementFits : Statement → Type 0
 StatementFits Skip = Unit {0}
 StatementFits (Set x e) = (x < most_variables) × ExpressionFits e
-StatementFits (Store o i e) = (o < most_objects) × ExpressionFits i × ExpressionFits e
+StatementFits (Store width o i e) = (o < most_objects) × ExpressionFits i × ExpressionFits e
 StatementFits (Call to f es) = ResultFits to × (f < most_functions) × ExpressionsFit es
 StatementFits (Read to) = ResultFits to
 StatementFits (Write e) = ExpressionFits e

@@ -35,7 +35,7 @@ code_of p = statement_of p.statement
 abbrev pub AreCalls : List External → Statement → Type 0
 AreCalls unit Skip = Unit {0}
 AreCalls unit (Set x e) = Unit {0}
-AreCalls unit (Store o i e) = Unit {0}
+AreCalls unit (Store width o i e) = Unit {0}
 AreCalls unit (Call to f es) = slice_get (arities unit) f ≡ Some (length es)
 AreCalls unit (Read to) = Unit {0}
 AreCalls unit (Write e) = Unit {0}

@@ -11,7 +11,7 @@ expression_size (Constant w) = 1
 expression_size (Local i) = 1
 expression_size (Unary op e) = suc (expression_size e)
 expression_size (Binary op a b) = suc (expression_size a + expression_size b)
-expression_size (Load o e) = suc (expression_size e)
+expression_size (Load width o e) = suc (expression_size e)
 
 abbrev pub expressions_size : List Expression → ℕ
 expressions_size [] = 0
@@ -21,7 +21,7 @@ expressions_size (e ∷ rest) = expression_size e + expressions_size rest
 abbrev pub statement_size : Statement → ℕ
 statement_size Skip = 1
 statement_size (Set x e) = suc (expression_size e)
-statement_size (Store o i e) = suc (expression_size i + expression_size e)
+statement_size (Store width o i e) = suc (expression_size i + expression_size e)
 statement_size (Call to f es) = suc (expressions_size es)
 statement_size (Read to) = 1
 statement_size (Write e) = suc (expression_size e)

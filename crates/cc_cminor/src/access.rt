@@ -6,13 +6,14 @@ ghost use Rattle.cc_typing.specs.Types.{variable_type, element_type};
 ghost use Rattle.cc_resolve.specs.Environment.{types_in};
 ghost use Rattle.cc_cminor.specs.Cminor as cminor;
 ghost use Rattle.cc_cminor.specs.Code.{expression_of, statement_of};
-ghost use Rattle.cc_cminor.specs.internal.Lowering.{object_of, variable_of, variable_set};
+ghost use Rattle.cc_cminor.specs.internal.Lowering.{object_of, width_of, variable_of, variable_set};
 ghost use Rattle.cc_cminor.specs.internal.Taken.{code_before, taken_of, at_once, kept};
 
 use super::boxes::{boxed_expression, boxed_statement, constant};
 use super::code::{Expression, Statement};
 use super::taken::{Taken, at_once, kept};
 use cc_resolve::Environment;
+use cc_words::Width;
 use std::alloc::{AllocError, Global};
 
 /// The number of the object of a name; of a name that no object has, 0.
@@ -20,6 +21,13 @@ pub fn object(names: &Environment<'_>, name: &[u8]) -> usize
     ensures { result ≡ object_of names.now.layout name.now }
 {
     names.object_number(name).unwrap_or(0)
+}
+
+/// How wide the elements of the object of a name are.
+pub fn width(names: &Environment<'_>, name: &[u8]) -> Width
+    ensures { result ≡ width_of names.now.layout name.now }
+{
+    names.object(name).width
 }
 
 /// What reads a variable.
@@ -34,7 +42,7 @@ pub fn read_variable(
         Some(number) => Expression::Local(number),
         None => {
             let zero = constant(alloc, 0)?;
-            Expression::Load(object(names, name), zero)
+            Expression::Load(Width::Word, object(names, name), zero)
         }
     };
     boxed_expression(alloc, expression)
@@ -53,7 +61,7 @@ pub fn set_variable(
         Some(number) => Statement::Set(number, value),
         None => {
             let zero = constant(alloc, 0)?;
-            Statement::Store(object(names, name), zero, value)
+            Statement::Store(Width::Word, object(names, name), zero, value)
         }
     };
     boxed_statement(alloc, statement)
@@ -77,14 +85,14 @@ pub fn element(
     index: Taken,
 ) -> Result<Taken, AllocError>
     ensures scalar { IfOk result (λ u. u.scalar ≡ element_type (found (types_in names.now) name.now)) }
-    ensures value { IfOk result (λ u. taken_of u.before u.expression ≡ kept k (code_before index.before) (cminor.Load (object_of names.now.layout name.now) (expression_of index.expression.value))) }
+    ensures value { IfOk result (λ u. taken_of u.before u.expression ≡ kept k (code_before index.before) (cminor.Load (width_of names.now.layout name.now) (object_of names.now.layout name.now) (expression_of index.expression.value))) }
 {
     let Taken {
         scalar: _,
         before,
         expression,
     } = index;
-    let load = Expression::Load(object(names, name), expression);
+    let load = Expression::Load(width(names, name), object(names, name), expression);
     let load = boxed_expression(alloc, load)?;
     kept(alloc, k, names.element_type(name), before, load)
 }

@@ -10,7 +10,7 @@ ghost use Rattle.cc_cminor.specs.Code.{expression_of, statement_of};
 ghost use Rattle.cc_cminor.specs.internal.Lowering.{combined, performed, performed_optional};
 ghost use Rattle.cc_cminor.specs.internal.Taken.{code_before, behind_code, above_target, element_set, assigned_to};
 
-use super::access::{object, read_variable, set_variable};
+use super::access::{object, read_variable, set_variable, width};
 use super::boxes::{above, both, boxed_expression, boxed_statement, local};
 use super::code::{Expression, Statement};
 use super::expressions::{put, value};
@@ -85,12 +85,13 @@ fn store_element(
     } = right;
     let name = name.bytes.as_slice();
     let object = object(names, name);
+    let width = width(names, name);
     let waited = local(alloc, k)?;
-    let old = boxed_expression(alloc, Expression::Load(object, waited))?;
+    let old = boxed_expression(alloc, Expression::Load(width, object, waited))?;
     let target = names.element_type(name);
     let new = combine(alloc, operator, target, scalar, old, expression)?;
     let index = local(alloc, k)?;
-    let store = boxed_statement(alloc, Statement::Store(object, index, new))?;
+    let store = boxed_statement(alloc, Statement::Store(width, object, index, new))?;
     behind(alloc, before, store)
 }
 

@@ -4,9 +4,10 @@
 //! megabyte of stack: each of the source's 64 levels of statements adds at most eight levels of Cminor's, each of the 512 tokens
 //! of a full expression at most four; statements one after the other stand in one list.
 
-use cc_words::{Binary, Unary};
+use cc_words::{Binary, Unary, Width};
 
-/// An expression. It has no effect; its value is a word, or none where an operator gives none or an index lies outside its object.
+/// An expression. It has no effect; its value is a word, or none where an operator gives none, an index lies outside its
+/// object, or the object's elements have another width.
 #[derive(Drop)]
 pub enum Expression {
     /// A word.
@@ -15,8 +16,8 @@ pub enum Expression {
     Local(usize),
     Unary(Unary, Box<Expression>),
     Binary(Binary, Box<Expression>, Box<Expression>),
-    /// An element of the object with that number, by its index.
-    Load(usize, Box<Expression>),
+    /// An element, so wide, of the object with that number, by its index.
+    Load(Width, usize, Box<Expression>),
 }
 
 /// A statement.
@@ -25,8 +26,8 @@ pub enum Statement {
     Skip,
     /// Puts a value into a variable.
     Set(usize, Box<Expression>),
-    /// Puts a value into an element of an object: the object's number, the index, the value.
-    Store(usize, Box<Expression>, Box<Expression>),
+    /// Puts a value into an element of an object: the element's width, the object's number, the index, the value.
+    Store(Width, usize, Box<Expression>, Box<Expression>),
     /// Calls a function: where its result goes, if anywhere, the function's number, the arguments.
     Call(Option<usize>, usize, Vec<Expression>),
     /// Takes the next word of the input, or 0 where none is left: the variable that it goes to, if any.

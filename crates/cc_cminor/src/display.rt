@@ -1,5 +1,6 @@
 // The text of Cminor: a line for each statement, two spaces deeper within an `if`, a `loop` or a `block`. Variables are `v0`, `v1` and so
-// on, objects `o0`, functions `f0`; words are unsigned decimals. A sequence is its statements' lines.
+// on, objects `o0`, functions `f0`; words are unsigned decimals; `byte` stands in front of an element that is a byte. A sequence is its
+// statements' lines.
 
 use super::code::{Expression, Statement};
 use super::pair::CminorPair;
@@ -18,7 +19,10 @@ impl fmt::Display for Expression {
                 let name = operator.name();
                 write!(f, "{name}({left}, {right})")
             }
-            Expression::Load(object, index) => write!(f, "o{object}[{index}]"),
+            Expression::Load(width, object, index) => {
+                let mark = width.mark();
+                write!(f, "{mark}o{object}[{index}]")
+            }
         }
     }
 }
@@ -70,7 +74,10 @@ fn write_statement<W: fmt::Write>(
         Statement::Sequence(_) => Ok(()),
         Statement::Skip => writeln!(f, "skip"),
         Statement::Set(variable, value) => writeln!(f, "v{variable} = {value}"),
-        Statement::Store(object, index, value) => writeln!(f, "o{object}[{index}] = {value}"),
+        Statement::Store(width, object, index, value) => {
+            let mark = width.mark();
+            writeln!(f, "{mark}o{object}[{index}] = {value}")
+        }
         Statement::Call(to, function, arguments) => {
             write_result(f, *to)?;
             write!(f, "call f{function}(")?;

@@ -44,13 +44,25 @@ pub fn operation_of(node: &Node, used: Used) -> Operation {
             right: used.second,
             next: *next,
         },
-        Node::Load { object, next, .. } => Operation::Load {
+        Node::Load {
+            width,
+            object,
+            next,
+            ..
+        } => Operation::Load {
+            width: *width,
             object: *object,
             to: used.to,
             index: used.first,
             next: *next,
         },
-        Node::Store { object, next, .. } => Operation::Store {
+        Node::Store {
+            width,
+            object,
+            next,
+            ..
+        } => Operation::Store {
+            width: *width,
             object: *object,
             index: used.first,
             from: used.second,

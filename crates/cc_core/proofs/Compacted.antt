@@ -18,7 +18,8 @@ use Rattle.cc_library.specs.Apply.{Units, after, after_all, kept}
 use Rattle.cc_library.specs.Body.{IsCommand, body_of}
 use Rattle.cc_library.specs.Compact.{adds, bodies_of, compacted}
 use Rattle.cc_library.specs.Recovered.{AreSpelled, StandFor}
-use Rattle.cc_library.proofs.Compacting.{adds_stand}
+use Rattle.cc_library.proofs.Commands.{spelled_long, written}
+use Rattle.cc_library.proofs.Compacting.{adds_stand, record_long}
 
 abbrev R : List ℕ → List ℕ → Ordering
 R = slice_cmp nat_cmp
@@ -154,7 +155,7 @@ grows_all units (body ∷ bodies) (c ∷ cs) spelled =
     let first = grows_after units c spelled.0.command_is in
     let rest = grows_all (after units c) bodies cs spelled.1 in
     let parts : length (records (body ∷ bodies)) ≡ length (record_bytes body) + length (records bodies) = length-append (record_bytes body) (records bodies) in
-    let same : length (record_bytes body) ≡ length (record_bytes (body_of c)) = ap (λ (b : List ℕ). length (record_bytes b)) spelled.0.spelled in
+    let same : length (record_bytes body) ≡ length (record_bytes (body_of c)) = omega (arith, record_long body, record_long (body_of c), spelled_long body c spelled.0) in
     (omega (arith, first.0, rest.0, parts, same), λ all. rest.1 (first.1 all))
 
 nothing_in : (es : List Entry) → length es ≡ 0 → es ≡ []
@@ -178,7 +179,7 @@ compacted_fits bodies units stand =
 
 spelled_adds : (es : List Entry) → AreRight es → AreSpelled (bodies_of (adds es)) (adds es)
 spelled_adds [] all = tt
-spelled_adds (e ∷ es) all = (record { spelled = refl; command_is = all.0 }, spelled_adds es all.1)
+spelled_adds (e ∷ es) all = (written (Add e.0 e.1) all.0, spelled_adds es all.1)
 
 -- and stands for it
 pub compacted_stands : (bodies : List (List ℕ)) (units : Units) → StandFor bodies units → StandFor (compacted units) units

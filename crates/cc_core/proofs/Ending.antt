@@ -14,6 +14,7 @@ use Rattle.cc_library.specs.Apply.{Units, apply, library_of}
 use Rattle.cc_library.specs.Body.{IsCommand, body_of}
 use Rattle.cc_library.specs.Recovered.{StandFor, Recovers}
 use Rattle.cc_unit.specs.declared.unit.StoredUnit.{StoredUnit}
+use Rattle.cc_library.proofs.Commands.{written}
 use Rattle.cc_library.proofs.Standing.{one_more, one_map, holds_recovers}
 use Rattle.cc_core.specs.declared.command.Numbered.{Numbered}
 use Rattle.cc_core.specs.declared.contents.Due.{Due}
@@ -95,7 +96,7 @@ pub stand_more : (bodies : List (List ℕ)) (front : List Numbered) (numbered : 
     → IsOk (apply (library_of (commands front)) numbered.command) → StandFor (bodies ++ body_of numbered.command ∷ []) (library_of (commands order))
 stand_more bodies front numbered order is stand spelled taken =
     subst (StandFor (bodies ++ body_of numbered.command ∷ [])) (sym (ap (λ (l : List Numbered). library_of (commands l)) is ∙ library-push front numbered))
-    (one_more bodies (library_of (commands front)) (body_of numbered.command) numbered.command stand (record { spelled = refl; command_is = spelled }) taken)
+    (one_more bodies (library_of (commands front)) (body_of numbered.command) numbered.command stand (written numbered.command spelled) taken)
 
 -- what an image with the old records, or with one more, comes to
 pub ends_of : (numbered : Numbered) (store : StoreState) (order acknowledged : List Numbered) (bodies : List (List ℕ)) (front : List Numbered) → order ≡ front ++ numbered ∷ [] → All (Contains front) acknowledged

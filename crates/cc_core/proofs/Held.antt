@@ -3,11 +3,10 @@
 use Rattle.std.proofs.Common.{◌≡◌, ◌⊎◌, inl, inr, ⊎_elim, true, false, cond, ℕ, ◌+◌, zero, suc, ◌*◌, ◌%◌, ◌<◌, ◌≤◌, List, [], ◌∷◌, ◌++◌, length, take, drop, get_or, refl, sym, ◌∙◌, ap, subst, arith, length-append}
 use Rattle.std.proofs.lemmas.Nat.{mod_below}
 use Rattle.std.proofs.lemmas.List.{take_at, drop_at, drop_more, take-take, take-append-le, length-take-le, length-map}
-use Rattle.cc_disk.specs.declared.cell.Cell.{Cell}
-use Rattle.cc_disk.specs.Model.{bytes_of, IsImage, written, crashed, settled, left}
+use Rattle.cc_disk.specs.Model.{Cell, bytes_of, IsImage, written, crashed, settled, left}
 use Rattle.cc_disk.specs.internal.Laws.{bytes_are_image}
 use Rattle.cc_disk.specs.Images.{IsWritten, DiffersWithin, LeavesAlone}
-use Rattle.cc_disk.proofs.Cells.{length-image, written_images, bytes_of-written, synced_alone, bytes_of-synced, synced_adds_none}
+use Rattle.cc_disk.proofs.Images.{length-image, written_images, bytes_of-written, synced_alone, bytes_of-synced, synced_adds_none}
 use Rattle.cc_journal.specs.Format.{header, open_gate, record_bytes, records, HoldsRecords}
 use Rattle.cc_journal.specs.Commit.{area_begin}
 use Rattle.cc_journal.specs.Journal.{HoldsFrom}

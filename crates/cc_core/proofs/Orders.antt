@@ -9,9 +9,9 @@ use Rattle.std.specs.Cmp.Lexicographic.{nat_list_cmp_total, slice_cmp}
 use Rattle.std.specs.FinMap.{FinMap, get, insert, remove, empty, contains_key, get-insert, get-remove, get-empty, get_tied, same_map, slice_cmp-IsAntisymmetric, nat_cmp-IsAntisymmetric}
 use Rattle.std.proofs.lemmas.List.{map-append, take_all, length-append}
 use Rattle.std.proofs.lemmas.Bool.Decides.{Decides-eqb}
+use Rattle.std.proofs.lemmas.Option.{same_Some}
 use Rattle.std.proofs.lemmas.Slice.Eq.{slice_eq-Decides}
 use lib.Pointwise.{pointwise}
-use Rattle.cc_unit.specs.declared.unit.Certificate.{Certificate}
 use Rattle.cc_unit.specs.declared.unit.StoredUnit.{StoredUnit}
 use Rattle.cc_library.specs.declared.command.Command.{Command}
 use Rattle.cc_library.specs.declared.command.Command.TheVariants as command
@@ -189,14 +189,16 @@ same_numbers xs ys = at (pointwise eqb xs ys) (slice_eq-Decides Decides-eqb xs y
     at true told = inl (told.0 refl)
     at false told = inr (λ same. let yes = told.1 same in absurd (cc))
 
-no_certificate : (a b : Option Certificate) → a ≡ b
-no_certificate None None = refl
-no_certificate None (Some c) = elim c [ ]
-no_certificate (Some c) b = elim c [ ]
+same_certificates : (a b : Option (List ℕ)) → (a ≡ b) ⊎ (a ≡ b → ⊥)
+same_certificates None None = inl refl
+same_certificates None (Some b) = inr (λ same. no_longer_none b same)
+same_certificates (Some a) None = inr (λ same. no_longer_none a (sym same))
+same_certificates (Some a) (Some b) =
+    elim (same_numbers a b) [ inl same ↦ inl (ap Some same) | inr differ ↦ inr (λ same. differ (same_Some a b same)) ]
 
--- units are the same where source, code and globals are: there are no certificates
-pub same_unit : (a b : StoredUnit) → a.source ≡ b.source → a.image.code ≡ b.image.code → a.image.globals ≡ b.image.globals → a ≡ b
-same_unit a b source code globals = λ i. record { source = source i; image = record { code = code i; globals = globals i }; certificate = no_certificate a.certificate b.certificate i }
+-- units are the same where source, code, globals and certificate are
+same_unit : (a b : StoredUnit) → a.source ≡ b.source → a.image.code ≡ b.image.code → a.image.globals ≡ b.image.globals → a.certificate ≡ b.certificate → a ≡ b
+same_unit a b source code globals certificate = λ i. record { source = source i; image = record { code = code i; globals = globals i }; certificate = certificate i }
 
 decided_unit : (a b : StoredUnit) → (a ≡ b) ⊎ (a ≡ b → ⊥)
 decided_unit a b =
@@ -206,7 +208,10 @@ decided_unit a b =
         | inr differ ↦ inr (λ same. differ (ap (λ (u : StoredUnit). u.image.code) same))
         | inl code ↦ elim (same_numbers a.image.globals b.image.globals) [
           | inr differ ↦ inr (λ same. differ (ap (λ (u : StoredUnit). u.image.globals) same))
-          | inl globals ↦ inl (same_unit a b source code globals)
+          | inl globals ↦ elim (same_certificates a.certificate b.certificate) [
+            | inr differ ↦ inr (λ same. differ (ap (λ (u : StoredUnit). u.certificate) same))
+            | inl certificate ↦ inl (same_unit a b source code globals certificate)
+          ]
         ]
       ]
     ]

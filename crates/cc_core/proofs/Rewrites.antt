@@ -5,7 +5,7 @@ use Rattle.std.proofs.lemmas.List.{drop-take}
 use Rattle.cc_disk.specs.Model.{bytes_of, IsImage, written}
 use Rattle.cc_disk.specs.internal.Laws.{bytes_are_image}
 use Rattle.cc_disk.specs.Images.{IsWritten, DiffersWithin, LeavesAlone}
-use Rattle.cc_disk.proofs.Cells.{written_images, bytes_of-written, synced_alone, bytes_of-synced, synced_adds_none}
+use Rattle.cc_disk.proofs.Images.{written_images, bytes_of-written, synced_alone, bytes_of-synced, synced_adds_none}
 use Rattle.cc_journal.specs.Commit.{Commit, area_begin, other_area, rewrite_commit, IsCommitted}
 use Rattle.cc_journal.specs.Format.{header, records, room_of, HoldsOneOf}
 use Rattle.cc_journal.specs.internal.Commit.{IsMidCommit}

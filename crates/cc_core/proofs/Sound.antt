@@ -9,10 +9,9 @@ use Rattle.std.specs.FinMap.{FinMap, get, insert, remove, empty, get-empty}
 use Rattle.std.proofs.lemmas.List.{length-replicate, length-set, length-map, take-append-drop, take_at, append_assoc}
 use Rattle.std.proofs.lemmas.List.Elements.{All-replicate, All-weaker, All-push, All-nil, Contains-append_left, Contains-get_or, Contains-push}
 use Rattle.std.proofs.lemmas.Option.{slice_get_within}
-use Rattle.cc_disk.specs.declared.cell.Cell.{Cell}
-use Rattle.cc_disk.specs.Model.{bytes_of, crashed, IsImage}
+use Rattle.cc_disk.specs.Model.{Cell, bytes_of, crashed, IsImage}
 use Rattle.cc_disk.specs.Images.{IsWritten}
-use Rattle.cc_disk.proofs.Cells.{bytes_of-written, bytes_of-synced}
+use Rattle.cc_disk.proofs.Images.{bytes_of-written, bytes_of-synced}
 use Rattle.std.specs.Int.{w32, to_le_bytes}
 use Rattle.cc_disk.specs.internal.Laws.{bytes_are_image}
 use Rattle.cc_journal.specs.Commit.{Commit, IsCommitted}

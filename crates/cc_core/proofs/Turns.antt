@@ -162,7 +162,7 @@ module _ {P : Type 0} (rules : Rules P) where
   puts : (keeps : P → Type 0) (old : Contents P) (e : Event P) (reply : Option Reply) (new : Contents P) → BeginsSpelled rules old e → Step rules old e reply new → PutsCommand old.core new.core
   puts keeps old (event.Begin client) reply new spelled step numbered is =
       puts_begun old.core client (verdict rules old.core.phase old.core.library old.core.store step.job) reply new.core
-      (λ d so. spelled client step.job d refl step.held (verdict_taken rules keeps old.core.phase old.core.library old.core.store step.job d so).same) step.begun numbered is
+      (λ d so. let taken = verdict_taken rules keeps old.core.phase old.core.library old.core.store step.job d so in spelled client step.job d refl step.held taken.same taken.open' taken.fits) step.begun numbered is
   puts keeps old (event.Submit client call asked) reply new spelled step numbered is = absurd (kept_order old (event.Submit client call asked) reply new (λ other e. absurd (cc)) step numbered is)
   puts keeps old (event.Take worker client part) reply new spelled step numbered is = absurd (kept_order old (event.Take worker client part) reply new (λ other e. absurd (cc)) step numbered is)
   puts keeps old (event.Done worker piece) reply new spelled step numbered is = absurd (kept_order old (event.Done worker piece) reply new (λ other e. absurd (cc)) step numbered is)

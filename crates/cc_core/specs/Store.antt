@@ -2,8 +2,7 @@
 -- those of one commit of the journal each: a first write, where its bytes count for nothing yet, a sync, the write of the one
 -- byte that decides, and a sync.
 use Rattle.std.specs.Prelude.{◌≡◌, ℕ, ◌+◌, ◌-◌, ◌*◌, List, [], ◌∷◌, ◌++◌, length}
-use Rattle.cc_disk.specs.declared.cell.Cell.{Cell}
-use Rattle.cc_disk.specs.Model.{bytes_of, IsImage, written, synced, crashed}
+use Rattle.cc_disk.specs.Model.{Cell, bytes_of, IsImage, written, synced, crashed}
 use Rattle.cc_disk.specs.Images.{LeavesAlone}
 use Rattle.cc_journal.specs.Format.{header, IsArea}
 use Rattle.cc_journal.specs.Commit.{Commit, append_commit, area_begin, rewrite_commit}

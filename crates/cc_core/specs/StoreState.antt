@@ -1,6 +1,6 @@
 -- What contracts see of the core's disk.
 use Rattle.std.specs.Prelude.{ℕ, List}
-use Rattle.cc_disk.specs.declared.cell.Cell.{Cell}
+use Rattle.cc_disk.specs.Model.{Cell}
 
 -- its cells, the area byte, which names the first area where it is even, else the second, the size of an area in bytes, and how
 -- many bytes of the named area the records take

@@ -1,8 +1,8 @@
 -- How a run can go on: which steps are turns of it, what they leave alone, and how a client's job is handed in and made ready to begin.
-use Rattle.std.specs.Prelude.{ℕ, ◌≡◌, IsTrue, List, Some, None, Ok}
+use Rattle.std.specs.Prelude.{ℕ, ◌≡◌, ◌≤◌, IsTrue, List, Some, None, Ok}
 use Rattle.std.specs.FinMap.{get}
 use Rattle.cc_library.specs.declared.command.Command.{Command}
-use Rattle.cc_library.specs.Body.{IsCommand}
+use Rattle.cc_library.specs.Body.{IsCommand, body_of}
 use Rattle.cc_core.specs.declared.command.Request.{Request}
 use Rattle.cc_core.specs.declared.contents.Contents.{Contents}
 use Rattle.cc_core.specs.declared.event.Event.{Event}
@@ -12,15 +12,17 @@ use Rattle.cc_core.specs.declared.ids.ClientId.{ClientId}
 use Rattle.cc_core.specs.declared.ids.PartIndex.{PartIndex}
 use Rattle.cc_core.specs.declared.ids.WorkerId.{WorkerId}
 use Rattle.cc_core.specs.declared.job.Job.{Job}
-use Rattle.cc_core.specs.Job.{all_there, command_of}
+use Rattle.cc_core.specs.Job.{all_there, closed, command_of}
 use Rattle.cc_core.specs.Rules.{Rules}
 use Rattle.cc_core.specs.Run.{Run}
+use Rattle.cc_core.specs.Store.{room_taken}
 
 module _ {P : Type 0} where
-  -- where the event begins a client's job, the command that the job comes to has a spelling
+  -- where the event begins a client's job, the command that the job comes to has a spelling, if no device step failed and its record fits
   abbrev pub BeginsSpelled : Rules P → Contents P → Event P → Type 0
   BeginsSpelled rules old event = (client : ClientId) (job : Job P) (command : Command) → event ≡ events.Begin client
-      → get old.jobs client.number ≡ Some job → command_of rules job job.request ≡ Ok command → IsCommand command
+      → get old.jobs client.number ≡ Some job → command_of rules job job.request ≡ Ok command
+      → closed old.core.phase ≡ None → room_taken old.core.store (body_of command) ≤ old.core.store.area → IsCommand command
 
   -- the event hands in no job
   abbrev pub IsNoSubmit : Event P → Type 0

@@ -17,7 +17,7 @@ use crate::fault::{CoreFault, Refusal};
 use crate::ids::ClientId;
 use crate::store::Store;
 use cc_journal::Commit;
-use cc_library::{Command, body_of_command};
+use cc_library::{Command, body_length, body_of_command};
 use std::alloc::{AllocError, Global};
 
 // The commit that puts the record of a command behind the last one.
@@ -78,7 +78,7 @@ pub(crate) fn write_gate(alloc: Global, core: &mut Core) -> Answer
 }
 
 // The sync after it is done: the record is one of the journal's.
-pub(crate) fn sync_gate(alloc: Global, core: &mut Core) -> Answer
+pub(crate) fn sync_gate(core: &mut Core) -> Answer
     requires { IsReady core.old }
     ensures { Answers (Advances due.SyncGate core.old) result core.old core.new }
 {
@@ -88,7 +88,7 @@ pub(crate) fn sync_gate(alloc: Global, core: &mut Core) -> Answer
     let Due::SyncGate = due else {
         return Err(CoreFault::NotNow);
     };
-    let length = body_of_command(alloc, &numbered.command)?.len();
+    let length = body_length(&numbered.command);
     core.store.sync();
     let used = core.store.used();
     core.store.set_used(used + (length + 5));

@@ -28,7 +28,7 @@ use crate::job::{
 use crate::recovery::{crash, recover};
 use crate::rewriting::{fail, rewrite_all, sync_all, sync_area, write_area};
 use crate::sequence::Sequence;
-use cc_library::{Command, SharedUnit, UnitMap, body_of_command};
+use cc_library::{Command, SharedUnit, UnitMap, body_length};
 use std::alloc::{AllocError, Global};
 
 /// What an event answers: a reply or none; 29 where it is not possible, 40 where memory was refused.
@@ -258,22 +258,24 @@ fn map_refusal(library: &UnitMap, command: &Command) -> Option<Refusal>
     None
 }
 
-// Why a command is refused, where it is: 36, then 31 or 32, then 34.
-fn refusal_of(alloc: Global, core: &Core, command: &Command) -> Result<Option<Refusal>, AllocError>
-    ensures refusal { IfOk result (λ refusal. refusal ≡ command_refusal core.now.phase core.now.library core.now.store command.now) }
-    ensures spelled { IfOk result (λ refusal. refusal ≡ None → IsCommand command.now) }
+// Why a command is refused, where it is: 36, then 31 or 32, then 34. The length of its body is enough, so no body is made
+// that has no room.
+fn refusal_of(core: &Core, command: &Command) -> Option<Refusal>
+    ensures refusal { result ≡ command_refusal core.now.phase core.now.library core.now.store command.now }
+    ensures spelled { result ≡ None → IsCommand command.now }
 {
     if let Phase::Failed(_) = core.phase {
-        return Ok(Some(Refusal::Closed));
+        return Some(Refusal::Closed);
     }
     if let Some(refusal) = map_refusal(&core.library, command) {
-        return Ok(Some(refusal));
+        return Some(refusal);
     }
-    let body = body_of_command(alloc, command)?;
-    if core.store.fits(&body) {
-        Ok(None)
+    // What the type keeps of an area's size.
+    let _ = core.store.used();
+    if core.store.fits(body_length(command)) {
+        None
     } else {
-        Ok(Some(Refusal::Full))
+        Some(Refusal::Full)
     }
 }
 
@@ -292,15 +294,11 @@ fn decide<B: Build>(
         Err(BuildFault::Refused(number)) => return Ok(Err(Refusal::Build(number))),
         Err(BuildFault::OutOfMemory) => return Err(AllocError),
     };
-    match refusal_of(alloc, core, &command) {
-        Ok(None) => Ok(Ok(command)),
-        Ok(Some(refusal)) => {
+    match refusal_of(core, &command) {
+        None => Ok(Ok(command)),
+        Some(refusal) => {
             drop(command);
             Ok(Err(refusal))
-        }
-        Err(fault) => {
-            drop(command);
-            Err(fault)
         }
     }
 }
@@ -428,7 +426,7 @@ pub(crate) fn take_step<B: Build>(
         Event::WriteBody => write_body(alloc, &mut contents.core),
         Event::SyncBody => sync_body(&mut contents.core),
         Event::WriteGate => write_gate(alloc, &mut contents.core),
-        Event::SyncGate => sync_gate(alloc, &mut contents.core),
+        Event::SyncGate => sync_gate(&mut contents.core),
         Event::RewriteAll => rewrite_all(alloc, &mut contents.core),
         Event::SyncAll => sync_all(&mut contents.core),
         Event::WriteArea => write_area(&mut contents.core),

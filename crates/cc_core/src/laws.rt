@@ -68,7 +68,7 @@ pub fn units_law<B: Build>()
 {}
 
 /// How a run can go on. Each step of an event that has one is a turn, where a piece that is handed in keeps what its type keeps, and a
-/// command that begins has a spelling; and one run goes on by another. Only a Submit gives a client a job, and only a Take gives a
+/// command that goes into the order has a spelling; and one run goes on by another. Only a Submit gives a client a job, and only a Take gives a
 /// worker a piece. Where no crash is before, a command whose unit pieces give can be handed in by a client without a job, and made ready
 /// by an idle worker.
 pub fn turn_law<B: Build>()

@@ -23,6 +23,8 @@ pub(crate) fn rewrite_all(alloc: Global, core: &mut Core) -> Answer
     let Phase::Idle = &core.phase else {
         return Err(CoreFault::NotNow);
     };
+    // What the type keeps of an area's size.
+    let _ = core.store.used();
     let bodies = core.library.bodies(alloc)?;
     let commit = core.store.rewrite(alloc, &bodies)?;
     core.store.write_first(&commit);

@@ -82,11 +82,12 @@ impl Store {
         }
     }
 
-    /// Whether a record with this body fits the area.
-    pub(crate) fn fits(&self, body: &[u8]) -> bool
-        ensures { IsTrue result ↔ (room_taken self.now body.now ≤ self.now.area) }
+    /// Whether a record with a body of so many bytes fits the area.
+    pub(crate) fn fits(&self, count: usize) -> bool
+        ensures { IsTrue result ↔ (self.now.used + (count + 6) ≤ self.now.area) }
     {
-        body.len() + 6 <= self.area as usize - self.used
+        let left = self.area as usize - self.used;
+        6 <= left && count <= left - 6
     }
 
     // The offset of the closed gate behind the last record.

@@ -20,7 +20,8 @@ pub struct Declaration<'a> {
 
 fn add_all<'a>(list: &mut Vec<Declaration<'a>>, objects: &'a [Object]) -> Result<(), AllocError> {
     for object in objects {
-        let (Object::Single(name, _) | Object::Array(name, _, _)) = object;
+        let (Object::Single(name, _) | Object::Array(name, _, _) | Object::Bytes(name, _, _)) =
+            object;
         let declared = Declared::Object(object);
         list.push(Declaration { name, declared })?;
     }

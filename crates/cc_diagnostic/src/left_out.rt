@@ -25,13 +25,13 @@ pub fn said_of_front(table: &[Entry], bytes: &[u8]) -> Option<&'static str> {
     None
 }
 
-/// The keywords of C99 (6.4.1) that no text of this C has.
+/// The keywords of C99 (6.4.1) that no text of this C has; `char` stands in declarations of byte arrays alone.
 pub static KEYWORDS: [Entry; 26] = [
     ("auto", "there is no auto in this C; leave it out"),
     ("case", "there is no case in this C; write if and else"),
     (
         "char",
-        "there is no char in this C; write int, with one element of an array for each character",
+        "there is no char in this C but in arrays at file scope, as unsigned char line[80]; write int",
     ),
     (
         "const",
@@ -322,6 +322,9 @@ pub const LABELS: &str = "there are no labels in this C; write a loop, with brea
 
 pub const INNER_FUNCTIONS: &str =
     "there are no functions inside a function; declare it at file scope, before this one";
+
+pub const SINGLE_BYTES: &str =
+    "there is no single unsigned char in this C; write [1] behind the name, or int for the type";
 
 pub const NO_TARGET: &str =
     "it stands behind no variable and no element of an array, and nothing else can be written to";

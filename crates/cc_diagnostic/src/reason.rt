@@ -3,7 +3,7 @@
 use super::around::Around;
 use super::left_out::{
     ACTIONS, ARRAY_PARAMETERS, COMMA, DESIGNATORS, FOREIGN, INNER_FUNCTIONS, KEYWORDS, LABELS,
-    LISTS, LOCAL_ARRAYS, NO_TARGET, POINTERS, ROWS, STRUCTURES, VOID_CASTS, said_of,
+    LISTS, LOCAL_ARRAYS, NO_TARGET, POINTERS, ROWS, SINGLE_BYTES, STRUCTURES, VOID_CASTS, said_of,
 };
 use super::near::near_keyword;
 use cc_tokens::{Token, TokenKind};
@@ -134,9 +134,15 @@ fn is_void_cast(around: &Around<'_>) -> bool {
     around.is(around.next(0), b"void") && around.is(around.last(0), b"(")
 }
 
+// Whether a name stands before it that has to be that of an array of `unsigned char`.
+fn is_behind_byte_name(around: &Around<'_>) -> bool {
+    is_name(around.last(0)) && around.is(around.last(1), b"char")
+}
+
 // What is said of a token by its spelling, and by what stands around it.
 fn said(around: &Around<'_>, bytes: &[u8]) -> Option<&'static str> {
     match bytes {
+        _ if is_behind_byte_name(around) => Some(SINGLE_BYTES),
         [b'*'] | [b'&'] => Some(POINTERS),
         [b'['] => of_bracket(around),
         [b'('] => of_parenthesis(around),
@@ -210,7 +216,7 @@ fn joined<'a>(around: &Around<'a>) -> Option<Reason<'a>> {
 // Whether a name is declared here: a type stands before it.
 fn is_declared(around: &Around<'_>, name: Token) -> bool {
     let before = around.last_before(name.from);
-    is_one_of(before, &[b"int", b"unsigned", b"signed", b"void"])
+    is_one_of(before, &[b"int", b"unsigned", b"signed", b"void", b"char"])
 }
 
 // What is said of a name that stands nowhere before: it is a word of another language, or nearly a keyword.

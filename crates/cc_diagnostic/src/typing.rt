@@ -269,7 +269,7 @@ fn parameters(standing: Standing<'_>) -> usize {
 
 // An array whose length or list is wrong.
 fn wrong_length(alloc: Global, view: &View<'_>, object: &Object) -> Result<String, AllocError> {
-    let Object::Array(_, length, values) = object else {
+    let (Object::Array(_, length, values) | Object::Bytes(_, length, values)) = object else {
         return view.with(alloc, " has a wrong length");
     };
     let values = values.as_slice();

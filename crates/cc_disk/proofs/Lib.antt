@@ -1,3 +1,4 @@
-pub mod Cells
+pub mod Images
+mod Zipped
 mod Moments
 mod Walk

@@ -1,11 +1,8 @@
 -- One state more joins those that a disk was in: what a crash since a moment may have left grows by what it may leave now.
-use Rattle.std.proofs.Common.{◌≡◌, ◌⊎◌, inl, inr, ⊎_elim, ℕ, zero, suc, ◌≤◌, List, [], ◌∷◌, ◌++◌, length, drop, refl, sym, ap, ◌∙◌, subst, arith, length-append, Vec}
-use Rattle.std.proofs.lemmas.List.{map_push}
-use Rattle.std.specs.declared.alloc.Global.{Global}
-use Rattle.cc_disk.specs.declared.cell.Cell.{Cell}
-use Rattle.cc_disk.specs.Model.{IsImage}
+use Rattle.std.proofs.Common.{◌≡◌, ◌⊎◌, inl, inr, ⊎_elim, ℕ, zero, suc, ◌≤◌, List, [], ◌∷◌, ◌++◌, length, drop, refl, sym, subst, arith, length-append}
+use Rattle.cc_disk.specs.Model.{Cell, IsImage}
 use Rattle.cc_disk.specs.Images.{Elapses}
-use Rattle.cc_disk.specs.Past.{states_of, MayHaveLeft, LeftSince}
+use Rattle.cc_disk.specs.Past.{MayHaveLeft, LeftSince}
 
 keeps_earlier : (past : List (List Cell)) (state : List Cell) (image : List ℕ) → MayHaveLeft past image → MayHaveLeft (past ++ state ∷ []) image
 keeps_earlier [] state image had = absurd had
@@ -39,10 +36,3 @@ elapses_one past old new = record {
 
 pub elapses_none : (past : List (List Cell)) (cells : List Cell) → Elapses (length past) (length past) (LeftSince cells past) (LeftSince cells past) (IsImage cells)
 elapses_none past cells = record { later = omega arith; nothing_else = λ t image le left. inl left; keeps = λ t image le left. left }
-
--- the same, of a history of states
-pub elapses_push : (past later : List (Vec Cell Global)) (state : Vec Cell Global) → later ≡ past ++ state ∷ [] → (new : List Cell)
-    → Elapses (length (states_of past)) (length (states_of later)) (LeftSince state.items (states_of past)) (LeftSince new (states_of later)) (IsImage new)
-elapses_push past later state is new =
-    let states : states_of later ≡ states_of past ++ state.items ∷ [] = ap states_of is ∙ map_push (λ (s : Vec Cell Global). s.items) past state in
-    subst (λ (l : List (List Cell)). Elapses (length (states_of past)) (length l) (LeftSince state.items (states_of past)) (LeftSince new l) (IsImage new)) (sym states) (elapses_one (states_of past) state.items new)

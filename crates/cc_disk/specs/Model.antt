@@ -1,7 +1,11 @@
 -- The model of a disk: a fixed number of bytes, each settled or unsettled. A write unsettles its range, a sync settles
 -- all, and a crash leaves any byte at an unsettled offset.
-use Rattle.std.specs.Prelude.{◌≡◌, ℕ, ◌+◌, List, [], ◌∷◌, ◌++◌, map, length, take, drop, replicate, IsTrue, true, false, if◌then◌else◌}
-use Rattle.cc_disk.specs.declared.cell.Cell.{Cell}
+use Rattle.std.specs.Prelude.{◌≡◌, ℕ, Bool, ◌+◌, List, [], ◌∷◌, ◌++◌, map, length, take, drop, replicate, IsTrue, true, false, if◌then◌else◌}
+
+-- one byte of a disk: what a read gives, and whether a crash keeps it
+pub record Cell : Type 0 where
+  pub byte : ℕ
+  pub settled : Bool
 
 -- a byte that a crash keeps
 abbrev pub settled : ℕ → Cell

@@ -1,18 +1,11 @@
 -- What a crash may have left, told from the states that a disk had before each of its calls.
-use Rattle.std.specs.Prelude.{◌⊎◌, ℕ, List, [], ◌∷◌, drop, map}
-use Rattle.std.proofs.Common.{Vec}
-use Rattle.std.specs.declared.alloc.Global.{Global}
-use Rattle.cc_disk.specs.declared.cell.Cell.{Cell}
-use Rattle.cc_disk.specs.Model.{IsImage}
+use Rattle.std.specs.Prelude.{◌⊎◌, ℕ, List, [], ◌∷◌, drop}
+use Rattle.cc_disk.specs.Model.{Cell, IsImage}
 
 -- what contracts see of a disk in memory: its cells, and the states that it had before each write and each sync
 pub record DiskState : Type 0 where
   pub cells : List Cell
   pub past : List (List Cell)
-
--- the states that a history names
-abbrev pub states_of : List (Vec Cell Global) → List (List Cell)
-states_of past = map (λ (state : Vec Cell Global). state.items) past
 
 -- one of these states may leave this image
 abbrev pub MayHaveLeft : List (List Cell) → List ℕ → Type 0

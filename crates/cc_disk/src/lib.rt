@@ -1,11 +1,11 @@
 //! Disks that may lose power: the rules that a disk keeps, and three kinds of disk to run a store on.
 //!
-//! `disk` has the trait `Disk` and its fault, `cell` one byte of the model, `memory` the disk in memory, `file` the disk
+//! `disk` has the trait `Disk` and its fault, `memory` the disk in memory, `cells` its bytes, `file` the disk
 //! on a file, `fuse` the disk that fails on purpose, `history` and `count` what contracts alone remember.
-//! It hands out `Disk`, `DiskFault`, `Cell`, `MemoryDisk`, `FileDisk`, `FuseDisk`, `FuseMode` and `History`.
+//! It hands out `Disk`, `DiskFault`, `MemoryDisk`, `FileDisk`, `FuseDisk`, `FuseMode` and `History`.
 #![tactic(auto)]
 
-mod cell;
+mod cells;
 mod count;
 mod disk;
 mod file;
@@ -13,7 +13,6 @@ mod fuse;
 mod history;
 mod memory;
 
-pub use cell::Cell;
 pub use disk::{Disk, DiskFault};
 pub use file::FileDisk;
 pub use fuse::{FuseDisk, FuseMode};

@@ -7,7 +7,7 @@ ghost use Rattle.cc_disk.specs.internal.Laws.{only_now_left, bytes_are_image};
 ghost use Rattle.std.proofs.Common.{inl};
 ghost use Rattle.std.proofs.lemmas.List.{length-map};
 
-use crate::cell::Cell;
+use crate::cells::Cells;
 use crate::disk::{Disk, DiskFault};
 use crate::history::History;
 use std::alloc::{AllocError, Global};
@@ -19,17 +19,17 @@ use std::marker::Model;
 /// A clause sees its cells, and the states that it had before each write and each sync (`past`).
 #[derive(Drop)]
 pub struct MemoryDisk {
-    cells: Vec<Cell>,
+    cells: Cells,
     // The states before each write and each sync, for contracts alone.
-    past: History<Vec<Cell>>,
+    past: History<Cells>,
 }
 
 impl Model for MemoryDisk {
-    ghost use Rattle.cc_disk.specs.Past.{DiskState, states_of};
+    ghost use Rattle.cc_disk.specs.Past.{DiskState};
 
     ghost Value = { DiskState };
 
-    ghost view = { λ disk. record { cells = disk.cells.items; past = states_of disk.past.items } };
+    ghost view = { λ disk. record { cells = disk.cells; past = disk.past.items } };
 }
 
 impl MemoryDisk {
@@ -38,12 +38,8 @@ impl MemoryDisk {
         ensures cells { IfOk result (λ disk. disk.cells ≡ new_cells size) }
         ensures past { IfOk result (λ disk. disk.past ≡ []) }
     {
-        let zero = Cell {
-            byte: 0,
-            settled: true,
-        };
         Ok(MemoryDisk {
-            cells: vec![in alloc; zero; size]?,
+            cells: Cells::new(alloc, size)?,
             past: History::new(),
         })
     }
@@ -55,64 +51,9 @@ impl MemoryDisk {
         ensures past { IfOk result (λ disk. disk.past ≡ []) }
     {
         Ok(MemoryDisk {
-            cells: crash_cells(alloc, &self.cells, choice)?,
+            cells: self.cells.crash(alloc, choice)?,
             past: History::new(),
         })
-    }
-}
-
-// The cells after a crash with this choice.
-fn crash_cells(alloc: Global, cells: &[Cell], choice: &[u8]) -> Result<Vec<Cell>, AllocError>
-    ensures { IfOk result (λ after. after.items ≡ crashed cells.now choice.now) }
-{
-    let mut after = Vec::with_capacity(alloc, cells.len())?;
-    let mut rest = choice;
-    for cell in cells {
-        let chosen = match rest {
-            [first, others @ ..] => {
-                rest = others;
-                *first
-            }
-            [] => 0,
-        };
-        let byte = if cell.settled { cell.byte } else { chosen };
-        after.push(Cell {
-            byte,
-            settled: true,
-        })?;
-    }
-    Ok(after)
-}
-
-// Copies the bytes from `offset` on into the buffer.
-fn read_cells(cells: &[Cell], offset: usize, buffer: &mut [u8])
-    requires { offset + length buffer.old ≤ length cells.now }
-    ensures { buffer.new ≡ take (length buffer.old) (drop offset (bytes_of cells.now)) }
-{
-    for i in 0..buffer.len() {
-        buffer[i] = cells[offset + i].byte;
-    }
-}
-
-// Sets the cells from `offset` on to the bytes, unsettled.
-fn write_cells(cells: &mut [Cell], offset: usize, bytes: &[u8])
-    requires { offset + length bytes.now ≤ length cells.old }
-    ensures { cells.new ≡ written cells.old offset bytes.now }
-{
-    for i in 0..bytes.len() {
-        cells[offset + i] = Cell {
-            byte: bytes[i],
-            settled: false,
-        };
-    }
-}
-
-// Settles every cell.
-fn settle_cells(cells: &mut [Cell])
-    ensures { cells.new ≡ synced cells.old }
-{
-    for cell in cells.iter_mut() {
-        cell.settled = true;
     }
 }
 
@@ -150,7 +91,7 @@ impl Disk for MemoryDisk {
         ensures read { buffer.new ≡ take (length buffer.old) (drop offset (bytes_of self.old.cells)) }
         ensures same { self.new ≡ self.old }
     {
-        read_cells(&self.cells, offset, buffer);
+        self.cells.read(offset, buffer);
         Ok(())
     }
 
@@ -167,7 +108,7 @@ impl Disk for MemoryDisk {
             (LeftSince self.new.cells self.new.past) (IsImage self.new.cells) }
     {
         self.past = self.past.and(&self.cells);
-        write_cells(&mut self.cells, offset, bytes);
+        self.cells.write(offset, bytes);
         Ok(())
     }
 
@@ -184,7 +125,7 @@ impl Disk for MemoryDisk {
             (LeftSince self.new.cells self.new.past) (IsImage self.new.cells) }
     {
         self.past = self.past.and(&self.cells);
-        settle_cells(&mut self.cells);
+        self.cells.settle();
         Ok(())
     }
 

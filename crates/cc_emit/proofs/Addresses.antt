@@ -1,16 +1,20 @@
 -- The table of the objects' addresses: what is in it so far and what is to come is the whole.
 use Rattle.std.proofs.Common.{◌≡◌, ℕ, zero, suc, ◌+◌, ◌-◌, ◌*◌, ◌≤◌, List, [], ◌∷◌, ◌++◌, true, false, Bool, cond, length, map, get_or, min, nat_lt, refl, sym, ap, ◌∙◌, subst, append_assoc, length-append, arith}
 use Rattle.std.proofs.lemmas.Bool.Decides.{nat_tests}
+use Rattle.cc_words.specs.Widths.{words_of}
 use Rattle.cc_syntax.specs.Tree.{Object, External}
-use Rattle.cc_typing.specs.Types.{object_words}
+use Rattle.cc_typing.specs.Types.{object_elements, object_words}
 use Rattle.cc_typing.specs.Limits.{objects, object_name, too_many, most_words, word_excesses, past, most_functions, function_names, externals_excesses}
 use Rattle.cc_typing.specs.Typed.{IsTyped, IsWithinLimits}
 use Rattle.cc_typing.specs.declared.rule.Offence.{Offence}
-use Rattle.cc_resolve.specs.Layout.{LaidObject, laid_from}
+use Rattle.cc_resolve.specs.Layout.{laid_from}
 use Rattle.cc_meaning.specs.Meaning.{Global, initial_globals}
-use Rattle.cc_meaning.specs.Numbered.{objects_in, words_in}
-use Rattle.cc_meaning.specs.Calls.{ObjectsAreSized}
+use Rattle.cc_meaning.specs.Numbered.{objects_in, objects_of}
+use Rattle.cc_meaning.specs.Calls as calls
+use Rattle.cc_meaning.specs.Calls.{sizes, laid_sizes, ObjectsAreSized}
 use Rattle.cc_rv32.specs.Machine.{globals_from, globals_to}
+use Rattle.cc_runs.specs.World.{Size, size_of}
+use Rattle.cc_emit.specs.Contract.{size_words}
 use Rattle.cc_emit.specs.Objects.{words_before, object_address}
 use Rattle.cc_emit.specs.internal.Bases.{base_in, bases_from, address_behind}
 
@@ -85,7 +89,13 @@ length_bases : (a : ℕ) (os : List Object) → length (bases_from a os) ≡ len
 length_bases a [] = refl
 length_bases a (o ∷ os) = ap suc (length_bases (a + 4 * object_words o) os)
 
-told : (a : ℕ) (os : List Object) (k g : ℕ) → k ≡ min (length os) g → get_or (bases_from a os ++ address_behind a os ∷ []) k 0 ≡ a + 4 * words_before (map object_words os) g
+-- the sum of those before one of that number
+abbrev sum_before : List ℕ → ℕ → ℕ
+sum_before [] g = 0
+sum_before (n ∷ ns) zero = 0
+sum_before (n ∷ ns) (suc g) = n + sum_before ns g
+
+told : (a : ℕ) (os : List Object) (k g : ℕ) → k ≡ min (length os) g → get_or (bases_from a os ++ address_behind a os ∷ []) k 0 ≡ a + 4 * sum_before (map object_words os) g
 told a [] zero g e = omega arith
 told a [] (suc k) g e = absurd (omega arith)
 told a (o ∷ os) zero zero e = omega arith
@@ -93,23 +103,32 @@ told a (o ∷ os) zero (suc g) e = absurd (omega arith)
 told a (o ∷ os) (suc k) zero e = absurd (omega arith)
 told a (o ∷ os) (suc k) (suc g) e = let h = told (a + 4 * object_words o) os k g (omega arith) in omega arith
 
-words_mapped : (gs : List Global) → map (λ (ws : List ℕ). length ws) (words_in gs) ≡ map (λ (g : Global). length g.words) gs
+before_summed : (sizes : List Size) (g : ℕ) → words_before sizes g ≡ sum_before (map size_words sizes) g
+before_summed [] g = refl
+before_summed (s ∷ sizes) zero = refl
+before_summed (s ∷ sizes) (suc g) = ap (λ n. size_words s + n) (before_summed sizes g)
+
+-- how many words a size takes
+abbrev filled : calls.Size → ℕ
+filled z = words_of z.width z.elements
+
+words_mapped : (gs : List Global) → map size_words (map size_of (objects_of gs)) ≡ map filled (sizes gs)
 words_mapped [] = refl
-words_mapped (g ∷ gs) = ap (λ (ns : List ℕ). length g.words ∷ ns) (words_mapped gs)
+words_mapped (g ∷ gs) = ap (λ (ns : List ℕ). words_of g.width (length g.words) ∷ ns) (words_mapped gs)
 
-extents_mapped : (at : ℕ) (os : List Object) → map (λ (p : LaidObject). p.extent.length) (laid_from at os) ≡ map object_words os
+extents_mapped : (at : ℕ) (os : List Object) → map filled (laid_sizes (laid_from at os)) ≡ map object_words os
 extents_mapped at [] = refl
-extents_mapped at (o ∷ os) = ap (λ (ns : List ℕ). object_words o ∷ ns) (extents_mapped (at + object_words o) os)
+extents_mapped at (o ∷ os) = ap (λ (ns : List ℕ). object_words o ∷ ns) (extents_mapped (at + object_elements o) os)
 
-sizes_are : ObjectsAreSized → (unit : List External) → IsTyped unit → objects_in unit ≡ map object_words (objects unit)
-sizes_are sized unit typed = words_mapped (initial_globals unit) ∙ sized unit typed ∙ extents_mapped 0 (objects unit)
+sizes_are : ObjectsAreSized → (unit : List External) → IsTyped unit → map size_words (objects_in unit) ≡ map object_words (objects unit)
+sizes_are sized unit typed = words_mapped (initial_globals unit) ∙ ap (map filled) (sized unit typed) ∙ extents_mapped 0 (objects unit)
 
 pub bases_are : ObjectsAreSized → (unit : List External) → IsTyped unit → (new table : List ℕ) (behind : ℕ) → Listing globals_from (objects unit) [] new behind [] → table ≡ new ++ behind ∷ [] → (object : ℕ) → base_in table object ≡ object_address (objects_in unit) object
 bases_are sized unit typed new table behind h e g =
     let os = objects unit in
     let all : table ≡ bases_from globals_from os ++ address_behind globals_from os ∷ [] = e ∙ ap (λ n. new ++ n ∷ []) h.behind ∙ ap (λ xs. xs ++ address_behind globals_from os ∷ []) (sym (append_none new) ∙ h.bases) in
     let long : length table ≡ length os + 1 = ap (λ (xs : List ℕ). length xs) all ∙ length-append (bases_from globals_from os) (address_behind globals_from os ∷ []) ∙ ap (λ n. n + 1) (length_bases globals_from os) in
-    ap (λ xs. get_or xs (min (length table - 1) g) 0) all ∙ told globals_from os (min (length table - 1) g) g (omega arith) ∙ ap (λ ns. globals_from + 4 * words_before ns g) (sym (sizes_are sized unit typed))
+    ap (λ xs. get_or xs (min (length table - 1) g) 0) all ∙ told globals_from os (min (length table - 1) g) g (omega arith) ∙ ap (λ n. globals_from + 4 * n) (ap (λ ns. sum_before ns g) (sym (sizes_are sized unit typed)) ∙ sym (before_summed (objects_in unit) g))
   where
     append_none : (xs : List ℕ) → xs ++ [] ≡ xs
     append_none [] = refl

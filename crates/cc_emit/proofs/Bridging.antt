@@ -210,8 +210,8 @@ leads_one count slots functions ls _ all fits = tt
 leads_join : (count : ℕ) (i k : linear.Item) (s : Step) → IsJoin i k s → LeadsBelow count s
 leads_join count i k (One item) j = absurd j
 leads_join count i k (Immediate o to left word) j = tt
-leads_join count i k (LoadAt object to index word) j = tt
-leads_join count i k (StoreAt object index word from) j = tt
+leads_join count i k (LoadAt width object to index word) j = tt
+leads_join count i k (StoreAt width object index word from) j = tt
 
 pub leads_all : (count slots functions : ℕ) (ls : List ℕ) (items : List linear.Item) → AllByRecursion (λ label. label < count) ls → AllByRecursion (IsItem slots functions ls) items → AllByRecursion (LeadsBelow count) (steps items)
 leads_all count slots functions ls items all fits = steps_all (IsItem slots functions ls) (LeadsBelow count) items (λ i u. leads_one count slots functions ls i all u) (λ i k s u v j. leads_join count i k s j) fits

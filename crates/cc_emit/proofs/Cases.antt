@@ -1,12 +1,12 @@
 -- What the items that stand for one item of Linear do.
-use Rattle.std.proofs.Common.{◌≡◌, ℕ, suc, ◌+◌, ◌-◌, ◌*◌, ◌%◌, ◌^◌, ◌<◌, ◌≤◌, ◌⊎◌, List, [], ◌∷◌, ◌++◌, Option, Some, None, true, false, Bool, length, refl, sym, ap, ap₂, ◌∙◌, subst, inl, inr, arith}
+use Rattle.std.proofs.Common.{◌≡◌, ℕ, suc, ◌+◌, ◌-◌, ◌*◌, ◌%◌, ◌^◌, ◌<◌, ◌≤◌, ◌⊎◌, List, [], ◌∷◌, ◌++◌, Option, Some, None, true, false, Bool, refl, sym, ap, ap₂, ◌∙◌, subst, inl, inr, arith}
 use Rattle.std.specs.Prelude.{◌==◌, if◌then◌else◌, not, option_map}
 use Rattle.cc_words.specs.Words.{add, lt_u}
 use Rattle.cc_words.specs.Operators.{apply_unary, apply_binary}
 use Rattle.cc_words.specs.declared.operators.Unary as unary
 use Rattle.cc_words.specs.declared.operators.Binary as binary
 use Rattle.cc_runs.specs.Behavior.{AreWords}
-use Rattle.cc_runs.specs.World.{World, object_words, element, next_word, first_or_zero, after_read, after_write}
+use Rattle.cc_runs.specs.World.{first_or_zero, World, element, next_word, after_read, after_write, with_element}
 use Rattle.cc_runs.specs.Run.{Fails, Goes, tried}
 use Rattle.cc_ltl.specs.declared.location.Location.TheVariants.{Register, Slot}
 use Rattle.cc_ltl.specs.declared.operation.Move.{Move}
@@ -25,23 +25,31 @@ use Rattle.cc_rv32.specs.declared.instr.ImmediateOperation.TheVariants.{Addi, Sl
 use Rattle.cc_rv32.specs.declared.instr.ShiftOperation.TheVariants.{Slli}
 use Rattle.cc_rv32.specs.declared.instr.Operation.TheVariants as operations
 use Rattle.cc_rv32.specs.Machine as machine
-use Rattle.cc_rv32.specs.Machine.{Continues, State, Traps, branches, computed, execute, is_accessible, is_taken, puts, with_register, with_word}
+use Rattle.cc_rv32.specs.declared.instr.LoadOperation.TheVariants.{Lw}
+use Rattle.cc_rv32.specs.declared.instr.StoreOperation.TheVariants.{Sw}
+use Rattle.cc_rv32.specs.Machine.{Continues, State, Traps, branches, computed, execute, globals_to, is_accessible, is_taken, loaded, puts, stored, with_register, with_word}
+use Rattle.cc_words.specs.declared.operators.Width.{Width}
+use Rattle.cc_words.specs.declared.operators.Width.TheVariants.{Byte, Word}
+use Rattle.cc_words.specs.Widths.{kept}
+use Rattle.cc_emit.specs.declared.item.Item.{Item}
 use Rattle.cc_emit.specs.declared.item.Item.TheVariants.{Go, Plain}
 use Rattle.cc_emit.specs.declared.step.Step.{Step}
 use Rattle.cc_emit.specs.declared.step.Step.TheVariants.{One}
-use Rattle.cc_emit.specs.Contract.{Code, IsPlace, Path, Shares}
+use Rattle.cc_emit.specs.Contract.{Code, IsPlace, Path, element_place, filled, load_of, store_of}
 use Rattle.cc_emit.specs.Frames.{Frame}
-use Rattle.cc_emit.specs.Emission.{addi, branch_items, branch_size, const_items, const_size, distance, high, low, prologue_size, recipe, recipe_items, recipe_size, unary_instr}
+use Rattle.cc_emit.specs.Emission.{access_size, addi, based, branch_items, branch_size, const_items, const_size, distance, high, indexed, load_element, low, prologue_size, recipe, recipe_items, recipe_size, store_element, unary_instr}
 use Rattle.cc_emit.specs.declared.recipe.Recipe.{Recipe}
 use Rattle.cc_emit.specs.declared.recipe.Recipe.TheVariants.{Direct, NonzeroOf, ZeroOf, ZeroOfExchanged}
 use Rattle.cc_emit.proofs.Fine.{IsTarget}
-use Rattle.cc_emit.proofs.Basics.{in_stack, in_globals, high_low, high_word, first_word, eqb_yes, eqb_says, same_first, got}
+use Rattle.cc_emit.proofs.Basics.{in_stack, high_low, high_word, first_word, eqb_yes, eqb_says, same_first, set_other}
+use Rattle.cc_emit.proofs.Bytes.{load_accessible, loaded_word, store_accessible}
+use Rattle.cc_emit.proofs.Elements.{element_tells, holds, placed}
 use Rattle.cc_emit.proofs.Stepping.{items_behind, steps_from, place_stands}
 use Rattle.cc_emit.proofs.Places.{DistanceIs, Nears, distance_is, stays_near}
 use Rattle.cc_emit.proofs.Recipes.{IsRight, recipe_right, binary_word, unary_right, unary_executes}
-use Rattle.cc_emit.proofs.Standing.{long_of, Site, Standing, Stands, near, labels, machine_step, first_items, standing_tail, standing_from, step_at, jump_step}
+use Rattle.cc_emit.proofs.Standing.{Site, Standing, Stands, near, labels, machine_step, first_items, standing_tail, standing_from, step_at, jump_step}
 use Rattle.cc_emit.proofs.Saving.{load_step, store_step}
-use Rattle.cc_emit.proofs.Within.{Within, with_element, within_set, within_scratch, within_pc, within_slot, within_store, within_read, within_write, low_stack}
+use Rattle.cc_emit.proofs.Within.{Within, within_set, within_scratch, within_pc, within_slot, within_store, within_read, within_write, low_stack}
 
 -- the machine comes to where these items stand
 pub record Reaches (x : Site) (next : List Step) (l : Locations) (h : World) (s : State) : Type 0 where
@@ -220,9 +228,6 @@ behind_1 place a = omega arith
 behind_2 : (place a : ℕ) → place + 4 * a + 4 + 4 ≡ place + 4 * (a + 2)
 behind_2 place a = omega arith
 
-behind_4 : (place a : ℕ) → place + 4 * a + 4 + 4 + 4 + 4 ≡ place + 4 * (a + 4)
-behind_4 place a = omega arith
-
 -- a word, by the parts that are not zero
 const_walks_by : (x : Site) (a to word : ℕ) (no_high no_low : Bool) (l : Locations) (h : World) (s : State) → s.pc ≡ x.place + 4 * a → Within x l h s → IsTarget x.frame to → word < 2 ^ 32 → (no_high ≡ true → high word ≡ 0) → (no_low ≡ true → low word ≡ 0)
     → Stands x (x.place + 4 * a) (if no_high then addi to 0 (low word) ∷ [] else if no_low then Plain (Lui to (high word)) ∷ [] else Plain (Lui 5 (high word)) ∷ addi to 5 (low word) ∷ [])
@@ -322,7 +327,7 @@ copy_case x w a (Reload to i) rest l h s (e, st, inside) =
     let ok = slot_address x l h s i fine.1 inside in
     let v = l (Slot i) in
     let value : s.memory at ≡ v = sym (inside.slots i fine.1) in
-    let step = load_step x.code s (x.place + 4 * a) to 2 (4 * i) at e (first_items x w a (One (Copy (Reload to i))) rest st).0 ok.1 ok.0 ∙ ap (λ n. puts to n s) value in
+    let step = load_step x.code s Lw (x.place + 4 * a) to 2 (4 * i) at e (first_items x w a (One (Copy (Reload to i))) rest st).0 ok.1 ok.0 ∙ ap (λ n. puts to n s) value in
     let lt = inside.sound.memory at in
     stepped x (One (Copy (Reload to i)) ∷ rest) rest l (put (Register to) v l) h h s (λ ws. refl)
     (reach_by x rest (put (Register to) v l) h s (record s { pc = s.pc + 4; registers = with_register s.registers to v }) _ (a + 1) step (ap (λ n. n + 4) e ∙ behind_1 x.place a) (standing_tail x w a (One (Copy (Reload to i))) rest st) (within_set x l h s (s.pc + 4) to v fine.0 (omega arith) inside))
@@ -331,7 +336,7 @@ copy_case x w a (Spill i b) rest l h s (e, st, inside) =
     let at = s.registers 2 + 4 * i in
     let ok = slot_address x l h s i fine.0 inside in
     let v = l (Register b) in
-    let step = store_step x.code s (x.place + 4 * a) 2 b (4 * i) at e (first_items x w a (One (Copy (Spill i b))) rest st).0 ok.1 ok.0 ∙ ap (λ n. Continues (record s { pc = s.pc + 4; memory = with_word s.memory at n })) (sym (inside.same b fine.1)) in
+    let step = store_step x.code s Sw (x.place + 4 * a) 2 b (4 * i) at e (first_items x w a (One (Copy (Spill i b))) rest st).0 ok.1 ok.0 ∙ ap (λ n. Continues (record s { pc = s.pc + 4; memory = with_word s.memory at n })) (sym (inside.same b fine.1)) in
     stepped x (One (Copy (Spill i b)) ∷ rest) rest l (put (Slot i) v l) h h s (λ ws. refl)
     (reach_by x rest (put (Slot i) v l) h s (record s { pc = s.pc + 4; memory = with_word s.memory at v }) _ (a + 1) step (ap (λ n. n + 4) e ∙ behind_1 x.place a) (standing_tail x w a (One (Copy (Spill i b))) rest st) (within_slot x l h s (s.pc + 4) i v fine.0 (word_of_register x l h s b fine.1 inside) inside))
 
@@ -340,95 +345,132 @@ copy_case x w a (Spill i b) rest l h s (e, st, inside) =
 sum_address : (i b hi lo : ℕ) → (hi + lo) % 2 ^ 32 ≡ b → b + 4 * i < 2 ^ 32 → (((i * 4) % 2 ^ 32 + hi) % 2 ^ 32 + lo) % 2 ^ 32 ≡ b + 4 * i
 sum_address i b hi lo e lt = omega arith
 
+sum_bytes : (i b hi lo : ℕ) → (hi + lo) % 2 ^ 32 ≡ b → b + 1 * i < 2 ^ 32 → ((i + hi) % 2 ^ 32 + lo) % 2 ^ 32 ≡ b + 1 * i
+sum_bytes i b hi lo e lt = omega arith
+
 abbrev shifted : State → ℕ → State
 shifted s i = record s { pc = s.pc + 4; registers = with_register s.registers 5 ((s.registers i * 4) % 2 ^ 32) }
 
 abbrev uppered : State → ℕ → State
 uppered s b = record s { pc = s.pc + 4; registers = with_register s.registers 6 (high b * 2 ^ 12) }
 
-abbrev added : State → State
-added s = record s { pc = s.pc + 4; registers = with_register s.registers 5 (add (s.registers 5) (s.registers 6)) }
+-- the sum of x6 and of a distance in a register
+abbrev added : State → ℕ → State
+added s r = record s { pc = s.pc + 4; registers = with_register s.registers 5 (add (s.registers r) (s.registers 6)) }
 
-abbrev at_element : State → (i b : ℕ) → State
-at_element s i b = added (uppered (shifted s i) b)
+abbrev pub at_element : Width → State → (i b : ℕ) → State
+at_element Byte s i b = added (uppered s b) i
+at_element Word s i b = added (uppered (shifted s i) b) 5
 
-within_element : (x : Site) (l : Locations) (h : World) (s : State) (i b : ℕ) → Within x l h s → Within x l h (at_element s i b)
-within_element x l h s i b w =
-    let one = within_scratch x l h s (s.pc + 4) 5 ((s.registers i * 4) % 2 ^ 32) (omega arith) (omega arith) (omega arith) w in
-    let two = within_scratch x l h (shifted s i) (s.pc + 4 + 4) 6 (high b * 2 ^ 12) (omega arith) (omega arith) (high_word b) one in
-    within_scratch x l h (uppered (shifted s i) b) (s.pc + 4 + 4 + 4) 5 _ (omega arith) (omega arith) (omega arith) two
+-- how many instructions that are
+abbrev pub before : Width → ℕ
+before Byte = 2
+before Word = 3
 
--- the three instructions before a load or a store
-element_reaches : (x : Site) (next : List Step) (k : Locations) (g : World) (s : State) (p i b : ℕ) → s.pc ≡ p → x.code p ≡ Some (Shift Slli 5 i 2) → x.code (p + 4) ≡ Some (Lui 6 (high b)) → x.code (p + 4 + 4) ≡ Some (Op operations.Add 5 5 6) → Reaches x next k g (at_element s i b) → Reaches x next k g s
-element_reaches x next k g s p i b e f1 f2 f3 r =
-    let u = shifted s i in
-    let v = uppered u b in
-    reach_more x next k g s u (step_at x.code s p (Shift Slli 5 i 2) e f1)
-    (reach_more x next k g u v (step_at x.code u (p + 4) (Lui 6 (high b)) (ap (λ n. n + 4) e) f2)
-    (reach_more x next k g v (at_element s i b) (step_at x.code v (p + 4 + 4) (Op operations.Add 5 5 6) (ap (λ n. n + 4 + 4) e) f3) r))
+within_based : (x : Site) (l : Locations) (h : World) (s : State) (r b : ℕ) → Within x l h s → Within x l h (added (uppered s b) r)
+within_based x l h s r b w =
+    let one = within_scratch x l h s (s.pc + 4) 6 (high b * 2 ^ 12) (omega arith) (omega arith) (high_word b) w in
+    within_scratch x l h (uppered s b) (s.pc + 4 + 4) 5 _ (omega arith) (omega arith) (omega arith) one
+
+within_element : (x : Site) (l : Locations) (h : World) (w : Width) (s : State) (i b : ℕ) → Within x l h s → Within x l h (at_element w s i b)
+within_element x l h Byte s i b w = within_based x l h s i b w
+within_element x l h Word s i b w = within_based x l h (shifted s i) 5 b (within_scratch x l h s (s.pc + 4) 5 ((s.registers i * 4) % 2 ^ 32) (omega arith) (omega arith) (omega arith) w)
+
+based_reaches : (x : Site) (next : List Step) (k : Locations) (g : World) (s : State) (p r b : ℕ) (items : List Item) → s.pc ≡ p → Stands x p (based b r items) → Reaches x next k g (added (uppered s b) r) → Reaches x next k g s
+based_reaches x next k g s p r b items e f z =
+    let u = uppered s b in
+    reach_more x next k g s u (step_at x.code s p (Lui 6 (high b)) e f.0)
+    (reach_more x next k g u (added u r) (step_at x.code u (p + 4) (Op operations.Add 5 r 6) (ap (λ n. n + 4) e) f.1.0) z)
+
+-- the instructions before a load or a store
+element_reaches : (x : Site) (next : List Step) (k : Locations) (g : World) (w : Width) (s : State) (p i b : ℕ) (items : List Item) → s.pc ≡ p → Stands x p (indexed w b i items) → Reaches x next k g (at_element w s i b) → Reaches x next k g s
+element_reaches x next k g Byte s p i b items e f r = based_reaches x next k g s p i b items e f r
+element_reaches x next k g Word s p i b items e f r =
+    reach_more x next k g s (shifted s i) (step_at x.code s p (Shift Slli 5 i 2) e f.0) (based_reaches x next k g (shifted s i) (p + 4) 5 b items (ap (λ n. n + 4) e) f.1 r)
+
+-- what stands behind them, and where
+access_at : (x : Site) (w : Width) (p i b : ℕ) (item : Item) → Stands x p (indexed w b i (item ∷ [])) → x.code (p + 4 * before w) ≡ Some (filled x.places x.place (p + 4 * before w) item)
+access_at x Byte p i b item f = subst (λ n. x.code n ≡ Some (filled x.places x.place n item)) (let e : p + 4 + 4 ≡ p + 4 * 2 = omega arith in e) f.1.1.0
+access_at x Word p i b item f = subst (λ n. x.code n ≡ Some (filled x.places x.place n item)) (let e : p + 4 + 4 + 4 ≡ p + 4 * 3 = omega arith in e) f.1.1.1.0
+
+access_pc : (w : Width) (s : State) (p i b : ℕ) → s.pc ≡ p → (at_element w s i b).pc ≡ p + 4 * before w
+access_pc Byte s p i b e = (let z : s.pc + 4 + 4 ≡ p + 4 * 2 = omega arith in z)
+access_pc Word s p i b e = (let z : s.pc + 4 + 4 + 4 ≡ p + 4 * 3 = omega arith in z)
+
+behind_access : (w : Width) (place a : ℕ) → place + 4 * a + 4 * before w + 4 ≡ place + 4 * (a + access_size w)
+behind_access Byte place a = omega arith
+behind_access Word place a = omega arith
+
+same_memory : (w : Width) (s : State) (i b : ℕ) → (at_element w s i b).memory ≡ s.memory
+same_memory Byte s i b = refl
+same_memory Word s i b = refl
 
 -- the element's address
-element_address : (x : Site) (l : Locations) (h : World) (s : State) (g i : ℕ) → IsAllocatable i → l (Register i) < length (object_words h g) → Within x l h s
-    → ((at_element s i (x.layout.base g)).registers 5 + low (x.layout.base g)) % 2 ^ 32 ≡ x.layout.base g + 4 * l (Register i)
-element_address x l h s g i u lt w =
-    let y = x.layout in
-    let b = y.base g in
-    let to = y.to g in
-    let long = long_of x.meaning.objects h w.shares.sizes g in
+element_address : (w : Width) (s : State) (i b n : ℕ) → IsAllocatable i → s.registers i ≡ n → element_place w b n < globals_to → ((at_element w s i b).registers 5 + low b) % 2 ^ 32 ≡ element_place w b n
+element_address Byte s i b n u e lt =
+    let lo = u.0 in
     let small : b < 2 ^ 32 = omega arith in
-    sum_address (s.registers i) b (high b * 2 ^ 12) (low b) (high_low b small) (let e = w.same i u in omega arith) ∙ ap (λ n. b + 4 * n) (sym (w.same i u))
+    let there : (uppered s b).registers i ≡ s.registers i = set_other s.registers 6 (high b * 2 ^ 12) i (λ q. omega arith) in
+    ap (λ k. ((k + high b * 2 ^ 12) % 2 ^ 32 + low b) % 2 ^ 32) (there ∙ e) ∙ sum_bytes n b (high b * 2 ^ 12) (low b) (high_low b small) (omega arith)
+element_address Word s i b n u e lt =
+    let small : b < 2 ^ 32 = omega arith in
+    ap (λ k. (((k * 4) % 2 ^ 32 + high b * 2 ^ 12) % 2 ^ 32 + low b) % 2 ^ 32) e ∙ sum_address n b (high b * 2 ^ 12) (low b) (high_low b small) (omega arith)
 
-pub element_accessible : (x : Site) (h : World) (s : State) (g i : ℕ) → i < length (object_words h g) → Shares x.layout s h → is_accessible 4 (x.layout.base g + 4 * i) ≡ true
-element_accessible x h s g i lt sh =
-    let y = x.layout in
-    let to = y.to g in
-    let from = y.from g in
-    let z = y.aligned g in
-    let long = long_of x.meaning.objects h sh.sizes g in
-    in_globals (y.base g + 4 * i) (omega arith) (omega arith) (omega arith)
-
-load_at : (x : Site) (w a g to i : ℕ) (rest : List Step) (l : Locations) (h : World) (s : State) → Given x w a (One (Load g to i) ∷ rest) l h s → (z : Option ℕ) → element h g (l (Register i)) ≡ z → Case x (One (Load g to i) ∷ rest) l h s
-load_at x w a g to i rest l h s given None is = inr (λ ws. ap (λ z. tried z (λ q. Goes (at_items (items_behind rest) (put (Register to) q l) h ws))) is)
-load_at x w a g to i rest l h s (e, st, inside) (Some v) is =
-    let items = first_items x w a (One (Load g to i)) rest st in
+load_at : (x : Site) (w a : ℕ) (width : Width) (g to i : ℕ) (rest : List Step) (l : Locations) (h : World) (s : State) → Given x w a (One (Load width g to i) ∷ rest) l h s → (z : Option ℕ) → element h width g (l (Register i)) ≡ z → Case x (One (Load width g to i) ∷ rest) l h s
+load_at x w a width g to i rest l h s given None is = inr (λ ws. ap (λ z. tried z (λ q. Goes (at_items (items_behind rest) (put (Register to) q l) h ws))) is)
+load_at x w a width g to i rest l h s (e, st, inside) (Some v) is =
+    let items = first_items x w a (One (Load width g to i)) rest st in
     let fine = st.fine.0 in
     let n = l (Register i) in
-    let there = got (object_words h g) n v is in
     let b = x.layout.base g in
-    let at = b + 4 * n in
-    let u = at_element s i b in
-    let wu = within_element x l h s i b inside in
-    let long = long_of x.meaning.objects h inside.shares.sizes g in
-    let lt = there.0 in
-    let value : s.memory at ≡ v = inside.shares.globals g n (omega arith) ∙ there.1 in
-    let lv : v < 2 ^ 32 = (let q = inside.sound.memory at in omega arith) in
-    let step = load_step x.code u (x.place + 4 * a + 4 + 4 + 4) to 5 (low b) at (ap (λ n. n + 4 + 4 + 4) e) items.1.1.1.0 (element_address x l h s g i fine.1 lt inside) (element_accessible x h s g n lt inside.shares) ∙ ap (λ n. puts to n u) value in
-    inl (stepped x (One (Load g to i) ∷ rest) rest l (put (Register to) v l) h h s (λ ws. ap (λ z. tried z (λ q. Goes (at_items (items_behind rest) (put (Register to) q l) h ws))) is)
-    (element_reaches x rest (put (Register to) v l) h s (x.place + 4 * a) i b e items.0 items.1.0 items.1.1.0
-    (reach_by x rest (put (Register to) v l) h u (record u { pc = u.pc + 4; registers = with_register u.registers to v }) _ (a + 4) step (ap (λ n. n + 4 + 4 + 4 + 4) e ∙ behind_4 x.place a) (standing_tail x w a (One (Load g to i)) rest st) (within_set x l h u (u.pc + 4) to v fine.0 lv wu))))
+    let at = element_place width b n in
+    let p = x.place + 4 * a in
+    let there = element_tells h width g n v is in
+    let lies = placed x h s width g n v inside.shares there in
+    let from = lies.from in
+    let low_from = x.layout.from g in
+    let u = at_element width s i b in
+    let wu = within_element x l h width s i b inside in
+    let value : loaded (load_of width) u.memory at ≡ v = ap (λ (m : ℕ → ℕ). loaded (load_of width) m at) (same_memory width s i b) ∙ holds x h s width g n v inside.shares there in
+    let lv : v < 2 ^ 32 = (let q = loaded_word width u.memory at wu.sound.memory in omega arith) in
+    let pc = access_pc width s p i b e in
+    let step = load_step x.code u (load_of width) (p + 4 * before width) to 5 (low b) at pc (access_at x width p i b (load_element width to 5 (low b)) items) (element_address width s i b n fine.1 (sym (inside.same i fine.1)) lies.below) (load_accessible width at lies.aligned (omega arith) lies.below)
+    ∙ ap (λ n. puts to n u) value in
+    inl (stepped x (One (Load width g to i) ∷ rest) rest l (put (Register to) v l) h h s (λ ws. ap (λ z. tried z (λ q. Goes (at_items (items_behind rest) (put (Register to) q l) h ws))) is)
+    (element_reaches x rest (put (Register to) v l) h width s p i b (load_element width to 5 (low b) ∷ []) e items
+    (reach_by x rest (put (Register to) v l) h u (record u { pc = u.pc + 4; registers = with_register u.registers to v }) _ (a + access_size width) step (ap (λ n. n + 4) pc ∙ behind_access width x.place a) (standing_tail x w a (One (Load width g to i)) rest st)
+    (within_set x l h u (u.pc + 4) to v fine.0 lv wu))))
 
-pub load_case : (x : Site) (w a g to i : ℕ) (rest : List Step) (l : Locations) (h : World) (s : State) → Given x w a (One (Load g to i) ∷ rest) l h s → Case x (One (Load g to i) ∷ rest) l h s
-load_case x w a g to i rest l h s given = load_at x w a g to i rest l h s given (element h g (l (Register i))) refl
+pub load_case : (x : Site) (w a : ℕ) (width : Width) (g to i : ℕ) (rest : List Step) (l : Locations) (h : World) (s : State) → Given x w a (One (Load width g to i) ∷ rest) l h s → Case x (One (Load width g to i) ∷ rest) l h s
+load_case x w a width g to i rest l h s given = load_at x w a width g to i rest l h s given (element h width g (l (Register i))) refl
 
-store_at : (x : Site) (w a g i r : ℕ) (rest : List Step) (l : Locations) (h : World) (s : State) → Given x w a (One (Store g i r) ∷ rest) l h s → (z : Option ℕ) → element h g (l (Register i)) ≡ z → Case x (One (Store g i r) ∷ rest) l h s
-store_at x w a g i r rest l h s given None is = inr (λ ws. ap (λ z. tried (option_map (λ old. with_element h g (l (Register i)) (l (Register r))) z) (λ k. Goes (at_items (items_behind rest) l k ws))) is)
-store_at x w a g i r rest l h s (e, st, inside) (Some v) is =
-    let items = first_items x w a (One (Store g i r)) rest st in
+store_at : (x : Site) (w a : ℕ) (width : Width) (g i r : ℕ) (rest : List Step) (l : Locations) (h : World) (s : State) → Given x w a (One (Store width g i r) ∷ rest) l h s → (z : Option ℕ) → element h width g (l (Register i)) ≡ z → Case x (One (Store width g i r) ∷ rest) l h s
+store_at x w a width g i r rest l h s given None is = inr (λ ws. ap (λ z. tried (option_map (λ old. with_element h g (l (Register i)) (kept width (l (Register r)))) z) (λ k. Goes (at_items (items_behind rest) l k ws))) is)
+store_at x w a width g i r rest l h s (e, st, inside) (Some v) is =
+    let items = first_items x w a (One (Store width g i r)) rest st in
     let fine = st.fine.0 in
     let n = l (Register i) in
-    let lt = (got (object_words h g) n v is).0 in
     let b = x.layout.base g in
-    let k = with_element h g n (l (Register r)) in
-    let at = b + 4 * n in
-    let u = at_element s i b in
-    let wu = within_element x l h s i b inside in
-    let step = store_step x.code u (x.place + 4 * a + 4 + 4 + 4) 5 r (low b) at (ap (λ n. n + 4 + 4 + 4) e) items.1.1.1.0 (element_address x l h s g i fine.0 lt inside) (element_accessible x h s g n lt inside.shares) ∙ ap (λ n. Continues (record u { pc = u.pc + 4; memory = with_word u.memory at n })) (sym (wu.same r fine.1)) in
-    inl (stepped x (One (Store g i r) ∷ rest) rest l l h k s (λ ws. ap (λ z. tried (option_map (λ old. with_element h g (l (Register i)) (l (Register r))) z) (λ k. Goes (at_items (items_behind rest) l k ws))) is)
-    (element_reaches x rest l k s (x.place + 4 * a) i b e items.0 items.1.0 items.1.1.0
-    (reach_by x rest l k u (record u { pc = u.pc + 4; memory = with_word u.memory at (l (Register r)) }) _ (a + 4) step (ap (λ n. n + 4 + 4 + 4 + 4) e ∙ behind_4 x.place a) (standing_tail x w a (One (Store g i r)) rest st) (within_store x l h u (u.pc + 4) g n (l (Register r)) lt (word_of_register x l h s r fine.1 inside) wu))))
+    let at = element_place width b n in
+    let p = x.place + 4 * a in
+    let there = element_tells h width g n v is in
+    let lies = placed x h s width g n v inside.shares there in
+    let from = lies.from in
+    let low_from = x.layout.from g in
+    let k = with_element h g n (kept width (l (Register r))) in
+    let u = at_element width s i b in
+    let wu = within_element x l h width s i b inside in
+    let pc = access_pc width s p i b e in
+    let t : State = record u { pc = u.pc + 4; memory = stored (store_of width) u.memory at (l (Register r)) } in
+    let step = store_step x.code u (store_of width) (p + 4 * before width) 5 r (low b) at pc (access_at x width p i b (store_element width 5 r (low b)) items) (element_address width s i b n fine.0 (sym (inside.same i fine.0)) lies.below) (store_accessible width at lies.aligned (omega arith) lies.below)
+    ∙ ap (λ n. Continues (record u { pc = u.pc + 4; memory = stored (store_of width) u.memory at n })) (sym (wu.same r fine.1)) in
+    inl (stepped x (One (Store width g i r) ∷ rest) rest l l h k s (λ ws. ap (λ z. tried (option_map (λ old. with_element h g (l (Register i)) (kept width (l (Register r)))) z) (λ k. Goes (at_items (items_behind rest) l k ws))) is)
+    (element_reaches x rest l k width s p i b (store_element width 5 r (low b) ∷ []) e items
+    (reach_by x rest l k u t _ (a + access_size width) step (ap (λ n. n + 4) pc ∙ behind_access width x.place a) (standing_tail x w a (One (Store width g i r)) rest st)
+    (within_store x l h u (u.pc + 4) width g n (l (Register r)) v there (word_of_register x l h s r fine.1 inside) wu))))
 
-pub store_case : (x : Site) (w a g i r : ℕ) (rest : List Step) (l : Locations) (h : World) (s : State) → Given x w a (One (Store g i r) ∷ rest) l h s → Case x (One (Store g i r) ∷ rest) l h s
-store_case x w a g i r rest l h s given = store_at x w a g i r rest l h s given (element h g (l (Register i))) refl
+pub store_case : (x : Site) (w a : ℕ) (width : Width) (g i r : ℕ) (rest : List Step) (l : Locations) (h : World) (s : State) → Given x w a (One (Store width g i r) ∷ rest) l h s → Case x (One (Store width g i r) ∷ rest) l h s
+store_case x w a width g i r rest l h s given = store_at x w a width g i r rest l h s given (element h width g (l (Register i))) refl
 
 -- ---- input and output
 

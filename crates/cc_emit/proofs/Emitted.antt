@@ -6,7 +6,7 @@ use Rattle.std.specs.Prelude.{if◌then◌else◌, nat_le}
 use Rattle.std.proofs.Math.Nat.{mul-suc, mul-le-mul_left, mul-add, add-mul, mul_assoc}
 use Rattle.std.proofs.lemmas.List.{length-append}
 use Rattle.cc_runs.specs.Behavior.{AreWords, Ended, Going, Outcome, Stop, Wrong}
-use Rattle.cc_runs.specs.World.{Answer, Effect, Failed, Gives, Unfinished, World}
+use Rattle.cc_runs.specs.World.{Answer, Effect, Failed, Gives, Size, Unfinished, World}
 use Rattle.cc_runs.specs.Run.{Fails, Move, act, resumed, run, work, work_act, work_resumed}
 use Rattle.cc_runs.specs.Meaning.{Later as Lasts, Meaning, call_effect}
 use Rattle.cc_runs.specs.Tracks.{Keeps, TracksForAll}
@@ -33,23 +33,23 @@ use Rattle.cc_emit.proofs.Cases.{Stepped, Case, StandsWhole, jump_case, if_zero_
 use Rattle.cc_emit.proofs.Neighbours.{Twice, Stops, Pair, immediate_case, load_at_case, store_at_case}
 use Rattle.cc_emit.proofs.Returning.{return_path, called, called_step, enters_callee, return_place, regained, within_behind, framed, prologue_path, framed_pc, found, framed_within}
 
-abbrev pub DoesBy : {b : List ℕ} (y : Layout b) (code : Code) (rate : ℕ) (from s : State) → Stop Answer → List ℕ → ℕ → Type 0
+abbrev pub DoesBy : {b : List Size} (y : Layout b) (code : Code) (rate : ℕ) (from s : State) → Stop Answer → List ℕ → ℕ → Type 0
 DoesBy y code rate from s Going o done = (m : ℕ) × (t : State) × Path code m s t × (t.output ≡ o) × (done ≤ rate * m)
 DoesBy y code rate from s (Ended r) o done = (m : ℕ) × (t : State) × Path code m s t × ComesBack y from r t × (done ≤ rate * m)
 DoesBy y code rate from s Wrong o done = Unit {0}
 
 -- what the machine does, of a run of Linear with this much work
-abbrev pub Does : {b : List ℕ} (y : Layout b) (code : Code) (rate : ℕ) (from s : State) → Outcome Answer → ℕ → Type 0
+abbrev pub Does : {b : List Size} (y : Layout b) (code : Code) (rate : ℕ) (from s : State) → Outcome Answer → ℕ → Type 0
 Does y code rate from s z done = DoesBy y code rate from s z.stop z.output done
 
 -- more is done where a path leads on
-does_then : {b : List ℕ} (y : Layout b) (code : Code) (rate : ℕ) (from s t : State) (stop : Stop Answer) (o : List ℕ) (v m more : ℕ) → Path code m s t → more ≤ rate * m → DoesBy y code rate from t stop o v → DoesBy y code rate from s stop o (more + v)
+does_then : {b : List Size} (y : Layout b) (code : Code) (rate : ℕ) (from s t : State) (stop : Stop Answer) (o : List ℕ) (v m more : ℕ) → Path code m s t → more ≤ rate * m → DoesBy y code rate from t stop o v → DoesBy y code rate from s stop o (more + v)
 does_then y code rate from s t Going o v m more p b (k, u, q, e, c) = (m + k, u, path_then code m k s t u p q, e, (let f = mul-add rate m k in omega arith))
 does_then y code rate from s t (Ended r) o v m more p b (k, u, q, e, c) = (m + k, u, path_then code m k s t u p q, e, (let f = mul-add rate m k in omega arith))
 does_then y code rate from s t Wrong o v m more p b x = tt
 
 -- one move, paid by an instruction at least
-one_move : {b : List ℕ} (y : Layout b) (code : Code) (rate : ℕ) (from s t : State) (z : Outcome Answer) (v m : ℕ) → 1 ≤ rate → Path code (suc m) s t → Does y code rate from t z v → Does y code rate from s z (suc v)
+one_move : {b : List Size} (y : Layout b) (code : Code) (rate : ℕ) (from s t : State) (z : Outcome Answer) (v m : ℕ) → 1 ≤ rate → Path code (suc m) s t → Does y code rate from t z v → Does y code rate from s z (suc v)
 one_move y code rate from s t z v m one p x =
     let f : 1 + v ≡ suc v = omega arith in
     let g : 1 ≤ rate * suc m = let h = mul-suc rate m in omega arith in
@@ -272,8 +272,8 @@ module _ (x : Site) (c d : ℕ) (one : 1 ≤ c) (below : d < 1024) (all_places :
   simulate_next k later j w a (One (Const to v) ∷ ops) l h s e st inside = at_stepped k j (One (Const to v) ∷ ops) l h s later inside.shares.output (const_case x w a to v ops l h s (e, st, inside))
   simulate_next k later j w a (One (Unary o to b) ∷ ops) l h s e st inside = at_stepped k j (One (Unary o to b) ∷ ops) l h s later inside.shares.output (unary_case x w a to b o ops l h s (e, st, inside))
   simulate_next k later j w a (One (Binary o to b c) ∷ ops) l h s e st inside = at_case k j (One (Binary o to b c) ∷ ops) l h s later inside.shares.output (binary_case x w a to b c o ops l h s (e, st, inside))
-  simulate_next k later j w a (One (Load g to i) ∷ ops) l h s e st inside = at_case k j (One (Load g to i) ∷ ops) l h s later inside.shares.output (load_case x w a g to i ops l h s (e, st, inside))
-  simulate_next k later j w a (One (Store g i b) ∷ ops) l h s e st inside = at_case k j (One (Store g i b) ∷ ops) l h s later inside.shares.output (store_case x w a g i b ops l h s (e, st, inside))
+  simulate_next k later j w a (One (Load width g to i) ∷ ops) l h s e st inside = at_case k j (One (Load width g to i) ∷ ops) l h s later inside.shares.output (load_case x w a width g to i ops l h s (e, st, inside))
+  simulate_next k later j w a (One (Store width g i b) ∷ ops) l h s e st inside = at_case k j (One (Store width g i b) ∷ ops) l h s later inside.shares.output (store_case x w a width g i b ops l h s (e, st, inside))
   simulate_next k later j w a (One Read ∷ ops) l h s e st inside = at_stepped k j (One Read ∷ ops) l h s later inside.shares.output (read_case x w a ops l h s (e, st, inside))
   simulate_next k later j w a (One Write ∷ ops) l h s e st inside = at_stepped k j (One Write ∷ ops) l h s later inside.shares.output (write_case x w a ops l h s (e, st, inside))
   simulate_next k later j w a (One (Call g) ∷ ops) l h s e st inside =
@@ -281,8 +281,8 @@ module _ (x : Site) (c d : ℕ) (one : 1 ≤ c) (below : d < 1024) (all_places :
       let on_s : IsPlace s.pc = subst IsPlace (sym e) st.from in
       call_simulated k j _ a s ops l h g fine.2 inside e (standing_tail x w a (One (Call g)) ops st) (called_step x.code s (x.place + 4 * a) (x.places g) e st.from (all_places g fine.0) (first_items x w a (One (Call g)) ops st).0) fine.0 (enters_callee x d g l h s below room fine.1 on_s inside) later (effect j g l h) refl
   simulate_next k later j w a (Immediate o to b v ∷ ops) l h s e st inside = at_twice k j (Immediate o to b v ∷ ops) l h s later inside.shares.output (immediate_case x w a o to b v ops l h s (e, st, inside))
-  simulate_next k later j w a (LoadAt g to i v ∷ ops) l h s e st inside = at_pair k j (LoadAt g to i v ∷ ops) l h s later inside.shares.output (load_at_case x w a g to i v ops l h s (e, st, inside))
-  simulate_next k later j w a (StoreAt g i v b ∷ ops) l h s e st inside = at_pair k j (StoreAt g i v b ∷ ops) l h s later inside.shares.output (store_at_case x w a g i v b ops l h s (e, st, inside))
+  simulate_next k later j w a (LoadAt width g to i v ∷ ops) l h s e st inside = at_pair k j (LoadAt width g to i v ∷ ops) l h s later inside.shares.output (load_at_case x w a width g to i v ops l h s (e, st, inside))
+  simulate_next k later j w a (StoreAt width g i v b ∷ ops) l h s e st inside = at_pair k j (StoreAt width g i v b ∷ ops) l h s later inside.shares.output (store_at_case x w a width g i v b ops l h s (e, st, inside))
   simulate_next k later j w a (One Return ∷ ops) l h s e st inside = ([], tt, return_follows k j s ops l h inside.shares.output (return_path x w a ops l h s sound back e st inside))
 
   simulate : (k : ℕ) → Later k
@@ -325,7 +325,7 @@ rate_paid r c v p m n left one a b =
     let y : r * 1 ≡ r = omega arith in
     omega arith
 
-meets_of : {b : List ℕ} (y : Layout b) (code : Code) (r c p n : ℕ) (s t : State) (e : Effect) (v : ℕ) (z : Outcome Answer) → 1 ≤ c → Path code p s t → Keeps r n e v z → Does y code (c + c) s t z v → Meets y code ((r + r) * c) ((r + r) * c) n s e
+meets_of : {b : List Size} (y : Layout b) (code : Code) (r c p n : ℕ) (s t : State) (e : Effect) (v : ℕ) (z : Outcome Answer) → 1 ≤ c → Path code p s t → Keeps r n e v z → Does y code (c + c) s t z v → Meets y code ((r + r) * c) ((r + r) * c) n s e
 meets_of y code r c p n s t (Gives a left) v z one path (e, b) does =
     let does' = subst (λ x. Does y code (c + c) s t x v) e does in
     (p + does'.0, does'.1, path_then code p does'.0 s t does'.1 path does'.2, does'.3, rate_paid r c v p does'.0 n left one b does'.4)

@@ -23,10 +23,11 @@ use Rattle.cc_emit.specs.declared.item.Item.TheVariants.{Plain}
 use Rattle.cc_emit.specs.declared.step.Immediate as immediate
 use Rattle.cc_emit.specs.declared.step.Immediate.TheVariants as immediates
 use Rattle.cc_emit.specs.declared.step.Step.{Step}
+use Rattle.cc_words.specs.declared.operators.Width.TheVariants.{Byte, Word}
 use Rattle.cc_emit.specs.declared.step.Step.TheVariants.{One, Immediate, LoadAt, StoreAt}
 use Rattle.cc_emit.specs.Contract.{AreFit}
 use Rattle.cc_emit.specs.Frames.{Frame, frame_size}
-use Rattle.cc_emit.specs.Emission.{addi, branch_items, const_items, element_at, emitted, epilogue, framed_items, high, is_near, items_of, items_of_one, kept_items, load_at, long_size, low, move_item, prologue, prologue_size, recipe, recipe_items, restoring, saving, short_place, size, stack_moved, store_at, stack_moved_size, unary_instr, word_recipe, word_recipe_items}
+use Rattle.cc_emit.specs.Emission.{addi, branch_items, const_items, emitted, epilogue, framed_items, high, is_near, items_of, items_of_one, kept_items, known_place, load_at, long_size, low, move_item, prologue, prologue_size, recipe, recipe_items, restoring, saving, short_place, size, stack_moved, store_at, stack_moved_size, unary_instr, word_recipe, word_recipe_items}
 use Rattle.cc_emit.specs.declared.recipe.Recipe.{Recipe}
 use Rattle.cc_emit.specs.internal.Room.{HasRoom}
 use Rattle.cc_emit.specs.declared.recipe.WordRecipe.{WordRecipe}
@@ -117,8 +118,10 @@ module _ (functions long : ℕ) where
   one_fit meaning base f near labels a (Const to word) e is u n le = const_fit (high word == 0) (low word == 0) to word u.0.0.1
   one_fit meaning base f near labels a (Unary o to from) e is u n le = (unary_encodable o to from u.0.0.1 u.1.1, tt)
   one_fit meaning base f near labels a (Binary o to left right) e is u n le = recipe_fit (recipe o) to left right u.0.0.1 u.1.1 u.2.1
-  one_fit meaning base f near labels a (Load object to index) e is u n le = ((omega arith, u.1.1, omega arith), ((omega arith, omega arith), ((omega arith, omega arith, omega arith), ((u.0.0.1, omega arith, low_fits _), tt))))
-  one_fit meaning base f near labels a (Store object index from) e is u n le = ((omega arith, u.0.1, omega arith), ((omega arith, omega arith), ((omega arith, omega arith, omega arith), ((omega arith, u.1.1, low_fits _), tt))))
+  one_fit meaning base f near labels a (Load Byte object to index) e is u n le = ((omega arith, omega arith), ((omega arith, u.1.1, omega arith), ((u.0.0.1, omega arith, low_fits _), tt)))
+  one_fit meaning base f near labels a (Load Word object to index) e is u n le = ((omega arith, u.1.1, omega arith), ((omega arith, omega arith), ((omega arith, omega arith, omega arith), ((u.0.0.1, omega arith, low_fits _), tt))))
+  one_fit meaning base f near labels a (Store Byte object index from) e is u n le = ((omega arith, omega arith), ((omega arith, u.0.1, omega arith), ((omega arith, u.1.1, low_fits _), tt)))
+  one_fit meaning base f near labels a (Store Word object index from) e is u n le = ((omega arith, u.0.1, omega arith), ((omega arith, omega arith), ((omega arith, omega arith, omega arith), ((omega arith, u.1.1, low_fits _), tt))))
   one_fit meaning base f near labels a (Call function) e is u n le = (let lt = u.0 in omega arith, tt)
   one_fit meaning base f near labels a Read e is u n le = ((omega arith, omega arith, (omega arith, omega arith)), (tt, tt))
   one_fit meaning base f near labels a Write e is u n le = ((omega arith, omega arith, (omega arith, omega arith)), (tt, tt))
@@ -162,10 +165,10 @@ module _ (functions long : ℕ) where
   step_fit : (meaning : Meaning) (base : ℕ → ℕ) (f : Frame) (near : ℕ → Bool) (labels : ℕ → ℕ) (a : ℕ) (s : Step) → meaning.functions ≡ functions → IsFrame f → IsFineStep meaning f s → ((l : ℕ) → near l ≡ true → Nears a (labels l)) → ((l : ℕ) → labels l ≤ long) → Fit (items_of base f near labels a s)
   step_fit meaning base f near labels a (One i) e is u n le = one_fit meaning base f near labels a i e is u n le
   step_fit meaning base f near labels a (Immediate o to from word) e is u n le = word_recipe_fit (word_recipe o word) to from (has_room o word) u.0.0.1 u.1.1
-  step_fit meaning base f near labels a (LoadAt object to index word) e is u n le =
-      append_fit (kept_items to index word) (load_at to (element_at (base object) word)) (kept_fit (to == index) index word u.1.0.1) ((omega arith, omega arith), ((u.0.0.1, omega arith, low_fits _), tt))
-  step_fit meaning base f near labels a (StoreAt object index word from) e is u n le =
-      append_fit (const_items index word) (store_at from (element_at (base object) word)) (const_fit (high word == 0) (low word == 0) index word u.0.0.1) ((omega arith, omega arith), ((omega arith, u.2.1, low_fits _), tt))
+  step_fit meaning base f near labels a (LoadAt width object to index word) e is u n le =
+      append_fit (kept_items to index word) (load_at width to (known_place width (base object) word)) (kept_fit (to == index) index word u.1.0.1) ((omega arith, omega arith), ((u.0.0.1, omega arith, low_fits _), tt))
+  step_fit meaning base f near labels a (StoreAt width object index word from) e is u n le =
+      append_fit (const_items index word) (store_at width from (known_place width (base object) word)) (const_fit (high word == 0) (low word == 0) index word u.0.0.1) ((omega arith, omega arith), ((omega arith, u.2.1, low_fits _), tt))
 
   emitted_fit : (meaning : Meaning) (base : ℕ → ℕ) (f : Frame) (all : List Step) (w a : ℕ) (items : List Step) → meaning.functions ≡ functions → IsFrame f → AreFineSteps meaning f items → AreSeen f all items w a → ((l : ℕ) → short_place f (is_near f all) 0 (prologue_size f) all l ≤ long)
       → Fit (emitted base f (is_near f all) (short_place f (is_near f all) 0 (prologue_size f) all) w a items)

@@ -49,8 +49,8 @@ IsFine meaning f (Copy m) = IsFineMove f m
 IsFine meaning f (Const to word) = IsTarget f to × IsWord word
 IsFine meaning f (Unary operator to from) = IsTarget f to × IsAllocatable from
 IsFine meaning f (Binary operator to left right) = IsTarget f to × IsAllocatable left × IsAllocatable right
-IsFine meaning f (Load object to index) = IsTarget f to × IsAllocatable index
-IsFine meaning f (Store object index from) = IsAllocatable index × IsAllocatable from
+IsFine meaning f (Load width object to index) = IsTarget f to × IsAllocatable index
+IsFine meaning f (Store width object index from) = IsAllocatable index × IsAllocatable from
 IsFine meaning f (Call function) = (function < meaning.functions) × (meaning.arity function ≤ 8) × Member 1 f.saved
 IsFine meaning f Read = Unit {0}
 IsFine meaning f Write = Unit {0}
@@ -63,8 +63,8 @@ AreFine meaning f items = AllByRecursion (IsFine meaning f) items
 abbrev pub IsFineStep : Meaning → Frame → Step → Type 0
 IsFineStep meaning f (One item) = IsFine meaning f item
 IsFineStep meaning f (Immediate o to from word) = IsTarget f to × IsAllocatable from × IsWord word × (from ≡ to → ⊥) × (has_word o word ≡ true)
-IsFineStep meaning f (LoadAt object to index word) = IsTarget f to × IsTarget f index × IsWord word
-IsFineStep meaning f (StoreAt object index word from) = IsTarget f index × IsWord word × IsAllocatable from
+IsFineStep meaning f (LoadAt width object to index word) = IsTarget f to × IsTarget f index × IsWord word
+IsFineStep meaning f (StoreAt width object index word from) = IsTarget f index × IsWord word × IsAllocatable from
 
 abbrev pub AreFineSteps : Meaning → Frame → List Step → Type 0
 AreFineSteps meaning f ss = AllByRecursion (IsFineStep meaning f) ss

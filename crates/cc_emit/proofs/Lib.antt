@@ -2,12 +2,16 @@
 pub mod Fine
 -- reads behind writes, and words
 pub mod Basics
+-- the machine's memory element by element
+pub mod Bytes
 -- steps and the items that they stand for
 pub mod Stepping
 -- sizes and places, and near branches
 pub mod Places
 -- where items stand in the code
 pub mod Standing
+-- elements of objects
+pub mod Elements
 -- the machine within a function's body
 pub mod Within
 -- entry and return

@@ -5,7 +5,10 @@ use Rattle.std.proofs.Common.{◌≡◌, ℕ, suc, ◌+◌, ◌*◌, ◌%◌, �
 use Rattle.std.specs.Prelude.{◌==◌, if◌then◌else◌, option_map}
 use Rattle.cc_words.specs.Words.{lt_u}
 use Rattle.cc_words.specs.Operators.{apply_binary}
-use Rattle.cc_runs.specs.World.{World, object_words, element, stored}
+use Rattle.cc_words.specs.declared.operators.Width.{Width}
+use Rattle.cc_words.specs.Widths.{kept}
+use Rattle.cc_runs.specs.World as world
+use Rattle.cc_runs.specs.World.{World, element, with_element}
 use Rattle.cc_runs.specs.Run.{Fails, Goes, tried}
 use Rattle.cc_ltl.specs.declared.location.Location.TheVariants.{Register}
 use Rattle.cc_ltl.specs.Registers.{IsAllocatable}
@@ -16,23 +19,25 @@ use Rattle.cc_linear.specs.Linear.{at_items, linear_move}
 use Rattle.cc_rv32.specs.declared.instr.Instr.TheVariants.{Lui, Op, OpImm, Shift}
 use Rattle.cc_rv32.specs.declared.instr.Operation.TheVariants as operations
 use Rattle.cc_rv32.specs.declared.instr.ImmediateOperation.TheVariants.{Sltiu}
-use Rattle.cc_rv32.specs.Machine.{Continues, State, computed, immediate_operation, puts, shift_operation, with_register, with_word}
+use Rattle.cc_rv32.specs.Machine.{Continues, State, computed, globals_to, immediate_operation, puts, shift_operation, stored, with_register}
 use Rattle.cc_emit.specs.declared.step.Immediate as immediate
 use Rattle.cc_emit.specs.declared.step.Step.{Step}
 use Rattle.cc_emit.specs.declared.step.Step.TheVariants.{Immediate, LoadAt, StoreAt}
-use Rattle.cc_emit.specs.Contract.{Path}
-use Rattle.cc_emit.specs.Emission.{const_items, const_size, element_at, high, kept_items, kept_size, load_at, long_size, low, store_at, word_recipe, word_recipe_items, word_recipe_size}
+use Rattle.cc_emit.specs.Contract.{Path, element_place, load_of, store_of}
+use Rattle.cc_emit.specs.Emission.{const_items, const_size, high, kept_items, kept_size, known_place, load_at, long_size, low, store_at, word_recipe, word_recipe_items, word_recipe_size}
 use Rattle.cc_emit.specs.declared.recipe.WordRecipe.{WordRecipe}
 use Rattle.cc_emit.specs.declared.recipe.WordRecipe.TheVariants.{WithImmediate, ShiftBy, OnZero, ZeroOfImmediate, NonzeroOfImmediate}
 use Rattle.cc_emit.proofs.Fine.{IsTarget}
-use Rattle.cc_emit.proofs.Basics.{eqb_says, got, high_low, high_word, put_register}
+use Rattle.cc_emit.proofs.Basics.{eqb_says, high_low, high_word, put_register}
 use Rattle.cc_emit.proofs.Stepping.{is_exchanged, items_behind, operation_on, operator_of}
 use Rattle.cc_emit.proofs.Recipes.{IsRightWord, gives_word, immediate_gives, left_one, right_one}
 use Rattle.cc_emit.proofs.Places.{kept_size_is, const_size_is}
-use Rattle.cc_emit.proofs.Standing.{long_of, machine_step, path_then, placed_append, first_items, standing_tail, step_at, Site, Standing, Stands}
+use Rattle.cc_emit.proofs.Bytes.{load_accessible, loaded_word, store_accessible}
+use Rattle.cc_emit.proofs.Elements.{element_tells, holds, placed}
+use Rattle.cc_emit.proofs.Standing.{machine_step, path_then, placed_append, first_items, standing_tail, step_at, Site, Standing, Stands}
 use Rattle.cc_emit.proofs.Saving.{load_step, store_step}
-use Rattle.cc_emit.proofs.Within.{Within, with_element, within_set, within_scratch, within_store}
-use Rattle.cc_emit.proofs.Cases.{Given, Reaches, Walked, asked, behind_1, const_walks, element_accessible, reach_set, reaches_of, walk_by, walk_more, word_of_register}
+use Rattle.cc_emit.proofs.Within.{Within, within_set, within_scratch, within_store}
+use Rattle.cc_emit.proofs.Cases.{Given, Reaches, Walked, asked, behind_1, const_walks, reach_set, reaches_of, walk_by, walk_more, word_of_register}
 
 -- two moves, and the machine where both have led
 pub record Twice (x : Site) (ops : List Step) (l : Locations) (h : World) (s : State) : Type 0 where
@@ -153,38 +158,42 @@ upper_step : (x : Site) (u : State) (p b : ℕ) → u.pc ≡ p → x.code p ≡ 
 upper_step x u p b e f = step_at x.code u p (Lui 5 (high b)) e f
 
 -- where the element is there, its address is
-element_is : (x : Site) (k : Locations) (h : World) (u : State) (g n : ℕ) → n < length (object_words h g) → Within x k h u → ((uppered u (element_at (x.layout.base g) n)).registers 5 + low (element_at (x.layout.base g) n)) % 2 ^ 32 ≡ x.layout.base g + 4 * n
-element_is x k h u g n lt w =
-    let b = x.layout.base g in
-    let to = x.layout.to g in
-    let long = long_of x.meaning.objects h w.shares.sizes g in
-    let same : element_at b n ≡ b + 4 * n = omega arith in
-    high_low (element_at b n) (omega arith) ∙ same
+known_address : (width : Width) (u : State) (b n : ℕ) → element_place width b n < globals_to → ((uppered u (known_place width b n)).registers 5 + low (known_place width b n)) % 2 ^ 32 ≡ element_place width b n
+known_address width u b n lt =
+    let at = element_place width b n in
+    let same : at % 2 ^ 32 ≡ at = omega arith in
+    high_low (at % 2 ^ 32) (omega arith) ∙ same
 
-load_walks : (x : Site) (k : Locations) (h : World) (u : State) (c g to n v : ℕ) → u.pc ≡ x.place + 4 * c → Within x k h u → IsTarget x.frame to → element h g n ≡ Some v → Stands x (x.place + 4 * c) (load_at to (element_at (x.layout.base g) n)) → Walked x (put (Register to) v k) h u (c + 2)
-load_walks x k h u c g to n v e inside t is f =
-    let there = got (object_words h g) n v is in
-    let lt = there.0 in
-    let b = element_at (x.layout.base g) n in
-    let at = x.layout.base g + 4 * n in
-    let long = long_of x.meaning.objects h inside.shares.sizes g in
-    let value : u.memory at ≡ v = inside.shares.globals g n (omega arith) ∙ there.1 in
-    let lv : v < 2 ^ 32 = (let q = inside.sound.memory at in omega arith) in
+load_walks : (x : Site) (k : Locations) (h : World) (u : State) (c : ℕ) (width : Width) (g to n v : ℕ) → u.pc ≡ x.place + 4 * c → Within x k h u → IsTarget x.frame to → element h width g n ≡ Some v → Stands x (x.place + 4 * c) (load_at width to (known_place width (x.layout.base g) n)) → Walked x (put (Register to) v k) h u (c + 2)
+load_walks x k h u c width g to n v e inside t is f =
+    let there = element_tells h width g n v is in
+    let lies = placed x h u width g n v inside.shares there in
+    let from = lies.from in
+    let low_from = x.layout.from g in
+    let b = known_place width (x.layout.base g) n in
+    let at = element_place width (x.layout.base g) n in
+    let value = holds x h u width g n v inside.shares there in
+    let lv : v < 2 ^ 32 = (let q = loaded_word width u.memory at inside.sound.memory in omega arith) in
     let u5 = uppered u b in
-    let step = load_step x.code u5 (x.place + 4 * c + 4) to 5 (low b) at (ap (λ i. i + 4) e) f.1.0 (element_is x k h u g n lt inside) (element_accessible x h u g n lt inside.shares) ∙ ap (λ i. puts to i u5) value in
+    let step = load_step x.code u5 (load_of width) (x.place + 4 * c + 4) to 5 (low b) at (ap (λ i. i + 4) e) f.1.0 (known_address width u (x.layout.base g) n lies.below) (load_accessible width at lies.aligned (omega arith) lies.below) ∙ ap (λ i. puts to i u5) value in
     walk_more x (put (Register to) v k) h u u5 (c + 2) (upper_step x u (x.place + 4 * c) b e f.0)
     (walk_by x (put (Register to) v k) h u5 (record u5 { pc = u5.pc + 4; registers = with_register u5.registers to v }) (c + 2) step (omega arith) (within_set x k h u5 (u5.pc + 4) to v t lv (within_upper x k h u b inside)))
 
-store_walks : (x : Site) (k : Locations) (h : World) (u : State) (c g n r v : ℕ) → u.pc ≡ x.place + 4 * c → Within x k h u → IsAllocatable r → element h g n ≡ Some v → Stands x (x.place + 4 * c) (store_at r (element_at (x.layout.base g) n)) → Walked x k (with_element h g n (k (Register r))) u (c + 2)
-store_walks x k h u c g n r v e inside t is f =
-    let lt = (got (object_words h g) n v is).0 in
-    let b = element_at (x.layout.base g) n in
-    let at = x.layout.base g + 4 * n in
+store_walks : (x : Site) (k : Locations) (h : World) (u : State) (c : ℕ) (width : Width) (g n r v : ℕ) → u.pc ≡ x.place + 4 * c → Within x k h u → IsAllocatable r → element h width g n ≡ Some v → Stands x (x.place + 4 * c) (store_at width r (known_place width (x.layout.base g) n)) → Walked x k (with_element h g n (kept width (k (Register r)))) u (c + 2)
+store_walks x k h u c width g n r v e inside t is f =
+    let there = element_tells h width g n v is in
+    let lies = placed x h u width g n v inside.shares there in
+    let from = lies.from in
+    let low_from = x.layout.from g in
+    let b = known_place width (x.layout.base g) n in
+    let at = element_place width (x.layout.base g) n in
     let u5 = uppered u b in
     let w5 = within_upper x k h u b inside in
-    let step = store_step x.code u5 (x.place + 4 * c + 4) 5 r (low b) at (ap (λ i. i + 4) e) f.1.0 (element_is x k h u g n lt inside) (element_accessible x h u g n lt inside.shares) ∙ ap (λ i. Continues (record u5 { pc = u5.pc + 4; memory = with_word u5.memory at i })) (sym (w5.same r t)) in
-    walk_more x k (with_element h g n (k (Register r))) u u5 (c + 2) (upper_step x u (x.place + 4 * c) b e f.0)
-    (walk_by x k (with_element h g n (k (Register r))) u5 (record u5 { pc = u5.pc + 4; memory = with_word u5.memory at (k (Register r)) }) (c + 2) step (omega arith) (within_store x k h u5 (u5.pc + 4) g n (k (Register r)) lt (word_of_register x k h u5 r t w5) w5))
+    let step = store_step x.code u5 (store_of width) (x.place + 4 * c + 4) 5 r (low b) at (ap (λ i. i + 4) e) f.1.0 (known_address width u (x.layout.base g) n lies.below) (store_accessible width at lies.aligned (omega arith) lies.below)
+    ∙ ap (λ i. Continues (record u5 { pc = u5.pc + 4; memory = stored (store_of width) u5.memory at i })) (sym (w5.same r t)) in
+    walk_more x k (with_element h g n (kept width (k (Register r)))) u u5 (c + 2) (upper_step x u (x.place + 4 * c) b e f.0)
+    (walk_by x k (with_element h g n (kept width (k (Register r)))) u5 (record u5 { pc = u5.pc + 4; memory = stored (store_of width) u5.memory at (k (Register r)) }) (c + 2) step (omega arith)
+    (within_store x k h u5 (u5.pc + 4) width g n (k (Register r)) v there (word_of_register x k h u5 r t w5) w5))
 
 -- where it is not, the machine is at its address by then
 upper_walks : (x : Site) (k : Locations) (h : World) (u : State) (c b : ℕ) → u.pc ≡ x.place + 4 * c → Within x k h u → x.code (x.place + 4 * c) ≡ Some (Lui 5 (high b)) → Walked x k h u (c + 1)
@@ -192,86 +201,86 @@ upper_walks x k h u c b e inside f = walk_by x k h u (uppered u b) (c + 1) (uppe
 
 -- ---- loads
 
-load_behind : (x : Site) (v c g to i word : ℕ) (rest : List Step) (l : Locations) (h : World) (s : State) → IsTarget x.frame to → Came x (if to == i then l else put (Register i) word l) h s c → Stands x (x.place + 4 * c) (load_at to (element_at (x.layout.base g) word)) → Standing x v (c + 2) rest
-    → (z : Option ℕ) → element h g word ≡ z → Pair x (LoadAt g to i word ∷ rest) l h s
-load_behind x v c g to i word rest l h s u came access st None is =
+load_behind : (x : Site) (v c : ℕ) (width : Width) (g to i word : ℕ) (rest : List Step) (l : Locations) (h : World) (s : State) → IsTarget x.frame to → Came x (if to == i then l else put (Register i) word l) h s c → Stands x (x.place + 4 * c) (load_at width to (known_place width (x.layout.base g) word)) → Standing x v (c + 2) rest
+    → (z : Option ℕ) → element h width g word ≡ z → Pair x (LoadAt width g to i word ∷ rest) l h s
+load_behind x v c width g to i word rest l h s u came access st None is =
     let m = put (Register i) word l in
     let k : Locations = if to == i then l else m in
     inr (record {
-      rest = Load g to i ∷ items_behind rest;
+      rest = Load width g to i ∷ items_behind rest;
       middle = m;
       first = λ ws. refl;
-      second = λ ws. ap (λ n. tried (element h g n) (λ q. Goes (at_items (items_behind rest) (put (Register to) q m) h ws))) (constant_is l i word) ∙ ap (λ z. tried z (λ q. Goes (at_items (items_behind rest) (put (Register to) q m) h ws))) is;
+      second = λ ws. ap (λ n. tried (element h width g n) (λ q. Goes (at_items (items_behind rest) (put (Register to) q m) h ws))) (constant_is l i word) ∙ ap (λ z. tried z (λ q. Goes (at_items (items_behind rest) (put (Register to) q m) h ws))) is;
       locations = k;
       place = c + 1;
-      walked = walk_on x k k h h s c (c + 1) came (upper_walks x k h came.to c (element_at (x.layout.base g) word) came.at came.within access.0);
+      walked = walk_on x k k h h s c (c + 1) came (upper_walks x k h came.to c (known_place width (x.layout.base g) word) came.at came.within access.0);
     })
-load_behind x v c g to i word rest l h s u came access st (Some q) is =
+load_behind x v c width g to i word rest l h s u came access st (Some q) is =
     let m = put (Register i) word l in
     let k : Locations = if to == i then l else m in
-    let walked : Walked x (put (Register to) q k) h s (c + 2) = walk_on x k (put (Register to) q k) h h s c (c + 2) came (load_walks x k h came.to c g to word q came.at came.within u is access) in
+    let walked : Walked x (put (Register to) q k) h s (c + 2) = walk_on x k (put (Register to) q k) h h s c (c + 2) came (load_walks x k h came.to c width g to word q came.at came.within u is access) in
     inl (record {
-      rest = Load g to i ∷ items_behind rest;
+      rest = Load width g to i ∷ items_behind rest;
       middle = m;
       first = λ ws. refl;
       next = rest;
       locations = put (Register to) q m;
       world = h;
-      second = λ ws. ap (λ n. tried (element h g n) (λ q. Goes (at_items (items_behind rest) (put (Register to) q m) h ws))) (constant_is l i word) ∙ ap (λ z. tried z (λ q. Goes (at_items (items_behind rest) (put (Register to) q m) h ws))) is;
+      second = λ ws. ap (λ n. tried (element h width g n) (λ q. Goes (at_items (items_behind rest) (put (Register to) q m) h ws))) (constant_is l i word) ∙ ap (λ z. tried z (λ q. Goes (at_items (items_behind rest) (put (Register to) q m) h ws))) is;
       output = refl;
       reaches = reaches_of x rest (put (Register to) q m) h s v (c + 2) (subst (λ k. Walked x k h s (c + 2)) (kept_put (to == i) l to i word q refl) walked) st;
     })
 
-pub load_at_case : (x : Site) (w a g to i word : ℕ) (rest : List Step) (l : Locations) (h : World) (s : State) → Given x w a (LoadAt g to i word ∷ rest) l h s → Pair x (LoadAt g to i word ∷ rest) l h s
-load_at_case x w a g to i word rest l h s (e, st, inside) =
+pub load_at_case : (x : Site) (w a : ℕ) (width : Width) (g to i word : ℕ) (rest : List Step) (l : Locations) (h : World) (s : State) → Given x w a (LoadAt width g to i word ∷ rest) l h s → Pair x (LoadAt width g to i word ∷ rest) l h s
+load_at_case x w a width g to i word rest l h s (e, st, inside) =
     let fine = st.fine.0 in
-    let b = element_at (x.layout.base g) word in
+    let b = known_place width (x.layout.base g) word in
     let c = a + kept_size to i word in
-    let both = placed_append x.code x.places x.place (x.place + 4 * a) (kept_items to i word) (load_at to b) (first_items x w a (LoadAt g to i word) rest st) in
+    let both = placed_append x.code x.places x.place (x.place + 4 * a) (kept_items to i word) (load_at width to b) (first_items x w a (LoadAt width g to i word) rest st) in
     let n = kept_size_is to i word in
     let p : x.place + 4 * a + 4 * length (kept_items to i word) ≡ x.place + 4 * c = omega arith in
     let q : a + (kept_size to i word + 2) ≡ c + 2 = omega arith in
-    load_behind x (w + long_size x.frame (LoadAt g to i word)) c g to i word rest l h s fine.0 (kept_comes x a i word (to == i) l h s e inside fine.1 fine.2 both.0) (subst (λ d. Stands x d (load_at to b)) p both.1) (subst (λ d. Standing x (w + long_size x.frame (LoadAt g to i word)) d rest) q (standing_tail x w a (LoadAt g to i word) rest st)) (element h g word) refl
+    load_behind x (w + long_size x.frame (LoadAt width g to i word)) c width g to i word rest l h s fine.0 (kept_comes x a i word (to == i) l h s e inside fine.1 fine.2 both.0) (subst (λ d. Stands x d (load_at width to b)) p both.1) (subst (λ d. Standing x (w + long_size x.frame (LoadAt width g to i word)) d rest) q (standing_tail x w a (LoadAt width g to i word) rest st)) (element h width g word) refl
 
 -- ---- stores
 
-store_behind : (x : Site) (v c g i word r : ℕ) (rest : List Step) (l : Locations) (h : World) (s : State) → IsAllocatable r → Came x (put (Register i) word l) h s c → Stands x (x.place + 4 * c) (store_at r (element_at (x.layout.base g) word)) → Standing x v (c + 2) rest → (z : Option ℕ) → element h g word ≡ z
-    → Pair x (StoreAt g i word r ∷ rest) l h s
-store_behind x v c g i word r rest l h s u came access st None is =
+store_behind : (x : Site) (v c : ℕ) (width : Width) (g i word r : ℕ) (rest : List Step) (l : Locations) (h : World) (s : State) → IsAllocatable r → Came x (put (Register i) word l) h s c → Stands x (x.place + 4 * c) (store_at width r (known_place width (x.layout.base g) word)) → Standing x v (c + 2) rest → (z : Option ℕ) → element h width g word ≡ z
+    → Pair x (StoreAt width g i word r ∷ rest) l h s
+store_behind x v c width g i word r rest l h s u came access st None is =
     let m = put (Register i) word l in
     inr (record {
-      rest = Store g i r ∷ items_behind rest;
+      rest = Store width g i r ∷ items_behind rest;
       middle = m;
       first = λ ws. refl;
-      second = λ ws. ap (λ n. tried (stored h g n (m (Register r))) (λ k. Goes (at_items (items_behind rest) m k ws))) (constant_is l i word)
-          ∙ ap (λ z. tried (option_map (λ old. with_element h g word (m (Register r))) z) (λ k. Goes (at_items (items_behind rest) m k ws))) is;
+      second = λ ws. ap (λ n. tried (world.stored h width g n (m (Register r))) (λ k. Goes (at_items (items_behind rest) m k ws))) (constant_is l i word)
+          ∙ ap (λ z. tried (option_map (λ old. with_element h g word (kept width (m (Register r)))) z) (λ k. Goes (at_items (items_behind rest) m k ws))) is;
       locations = m;
       place = c + 1;
-      walked = walk_on x m m h h s c (c + 1) came (upper_walks x m h came.to c (element_at (x.layout.base g) word) came.at came.within access.0);
+      walked = walk_on x m m h h s c (c + 1) came (upper_walks x m h came.to c (known_place width (x.layout.base g) word) came.at came.within access.0);
     })
-store_behind x v c g i word r rest l h s u came access st (Some old) is =
+store_behind x v c width g i word r rest l h s u came access st (Some old) is =
     let m = put (Register i) word l in
-    let k = with_element h g word (m (Register r)) in
+    let k = with_element h g word (kept width (m (Register r))) in
     inl (record {
-      rest = Store g i r ∷ items_behind rest;
+      rest = Store width g i r ∷ items_behind rest;
       middle = m;
       first = λ ws. refl;
       next = rest;
       locations = m;
       world = k;
-      second = λ ws. ap (λ n. tried (stored h g n (m (Register r))) (λ k. Goes (at_items (items_behind rest) m k ws))) (constant_is l i word)
-          ∙ ap (λ z. tried (option_map (λ old. with_element h g word (m (Register r))) z) (λ k. Goes (at_items (items_behind rest) m k ws))) is;
+      second = λ ws. ap (λ n. tried (world.stored h width g n (m (Register r))) (λ k. Goes (at_items (items_behind rest) m k ws))) (constant_is l i word)
+          ∙ ap (λ z. tried (option_map (λ old. with_element h g word (kept width (m (Register r)))) z) (λ k. Goes (at_items (items_behind rest) m k ws))) is;
       output = refl;
-      reaches = reaches_of x rest m k s v (c + 2) (walk_on x m m h k s c (c + 2) came (store_walks x m h came.to c g word r old came.at came.within u is access)) st;
+      reaches = reaches_of x rest m k s v (c + 2) (walk_on x m m h k s c (c + 2) came (store_walks x m h came.to c width g word r old came.at came.within u is access)) st;
     })
 
-pub store_at_case : (x : Site) (w a g i word r : ℕ) (rest : List Step) (l : Locations) (h : World) (s : State) → Given x w a (StoreAt g i word r ∷ rest) l h s → Pair x (StoreAt g i word r ∷ rest) l h s
-store_at_case x w a g i word r rest l h s (e, st, inside) =
+pub store_at_case : (x : Site) (w a : ℕ) (width : Width) (g i word r : ℕ) (rest : List Step) (l : Locations) (h : World) (s : State) → Given x w a (StoreAt width g i word r ∷ rest) l h s → Pair x (StoreAt width g i word r ∷ rest) l h s
+store_at_case x w a width g i word r rest l h s (e, st, inside) =
     let fine = st.fine.0 in
-    let b = element_at (x.layout.base g) word in
+    let b = known_place width (x.layout.base g) word in
     let c = a + const_size word in
-    let both = placed_append x.code x.places x.place (x.place + 4 * a) (const_items i word) (store_at r b) (first_items x w a (StoreAt g i word r) rest st) in
+    let both = placed_append x.code x.places x.place (x.place + 4 * a) (const_items i word) (store_at width r b) (first_items x w a (StoreAt width g i word r) rest st) in
     let n = const_size_is i word in
     let p : x.place + 4 * a + 4 * length (const_items i word) ≡ x.place + 4 * c = omega arith in
     let q : a + (const_size word + 2) ≡ c + 2 = omega arith in
-    store_behind x (w + long_size x.frame (StoreAt g i word r)) c g i word r rest l h s fine.2 (came_of x (put (Register i) word l) h s c (const_walks x a i word l h s e inside fine.0 fine.1 both.0)) (subst (λ d. Stands x d (store_at r b)) p both.1) (subst (λ d. Standing x (w + long_size x.frame (StoreAt g i word r)) d rest) q (standing_tail x w a (StoreAt g i word r) rest st)) (element h g word) refl
+    store_behind x (w + long_size x.frame (StoreAt width g i word r)) c width g i word r rest l h s fine.2 (came_of x (put (Register i) word l) h s c (const_walks x a i word l h s e inside fine.0 fine.1 both.0)) (subst (λ d. Stands x d (store_at width r b)) p both.1) (subst (λ d. Standing x (w + long_size x.frame (StoreAt width g i word r)) d rest) q (standing_tail x w a (StoreAt width g i word r) rest st)) (element h width g word) refl

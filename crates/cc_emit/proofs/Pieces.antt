@@ -9,9 +9,12 @@ use Rattle.cc_typing.specs.Scope.{FileScope, file_scope_behind, first_file_scope
 use Rattle.cc_typing.specs.declared.rule.Offence.{Offence}
 use Rattle.cc_meaning.specs.Meaning.{Function, functions, functions_from, text_of}
 use Rattle.cc_meaning.specs.Numbered.{arity_in, objects_in}
+use Rattle.cc_runs.specs.World.{Size}
 use Rattle.cc_runs.specs.Tracks.{TracksForAll}
 use Rattle.cc_linear.specs.Linear.{labels, IsItem, IsLinear, linear_move, linear_output, linear_start}
+use Rattle.cc_ltl.specs.Ltl.{IsLtl}
 use Rattle.cc_linear.specs.Pair as above
+use Rattle.cc_linear.specs.Pair.{most_blocks}
 use Rattle.cc_emit.specs.Contract.{IsPiece}
 use Rattle.cc_emit.specs.Objects.{object_address}
 use Rattle.cc_emit.specs.Frames.{frame_of}
@@ -57,26 +60,26 @@ few_parameters unit limits g = few_in unit first_file_scope g (front_none (exter
 
 -- ---- the piece
 
-items_do : (p : above.Pair) → IsWithinLimits (above.tree_of p) → IsLinear p.slots (length (functions (above.tree_of p))) p.code → above.KeepsUp (above.tree_of p) p.function p.slots p.code
+items_do : (p : above.Pair) → IsWithinLimits (above.tree_of p) → IsLinear p.ltl.slots (length (functions (above.tree_of p))) p.code → above.KeepsUp (above.tree_of p) p.function p.ltl.slots p.code
     → AreOf (above.tree_of p) p.function (pair_items p)
 items_do p limits linear keeps meaning is layout in_order =
     let tree = above.tree_of p in
-    let base : layout.base ≡ object_address (objects_in tree) = λ i g. (in_order g ∙ ap (λ (o : List ℕ). object_address o g) is.objects) i in
-    let fits : AllByRecursion (IsItem p.slots meaning.functions (labels p.code)) p.code = subst (λ n. AllByRecursion (IsItem p.slots n (labels p.code)) p.code) (sym is.functions) linear.fit in
+    let base : layout.base ≡ object_address (objects_in tree) = λ i g. (in_order g ∙ ap (λ (o : List Size). object_address o g) is.objects) i in
+    let fits : AllByRecursion (IsItem p.ltl.slots meaning.functions (labels p.code)) p.code = subst (λ n. AllByRecursion (IsItem p.ltl.slots n (labels p.code)) p.code) (sym is.functions) linear.fit in
     let few : (g : ℕ) → meaning.arity g ≤ 8 = λ g. subst (λ (arity : ℕ → ℕ). arity g ≤ 8) (sym is.arity) (few_parameters tree limits g) in
-    let frame = frame_of p.slots p.code in
+    let frame = frame_of p.ltl.slots p.code in
     let ss = steps p.code in
-    let fine = steps_fine meaning frame p.code (are_fine meaning (labels p.code) p.slots p.code few fits) in
-    let framed = is_frame p.slots p.code linear.few in
+    let fine = steps_fine meaning frame p.code (are_fine meaning (labels p.code) p.ltl.slots p.code few fits) in
+    let framed = is_frame p.ltl.slots p.code linear.few in
     let rate = keeps.0 in
     let piece : IsPiece meaning layout p.function (framed_items layout.base frame ss) = record {
       rate = rate + rate;
-      meets = framed_meets meaning layout p.function rate frame ss (subst (λ items. TracksForAll meaning p.function rate (linear_move meaning.arity items) linear_output (linear_start p.slots items)) (sym (steps_stand p.code)) (keeps.1 meaning is)) framed fine;
+      meets = framed_meets meaning layout p.function rate frame ss (subst (λ items. TracksForAll meaning p.function rate (linear_move meaning.arity items) linear_output (linear_start p.ltl.slots items)) (sym (steps_stand p.code)) (keeps.1 meaning is)) framed fine;
       fit = framed_fit meaning layout.base frame ss framed fine;
     } in
     subst (λ (b : ℕ → ℕ). IsPiece meaning layout p.function (framed_items b frame ss)) base piece
 
--- with what `LinearPair::code` says of a pair, and the limits of its unit
-pub piece_of : (p : above.Pair) → IsTyped (above.tree_of p) → IsWithinLimits (above.tree_of p) → p.function < length (functions (above.tree_of p)) → IsLinear p.slots (length (functions (above.tree_of p))) p.code → above.KeepsUp (above.tree_of p) p.function p.slots p.code
-    → IsPieceOfUnit (record { unit = p.unit; function = p.function; items = pair_items p })
-piece_of p typed limits lt linear keeps = record { typed = typed; function = lt; items = items_do p limits linear keeps }
+-- with what `LinearPair::code` and `ltl` say of a pair, and the limits of its unit
+pub piece_of : (p : above.Pair) → IsLtl p.ltl → length p.ltl.blocks ≤ most_blocks → IsTyped (above.tree_of p) → IsWithinLimits (above.tree_of p) → p.function < length (functions (above.tree_of p)) → IsLinear p.ltl.slots (length (functions (above.tree_of p))) p.code → above.KeepsUp (above.tree_of p) p.function p.ltl.slots p.code
+    → IsPieceOfUnit (record { unit = p.unit; function = p.function; ltl = p.ltl; items = pair_items p })
+piece_of p is_ltl few typed limits lt linear keeps = record { typed = typed; function = lt; ltl = is_ltl; few = few; items = items_do p limits linear keeps }

@@ -12,9 +12,10 @@ use Rattle.cc_rv32.specs.declared.instr.Instr.TheVariants.{Jalr}
 use Rattle.cc_emit.specs.declared.item.Item.{Item}
 use Rattle.cc_emit.specs.declared.item.Item.TheVariants.{Plain}
 use Rattle.cc_emit.specs.declared.step.Step.{Step}
+use Rattle.cc_words.specs.declared.operators.Width.TheVariants.{Byte, Word}
 use Rattle.cc_emit.specs.declared.step.Step.TheVariants.{One, Immediate, LoadAt, StoreAt}
 use Rattle.cc_emit.specs.Frames.{Frame, frame_size}
-use Rattle.cc_emit.specs.Emission.{word_recipe, word_recipe_items, word_recipe_size, high, low, stack_moved, stack_moved_size, restoring, saving, epilogue, prologue_size, recipe, recipe_items, recipe_size, branch_items, branch_size, const_items, const_size, kept_items, kept_size, element_at, load_at, store_at, items_of_one, items_of, size_of_one, size, long_size, distance, reaches, is_label, is_near, long_place, short_place, emitted}
+use Rattle.cc_emit.specs.Emission.{word_recipe, word_recipe_items, word_recipe_size, high, low, stack_moved, stack_moved_size, restoring, saving, epilogue, prologue_size, recipe, recipe_items, recipe_size, branch_items, branch_size, const_items, const_size, kept_items, kept_size, known_place, load_at, store_at, items_of_one, items_of, size_of_one, size, long_size, distance, reaches, is_label, is_near, long_place, short_place, emitted}
 use Rattle.cc_emit.specs.declared.recipe.Recipe.{Recipe}
 use Rattle.cc_emit.specs.declared.recipe.WordRecipe.{WordRecipe}
 use Rattle.cc_emit.specs.declared.recipe.Recipe.TheVariants.{Direct, ZeroOf, ZeroOfExchanged, NonzeroOf}
@@ -77,8 +78,10 @@ one_size_is base f near labels a (Copy m) = refl
 one_size_is base f near labels a (Const to w) = const_size_is to w
 one_size_is base f near labels a (Unary o to b) = refl
 one_size_is base f near labels a (Binary o to b c) = recipe_size_is (recipe o) to b c
-one_size_is base f near labels a (Load g to i) = refl
-one_size_is base f near labels a (Store g i b) = refl
+one_size_is base f near labels a (Load Byte g to i) = refl
+one_size_is base f near labels a (Load Word g to i) = refl
+one_size_is base f near labels a (Store Byte g i b) = refl
+one_size_is base f near labels a (Store Word g i b) = refl
 one_size_is base f near labels a (Call g) = refl
 one_size_is base f near labels a Read = refl
 one_size_is base f near labels a Write = refl
@@ -90,8 +93,8 @@ kept_size_is to r w = long_if (to == r) [] (const_items r w) 0 (const_size w) re
 pub size_is : (base : ℕ → ℕ) (f : Frame) (near : ℕ → Bool) (labels : ℕ → ℕ) (a : ℕ) (s : Step) → length (items_of base f near labels a s) ≡ size f near s
 size_is base f near labels a (One i) = one_size_is base f near labels a i
 size_is base f near labels a (Immediate o to b w) = word_recipe_size_is (word_recipe o w) to b
-size_is base f near labels a (LoadAt g to i w) = length-append (kept_items to i w) (load_at to (element_at (base g) w)) ∙ ap (λ n. n + 2) (kept_size_is to i w)
-size_is base f near labels a (StoreAt g i w b) = length-append (const_items i w) (store_at b (element_at (base g) w)) ∙ ap (λ n. n + 2) (const_size_is i w)
+size_is base f near labels a (LoadAt width g to i w) = length-append (kept_items to i w) (load_at width to (known_place width (base g) w)) ∙ ap (λ n. n + 2) (kept_size_is to i w)
+size_is base f near labels a (StoreAt width g i w b) = length-append (const_items i w) (store_at width b (known_place width (base g) w)) ∙ ap (λ n. n + 2) (const_size_is i w)
 
 branch_size_le : (near : Bool) → branch_size near ≤ 2
 branch_size_le true = omega arith
@@ -107,8 +110,8 @@ one_size_le f near (Copy m) = omega arith
 one_size_le f near (Const to w) = omega arith
 one_size_le f near (Unary o to b) = omega arith
 one_size_le f near (Binary o to b c) = omega arith
-one_size_le f near (Load g to i) = omega arith
-one_size_le f near (Store g i b) = omega arith
+one_size_le f near (Load width g to i) = omega arith
+one_size_le f near (Store width g i b) = omega arith
 one_size_le f near (Call g) = omega arith
 one_size_le f near Read = omega arith
 one_size_le f near Write = omega arith
@@ -117,8 +120,8 @@ one_size_le f near Return = omega arith
 pub size_le : (f : Frame) (near : ℕ → Bool) (s : Step) → size f near s ≤ long_size f s
 size_le f near (One i) = one_size_le f near i
 size_le f near (Immediate o to b w) = omega arith
-size_le f near (LoadAt g to i w) = omega arith
-size_le f near (StoreAt g i w b) = omega arith
+size_le f near (LoadAt width g to i w) = omega arith
+size_le f near (StoreAt width g i w b) = omega arith
 
 -- ---- places
 

@@ -4,7 +4,7 @@ use Rattle.std.specs.Prelude.{if◌then◌else◌, nat_le}
 use Rattle.std.proofs.lemmas.Bool.Decides.{nat_tests}
 use Rattle.cc_words.specs.Words.{add}
 use Rattle.cc_runs.specs.Behavior.{AreWords}
-use Rattle.cc_runs.specs.World.{Answer, World, object_words}
+use Rattle.cc_runs.specs.World.{Answer, Size, World, object_words}
 use Rattle.cc_runs.specs.Unknown.{survives}
 use Rattle.cc_ltl.specs.declared.location.Location.TheVariants.{Register, Slot}
 use Rattle.cc_ltl.specs.Registers.{IsAllocatable}
@@ -14,13 +14,15 @@ use Rattle.cc_rv32.specs.declared.instr.Instr.TheVariants.{Jal, Jalr}
 use Rattle.cc_rv32.specs.Machine.{Continues, State, Traps, jumps, stack_from, stack_to, with_register}
 use Rattle.cc_emit.specs.declared.step.Step.{Step}
 use Rattle.cc_emit.specs.declared.step.Step.TheVariants.{One}
-use Rattle.cc_emit.specs.Contract.{Code, ComesBack, Enters, IsKept, IsPlace, IsSound, Passes, Path, Placed, Shares}
+use Rattle.cc_emit.specs.Contract.{Code, ComesBack, Enters, IsKept, IsPlace, IsSound, Passes, Path, Placed, Shares, element_place}
 use Rattle.cc_emit.specs.Frames.{Frame, frame_size}
 use Rattle.cc_emit.specs.Emission.{prologue, prologue_size, restoring, saving, stack_moved, stack_moved_size}
 use Rattle.cc_emit.proofs.Fine.{AreSavable, IsSavable, Member}
 use Rattle.cc_emit.proofs.Basics.{set_other, set_word, eqb_yes, put_register, with_zero, survives_tells, listed, listed_at}
 use Rattle.cc_emit.proofs.Places.{length_restoring, length_stack_moved}
-use Rattle.cc_emit.proofs.Standing.{long_of, machine_step, path_then, Site, Standing, Stands, first_items, placed_append, step_at}
+use Rattle.cc_emit.proofs.Bytes.{loaded_word}
+use Rattle.cc_emit.proofs.Elements.{elements_stay}
+use Rattle.cc_emit.proofs.Standing.{machine_step, path_then, size_at, size_found, Site, Standing, Stands, first_items, placed_append, step_at}
 use Rattle.cc_emit.proofs.Saving.{with_saved, saved_below, saved_above, saved_words, saved_at, saving_path, restored, restored_right, restored_member, restored_other, restored_words, restoring_path, stack_path}
 use Rattle.cc_emit.proofs.Within.{SavedAt, saved_moved, Within, low_stack}
 
@@ -125,8 +127,9 @@ are_words (w ∷ ws) f = (f 0 (omega arith), are_words ws (λ i lt. f (suc i) (o
 
 words_shared : (x : Site) (s : State) (h : World) (g : ℕ) → IsSound s → Shares x.layout s h → AreWords (object_words h g)
 words_shared x s h g sound sh =
-    let long = long_of x.meaning.objects h sh.sizes g in
-    are_words (object_words h g) (λ i lt. (let e = sh.globals g i (omega arith) in let b = sound.memory (x.layout.base g + 4 * i) in omega arith))
+    let long : (size_at x g).elements ≡ length (object_words h g) = ap (λ (z : Size). z.elements) (size_found x.meaning.objects h sh.sizes g) in
+    are_words (object_words h g)
+    (λ i lt. (let e = sh.globals g i (omega arith) in let b = loaded_word (size_at x g).width s.memory (element_place (size_at x g).width (x.layout.base g) i) sound.memory in omega arith))
 
 pub enters_callee : (x : Site) (d g : ℕ) (l : Locations) (h : World) (s : State) → d < 1024 → stack_from + 2032 * (1024 - d) ≤ x.from.registers 2 → x.meaning.arity g ≤ 8 → IsPlace s.pc → Within x l h s → Enters x.meaning x.layout g (suc d) (x.places g) (words_from 10 (x.meaning.arity g) l) h (called s (x.places g))
 unfolding called
@@ -270,7 +273,7 @@ framed_within x fn d ws h enters =
       sound = record { zero = enters.sound.zero; registers = set_word s.registers 2 n (omega arith) enters.sound.registers; memory = saved_words f.saved at g s.memory (set_word s.registers 2 n (omega arith) enters.sound.registers) enters.sound.memory; input = enters.sound.input };
       same = λ r u. found_register f (framed f s) ws r u.1 moved;
       slots = λ i lt. listed_at f.slots 0 i (λ k. (framed f s).memory ((framed f s).registers 2 + 4 * k)) lt ∙ ap (λ k. (framed f s).memory (n + 4 * k)) (let e : 0 + i ≡ i = omega arith in e);
-      shares = record { sizes = enters.shares.sizes; globals = λ k i lt. saved_below f.saved at g s.memory _ (let to = x.layout.to k in omega arith) ∙ enters.shares.globals k i lt; input = enters.shares.input; output = enters.shares.output };
+      shares = record { sizes = enters.shares.sizes; globals = λ k i lt. elements_stay x s.memory (with_saved f.saved at g s.memory) k i lt (λ c below. saved_below f.saved at g s.memory c (omega arith)) ∙ enters.shares.globals k i lt; input = enters.shares.input; output = enters.shares.output };
       stack = omega arith;
       saved = saved_other f.saved at g s.registers _ x.is_frame.savable other (saved_at f.saved at g s.memory);
       kept = λ r k. inr (other r (savable_not_2 r k));

@@ -4,9 +4,11 @@ use Rattle.std.specs.Prelude.{if◌then◌else◌, ◌==◌}
 use Rattle.std.proofs.lemmas.Bool.Decides.{eqb_tells}
 use Rattle.cc_rv32.specs.declared.instr.Instr.TheVariants.{Load, OpImm, Store}
 use Rattle.cc_rv32.specs.declared.instr.ImmediateOperation.TheVariants.{Addi}
+use Rattle.cc_rv32.specs.declared.instr.LoadOperation.{LoadOperation}
 use Rattle.cc_rv32.specs.declared.instr.LoadOperation.TheVariants.{Lw}
+use Rattle.cc_rv32.specs.declared.instr.StoreOperation.{StoreOperation}
 use Rattle.cc_rv32.specs.declared.instr.StoreOperation.TheVariants.{Sw}
-use Rattle.cc_rv32.specs.Machine.{Continues, State, Traps, is_accessible, puts, stack_from, stack_to, with_register, with_word}
+use Rattle.cc_rv32.specs.Machine.{Continues, State, Traps, is_accessible, load_bytes, loaded, puts, store_bytes, stored, stack_from, stack_to, with_register, with_word}
 use Rattle.cc_words.specs.Words.{add}
 use Rattle.cc_emit.specs.Contract.{Code, IsKept, Path, Placed}
 use Rattle.cc_emit.specs.Frames.{Frame, frame_size}
@@ -16,16 +18,16 @@ use Rattle.cc_emit.proofs.Basics.{eqb_says, eqb_denies, set_same, set_other, set
 use Rattle.cc_emit.proofs.Standing.{machine_step, step_at}
 use Rattle.cc_emit.proofs.Within.{SavedAt}
 
-pub load_step : (code : Code) (s : State) (a d b i at : ℕ) → s.pc ≡ a → code a ≡ Some (Load Lw d b i) → (s.registers b + i) % 2 ^ 32 ≡ at → is_accessible 4 at ≡ true
-    → machine_step code s ≡ Continues (record s { pc = s.pc + 4; registers = with_register s.registers d (s.memory at) })
-load_step code s a d b i at e f to ok =
-    step_at code s a (Load Lw d b i) e f ∙ ap (λ n. if is_accessible 4 n then puts d (s.memory n) s else Traps) to ∙ ap (λ t. if t then puts d (s.memory at) s else Traps) ok
+pub load_step : (code : Code) (s : State) (o : LoadOperation) (a d b i at : ℕ) → s.pc ≡ a → code a ≡ Some (Load o d b i) → (s.registers b + i) % 2 ^ 32 ≡ at → is_accessible (load_bytes o) at ≡ true
+    → machine_step code s ≡ Continues (record s { pc = s.pc + 4; registers = with_register s.registers d (loaded o s.memory at) })
+load_step code s o a d b i at e f to ok =
+    step_at code s a (Load o d b i) e f ∙ ap (λ n. if is_accessible (load_bytes o) n then puts d (loaded o s.memory n) s else Traps) to ∙ ap (λ t. if t then puts d (loaded o s.memory at) s else Traps) ok
 
-pub store_step : (code : Code) (s : State) (a b r i at : ℕ) → s.pc ≡ a → code a ≡ Some (Store Sw b r i) → (s.registers b + i) % 2 ^ 32 ≡ at → is_accessible 4 at ≡ true
-    → machine_step code s ≡ Continues (record s { pc = s.pc + 4; memory = with_word s.memory at (s.registers r) })
-store_step code s a b r i at e f to ok =
-    step_at code s a (Store Sw b r i) e f ∙ ap (λ n. if is_accessible 4 n then Continues (record s { pc = s.pc + 4; memory = with_word s.memory n (s.registers r) }) else Traps) to
-    ∙ ap (λ t. if t then Continues (record s { pc = s.pc + 4; memory = with_word s.memory at (s.registers r) }) else Traps) ok
+pub store_step : (code : Code) (s : State) (o : StoreOperation) (a b r i at : ℕ) → s.pc ≡ a → code a ≡ Some (Store o b r i) → (s.registers b + i) % 2 ^ 32 ≡ at → is_accessible (store_bytes o) at ≡ true
+    → machine_step code s ≡ Continues (record s { pc = s.pc + 4; memory = stored o s.memory at (s.registers r) })
+store_step code s o a b r i at e f to ok =
+    step_at code s a (Store o b r i) e f ∙ ap (λ n. if is_accessible (store_bytes o) n then Continues (record s { pc = s.pc + 4; memory = stored o s.memory n (s.registers r) }) else Traps) to
+    ∙ ap (λ t. if t then Continues (record s { pc = s.pc + 4; memory = stored o s.memory at (s.registers r) }) else Traps) ok
 
 -- the memory behind saving
 abbrev pub with_saved : List ℕ → (a : ℕ) → (registers memory : ℕ → ℕ) → ℕ → ℕ
@@ -55,7 +57,7 @@ saving_path code places place (r ∷ rs) o s p z from to =
     let at = s.registers 2 + o in
     let u : State = record s { pc = s.pc + 4; memory = with_word s.memory at (s.registers r) } in
     let address : (s.registers 2 + o) % 2 ^ 32 ≡ at = omega arith in
-    let one : machine_step code s ≡ Continues u = store_step code s s.pc 2 r o at refl p.0 address (in_stack at z from (omega arith)) in
+    let one : machine_step code s ≡ Continues u = store_step code s Sw s.pc 2 r o at refl p.0 address (in_stack at z from (omega arith)) in
     let a1 : s.registers 2 + (o + 4) ≡ at + 4 = omega arith in
     let n1 : s.pc + 4 + 4 * length rs ≡ s.pc + 4 * suc (length rs) = omega arith in
     let more = saving_path code places place rs (o + 4) u p.1 (omega arith) (omega arith) (omega arith) in
@@ -106,7 +108,7 @@ restoring_path code places place (r ∷ rs) o f s p sv saved z from to =
     let at = s.registers 2 + o in
     let u : State = record s { pc = s.pc + 4; registers = with_register s.registers r (f r) } in
     let address : (s.registers 2 + o) % 2 ^ 32 ≡ at = omega arith in
-    let one : machine_step code s ≡ Continues u = load_step code s s.pc r 2 o at refl p.0 address (in_stack at z from (omega arith)) ∙ ap (λ w. Continues (record s { pc = s.pc + 4; registers = with_register s.registers r w })) saved.0 in
+    let one : machine_step code s ≡ Continues u = load_step code s Lw s.pc r 2 o at refl p.0 address (in_stack at z from (omega arith)) ∙ ap (λ w. Continues (record s { pc = s.pc + 4; registers = with_register s.registers r w })) saved.0 in
     let u2 : u.registers 2 ≡ s.registers 2 = set_other s.registers r (f r) 2 (λ e. differs r 2 sv.0 ((λ q. omega arith), (λ k. elim k [ inl b ↦ omega arith | inr b ↦ omega arith ])) e) in
     let a1 : at + 4 ≡ u.registers 2 + (o + 4) = omega arith in
     let n1 : s.pc + 4 + 4 * length rs ≡ s.pc + 4 * suc (length rs) = omega arith in

@@ -5,7 +5,8 @@ use Rattle.std.proofs.lemmas.List.{length-append}
 use Rattle.cc_rv32.specs.declared.instr.Instr.{Instr}
 use Rattle.cc_rv32.specs.declared.instr.Instr.TheVariants.{Jal}
 use Rattle.cc_rv32.specs.Machine.{Continues, State, Traps, Turn, execute, executed, stack_from, stack_to, with_register}
-use Rattle.cc_runs.specs.World.{World, object_words}
+use Rattle.cc_words.specs.declared.operators.Width.TheVariants.{Word}
+use Rattle.cc_runs.specs.World.{Object, Size, World, object_of, size_in, size_of}
 use Rattle.cc_runs.specs.Meaning.{Meaning}
 use Rattle.cc_emit.specs.declared.item.Item.{Item}
 use Rattle.cc_emit.specs.declared.step.Step.{Step}
@@ -44,16 +45,17 @@ pub record Site : Type 0 where
   pub room : stack_from + frame_size frame ≤ from.registers 2
   pub top : from.registers 2 ≤ stack_to
 
-abbrev pub size_in : Site → ℕ → ℕ
-size_in x g = get_or x.meaning.objects g 0
+-- the size of an object
+abbrev pub size_at : Site → ℕ → Size
+size_at x g = size_in x.meaning.objects g
 
-pub long_of : (objects : List ℕ) (h : World) → map (λ (ws : List ℕ). length ws) h.globals ≡ objects → (g : ℕ) → length (object_words h g) ≡ get_or objects g 0
-long_of objects h e g = sym (long_at h.globals g) ∙ ap (λ o. get_or o g 0) e
+pub size_found : (objects : List Size) (h : World) → map size_of h.globals ≡ objects → (g : ℕ) → size_in objects g ≡ size_of (object_of h g)
+size_found objects h e g = ap (λ (o : List Size). size_in o g) (sym e) ∙ found_at h.globals g
   where
-    long_at : (gs : List (List ℕ)) (g : ℕ) → get_or (map (λ (ws : List ℕ). length ws) gs) g 0 ≡ length (get_or gs g [])
-    long_at [] g = refl
-    long_at (x ∷ xs) zero = refl
-    long_at (x ∷ xs) (suc g) = long_at xs g
+    found_at : (gs : List Object) (g : ℕ) → size_in (map size_of gs) g ≡ size_of (get_or gs g (record { width = Word; words = [] }))
+    found_at [] g = refl
+    found_at (o ∷ os) zero = refl
+    found_at (o ∷ os) (suc g) = found_at os g
 
 abbrev pub near : Site → (long label : ℕ) → Bool
 near x = is_near x.frame x.steps

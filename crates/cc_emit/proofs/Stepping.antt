@@ -3,6 +3,7 @@
 use Rattle.std.proofs.Common.{◌≡◌, ℕ, suc, ◌≤◌, List, [], ◌∷◌, Option, Some, None, true, false, Bool, length, refl, sym, ap, ◌∙◌, subst, arith}
 use Rattle.std.specs.Prelude.{if◌then◌else◌, ◌==◌, ◌&&◌, not}
 use Rattle.std.specs.List.{AllByRecursion}
+use Rattle.cc_words.specs.declared.operators.Width.{Width}
 use Rattle.cc_words.specs.declared.operators.Binary as binary
 use Rattle.cc_words.specs.declared.operators.Binary.TheVariants as operators
 use Rattle.cc_runs.specs.Meaning.{Meaning}
@@ -59,16 +60,16 @@ abbrev pub items_behind : List Step → List linear.Item
 items_behind [] = []
 items_behind (One item ∷ rest) = item ∷ items_behind rest
 items_behind (Immediate o to from word ∷ rest) = Const to word ∷ operation_on (is_exchanged o) (operator_of o) to from ∷ items_behind rest
-items_behind (LoadAt object to index word ∷ rest) = Const index word ∷ Load object to index ∷ items_behind rest
-items_behind (StoreAt object index word from ∷ rest) = Const index word ∷ Store object index from ∷ items_behind rest
+items_behind (LoadAt width object to index word ∷ rest) = Const index word ∷ Load width object to index ∷ items_behind rest
+items_behind (StoreAt width object index word from ∷ rest) = Const index word ∷ Store width object index from ∷ items_behind rest
 
 -- ---- two items that are one step
 
 abbrev pub IsJoin : (first second : linear.Item) → Step → Type 0
 IsJoin first second (One item) = ⊥
 IsJoin first second (Immediate o to from word) = (first ≡ Const to word) × (second ≡ operation_on (is_exchanged o) (operator_of o) to from) × (from ≡ to → ⊥) × (has_word o word ≡ true)
-IsJoin first second (LoadAt object to index word) = (first ≡ Const index word) × (second ≡ Load object to index)
-IsJoin first second (StoreAt object index word from) = (first ≡ Const index word) × (second ≡ Store object index from)
+IsJoin first second (LoadAt width object to index word) = (first ≡ Const index word) × (second ≡ Load width object to index)
+IsJoin first second (StoreAt width object index word from) = (first ≡ Const index word) × (second ≡ Store width object index from)
 
 pub none_some : {A X : Type 0} (s : A) → None ≡ Some s → X
 none_some s e = absurd (cc)
@@ -131,18 +132,18 @@ binary_joins p true true true r word to left right s x y z e = none_some s e
 binary_joins p true false false r word to left right s x y z e = none_some s e
 binary_joins p false b c r word to left right s x y z e = none_some s e
 
-load_joins : (b : Bool) (r word object to index : ℕ) (s : Step) → (index == r) ≡ b → (if b then Some (LoadAt object to r word) else None) ≡ Some s → IsJoin (Const r word) (Load object to index) s
-load_joins true r word object to index s x e = subst (IsJoin (Const r word) (Load object to index)) (some _ s e) (refl, ap (Load object to) (eqb_says index r x))
-load_joins false r word object to index s x e = none_some s e
+load_joins : (b : Bool) (width : Width) (r word object to index : ℕ) (s : Step) → (index == r) ≡ b → (if b then Some (LoadAt width object to r word) else None) ≡ Some s → IsJoin (Const r word) (Load width object to index) s
+load_joins true width r word object to index s x e = subst (IsJoin (Const r word) (Load width object to index)) (some _ s e) (refl, ap (Load width object to) (eqb_says index r x))
+load_joins false width r word object to index s x e = none_some s e
 
-store_joins : (b : Bool) (r word object index from : ℕ) (s : Step) → (index == r) ≡ b → (if b then Some (StoreAt object r word from) else None) ≡ Some s → IsJoin (Const r word) (Store object index from) s
-store_joins true r word object index from s x e = subst (IsJoin (Const r word) (Store object index from)) (some _ s e) (refl, ap (λ n. Store object n from) (eqb_says index r x))
-store_joins false r word object index from s x e = none_some s e
+store_joins : (b : Bool) (width : Width) (r word object index from : ℕ) (s : Step) → (index == r) ≡ b → (if b then Some (StoreAt width object r word from) else None) ≡ Some s → IsJoin (Const r word) (Store width object index from) s
+store_joins true width r word object index from s x e = subst (IsJoin (Const r word) (Store width object index from)) (some _ s e) (refl, ap (λ n. Store width object n from) (eqb_says index r x))
+store_joins false width r word object index from s x e = none_some s e
 
 constant_joins : (r word : ℕ) (second : linear.Item) (s : Step) → with_constant r word second ≡ Some s → IsJoin (Const r word) second s
 constant_joins r word (Binary p to left right) s e = binary_joins p (to == r) (right == r) (left == r) r word to left right s refl refl refl e
-constant_joins r word (Load object to index) s e = load_joins (index == r) r word object to index s refl e
-constant_joins r word (Store object index from) s e = store_joins (index == r) r word object index from s refl e
+constant_joins r word (Load width object to index) s e = load_joins (index == r) width r word object to index s refl e
+constant_joins r word (Store width object index from) s e = store_joins (index == r) width r word object index from s refl e
 constant_joins r word _ s e = none_some s e
 
 pub joins : (first second : linear.Item) (s : Step) → joined first second ≡ Some s → IsJoin first second s
@@ -154,8 +155,8 @@ joins _ second s e = none_some s e
 join_stands : (first second : linear.Item) (s : Step) (rest : List Step) → IsJoin first second s → items_behind (s ∷ rest) ≡ first ∷ second ∷ items_behind rest
 join_stands first second (One item) rest j = absurd j
 join_stands first second (Immediate o to from word) rest (p, q, other, fits) = ap (λ i. i ∷ operation_on (is_exchanged o) (operator_of o) to from ∷ items_behind rest) (sym p) ∙ ap (λ i. first ∷ i ∷ items_behind rest) (sym q)
-join_stands first second (LoadAt object to index word) rest (p, q) = ap (λ i. i ∷ Load object to index ∷ items_behind rest) (sym p) ∙ ap (λ i. first ∷ i ∷ items_behind rest) (sym q)
-join_stands first second (StoreAt object index word from) rest (p, q) = ap (λ i. i ∷ Store object index from ∷ items_behind rest) (sym p) ∙ ap (λ i. first ∷ i ∷ items_behind rest) (sym q)
+join_stands first second (LoadAt width object to index word) rest (p, q) = ap (λ i. i ∷ Load width object to index ∷ items_behind rest) (sym p) ∙ ap (λ i. first ∷ i ∷ items_behind rest) (sym q)
+join_stands first second (StoreAt width object index word from) rest (p, q) = ap (λ i. i ∷ Store width object index from ∷ items_behind rest) (sym p) ∙ ap (λ i. first ∷ i ∷ items_behind rest) (sym q)
 
 taken_stands : (first second : linear.Item) (items : List linear.Item) (together apart : List Step) (z : Option Step) → joined first second ≡ z → items_behind together ≡ items → items_behind apart ≡ second ∷ items → items_behind (taken z together (One first ∷ apart)) ≡ first ∷ second ∷ items
 taken_stands first second items together apart None is p q = ap (λ is. first ∷ is) q
@@ -204,13 +205,13 @@ join_fine meaning f i k (Immediate o to from word) p q (d, e, other, fits) =
     let a : IsFine meaning f (Const to word) = subst (IsFine meaning f) d p in
     let b : IsFine meaning f (operation_on (is_exchanged o) (operator_of o) to from) = subst (IsFine meaning f) e q in
     (a.0, one_of (is_exchanged o) to from b.1 b.2, a.1, other, fits)
-join_fine meaning f i k (LoadAt object to index word) p q (d, e) =
+join_fine meaning f i k (LoadAt width object to index word) p q (d, e) =
     let a : IsFine meaning f (Const index word) = subst (IsFine meaning f) d p in
-    let b : IsFine meaning f (Load object to index) = subst (IsFine meaning f) e q in
+    let b : IsFine meaning f (Load width object to index) = subst (IsFine meaning f) e q in
     (b.0, a.0, a.1)
-join_fine meaning f i k (StoreAt object index word from) p q (d, e) =
+join_fine meaning f i k (StoreAt width object index word from) p q (d, e) =
     let a : IsFine meaning f (Const index word) = subst (IsFine meaning f) d p in
-    let b : IsFine meaning f (Store object index from) = subst (IsFine meaning f) e q in
+    let b : IsFine meaning f (Store width object index from) = subst (IsFine meaning f) e q in
     (a.0, a.1, b.1)
 
 pub steps_fine : (meaning : Meaning) (f : Frame) (items : List linear.Item) → AreFine meaning f items → AreFineSteps meaning f (steps items)
@@ -237,12 +238,12 @@ place_stands (One (Copy m) ∷ ss) l = place_stands ss l
 place_stands (One (Const to w) ∷ ss) l = place_stands ss l
 place_stands (One (Unary o to b) ∷ ss) l = place_stands ss l
 place_stands (One (Binary o to b c) ∷ ss) l = place_stands ss l
-place_stands (One (Load g to i) ∷ ss) l = place_stands ss l
-place_stands (One (Store g i b) ∷ ss) l = place_stands ss l
+place_stands (One (Load width g to i) ∷ ss) l = place_stands ss l
+place_stands (One (Store width g i b) ∷ ss) l = place_stands ss l
 place_stands (One (Call g) ∷ ss) l = place_stands ss l
 place_stands (One Read ∷ ss) l = place_stands ss l
 place_stands (One Write ∷ ss) l = place_stands ss l
 place_stands (One Return ∷ ss) l = place_stands ss l
 place_stands (Immediate o to a w ∷ ss) l = place_stands ss l
-place_stands (LoadAt g to i w ∷ ss) l = place_stands ss l
-place_stands (StoreAt g i w b ∷ ss) l = place_stands ss l
+place_stands (LoadAt width g to i w ∷ ss) l = place_stands ss l
+place_stands (StoreAt width g i w b ∷ ss) l = place_stands ss l

@@ -1,24 +1,22 @@
 -- The machine within a function's body: what of its state the run of Linear tells, and what each change of it keeps.
-use Rattle.std.proofs.Common.{map, ◌≡◌, ℕ, zero, suc, ◌+◌, ◌*◌, ◌^◌, ◌<◌, ◌≤◌, ◌⊎◌, List, [], ◌∷◌, ◌++◌, length, get_or, refl, sym, ap, ◌∙◌, subst, inl, inr, arith}
-use Rattle.std.specs.Prelude.{set}
-use Rattle.std.proofs.lemmas.List.{get_or-set_same, get_or-set_other, length-set, get_or_past}
+use Rattle.std.proofs.Common.{◌≡◌, ℕ, ◌+◌, ◌*◌, ◌^◌, ◌<◌, ◌≤◌, ◌⊎◌, List, [], ◌∷◌, ◌++◌, length, refl, sym, ap, ◌∙◌, subst, inl, inr, arith}
 use Rattle.std.proofs.lemmas.Bool.Decides.{eqb_tells}
 use Rattle.cc_rv32.specs.Machine as machine
-use Rattle.cc_rv32.specs.Machine.{State, stack_from, with_register, with_word}
+use Rattle.cc_words.specs.declared.operators.Width.{Width}
+use Rattle.cc_words.specs.Widths.{kept}
+use Rattle.cc_rv32.specs.Machine.{State, stack_from, stored, with_register, with_word}
 use Rattle.cc_runs.specs.Behavior.{AreWords}
-use Rattle.cc_runs.specs.World.{World, object_words, rest_of, after_read, after_write}
+use Rattle.cc_runs.specs.World.{rest_of, World, with_element, after_read, after_write}
 use Rattle.cc_ltl.specs.declared.location.Location.TheVariants.{Register, Slot}
 use Rattle.cc_ltl.specs.Registers.{IsAllocatable}
 use Rattle.cc_ltl.specs.Ltl.{Locations, put}
-use Rattle.cc_emit.specs.Contract.{IsKept, IsSound, Shares}
+use Rattle.cc_emit.specs.Contract.{IsKept, IsSound, Shares, element_place, store_of}
 use Rattle.cc_emit.specs.Frames.{Frame, frame_size}
 use Rattle.cc_emit.proofs.Fine.{IsSavable, IsTarget, Member}
 use Rattle.cc_emit.proofs.Basics.{set_same, set_other, set_word, word_same, word_other, word_word, put_register, put_slot, rest_words, same_rest}
-use Rattle.cc_emit.proofs.Standing.{long_of, size_in, Site}
-
--- the world with a word in an element that is there
-abbrev pub with_element : World → (g i w : ℕ) → World
-with_element h g i w = record h { globals = set h.globals g (set (object_words h g) i w) }
+use Rattle.cc_emit.proofs.Standing.{Site}
+use Rattle.cc_emit.proofs.Bytes.{stored_words, words_behind}
+use Rattle.cc_emit.proofs.Elements.{IsElement, elements_stay, placed, stored_element, stored_sizes}
 
 -- the words of these registers lie from an address on
 abbrev pub SavedAt : List ℕ → (a : ℕ) → (registers memory : ℕ → ℕ) → Type 0
@@ -114,76 +112,31 @@ within_slot x l h s p i v lt b w =
       sound = record { zero = w.sound.zero; registers = w.sound.registers; memory = word_word s.memory at v b w.sound.memory; input = w.sound.input };
       same = w.same;
       slots = λ j lj. put_slot l i v j (with_word s.memory at v (s.registers 2 + 4 * j)) (λ e. sym (ap (λ n. with_word s.memory at v (s.registers 2 + 4 * n)) (sym e) ∙ word_same s.memory at v)) (λ e. w.slots j lj ∙ sym (word_other s.memory at v (s.registers 2 + 4 * j) (λ q. e (omega arith))));
-      shares = record { sizes = w.shares.sizes; globals = λ g j lj. word_other s.memory at v _ (λ q. let t = x.layout.to g in omega arith) ∙ w.shares.globals g j lj; input = w.shares.input; output = w.shares.output };
+      shares = record { sizes = w.shares.sizes; globals = λ g j lj. elements_stay x s.memory (with_word s.memory at v) g j lj (λ c lt. word_other s.memory at v c (λ q. omega arith)) ∙ w.shares.globals g j lj; input = w.shares.input; output = w.shares.output };
       stack = w.stack;
       saved = saved_moved x.frame.saved _ x.from.registers s.memory (with_word s.memory at v) (λ c lo hi. word_other s.memory at v c (λ q. omega arith)) w.saved;
       kept = w.kept;
       above = λ c le. word_other s.memory at v c (λ q. omega arith) ∙ w.above c le;
     }
 
--- ---- a word of an object is set
-
-object_is : (h : World) (g i : ℕ) → i < length (object_words h g) → (g < length h.globals)
-object_is h g i lt = elim (le_or_lt (length h.globals) g) [ inl le ↦ absurd (let e : length (object_words h g) ≡ 0 = ap length (get_or_past h.globals g [] le) in omega arith) | inr less ↦ less ]
-  where
-    le_or_lt : (a b : ℕ) → (a ≤ b) ⊎ (b < a)
-    le_or_lt a b = grind arith
-
-same_object : (h : World) (g i v k : ℕ) → i < length (object_words h g) → k ≡ g → object_words (with_element h g i v) k ≡ set (object_words h g) i v
-same_object h g i v k lt e = ap (object_words (with_element h g i v)) e ∙ get_or-set_same h.globals g (set (object_words h g) i v) [] (object_is h g i lt)
-
-other_object : (h : World) (g i v k : ℕ) → (k ≡ g → ⊥) → object_words (with_element h g i v) k ≡ object_words h k
-other_object h g i v k e = get_or-set_other h.globals g k (set (object_words h g) i v) [] e
-
-stored_size : (h : World) (g i v k : ℕ) → i < length (object_words h g) → length (object_words (with_element h g i v) k) ≡ length (object_words h k)
-stored_size h g i v k lt =
-    elim (eqb_tells k g) [ inl t ↦ ap length (same_object h g i v k lt t.1) ∙ length-set (object_words h g) i v ∙ ap (λ n. length (object_words h n)) (sym t.1) | inr t ↦ ap length (other_object h g i v k t.1) ]
-
-set_sizes : (gs : List (List ℕ)) (g i v : ℕ) → map (λ (ws : List ℕ). length ws) (set gs g (set (get_or gs g []) i v)) ≡ map (λ (ws : List ℕ). length ws) gs
-set_sizes [] g i v = refl
-set_sizes (x ∷ xs) zero i v = ap (λ n. n ∷ map (λ (ws : List ℕ). length ws) xs) (length-set x i v)
-set_sizes (x ∷ xs) (suc g) i v = ap (λ ns. length x ∷ ns) (set_sizes xs g i v)
-
-stored_sizes : (h : World) (g i v : ℕ) → map (λ (ws : List ℕ). length ws) (with_element h g i v).globals ≡ map (λ (ws : List ℕ). length ws) h.globals
-stored_sizes h g i v = set_sizes h.globals g i v
-
-stored_word : (x : Site) (l : Locations) (h : World) (s : State) (g i v k j : ℕ) → i < length (object_words h g) → Within x l h s → j < size_in x k → with_word s.memory (x.layout.base g + 4 * i) v (x.layout.base k + 4 * j) ≡ get_or (object_words (with_element h g i v) k) j 0
-stored_word x l h s g i v k j lt w lj =
-    let y = x.layout in
-    let at = y.base g + 4 * i in
-    let long : length (object_words h g) ≡ size_in x g = long_of x.meaning.objects h w.shares.sizes g in
-    elim (eqb_tells k g) [
-      | inl t ↦
-          elim (eqb_tells j i) [
-            | inl u ↦
-                (let e : y.base k + 4 * j ≡ at = ap (λ n. y.base n + 4 * j) t.1 ∙ ap (λ n. y.base g + 4 * n) u.1 in
-                ap (with_word s.memory at v) e ∙ word_same s.memory at v ∙ sym (ap (λ n. get_or (object_words (with_element h g i v) k) n 0) u.1 ∙ ap (λ ws. get_or ws i 0) (same_object h g i v k lt t.1) ∙ get_or-set_same (object_words h g) i v 0 lt))
-            | inr u ↦
-                (let e : y.base k + 4 * j ≡ y.base g + 4 * j = ap (λ n. y.base n + 4 * j) t.1 in
-                let lg : j < size_in x g = subst (λ n. j < size_in x n) t.1 lj in
-                ap (with_word s.memory at v) e ∙ word_other s.memory at v (y.base g + 4 * j) (λ q. u.1 (omega arith)) ∙ w.shares.globals g j lg ∙ sym (ap (λ ws. get_or ws j 0) (same_object h g i v k lt t.1) ∙ get_or-set_other (object_words h g) i j v 0 u.1))
-          ]
-      | inr t ↦
-          (word_other s.memory at v (y.base k + 4 * j) (λ q. elim (y.apart g k (λ e. t.1 (sym e))) [ inl b ↦ omega arith | inr b ↦ omega arith ]) ∙ w.shares.globals k j lj ∙ sym (ap (λ ws. get_or ws j 0) (other_object h g i v k t.1)))
-    ]
-
-pub within_store : (x : Site) (l : Locations) (h : World) (s : State) (p g i v : ℕ) → i < length (object_words h g) → v < 2 ^ 32 → Within x l h s → Within x l (with_element h g i v) (record s { pc = p; memory = with_word s.memory (x.layout.base g + 4 * i) v })
-within_store x l h s p g i v lt b w =
-    let y = x.layout in
-    let at = y.base g + 4 * i in
+-- an element is stored
+pub within_store : (x : Site) (l : Locations) (h : World) (s : State) (p : ℕ) (width : Width) (g i v old : ℕ) → IsElement h width g i old → v < 2 ^ 32 → Within x l h s
+    → Within x l (with_element h g i (kept width v)) (record s { pc = p; memory = stored (store_of width) s.memory (element_place width (x.layout.base g) i) v })
+within_store x l h s p width g i v old is b w =
+    let at = element_place width (x.layout.base g) i in
     let stack = w.stack in
     let from = low_stack x l h s w in
-    let long : length (object_words h g) ≡ size_in x g = long_of x.meaning.objects h w.shares.sizes g in
-    let to = y.to g in
+    let below = (placed x h s width g i old w.shares is).below in
+    let new = stored (store_of width) s.memory at v in
     record {
-      sound = record { zero = w.sound.zero; registers = w.sound.registers; memory = word_word s.memory at v b w.sound.memory; input = w.sound.input };
+      sound = record { zero = w.sound.zero; registers = w.sound.registers; memory = stored_words width s.memory at v b w.sound.memory; input = w.sound.input };
       same = w.same;
-      slots = λ j lj. w.slots j lj ∙ sym (word_other s.memory at v (s.registers 2 + 4 * j) (λ q. omega arith));
-      shares = record { sizes = stored_sizes h g i v ∙ w.shares.sizes; globals = λ k j lj. stored_word x l h s g i v k j lt w lj; input = w.shares.input; output = w.shares.output };
+      slots = λ j lj. w.slots j lj ∙ sym (words_behind width s.memory at v (s.registers 2 + 4 * j) (omega arith));
+      shares = record { sizes = stored_sizes h g i (kept width v) ∙ w.shares.sizes; globals = λ k j lj. stored_element x h s width g i v old w.shares is k j lj; input = w.shares.input; output = w.shares.output };
       stack = w.stack;
-      saved = saved_moved x.frame.saved _ x.from.registers s.memory (with_word s.memory at v) (λ c lo hi. word_other s.memory at v c (λ q. omega arith)) w.saved;
+      saved = saved_moved x.frame.saved _ x.from.registers s.memory new (λ c lo hi. words_behind width s.memory at v c (omega arith)) w.saved;
       kept = w.kept;
-      above = λ c le. word_other s.memory at v c (λ q. omega arith) ∙ w.above c le;
+      above = λ c le. words_behind width s.memory at v c (omega arith) ∙ w.above c le;
     }
 
 -- a word of the input is taken

@@ -4,23 +4,58 @@ use Rattle.cc_rv32.specs.declared.instr.Instr.{Instr}
 use Rattle.cc_rv32.specs.declared.instr.Instr.TheVariants.{Jal}
 use Rattle.cc_emit.specs.declared.item.Item.{Item}
 use Rattle.cc_emit.specs.declared.item.Item.TheVariants.{Plain, Call, Go}
-use Rattle.cc_rv32.specs.Machine.{State, Continues, executed, globals_from, globals_to, stack_from, stack_to}
+use Rattle.cc_rv32.specs.declared.instr.LoadOperation.{LoadOperation}
+use Rattle.cc_rv32.specs.declared.instr.LoadOperation.TheVariants.{Lbu, Lw}
+use Rattle.cc_rv32.specs.declared.instr.StoreOperation.{StoreOperation}
+use Rattle.cc_rv32.specs.declared.instr.StoreOperation.TheVariants.{Sb, Sw}
+use Rattle.cc_words.specs.declared.operators.Width.{Width}
+use Rattle.cc_words.specs.declared.operators.Width.TheVariants.{Byte, Word}
+use Rattle.cc_words.specs.Widths.{bytes, words_of}
+use Rattle.cc_rv32.specs.Machine.{State, Continues, executed, loaded, globals_from, globals_to, stack_from, stack_to}
 use Rattle.cc_rv32.specs.Table.{IsEncodable}
 use Rattle.cc_runs.specs.Behavior.{AreWords}
-use Rattle.cc_runs.specs.World.{World, Answer, Effect, Gives, Unfinished, Failed, object_words}
+use Rattle.cc_runs.specs.World.{Size, World, Answer, Effect, Gives, Unfinished, Failed, size_of, size_in, object_words}
 use Rattle.cc_runs.specs.Meaning.{Meaning, IsCall}
 
 -- what stands at each address
 abbrev pub Code : Type 0
 Code = ℕ → Option Instr
 
--- where each object lies, by its number
-pub record Layout (objects : List ℕ) : Type 0 where
+-- ---- objects in the machine's memory
+
+-- the instruction that loads an element, and the one that stores it
+abbrev pub load_of : Width → LoadOperation
+load_of Byte = Lbu
+load_of Word = Lw
+
+abbrev pub store_of : Width → StoreOperation
+store_of Byte = Sb
+store_of Word = Sw
+
+-- where an element lies in an object that begins at an address
+abbrev pub element_place : Width → (base index : ℕ) → ℕ
+element_place width base index = base + bytes width * index
+
+-- how many words an object takes
+abbrev pub size_words : Size → ℕ
+size_words s = words_of s.width s.elements
+
+abbrev pub words_in : (objects : List Size) → (number : ℕ) → ℕ
+words_in objects g = size_words (size_in objects g)
+
+-- where each object lies, by its number: at a multiple of 4, and no word belongs to two of them
+pub record Layout (objects : List Size) : Type 0 where
   pub base : ℕ → ℕ
   pub from : (g : ℕ) → globals_from ≤ base g
-  pub to : (g : ℕ) → base g + 4 * get_or objects g 0 ≤ globals_to
+  pub to : (g : ℕ) → base g + 4 * words_in objects g ≤ globals_to
   pub aligned : (g : ℕ) → base g % 4 ≡ 0
-  pub apart : (g k : ℕ) → (g ≡ k → ⊥) → (base g + 4 * get_or objects g 0 ≤ base k) ⊎ (base k + 4 * get_or objects k 0 ≤ base g)
+  pub apart : (g k : ℕ) → (g ≡ k → ⊥) → (base g + 4 * words_in objects g ≤ base k) ⊎ (base k + 4 * words_in objects k ≤ base g)
+
+-- what the machine loads of an element of an object of this size
+abbrev pub element_at : Size → (memory : ℕ → ℕ) → (base index : ℕ) → ℕ
+element_at s memory base index = loaded (load_of s.width) memory (element_place s.width base index)
+
+-- ---- code
 
 -- in m instructions the machine comes from s to t
 abbrev pub Path : Code → ℕ → State → State → Type 0
@@ -46,9 +81,9 @@ pub record IsSound (s : State) : Type 0 where
   pub input : AreWords s.input
 
 -- the machine's state has what the functions share
-pub record Shares {objects : List ℕ} (layout : Layout objects) (s : State) (h : World) : Type 0 where
-  pub sizes : map (λ (ws : List ℕ). length ws) h.globals ≡ objects
-  pub globals : (g i : ℕ) → i < get_or objects g 0 → s.memory (layout.base g + 4 * i) ≡ get_or (object_words h g) i 0
+pub record Shares {objects : List Size} (layout : Layout objects) (s : State) (h : World) : Type 0 where
+  pub sizes : map size_of h.globals ≡ objects
+  pub globals : (g i : ℕ) → i < (size_in objects g).elements → element_at (size_in objects g) s.memory (layout.base g) i ≡ get_or (object_words h g) i 0
   pub input : s.input ≡ h.input
   pub output : s.output ≡ h.output
 
@@ -81,7 +116,7 @@ pub record Enters (meaning : Meaning) (layout : Layout meaning.objects) (f opene
   pub shares : Shares layout s h
 
 -- the machine behind the return
-pub record ComesBack {objects : List ℕ} (layout : Layout objects) (s : State) (a : Answer) (t : State) : Type 0 where
+pub record ComesBack {objects : List Size} (layout : Layout objects) (s : State) (a : Answer) (t : State) : Type 0 where
   pub at : t.pc ≡ s.registers 1
   pub sound : IsSound t
   pub value : t.registers 10 ≡ a.value
@@ -93,7 +128,7 @@ pub record ComesBack {objects : List ℕ} (layout : Layout objects) (s : State) 
 -- The machine from s does what the source does within n steps, of which `left` are left where it gives an answer. Of the steps taken each c
 -- are paid by one of the m instructions, but for `spare` steps, which are paid elsewhere. So at a greater n more instructions are executed, and
 -- a run that never ends is matched by one that never does.
-abbrev pub Meets : {objects : List ℕ} (layout : Layout objects) → Code → (c spare n : ℕ) → State → Effect → Type 0
+abbrev pub Meets : {objects : List Size} (layout : Layout objects) → Code → (c spare n : ℕ) → State → Effect → Type 0
 Meets layout code c spare n s (Gives a left) = (m : ℕ) × (t : State) × Path code m s t × ComesBack layout s a t × (n ≤ left + spare + c * m)
 Meets layout code c spare n s (Unfinished o) = (m : ℕ) × (t : State) × Path code m s t × (t.output ≡ o) × (n ≤ spare + c * m)
 Meets layout code c spare n s (Failed o) = Unit {0}

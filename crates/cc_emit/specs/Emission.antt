@@ -21,8 +21,8 @@ use Rattle.cc_rv32.specs.declared.instr.ImmediateOperation.{ImmediateOperation}
 use Rattle.cc_rv32.specs.declared.instr.ImmediateOperation.TheVariants.{Addi, Slti, Sltiu, Xori, Ori, Andi}
 use Rattle.cc_rv32.specs.declared.instr.ShiftOperation.{ShiftOperation}
 use Rattle.cc_rv32.specs.declared.instr.ShiftOperation.TheVariants.{Slli, Srli, Srai}
-use Rattle.cc_rv32.specs.declared.instr.LoadOperation.TheVariants.{Lw}
-use Rattle.cc_rv32.specs.declared.instr.StoreOperation.TheVariants.{Sw}
+use Rattle.cc_words.specs.declared.operators.Width.{Width}
+use Rattle.cc_words.specs.declared.operators.Width.TheVariants.{Byte, Word}
 use Rattle.cc_rv32.specs.declared.instr.BranchOperation.{BranchOperation}
 use Rattle.cc_rv32.specs.declared.instr.BranchOperation.TheVariants.{Beq, Bne}
 use Rattle.cc_emit.specs.declared.item.Item.{Item}
@@ -37,6 +37,7 @@ use Rattle.cc_emit.specs.declared.step.Immediate.TheVariants as immediates
 use Rattle.cc_emit.specs.declared.step.Step.{Step}
 use Rattle.cc_emit.specs.declared.step.Step.TheVariants.{One, Immediate, LoadAt, StoreAt}
 use Rattle.cc_emit.specs.Objects.{object_address}
+use Rattle.cc_emit.specs.Contract.{load_of, store_of, element_place}
 use Rattle.cc_emit.specs.Frames.{Frame, frame_size, frame_of}
 use Rattle.cc_emit.specs.Steps.{steps}
 
@@ -46,12 +47,19 @@ use Rattle.cc_emit.specs.Steps.{steps}
 abbrev pub addi : (to from immediate : ℕ) → Item
 addi to from immediate = Plain (instr.OpImm Addi to from immediate)
 
--- the word at address + offset, loaded and stored
+-- an element at address + offset, loaded and stored
+abbrev pub load_element : Width → (to address offset : ℕ) → Item
+load_element width to address offset = Plain (instr.Load (load_of width) to address offset)
+
+abbrev pub store_element : Width → (address from offset : ℕ) → Item
+store_element width address from offset = Plain (instr.Store (store_of width) address from offset)
+
+-- a word
 abbrev pub load_word : (to address offset : ℕ) → Item
-load_word to address offset = Plain (instr.Load Lw to address offset)
+load_word to address offset = load_element Word to address offset
 
 abbrev pub store_word : (address from offset : ℕ) → Item
-store_word address from offset = Plain (instr.Store Sw address from offset)
+store_word address from offset = store_element Word address from offset
 
 -- the lower twelve bits of a word, which the machine extends with their sign, and what the upper twenty then have to be
 abbrev pub low : (word : ℕ) → ℕ
@@ -130,9 +138,15 @@ recipe_items (ZeroOf o) to a b = Plain (instr.Op o 5 a b) ∷ Plain (instr.OpImm
 recipe_items (ZeroOfExchanged o) to a b = Plain (instr.Op o 5 b a) ∷ Plain (instr.OpImm Sltiu to 5 1) ∷ []
 recipe_items (NonzeroOf o) to a b = Plain (instr.Op o 5 a b) ∷ Plain (instr.Op operation.Sltu to 0 5) ∷ []
 
--- before the access to an element: x5 becomes its address, less the lower part of its object's address
-abbrev pub indexed : (base index : ℕ) → List Item → List Item
-indexed base index items = Plain (instr.Shift Slli 5 index 2) ∷ Plain (instr.Lui 6 (high base)) ∷ Plain (instr.Op operation.Add 5 5 6) ∷ items
+-- before the access to an element: x5 becomes its address, less the lower part of its object's address, from how many bytes it lies behind
+-- the first one
+abbrev pub based : (base distance : ℕ) → List Item → List Item
+based base distance items = Plain (instr.Lui 6 (high base)) ∷ Plain (instr.Op operation.Add 5 distance 6) ∷ items
+
+-- from its number
+abbrev pub indexed : Width → (base index : ℕ) → List Item → List Item
+indexed Byte base index items = based base index items
+indexed Word base index items = Plain (instr.Shift Slli 5 index 2) ∷ based base 5 items
 
 -- a service of the machine
 abbrev pub service : (number : ℕ) → List Item
@@ -159,8 +173,8 @@ items_of_one base f near labels place (Copy m) = move_item m ∷ []
 items_of_one base f near labels place (Const to word) = const_items to word
 items_of_one base f near labels place (Unary operator to from) = Plain (unary_instr operator to from) ∷ []
 items_of_one base f near labels place (Binary operator to left right) = recipe_items (recipe operator) to left right
-items_of_one base f near labels place (Load object to index) = indexed (base object) index (load_word to 5 (low (base object)) ∷ [])
-items_of_one base f near labels place (Store object index from) = indexed (base object) index (store_word 5 from (low (base object)) ∷ [])
+items_of_one base f near labels place (Load width object to index) = indexed width (base object) index (load_element width to 5 (low (base object)) ∷ [])
+items_of_one base f near labels place (Store width object index from) = indexed width (base object) index (store_element width 5 from (low (base object)) ∷ [])
 items_of_one base f near labels place (Call function) = item.Call function ∷ []
 items_of_one base f near labels place Read = service 2
 items_of_one base f near labels place Write = service 1
@@ -203,14 +217,14 @@ word_recipe_items (ZeroOfImmediate o n) to a = Plain (instr.OpImm o 5 a n) ∷ P
 word_recipe_items (NonzeroOfImmediate o n) to a = Plain (instr.OpImm o 5 a n) ∷ Plain (instr.Op operation.Sltu to 0 5) ∷ []
 
 -- the address of an element whose number is known
-abbrev pub element_at : (base number : ℕ) → ℕ
-element_at base number = (base + 4 * number) % 2 ^ 32
+abbrev pub known_place : Width → (base number : ℕ) → ℕ
+known_place width base number = element_place width base number % 2 ^ 32
 
-abbrev pub load_at : (to address : ℕ) → List Item
-load_at to address = Plain (instr.Lui 5 (high address)) ∷ load_word to 5 (low address) ∷ []
+abbrev pub load_at : Width → (to address : ℕ) → List Item
+load_at width to address = Plain (instr.Lui 5 (high address)) ∷ load_element width to 5 (low address) ∷ []
 
-abbrev pub store_at : (from address : ℕ) → List Item
-store_at from address = Plain (instr.Lui 5 (high address)) ∷ store_word 5 from (low address) ∷ []
+abbrev pub store_at : Width → (from address : ℕ) → List Item
+store_at width from address = Plain (instr.Lui 5 (high address)) ∷ store_element width 5 from (low address) ∷ []
 
 -- the constant in its register, where the word that is loaded does not overwrite it
 abbrev pub kept_items : (to register word : ℕ) → List Item
@@ -220,8 +234,8 @@ kept_items to r w = if to == r then [] else const_items r w
 abbrev pub items_of : (base : ℕ → ℕ) → Frame → (near : ℕ → Bool) → (labels : ℕ → ℕ) → (place : ℕ) → Step → List Item
 items_of base f near labels place (One item) = items_of_one base f near labels place item
 items_of base f near labels place (Immediate operator to from word) = word_recipe_items (word_recipe operator word) to from
-items_of base f near labels place (LoadAt object to index word) = kept_items to index word ++ load_at to (element_at (base object) word)
-items_of base f near labels place (StoreAt object index word from) = const_items index word ++ store_at from (element_at (base object) word)
+items_of base f near labels place (LoadAt width object to index word) = kept_items to index word ++ load_at width to (known_place width (base object) word)
+items_of base f near labels place (StoreAt width object index word from) = const_items index word ++ store_at width from (known_place width (base object) word)
 
 -- ---- how many items that are
 
@@ -244,6 +258,11 @@ recipe_size (NonzeroOf o) = 2
 abbrev pub branch_size : (near : Bool) → ℕ
 branch_size near = if near then 1 else 2
 
+-- an access to an element whose number is in a register
+abbrev pub access_size : Width → ℕ
+access_size Byte = 3
+access_size Word = 4
+
 abbrev pub size_of_one : Frame → (near : ℕ → Bool) → linear.Item → ℕ
 size_of_one f near (Label label) = 0
 size_of_one f near (Jump to) = 1
@@ -253,8 +272,8 @@ size_of_one f near (Copy m) = 1
 size_of_one f near (Const to word) = const_size word
 size_of_one f near (Unary operator to from) = 1
 size_of_one f near (Binary operator to left right) = recipe_size (recipe operator)
-size_of_one f near (Load object to index) = 4
-size_of_one f near (Store object index from) = 4
+size_of_one f near (Load width object to index) = access_size width
+size_of_one f near (Store width object index from) = access_size width
 size_of_one f near (Call function) = 1
 size_of_one f near Read = 2
 size_of_one f near Write = 2
@@ -273,8 +292,8 @@ kept_size to r w = if to == r then 0 else const_size w
 abbrev pub size : Frame → (near : ℕ → Bool) → Step → ℕ
 size f near (One item) = size_of_one f near item
 size f near (Immediate operator to from word) = word_recipe_size (word_recipe operator word)
-size f near (LoadAt object to index word) = kept_size to index word + 2
-size f near (StoreAt object index word from) = const_size word + 2
+size f near (LoadAt width object to index word) = kept_size to index word + 2
+size f near (StoreAt width object index word from) = const_size word + 2
 
 -- with each branch in its long form
 abbrev pub long_size : Frame → Step → ℕ
@@ -324,4 +343,4 @@ function_items base slots items = framed_items base (frame_of slots items) (step
 
 -- the items that a pair's code becomes, with the objects of its unit in order
 abbrev pub pair_items : above.Pair → List Item
-pair_items p = function_items (object_address (objects_in (above.tree_of p))) p.slots p.code
+pair_items p = function_items (object_address (objects_in (above.tree_of p))) p.ltl.slots p.code

@@ -24,7 +24,7 @@ writes r (Copy m) = same_location (target m) (Register r)
 writes r (Const to word) = to == r
 writes r (Unary operator to from) = to == r
 writes r (Binary operator to left right) = to == r
-writes r (Load object to index) = to == r
+writes r (Load width object to index) = to == r
 writes r item = false
 
 abbrev pub is_written : List linear.Item → (register : ℕ) → Bool

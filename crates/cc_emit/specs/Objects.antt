@@ -1,18 +1,19 @@
--- Where objects lie: from the first address of the globals on, each right behind the one before it.
+-- Where objects lie: from the first address of the globals on, each at the first multiple of 4 behind the one before it.
 use Rattle.std.specs.Prelude.{◌≡◌, ℕ, zero, suc, ◌+◌, ◌*◌, List, [], ◌∷◌}
 use Rattle.cc_rv32.specs.Machine.{globals_from}
-use Rattle.cc_emit.specs.Contract.{Layout}
+use Rattle.cc_runs.specs.World.{Size}
+use Rattle.cc_emit.specs.Contract.{Layout, size_words}
 
--- the words of the objects before one of that number; each object has so many
-abbrev pub words_before : (objects : List ℕ) → (number : ℕ) → ℕ
+-- the words of the objects before one of that number
+abbrev pub words_before : (objects : List Size) → (number : ℕ) → ℕ
 words_before [] number = 0
-words_before (words ∷ objects) zero = 0
-words_before (words ∷ objects) (suc number) = words + words_before objects number
+words_before (o ∷ objects) zero = 0
+words_before (o ∷ objects) (suc number) = size_words o + words_before objects number
 
 -- the address of an object
-abbrev pub object_address : (objects : List ℕ) → (number : ℕ) → ℕ
+abbrev pub object_address : (objects : List Size) → (number : ℕ) → ℕ
 object_address objects number = globals_from + 4 * words_before objects number
 
 -- a layout that puts them there
-abbrev pub IsInOrder : {objects : List ℕ} → Layout objects → Type 0
+abbrev pub IsInOrder : {objects : List Size} → Layout objects → Type 0
 IsInOrder {objects} layout = (number : ℕ) → layout.base number ≡ object_address objects number

@@ -1,5 +1,5 @@
 -- What a piece keeps: the code of one function of a typed unit.
-use Rattle.std.specs.Prelude.{ℕ, ◌<◌, List, length}
+use Rattle.std.specs.Prelude.{ℕ, ◌<◌, ◌≤◌, List, length}
 use Rattle.cc_syntax.specs.Tree.{External}
 use Rattle.cc_syntax.specs.Source.{source}
 use Rattle.cc_syntax.specs.declared.unit.Unit as parsed
@@ -7,14 +7,17 @@ use Rattle.cc_typing.specs.Typed.{IsTyped}
 use Rattle.cc_meaning.specs.Meaning.{functions}
 use Rattle.cc_meaning.specs.Numbered.{IsMeaningOf}
 use Rattle.cc_runs.specs.Meaning.{Meaning}
+use Rattle.cc_ltl.specs.Ltl.{Ltl, IsLtl}
+use Rattle.cc_linear.specs.Pair.{most_blocks}
 use Rattle.cc_emit.specs.declared.item.Item.{Item}
 use Rattle.cc_emit.specs.Contract.{Layout, IsPiece}
 use Rattle.cc_emit.specs.Objects.{IsInOrder}
 
--- a piece as contracts see it: the unit, the function's number in the order of definitions, and the items of its code
+-- a piece as contracts see it: the unit, the function's number in the order of definitions, its LTL, and the items of its code
 pub record Piece : Type 0 where
   pub unit : parsed.Unit
   pub function : ℕ
+  pub ltl : Ltl
   pub items : List Item
 
 -- the unit's tree
@@ -29,4 +32,6 @@ AreOf unit f items = (meaning : Meaning) → IsMeaningOf unit meaning → (layou
 pub record IsPieceOfUnit (p : Piece) : Type 0 where
   pub typed : IsTyped (tree_of p)
   pub function : p.function < length (functions (tree_of p))
+  pub ltl : IsLtl p.ltl
+  pub few : length p.ltl.blocks ≤ most_blocks
   pub items : AreOf (tree_of p) p.function p.items

@@ -85,8 +85,8 @@ with_operation r w operator to left right =
 -- a constant in a register with what follows it
 abbrev pub with_constant : (register word : ℕ) → linear.Item → Option Step
 with_constant r w (Binary operator to left right) = with_operation r w operator to left right
-with_constant r w (Load object to index) = if index == r then Some (LoadAt object to r w) else None
-with_constant r w (Store object index from) = if index == r then Some (StoreAt object r w from) else None
+with_constant r w (Load width object to index) = if index == r then Some (LoadAt width object to r w) else None
+with_constant r w (Store width object index from) = if index == r then Some (StoreAt width object r w from) else None
 with_constant r w item = None
 
 -- two neighbours as one step, where they are one

@@ -5,7 +5,7 @@ ghost use Rattle.std.specs.List.{AllByRecursion};
 ghost use Rattle.cc_ltl.specs.Registers.{most_slots};
 ghost use Rattle.cc_linear.specs.Linear.{labels, IsItem};
 ghost use Rattle.cc_rv32.specs.Fields.{IsBranchOffset};
-ghost use Rattle.cc_emit.specs.Emission.{items_of_one, items_of, branch_items, move_item, indexed, element_at, load_at, store_at, service, distance, reaches, prologue, framed_items, function_items};
+ghost use Rattle.cc_emit.specs.Emission.{items_of_one, items_of, branch_items, move_item, based, indexed, known_place, load_at, store_at, service, distance, reaches, prologue, framed_items, function_items};
 ghost use Rattle.cc_emit.specs.declared.item.Item.TheVariants.{Plain};
 ghost use Rattle.cc_emit.specs.declared.step.Step.TheVariants.{One};
 ghost use Rattle.cc_emit.specs.internal.Bases.{base_in};
@@ -16,7 +16,7 @@ use crate::constants::{put_constant, put_kept};
 use crate::frame::Frame;
 use crate::instructions::{
     OTHER_SCRATCH, SCRATCH, SERVICE, STACK, ZERO, add_immediate, branch, four_times, high, load,
-    load_upper, low, operate, put, put_item, serve, store,
+    load_element, load_upper, low, operate, put, put_item, serve, store, store_element,
 };
 use crate::item::Item;
 use crate::operators::{put_binary, put_immediate, unary};
@@ -25,6 +25,7 @@ use crate::tables::{Places, label_count, long_size};
 use cc_linear::Item as LinearItem;
 use cc_ltl::Move;
 use cc_rv32::instr::{BranchOperation, Instr, Operation};
+use cc_words::Width;
 use std::alloc::{AllocError, Global};
 
 /// The machine's service that writes a word.
@@ -43,43 +44,76 @@ fn move_word(between: Move) -> Instr
     }
 }
 
-// Puts an access to an element: x5 becomes its address, less the lower part of its object's address.
-fn put_indexed(items: &mut Vec<Item>, base: u32, index: u8, access: Instr) -> Result<(), AllocError>
-    requires { index < 32 }
-    ensures { OnOk result (items.new.items ≡ items.old.items ++ indexed base index (Plain access ∷ [])) }
+// Puts an access to an element that lies so many bytes behind the first: x5 becomes its address, less the lower part of its object's
+// address.
+fn put_based(
+    items: &mut Vec<Item>,
+    base: u32,
+    distance: u8,
+    access: Instr,
+) -> Result<(), AllocError>
+    requires { distance < 32 }
+    ensures { OnOk result (items.new.items ≡ items.old.items ++ based base distance (Plain access ∷ [])) }
 {
-    put(items, four_times(SCRATCH, index))?;
     put(items, load_upper(OTHER_SCRATCH, high(base)))?;
     put(
         items,
-        operate(Operation::Add, SCRATCH, SCRATCH, OTHER_SCRATCH),
+        operate(Operation::Add, SCRATCH, distance, OTHER_SCRATCH),
     )?;
     put(items, access)
 }
 
-// The address of an element whose number is known.
-fn element_at(base: u32, number: u32) -> u32
-    ensures { result ≡ element_at base number }
+// Puts an access to an element of that number.
+fn put_indexed(
+    items: &mut Vec<Item>,
+    width: Width,
+    base: u32,
+    index: u8,
+    access: Instr,
+) -> Result<(), AllocError>
+    requires { index < 32 }
+    ensures { OnOk result (items.new.items ≡ items.old.items ++ indexed width base index (Plain access ∷ [])) }
 {
-    base.wrapping_add(number.wrapping_mul(4))
+    match width {
+        Width::Byte => put_based(items, base, index, access),
+        Width::Word => {
+            put(items, four_times(SCRATCH, index))?;
+            put_based(items, base, SCRATCH, access)
+        }
+    }
+}
+
+// The address of an element whose number is known.
+fn known_place(width: Width, base: u32, number: u32) -> u32
+    ensures { result ≡ known_place width base number }
+{
+    match width {
+        Width::Byte => base.wrapping_add(number),
+        Width::Word => base.wrapping_add(number.wrapping_mul(4)),
+    }
 }
 
 // Puts a load from an address.
-fn put_load_at(items: &mut Vec<Item>, to: u8, address: u32) -> Result<(), AllocError>
+fn put_load_at(items: &mut Vec<Item>, width: Width, to: u8, address: u32) -> Result<(), AllocError>
     requires { to < 32 }
-    ensures { OnOk result (items.new.items ≡ items.old.items ++ load_at to address) }
+    ensures { OnOk result (items.new.items ≡ items.old.items ++ load_at width to address) }
 {
     put(items, load_upper(SCRATCH, high(address)))?;
-    put(items, load(to, SCRATCH, low(address)))
+    put(items, load_element(width, to, SCRATCH, low(address)))
 }
 
 // Puts a store to an address.
-fn put_store_at(items: &mut Vec<Item>, from: u8, address: u32) -> Result<(), AllocError>
+fn put_store_at(
+    items: &mut Vec<Item>,
+    width: Width,
+    from: u8,
+    address: u32,
+) -> Result<(), AllocError>
     requires { from < 32 }
-    ensures { OnOk result (items.new.items ≡ items.old.items ++ store_at from address) }
+    ensures { OnOk result (items.new.items ≡ items.old.items ++ store_at width from address) }
 {
     put(items, load_upper(SCRATCH, high(address)))?;
-    put(items, store(SCRATCH, from, low(address)))
+    put(items, store_element(width, SCRATCH, from, low(address)))
 }
 
 // Puts a call of one of the machine's services.
@@ -170,16 +204,23 @@ fn put_items_of_one(
             left,
             right,
         } => put_binary(items, operator, to.number(), left.number(), right.number()),
-        LinearItem::Load { object, to, index } => {
+        LinearItem::Load {
+            width,
+            object,
+            to,
+            index,
+        } => {
             let base = bases.of(object);
             put_indexed(
                 items,
+                width,
                 base,
                 index.number(),
-                load(to.number(), SCRATCH, low(base)),
+                load_element(width, to.number(), SCRATCH, low(base)),
             )
         }
         LinearItem::Store {
+            width,
             object,
             index,
             from,
@@ -187,9 +228,10 @@ fn put_items_of_one(
             let base = bases.of(object);
             put_indexed(
                 items,
+                width,
                 base,
                 index.number(),
-                store(SCRATCH, from.number(), low(base)),
+                store_element(width, SCRATCH, from.number(), low(base)),
             )
         }
         LinearItem::Call { function } => put_item(items, Item::Call(function)),
@@ -222,22 +264,34 @@ fn put_items_of(
             word,
         } => put_immediate(items, operator, to.number(), from.number(), word),
         Step::LoadAt {
+            width,
             object,
             to,
             index,
             word,
         } => {
             put_kept(items, to, index, word)?;
-            put_load_at(items, to.number(), element_at(bases.of(object), word))
+            put_load_at(
+                items,
+                width,
+                to.number(),
+                known_place(width, bases.of(object), word),
+            )
         }
         Step::StoreAt {
+            width,
             object,
             index,
             word,
             from,
         } => {
             put_constant(items, index.number(), word)?;
-            put_store_at(items, from.number(), element_at(bases.of(object), word))
+            put_store_at(
+                items,
+                width,
+                from.number(),
+                known_place(width, bases.of(object), word),
+            )
         }
     }
 }

@@ -8,6 +8,7 @@ ghost use Rattle.cc_rv32.specs.declared.instr.ShiftOperation.TheVariants.{Slli};
 ghost use Rattle.cc_rv32.specs.declared.instr.LoadOperation.TheVariants.{Lw};
 ghost use Rattle.cc_rv32.specs.declared.instr.StoreOperation.TheVariants.{Sw};
 ghost use Rattle.cc_emit.specs.declared.item.Item.TheVariants.{Plain};
+ghost use Rattle.cc_emit.specs.Contract.{load_of, store_of};
 ghost use Rattle.cc_emit.specs.Emission.{low, high};
 
 use crate::item::Item;
@@ -16,6 +17,7 @@ use cc_rv32::instr::{
     StoreOperation,
 };
 use cc_rv32::operand::{BranchOffset, Immediate, Register, ShiftCount, UpperImmediate};
+use cc_words::Width;
 use std::alloc::AllocError;
 
 /// `x0`, which holds 0.
@@ -116,6 +118,24 @@ pub(crate) fn four_times(to: u8, from: u8) -> Instr
     shift(ShiftOperation::Slli, to, from, 2)
 }
 
+/// The element at a register plus an offset.
+pub(crate) fn load_element(width: Width, to: u8, at: u8, offset: u32) -> Instr
+    requires to { to < 32 }
+    requires at { at < 32 }
+    requires offset { IsImmediate offset }
+    ensures { result ≡ Load (load_of width) to at offset }
+{
+    Instr::Load {
+        operation: match width {
+            Width::Byte => LoadOperation::Lbu,
+            Width::Word => LoadOperation::Lw,
+        },
+        rd: Register::new(to),
+        rs1: Register::new(at),
+        offset: Immediate::new(offset),
+    }
+}
+
 /// The word at a register plus an offset.
 pub(crate) fn load(to: u8, at: u8, offset: u32) -> Instr
     requires to { to < 32 }
@@ -123,10 +143,23 @@ pub(crate) fn load(to: u8, at: u8, offset: u32) -> Instr
     requires offset { IsImmediate offset }
     ensures { result ≡ Load Lw to at offset }
 {
-    Instr::Load {
-        operation: LoadOperation::Lw,
-        rd: Register::new(to),
+    load_element(Width::Word, to, at, offset)
+}
+
+/// An element written at a register plus an offset.
+pub(crate) fn store_element(width: Width, at: u8, from: u8, offset: u32) -> Instr
+    requires at { at < 32 }
+    requires from { from < 32 }
+    requires offset { IsImmediate offset }
+    ensures { result ≡ Store (store_of width) at from offset }
+{
+    Instr::Store {
+        operation: match width {
+            Width::Byte => StoreOperation::Sb,
+            Width::Word => StoreOperation::Sw,
+        },
         rs1: Register::new(at),
+        rs2: Register::new(from),
         offset: Immediate::new(offset),
     }
 }
@@ -138,12 +171,7 @@ pub(crate) fn store(at: u8, from: u8, offset: u32) -> Instr
     requires offset { IsImmediate offset }
     ensures { result ≡ Store Sw at from offset }
 {
-    Instr::Store {
-        operation: StoreOperation::Sw,
-        rs1: Register::new(at),
-        rs2: Register::new(from),
-        offset: Immediate::new(offset),
-    }
+    store_element(Width::Word, at, from, offset)
 }
 
 /// A branch where a register compares so to 0.

@@ -1,21 +1,26 @@
 //! The code of one function of a unit, with the fact that the machine does with it what the function does.
 
-ghost use Rattle.std.specs.Prelude.{◌≡◌, ◌<◌, length};
+ghost use Rattle.std.specs.Prelude.{◌≡◌, ◌<◌, ◌≤◌, length};
 ghost use Rattle.std.specs.Arc.{arc_value};
 ghost use Rattle.cc_meaning.specs.Meaning.{functions};
+ghost use Rattle.cc_ltl.specs.Ltl.{IsLtl};
+ghost use Rattle.cc_linear.specs.Pair.{most_blocks};
 ghost use Rattle.cc_emit.specs.Piece.{Piece as Shown, tree_of, IsPieceOfUnit};
 
 use crate::item::Item;
+use cc_ltl::Ltl;
 use cc_typing::TypedUnit;
 use std::marker::Model;
 use std::sync::Arc;
 
-/// The code of one function of a typed unit. Contracts see the unit, the function's number and the items; that the machine does with
-/// them what the function does, wherever they stand, belongs to the type, so nobody holds a piece of which it is not true.
+/// The code of one function of a typed unit, and the LTL that it was made of. Contracts see the unit, the function's number, the LTL and
+/// the items; that the machine does with the items what the function does, wherever they stand, belongs to the type, so nobody holds a
+/// piece of which it is not true.
 #[derive(Drop)]
 pub struct Piece {
     unit: Arc<TypedUnit>,
     function: usize,
+    ltl: Ltl,
     items: Vec<Item>,
 }
 
@@ -29,20 +34,21 @@ impl Model for Piece {
 
     ghost coded = { Prim.hlevel (codes, parsed.the_row.coded) };
 
-    ghost view = { λ p. record { unit = arc_value p.unit; function = p.function; items = p.items.items } };
+    ghost view = { λ p. record { unit = arc_value p.unit; function = p.function; ltl = p.ltl; items = p.items.items } };
 
-    ghost invariant = { λ p. IsPieceOfUnit (record { unit = arc_value p.unit; function = p.function; items = p.items.items }) };
+    ghost invariant = { λ p. IsPieceOfUnit (record { unit = arc_value p.unit; function = p.function; ltl = p.ltl; items = p.items.items }) };
 }
 
 impl Piece {
     // The one place where a piece is made.
-    pub(crate) fn new(unit: Arc<TypedUnit>, function: usize, items: Vec<Item>) -> Piece
-        requires { IsPieceOfUnit (record { unit = arc_value unit; function = function; items = items.items }) }
-        ensures { result ≡ record { unit = arc_value unit; function = function; items = items.items } }
+    pub(crate) fn new(unit: Arc<TypedUnit>, function: usize, ltl: Ltl, items: Vec<Item>) -> Piece
+        requires { IsPieceOfUnit (record { unit = arc_value unit; function = function; ltl = ltl; items = items.items }) }
+        ensures { result ≡ record { unit = arc_value unit; function = function; ltl = ltl; items = items.items } }
     {
         Piece {
             unit,
             function,
+            ltl,
             items,
         }
     }
@@ -62,6 +68,15 @@ impl Piece {
         self.function
     }
 
+    /// The LTL that its code was made of: at most 4,096 blocks.
+    pub fn ltl(&self) -> &Ltl
+        ensures ltl { result.now ≡ self.now.ltl }
+        ensures is_ltl { IsLtl self.now.ltl }
+        ensures few { length self.now.ltl.blocks ≤ most_blocks }
+    {
+        &self.ltl
+    }
+
     /// The items of its code, one for each word. Each call is of a function of the unit, and each jump goes to an item of the piece or
     /// to its end. Wherever they stand, the machine does with them what the function does.
     pub fn items(&self) -> &[Item]
@@ -78,8 +93,10 @@ impl Piece {
         let Piece {
             unit,
             function: _,
+            ltl,
             items,
         } = self;
+        drop(ltl);
         drop(items);
         unit
     }

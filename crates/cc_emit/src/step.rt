@@ -7,7 +7,7 @@ ghost use Rattle.cc_emit.specs.internal.First.{joined_first};
 
 use cc_linear::Item as LinearItem;
 use cc_ltl::Register;
-use cc_words::{Binary, add, sub};
+use cc_words::{Binary, Width, add, sub};
 use std::alloc::{AllocError, Global};
 
 /// The operators on a register and a word that take fewer instructions than with the word in a register.
@@ -49,6 +49,7 @@ pub(crate) enum Step {
     },
     /// A word into a register, and a load of the element of that number.
     LoadAt {
+        width: Width,
         object: u32,
         to: Register,
         index: Register,
@@ -56,6 +57,7 @@ pub(crate) enum Step {
     },
     /// A word into a register, and a store into the element of that number.
     StoreAt {
+        width: Width,
         object: u32,
         index: Register,
         word: u32,
@@ -177,19 +179,25 @@ fn with_constant(register: Register, word: u32, second: LinearItem) -> Option<St
             left,
             right,
         } => with_operation(register, word, operator, to, left, right),
-        LinearItem::Load { object, to, index } if index.number() == constant => {
-            Some(Step::LoadAt {
-                object,
-                to,
-                index,
-                word,
-            })
-        }
+        LinearItem::Load {
+            width,
+            object,
+            to,
+            index,
+        } if index.number() == constant => Some(Step::LoadAt {
+            width,
+            object,
+            to,
+            index,
+            word,
+        }),
         LinearItem::Store {
+            width,
             object,
             index,
             from,
         } if index.number() == constant => Some(Step::StoreAt {
+            width,
             object,
             index,
             word,

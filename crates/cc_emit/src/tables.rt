@@ -7,7 +7,7 @@ ghost use Rattle.std.specs.List.{AllByRecursion};
 ghost use Rattle.cc_linear.specs.declared.item.Item.{Item};
 ghost use Rattle.cc_emit.specs.declared.step.Step.TheVariants.{One};
 ghost use Rattle.cc_linear.specs.Linear.{labels};
-ghost use Rattle.cc_emit.specs.Emission.{size_of_one, kept_size, size, long_size, reaches};
+ghost use Rattle.cc_emit.specs.Emission.{access_size, size_of_one, kept_size, size, long_size, reaches};
 ghost use Rattle.cc_emit.specs.internal.Behind.{near_behind, behind, label_of, IsTable, ArePlaces, place_from};
 
 use crate::constants::{constant_size, kept_size};
@@ -15,6 +15,7 @@ use crate::frame::Frame;
 use crate::recipe::{Recipe, WordRecipe};
 use crate::step::Step;
 use cc_linear::Item as LinearItem;
+use cc_words::Width;
 use std::alloc::{AllocError, Global};
 
 /// Where the labels of a function stand, by how many items come from there on: with each branch long, and with each as long as it is;
@@ -117,6 +118,17 @@ fn is_near(first: &[usize], here: usize, label: u32) -> bool
     }
 }
 
+// How many items an access to an element takes whose number is in a register.
+fn access_size(width: Width) -> usize
+    ensures answer { result ≡ access_size width }
+    ensures few { result ≤ 4 }
+{
+    match width {
+        Width::Byte => 3,
+        Width::Word => 4,
+    }
+}
+
 // How many items an item of Linear takes where each branch is long: at most 15.
 fn long_size_of_one(frame: &Frame, item: &LinearItem) -> usize
     ensures answer { result ≡ size_of_one frame.now (λ label. false) item.now }
@@ -134,7 +146,7 @@ fn long_size_of_one(frame: &Frame, item: &LinearItem) -> usize
         | LinearItem::Write => 2,
         LinearItem::Const { word, .. } => constant_size(*word),
         LinearItem::Binary { operator, .. } => Recipe::of(*operator).size(),
-        LinearItem::Load { .. } | LinearItem::Store { .. } => 4,
+        LinearItem::Load { width, .. } | LinearItem::Store { width, .. } => access_size(*width),
         LinearItem::Return => frame.saved().len() + frame.moves() + 1,
     }
 }

@@ -101,9 +101,17 @@ impl<D: Disk> Log<D> {
         self.closed
     }
 
-    // Whether a record with a body of so many bytes would be taken now: 36 where the log is closed, then 34 where it does not
-    // fit.
-    pub(crate) fn takes(&self, count: usize) -> Result<(), JournalFault>
+    /// The size of an area in bytes. It takes no memory.
+    pub fn area(&self) -> usize
+        ensures area { result ≡ self.now.area }
+        ensures is_area { IsArea (D.size self.now.disk) self.now.area }
+    {
+        self.area
+    }
+
+    /// Whether a record with a body of so many bytes would be taken now: 36 where the log is closed, then 34 where it does
+    /// not fit. It takes no memory.
+    pub fn takes(&self, count: usize) -> Result<(), JournalFault>
         ensures answers { (body : List ℕ) (failures : ℕ) → length body ≡ count
             → AppendAnswers self.now.closed self.now.area self.now.bodies body failures failures result }
         ensures short { OnOk result (count < 2 ^ 30) }

@@ -1,6 +1,7 @@
 -- One Add per name stands for the map. How: from the map of the entries before them, the Adds of the next entries lead to the map
 -- of all; each is accepted, since a name of rising entries is not among those before it.
-use Rattle.std.proofs.Common.{◌≡◌, ℕ, List, [], ◌∷◌, ◌++◌, Bool, true, false, ◌&&◌, refl, sym, ap, subst, ◌∙◌, append_assoc, cond, Some, None}
+use Rattle.std.proofs.Common.{◌≡◌, ℕ, ◌+◌, ◌<◌, ◌≤◌, length, List, [], ◌∷◌, ◌++◌, Bool, true, false, ◌&&◌, refl, sym, ap, subst, ◌∙◌, append_assoc, length-append, cond, Some, None, arith}
+use Rattle.std.specs.Int.{w32, to_le_bytes}
 use Rattle.std.specs.Prelude.{T, IsOk, Ok, Err, if◌then◌else◌, is_some, Result}
 use Rattle.std.proofs.lemmas.List.{append-nil}
 use Rattle.std.specs.declared.cmp.Ordering.{Ordering}
@@ -9,13 +10,15 @@ use Rattle.std.specs.Ordering.{nat_cmp, is_lt, is_eq, eq_by_cmp, ordering_revers
 use Rattle.std.specs.Cmp.Lexicographic.{slice_cmp, nat_list_cmp_total}
 use Rattle.std.specs.FinMap as map
 use Rattle.std.specs.FinMap.Entries.{find, is_sorted, below_all}
+use Rattle.cc_journal.specs.Format.{record_bytes, records, room_of}
 use Rattle.cc_unit.specs.declared.unit.StoredUnit.{StoredUnit}
 use Rattle.cc_library.specs.declared.command.Command.{Command}
 use Rattle.cc_library.specs.declared.command.Command.TheVariants.{Add}
 use Rattle.cc_library.specs.Apply.{Units, apply, after, after_all, kept, exists, AreAccepted}
-use Rattle.cc_library.specs.Body.{Spells}
+use Rattle.cc_library.specs.Body.{Spells, body_of}
 use Rattle.cc_library.specs.Recovered.{AreSpelled, StandFor}
-use Rattle.cc_library.specs.Compact.{adds, adds_of, bodies_of}
+use Rattle.cc_library.specs.Compact.{adds, adds_of, bodies_of, compacted}
+use Rattle.cc_library.proofs.Commands.{add_is_written}
 
 abbrev R : List ℕ → List ℕ → Ordering
 R = slice_cmp nat_cmp
@@ -30,6 +33,10 @@ first false b p = absurd p
 second : (a b : Bool) → T (a && b) → T b
 second true b p = p
 second false b p = absurd p
+
+-- a record takes five bytes beside its body
+pub record_long : (body : List ℕ) → length (record_bytes body) ≡ length body + 5
+record_long body = omega (arith, length-append (to_le_bytes w32 (length body)) body)
 
 less : (o : Ordering) → T (is_lt o) → o ≡ Less
 less Less p = refl
@@ -81,15 +88,37 @@ adds_stand units bodies spelled =
     let all = leads [] (map.entries units) (map.entries_sorted units) in
     record { commands = adds_of units; spelled = spelled; accepted = all.0; map_is = whole units ∙ sym all.1 }
 
--- they are the bodies of these commands
-pub spelled_bodies : (bodies : List (List ℕ)) (commands : List Command) → AreSpelled bodies commands → bodies ≡ bodies_of commands
+-- they are the bodies of these Adds, as they are written
+pub spelled_bodies : (bodies : List (List ℕ)) (es : List Entry) → AreSpelled bodies (adds es) → bodies ≡ bodies_of (adds es)
 spelled_bodies [] [] spelled = refl
-spelled_bodies [] (command ∷ commands) spelled = absurd spelled
+spelled_bodies [] (e ∷ es) spelled = absurd spelled
 spelled_bodies (body ∷ bodies) [] spelled = absurd spelled
-spelled_bodies (body ∷ bodies) (command ∷ commands) spelled =
-    let here = spelled.0.spelled in
-    let there = spelled_bodies bodies commands spelled.1 in
+spelled_bodies (body ∷ bodies) (e ∷ es) spelled =
+    let here = add_is_written body e.0 e.1 spelled.0 in
+    let there = spelled_bodies bodies es spelled.1 in
     λ i. here i ∷ there i
+
+pub spelled_compacted : (bodies : List (List ℕ)) (units : Units) → AreSpelled bodies (adds_of units) → bodies ≡ compacted units
+spelled_compacted bodies units spelled = spelled_bodies bodies (map.entries units) spelled
+
+-- ---- their room
+
+-- of some entries and one more
+pub room_push : (es : List Entry) (e : Entry) → room_of (bodies_of (adds (es ++ e ∷ []))) ≡ room_of (bodies_of (adds es)) + (length (body_of (Add e.0 e.1)) + 5)
+room_push [] e = omega (arith, length-append (record_bytes (body_of (Add e.0 e.1))) [], record_long (body_of (Add e.0 e.1)))
+room_push (f ∷ es) e =
+    omega (arith, room_push es e, length-append (record_bytes (body_of (Add f.0 f.1))) (records (bodies_of (adds (es ++ e ∷ [])))), length-append (record_bytes (body_of (Add f.0 f.1))) (records (bodies_of (adds es))))
+
+-- some entries take no more than all
+pub room_front : (front rest : List Entry) → room_of (bodies_of (adds front)) ≤ room_of (bodies_of (adds (front ++ rest)))
+room_front [] rest = omega arith
+room_front (f ∷ front) rest =
+    omega (arith, room_front front rest, length-append (record_bytes (body_of (Add f.0 f.1))) (records (bodies_of (adds (front ++ rest)))), length-append (record_bytes (body_of (Add f.0 f.1))) (records (bodies_of (adds front))))
+
+-- nor does one
+pub room_one : (front rest : List Entry) (e : Entry) → length (body_of (Add e.0 e.1)) < room_of (bodies_of (adds (front ++ e ∷ rest)))
+room_one [] rest e = omega (arith, length-append (record_bytes (body_of (Add e.0 e.1))) (records (bodies_of (adds rest))), record_long (body_of (Add e.0 e.1)))
+room_one (f ∷ front) rest e = omega (arith, room_one front rest e, length-append (record_bytes (body_of (Add f.0 f.1))) (records (bodies_of (adds (front ++ e ∷ rest)))))
 
 -- one more
 pub spelled_push : (bodies : List (List ℕ)) (es : List Entry) (body : List ℕ) (e : Entry) → AreSpelled bodies (adds es) → Spells body (Add e.0 e.1) → AreSpelled (bodies ++ body ∷ []) (adds (es ++ e ∷ []))

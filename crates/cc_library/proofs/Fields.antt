@@ -1,6 +1,6 @@
 -- A field that is read is the field that was written, and what was written is read again: for each kind of field, from
 -- its two halves, up to the unit.
-use Rattle.std.proofs.Common.{◌≡◌, ℕ, zero, suc, ◌^◌, ◌<◌, ◌≤◌, Bool, true, false, ◌&&◌, cond, ltb, List, [], ◌∷◌, ◌++◌, length, get_or, take, drop, Option, Some, None, refl, sym, ap, subst, ◌∙◌, append_assoc, arith}
+use Rattle.std.proofs.Common.{◌≡◌, ℕ, zero, suc, ◌^◌, ◌<◌, ◌≤◌, Bool, true, false, ◌&&◌, cond, ltb, eqb, List, [], ◌∷◌, ◌++◌, length, get_or, take, drop, Option, Some, None, refl, sym, ap, subst, ◌∙◌, append_assoc, arith}
 use Rattle.std.specs.Prelude.{IsTrue, nat_le}
 use Rattle.std.specs.List.{flat_map}
 use Rattle.std.specs.Int.{w32, from_le_bytes, to_le_bytes}
@@ -9,11 +9,10 @@ use Rattle.std.proofs.lemmas.List.{take_at, drop_at, take-append-drop, length-ap
 use Rattle.std.proofs.lemmas.List.Concat.{flat_map-cons}
 use Rattle.std.proofs.lemmas.Nat.{le_bytes_4, from_le_bytes-to_le_bytes_4}
 use Rattle.std.proofs.lemmas.Option.{none-some, same_Some}
-use Rattle.cc_unit.specs.declared.unit.Certificate.{Certificate}
 use Rattle.cc_unit.specs.declared.unit.StoredUnit.{StoredUnit}
 use Rattle.cc_library.specs.Name.{is_name}
-use Rattle.cc_library.specs.Body.{AreBelow, IsUnit, bytes_field, words_field, name_field, unit_fields}
-use Rattle.cc_library.specs.internal.Reading.{◌>>=◌, taken, number_in, words_in, words_field_in, source_in, name_in, unit_in}
+use Rattle.cc_library.specs.Body.{AreBelow, IsCertificate, IsUnit, bytes_field, certificate_part, words_field, name_field, unit_fields}
+use Rattle.cc_library.specs.internal.Reading.{◌>>=◌, taken, number_in, words_in, words_field_in, source_in, name_in, certificate_in, unit_in}
 
 -- ---- tools
 
@@ -225,43 +224,92 @@ name_again name rest is = rw (taken_again name rest, is) refl
 pub name_fields : IsField name_in name_field (λ name. IsTrue (is_name name))
 name_fields = record { takes = name_takes; again = name_again }
 
+-- ---- a certificate
+
+-- it stands in version 2, and in no other
+abbrev pub StandsIn : (version : ℕ) → Option (List ℕ) → Type 0
+StandsIn version None = eqb version 2 ≡ false
+StandsIn version (Some certificate) = eqb version 2 ≡ true
+
+-- reading it, where the version is known to be 2 or not to be
+abbrev certificate_by : (two : Bool) → List ℕ → Option (Option (List ℕ) × List ℕ)
+certificate_by two bytes = cond two (number_in bytes >>= λ n. taken n.0 n.1 >>= λ found. Some (Some found.0, found.1)) (Some (None, bytes))
+
+certificate_by_takes : (version : ℕ) (two : Bool) (bytes : List ℕ) (certificate : Option (List ℕ)) (rest : List ℕ) → eqb version 2 ≡ two → AreBelow 256 bytes → certificate_by two bytes ≡ Some (certificate, rest)
+    → Takes bytes (certificate_part certificate) rest × IsCertificate certificate × StandsIn version certificate
+certificate_by_takes version true bytes certificate rest is below e =
+    let a = bind_some (number_in bytes) (λ n. taken n.0 n.1 >>= λ found. Some (Some found.0, found.1)) (certificate, rest) e in
+    let b = bind_some (taken a.0.0 a.0.1) (λ found. Some (Some found.0, found.1)) (certificate, rest) a.2 in
+    let n = number_takes bytes a.0.0 a.0.1 below a.1 in
+    let w = taken_takes a.0.0 a.0.1 b.0.0 b.0.1 n.0.below b.1 in
+    let both = Takes-then bytes (to_le_bytes w32 a.0.0) a.0.1 b.0.0 b.0.1 n.0 w.0 in
+    let whole : Takes bytes (bytes_field b.0.0) b.0.1 = subst (λ (k : ℕ). Takes bytes (to_le_bytes w32 k ++ b.0.0) b.0.1) (sym w.1) both in
+    let few : length b.0.0 < 2 ^ 32 = omega (arith, w.1, n.1) in
+    let made : Option (List ℕ) × List ℕ = (Some b.0.0, b.0.1) in
+    subst (λ (p : Option (List ℕ) × List ℕ). Takes bytes (certificate_part p.0) p.1 × IsCertificate p.0 × StandsIn version p.0) (same_Some made (certificate, rest) b.2) (whole, (few, w.2), is)
+certificate_by_takes version false bytes certificate rest is below e =
+    let made : Option (List ℕ) × List ℕ = (None, bytes) in
+    subst (λ (p : Option (List ℕ) × List ℕ). Takes bytes (certificate_part p.0) p.1 × IsCertificate p.0 × StandsIn version p.0) (same_Some made (certificate, rest) e) (record { parts = refl; below = below }, tt, is)
+
+certificate_takes : (version : ℕ) (bytes : List ℕ) (certificate : Option (List ℕ)) (rest : List ℕ) → AreBelow 256 bytes → certificate_in version bytes ≡ Some (certificate, rest)
+    → Takes bytes (certificate_part certificate) rest × IsCertificate certificate × StandsIn version certificate
+unfolding certificate_in
+certificate_takes version bytes certificate rest below e = certificate_by_takes version (eqb version 2) bytes certificate rest refl below e
+
+certificate_again : (version : ℕ) (certificate : Option (List ℕ)) (rest : List ℕ) → IsCertificate certificate → StandsIn version certificate
+    → certificate_in version (certificate_part certificate ++ rest) ≡ Some (certificate, rest)
+unfolding certificate_in
+certificate_again version None rest is stands = ap (λ (two : Bool). certificate_by two rest) stands
+certificate_again version (Some certificate) rest is stands =
+    let regrouped : bytes_field certificate ++ rest ≡ to_le_bytes w32 (length certificate) ++ (certificate ++ rest) = append_assoc (to_le_bytes w32 (length certificate)) certificate rest in
+    ap (λ (two : Bool). certificate_by two (bytes_field certificate ++ rest)) stands
+    ∙ ap (certificate_by true) regrouped ∙ rw (number_again (length certificate) (certificate ++ rest) is.0, taken_again certificate rest) refl
+
 -- ---- a unit
 
--- there is no certificate
-no_certificate : (certificate : Option Certificate) → certificate ≡ None
-no_certificate None = refl
-no_certificate (Some certificate) = elim certificate [ ]
+-- what a unit of a body of this version is
+abbrev pub IsUnitIn : (version : ℕ) → StoredUnit → Type 0
+IsUnitIn version unit = IsUnit unit × StandsIn version unit.certificate
 
-unit_takes : (bytes : List ℕ) (unit : StoredUnit) (rest : List ℕ) → AreBelow 256 bytes → unit_in bytes ≡ Some (unit, rest) → Takes bytes (unit_fields unit) rest × IsUnit unit
+unit_takes : (version : ℕ) (bytes : List ℕ) (unit : StoredUnit) (rest : List ℕ) → AreBelow 256 bytes → unit_in version bytes ≡ Some (unit, rest) → Takes bytes (unit_fields unit) rest × IsUnitIn version unit
 unfolding unit_in
-unit_takes bytes unit rest below e =
+unit_takes version bytes unit rest below e =
     let code_part = words_fields 1 131072 (omega arith) in
     let globals_part = words_fields 0 65536 (omega arith) in
-    let a = bind_some (source_in bytes) (λ source. words_field_in 1 131072 source.1 >>= λ code. words_field_in 0 65536 code.1 >>= λ globals. Some (record { source = source.0; image = record { code = code.0; globals = globals.0 }; certificate = None }, globals.1)) (unit, rest) e in
-    let b = bind_some (words_field_in 1 131072 a.0.1) (λ code. words_field_in 0 65536 code.1 >>= λ globals. Some (record { source = a.0.0; image = record { code = code.0; globals = globals.0 }; certificate = None }, globals.1)) (unit, rest) a.2 in
-    let c = bind_some (words_field_in 0 65536 b.0.1) (λ globals. Some (record { source = a.0.0; image = record { code = b.0.0; globals = globals.0 }; certificate = None }, globals.1)) (unit, rest) b.2 in
+    let a = bind_some (source_in bytes) (λ source. words_field_in 1 131072 source.1 >>= λ code. words_field_in 0 65536 code.1 >>= λ globals. certificate_in version globals.1 >>= λ certificate. Some (record { source = source.0; image = record { code = code.0; globals = globals.0 }; certificate = certificate.0 }, certificate.1)) (unit, rest) e in
+    let b = bind_some (words_field_in 1 131072 a.0.1) (λ code. words_field_in 0 65536 code.1 >>= λ globals. certificate_in version globals.1 >>= λ certificate. Some (record { source = a.0.0; image = record { code = code.0; globals = globals.0 }; certificate = certificate.0 }, certificate.1)) (unit, rest) a.2 in
+    let c = bind_some (words_field_in 0 65536 b.0.1) (λ globals. certificate_in version globals.1 >>= λ certificate. Some (record { source = a.0.0; image = record { code = b.0.0; globals = globals.0 }; certificate = certificate.0 }, certificate.1)) (unit, rest) b.2 in
+    let d = bind_some (certificate_in version c.0.1) (λ certificate. Some (record { source = a.0.0; image = record { code = b.0.0; globals = c.0.0 }; certificate = certificate.0 }, certificate.1)) (unit, rest) c.2 in
     let s = source_takes bytes a.0.0 a.0.1 below a.1 in
     let k = code_part.takes a.0.1 b.0.0 b.0.1 s.0.below b.1 in
     let g = globals_part.takes b.0.1 c.0.0 c.0.1 k.0.below c.1 in
-    let later = Takes-then a.0.1 (words_field b.0.0) b.0.1 (words_field c.0.0) c.0.1 k.0 g.0 in
-    let all = Takes-then bytes (bytes_field a.0.0) a.0.1 (words_field b.0.0 ++ words_field c.0.0) c.0.1 s.0 later in
-    let made : StoredUnit × List ℕ = (record { source = a.0.0; image = record { code = b.0.0; globals = c.0.0 }; certificate = None }, c.0.1) in
-    let is : IsUnit made.0 = record { source = s.1.few; bytes = s.1.below; some = k.1.some; code = k.1.few; code_words = k.1.below; globals = g.1.few; global_words = g.1.below } in
-    subst (λ (p : StoredUnit × List ℕ). Takes bytes (unit_fields p.0) p.1 × IsUnit p.0) (same_Some made (unit, rest) c.2) (all, is)
+    let h = certificate_takes version c.0.1 d.0.0 d.0.1 g.0.below d.1 in
+    let last = Takes-then b.0.1 (words_field c.0.0) c.0.1 (certificate_part d.0.0) d.0.1 g.0 h.0 in
+    let later = Takes-then a.0.1 (words_field b.0.0) b.0.1 (words_field c.0.0 ++ certificate_part d.0.0) d.0.1 k.0 last in
+    let all = Takes-then bytes (bytes_field a.0.0) a.0.1 (words_field b.0.0 ++ (words_field c.0.0 ++ certificate_part d.0.0)) d.0.1 s.0 later in
+    let made : StoredUnit × List ℕ = (record { source = a.0.0; image = record { code = b.0.0; globals = c.0.0 }; certificate = d.0.0 }, d.0.1) in
+    let is : IsUnit made.0 = record { source = s.1.few; bytes = s.1.below; some = k.1.some; code = k.1.few; code_words = k.1.below; globals = g.1.few; global_words = g.1.below; certificate = h.1 } in
+    subst (λ (p : StoredUnit × List ℕ). Takes bytes (unit_fields p.0) p.1 × IsUnitIn version p.0) (same_Some made (unit, rest) d.2) (all, (is, h.2))
 
-unit_again : (unit : StoredUnit) (rest : List ℕ) → IsUnit unit → unit_in (unit_fields unit ++ rest) ≡ Some (unit, rest)
+unit_again : (version : ℕ) (unit : StoredUnit) (rest : List ℕ) → IsUnitIn version unit → unit_in version (unit_fields unit ++ rest) ≡ Some (unit, rest)
 unfolding unit_in
-unit_again unit rest is =
+unit_again version unit rest both =
+    let is = both.0 in
     let source = unit.source in
     let code = unit.image.code in
     let globals = unit.image.globals in
+    let certificate = certificate_part unit.certificate in
     let code_part = words_fields 1 131072 (omega arith) in
     let globals_part = words_fields 0 65536 (omega arith) in
-    let regrouped : unit_fields unit ++ rest ≡ bytes_field source ++ (words_field code ++ (words_field globals ++ rest)) = append_assoc (bytes_field source) (words_field code ++ words_field globals) rest ∙ ap (λ (x : List ℕ). bytes_field source ++ x) (append_assoc (words_field code) (words_field globals) rest) in
-    let s = source_again source (words_field code ++ (words_field globals ++ rest)) (record { few = is.source; below = is.bytes }) in
-    let k = code_part.again code (words_field globals ++ rest) (record { some = is.some; few = is.code; below = is.code_words }) in
-    let g = globals_part.again globals rest (record { some = omega arith; few = is.globals; below = is.global_words }) in
-    ap unit_in regrouped ∙ rw (s, k, g) (ap (λ (certificate : Option Certificate). Some (record unit { certificate = certificate }, rest)) (sym (no_certificate unit.certificate)))
+    let regrouped : unit_fields unit ++ rest ≡ bytes_field source ++ (words_field code ++ (words_field globals ++ (certificate ++ rest))) =
+    append_assoc (bytes_field source) (words_field code ++ (words_field globals ++ certificate)) rest
+    ∙ ap (λ (x : List ℕ). bytes_field source ++ x) (append_assoc (words_field code) (words_field globals ++ certificate) rest)
+    ∙ ap (λ (x : List ℕ). bytes_field source ++ (words_field code ++ x)) (append_assoc (words_field globals) certificate rest) in
+    let s = source_again source (words_field code ++ (words_field globals ++ (certificate ++ rest))) (record { few = is.source; below = is.bytes }) in
+    let k = code_part.again code (words_field globals ++ (certificate ++ rest)) (record { some = is.some; few = is.code; below = is.code_words }) in
+    let g = globals_part.again globals (certificate ++ rest) (record { some = omega arith; few = is.globals; below = is.global_words }) in
+    let h = certificate_again version unit.certificate rest is.certificate both.1 in
+    ap (unit_in version) regrouped ∙ rw (s, k, g, h) refl
 
-pub unit_field : IsField unit_in unit_fields IsUnit
-unit_field = record { takes = unit_takes; again = unit_again }
+pub unit_field : (version : ℕ) → IsField (unit_in version) unit_fields (IsUnitIn version)
+unit_field version = record { takes = unit_takes version; again = unit_again version }

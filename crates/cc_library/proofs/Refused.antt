@@ -1,10 +1,10 @@
 -- A change that was refused: without a device call every image recovers to the old map still; and what a change leaves that
 -- the journal refused, and whether the library is closed then.
-use Rattle.std.proofs.Common.{◌≡◌, ◌≢◌, ℕ, ◌<◌, ◌≤◌, List, [], ◌∷◌, ◌++◌, Bool, true, false, IsTrue, sym, ap, subst, ◌∙◌, refl}
-use Rattle.std.specs.Prelude.{Err}
+use Rattle.std.proofs.Common.{◌≡◌, ◌≢◌, ℕ, ◌<◌, ◌≤◌, List, [], ◌∷◌, ◌++◌, Bool, true, false, IsTrue, sym, ap, subst, ◌∙◌, refl, arith}
+use Rattle.std.specs.Prelude.{Err, IsOk}
 use Rattle.cc_disk.specs.Images.{LeavesOnly}
 use Rattle.cc_journal.specs.Format.{HoldsAlone, room_of}
-use Rattle.cc_journal.specs.Answers.{CommitAnswers}
+use Rattle.cc_journal.specs.Answers.{AppendAnswers, CommitAnswers}
 use denote.Enum.Bare.{sameb}
 use Rattle.cc_journal.specs.contracts.fault.JournalFault.{the_type}
 use Rattle.cc_journal.specs.declared.fault.JournalFault.{JournalFault}
@@ -12,12 +12,12 @@ use Rattle.cc_journal.specs.declared.fault.JournalFault.TheVariants as journal
 use Rattle.cc_journal.specs.Journal as journals
 use Rattle.cc_library.specs.declared.command.Command.{Command}
 use Rattle.cc_library.specs.Fault.{fault_of}
-use Rattle.cc_library.specs.Apply.{Units, after}
+use Rattle.cc_library.specs.Apply.{Units, after, apply}
 use Rattle.cc_library.specs.Body.{body_of}
 use Rattle.cc_library.specs.Recovered.{StandFor, RecoversAlone, View}
 use Rattle.cc_library.specs.internal.Steps.{IsOldOrNew}
 use Rattle.cc_library.specs.Compact.{compacted}
-use Rattle.cc_library.specs.Answers.{ChangeLeaves, CompactAnswers}
+use Rattle.cc_library.specs.Answers.{ChangeAnswers, ChangeLeaves, ChangesDisk, CompactAnswers}
 use Rattle.cc_library.proofs.Standing.{quiet, no_call, holds_recovers}
 
 module _ {D : Type 0} where
@@ -97,3 +97,32 @@ module _ {D : Type 0} where
   compact_refused journal.OutOfMemory j units closed bodies before behind is same answers = (same ∙ answers.0, answers.2)
   compact_refused journal.Damaged j units closed bodies before behind is same answers = absurd answers
   compact_refused journal.NotALibrary j units closed bodies before behind is same answers = absurd answers
+
+  -- where the log would not take a record, the change is refused as it says, and nothing is done
+  pub change_refused : (fault : JournalFault) (j : journals.View D) (units : Units) (closed : Bool) (command : Command) (failures : ℕ) → closed ≡ j.closed → IsOk (apply units command)
+      → AppendAnswers {T = Unit {0}} j.closed j.area j.bodies (body_of command) failures failures (Err fault) → ChangeAnswers {T = Unit {0}} (seen_as j units closed) command failures failures (Err (fault_of fault))
+  change_refused journal.Full j units closed command failures same ok answers = ((same ∙ answers.0, ok), answers.1, answers.2)
+  change_refused journal.DiskFault j units closed command failures same ok answers = ((same ∙ answers.0, ok), answers.1, answers.2)
+  change_refused journal.Closed j units closed command failures same ok answers = (same ∙ answers.0, answers.1)
+  change_refused journal.OutOfMemory j units closed command failures same ok answers = ((same ∙ answers.0, ok), answers.2)
+  change_refused journal.Damaged j units closed command failures same ok answers = absurd answers
+  change_refused journal.NotALibrary j units closed command failures same ok answers = absurd answers
+
+  -- it leaves all as it was: no device has failed
+  pub change_leaves : (fault : JournalFault) (closed : Bool) (area : ℕ) (bodies : List (List ℕ)) (body : List ℕ) (old : View D) (command : Command)
+      → AppendAnswers {T = Unit {0}} closed area bodies body 0 0 (Err fault) → ChangeLeaves {T = Unit {0}} command old old (Err (fault_of fault))
+  change_leaves journal.Full closed area bodies body old command answers = refl
+  change_leaves journal.DiskFault closed area bodies body old command answers = absurd (omega (arith, answers.2))
+  change_leaves journal.Closed closed area bodies body old command answers = refl
+  change_leaves journal.OutOfMemory closed area bodies body old command answers = refl
+  change_leaves journal.Damaged closed area bodies body old command answers = refl
+  change_leaves journal.NotALibrary closed area bodies body old command answers = refl
+
+  pub change_writes_nothing : (seen : D → List ℕ) (may_leave : D → List ℕ → Type 0) (fault : JournalFault) (closed : Bool) (area : ℕ) (bodies : List (List ℕ)) (body : List ℕ) (old : View D) (command : Command)
+      → AppendAnswers {T = Unit {0}} closed area bodies body 0 0 (Err fault) → ChangesDisk {T = Unit {0}} seen may_leave command old old (Err (fault_of fault))
+  change_writes_nothing seen may_leave journal.Full closed area bodies body old command answers = tt
+  change_writes_nothing seen may_leave journal.DiskFault closed area bodies body old command answers = absurd (omega (arith, answers.2))
+  change_writes_nothing seen may_leave journal.Closed closed area bodies body old command answers = tt
+  change_writes_nothing seen may_leave journal.OutOfMemory closed area bodies body old command answers = tt
+  change_writes_nothing seen may_leave journal.Damaged closed area bodies body old command answers = tt
+  change_writes_nothing seen may_leave journal.NotALibrary closed area bodies body old command answers = tt

@@ -11,10 +11,10 @@ use Rattle.cc_library.specs.declared.fault.LibraryFault.TheVariants.{Exists, Abs
 use Rattle.cc_library.specs.Apply.{Units, apply, after, after_all, AreAccepted}
 use Rattle.cc_library.specs.Answers.{ReplayFaults}
 use Rattle.cc_library.specs.internal.Steps.{ReplaysBody}
-use Rattle.cc_library.specs.Body.{Spells, body_of}
+use Rattle.cc_library.specs.Body.{IsCommand, Spells, body_of}
 use Rattle.cc_library.specs.Recovered.{AreSpelled, LeadTo, StandFor, RecoversAlone, RecoversOneOf}
 use Rattle.cc_library.specs.internal.Steps.{IsOldOrNew}
-use Rattle.cc_library.proofs.Commands.{one_command}
+use Rattle.cc_library.proofs.Commands.{one_command, spells_as_written}
 
 -- one record leads from a map to the next
 abbrev pub IsStep : Units → List ℕ → Units → Type 0
@@ -148,10 +148,11 @@ module _ {D : Type 0} (moment : D → ℕ) (left_since : D → ℕ → List ℕ 
       no_call (IsOldOrNew area bodies units made new) disk (λ image left. let h = kept image (only_now image left) in inl (h, holds_recovers image area bodies units h stand))
 
   -- during an `append`
-  pub appended : (old new : D) (area : ℕ) (bodies : List (List ℕ)) (body : List ℕ) (units : Units) (command : Command) → StandFor bodies units → Spells body command → IsOk (apply units command)
+  pub appended : (old new : D) (area : ℕ) (bodies : List (List ℕ)) (body : List ℕ) (units : Units) (command : Command) → StandFor bodies units → body ≡ body_of command → IsCommand command → IsOk (apply units command)
       → LeavesOnly moment left_since old new (HoldsOldOrNew area bodies body) → LeavesOnly moment left_since old new (IsOldOrNew area bodies units (bodies ++ body_of command ∷ []) (after units command))
-  appended old new area bodies body units command stand spelled ok run =
-      subst (λ (b : List ℕ). LeavesOnly moment left_since old new (IsOldOrNew area bodies units (bodies ++ b ∷ []) (after units command))) spelled.spelled
+  appended old new area bodies body units command stand is command_is ok run =
+      let spelled = spells_as_written body command is command_is in
+      subst (λ (b : List ℕ). LeavesOnly moment left_since old new (IsOldOrNew area bodies units (bodies ++ b ∷ []) (after units command))) is
       (weaker (HoldsOldOrNew area bodies body) (IsOldOrNew area bodies units (bodies ++ body ∷ []) (after units command)) old new
       (λ image holds. one_of image area bodies body units (after units command) stand (one_more bodies units body command stand spelled ok) holds) run)
 

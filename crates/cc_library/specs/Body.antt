@@ -1,5 +1,6 @@
--- A command as the body of a record, version 1. Numbers are little-endian.
-use Rattle.std.specs.Prelude.{ℕ, ◌≤◌, ◌<◌, ◌≡◌, ◌^◌, List, [], ◌∷◌, ◌++◌, length, Option, Some, None, IsTrue}
+-- A command as the body of a record, in two versions. Numbers are little-endian. Version 1 knows no certificate. In version 2 a
+-- unit ends with one. What is written has the version that its certificate asks for; of a Withdraw both versions are read.
+use Rattle.std.specs.Prelude.{ℕ, ◌≤◌, ◌<◌, ◌≡◌, ◌^◌, ◌⊎◌, List, [], ◌∷◌, ◌++◌, length, Option, Some, None, IsTrue}
 use Rattle.std.specs.List.{flat_map, AllByRecursion}
 use Rattle.std.specs.Int.{w32, to_le_bytes}
 use Rattle.cc_unit.specs.declared.unit.StoredUnit.{StoredUnit}
@@ -27,24 +28,59 @@ words_field words = to_le_bytes w32 (length words) ++ flat_map (to_le_bytes w32)
 abbrev pub name_field : List ℕ → List ℕ
 name_field name = length name ∷ name
 
--- the source, the code, the globals
+-- the certificate where there is one; one without a byte is still its length
+abbrev pub certificate_part : Option (List ℕ) → List ℕ
+certificate_part None = []
+certificate_part (Some certificate) = bytes_field certificate
+
+-- the source, the code, the globals, and the certificate where there is one
 abbrev pub unit_fields : StoredUnit → List ℕ
-unit_fields unit = bytes_field unit.source ++ (words_field unit.image.code ++ words_field unit.image.globals)
+unit_fields unit = bytes_field unit.source ++ (words_field unit.image.code ++ (words_field unit.image.globals ++ certificate_part unit.certificate))
 
 -- the unit where there is one
 abbrev pub unit_part : Option StoredUnit → List ℕ
 unit_part None = []
 unit_part (Some unit) = unit_fields unit
 
--- the version 1, the kind, the name, and the unit where there is one; nothing stands after
-abbrev pub body_bytes : Kind → List ℕ → Option StoredUnit → List ℕ
-body_bytes kind name unit = 1 ∷ (kind_number kind ∷ (name_field name ++ unit_part unit))
+-- the version that a certificate asks for
+abbrev pub certificate_version : Option (List ℕ) → ℕ
+certificate_version None = 1
+certificate_version (Some certificate) = 2
 
--- the one spelling of a command
+-- the version of a body with this unit, or without one, as it is written
+abbrev pub part_version : Option StoredUnit → ℕ
+part_version None = 2
+part_version (Some unit) = certificate_version unit.certificate
+
+-- the version, the kind, the name, and the unit where there is one; nothing stands after
+abbrev pub body_in : (version : ℕ) → Kind → List ℕ → Option StoredUnit → List ℕ
+body_in version kind name unit = version ∷ (kind_number kind ∷ (name_field name ++ unit_part unit))
+
+-- the same in the version that is written
+abbrev pub body_bytes : Kind → List ℕ → Option StoredUnit → List ℕ
+body_bytes kind name unit = body_in (part_version unit) kind name unit
+
+-- the one spelling of a command in a version
+abbrev pub spelling : (version : ℕ) → Command → List ℕ
+spelling version (Add name unit) = body_in version kind.Add name (Some unit)
+spelling version (Replace name unit) = body_in version kind.Replace name (Some unit)
+spelling version (Withdraw name) = body_in version kind.Withdraw name None
+
+-- the version in which a command is written
+abbrev pub written_version : Command → ℕ
+written_version (Add name unit) = certificate_version unit.certificate
+written_version (Replace name unit) = certificate_version unit.certificate
+written_version (Withdraw name) = 2
+
+-- the body of a command, as it is written
 abbrev pub body_of : Command → List ℕ
-body_of (Add name unit) = body_bytes kind.Add name (Some unit)
-body_of (Replace name unit) = body_bytes kind.Replace name (Some unit)
-body_of (Withdraw name) = body_bytes kind.Withdraw name None
+body_of command = spelling (written_version command) command
+
+-- a command can be spelled in this version: a unit in the one that its certificate asks for, a Withdraw in both
+abbrev pub HasVersion : (version : ℕ) → Command → Type 0
+HasVersion version (Add name unit) = version ≡ certificate_version unit.certificate
+HasVersion version (Replace name unit) = version ≡ certificate_version unit.certificate
+HasVersion version (Withdraw name) = (version ≡ 1) ⊎ (version ≡ 2)
 
 -- a unit stands exactly with Add and Replace
 abbrev pub HasUnit : Kind → Option StoredUnit → Type 0
@@ -59,7 +95,23 @@ HasUnit kind.Withdraw (Some unit) = ⊥
 abbrev pub AreBelow : ℕ → List ℕ → Type 0
 AreBelow limit numbers = AllByRecursion (λ n. n < limit) numbers
 
--- what a stored unit can be: a source of at most 65,536 bytes, 1 to 131,072 code words, at most 65,536 global words
+-- the length of the certificate, where there is one, has room in four bytes
+abbrev pub IsShort : Option (List ℕ) → Type 0
+IsShort None = Unit {0}
+IsShort (Some certificate) = length certificate < 2 ^ 32
+
+-- that of the unit's has, where there is a unit
+abbrev pub HasShort : Option StoredUnit → Type 0
+HasShort None = Unit {0}
+HasShort (Some unit) = IsShort unit.certificate
+
+-- what a certificate can be, where there is one: bytes, as many as a length of four bytes can tell
+abbrev pub IsCertificate : Option (List ℕ) → Type 0
+IsCertificate None = Unit {0}
+IsCertificate (Some certificate) = (length certificate < 2 ^ 32) × AreBelow (2 ^ 8) certificate
+
+-- what a stored unit can be: a source of at most 65,536 bytes, 1 to 131,072 code words, at most 65,536 global words, and a
+-- certificate, or none
 pub record IsUnit (unit : StoredUnit) : Type 0 where
   pub source : length unit.source ≤ 65536
   pub bytes : AreBelow (2 ^ 8) unit.source
@@ -68,6 +120,7 @@ pub record IsUnit (unit : StoredUnit) : Type 0 where
   pub code_words : AreBelow (2 ^ 32) unit.image.code
   pub globals : length unit.image.globals ≤ 65536
   pub global_words : AreBelow (2 ^ 32) unit.image.globals
+  pub certificate : IsCertificate unit.certificate
 
 -- the unit is one that can be, where there is one
 abbrev pub HoldsUnit : Option StoredUnit → Type 0
@@ -80,7 +133,9 @@ IsCommand (Add name unit) = IsTrue (is_name name) × IsUnit unit
 IsCommand (Replace name unit) = IsTrue (is_name name) × IsUnit unit
 IsCommand (Withdraw name) = IsTrue (is_name name)
 
--- these bytes are the body of this command
+-- these bytes are a body of this command, in a version that it can have
 pub record Spells (bytes : List ℕ) (command : Command) : Type 0 where
-  pub spelled : bytes ≡ body_of command
+  pub version : ℕ
+  pub has_version : HasVersion version command
+  pub spelled : bytes ≡ spelling version command
   pub command_is : IsCommand command

@@ -1,45 +1,67 @@
 // Writing a command as the body of a record.
-ghost use Rattle.std.specs.Prelude.{◌≡◌, ◌+◌, ◌*◌, ◌++◌, ◌<◌, ◌^◌, length, IfOk, IsTrue, OnOk};
+ghost use Rattle.std.specs.Prelude.{◌≡◌, ◌+◌, ◌*◌, ◌++◌, ◌<◌, ◌≤◌, ◌^◌, length, IfOk, IsTrue, OnOk};
 ghost use Rattle.std.specs.Int.{w32, to_le_bytes};
 ghost use Rattle.std.specs.List.{flat_map};
 ghost use Rattle.std.specs.Option.{option_map};
 ghost use Rattle.cc_library.specs.Name.{is_name};
-ghost use Rattle.cc_library.specs.Body.{HasUnit, HoldsUnit, IsUnit, Spells, body_bytes, body_of, unit_fields, unit_part, words_field};
+ghost use Rattle.cc_library.specs.Body.{AreBelow, HasShort, HasUnit, HoldsUnit, IsCertificate, IsCommand, IsShort, IsUnit, body_bytes, body_of, certificate_part, part_version, unit_fields, unit_part, words_field};
 
 use crate::command::{Command, Kind};
 use crate::name::Name;
 use cc_journal::{Body, CLOSED};
-use cc_unit::StoredUnit;
+use cc_unit::{Certificate, StoredUnit};
 use std::alloc::{AllocError, Global};
 
-/// The body of the record of a command of this kind, version 1: the byte 1; the kind's byte; the name's length as one
-/// byte, and the name; for Add and Replace the source's length, the source, the number of code words, these, the number
-/// of global words, and these, each number and word as four bytes, the lowest first.
+/// The body of the record of a command of this kind: the version, 1 for a unit without a certificate and else 2; the
+/// kind's byte; the name's length as one byte, and the name; for Add and Replace the source's length, the source, the
+/// number of code words, these, the number of global words, and these; and of a unit with a certificate its length, and
+/// the certificate. Each number and word is four bytes, the lowest first. A certificate has at most 4,294,967,295 bytes.
 pub fn command_body(
     alloc: Global,
     kind: Kind,
     name: &Name,
     unit: Option<&StoredUnit>,
 ) -> Result<Vec<u8>, AllocError>
-    requires { HasUnit kind (option_map (λ u. u.now) unit) }
+    requires unit { HasUnit kind (option_map (λ u. u.now) unit) }
+    requires short { HasShort (option_map (λ u. u.now) unit) }
     ensures spelled { IfOk result (λ body. body.items ≡ body_bytes kind name.now (option_map (λ u. u.now) unit.entry)) }
     // What is spelled keeps the limits of names and units.
     ensures name { OnOk result (IsTrue (is_name name.now)) }
     ensures unit { OnOk result (HoldsUnit (option_map (λ u. u.now) unit.entry)) }
 {
-    Ok(framed_body(alloc, kind, name, unit)?.into_vec())
+    let mut body = Vec::with_capacity(alloc, length_with(name.bytes(), unit))?;
+    put_command(&mut body, kind, name, unit)?;
+    Ok(body)
 }
 
-/// The body of the record of a command.
+/// How many bytes the body of the record of a command takes. It takes no memory.
+pub fn body_length(command: &Command) -> usize
+    ensures length { result ≡ length (body_of command.now) }
+    // Only a certificate can be longer than a body can tell.
+    ensures command { result < 2 ^ 32 → IsCommand command.now }
+{
+    match command {
+        Command::Add(name, unit) | Command::Replace(name, unit) => {
+            length_with(name.bytes(), Some(unit.stored()))
+        }
+        Command::Withdraw(name) => length_with(name.bytes(), None),
+    }
+}
+
+/// The body of the record of a command, where its length has room in four bytes.
 pub fn body_of_command(alloc: Global, command: &Command) -> Result<Vec<u8>, AllocError>
-    ensures { IfOk result (λ body. Spells body.items command.now) }
+    requires { length (body_of command.now) < 2 ^ 32 }
+    ensures written { IfOk result (λ body. body.items ≡ body_of command.now) }
+    ensures command { OnOk result (IsCommand command.now) }
 {
     Ok(framed_body_of_command(alloc, command)?.into_vec())
 }
 
 // The same as `body_of_command`, with what stands around the body in its record: it is written and kept without a copy.
 pub(crate) fn framed_body_of_command(alloc: Global, command: &Command) -> Result<Body, AllocError>
-    ensures { IfOk result (λ body. Spells body command.now) }
+    requires { length (body_of command.now) < 2 ^ 32 }
+    ensures written { IfOk result (λ body. body ≡ body_of command.now) }
+    ensures command { OnOk result (IsCommand command.now) }
 {
     match command {
         Command::Add(name, unit) => framed_body(alloc, Kind::Add, name, Some(unit.stored())),
@@ -60,12 +82,13 @@ pub(crate) fn framed_body(
     name: &Name,
     unit: Option<&StoredUnit>,
 ) -> Result<Body, AllocError>
-    requires { HasUnit kind (option_map (λ u. u.now) unit) }
+    requires unit { HasUnit kind (option_map (λ u. u.now) unit) }
+    requires short { length (body_bytes kind name.now (option_map (λ u. u.now) unit)) < 2 ^ 32 }
     ensures spelled { IfOk result (λ body. body ≡ body_bytes kind name.now (option_map (λ u. u.now) unit.entry)) }
     ensures name { OnOk result (IsTrue (is_name name.now)) }
     ensures unit { OnOk result (HoldsUnit (option_map (λ u. u.now) unit.entry)) }
 {
-    let length = body_length(name.bytes(), unit);
+    let length = length_with(name.bytes(), unit);
     // All the room is taken at once: for the body, its length in front of it, and the gate behind it.
     let mut bytes = Vec::with_capacity(alloc, length + 5)?;
     bytes.extend_from_slice(&(length as u32).to_le_bytes())?;
@@ -81,13 +104,14 @@ fn put_command(
     name: &Name,
     unit: Option<&StoredUnit>,
 ) -> Result<(), AllocError>
-    requires { HasUnit kind (option_map (λ u. u.now) unit) }
+    requires unit { HasUnit kind (option_map (λ u. u.now) unit) }
+    requires short { HasShort (option_map (λ u. u.now) unit) }
     ensures put { OnOk result (body.new.items ≡ body.old.items ++ body_bytes kind name.now (option_map (λ u. u.now) unit.entry)) }
     ensures name { OnOk result (IsTrue (is_name name.now)) }
     ensures unit { OnOk result (HoldsUnit (option_map (λ u. u.now) unit.entry)) }
 {
     let bytes = name.bytes();
-    body.extend_from_slice(&[1, kind.number(), bytes.len() as u8])?;
+    body.extend_from_slice(&[version_with(unit), kind.number(), bytes.len() as u8])?;
     body.extend_from_slice(bytes)?;
     if let Some(unit) = unit {
         put_unit(body, unit)?;
@@ -95,11 +119,25 @@ fn put_command(
     Ok(())
 }
 
+// The version in which a command with this unit, or without one, is written.
+fn version_with(unit: Option<&StoredUnit>) -> u8
+    ensures { result ≡ part_version (option_map (λ u. u.now) unit.entry) }
+{
+    match unit {
+        Some(unit) => match &unit.certificate {
+            Some(_) => 2,
+            None => 1,
+        },
+        None => 2,
+    }
+}
+
 // How many bytes the body of a command with this name takes.
-fn body_length(name: &[u8], unit: Option<&StoredUnit>) -> usize
+pub(crate) fn length_with(name: &[u8], unit: Option<&StoredUnit>) -> usize
     requires { length name.now < 256 }
     ensures length { result ≡ 3 + length name.now + length (unit_part (option_map (λ u. u.now) unit.entry)) }
-    ensures small { result + 5 < 2 ^ 32 }
+    ensures small { result < 2 ^ 63 + 2 ^ 21 }
+    ensures unit { result < 2 ^ 32 → HoldsUnit (option_map (λ u. u.now) unit.entry) }
 {
     match unit {
         Some(unit) => 3 + name.len() + unit_length(unit),
@@ -108,19 +146,55 @@ fn body_length(name: &[u8], unit: Option<&StoredUnit>) -> usize
 }
 
 // How many bytes the fields of a unit take.
-#[tactic(auto, using(crate::proofs::Sizes::unit_long))]
+#[tactic(auto, using(crate::proofs::Sizes::unit_parts))]
 fn unit_length(unit: &StoredUnit) -> usize
     ensures length { result ≡ length (unit_fields unit.now) }
-    ensures small { result < 2 ^ 20 }
+    ensures small { result < 2 ^ 63 + 2 ^ 20 }
+    ensures unit { result < 2 ^ 32 → IsUnit unit.now }
 {
-    let source = unit.source.bytes().len();
-    let code = unit.image.code.words().len();
-    let globals = unit.image.globals.words().len();
-    12 + source + 4 * code + 4 * globals
+    let source = unit.source.bytes();
+    let code = unit.image.code.words();
+    let globals = unit.image.globals.words();
+    let of_source = field_length(source);
+    let of_code = words_length(code);
+    let of_globals = words_length(globals);
+    let of_certificate = certificate_length(&unit.certificate);
+    of_source + of_code + of_globals + of_certificate
+}
+
+// How many bytes a certificate takes, where there is one.
+fn certificate_length(certificate: &Option<Certificate>) -> usize
+    ensures length { result ≡ length (certificate_part certificate.now) }
+    ensures small { result < 2 ^ 63 + 4 }
+    ensures certificate { result < 2 ^ 32 → IsCertificate certificate.now }
+{
+    match certificate {
+        Some(certificate) => field_length(certificate.bytes()),
+        None => 0,
+    }
+}
+
+// How many bytes a list of bytes takes with its length.
+fn field_length(bytes: &[u8]) -> usize
+    ensures length { result ≡ 4 + length bytes.now }
+    ensures small { result < 2 ^ 63 + 4 }
+    ensures bytes { AreBelow (2 ^ 8) bytes.now }
+{
+    4 + bytes.len()
+}
+
+// How many bytes a list of words takes with their count.
+fn words_length(words: &[u32]) -> usize
+    requires { length words.now ≤ 131072 }
+    ensures length { result ≡ 4 + 4 * length words.now }
+    ensures words { AreBelow (2 ^ 32) words.now }
+{
+    4 + 4 * words.len()
 }
 
 // Adds the fields of a unit.
 fn put_unit(body: &mut Vec<u8>, unit: &StoredUnit) -> Result<(), AllocError>
+    requires { IsShort unit.now.certificate }
     ensures put { OnOk result (body.new.items ≡ body.old.items ++ unit_fields unit.now) }
     ensures unit { OnOk result (IsUnit unit.now) }
 {
@@ -130,7 +204,22 @@ fn put_unit(body: &mut Vec<u8>, unit: &StoredUnit) -> Result<(), AllocError>
     let code = unit.image.code.words();
     put_words(body, code)?;
     let globals = unit.image.globals.words();
-    put_words(body, globals)
+    put_words(body, globals)?;
+    put_certificate(body, &unit.certificate)
+}
+
+// Adds how many bytes a certificate has, and the certificate, where there is one.
+fn put_certificate(body: &mut Vec<u8>, certificate: &Option<Certificate>) -> Result<(), AllocError>
+    requires { IsShort certificate.now }
+    ensures put { OnOk result (body.new.items ≡ body.old.items ++ certificate_part certificate.now) }
+    ensures certificate { OnOk result (IsCertificate certificate.now) }
+{
+    if let Some(certificate) = certificate {
+        let bytes = certificate.bytes();
+        body.extend_from_slice(&(bytes.len() as u32).to_le_bytes())?;
+        body.extend_from_slice(bytes)?;
+    }
+    Ok(())
 }
 
 // Adds how many words there are, and the words.

@@ -15,7 +15,7 @@ ghost use Rattle.cc_library.specs.Answers.{OpenFaults, ChangesDisk, CompactsDisk
 ghost use Rattle.cc_library.specs.Runs.{AreDone, AreEdited, EditAnswers, EditLeaves, HadNoRoom, IsEdited, IsRefused, RecoversAmong, Stopped, after_edit, records_after};
 ghost use Rattle.cc_library.specs.internal.Steps.{IsOldOrNew, IsMidEdit};
 
-use crate::body::framed_body_of_command;
+use crate::body::{body_length, framed_body_of_command};
 use crate::command::{Command, Edit};
 use crate::fault::LibraryFault;
 use crate::name::Name;
@@ -388,6 +388,10 @@ impl<D: Disk> Library<D> {
         if self.closed {
             return Err(LibraryFault::Closed);
         }
+        // No body is made before all of them have room: a length stands in four bytes of its record.
+        if !self.units.fits(self.log.area()) {
+            return Err(LibraryFault::Full);
+        }
         let bodies = self.units.bodies(alloc)?;
         match self.log.rewrite(alloc, bodies) {
             Ok(kept) => {
@@ -428,6 +432,11 @@ impl<D: Disk> Library<D> {
                 drop(command);
                 return Err(LibraryFault::Absent);
             }
+        }
+        // No body is made before it has room: its length stands in four bytes of its record.
+        if let Err(fault) = self.log.takes(body_length(&command)) {
+            drop(command);
+            return Err(LibraryFault::from(fault));
         }
         let body = framed_body_of_command(alloc, &command)?;
         self.units.begin(&command)?;

@@ -2,14 +2,14 @@
 ghost use Rattle.std.specs.Prelude.{◌≡◌, ◌≤◌, ◌*◌, List, ℕ, length, drop, IfOk};
 ghost use Rattle.cc_library.specs.declared.command.Command.{Command};
 ghost use Rattle.cc_library.specs.Body.{Spells};
-ghost use Rattle.cc_library.specs.internal.Reading.{byte_in, taken, number_in, words_in, words_field_in, source_in, name_in, unit_in, kind_in, command_in};
+ghost use Rattle.cc_library.specs.internal.Reading.{byte_in, taken, number_in, words_in, words_field_in, source_in, name_in, certificate_in, unit_in, kind_in, command_in};
 ghost use Rattle.cc_library.specs.Answers.{Gives};
 
 use crate::command::Command;
 use crate::name::Name;
 use crate::unit::SharedUnit;
 use cc_rv32::image::{Code, Globals, Image};
-use cc_unit::{Source, StoredUnit};
+use cc_unit::{Certificate, Source, StoredUnit};
 use std::alloc::{AllocError, AllocFailed, Global};
 use std::sync::Arc;
 
@@ -59,8 +59,8 @@ fn command_at(alloc: Global, bytes: &[u8]) -> Result<Command, ReadFault>
     let (version, rest) = byte_at(bytes)?;
     let (kind, rest) = byte_at(rest)?;
     let (name, rest) = name_at(rest)?;
-    let (command, rest) = kind_at(alloc, kind, name, rest)?;
-    if version == 1 && rest.is_empty() {
+    let (command, rest) = kind_at(alloc, version, kind, name, rest)?;
+    if (version == 1 || version == 2) && rest.is_empty() {
         Ok(command)
     } else {
         drop(command);
@@ -69,16 +69,22 @@ fn command_at(alloc: Global, bytes: &[u8]) -> Result<Command, ReadFault>
 }
 
 #[tactic(auto, unfolding(crate::specs::internal::Reading::kind_in))]
-fn kind_at(alloc: Global, kind: u8, name: Name, bytes: &[u8]) -> Result<(Command, &[u8]), ReadFault>
-    ensures { Gives (λ x. (x.0, x.1.now)) result (kind_in kind name bytes.now) }
+fn kind_at(
+    alloc: Global,
+    version: u8,
+    kind: u8,
+    name: Name,
+    bytes: &[u8],
+) -> Result<(Command, &[u8]), ReadFault>
+    ensures { Gives (λ x. (x.0, x.1.now)) result (kind_in version kind name bytes.now) }
 {
     match kind {
         1 => {
-            let (unit, rest) = unit_at(alloc, bytes)?;
+            let (unit, rest) = unit_at(alloc, version, bytes)?;
             Ok((Command::Add(name, unit), rest))
         }
         2 => {
-            let (unit, rest) = unit_at(alloc, bytes)?;
+            let (unit, rest) = unit_at(alloc, version, bytes)?;
             Ok((Command::Replace(name, unit), rest))
         }
         3 => Ok((Command::Withdraw(name), bytes)),
@@ -87,18 +93,37 @@ fn kind_at(alloc: Global, kind: u8, name: Name, bytes: &[u8]) -> Result<(Command
 }
 
 #[tactic(auto, unfolding(crate::specs::internal::Reading::unit_in))]
-fn unit_at(alloc: Global, bytes: &[u8]) -> Result<(SharedUnit, &[u8]), ReadFault>
-    ensures { Gives (λ x. (x.0, x.1.now)) result (unit_in bytes.now) }
+fn unit_at(alloc: Global, version: u8, bytes: &[u8]) -> Result<(SharedUnit, &[u8]), ReadFault>
+    ensures { Gives (λ x. (x.0, x.1.now)) result (unit_in version bytes.now) }
 {
     let (source, rest) = source_at(alloc, bytes)?;
     let (code, rest) = code_at(alloc, rest)?;
     let (globals, rest) = globals_at(alloc, rest)?;
+    let (certificate, rest) = certificate_at(alloc, version, rest)?;
     let unit = StoredUnit {
         source,
         image: Image { code, globals },
-        certificate: None,
+        certificate,
     };
     Ok((SharedUnit::new(Arc::new(alloc, unit)?), rest))
+}
+
+// The certificate of a unit, which stands in version 2 alone. Its bytes are not looked at.
+#[tactic(auto, unfolding(crate::specs::internal::Reading::certificate_in))]
+fn certificate_at(
+    alloc: Global,
+    version: u8,
+    bytes: &[u8],
+) -> Result<(Option<Certificate>, &[u8]), ReadFault>
+    ensures { Gives (λ x. (x.0, x.1.now)) result (certificate_in version bytes.now) }
+{
+    if version != 2 {
+        return Ok((None, bytes));
+    }
+    let (count, rest) = number_at(bytes)?;
+    let (front, rest) = bytes_at(count as usize, rest)?;
+    let bytes = Vec::from_slice(alloc, front)?;
+    Ok((Some(Certificate::new(bytes)), rest))
 }
 
 #[tactic(auto, unfolding(crate::specs::internal::Reading::source_in))]

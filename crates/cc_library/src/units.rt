@@ -1,16 +1,17 @@
 // The units by name.
-ghost use Rattle.std.specs.Prelude.{◌≡◌, false, OnOk, OnErr, IfOk, IsOk, IsTrue};
+ghost use Rattle.std.specs.Prelude.{◌≡◌, ◌↔◌, ◌≤◌, ◌^◌, false, OnOk, OnErr, IfOk, IsOk, IsTrue};
 ghost use Rattle.std.specs.Option.{option_map};
 ghost use Rattle.std.specs.Arc.{arc_value};
 ghost use Rattle.std.specs.Ordering.{nat_cmp};
 ghost use Rattle.std.specs.Cmp.Lexicographic.{slice_cmp};
 ghost use Rattle.std.specs.FinMap as map;
+ghost use Rattle.cc_journal.specs.Format.{room_of};
 ghost use Rattle.cc_library.specs.Apply.{apply, after, refusal};
-ghost use Rattle.cc_library.specs.Compact.{adds_of};
+ghost use Rattle.cc_library.specs.Compact.{adds_of, compacted};
 ghost use Rattle.cc_library.specs.Recovered.{AreSpelled};
 ghost use Rattle.cc_library.specs.internal.Halves.{begun, finished, undone};
 
-use crate::body::framed_body;
+use crate::body::{framed_body, length_with};
 use crate::command::{Command, Kind};
 use crate::name::Name;
 use crate::unit::SharedUnit;
@@ -89,8 +90,25 @@ impl UnitMap {
         Ok(names)
     }
 
-    /// The bodies of one Add per name, in the order of the names' bytes.
+    /// Whether the records of one Add per name and their closed gate fit an area of that many bytes. It takes no memory.
+    pub fn fits(&self, area: usize) -> bool
+        requires some { 1 ≤ area }
+        requires few { area ≤ 2 ^ 30 }
+        ensures { IsTrue result ↔ (room_of (compacted self.now) ≤ area) }
+    {
+        let mut room = 1;
+        for (name, unit) in self.units.iter() {
+            room += length_with(name.bytes(), Some(unit.stored())) + 5;
+            if area < room {
+                return false;
+            }
+        }
+        true
+    }
+
+    /// The bodies of one Add per name, in the order of the names' bytes, where an area can hold them.
     pub fn bodies(&self, alloc: Global) -> Result<Vec<Body>, AllocError>
+        requires { room_of (compacted self.now) ≤ 2 ^ 30 }
         ensures { IfOk result (λ bodies. AreSpelled bodies.items (adds_of self.now)) }
     {
         let mut bodies = Vec::new(alloc);

@@ -147,8 +147,8 @@ nop_passes end far l (Nop n) e near = near
 nop_passes end far l (Const to word n) e near = absurd (let z : false ≡ true = e in cc)
 nop_passes end far l (Unary operator to from n) e near = absurd (let z : false ≡ true = e in cc)
 nop_passes end far l (Binary operator to left right n) e near = absurd (let z : false ≡ true = e in cc)
-nop_passes end far l (Load object to index n) e near = absurd (let z : false ≡ true = e in cc)
-nop_passes end far l (Store object index from n) e near = absurd (let z : false ≡ true = e in cc)
+nop_passes end far l (Load width object to index n) e near = absurd (let z : false ≡ true = e in cc)
+nop_passes end far l (Store width object index from n) e near = absurd (let z : false ≡ true = e in cc)
 nop_passes end far l (Call function n) e near = absurd (let z : false ≡ true = e in cc)
 nop_passes end far l (Read n) e near = absurd (let z : false ≡ true = e in cc)
 nop_passes end far l (Write n) e near = absurd (let z : false ≡ true = e in cc)
@@ -214,8 +214,8 @@ module _ (ltl : Ltl) (ends : List ℕ) where
   successors_in order (Const to word n) h = at_label order (end_place labels ends n) h
   successors_in order (Unary operator to from n) h = at_label order (end_place labels ends n) h
   successors_in order (Binary operator to left right n) h = at_label order (end_place labels ends n) h
-  successors_in order (Load object to index n) h = at_label order (end_place labels ends n) h
-  successors_in order (Store object index from n) h = at_label order (end_place labels ends n) h
+  successors_in order (Load width object to index n) h = at_label order (end_place labels ends n) h
+  successors_in order (Store width object index from n) h = at_label order (end_place labels ends n) h
   successors_in order (Call function n) h = at_label order (end_place labels ends n) h
   successors_in order (Read n) h = at_label order (end_place labels ends n) h
   successors_in order (Write n) h = at_label order (end_place labels ends n) h

@@ -159,10 +159,10 @@ module _ (arity : ℕ → ℕ) (function : Ltl) (code : List Item) (end far : �
   fits (Unary operator to from n) after at world words tail i o s f = lagging n after (put (Register to) (apply_unary operator (at (Register from))) at) world words tail o s f
   fits (Binary operator to left right n) after at world words tail i o s f =
       fits_with (apply_binary operator (at (Register left)) (at (Register right))) (λ word. to_block n after (put (Register to) word at) world words) (λ word. at_items (moves_then after tail) (put (Register to) word at) world words) (λ word. lagging n after (put (Register to) word at) world words tail o s f)
-  fits (Load object to index n) after at world words tail i o s f =
-      fits_with (element world object (at (Register index))) (λ word. to_block n after (put (Register to) word at) world words) (λ word. at_items (moves_then after tail) (put (Register to) word at) world words) (λ word. lagging n after (put (Register to) word at) world words tail o s f)
-  fits (Store object index from n) after at world words tail i o s f =
-      fits_with (stored world object (at (Register index)) (at (Register from))) (λ changed. to_block n after at changed words) (λ changed. at_items (moves_then after tail) at changed words) (λ changed. lagging n after at changed words tail o s f)
+  fits (Load width object to index n) after at world words tail i o s f =
+      fits_with (element world width object (at (Register index))) (λ word. to_block n after (put (Register to) word at) world words) (λ word. at_items (moves_then after tail) (put (Register to) word at) world words) (λ word. lagging n after (put (Register to) word at) world words tail o s f)
+  fits (Store width object index from n) after at world words tail i o s f =
+      fits_with (stored world width object (at (Register index)) (at (Register from))) (λ changed. to_block n after at changed words) (λ changed. at_items (moves_then after tail) at changed words) (λ changed. lagging n after at changed words tail o s f)
   fits (Call function n) after at world words tail i o s f =
       (refl, λ a. lagging n after (put result_location a.value (after_call words at)) a.world (left_after_call words) tail o s f)
   fits (Read n) after at world words tail i o s f = lagging n after (put result_location (next_word world) (put destroyed_location (unknown_word words) at)) (after_read world) (left_after_word words) tail o s f
@@ -303,8 +303,8 @@ module _ (arity : ℕ → ℕ) (function : Ltl) (code : List Item) (end far : �
   kept c d b (Const to word n) r e is own s = inl (straight c d b r e own (subst IsStraight (sym is) tt) s)
   kept c d b (Unary operator to from n) r e is own s = inl (straight c d b r e own (subst IsStraight (sym is) tt) s)
   kept c d b (Binary operator to left right n) r e is own s = inl (straight c d b r e own (subst IsStraight (sym is) tt) s)
-  kept c d b (Load object to index n) r e is own s = inl (straight c d b r e own (subst IsStraight (sym is) tt) s)
-  kept c d b (Store object index from n) r e is own s = inl (straight c d b r e own (subst IsStraight (sym is) tt) s)
+  kept c d b (Load width object to index n) r e is own s = inl (straight c d b r e own (subst IsStraight (sym is) tt) s)
+  kept c d b (Store width object index from n) r e is own s = inl (straight c d b r e own (subst IsStraight (sym is) tt) s)
   kept c d b (Call function n) r e is own s = inl (straight c d b r e own (subst IsStraight (sym is) tt) s)
   kept c d b (Read n) r e is own s = inl (straight c d b r e own (subst IsStraight (sym is) tt) s)
   kept c d b (Write n) r e is own s = inl (straight c d b r e own (subst IsStraight (sym is) tt) s)

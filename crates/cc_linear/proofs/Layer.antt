@@ -52,12 +52,12 @@ does_grows arity code (Unary o to from ∷ items) at world words d e = keeps wor
 does_grows arity code (Binary o to left right ∷ items) at world words d e =
     let y = tried_goes (apply_binary o (at (Register left)) (at (Register right))) _ d e in
     keeps world _ d refl y.2
-does_grows arity code (Load object to index ∷ items) at world words d e =
-    let y = tried_goes (element world object (at (Register index))) _ d e in
+does_grows arity code (Load width object to index ∷ items) at world words d e =
+    let y = tried_goes (element world width object (at (Register index))) _ d e in
     keeps world _ d refl y.2
-does_grows arity code (Store object index from ∷ items) at world words d e =
-    let y = tried_goes (stored world object (at (Register index)) (at (Register from))) _ d e in
-    keeps world _ d (stored_output world object (at (Register index)) (at (Register from)) (element world object (at (Register index))) _ y.0 (λ old. refl) y.1) y.2
+does_grows arity code (Store width object index from ∷ items) at world words d e =
+    let y = tried_goes (stored world width object (at (Register index)) (at (Register from))) _ d e in
+    keeps world _ d (stored_output world object (at (Register index)) (at (Register from)) (element world width object (at (Register index))) _ y.0 (λ old. refl) y.1) y.2
 does_grows arity code (Call function ∷ items) at world words d e = absurd cc
 does_grows arity code (Read ∷ items) at world words d e = keeps world _ d refl e
 does_grows arity code (Write ∷ items) at world words d e = subst (GrowsTo world) (same_goes _ d e) (_, refl)
@@ -82,11 +82,11 @@ does_calls arity code (Unary o to from ∷ items) at world words q resume e = ab
 does_calls arity code (Binary o to left right ∷ items) at world words q resume e =
     let y = tried_calls (apply_binary o (at (Register left)) (at (Register right))) _ q resume e in
     absurd (cc y.2)
-does_calls arity code (Load object to index ∷ items) at world words q resume e =
-    let y = tried_calls (element world object (at (Register index))) _ q resume e in
+does_calls arity code (Load width object to index ∷ items) at world words q resume e =
+    let y = tried_calls (element world width object (at (Register index))) _ q resume e in
     absurd (cc y.2)
-does_calls arity code (Store object index from ∷ items) at world words q resume e =
-    let y = tried_calls (stored world object (at (Register index)) (at (Register from))) _ q resume e in
+does_calls arity code (Store width object index from ∷ items) at world words q resume e =
+    let y = tried_calls (stored world width object (at (Register index)) (at (Register from))) _ q resume e in
     absurd (cc y.2)
 does_calls arity code (Call function ∷ items) at world words q resume e =
     let same = same_calls _ q _ resume e in

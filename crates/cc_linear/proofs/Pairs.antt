@@ -36,8 +36,8 @@ labels_operation (Nop n) items = refl
 labels_operation (Const to word n) items = refl
 labels_operation (Unary operator to from n) items = refl
 labels_operation (Binary operator to left right n) items = refl
-labels_operation (Load object to index n) items = refl
-labels_operation (Store object index from n) items = refl
+labels_operation (Load width object to index n) items = refl
+labels_operation (Store width object index from n) items = refl
 labels_operation (Call function n) items = refl
 labels_operation (Read n) items = refl
 labels_operation (Write n) items = refl
@@ -65,8 +65,8 @@ labels_block end b (Nop n) order items = labels_straight end b order items
 labels_block end b (Const to word n) order items = labels_straight end b order items
 labels_block end b (Unary operator to from n) order items = labels_straight end b order items
 labels_block end b (Binary operator to left right n) order items = labels_straight end b order items
-labels_block end b (Load object to index n) order items = labels_straight end b order items
-labels_block end b (Store object index from n) order items = labels_straight end b order items
+labels_block end b (Load width object to index n) order items = labels_straight end b order items
+labels_block end b (Store width object index from n) order items = labels_straight end b order items
 labels_block end b (Call function n) order items = labels_straight end b order items
 labels_block end b (Read n) order items = labels_straight end b order items
 labels_block end b (Write n) order items = labels_straight end b order items
@@ -113,8 +113,8 @@ module _ (unit : List External) (ltl : Ltl) (end : ℕ → ℕ) (order names : L
   operation_fits (Const to word n) items o c h = ((o.0, o.1), h)
   operation_fits (Unary operator to from n) items o c h = ((o.0, o.1), h)
   operation_fits (Binary operator to left right n) items o c h = ((o.0, o.1, o.2), h)
-  operation_fits (Load object to index n) items o c h = ((o.0, o.1, o.2), h)
-  operation_fits (Store object index from n) items o c h = ((o.0, o.1, o.2), h)
+  operation_fits (Load width object to index n) items o c h = ((o.0, o.1, o.2), h)
+  operation_fits (Store width object index from n) items o c h = ((o.0, o.1, o.2), h)
   operation_fits (Call function n) items o c h = (c, h)
   operation_fits (Read n) items o c h = (tt, h)
   operation_fits (Write n) items o c h = (tt, h)
@@ -146,8 +146,8 @@ module _ (unit : List External) (ltl : Ltl) (end : ℕ → ℕ) (order names : L
   block_fits b (Const to word n) ls items same block call s h = straight_fits b ls items block call (subst (λ o. Contains order (end (next o))) (sym same) s) h
   block_fits b (Unary operator to from n) ls items same block call s h = straight_fits b ls items block call (subst (λ o. Contains order (end (next o))) (sym same) s) h
   block_fits b (Binary operator to left right n) ls items same block call s h = straight_fits b ls items block call (subst (λ o. Contains order (end (next o))) (sym same) s) h
-  block_fits b (Load object to index n) ls items same block call s h = straight_fits b ls items block call (subst (λ o. Contains order (end (next o))) (sym same) s) h
-  block_fits b (Store object index from n) ls items same block call s h = straight_fits b ls items block call (subst (λ o. Contains order (end (next o))) (sym same) s) h
+  block_fits b (Load width object to index n) ls items same block call s h = straight_fits b ls items block call (subst (λ o. Contains order (end (next o))) (sym same) s) h
+  block_fits b (Store width object index from n) ls items same block call s h = straight_fits b ls items block call (subst (λ o. Contains order (end (next o))) (sym same) s) h
   block_fits b (Call function n) ls items same block call s h = straight_fits b ls items block call (subst (λ o. Contains order (end (next o))) (sym same) s) h
   block_fits b (Read n) ls items same block call s h = straight_fits b ls items block call (subst (λ o. Contains order (end (next o))) (sym same) s) h
   block_fits b (Write n) ls items same block call s h = straight_fits b ls items block call (subst (λ o. Contains order (end (next o))) (sym same) s) h
@@ -175,14 +175,14 @@ branches_are_last ltl ends l b e = by b.operation refl
     by (Const to word n) same = tt
     by (Unary operator to from n) same = tt
     by (Binary operator to left right n) same = tt
-    by (Load object to index n) same = tt
-    by (Store object index from n) same = tt
+    by (Load width object to index n) same = tt
+    by (Store width object index from n) same = tt
     by (Call function n) same = tt
     by (Read n) same = tt
     by (Write n) same = tt
 
 pub pair_of : (p : above.Pair) (end far : ℕ → ℕ) (most : ℕ) (order : List ℕ) → above.IsPair p → AreEnds p.ltl end far most → IsOrder p.ltl end order
-    → IsPair (record { unit = p.unit; function = p.function; slots = p.ltl.slots; code = linear_code p.ltl end order })
+    → IsPair (record { unit = p.unit; function = p.function; ltl = p.ltl; code = linear_code p.ltl end order })
 pair_of p end far most order is ends ordered =
     let code = linear_code p.ltl end order in
     let names : labels code ≡ order = labels_code p.ltl end order in
@@ -190,6 +190,8 @@ pair_of p end far most order is ends ordered =
     record {
       typed = is.typed;
       function = is.function;
+      ltl = is.ltl;
+      few = is.graph.few;
       linear = record {
         few = is.ltl.slots;
         distinct = subst (λ ls. AllPairs (λ (a b : ℕ). a ≢ b) ls) (sym names) ordered.distinct;
@@ -201,7 +203,7 @@ pair_of p end far most order is ends ordered =
 -- ---- without the labels that nothing leads to
 
 -- a pair stays one
-pub kept_pair : (p : Pair) → IsPair p → IsPair (record { unit = p.unit; function = p.function; slots = p.slots; code = kept (targets p.code) p.code })
+pub kept_pair : (p : Pair) → IsPair p → IsPair (record { unit = p.unit; function = p.function; ltl = p.ltl; code = kept (targets p.code) p.code })
 kept_pair p is =
     let led = targets p.code in
     let below = below_itself p.code in
@@ -209,10 +211,12 @@ kept_pair p is =
     record {
       typed = is.typed;
       function = is.function;
+      ltl = is.ltl;
+      few = is.few;
       linear = record {
         few = is.linear.few;
         distinct = subst (λ ls. AllPairs (λ (a b : ℕ). a ≢ b) ls) (sym names) (distinct_only led (labels p.code) is.linear.distinct);
-        fit = still_fit p.slots (length (functions (tree_of p))) led (labels p.code) (labels (kept led p.code)) (λ l h c. subst (λ ls. Contains ls l) (sym names) (only_has led (labels p.code) l h c)) p.code below is.linear.fit;
+        fit = still_fit p.ltl.slots (length (functions (tree_of p))) led (labels p.code) (labels (kept led p.code)) (λ l h c. subst (λ ls. Contains ls l) (sym names) (only_has led (labels p.code) l h c)) p.code below is.linear.fit;
       };
-      keeps_up = (coarser is.keeps_up.0 0, λ meaning m. kept_tracks meaning p.function is.keeps_up.0 p.slots p.code led below (is.keeps_up.1 meaning m));
+      keeps_up = (coarser is.keeps_up.0 0, λ meaning m. kept_tracks meaning p.function is.keeps_up.0 p.ltl.slots p.code led below (is.keeps_up.1 meaning m));
     }

@@ -51,8 +51,8 @@ successors_lead labels (Nop n) f = f n (first_of [] n)
 successors_lead labels (Const to word n) f = f n (first_of [] n)
 successors_lead labels (Unary operator to from n) f = f n (first_of [] n)
 successors_lead labels (Binary operator to left right n) f = f n (first_of [] n)
-successors_lead labels (Load object to index n) f = f n (first_of [] n)
-successors_lead labels (Store object index from n) f = f n (first_of [] n)
+successors_lead labels (Load width object to index n) f = f n (first_of [] n)
+successors_lead labels (Store width object index from n) f = f n (first_of [] n)
 successors_lead labels (Call function n) f = f n (first_of [] n)
 successors_lead labels (Read n) f = f n (first_of [] n)
 successors_lead labels (Write n) f = f n (first_of [] n)
@@ -78,8 +78,8 @@ nop_next labels (Nop n) e h = h
 nop_next labels (Const to word n) e h = h
 nop_next labels (Unary operator to from n) e h = h
 nop_next labels (Binary operator to left right n) e h = h
-nop_next labels (Load object to index n) e h = h
-nop_next labels (Store object index from n) e h = h
+nop_next labels (Load width object to index n) e h = h
+nop_next labels (Store width object index from n) e h = h
 nop_next labels (Call function n) e h = h
 nop_next labels (Read n) e h = h
 nop_next labels (Write n) e h = h
@@ -122,8 +122,8 @@ ways_below labels ends (Nop n) long inside h = end_inside labels ends n long ins
 ways_below labels ends (Const to word n) long inside h = end_inside labels ends n long inside h
 ways_below labels ends (Unary operator to from n) long inside h = end_inside labels ends n long inside h
 ways_below labels ends (Binary operator to left right n) long inside h = end_inside labels ends n long inside h
-ways_below labels ends (Load object to index n) long inside h = end_inside labels ends n long inside h
-ways_below labels ends (Store object index from n) long inside h = end_inside labels ends n long inside h
+ways_below labels ends (Load width object to index n) long inside h = end_inside labels ends n long inside h
+ways_below labels ends (Store width object index from n) long inside h = end_inside labels ends n long inside h
 ways_below labels ends (Call function n) long inside h = end_inside labels ends n long inside h
 ways_below labels ends (Read n) long inside h = end_inside labels ends n long inside h
 ways_below labels ends (Write n) long inside h = end_inside labels ends n long inside h
@@ -198,10 +198,10 @@ made_of ltl labels nexts ends graph order code items up same nexts_are (far, mos
     }
 
 -- what is made of the function of a pair is the code of a pair
-pub pair_made : (p : above.Pair) (items : List Item) → above.IsPair p → IsMadeOf p.ltl items → IsPair (record { unit = p.unit; function = p.function; slots = p.ltl.slots; code = items })
+pub pair_made : (p : above.Pair) (items : List Item) → above.IsPair p → IsMadeOf p.ltl items → IsPair (record { unit = p.unit; function = p.function; ltl = p.ltl; code = items })
 pair_made p items is m =
     let first = pair_of p m.end m.far m.most m.order is m.ends m.ordered in
-    subst (λ xs. IsPair (record { unit = p.unit; function = p.function; slots = p.ltl.slots; code = xs })) (sym m.made) (kept_pair (record { unit = p.unit; function = p.function; slots = p.ltl.slots; code = linear_code p.ltl m.end m.order }) first)
+    subst (λ xs. IsPair (record { unit = p.unit; function = p.function; ltl = p.ltl; code = xs })) (sym m.made) (kept_pair (record { unit = p.unit; function = p.function; ltl = p.ltl; code = linear_code p.ltl m.end m.order }) first)
 
 pub made_without : (ltl : Ltl) (items : List Item) → IsMadeOf ltl items → NoneIdle items
 made_without ltl items m = subst NoneIdle (sym m.made) (none_idle (linear_code ltl m.end m.order))

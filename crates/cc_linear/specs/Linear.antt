@@ -30,8 +30,8 @@ IsItem slots functions labels (Copy m) = IsMove slots m
 IsItem slots functions labels (Const to word) = IsAllocatable to × IsWord word
 IsItem slots functions labels (Unary operator to from) = IsAllocatable to × IsAllocatable from
 IsItem slots functions labels (Binary operator to left right) = IsAllocatable to × IsAllocatable left × IsAllocatable right
-IsItem slots functions labels (Load object to index) = IsWord object × IsAllocatable to × IsAllocatable index
-IsItem slots functions labels (Store object index from) = IsWord object × IsAllocatable index × IsAllocatable from
+IsItem slots functions labels (Load width object to index) = IsWord object × IsAllocatable to × IsAllocatable index
+IsItem slots functions labels (Store width object index from) = IsWord object × IsAllocatable index × IsAllocatable from
 IsItem slots functions labels (Call function) = function < functions
 IsItem slots functions labels Read = Unit {0}
 IsItem slots functions labels Write = Unit {0}
@@ -79,10 +79,10 @@ does arity code (Const to word ∷ items) at world words = Goes (at_items items 
 does arity code (Unary operator to from ∷ items) at world words = Goes (at_items items (put (Register to) (apply_unary operator (at (Register from))) at) world words)
 does arity code (Binary operator to left right ∷ items) at world words =
     tried (apply_binary operator (at (Register left)) (at (Register right))) (λ word. Goes (at_items items (put (Register to) word at) world words))
-does arity code (Load object to index ∷ items) at world words =
-    tried (element world object (at (Register index))) (λ word. Goes (at_items items (put (Register to) word at) world words))
-does arity code (Store object index from ∷ items) at world words =
-    tried (stored world object (at (Register index)) (at (Register from))) (λ changed. Goes (at_items items at changed words))
+does arity code (Load width object to index ∷ items) at world words =
+    tried (element world width object (at (Register index))) (λ word. Goes (at_items items (put (Register to) word at) world words))
+does arity code (Store width object index from ∷ items) at world words =
+    tried (stored world width object (at (Register index)) (at (Register from))) (λ changed. Goes (at_items items at changed words))
 does arity code (Call function ∷ items) at world words =
     Calls (record { function = function; arguments = words_from first_argument (arity function) at; world = world }) (items_after_answer items at words)
 does arity code (Read ∷ items) at world words =

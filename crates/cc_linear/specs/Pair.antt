@@ -1,5 +1,5 @@
 -- What a pair of Linear keeps: the Linear of one function of a typed unit.
-use Rattle.std.specs.Prelude.{ℕ, suc, ◌<◌, List, length}
+use Rattle.std.specs.Prelude.{ℕ, suc, ◌<◌, ◌≤◌, List, length}
 use Rattle.cc_syntax.specs.Tree.{External}
 use Rattle.cc_syntax.specs.Source.{source}
 use Rattle.cc_syntax.specs.declared.unit.Unit as parsed
@@ -11,19 +11,24 @@ use Rattle.cc_runs.specs.World.{World}
 use Rattle.cc_runs.specs.Run.{run}
 use Rattle.cc_runs.specs.Meaning.{Meaning, most_open, IsCall, call_effect, answered}
 use Rattle.cc_runs.specs.Tracks.{TracksForAll}
+use Rattle.cc_ltl.specs.Ltl.{Ltl, IsLtl}
 use Rattle.cc_linear.specs.declared.item.Item.{Item}
 use Rattle.cc_linear.specs.Linear.{IsLinear, linear_move, linear_output, linear_start}
 
--- a pair as contracts see it: the unit, the function's number in the order of definitions, how many slots it has, and its items
+-- a pair as contracts see it: the unit, the function's number in the order of definitions, the LTL that was laid out, and its items
 pub record Pair : Type 0 where
   pub unit : parsed.Unit
   pub function : ℕ
-  pub slots : ℕ
+  pub ltl : Ltl
   pub code : List Item
 
 -- the unit's tree
 abbrev pub tree_of : Pair → List External
 tree_of p = (source p.unit).externals
+
+-- how many blocks the LTL of a function may have
+abbrev pub most_blocks : ℕ
+most_blocks = 4096
 
 -- at some rate the run keeps up with the function, for all lists of unknown words
 abbrev pub KeepsUp : List External → (function slots : ℕ) → List Item → Type 0
@@ -40,5 +45,7 @@ FollowsFunction unit f slots code =
 pub record IsPair (p : Pair) : Type 0 where
   pub typed : IsTyped (tree_of p)
   pub function : p.function < length (functions (tree_of p))
-  pub linear : IsLinear p.slots (length (functions (tree_of p))) p.code
-  pub keeps_up : KeepsUp (tree_of p) p.function p.slots p.code
+  pub ltl : IsLtl p.ltl
+  pub few : length p.ltl.blocks ≤ most_blocks
+  pub linear : IsLinear p.ltl.slots (length (functions (tree_of p))) p.code
+  pub keeps_up : KeepsUp (tree_of p) p.function p.ltl.slots p.code

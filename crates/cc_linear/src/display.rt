@@ -28,17 +28,25 @@ fn operation_of(item: Item) -> Option<Operation> {
             right,
             next,
         }),
-        Item::Load { object, to, index } => Some(Operation::Load {
+        Item::Load {
+            width,
+            object,
+            to,
+            index,
+        } => Some(Operation::Load {
+            width,
             object,
             to,
             index,
             next,
         }),
         Item::Store {
+            width,
             object,
             index,
             from,
         } => Some(Operation::Store {
+            width,
             object,
             index,
             from,

@@ -1,7 +1,7 @@
 //! The items of Linear: moves, operations on registers, labels, jumps and branches.
 
 use cc_ltl::{Move, Register};
-use cc_words::{Binary, Unary};
+use cc_words::{Binary, Unary, Width};
 
 /// One item of a function's list. A label is no move of the run: what is done at it is what the next item does. A call takes its
 /// arguments in `x10` and up and gives its result in `x10`; a read gives its word there, a write and a return take theirs there.
@@ -45,11 +45,13 @@ pub enum Item {
         right: Register,
     },
     Load {
+        width: Width,
         object: u32,
         to: Register,
         index: Register,
     },
     Store {
+        width: Width,
         object: u32,
         index: Register,
         from: Register,

@@ -38,17 +38,17 @@ fn items_of(alloc: Global, ltl: &Ltl) -> Result<Vec<Item>, AllocError>
 
 /// The Linear of a function. Chains of empty blocks are passed over; an endless cycle of them stays an endless jump. Blocks stand in an
 /// order in which a loop's test stands at its bottom and the likely way falls through, so that a turn of a loop executes one branch and no
-/// jump. What cannot be reached is left out, and so is each label to which nothing leads.
+/// jump. What cannot be reached is left out, and so is each label to which nothing leads. The LTL is kept beside it.
 ///
 /// `LinearFault::OutOfMemory` (40) alone, where memory runs out; the pair is given up with it.
 pub fn linearise(alloc: Global, pair: LtlPair) -> Result<LinearPair, LinearFault>
     ensures unit { IfOk result (λ made. made.unit ≡ pair.unit) }
     ensures function { IfOk result (λ made. made.function ≡ pair.function) }
-    ensures slots { IfOk result (λ made. made.slots ≡ pair.ltl.slots) }
+    ensures ltl { IfOk result (λ made. made.ltl ≡ pair.ltl) }
     ensures labels { IfOk result (λ made. NoneIdle made.code) }
 {
     let function = pair.function();
-    let slots = pair.code().slots();
     let code = items_of(alloc, pair.code())?;
-    Ok(LinearPair::new(pair.into_unit(), function, slots, code))
+    let (unit, ltl) = pair.into_parts();
+    Ok(LinearPair::new(unit, function, ltl, code))
 }

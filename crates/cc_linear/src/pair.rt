@@ -1,25 +1,27 @@
 //! The Linear of one function of a unit, with the fact that its run keeps up with the function.
 
-ghost use Rattle.std.specs.Prelude.{◌≡◌, ◌<◌, length};
+ghost use Rattle.std.specs.Prelude.{◌≡◌, ◌<◌, ◌≤◌, length};
 ghost use Rattle.std.specs.Arc.{arc_value};
 ghost use Rattle.cc_meaning.specs.Meaning.{functions};
 ghost use Rattle.cc_typing.specs.Typed.{IsTyped};
 ghost use Rattle.cc_linear.specs.Linear.{IsLinear};
-ghost use Rattle.cc_linear.specs.Pair.{Pair, tree_of, KeepsUp, FollowsFunction, IsPair};
+ghost use Rattle.cc_ltl.specs.Ltl.{IsLtl};
+ghost use Rattle.cc_linear.specs.Pair.{Pair, tree_of, most_blocks, KeepsUp, FollowsFunction, IsPair};
 
 use crate::item::Item;
+use cc_ltl::Ltl;
 use cc_typing::TypedUnit;
 use std::marker::Model;
 use std::sync::Arc;
 
-/// The Linear of one function of a typed unit. Contracts see the unit, the function's number, how many slots it has and its items; that
-/// its run follows the function's meaning, whatever words nobody knows, belongs to the type, so nobody holds a pair of which it is not
-/// true.
+/// The Linear of one function of a typed unit. Contracts see the unit, the function's number, the LTL that was laid out and the items;
+/// that their run follows the function's meaning, whatever words nobody knows, belongs to the type, so nobody holds a pair of which it is
+/// not true.
 #[derive(Drop)]
 pub struct LinearPair {
     unit: Arc<TypedUnit>,
     function: usize,
-    slots: u16,
+    ltl: Ltl,
     code: Vec<Item>,
 }
 
@@ -33,9 +35,9 @@ impl Model for LinearPair {
 
     ghost coded = { Prim.hlevel (codes, parsed.the_row.coded) };
 
-    ghost view = { λ p. record { unit = arc_value p.unit; function = p.function; slots = p.slots; code = p.code.items } };
+    ghost view = { λ p. record { unit = arc_value p.unit; function = p.function; ltl = p.ltl; code = p.code.items } };
 
-    ghost invariant = { λ p. IsPair (record { unit = arc_value p.unit; function = p.function; slots = p.slots; code = p.code.items }) };
+    ghost invariant = { λ p. IsPair (record { unit = arc_value p.unit; function = p.function; ltl = p.ltl; code = p.code.items }) };
 }
 
 impl LinearPair {
@@ -43,16 +45,16 @@ impl LinearPair {
     pub(crate) fn new(
         unit: Arc<TypedUnit>,
         function: usize,
-        slots: u16,
+        ltl: Ltl,
         code: Vec<Item>,
     ) -> LinearPair
-        requires { IsPair (record { unit = arc_value unit; function = function; slots = slots; code = code.items }) }
-        ensures { result ≡ record { unit = arc_value unit; function = function; slots = slots; code = code.items } }
+        requires { IsPair (record { unit = arc_value unit; function = function; ltl = ltl; code = code.items }) }
+        ensures { result ≡ record { unit = arc_value unit; function = function; ltl = ltl; code = code.items } }
     {
         LinearPair {
             unit,
             function,
-            slots,
+            ltl,
             code,
         }
     }
@@ -72,11 +74,20 @@ impl LinearPair {
         self.function
     }
 
-    /// How many slots its frame has: at most 495.
+    /// How many slots its frame has: at most 495, as many as the LTL.
     pub fn slots(&self) -> u16
-        ensures answer { result ≡ self.now.slots }
+        ensures answer { result ≡ self.now.ltl.slots }
     {
-        self.slots
+        self.ltl.slots()
+    }
+
+    /// The LTL that was laid out: at most 4,096 blocks.
+    pub fn ltl(&self) -> &Ltl
+        ensures ltl { result.now ≡ self.now.ltl }
+        ensures is_ltl { IsLtl self.now.ltl }
+        ensures few { length self.now.ltl.blocks ≤ most_blocks }
+    {
+        &self.ltl
     }
 
     /// The items. No label stands twice, and each that a jump or a branch leads to stands; each call is of a function of the unit. The
@@ -84,24 +95,25 @@ impl LinearPair {
     pub fn code(&self) -> &[Item]
         ensures code { result.now ≡ self.now.code }
         ensures typed { IsTyped (tree_of self.now) }
-        ensures linear { IsLinear self.now.slots (length (functions (tree_of self.now))) self.now.code }
-        ensures keeps_up { KeepsUp (tree_of self.now) self.now.function self.now.slots self.now.code }
-        ensures follows { FollowsFunction (tree_of self.now) self.now.function self.now.slots self.now.code }
+        ensures linear { IsLinear self.now.ltl.slots (length (functions (tree_of self.now))) self.now.code }
+        ensures keeps_up { KeepsUp (tree_of self.now) self.now.function self.now.ltl.slots self.now.code }
+        ensures follows { FollowsFunction (tree_of self.now) self.now.function self.now.ltl.slots self.now.code }
     {
         self.code.as_slice()
     }
 
-    /// The unit's owner.
-    pub fn into_unit(self) -> Arc<TypedUnit>
-        ensures answer { arc_value result ≡ self.unit }
+    /// The unit's owner and the LTL, for the piece.
+    pub fn into_parts(self) -> (Arc<TypedUnit>, Ltl)
+        ensures unit { arc_value result.0 ≡ self.unit }
+        ensures ltl { result.1 ≡ self.ltl }
     {
         let LinearPair {
             unit,
             function: _,
-            slots: _,
+            ltl,
             code,
         } = self;
         drop(code);
-        unit
+        (unit, ltl)
     }
 }

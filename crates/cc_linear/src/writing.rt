@@ -50,17 +50,25 @@ pub fn item_of(operation: &Operation) -> Option<Item>
             right,
         }),
         Operation::Load {
+            width,
             object,
             to,
             index,
             ..
-        } => Some(Item::Load { object, to, index }),
+        } => Some(Item::Load {
+            width,
+            object,
+            to,
+            index,
+        }),
         Operation::Store {
+            width,
             object,
             index,
             from,
             ..
         } => Some(Item::Store {
+            width,
             object,
             index,
             from,

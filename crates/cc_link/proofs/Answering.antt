@@ -1,5 +1,6 @@
--- What `link_lent` answers, from what its steps have said. a, b, m, n, o: no stranger, none doubled, none missing, how many functions, and their items.
-use Rattle.std.proofs.Common.{◌≡◌, ℕ, ◌<◌, ◌≤◌, ◌⊎◌, inl, inr, List, [], length, Some, None, Ok, Err, sym, ap, ◌∙◌, subst}
+-- What `link_lent` answers, from what its steps have said. a, b, m, n, o, i: no stranger, none doubled, none missing, how many functions, their
+-- pieces, and their items.
+use Rattle.std.proofs.Common.{◌≡◌, ℕ, ◌<◌, ◌≤◌, ◌^◌, ◌⊎◌, inl, inr, List, [], length, Some, None, Ok, Err, sym, ap, ◌∙◌, subst, arith}
 use Rattle.std.proofs.lemmas.List.{length-map}
 use Rattle.std.specs.Borrow.{Bor}
 use Rattle.std.specs.Prelude.{All}
@@ -19,10 +20,12 @@ use Rattle.cc_link.specs.declared.fault.LinkFault.{LinkFault}
 use Rattle.cc_link.specs.declared.fault.LinkFault.TheVariants.{ImageTooLarge, OutOfMemory}
 use Rattle.cc_link.specs.Agree.{Agree}
 use Rattle.cc_link.specs.Link.{code_words, most_code}
-use Rattle.cc_link.specs.Linked.{stranger, doubled, missing, in_order, bodies, image_of, linked}
+use Rattle.cc_link.specs.Certificate.{certificate_of}
+use Rattle.cc_link.specs.Linked.{stranger, doubled, missing, in_order, ordered, all_items, all_ltl, bodies, image_of, lent_pieces, linked, unit_of}
 use Rattle.cc_link.specs.Laws.{LinkedUnitsAgree}
 use Rattle.cc_link.specs.internal.Filling.{lent, AllStayIn}
-use Rattle.cc_link.proofs.Linked.{order_long}
+use Rattle.cc_link.proofs.Few.{few_functions}
+use Rattle.cc_link.proofs.Linked.{order_long, bodies_long}
 use Rattle.cc_link.proofs.Deciding.{defined_long, bodies_stay, missing_refused, large_refused, linked_ok}
 
 module _ (s : Source) (ps : List Piece) (count : ℕ) (a : stranger s.text 0 ps ≡ None) (b : doubled [] 0 ps ≡ None) (n : count ≡ length (defined_names s)) where
@@ -34,12 +37,15 @@ module _ (s : Source) (ps : List Piece) (count : ℕ) (a : stranger s.text 0 ps 
   order_refused fault (inl e) = inl e
   order_refused fault (inr e) = inr (missing_refused s ps fault a b (ap (λ k. missing ps 0 k) (sym number) ∙ e))
 
-  module _ (fs : List (Bor (List Item))) (m : missing ps 0 count ≡ None) (o : lent fs ≡ in_order ps 0 count) where
+  module _ (os : List (Bor Piece)) (fs : List (Bor (List Item))) (m : missing ps 0 count ≡ None) (o : lent_pieces os ≡ in_order ps 0 count) (i : lent fs ≡ all_items (lent_pieces os)) where
     none : missing ps 0 (length (functions s.externals)) ≡ None
     none = ap (λ k. missing ps 0 k) (sym number) ∙ m
 
+    are_ordered : lent_pieces os ≡ ordered s.externals ps
+    are_ordered = o ∙ ap (λ k. in_order ps 0 k) number
+
     pub are_bodies : lent fs ≡ bodies s.externals ps
-    are_bodies = o ∙ ap (λ k. in_order ps 0 k) number
+    are_bodies = i ∙ ap (λ (l : List Piece). all_items l) are_ordered
 
     -- returns-then-not-fits-clause-refused
     pub size_refused : most_code < code_words (lent fs) → linked s ps ≡ Err ImageTooLarge
@@ -47,7 +53,14 @@ module _ (s : Source) (ps : List Piece) (count : ℕ) (a : stranger s.text 0 ps 
 
     -- stored-made-requires-clause-count
     pub count_is : length fs ≡ length (functions s.externals)
-    count_is = sym (length-map fs (λ (c : Bor (List Item)). c.now)) ∙ ap (λ (l : List (List Item)). length l) are_bodies ∙ order_long ps 0 (length (functions s.externals))
+    count_is = sym (length-map fs (λ (c : Bor (List Item)). c.now)) ∙ ap (λ (l : List (List Item)). length l) are_bodies ∙ bodies_long s.externals ps none
+
+    -- stored-made-requires-clause-few_functions
+    pub few_is : IsWithinLimits s.externals → length os < 2 ^ 32
+    few_is limits =
+        let long : length os ≡ length (functions s.externals) = sym (length-map os (λ (c : Bor Piece). c.now)) ∙ ap (λ (l : List Piece). length l) are_ordered ∙ order_long ps 0 (length (functions s.externals)) none in
+        let few = few_functions s limits in
+        omega (arith, long, few, defined_long s)
 
     -- stored-made-requires-clause-stay
     pub stay_is : TokensAreOne → TreesAreOne → TypedUnitsHaveMeanings → ObjectsAreSized → ∥ SpellsText s.text s.externals ∥₁ → IsTyped s.externals → IsWithinLimits s.externals → All IsPieceOfUnit ps → AllStayIn (length fs) (lent fs)
@@ -55,12 +68,14 @@ module _ (s : Source) (ps : List Piece) (count : ℕ) (a : stranger s.text 0 ps 
         subst (λ k. AllStayIn k (lent fs)) (sym count_is) (subst (λ (l : List (List Item)). AllStayIn (length (functions s.externals)) l) (sym are_bodies) (bodies_stay tokens trees meanings sized s ps spelled typed limits a all none))
 
     -- returns-clause-answer
-    pub answer_is : (u : StoredUnit) → code_words (lent fs) ≤ most_code → u ≡ record { source = s.text; image = image_of s.externals (lent fs); certificate = None } → linked s ps ≡ Ok u
+    pub answer_is : (u : StoredUnit) → code_words (lent fs) ≤ most_code → u ≡ record { source = s.text; image = image_of s.externals (lent fs); certificate = Some (certificate_of (all_ltl (lent_pieces os))) } → linked s ps ≡ Ok u
     answer_is u few e =
-        linked_ok s ps a b none (subst (λ (l : List (List Item)). code_words l ≤ most_code) are_bodies few)
-        ∙ ap Ok (sym (e ∙ ap (λ (l : List (List Item)). record { source = s.text; image = image_of s.externals l; certificate = None }) are_bodies))
+        let same : record { source = s.text; image = image_of s.externals (lent fs); certificate = Some (certificate_of (all_ltl (lent_pieces os))) } ≡ unit_of s ps =
+        λ j. record { source = s.text; image = image_of s.externals (are_bodies j); certificate = Some (certificate_of (all_ltl (are_ordered j))) } in
+        linked_ok s ps a b none (subst (λ (l : List (List Item)). code_words l ≤ most_code) are_bodies few) ∙ ap Ok (sym (e ∙ same))
 
     -- new-requires
-    pub agree_is : LinkedUnitsAgree → ∥ SpellsText s.text s.externals ∥₁ → IsChecked s → All IsPieceOfUnit ps → (u : StoredUnit) → code_words (lent fs) ≤ most_code → u ≡ record { source = s.text; image = image_of s.externals (lent fs); certificate = None } → Agree u.source u.image
+    pub agree_is : LinkedUnitsAgree → ∥ SpellsText s.text s.externals ∥₁ → IsChecked s → All IsPieceOfUnit ps → (u : StoredUnit) → code_words (lent fs) ≤ most_code
+        → u ≡ record { source = s.text; image = image_of s.externals (lent fs); certificate = Some (certificate_of (all_ltl (lent_pieces os))) } → Agree u.source u.image
     agree_is law spelled checked all u few e =
         let h = law s ps u spelled checked all (answer_is u few e) in subst (λ t. Agree t u.image) (sym h.0) h.1

@@ -2,7 +2,7 @@
 use Rattle.std.proofs.Common.{◌≡◌, ℕ, zero, suc, ◌+◌, ◌*◌, ◌<◌, ◌≤◌, List, length, refl, sym, ap, ◌∙◌, subst, arith}
 use Rattle.std.proofs.Math.Nat.{one-le-mul, mul-le-mul_right}
 use Rattle.cc_rv32.specs.Machine.{State}
-use Rattle.cc_runs.specs.World.{World, Effect, Gives, Unfinished, Failed}
+use Rattle.cc_runs.specs.World.{Size, World, Effect, Gives, Unfinished, Failed}
 use Rattle.cc_runs.specs.Meaning.{Meaning}
 use Rattle.cc_emit.specs.declared.item.Item.{Item}
 use Rattle.cc_emit.specs.Contract.{Code, Layout, Placed, Meets, CallsMeet, IsPlace, PieceMeets}
@@ -26,13 +26,13 @@ one_le_power rate zero = omega arith
 one_le_power rate (suc k) = let r : 1 ≤ suc rate = omega arith in one-le-mul r (one_le_power rate k)
 
 -- a body's contract is the call's, for one step more: the call pays that step
-paid : (o : List ℕ) (y : Layout o) (code : Code) (rate c n : ℕ) (s : State) (e : Effect) → 1 ≤ c → Meets y code (rate * c) (rate * c) n s e → Meets y code (suc rate * c) (suc rate * c) (suc n) s e
+paid : (o : List Size) (y : Layout o) (code : Code) (rate c n : ℕ) (s : State) (e : Effect) → 1 ≤ c → Meets y code (rate * c) (rate * c) n s e → Meets y code (suc rate * c) (suc rate * c) (suc n) s e
 paid o y code rate c n s (Gives a left) h (m, t, p, r, b) = (m, t, p, r, let f : suc rate * c ≡ rate * c + c = omega arith in let i : (rate * c) * m ≤ (suc rate * c) * m = mul-le-mul_right m (omega arith) in omega arith)
 paid o y code rate c n s (Unfinished p) h (m, t, q, r, b) = (m, t, q, r, let f : suc rate * c ≡ rate * c + c = omega arith in let i : (rate * c) * m ≤ (suc rate * c) * m = mul-le-mul_right m (omega arith) in omega arith)
 paid o y code rate c n s (Failed p) h x = tt
 
 -- a slower rate is a weaker promise
-slower : (o : List ℕ) (y : Layout o) (code : Code) (c e n : ℕ) (s : State) (x : Effect) → c ≤ e → Meets y code c c n s x → Meets y code e e n s x
+slower : (o : List Size) (y : Layout o) (code : Code) (c e n : ℕ) (s : State) (x : Effect) → c ≤ e → Meets y code c c n s x → Meets y code e e n s x
 slower o y code c e n s (Gives a left) h (m, t, p, r, b) = (m, t, p, r, let i : c * m ≤ e * m = mul-le-mul_right m h in omega arith)
 slower o y code c e n s (Unfinished p) h (m, t, q, r, b) = (m, t, q, r, let i : c * m ≤ e * m = mul-le-mul_right m h in omega arith)
 slower o y code c e n s (Failed p) h x = tt

@@ -1,5 +1,6 @@
--- The words of the objects of a spelled unit are words: each number that a text spells is one, and what is computed of words is.
-use Rattle.std.proofs.Common.{◌≡◌, ℕ, zero, suc, ◌+◌, ◌-◌, ◌^◌, ◌<◌, ◌≤◌, Bool, true, false, ◌&&◌, ◌||◌, not, nat_le, ◌==◌, if◌then◌else◌, List, [], ◌∷◌, ◌++◌, length, map, replicate, Option, Some, None, unwrap_or, option_map, refl, sym, subst, arith}
+-- The elements of the objects of a spelled unit are what their widths keep: each number that a text spells is a word, what is computed of
+-- words is one, and bytes keep eight bits.
+use Rattle.std.proofs.Common.{◌≡◌, ℕ, zero, suc, ◌+◌, ◌-◌, ◌^◌, ◌<◌, ◌≤◌, Bool, true, false, ◌&&◌, ◌||◌, not, nat_le, ◌==◌, if◌then◌else◌, List, [], ◌∷◌, ◌++◌, length, map, replicate, Option, Some, None, unwrap_or, option_map, refl, sym, subst, arith, ◌%◌, inl, inr}
 use Rattle.std.proofs.lemmas.Bool.{leb-true}
 use Rattle.cc_words.specs.internal.Word.{IsWord}
 use Rattle.cc_words.proofs.Laws.{IsWord-add, IsWord-sub, IsWord-mul, IsWord-neg, IsWord-truth_value, IsWord-eq, IsWord-ne, IsWord-lt_s, IsWord-le_s, IsWord-lt_u, IsWord-le_u, IsWord-is_zero, IsWord-div_s, IsWord-rem_s, IsWord-div_u, IsWord-rem_u, IsWord-shl, IsWord-shr_s, IsWord-shr_u, IsWord-and, IsWord-or, IsWord-xor, IsWord-complement}
@@ -14,13 +15,15 @@ use Rattle.cc_syntax.specs.declared.ast.UnaryOperator.{UnaryOperator}
 use Rattle.cc_syntax.specs.declared.ast.UnaryOperator.TheVariants.{Plus, Minus, Complement, Not}
 use Rattle.cc_syntax.specs.declared.ast.BinaryOperator.{BinaryOperator}
 use Rattle.cc_syntax.specs.declared.ast.BinaryOperator.TheVariants.{Multiply, Divide, Remainder, Add, Subtract, ShiftLeft, ShiftRight, Less, Greater, LessOrEqual, GreaterOrEqual, Equal, NotEqual, And, Xor, Or, LogicalAnd, LogicalOr}
-use Rattle.cc_syntax.specs.Tree.{Expr, Number, Variable, Element, Call, Parenthesised, Unary, Cast, Binary, Conditional, ConstantExpr, Object, Single, Array, External, Declaration, Definition, Objects}
-use Rattle.cc_syntax.specs.Grammar.{Measured, outside, full_after, identifier, plain_tokens, SpellsExpression, SpellsConstantExpr, SpellsRow, SpellsList, SpellsObject, SpellsExternals, SpellsUnit}
+use Rattle.cc_syntax.specs.Tree.{Expr, Number, Variable, Element, Call, Parenthesised, Unary, Cast, Binary, Conditional, ConstantExpr, Object, Single, Array, Bytes, External, Declaration, Definition, Objects}
+use Rattle.cc_syntax.specs.Grammar.{Measured, outside, full_after, identifier, plain_tokens, SpellsExpression, SpellsConstantExpr, SpellsRow, SpellsList, SpellsObject, SpellsByteArray, SpellsExternal, SpellsExternals, SpellsUnit}
 use Rattle.cc_syntax.specs.Parse.{SpellsText}
 use Rattle.cc_typing.specs.Operators.{unary_word, binary_word, decided, is_true, working_type}
-use Rattle.cc_typing.specs.Types.{is_constant, decided_or, with_word, value_type, constant_value, array_length, initial_word, initial_words}
+use Rattle.cc_typing.specs.Types.{is_constant, decided_or, with_word, value_type, constant_value, array_elements, object_width, initial_word, zeros_behind, initial_words}
 use Rattle.cc_typing.specs.Limits.{objects}
-use Rattle.cc_resolve.specs.Layout.{all_words}
+use Rattle.cc_link.specs.internal.Packing.{AreBytes}
+use Rattle.cc_link.proofs.Laying.{AreKept}
+use Rattle.cc_link.proofs.Sizes.{AllKept}
 use Rattle.cc_runs.specs.Behavior.{AreWords}
 
 -- ---- the numbers of a text
@@ -209,45 +212,59 @@ zero_words : (n : ℕ) → AreWords (replicate n 0)
 zero_words zero = tt
 zero_words (suc n) = (omega arith, zero_words n)
 
-object_is : (o : Object) (ts : List Measured) → SpellsObject ts o → Have ts → AreWords (initial_words o)
+object_is : (o : Object) (ts : List Measured) → SpellsObject ts o → Have ts → AreKept (object_width o) (initial_words o)
 object_is (Single x None) ts h are = (omega arith, tt)
 object_is (Single x (Some c)) ts h are = let all : Have (outside (identifier x) ∷ outside h.0 ∷ h.1) = subst Have h.4 are in (constant_is c h.1 h.3 all.1.1, tt)
 object_is (Array x n vs) ts h are =
     let all : Have (outside (identifier x) ∷ outside h.0 ∷ h.2 ++ outside h.1 ∷ h.3) = subst Have h.8 are in
-    append_words (map (λ (c : ConstantExpr). initial_word (Some c)) vs) (replicate (unwrap_or (array_length n vs) 0 - length vs) 0) (list_words vs h.3 h.7 (back_of h.2 (outside h.1 ∷ h.3) all.1.1).1) (zero_words _)
+    append_words (map (λ (c : ConstantExpr). initial_word (Some c)) vs) (zeros_behind n vs) (list_words vs h.3 h.7 (back_of h.2 (outside h.1 ∷ h.3) all.1.1).1) (zero_words _)
+object_is (Bytes x n vs) ts h are = absurd h
 
-objects_are : (os : List Object) (ts : List Measured) → SpellsRow SpellsObject ts os → Have ts → AreWords (all_words os)
+objects_are : (os : List Object) (ts : List Measured) → SpellsRow SpellsObject ts os → Have ts → AllKept os
 objects_are [] ts h are = tt
-objects_are (o ∷ []) ts h are = append_words (initial_words o) [] (object_is o ts h are) tt
+objects_are (o ∷ []) ts h are = (object_is o ts h are, tt)
 objects_are (o ∷ p ∷ rest) ts h are =
     let all : Have (h.1 ++ outside h.0 ∷ h.2) = subst Have h.6 are in
-    append_words (initial_words o) (all_words (p ∷ rest)) (object_is o h.1 h.4 (front_of h.1 (outside h.0 ∷ h.2) all)) (objects_are (p ∷ rest) h.2 h.5 (back_of h.1 (outside h.0 ∷ h.2) all).1)
+    (object_is o h.1 h.4 (front_of h.1 (outside h.0 ∷ h.2) all), objects_are (p ∷ rest) h.2 h.5 (back_of h.1 (outside h.0 ∷ h.2) all).1)
 
-words_append : (os ps : List Object) → AreWords (all_words os) → AreWords (all_words ps) → AreWords (all_words (os ++ ps))
-words_append [] ps h k = k
-words_append (o ∷ os) ps h k = append_words (initial_words o) (all_words (os ++ ps)) (first (initial_words o) (all_words os) h) (words_append os ps (second (initial_words o) (all_words os) h) k)
-  where
-    first : (xs ys : List ℕ) → AreWords (xs ++ ys) → AreWords xs
-    first [] ys h = tt
-    first (x ∷ xs) ys h = (h.0, first xs ys h.1)
+-- the elements of an array of `unsigned char` keep eight bits, whatever its list is
+pub byte_list : (vs : List ConstantExpr) (zeros : ℕ) → AreBytes (map (λ (c : ConstantExpr). initial_word (Some c) % 2 ^ 8) vs ++ replicate zeros 0)
+byte_list [] zero = tt
+byte_list [] (suc zeros) = (omega arith, byte_list [] zeros)
+byte_list (v ∷ vs) zeros = (omega arith, byte_list vs zeros)
 
-    second : (xs ys : List ℕ) → AreWords (xs ++ ys) → AreWords ys
-    second [] ys h = h
-    second (x ∷ xs) ys h = second xs ys h.1
+byte_array_is : (o : Object) (ts : List Measured) → SpellsByteArray ts o → AreKept (object_width o) (initial_words o)
+byte_array_is (Single x e) ts h = absurd h
+byte_array_is (Array x n vs) ts h = absurd h
+byte_array_is (Bytes x n vs) ts h = byte_list vs (array_elements n vs - length vs)
 
-externals_are : (es : List External) (ts : List Measured) → SpellsExternals ts es → Have ts → AreWords (all_words (objects es))
+byte_arrays_are : (os : List Object) (ts : List Measured) → SpellsRow SpellsByteArray ts os → AllKept os
+byte_arrays_are [] ts h = tt
+byte_arrays_are (o ∷ []) ts h = (byte_array_is o ts h, tt)
+byte_arrays_are (o ∷ p ∷ rest) ts h = (byte_array_is o h.1 h.4, byte_arrays_are (p ∷ rest) h.2 h.5)
+
+kept_append : (os ps : List Object) → AllKept os → AllKept ps → AllKept (os ++ ps)
+kept_append [] ps h k = k
+kept_append (o ∷ os) ps h k = (h.0, kept_append os ps h.1 k)
+
+declared_are : (t : Scalar) (os : List Object) (ts : List Measured) → SpellsExternal ts (Objects t os) → Have ts → AllKept os
+declared_are t os ts (inl h) are =
+    let one : Have (map outside h.0 ++ (h.1 ++ outside h.2 ∷ [])) = subst Have h.6 are in
+    objects_are os h.1 h.4 (front_of h.1 (outside h.2 ∷ []) (back_of (map outside h.0) (h.1 ++ outside h.2 ∷ []) one))
+declared_are t os ts (inr (e, h)) are = byte_arrays_are os h.1 h.4
+
+externals_are : (es : List External) (ts : List Measured) → SpellsExternals ts es → Have ts → AllKept (objects es)
 externals_are [] ts h are = tt
 externals_are (Declaration s ∷ es) ts h are = externals_are es h.1 h.3 (back_of h.0 h.1 (subst Have h.4 are))
 externals_are (Definition s body ∷ es) ts h are = externals_are es h.1 h.3 (back_of h.0 h.1 (subst Have h.4 are))
 externals_are (Objects t os ∷ es) ts h are =
     let all : Have (h.0 ++ h.1) = subst Have h.4 are in
-    let one : Have (map outside h.2.0 ++ (h.2.1 ++ outside h.2.2 ∷ [])) = subst Have h.2.6 (front_of h.0 h.1 all) in
-    words_append os (objects es) (objects_are os h.2.1 h.2.4 (front_of h.2.1 (outside h.2.2 ∷ []) (back_of (map outside h.2.0) (h.2.1 ++ outside h.2.2 ∷ []) one))) (externals_are es h.1 h.3 (back_of h.0 h.1 all))
+    kept_append os (objects es) (declared_are t os h.0 h.2 (front_of h.0 h.1 all)) (externals_are es h.1 h.3 (back_of h.0 h.1 all))
 
-unit_words : (es : List External) (ts : List Measured) → SpellsUnit ts es → Have ts → AreWords (all_words (objects es))
-unit_words [] ts h are = absurd h
-unit_words (e ∷ es) ts h are = externals_are (e ∷ es) ts h are
+unit_kept : (es : List External) (ts : List Measured) → SpellsUnit ts es → Have ts → AllKept (objects es)
+unit_kept [] ts h are = absurd h
+unit_kept (e ∷ es) ts h are = externals_are (e ∷ es) ts h are
 
--- the words of the objects are words
-pub constants_are_words : (text : List ℕ) (tree : List External) → SpellsText text tree → AreWords (all_words (objects tree))
-constants_are_words text tree h = unit_words tree h.spelled.0 h.spelled.1 (subst AreNumbersWords (sym h.spelled.3) (text_words text h.tokens h.are))
+-- the elements of the objects are what their widths keep
+pub constants_are_kept : (text : List ℕ) (tree : List External) → SpellsText text tree → AllKept (objects tree)
+constants_are_kept text tree h = unit_kept tree h.spelled.0 h.spelled.1 (subst AreNumbersWords (sym h.spelled.3) (text_words text h.tokens h.are))

@@ -16,6 +16,7 @@ use Rattle.cc_typing.specs.Typed.{IsTyped, IsWithinLimits, defined_names}
 use Rattle.cc_meaning.specs.Meaning.{functions, functions_from}
 use Rattle.cc_meaning.specs.Calls.{ObjectsAreSized}
 use Rattle.cc_meaning.specs.Numbered.{TypedUnitsHaveMeanings}
+use Rattle.cc_runs.specs.World.{Size}
 use Rattle.cc_emit.specs.declared.item.Item.{Item}
 use Rattle.cc_emit.specs.declared.item.Item.TheVariants.{Plain, Call, Go}
 use Rattle.cc_emit.specs.Contract.{AreFit}
@@ -29,7 +30,7 @@ use Rattle.cc_link.specs.internal.Filling.{StaysIn, StayIn, AllStayIn}
 use Rattle.cc_link.proofs.Laying.{total, laid_out, laid_in_order}
 use Rattle.cc_link.proofs.Placing.{length_fill}
 use Rattle.cc_link.proofs.Sizes.{few_words}
-use Rattle.cc_link.proofs.Linked.{AreOfTree, one_text, one_tree, order_long, bodies_are}
+use Rattle.cc_link.proofs.Linked.{AreOfTree, one_text, one_tree, bodies_long, bodies_are}
 
 -- ---- how many functions
 
@@ -71,9 +72,9 @@ module _ (tokens : TokensAreOne) (trees : TreesAreOne) (meanings : TypedUnitsHav
   stay_by : (tree : List External) (ps : List Piece) → IsTyped tree → IsWithinLimits tree → AreOfTree tree ps → All IsPieceOfUnit ps → missing ps 0 (length (functions tree)) ≡ None → AllStayIn (length (functions tree)) (bodies tree ps)
   stay_by tree ps typed limits t k e =
       let made = meanings tree typed in
-      let few : total made.0.objects ≤ 65536 = subst (λ (os : List ℕ). total os ≤ 65536) (sym made.1.objects) (few_words sized tree typed limits) in
+      let few : total made.0.objects ≤ 65536 = subst (λ (os : List Size). total os ≤ 65536) (sym made.1.objects) (few_words sized tree typed limits) in
       all_stay (length (functions tree)) (bodies tree ps) (λ f lt.
-      let piece = bodies_are tree ps t k e f (subst (λ n. f < n) (order_long ps 0 (length (functions tree))) lt) made.0 made.1 (laid_out made.0.objects few) (laid_in_order made.0.objects few) in
+      let piece = bodies_are tree ps t k e f (subst (λ n. f < n) (bodies_long tree ps e) lt) made.0 made.1 (laid_out made.0.objects few) (laid_in_order made.0.objects few) in
       stay_of (length (functions tree)) (length (get_or (bodies tree ps) f [])) (get_or (bodies tree ps) f []) (subst (λ n. AreFit n (length (get_or (bodies tree ps) f [])) (get_or (bodies tree ps) f [])) made.1.functions piece.fit))
 
   pub bodies_stay : (s : Source) (ps : List Piece) → ∥ SpellsText s.text s.externals ∥₁ → IsTyped s.externals → IsWithinLimits s.externals → stranger s.text 0 ps ≡ None → All IsPieceOfUnit ps → missing ps 0 (length (functions s.externals)) ≡ None

@@ -1,13 +1,12 @@
 -- An image of pieces that meet their contracts follows the source.
-use Rattle.std.proofs.Common.{◌≡◌, ℕ, suc, ◌+◌, ◌-◌, ◌*◌, ◌%◌, ◌^◌, ◌<◌, ◌≤◌, Bool, true, false, List, [], ◌∷◌, length, get_or, refl, sym, ap, ◌∙◌, subst, arith}
-use Rattle.std.specs.List.{concat}
+use Rattle.std.proofs.Common.{◌≡◌, ℕ, suc, ◌+◌, ◌-◌, ◌*◌, ◌%◌, ◌^◌, ◌<◌, ◌≤◌, Bool, true, false, List, [], ◌∷◌, length, map, get_or, refl, sym, ap, ◌∙◌, subst, arith}
 use Rattle.std.specs.Prelude.{◌==◌, ◌++◌, if◌then◌else◌}
 use Rattle.std.proofs.Math.Nat.{mul-suc}
 use Rattle.cc_rv32.specs.declared.image.Image.{Image}
 use Rattle.cc_rv32.specs.declared.outcome.MachineOutcome.TheVariants.{Going as Runs}
 use Rattle.cc_rv32.specs.Machine.{State, Turn, Continues, Exits, Traps, turned, machine_run, seen, executed, jumps, with_register, first_or_zero, rest_of, start_state, start_memory, instruction_at, stack_to}
 use Rattle.cc_runs.specs.Behavior.{Going, Ended, Outcome, AreWords, Follows}
-use Rattle.cc_runs.specs.World.{World, Answer, Effect, Gives, Unfinished, Failed, IsWorld}
+use Rattle.cc_runs.specs.World.{Object, size_of as object_size, World, Answer, Effect, Gives, Unfinished, Failed, IsWorld}
 use Rattle.cc_runs.specs.Meaning.{Meaning}
 use Rattle.cc_emit.specs.declared.item.Item.{Item}
 use Rattle.cc_emit.specs.Contract.{Layout, Path, Placed, Enters, ComesBack, Meets, IsPiece}
@@ -18,10 +17,10 @@ use Rattle.cc_link.proofs.Counting.{Matched, follows}
 use Rattle.cc_link.proofs.Machine.{going, run_path, run_more}
 use Rattle.cc_link.proofs.CallsMeet.{power}
 use Rattle.cc_link.proofs.Placing.{begins, from, linked_meets}
-use Rattle.cc_link.proofs.Laying.{total, laid_out, object_at, concat_words, start_below, sizes, words_at}
+use Rattle.cc_link.proofs.Laying.{AreKept, globals_image, kept_are_words, laid_out, object_at, object_in, start_below, total}
 
 -- what the call of main shows, while no other call is open
-abbrev pub called_behavior : (meaning : Meaning) (main : ℕ) (initial : List (List ℕ)) (input : List ℕ) → ℕ → Outcome ℕ
+abbrev pub called_behavior : (meaning : Meaning) (main : ℕ) (initial : List Object) (input : List ℕ) → ℕ → Outcome ℕ
 called_behavior meaning main initial input n = outcome_by_number (meaning.call n 0 main [] (record { globals = initial; input = input; output = [] }))
 
 one_more : (c m n : ℕ) → n ≤ c + c * m → n ≤ c * suc m
@@ -37,7 +36,7 @@ cond_words false x y h k = k
 
 module _ (meaning : Meaning) (few : total meaning.objects ≤ 65536) (main : ℕ) (pieces : List (List Item)) (is_function : main < meaning.functions) (bare : meaning.arity main ≡ 0) (count : length pieces ≡ meaning.functions) (fits : 3 + size_of pieces ≤ 131072)
     (all : (f : ℕ) → f < meaning.functions → IsPiece meaning (laid_out meaning.objects few) f (get_or pieces f []))
-    (initial : List (List ℕ)) (sized : sizes initial ≡ meaning.objects) (words : (g : ℕ) → AreWords (get_or initial g [])) (input : List ℕ) (input_words : AreWords input) where
+    (initial : List Object) (sized : map object_size initial ≡ meaning.objects) (kept : (g : ℕ) → AreKept (object_in initial g).width (object_in initial g).words) (words : AreWords (globals_image initial)) (input : List ℕ) (input_words : AreWords input) where
   abbrev code : List ℕ
   code = encoded (linked_code main pieces)
 
@@ -45,20 +44,20 @@ module _ (meaning : Meaning) (few : total meaning.objects ≤ 65536) (main : ℕ
   layout = laid_out meaning.objects few
 
   abbrev first : State
-  first = start_state (concat initial) input
+  first = start_state (globals_image initial) input
 
   abbrev shared : World
   shared = record { globals = initial; input = input; output = [] }
 
   -- behind the first jump
   abbrev entered : State
-  entered = record { pc = place_of pieces main; registers = with_register first.registers 1 0x10004; memory = start_memory (concat initial); input = input; output = [] }
+  entered = record { pc = place_of pieces main; registers = with_register first.registers 1 0x10004; memory = start_memory (globals_image initial); input = input; output = [] }
 
   abbrev stands : Placed (instruction_at code) (place_of pieces) 0x10000 0x10000 (head main)
   stands = begins meaning layout main pieces is_function count fits all
 
   world : IsWorld meaning.objects shared
-  world = record { sizes = sized; globals = words; input = input_words }
+  world = record { sizes = sized; globals = λ g. kept_are_words (object_in initial g).width (object_in initial g).words (kept g); input = input_words }
 
   enters : Enters meaning layout main 0 (place_of pieces main) [] shared entered
   enters = record {
@@ -67,7 +66,7 @@ module _ (meaning : Meaning) (few : total meaning.objects ≤ 65536) (main : ℕ
     sound = record {
       zero = refl;
       registers = λ r. cond_words _ 0x10004 _ (omega arith) (cond_word (r == 2) stack_to (omega arith));
-      memory = λ a. start_below (concat initial) a (concat_words initial words);
+      memory = λ a. start_below (globals_image initial) a words;
       input = input_words;
     };
     back = refl;
@@ -75,7 +74,7 @@ module _ (meaning : Meaning) (few : total meaning.objects ≤ 65536) (main : ℕ
     room = omega arith;
     top = omega arith;
     passes = tt;
-    shares = record { sizes = sized; globals = λ g i lt. object_at initial meaning.objects sized g i lt; input = refl; output = refl };
+    shares = record { sizes = sized; globals = λ g i lt. object_at initial meaning.objects sized kept g i lt; input = refl; output = refl };
   }
 
   to_main : executed (instruction_at code first.pc) first ≡ Continues entered
@@ -125,9 +124,9 @@ module _ (meaning : Meaning) (few : total meaning.objects ≤ 65536) (main : ℕ
 -- the whole: an image of these words and globals agrees with the source
 pub linked_agrees : (meaning : Meaning) (few : total meaning.objects ≤ 65536) (main : ℕ) (pieces : List (List Item)) → main < meaning.functions → meaning.arity main ≡ 0 → length pieces ≡ meaning.functions → 3 + size_of pieces ≤ 131072
     → ((f : ℕ) → f < meaning.functions → IsPiece meaning (laid_out meaning.objects few) f (get_or pieces f []))
-    → (initial : List (List ℕ)) → sizes initial ≡ meaning.objects
-    → (image : Image) → image.code ≡ encoded (linked_code main pieces) → image.globals ≡ concat initial → AreWords image.globals → ((input : List ℕ) → AreWords input → Follows (called_behavior meaning main initial input) (image_behavior image input))
-linked_agrees meaning few main pieces is_function bare count fits all initial sized image is_code is_globals words input input_words =
+    → (initial : List Object) → map object_size initial ≡ meaning.objects → ((g : ℕ) → AreKept (object_in initial g).width (object_in initial g).words)
+    → (image : Image) → image.code ≡ encoded (linked_code main pieces) → image.globals ≡ globals_image initial → AreWords image.globals → ((input : List ℕ) → AreWords input → Follows (called_behavior meaning main initial input) (image_behavior image input))
+linked_agrees meaning few main pieces is_function bare count fits all initial sized kept image is_code is_globals words input input_words =
     subst (λ c. Follows (called_behavior meaning main initial input) (λ m. shown (seen (machine_run c m (record { state = start_state image.globals input; outcome = Runs }))))) (sym is_code)
     (subst (λ g. Follows (called_behavior meaning main initial input) (λ m. shown (seen (machine_run (encoded (linked_code main pieces)) m (record { state = start_state g input; outcome = Runs }))))) (sym is_globals)
-    (agrees meaning few main pieces is_function bare count fits all initial sized (words_at initial (subst AreWords is_globals words)) input input_words))
+    (agrees meaning few main pieces is_function bare count fits all initial sized kept (subst AreWords is_globals words) input input_words))

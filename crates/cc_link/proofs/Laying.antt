@@ -1,38 +1,108 @@
--- The objects one behind the other from 0x200000 on, and an image's memory at its start.
-use Rattle.std.proofs.Common.{◌≡◌, ℕ, zero, suc, ◌+◌, ◌-◌, ◌*◌, ◌/◌, ◌%◌, ◌^◌, ◌<◌, ◌≤◌, ◌⊎◌, inl, inr, Bool, true, false, List, [], ◌∷◌, ◌++◌, length, map, get_or, refl, sym, ap, ◌∙◌, arith}
-use Rattle.std.specs.List.{concat}
+-- The objects one behind the other from 0x200000 on, their image, and what the machine loads of it at its start: byte i of the packed words
+-- is element i.
+use Rattle.std.proofs.Common.{◌≡◌, ℕ, zero, suc, ◌+◌, ◌-◌, ◌*◌, ◌/◌, ◌%◌, ◌^◌, ◌<◌, ◌≤◌, ◌⊎◌, inl, inr, Bool, true, false, List, [], ◌∷◌, ◌++◌, length, map, get_or, refl, sym, ap, ap₂, ◌∙◌, subst, arith}
 use Rattle.std.specs.Prelude.{nat_le, ◌&&◌, ◌==◌, if◌then◌else◌, slice_index}
+use Rattle.std.specs.List.{concat}
+use Rattle.std.proofs.lemmas.List.{length-append}
 use Rattle.std.proofs.lemmas.Bool.{le-leb}
+use Rattle.cc_words.specs.declared.operators.Width.{Width}
+use Rattle.cc_words.specs.declared.operators.Width.TheVariants.{Byte, Word}
+use Rattle.cc_words.specs.Widths.{words_of}
 use Rattle.cc_rv32.specs.Machine.{start_memory, globals_from}
 use Rattle.cc_runs.specs.Behavior.{AreWords}
-use Rattle.cc_emit.specs.Contract.{Layout}
+use Rattle.cc_runs.specs.World.{Object, Size, size_in, size_of}
+use Rattle.cc_emit.specs.Contract.{Layout, element_at, size_words, words_in}
 use Rattle.cc_emit.specs.Objects.{words_before, object_address, IsInOrder}
+use Rattle.cc_link.specs.Packed.{packed_bytes, packed}
+use Rattle.cc_link.specs.internal.Packing.{AreBytes}
+use Rattle.cc_emit.proofs.Bytes.{byte_in}
+use Rattle.cc_emit.proofs.Standing.{size_found}
 
-abbrev pub total : List ℕ → ℕ
+-- ---- the words of objects in an image
+
+abbrev pub object_image : Object → List ℕ
+object_image o = packed o.width o.words
+
+-- objects, one behind the other
+abbrev pub globals_image : List Object → List ℕ
+globals_image os = concat (map object_image os)
+
+-- ---- bytes in words
+
+-- each word is what an element of the width keeps
+abbrev pub AreKept : Width → List ℕ → Type 0
+AreKept Byte bs = AreBytes bs
+AreKept Word ws = AreWords ws
+
+pub packed_byte : (bs : List ℕ) (i : ℕ) → AreBytes bs → i < length bs → byte_in (get_or (packed_bytes bs) (i / 4) 0) (i % 4) ≡ get_or bs i 0
+packed_byte [] i all lt = absurd (omega arith)
+packed_byte (a ∷ []) zero (p, all) lt = omega arith
+packed_byte (a ∷ []) (suc i) (p, all) lt = absurd (omega arith)
+packed_byte (a ∷ b ∷ []) zero (p, (q, all)) lt = omega arith
+packed_byte (a ∷ b ∷ []) (suc zero) (p, (q, all)) lt = omega arith
+packed_byte (a ∷ b ∷ []) (suc (suc i)) (p, (q, all)) lt = absurd (omega arith)
+packed_byte (a ∷ b ∷ c ∷ []) zero (p, (q, (r, all))) lt = omega arith
+packed_byte (a ∷ b ∷ c ∷ []) (suc zero) (p, (q, (r, all))) lt = omega arith
+packed_byte (a ∷ b ∷ c ∷ []) (suc (suc zero)) (p, (q, (r, all))) lt = omega arith
+packed_byte (a ∷ b ∷ c ∷ []) (suc (suc (suc i))) (p, (q, (r, all))) lt = absurd (omega arith)
+packed_byte (a ∷ b ∷ c ∷ d ∷ rest) zero (p, (q, (r, (s, all)))) lt = omega arith
+packed_byte (a ∷ b ∷ c ∷ d ∷ rest) (suc zero) (p, (q, (r, (s, all)))) lt = omega arith
+packed_byte (a ∷ b ∷ c ∷ d ∷ rest) (suc (suc zero)) (p, (q, (r, (s, all)))) lt = omega arith
+packed_byte (a ∷ b ∷ c ∷ d ∷ rest) (suc (suc (suc zero))) (p, (q, (r, (s, all)))) lt = omega arith
+packed_byte (a ∷ b ∷ c ∷ d ∷ rest) (suc (suc (suc (suc i)))) (p, (q, (r, (s, all)))) lt =
+    let word : suc (suc (suc (suc i))) / 4 ≡ suc (i / 4) = omega arith in
+    let byte : suc (suc (suc (suc i))) % 4 ≡ i % 4 = omega arith in
+    ap₂ (λ k j. byte_in (get_or (packed_bytes (a ∷ b ∷ c ∷ d ∷ rest)) k 0) j) word byte ∙ packed_byte rest i all (omega arith)
+
+bytes_length : (bs : List ℕ) → length (packed_bytes bs) ≡ (length bs + 3) / 4
+bytes_length [] = refl
+bytes_length (a ∷ []) = refl
+bytes_length (a ∷ b ∷ []) = refl
+bytes_length (a ∷ b ∷ c ∷ []) = refl
+bytes_length (a ∷ b ∷ c ∷ d ∷ rest) = let h = bytes_length rest in omega arith
+
+pub packed_length : (w : Width) (ws : List ℕ) → length (packed w ws) ≡ words_of w (length ws)
+packed_length Byte ws = bytes_length ws
+packed_length Word ws = refl
+
+bytes_words : (bs : List ℕ) → AreBytes bs → AreWords (packed_bytes bs)
+bytes_words [] all = tt
+bytes_words (a ∷ []) (p, all) = (omega arith, tt)
+bytes_words (a ∷ b ∷ []) (p, (q, all)) = (omega arith, tt)
+bytes_words (a ∷ b ∷ c ∷ []) (p, (q, (r, all))) = (omega arith, tt)
+bytes_words (a ∷ b ∷ c ∷ d ∷ rest) (p, (q, (r, (s, all)))) = (omega arith, bytes_words rest all)
+
+pub packed_words : (w : Width) (ws : List ℕ) → AreKept w ws → AreWords (packed w ws)
+packed_words Byte ws all = bytes_words ws all
+packed_words Word ws all = all
+
+-- ---- objects one behind the other
+
+abbrev pub total : List Size → ℕ
 total [] = 0
-total (n ∷ ns) = n + total ns
+total (o ∷ os) = size_words o + total os
 
-pub within : (ns : List ℕ) (g : ℕ) → words_before ns g + get_or ns g 0 ≤ total ns
+pub within : (os : List Size) (g : ℕ) → words_before os g + words_in os g ≤ total os
 within [] g = omega arith
-within (n ∷ ns) zero = omega arith
-within (n ∷ ns) (suc g) = let h = within ns g in omega arith
+within (o ∷ os) zero = omega arith
+within (o ∷ os) (suc g) = let h = within os g in omega arith
 
 shifted : (n a b c d : ℕ) → (a + b ≤ c) ⊎ (c + d ≤ a) → (n + a + b ≤ n + c) ⊎ (n + c + d ≤ n + a)
 shifted n a b c d (inl h) = inl (omega arith)
 shifted n a b c d (inr h) = inr (omega arith)
 
-pub lie_apart : (ns : List ℕ) (g k : ℕ) → (g ≡ k → ⊥) → (words_before ns g + get_or ns g 0 ≤ words_before ns k) ⊎ (words_before ns k + get_or ns k 0 ≤ words_before ns g)
+pub lie_apart : (os : List Size) (g k : ℕ) → (g ≡ k → ⊥) → (words_before os g + words_in os g ≤ words_before os k) ⊎ (words_before os k + words_in os k ≤ words_before os g)
 lie_apart [] g k ne = inl (omega arith)
-lie_apart (n ∷ ns) zero zero ne = absurd (ne refl)
-lie_apart (n ∷ ns) zero (suc k) ne = inl (omega arith)
-lie_apart (n ∷ ns) (suc g) zero ne = inr (omega arith)
-lie_apart (n ∷ ns) (suc g) (suc k) ne = shifted n _ _ _ _ (lie_apart ns g k (λ e. ne (ap suc e)))
+lie_apart (o ∷ os) zero zero ne = absurd (ne refl)
+lie_apart (o ∷ os) zero (suc k) ne = inl (omega arith)
+lie_apart (o ∷ os) (suc g) zero ne = inr (omega arith)
+lie_apart (o ∷ os) (suc g) (suc k) ne = shifted (size_words o) _ _ _ _ (lie_apart os g k (λ e. ne (ap suc e)))
 
 pub by_four : (a b c d : ℕ) → (a + b ≤ c) ⊎ (c + d ≤ a) → (0x200000 + 4 * a + 4 * b ≤ 0x200000 + 4 * c) ⊎ (0x200000 + 4 * c + 4 * d ≤ 0x200000 + 4 * a)
 by_four a b c d (inl h) = inl (omega arith)
 by_four a b c d (inr h) = inr (omega arith)
 
-abbrev pub laid_out : (objects : List ℕ) → total objects ≤ 65536 → Layout objects
+abbrev pub laid_out : (objects : List Size) → total objects ≤ 65536 → Layout objects
 laid_out objects few = record {
   base = object_address objects;
   from = λ g. omega arith;
@@ -41,7 +111,7 @@ laid_out objects few = record {
   apart = λ g k ne. by_four _ _ _ _ (lie_apart objects g k ne);
 }
 
-pub laid_in_order : (objects : List ℕ) (few : total objects ≤ 65536) → IsInOrder (laid_out objects few)
+pub laid_in_order : (objects : List Size) (few : total objects ≤ 65536) → IsInOrder (laid_out objects few)
 laid_in_order objects few = λ g. refl
 
 -- ---- what stands there
@@ -55,20 +125,17 @@ behind : (xs ys : List ℕ) (i : ℕ) → get_or (xs ++ ys) (length xs + i) 0 �
 behind [] ys i = let e : 0 + i ≡ i = omega arith in ap (λ n. get_or ys n 0) e
 behind (x ∷ xs) ys i = let e : suc (length xs) + i ≡ suc (length xs + i) = omega arith in ap (λ n. get_or (x ∷ (xs ++ ys)) n 0) e ∙ behind xs ys i
 
-abbrev pub sizes : List (List ℕ) → List ℕ
-sizes gs = map (λ (ws : List ℕ). length ws) gs
+abbrev pub object_in : List Object → (number : ℕ) → Object
+object_in gs g = get_or gs g (record { width = Word; words = [] })
 
-element : (gs : List (List ℕ)) (g i : ℕ) → i < length (get_or gs g []) → get_or (concat gs) (words_before (sizes gs) g + i) 0 ≡ get_or (get_or gs g []) i 0
-element [] g i lt = absurd (omega arith)
-element (x ∷ xs) zero i lt = let e : 0 + i ≡ i = omega arith in ap (λ n. get_or (x ++ concat xs) n 0) e ∙ in_front x (concat xs) i lt
-element (x ∷ xs) (suc g) i lt =
-    let e : length x + words_before (sizes xs) g + i ≡ length x + (words_before (sizes xs) g + i) = omega arith in
-    ap (λ n. get_or (x ++ concat xs) n 0) e ∙ behind x (concat xs) (words_before (sizes xs) g + i) ∙ element xs g i lt
-
-size_at : (gs : List (List ℕ)) (g : ℕ) → get_or (sizes gs) g 0 ≡ length (get_or gs g [])
-size_at [] g = refl
-size_at (x ∷ xs) zero = refl
-size_at (x ∷ xs) (suc g) = size_at xs g
+-- word k of an object's image
+image_at : (gs : List Object) (g k : ℕ) → k < length (object_image (object_in gs g)) → get_or (globals_image gs) (words_before (map size_of gs) g + k) 0 ≡ get_or (object_image (object_in gs g)) k 0
+image_at [] g k lt = absurd (omega arith)
+image_at (o ∷ os) zero k lt = let e : 0 + k ≡ k = omega arith in ap (λ n. get_or (object_image o ++ globals_image os) n 0) e ∙ in_front (object_image o) (globals_image os) k lt
+image_at (o ∷ os) (suc g) k lt =
+    let long = packed_length o.width o.words in
+    let e : size_words (size_of o) + words_before (map size_of os) g + k ≡ length (object_image o) + (words_before (map size_of os) g + k) = omega arith in
+    ap (λ n. get_or (object_image o ++ globals_image os) n 0) e ∙ behind (object_image o) (globals_image os) (words_before (map size_of os) g + k) ∙ image_at os g k lt
 
 memory_at : (globals : List ℕ) (k : ℕ) → start_memory globals (0x200000 + 4 * k) ≡ get_or globals k 0
 memory_at globals k =
@@ -79,33 +146,46 @@ memory_at globals k =
     ∙ ap (λ b. if b then slice_index globals ((a - globals_from) / 4) else 0) (le-leb globals_from a (omega arith))
     ∙ ap (λ n. get_or globals n 0) f
 
-pub object_at : (gs : List (List ℕ)) (objects : List ℕ) → sizes gs ≡ objects → (g i : ℕ) → i < get_or objects g 0 → start_memory (concat gs) (0x200000 + 4 * words_before objects g + 4 * i) ≡ get_or (get_or gs g []) i 0
-object_at gs objects is g i lt =
-    let e : 0x200000 + 4 * words_before objects g + 4 * i ≡ 0x200000 + 4 * (words_before objects g + i) = omega arith in
-    let s : get_or objects g 0 ≡ length (get_or gs g []) = ap (λ o. get_or o g 0) (sym is) ∙ size_at gs g in
-    ap (start_memory (concat gs)) e ∙ memory_at (concat gs) (words_before objects g + i)
-    ∙ ap (λ o. get_or (concat gs) (words_before o g + i) 0) (sym is) ∙ element gs g i (omega arith)
+-- an element, where the words of its object stand
+element_by : (w : Width) (ws : List ℕ) (m : ℕ → ℕ) (b i : ℕ) → b % 4 ≡ 0 → AreKept w ws → ((k : ℕ) → k < words_of w (length ws) → m (b + 4 * k) ≡ get_or (packed w ws) k 0) → i < length ws
+    → element_at (record { width = w; elements = length ws }) m b i ≡ get_or ws i 0
+element_by Byte ws m b i z all stands lt =
+    let at : b + 1 * i - (b + 1 * i) % 4 ≡ b + 4 * (i / 4) = omega arith in
+    let byte : (b + 1 * i) % 4 ≡ i % 4 = omega arith in
+    ap₂ (λ a j. byte_in (m a) j) at byte ∙ ap (λ n. byte_in n (i % 4)) (stands (i / 4) (omega arith)) ∙ packed_byte ws i all lt
+element_by Word ws m b i z all stands lt = stands i lt
 
-append_words : (xs ys : List ℕ) → AreWords xs → AreWords ys → AreWords (xs ++ ys)
-append_words [] ys p q = q
-append_words (x ∷ xs) ys p q = (p.0, append_words xs ys p.1 q)
+-- the machine's memory at its start has each element
+pub object_at : (gs : List Object) (objects : List Size) → map size_of gs ≡ objects → ((g : ℕ) → AreKept (object_in gs g).width (object_in gs g).words) → (g i : ℕ) → i < (size_in objects g).elements
+    → element_at (size_in objects g) (start_memory (globals_image gs)) (object_address objects g) i ≡ get_or (object_in gs g).words i 0
+object_at gs objects is all g i lt =
+    let o = object_in gs g in
+    let size : size_in objects g ≡ size_of o = size_found objects (record { globals = gs; input = []; output = [] }) is g in
+    let m = start_memory (globals_image gs) in
+    let stands : ((k : ℕ) → k < words_of o.width (length o.words) → m (object_address objects g + 4 * k) ≡ get_or (packed o.width o.words) k 0) =
+    λ k lk. (let long = packed_length o.width o.words in
+    let e : 0x200000 + 4 * words_before objects g + 4 * k ≡ 0x200000 + 4 * (words_before objects g + k) = omega arith in
+    ap m e ∙ memory_at (globals_image gs) (words_before objects g + k) ∙ ap (λ (s : List Size). get_or (globals_image gs) (words_before s g + k) 0) (sym is) ∙ image_at gs g k (omega arith)) in
+    ap (λ (s : Size). element_at s m (object_address objects g) i) size ∙ element_by o.width o.words m (object_address objects g) i (omega arith) (all g) stands (subst (λ (s : Size). i < s.elements) size lt)
 
-pub concat_words : (gs : List (List ℕ)) → ((g : ℕ) → AreWords (get_or gs g [])) → AreWords (concat gs)
-concat_words [] h = tt
-concat_words (x ∷ xs) h = append_words x (concat xs) (h 0) (concat_words xs (λ g. h (suc g)))
+-- ---- words
 
-front_words : (xs ys : List ℕ) → AreWords (xs ++ ys) → AreWords xs
-front_words [] ys h = tt
-front_words (x ∷ xs) ys h = (h.0, front_words xs ys h.1)
+-- so many words as the objects take
+pub image_long : (os : List Object) → length (globals_image os) ≡ total (map size_of os)
+image_long [] = refl
+image_long (o ∷ os) =
+    let long = packed_length o.width o.words in
+    let rest = image_long os in
+    let both = length-append (object_image o) (globals_image os) in
+    omega arith
 
-back_words : (xs ys : List ℕ) → AreWords (xs ++ ys) → AreWords ys
-back_words [] ys h = h
-back_words (x ∷ xs) ys h = back_words xs ys h.1
+bytes_are_words : (bs : List ℕ) → AreBytes bs → AreWords bs
+bytes_are_words [] all = tt
+bytes_are_words (b ∷ bs) (p, all) = (omega arith, bytes_are_words bs all)
 
-pub words_at : (gs : List (List ℕ)) → AreWords (concat gs) → (g : ℕ) → AreWords (get_or gs g [])
-words_at [] h g = tt
-words_at (x ∷ xs) h zero = front_words x (concat xs) h
-words_at (x ∷ xs) h (suc g) = words_at xs (back_words x (concat xs) h) g
+pub kept_are_words : (w : Width) (ws : List ℕ) → AreKept w ws → AreWords ws
+kept_are_words Byte ws all = bytes_are_words ws all
+kept_are_words Word ws all = all
 
 pub word_below : (ws : List ℕ) (i : ℕ) → AreWords ws → get_or ws i 0 < 2 ^ 32
 word_below [] i h = omega arith

@@ -15,3 +15,8 @@ pub mod Own
 pub mod OneByOne
 pub mod Ordering
 pub mod Answering
+pub mod Few
+pub mod Short
+pub mod Certified
+pub mod Confirming
+pub mod Packing

@@ -1,9 +1,11 @@
 -- What linking's answer tells of pieces, and that the unit which it makes agrees.
-use Rattle.std.proofs.Common.{◌≡◌, ℕ, zero, suc, ◌+◌, ◌<◌, ◌≤◌, ◌==◌, Bool, true, false, if◌then◌else◌, nat_lt, List, [], ◌∷◌, length, get_or, Option, Some, None, is_some, unwrap_or, Result, Ok, Err, refl, sym, ap, ◌∙◌, subst, arith}
+use Rattle.std.proofs.Common.{◌≡◌, ℕ, zero, suc, ◌+◌, ◌<◌, ◌≤◌, ◌==◌, Bool, true, false, if◌then◌else◌, nat_lt, List, [], ◌∷◌, length, get_or, Option, Some, None, is_some, Result, Ok, Err, refl, sym, ap, ◌∙◌, subst, arith}
 use Rattle.std.proofs.Math.Logic.{∥∥₁_elim, ∥∥₁_map, ∥∥₁_map₂, ∥∥₁_prop}
 use Rattle.std.proofs.lemmas.Bool.{ltb-false, eqb-true}
+use Rattle.std.proofs.lemmas.List.{length-map}
 use Rattle.std.proofs.lemmas.List.Elements.{All-head, All-tail}
 use Rattle.std.specs.Prelude.{All}
+use Rattle.std.specs.List.{AllByRecursion}
 use Rattle.std.specs.Option.{option_or}
 use Rattle.std.specs.Cmp.Lexicographic.{same_text}
 use Rattle.cc_tokens.specs.Tokens.{TokensAreOne}
@@ -12,7 +14,7 @@ use Rattle.cc_syntax.specs.Source.{source}
 use Rattle.cc_syntax.specs.Limits.{TreesAreOne}
 use Rattle.cc_syntax.specs.Parse.{SpellsText}
 use Rattle.cc_typing.specs.Limits.{objects}
-use Rattle.cc_resolve.specs.Layout.{all_words}
+use Rattle.cc_link.proofs.Sizes.{AllKept}
 use Rattle.cc_meaning.specs.Meaning.{functions}
 use Rattle.cc_meaning.specs.Calls.{TypedUnitsHaveMain, ObjectsAreSized}
 use Rattle.cc_meaning.specs.Numbered.{TypedUnitsHaveMeanings, ProgramsAreNumbered}
@@ -24,21 +26,21 @@ use Rattle.cc_link.specs.declared.fault.LinkFault.{LinkFault}
 use Rattle.cc_link.specs.declared.fault.LinkFault.TheVariants.{ImageTooLarge, Missing, Stranger}
 use Rattle.cc_link.specs.Agree.{Agree}
 use Rattle.cc_link.specs.Link.{code_words, most_code}
-use Rattle.cc_link.specs.Linked.{same_bytes, stranger, doubled, items_of, missing, in_order, bodies, too_large, link_refusal, unit_of, unless_refused}
+use Rattle.cc_link.specs.Linked.{same_bytes, stranger, doubled, piece_of, missing, put_first, in_order, ordered, all_items, bodies, too_large, link_refusal, unit_of, unless_refused}
 use Rattle.cc_link.specs.Laws.{LinkedUnitsAgree}
 use Rattle.cc_link.proofs.Agreeing.{unit_agrees}
 
 -- ---- refusals
 
-abbrev IsNone : Option LinkFault → Type 0
+abbrev pub IsNone : Option LinkFault → Type 0
 IsNone None = Unit {0}
 IsNone (Some f) = ⊥
 
-none_or : (a b : Option LinkFault) → option_or a b ≡ None → (a ≡ None) × (b ≡ None)
+pub none_or : (a b : Option LinkFault) → option_or a b ≡ None → (a ≡ None) × (b ≡ None)
 none_or None b e = (refl, e)
 none_or (Some f) b e = absurd (subst IsNone (sym e) tt)
 
-not_refused : (o : Option LinkFault) (made u : StoredUnit) → unless_refused o made ≡ Ok u → (o ≡ None) × (made ≡ u)
+pub not_refused : (o : Option LinkFault) (made u : StoredUnit) → unless_refused o made ≡ Ok u → (o ≡ None) × (made ≡ u)
 not_refused None made u e = (refl, let h : ◌≡◌ {A = Result StoredUnit LinkFault} (Ok made) (Ok u) = e in cc)
 not_refused (Some f) made u e = absurd (let h : ◌≡◌ {A = Result StoredUnit LinkFault} (Err f) (Ok u) = e in cc)
 
@@ -71,44 +73,65 @@ module _ (tokens : TokensAreOne) (trees : TreesAreOne) where
 
 -- ---- each function has its piece
 
-pub found : (tree : List External) (ps : List Piece) (f : ℕ) (items : List Item) → AreOfTree tree ps → All IsPieceOfUnit ps → items_of ps f ≡ Some items → AreOf tree f items
-found tree [] f items t k e = absurd (let h : ◌≡◌ {A = Option (List Item)} None (Some items) = e in cc)
-found tree (p ∷ ps) f items t k e = by (p.function == f) (λ d. found tree ps f items t.1 (All-tail IsPieceOfUnit p ps k) d) refl e
+-- what the first piece of a function is
+pub found : (Is : Piece → Type 0) (ps : List Piece) (f : ℕ) (p : Piece) → AllByRecursion Is ps → piece_of ps f ≡ Some p → (p.function ≡ f) × Is p
+found Is [] f p all e = absurd (let h : ◌≡◌ {A = Option Piece} None (Some p) = e in cc)
+found Is (q ∷ ps) f p all e = by (q.function == f) (λ d. found Is ps f p all.1 d) refl e
   where
-    by : (b : Bool) → (items_of ps f ≡ Some items → AreOf tree f items) → (p.function == f) ≡ b → (if b then Some p.items else items_of ps f) ≡ Some items → AreOf tree f items
+    by : (b : Bool) → (piece_of ps f ≡ Some p → (p.function ≡ f) × Is p) → (q.function == f) ≡ b → (if b then Some q else piece_of ps f) ≡ Some p → (p.function ≡ f) × Is p
     by true again is e =
-        let same : p.items ≡ items = let h : ◌≡◌ {A = Option (List Item)} (Some p.items) (Some items) = e in cc in
-        let piece = All-head IsPieceOfUnit p ps k in
-        subst (λ (is : List Item). AreOf tree f is) same (subst (λ g. AreOf tree g p.items) (eqb-true p.function f is) (subst (λ (u : List External). AreOf u p.function p.items) t.0 piece.items))
+        let same : q ≡ p = let h : ◌≡◌ {A = Option Piece} (Some q) (Some p) = e in cc in
+        subst (λ (r : Piece). (r.function ≡ f) × Is r) same (eqb-true q.function f is, all.0)
     by false again is e = again e
 
-none_missing : (ps : List Piece) (from count : ℕ) → missing ps from count ≡ None → (f : ℕ) → f < count → is_some (items_of ps (from + f)) ≡ true
-none_missing ps from zero e f lt = absurd (omega arith)
-none_missing ps from (suc count) e f lt = by (is_some (items_of ps from)) (λ d g less. none_missing ps (suc from) count d g less) refl e f lt
+-- pieces of the functions from this one on, one of each
+abbrev pub EachFrom : (Is : Piece → Type 0) (from : ℕ) → List Piece → Type 0
+EachFrom Is from [] = Unit {0}
+EachFrom Is from (p ∷ ps) = (p.function ≡ from) × Is p × EachFrom Is (suc from) ps
+
+pub ordered_each : (Is : Piece → Type 0) (ps : List Piece) → AllByRecursion Is ps → (from count : ℕ) → missing ps from count ≡ None → EachFrom Is from (in_order ps from count)
+ordered_each Is ps all from zero e = tt
+ordered_each Is ps all from (suc count) e = by (piece_of ps from) (λ d. ordered_each Is ps all (suc from) count d) refl e
   where
-    by : (b : Bool) → (missing ps (suc from) count ≡ None → (g : ℕ) → g < count → is_some (items_of ps (suc from + g)) ≡ true) → is_some (items_of ps from) ≡ b → (if b then missing ps (suc from) count else Some (Missing from)) ≡ None → (f : ℕ) → f < suc count → is_some (items_of ps (from + f)) ≡ true
-    by true again is e zero lt = let same : from + 0 ≡ from = omega arith in ap (λ n. is_some (items_of ps n)) same ∙ is
-    by true again is e (suc g) lt = let same : from + suc g ≡ suc from + g = omega arith in ap (λ n. is_some (items_of ps n)) same ∙ again e g (omega arith)
-    by false again is e f lt = absurd (subst IsNone (sym e) tt)
+    by : (o : Option Piece) → (missing ps (suc from) count ≡ None → EachFrom Is (suc from) (in_order ps (suc from) count)) → piece_of ps from ≡ o → (if is_some o then missing ps (suc from) count else Some (Missing from)) ≡ None
+        → EachFrom Is from (put_first o (in_order ps (suc from) count))
+    by None again is h = absurd (subst IsNone (sym h) tt)
+    by (Some p) again is h = let one = found Is ps from p all is in (one.0, one.1, again h)
 
-pub order_long : (ps : List Piece) (from count : ℕ) → length (in_order ps from count) ≡ count
-order_long ps from zero = refl
-order_long ps from (suc count) = ap suc (order_long ps (suc from) count)
+pub order_long : (ps : List Piece) (from count : ℕ) → missing ps from count ≡ None → length (in_order ps from count) ≡ count
+order_long ps from zero e = refl
+order_long ps from (suc count) e = by (piece_of ps from) (λ d. order_long ps (suc from) count d) e
+  where
+    by : (o : Option Piece) → (missing ps (suc from) count ≡ None → length (in_order ps (suc from) count) ≡ count) → (if is_some o then missing ps (suc from) count else Some (Missing from)) ≡ None
+        → length (put_first o (in_order ps (suc from) count)) ≡ suc count
+    by None again h = absurd (subst IsNone (sym h) tt)
+    by (Some p) again h = ap suc (again h)
 
-order_at : (ps : List Piece) (from count f : ℕ) → f < count → get_or (in_order ps from count) f [] ≡ unwrap_or (items_of ps (from + f)) []
-order_at ps from zero f lt = absurd (omega arith)
-order_at ps from (suc count) zero lt = let same : from ≡ from + 0 = omega arith in ap (λ n. unwrap_or (items_of ps n) []) same
-order_at ps from (suc count) (suc f) lt = let same : suc from + f ≡ from + suc f = omega arith in order_at ps (suc from) count f (omega arith) ∙ ap (λ n. unwrap_or (items_of ps n) []) same
+pub bodies_long : (tree : List External) (ps : List Piece) → missing ps 0 (length (functions tree)) ≡ None → length (bodies tree ps) ≡ length (functions tree)
+bodies_long tree ps e = length-map (ordered tree ps) (λ (p : Piece). p.items) ∙ order_long ps 0 (length (functions tree)) e
 
-found_in : (tree : List External) (ps : List Piece) (f : ℕ) (o : Option (List Item)) → AreOfTree tree ps → All IsPieceOfUnit ps → items_of ps f ≡ o → is_some o ≡ true → AreOf tree f (unwrap_or o [])
-found_in tree ps f None t k e is = absurd (let h : false ≡ true = is in cc)
-found_in tree ps f (Some items) t k e is = found tree ps f items t k e
+-- a piece of a unit with this tree
+abbrev IsOfTree : List External → Piece → Type 0
+IsOfTree tree p = (tree_of p ≡ tree) × IsPieceOfUnit p
+
+each_of : (tree : List External) (ps : List Piece) → AreOfTree tree ps → All IsPieceOfUnit ps → AllByRecursion (IsOfTree tree) ps
+each_of tree [] t k = tt
+each_of tree (p ∷ ps) t k = ((t.0, All-head IsPieceOfUnit p ps k), each_of tree ps t.1 (All-tail IsPieceOfUnit p ps k))
+
+does_at : (tree : List External) (from f : ℕ) (ps : List Piece) → EachFrom (IsOfTree tree) from ps → f < length ps → AreOf tree (from + f) (get_or (all_items ps) f [])
+does_at tree from f [] h lt = absurd (omega arith)
+does_at tree from zero (p ∷ ps) h lt =
+    let here : p.function ≡ from + 0 = h.0 ∙ omega arith in
+    subst (λ g. AreOf tree g p.items) here (subst (λ (u : List External). AreOf u p.function p.items) h.1.0 h.1.1.items)
+does_at tree from (suc f) (p ∷ ps) h lt =
+    let here : suc from + f ≡ from + suc f = omega arith in
+    subst (λ g. AreOf tree g (get_or (all_items ps) f [])) here (does_at tree (suc from) f ps h.2 (omega arith))
 
 pub bodies_are : (tree : List External) (ps : List Piece) → AreOfTree tree ps → All IsPieceOfUnit ps → missing ps 0 (length (functions tree)) ≡ None → (f : ℕ) → f < length (functions tree) → AreOf tree f (get_or (bodies tree ps) f [])
 bodies_are tree ps t k e f lt =
-    let same : 0 + f ≡ f = omega arith in
-    subst (λ (is : List Item). AreOf tree f is) (sym (order_at ps 0 (length (functions tree)) f lt ∙ ap (λ n. unwrap_or (items_of ps n) []) same))
-    (found_in tree ps f (items_of ps f) t k refl (sym (ap (λ n. is_some (items_of ps n)) same) ∙ none_missing ps 0 (length (functions tree)) e f lt))
+    let here : 0 + f ≡ f = omega arith in
+    let long = order_long ps 0 (length (functions tree)) e in
+    subst (λ g. AreOf tree g (get_or (bodies tree ps) f [])) here (does_at tree 0 f (ordered tree ps) (ordered_each (IsOfTree tree) ps (each_of tree ps t k) 0 (length (functions tree)) e) (omega (arith, long, lt)))
 
 pub small : (fs : List (List Item)) → too_large fs ≡ None → code_words fs ≤ most_code
 small fs e = by (nat_lt most_code (code_words fs)) refl e
@@ -120,7 +143,7 @@ small fs e = by (nat_lt most_code (code_words fs)) refl e
 -- ---- the law
 
 module _ (tokens : TokensAreOne) (trees : TreesAreOne) (meanings : TypedUnitsHaveMeanings) (mains : TypedUnitsHaveMain) (programs : ProgramsAreNumbered) (sized : ObjectsAreSized)
-    (constants : (text : List ℕ) (tree : List External) → SpellsText text tree → AreWords (all_words (objects tree))) where
+    (constants : (text : List ℕ) (tree : List External) → SpellsText text tree → AllKept (objects tree)) where
   pub units_agree : LinkedUnitsAgree
   units_agree s pieces u spelled checked all e =
       let n = not_refused (link_refusal s pieces) (unit_of s pieces) u e in
@@ -133,7 +156,7 @@ module _ (tokens : TokensAreOne) (trees : TreesAreOne) (meanings : TypedUnitsHav
               tree = s.externals;
               spelled = h;
               typed = checked.typed;
-              follows = unit_agrees meanings mains programs sized s.text s.externals checked.typed checked.limits (constants s.text s.externals h) (bodies s.externals pieces) (order_long pieces 0 (length (functions s.externals)))
+              follows = unit_agrees meanings mains programs sized s.text s.externals checked.typed checked.limits (constants s.text s.externals h) (bodies s.externals pieces) (bodies_long s.externals pieces c.0)
                   (small (bodies s.externals pieces) c.1) (bodies_are s.externals pieces t all c.0);
             }))),
       )

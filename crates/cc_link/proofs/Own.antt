@@ -11,7 +11,7 @@ use Rattle.cc_emit.specs.Piece.{Piece}
 use Rattle.cc_link.specs.declared.fault.LinkFault.{LinkFault}
 use Rattle.cc_link.specs.declared.fault.LinkFault.TheVariants.{ImageTooLarge, Missing, Doubled, Stranger}
 use Rattle.cc_link.specs.Link.{code_words, most_code}
-use Rattle.cc_link.specs.Linked.{same_bytes, stranger, is_among, doubled, items_of, missing, bodies, too_large, link_refusal, unit_of, unless_refused, linked}
+use Rattle.cc_link.specs.Linked.{same_bytes, stranger, is_among, doubled, piece_of, missing, bodies, too_large, link_refusal, unit_of, unless_refused, linked}
 use Rattle.cc_link.specs.Pieces.{AreFrom}
 
 pub same_itself : (x : List ℕ) → same_bytes x x ≡ true
@@ -51,16 +51,16 @@ none_doubled text before at from (p ∷ ps) below h = by (is_among before p.func
     by true e again = absurd (let lt = below p.function e in let f : p.function ≡ from = h.1 in omega arith)
     by false e again = again (λ g f. one_of g (among_more before p.function g f))
 
-there : (text : List ℕ) (from f : ℕ) (ps : List Piece) → AreFrom text from ps → from ≤ f → f < from + length ps → is_some (items_of ps f) ≡ true
+there : (text : List ℕ) (from f : ℕ) (ps : List Piece) → AreFrom text from ps → from ≤ f → f < from + length ps → is_some (piece_of ps f) ≡ true
 there text from f [] h low high = absurd (omega arith)
 there text from f (p ∷ ps) h low high = by (p.function == f) refl (cases_lt from f) (λ lt. there text (suc from) f ps h.2 lt (omega arith))
   where
-    by : (b : Bool) → (p.function == f) ≡ b → (from < f) ⊎ (f ≤ from) → (from < f → is_some (items_of ps f) ≡ true) → is_some (if b then Some p.items else items_of ps f) ≡ true
+    by : (b : Bool) → (p.function == f) ≡ b → (from < f) ⊎ (f ≤ from) → (from < f → is_some (piece_of ps f) ≡ true) → is_some (if b then Some p else piece_of ps f) ≡ true
     by true e order again = refl
     by false e (inl lt) again = again lt
     by false e (inr le) again = absurd (let is : p.function ≡ from = h.1 in let same : p.function ≡ f = omega arith in let d : false ≡ true = sym e ∙ eq-eqb p.function f same in cc)
 
-pub none_left : (ps : List Piece) (from count : ℕ) → ((f : ℕ) → from ≤ f → f < from + count → is_some (items_of ps f) ≡ true) → missing ps from count ≡ None
+pub none_left : (ps : List Piece) (from count : ℕ) → ((f : ℕ) → from ≤ f → f < from + count → is_some (piece_of ps f) ≡ true) → missing ps from count ≡ None
 none_left ps from zero h = refl
 none_left ps from (suc count) h =
     ap (λ b. if b then missing ps (suc from) count else Some (Missing from)) (h from (omega arith) (omega arith)) ∙ none_left ps (suc from) count (λ f low high. h f (omega arith) (omega arith))

@@ -2,6 +2,10 @@
 pub mod Agree
 -- the image that pieces make
 pub mod Link
+-- the words of objects in it
+pub mod Packed
+-- the certificate that LTL makes
+pub mod Certificate
 -- why pieces are refused, and else the unit that they make
 pub mod Linked
 -- that this unit agrees
@@ -10,6 +14,8 @@ pub mod Laws
 pub mod Pieces
 -- what a compiled unit was made of
 pub mod Made
+-- what an audit says
+pub mod Audit
 -- the numbers of the faults
 pub mod Fault
 -- why a function has no piece, and why a text has no image

@@ -1,18 +1,20 @@
 -- What linking comes to: why pieces are refused, and else the unit that they make.
 use Rattle.std.specs.Borrow.{Bor}
-use Rattle.std.specs.Prelude.{ℕ, zero, suc, map, ◌==◌, nat_eq, nat_lt, Bool, false, ◌||◌, if◌then◌else◌, List, [], ◌∷◌, ◌++◌, length, Option, Some, None, is_some, unwrap_or, Result, Ok, Err}
+use Rattle.std.specs.Prelude.{ℕ, zero, suc, map, ◌==◌, nat_eq, nat_lt, Bool, false, ◌||◌, if◌then◌else◌, List, [], ◌∷◌, ◌++◌, length, Option, Some, None, is_some, Result, Ok, Err}
 use Rattle.std.specs.Option.{option_or}
 use Rattle.std.specs.Cmp.Lexicographic.{pointwise}
 use Rattle.cc_syntax.specs.Tree.{External, Source}
 use Rattle.cc_syntax.specs.Source.{source}
 use Rattle.cc_typing.specs.Limits.{objects}
-use Rattle.cc_resolve.specs.Layout.{all_words}
+use Rattle.cc_link.specs.Packed.{image_words}
 use Rattle.cc_meaning.specs.Meaning.{functions}
 use Rattle.cc_meaning.specs.Calls.{main_of}
 use Rattle.cc_rv32.specs.declared.image.Image.{Image}
 use Rattle.cc_unit.specs.declared.unit.StoredUnit.{StoredUnit}
 use Rattle.cc_emit.specs.declared.item.Item.{Item}
 use Rattle.cc_emit.specs.Piece.{Piece}
+use Rattle.cc_ltl.specs.Ltl.{Ltl}
+use Rattle.cc_link.specs.Certificate.{certificate_of}
 use Rattle.cc_link.specs.Link.{linked_code, encoded, code_words, most_code}
 use Rattle.cc_link.specs.declared.fault.LinkFault.{LinkFault}
 use Rattle.cc_link.specs.declared.fault.LinkFault.TheVariants.{ImageTooLarge, Missing, Doubled, Stranger}
@@ -42,24 +44,40 @@ abbrev pub doubled : (before : List ℕ) (at : ℕ) → List Piece → Option Li
 doubled before at [] = None
 doubled before at (p ∷ ps) = if is_among before p.function then Some (Doubled p.function at) else doubled (before ++ p.function ∷ []) (suc at) ps
 
--- the items of the first piece of a function
-abbrev pub items_of : List Piece → (function : ℕ) → Option (List Item)
-items_of [] f = None
-items_of (p ∷ ps) f = if p.function == f then Some p.items else items_of ps f
+-- the first piece of a function
+abbrev pub piece_of : List Piece → (function : ℕ) → Option Piece
+piece_of [] f = None
+piece_of (p ∷ ps) f = if p.function == f then Some p else piece_of ps f
 
 -- 26: the least function without a piece, of so many from this one on
 abbrev pub missing : List Piece → (from count : ℕ) → Option LinkFault
 missing pieces from zero = None
-missing pieces from (suc count) = if is_some (items_of pieces from) then missing pieces (suc from) count else Some (Missing from)
+missing pieces from (suc count) = if is_some (piece_of pieces from) then missing pieces (suc from) count else Some (Missing from)
 
--- the items of so many functions from this one on
-abbrev pub in_order : List Piece → (from count : ℕ) → List (List Item)
+-- a piece in front of others, where there is one
+abbrev pub put_first : Option Piece → List Piece → List Piece
+put_first None ps = ps
+put_first (Some p) ps = p ∷ ps
+
+-- the first pieces of so many functions from this one on
+abbrev pub in_order : List Piece → (from count : ℕ) → List Piece
 in_order pieces from zero = []
-in_order pieces from (suc count) = unwrap_or (items_of pieces from) [] ∷ in_order pieces (suc from) count
+in_order pieces from (suc count) = put_first (piece_of pieces from) (in_order pieces (suc from) count)
 
--- the items of each function of a unit, in the order of definitions
+-- those of a unit's functions, in the order of definitions
+abbrev pub ordered : List External → List Piece → List Piece
+ordered unit pieces = in_order pieces 0 (length (functions unit))
+
+-- the items of pieces, and their LTL
+abbrev pub all_items : List Piece → List (List Item)
+all_items pieces = map (λ (p : Piece). p.items) pieces
+
+abbrev pub all_ltl : List Piece → List Ltl
+all_ltl pieces = map (λ (p : Piece). p.ltl) pieces
+
+-- the items of each function of a unit
 abbrev pub bodies : List External → List Piece → List (List Item)
-bodies unit pieces = in_order pieces 0 (length (functions unit))
+bodies unit pieces = all_items (ordered unit pieces)
 
 -- 25: the code would have too many words
 abbrev pub too_large : List (List Item) → Option LinkFault
@@ -73,13 +91,17 @@ link_refusal s pieces =
 
 -- ---- what they make
 
--- the image: its code, and the words of the objects one after the other
+-- the image: its code, and the words of the objects one after the other, four bytes in one
 abbrev pub image_of : List External → List (List Item) → Image
-image_of unit fs = record { code = encoded (linked_code (main_of unit) fs); globals = all_words (objects unit) }
+image_of unit fs = record { code = encoded (linked_code (main_of unit) fs); globals = image_words (objects unit) }
 
--- the unit: its text, the image, and no certificate
+-- the certificate: the LTL of each function
+abbrev pub certified : List External → List Piece → List ℕ
+certified unit pieces = certificate_of (all_ltl (ordered unit pieces))
+
+-- the unit: its text, the image, and the certificate
 abbrev pub unit_of : Source → List Piece → StoredUnit
-unit_of s pieces = record { source = s.text; image = image_of s.externals (bodies s.externals pieces); certificate = None }
+unit_of s pieces = record { source = s.text; image = image_of s.externals (bodies s.externals pieces); certificate = Some (certified s.externals pieces) }
 
 -- the unit, where nothing is refused
 abbrev pub unless_refused : Option LinkFault → StoredUnit → Result StoredUnit LinkFault

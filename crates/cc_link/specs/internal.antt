@@ -2,3 +2,5 @@
 pub mod Filling
 -- pieces that are lent
 pub mod Lent
+-- the words of some objects
+pub mod Packing

@@ -6,7 +6,8 @@ ghost use Rattle.cc_syntax.specs.Source.{source};
 ghost use Rattle.cc_typing.specs.Typed.{defined_names};
 ghost use Rattle.cc_cminor.specs.Pair.{code_of};
 ghost use Rattle.cc_cminor.specs.Size.{AtMostTwelveAToken};
-ghost use Rattle.cc_link.specs.Compile.{IsNameAt, IsPieceRefusal};
+ghost use Rattle.cc_rtl.specs.declared.fault.RtlFault.TheVariants.{FunctionTooLarge};
+ghost use Rattle.cc_link.specs.Compile.{IsLong, IsNameAt, IsPieceRefusal};
 
 use crate::piece_fault::PieceFault;
 use cc_cminor::{CminorPair, to_cminor};
@@ -15,7 +16,7 @@ use cc_emit::{Piece, emit};
 use cc_linear::linearise;
 use cc_live::{drop_faint, liveness};
 use cc_ltl::Ltl;
-use cc_rtl::{RtlFault, RtlPair, to_rtl};
+use cc_rtl::{Rtl, RtlFault, RtlPair, to_rtl};
 use cc_typing::TypedUnit;
 use cc_validate::{LtlPair, Refused, ValidateFault, validate};
 use std::alloc::{AllocError, Global};
@@ -30,14 +31,45 @@ fn name_of(unit: &TypedUnit, function: usize) -> (usize, usize)
     (name.at, name.bytes.len())
 }
 
-// LTL by registers, once the nodes that nobody needs have gone.
-fn coloured(alloc: Global, pair: &mut RtlPair) -> Result<Ltl, AllocError>
-    ensures unit { pair.new.unit ≡ pair.old.unit }
-    ensures function { pair.new.function ≡ pair.old.function }
+/// The RTL of a function, once the nodes that nobody needs have gone.
+pub(crate) fn prepared(
+    alloc: Global,
+    unit: &Arc<TypedUnit>,
+    function: usize,
+) -> Result<RtlPair, RtlFault>
+    requires { function < length (defined_names (source (arc_value unit.now))) }
+    ensures unit { IfOk result (λ pair. pair.unit ≡ arc_value unit.now) }
+    ensures function { IfOk result (λ pair. pair.function ≡ function) }
+    ensures large { IfErr result (λ fault. fault ≡ FunctionTooLarge → IsLong (source (arc_value unit.now)).externals function) }
 {
-    drop_faint(alloc, pair)?;
-    let live = liveness(alloc, pair.code())?;
-    colour(alloc, pair.code(), &live)
+    match to_cminor(alloc, unit, function) {
+        Ok(pair) => pruned(alloc, pair),
+        Err(_) => Err(RtlFault::OutOfMemory),
+    }
+}
+
+// The RTL of a function in Cminor, once the nodes that nobody needs have gone.
+fn pruned(alloc: Global, pair: CminorPair) -> Result<RtlPair, RtlFault>
+    requires { AtMostTwelveAToken (source pair.unit).externals pair.function (code_of pair) }
+    ensures unit { IfOk result (λ made. made.unit ≡ pair.unit) }
+    ensures function { IfOk result (λ made. made.function ≡ pair.function) }
+    ensures large { IfErr result (λ fault. fault ≡ FunctionTooLarge → IsLong (source pair.unit).externals pair.function) }
+{
+    let mut rtl = match to_rtl(alloc, pair) {
+        Ok(rtl) => rtl,
+        Err(fault) => return Err(fault),
+    };
+    if drop_faint(alloc, &mut rtl).is_err() {
+        drop(rtl);
+        return Err(RtlFault::OutOfMemory);
+    }
+    Ok(rtl)
+}
+
+// LTL by registers.
+fn coloured(alloc: Global, rtl: &Rtl) -> Result<Ltl, AllocError> {
+    let live = liveness(alloc, rtl)?;
+    colour(alloc, rtl, &live)
 }
 
 // Validated LTL in which each pseudo-register has a slot of its own.
@@ -61,11 +93,11 @@ fn spilled(alloc: Global, pair: RtlPair) -> Result<LtlPair, ValidateFault>
 }
 
 // LTL that the validator accepts: by registers, and with a slot for each value only where it refuses that.
-fn allocated(alloc: Global, mut pair: RtlPair) -> Result<LtlPair, ValidateFault>
+fn allocated(alloc: Global, pair: RtlPair) -> Result<LtlPair, ValidateFault>
     ensures unit { IfOk result (λ made. made.unit ≡ pair.unit) }
     ensures function { IfOk result (λ made. made.function ≡ pair.function) }
 {
-    match coloured(alloc, &mut pair) {
+    match coloured(alloc, pair.code()) {
         Ok(ltl) => match validate(alloc, pair, ltl) {
             Ok(made) => Ok(made),
             Err(
@@ -91,8 +123,8 @@ fn allocated(alloc: Global, mut pair: RtlPair) -> Result<LtlPair, ValidateFault>
     }
 }
 
-// The piece of validated LTL.
-fn emitted(alloc: Global, pair: LtlPair) -> Result<Piece, AllocError>
+/// The piece of validated LTL.
+pub(crate) fn emitted(alloc: Global, pair: LtlPair) -> Result<Piece, AllocError>
     ensures unit { IfOk result (λ piece. piece.unit ≡ pair.unit) }
     ensures function { IfOk result (λ piece. piece.function ≡ pair.function) }
 {
@@ -102,19 +134,13 @@ fn emitted(alloc: Global, pair: LtlPair) -> Result<Piece, AllocError>
     }
 }
 
-// The piece of a function in Cminor, whose name stands there.
-fn finished(alloc: Global, pair: CminorPair, at: usize, length: usize) -> Result<Piece, PieceFault>
-    requires small { AtMostTwelveAToken (source pair.unit).externals pair.function (code_of pair) }
-    requires name { IsNameAt (source pair.unit).externals pair.function at length }
-    ensures unit { IfOk result (λ piece. piece.unit ≡ pair.unit) }
-    ensures function { IfOk result (λ piece. piece.function ≡ pair.function) }
-    ensures refused { IfErr result (λ fault. IsPieceRefusal (source pair.unit).externals pair.function fault) }
+// The piece of a function in RTL, whose name stands there.
+fn finished(alloc: Global, rtl: RtlPair, at: usize, length: usize) -> Result<Piece, PieceFault>
+    requires { IsNameAt (source rtl.unit).externals rtl.function at length }
+    ensures unit { IfOk result (λ piece. piece.unit ≡ rtl.unit) }
+    ensures function { IfOk result (λ piece. piece.function ≡ rtl.function) }
+    ensures refused { IfErr result (λ fault. IsPieceRefusal (source rtl.unit).externals rtl.function fault) }
 {
-    let rtl = match to_rtl(alloc, pair) {
-        Ok(rtl) => rtl,
-        Err(RtlFault::FunctionTooLarge) => return Err(PieceFault::FunctionTooLarge { at, length }),
-        Err(RtlFault::OutOfMemory) => return Err(PieceFault::OutOfMemory),
-    };
     let ltl = match allocated(alloc, rtl) {
         Ok(ltl) => ltl,
         Err(ValidateFault::Unvalidated { label }) => {
@@ -144,8 +170,9 @@ pub fn compile_function(
     ensures refused { IfErr result (λ fault. IsPieceRefusal (source (arc_value unit.now)).externals function fault) }
 {
     let (at, length) = name_of(unit, function);
-    match to_cminor(alloc, unit, function) {
-        Ok(pair) => finished(alloc, pair, at, length),
-        Err(_) => Err(PieceFault::OutOfMemory),
+    match prepared(alloc, unit, function) {
+        Ok(rtl) => finished(alloc, rtl, at, length),
+        Err(RtlFault::FunctionTooLarge) => Err(PieceFault::FunctionTooLarge { at, length }),
+        Err(RtlFault::OutOfMemory) => Err(PieceFault::OutOfMemory),
     }
 }

@@ -4,7 +4,7 @@ ghost use Rattle.cc_tokens.specs.Tokens.{TokensAreOne};
 ghost use Rattle.cc_syntax.specs.Limits.{TreesAreOne};
 ghost use Rattle.cc_meaning.specs.Calls.{ObjectsAreSized, TypedUnitsHaveMain};
 ghost use Rattle.cc_meaning.specs.Numbered.{ProgramsAreNumbered, TypedUnitsHaveMeanings};
-ghost use Rattle.cc_link.specs.Laws.{LinkedUnitsAgree};
+ghost use Rattle.cc_link.specs.Laws.{LinkedUnitsAgree, MadeUnitsAreCertified};
 
 use cc_meaning::{names_have_numbers, programs_call_main, units_have_meanings};
 use cc_syntax::trees_are_determined;
@@ -32,3 +32,8 @@ pub fn linked_units_agree()
 {
     unit_laws();
 }
+
+/// A unit that pieces link to has a certificate, which spells one function of LTL for each function of its source.
+pub fn made_units_are_certified()
+    ensures { MadeUnitsAreCertified }
+{}

@@ -1,23 +1,29 @@
-//! Linking: from the pieces of a unit's functions to the unit that the library keeps.
+//! Linking: from the pieces of a unit's functions to the unit that the library keeps, with its certificate; and the audit of such a unit.
 #![tactic(auto)]
 
+mod audit_answer;
+mod auditing;
 mod build_fault;
+mod certificate;
 mod compiled;
 mod compiling;
 mod fault;
 mod function;
+mod globals;
 mod laws;
 mod linking;
 mod order;
 mod piece_fault;
 mod words;
 
+pub use audit_answer::Audit;
+pub use auditing::audit;
 pub use build_fault::BuildFault;
 pub use cc_unit::{Certificate, MOST_SOURCE, Source, StoredUnit};
 pub use compiled::CompiledUnit;
 pub use compiling::compile;
 pub use fault::LinkFault;
 pub use function::compile_function;
-pub use laws::linked_units_agree;
+pub use laws::{linked_units_agree, made_units_are_certified};
 pub use linking::{link, link_lent};
 pub use piece_fault::PieceFault;

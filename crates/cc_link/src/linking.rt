@@ -3,19 +3,22 @@
 //! Pieces come in any order. First it is seen that there is one of each function, and that all are of this text; then what stands where
 //! depends on nothing but the functions' items in the order of definitions.
 
-ghost use Rattle.std.specs.Prelude.{◌≡◌, ◌⊎◌, ◌≤◌, None, Ok, Err, length, IfOk, IfErr};
+ghost use Rattle.std.specs.Prelude.{◌≡◌, ◌⊎◌, ◌≤◌, ◌<◌, ◌^◌, Some, Ok, Err, length, IfOk, IfErr};
 ghost use Rattle.std.specs.Arc.{arc_value};
 ghost use Rattle.cc_syntax.specs.Source.{source};
 ghost use Rattle.cc_meaning.specs.Meaning.{functions};
 ghost use Rattle.cc_link.specs.declared.fault.LinkFault.TheVariants.{OutOfMemory};
+ghost use Rattle.cc_link.specs.Certificate.{certificate_of};
 ghost use Rattle.cc_link.specs.Link.{code_words, most_code};
-ghost use Rattle.cc_link.specs.Linked.{image_of, linked, lent_pieces};
+ghost use Rattle.cc_link.specs.Linked.{all_ltl, image_of, linked, lent_pieces};
 ghost use Rattle.cc_link.specs.internal.Filling.{lent, AllStayIn};
 
+use crate::certificate::certificate;
 use crate::compiled::CompiledUnit;
 use crate::fault::LinkFault;
+use crate::globals::image_words;
 use crate::laws::{linked_units_agree, unit_laws};
-use crate::order::{doubled, in_order, stranger};
+use crate::order::{all_items, doubled, in_order, stranger};
 use crate::words::{code, fits};
 use cc_emit::{Item, Piece};
 use cc_resolve::lay_out;
@@ -46,10 +49,12 @@ fn image(alloc: Global, unit: &TypedUnit, bodies: &[&[Item]]) -> Result<Image, A
     ensures { IfOk result (λ image. image ≡ image_of (source unit.now).externals (lent bodies.now)) }
 {
     unit_laws();
-    let mut words = Vec::new(alloc);
-    let layout = lay_out(alloc, &mut words, unit.externals())?;
+    let mut elements = Vec::new(alloc);
+    let layout = lay_out(alloc, &mut elements, unit.externals())?;
     let main = layout.function(MAIN);
     drop(layout);
+    drop(elements);
+    let words = image_words(alloc, unit.externals())?;
     let globals = match Globals::new(words) {
         Ok(globals) => globals,
         Err(_) => unreachable!(),
@@ -63,16 +68,18 @@ fn image(alloc: Global, unit: &TypedUnit, bodies: &[&[Item]]) -> Result<Image, A
     }
 }
 
-// What the library keeps of a unit and its functions.
+// What the library keeps of a unit and its functions, whose pieces these are.
 fn stored(
     alloc: Global,
     unit: &TypedUnit,
     bodies: &[&[Item]],
+    pieces: &[&Piece],
 ) -> Result<Arc<StoredUnit>, AllocError>
+    requires few_functions { length pieces.now < 2 ^ 32 }
     requires count { length bodies.now ≡ length (functions (source unit.now).externals) }
     requires few { code_words (lent bodies.now) ≤ most_code }
     requires stay { AllStayIn (length bodies.now) (lent bodies.now) }
-    ensures { IfOk result (λ stored. arc_value stored ≡ record { source = (source unit.now).text; image = image_of (source unit.now).externals (lent bodies.now); certificate = None }) }
+    ensures { IfOk result (λ stored. arc_value stored ≡ record { source = (source unit.now).text; image = image_of (source unit.now).externals (lent bodies.now); certificate = Some (certificate_of (all_ltl (lent_pieces pieces.now))) }) }
 {
     let image = image(alloc, unit, bodies)?;
     let source = match source_of(alloc, unit) {
@@ -82,15 +89,24 @@ fn stored(
             return Err(error);
         }
     };
+    let certificate = match certificate(alloc, pieces) {
+        Ok(certificate) => Some(certificate),
+        Err(error) => {
+            drop(image);
+            drop(source);
+            return Err(error);
+        }
+    };
     let unit = StoredUnit {
         source,
         image,
-        certificate: None,
+        certificate,
     };
     Ok(Arc::new(alloc, unit)?)
 }
 
-/// Links the pieces of a unit, lent in any order: its source is the unit's text, and its image agrees with it.
+/// Links the pieces of a unit, lent in any order: its source is the unit's text, its image agrees with it, and its certificate has the LTL
+/// of each function.
 ///
 /// Refusals, in this order: 28 for the first piece whose unit has another text; 27 for the first piece whose function came before; 26
 /// for the least function without a piece; 25 where the image would have more than 131,072 words of code. 40 where memory ran out.
@@ -109,9 +125,13 @@ pub fn link_lent(
     if let Some(fault) = doubled(pieces) {
         return Err(fault);
     }
-    let bodies = match in_order(alloc, unit.functions(), pieces) {
-        Ok(bodies) => bodies,
+    let ordered = match in_order(alloc, unit.functions(), pieces) {
+        Ok(ordered) => ordered,
         Err(fault) => return Err(fault),
+    };
+    let bodies = match all_items(alloc, ordered.as_slice()) {
+        Ok(bodies) => bodies,
+        Err(_) => return Err(LinkFault::OutOfMemory),
     };
     if !fits(bodies.as_slice()) {
         drop(bodies);
@@ -120,8 +140,9 @@ pub fn link_lent(
     unit_laws();
     linked_units_agree();
     let _externals = unit.externals();
-    let made = stored(alloc, unit, bodies.as_slice());
+    let made = stored(alloc, unit, bodies.as_slice(), ordered.as_slice());
     drop(bodies);
+    drop(ordered);
     Ok(CompiledUnit::new(made?))
 }
 

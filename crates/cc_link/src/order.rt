@@ -1,4 +1,4 @@
-//! Which piece is of which function: the refusals 28, 27 and 26, and the functions' items in the order of definitions.
+//! Which piece is of which function: the refusals 28, 27 and 26, and the functions' pieces in the order of definitions.
 //!
 //! There are at most 64 functions, so a piece that is looked for is found by going over all of them.
 
@@ -6,14 +6,14 @@ ghost use Rattle.std.specs.Prelude.{◌≡◌, ◌⊎◌, List, [], None, Some, 
 ghost use Rattle.cc_emit.specs.Piece.{IsPieceOfUnit};
 ghost use Rattle.cc_link.specs.declared.fault.LinkFault.TheVariants.{OutOfMemory};
 ghost use Rattle.cc_link.specs.Made.{IsCompiled};
-ghost use Rattle.cc_link.specs.Linked.{stranger, is_among, doubled, items_of, missing, in_order, lent_pieces};
+ghost use Rattle.cc_link.specs.Linked.{stranger, is_among, doubled, piece_of, missing, in_order, all_items, lent_pieces};
 ghost use Rattle.cc_link.specs.internal.Filling.{lent};
 ghost use Rattle.cc_link.specs.internal.Lent.{functions_of};
 
 use crate::fault::LinkFault;
 use cc_emit::{Item, Piece};
 use cc_typing::TypedUnit;
-use std::alloc::Global;
+use std::alloc::{AllocError, Global};
 
 /// 28 for the first piece of a unit of another text. Where there is none, each piece is what its type keeps.
 pub(crate) fn stranger(text: &[u8], pieces: &[&Piece]) -> Option<LinkFault>
@@ -58,38 +58,52 @@ pub(crate) fn doubled(pieces: &[&Piece]) -> Option<LinkFault>
     None
 }
 
-// The items of the first piece of the function.
-fn items_of<'a>(pieces: &'a [&'a Piece], function: usize) -> Option<&'a [Item]>
-    ensures { MatchOption result (items_of (lent_pieces pieces.now) function ≡ None) (λ items. items_of (lent_pieces pieces.now) function ≡ Some items.now) }
+// The first piece of the function.
+fn piece_of<'a>(pieces: &'a [&'a Piece], function: usize) -> Option<&'a Piece>
+    ensures { MatchOption result (piece_of (lent_pieces pieces.now) function ≡ None) (λ piece. piece_of (lent_pieces pieces.now) function ≡ Some piece.now) }
 {
     for piece in pieces {
         if piece.function() == function {
-            return Some(piece.items());
+            return Some(*piece);
         }
     }
     None
 }
 
-/// The items of so many functions in their order, and 26 for the least without a piece.
+/// The first pieces of so many functions in their order, and 26 for the least without one.
 pub(crate) fn in_order<'a>(
     alloc: Global,
     functions: usize,
     pieces: &'a [&'a Piece],
-) -> Result<Vec<&'a [Item]>, LinkFault>
-    ensures bodies { IfOk result (λ bodies. lent bodies.items ≡ in_order (lent_pieces pieces.now) 0 functions) }
+) -> Result<Vec<&'a Piece>, LinkFault>
+    ensures ordered { IfOk result (λ ordered. lent_pieces ordered.items ≡ in_order (lent_pieces pieces.now) 0 functions) }
     ensures none { IfOk result (λ _. missing (lent_pieces pieces.now) 0 functions ≡ None) }
     ensures refused { IfErr result (λ fault. (fault ≡ OutOfMemory) ⊎ (missing (lent_pieces pieces.now) 0 functions ≡ Some fault)) }
 {
-    let mut bodies = Vec::new(alloc);
+    let mut ordered = Vec::new(alloc);
     for function in 0..functions {
-        let Some(items) = items_of(pieces, function) else {
-            drop(bodies);
+        let Some(piece) = piece_of(pieces, function) else {
+            drop(ordered);
             return Err(LinkFault::Missing { function });
         };
-        if bodies.push(items).is_err() {
-            drop(bodies);
+        if ordered.push(piece).is_err() {
+            drop(ordered);
             return Err(LinkFault::OutOfMemory);
         }
+    }
+    Ok(ordered)
+}
+
+/// The items of pieces, in their order.
+pub(crate) fn all_items<'a>(
+    alloc: Global,
+    pieces: &'a [&'a Piece],
+) -> Result<Vec<&'a [Item]>, AllocError>
+    ensures { IfOk result (λ bodies. lent bodies.items ≡ all_items (lent_pieces pieces.now)) }
+{
+    let mut bodies = Vec::new(alloc);
+    for piece in pieces {
+        bodies.push(piece.items())?;
     }
     Ok(bodies)
 }

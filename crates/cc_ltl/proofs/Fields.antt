@@ -14,8 +14,11 @@ use Rattle.cc_words.specs.declared.operators.Unary.TheVariants.{Neg, Complement,
 use Rattle.cc_words.specs.declared.operators.Binary.{Binary as BinaryOperator}
 use Rattle.cc_words.specs.declared.operators.Binary.TheVariants.{Add, Sub, Mul, DivS, DivU, RemS, RemU, Shl, ShrS, ShrU, And, Or, Xor, Eq, Ne, LtS, LtU, LeS, LeU}
 use Rattle.cc_ltl.specs.Registers.{IsAllocatable, most_slots}
-use Rattle.cc_ltl.specs.Bytes.{half_bytes, word_bytes, width, unary_number, binary_number}
-use Rattle.cc_ltl.specs.internal.Reading.{◌>>=◌, Reader, both, mapped, times, nothing_in, byte_in, half_in, word_in, register_in, slot_in, unary_operators, binary_operators, one_of, unary_in, binary_in, width_in, slots_in}
+use Rattle.cc_words.specs.declared.operators.Width.{Width as ElementWidth}
+use Rattle.cc_words.specs.declared.operators.Width.TheVariants.{Byte, Word}
+use Rattle.cc_words.specs.Widths.{bytes as element_bytes}
+use Rattle.cc_ltl.specs.Bytes.{half_bytes, word_bytes, unary_number, binary_number}
+use Rattle.cc_ltl.specs.internal.Reading.{◌>>=◌, Reader, both, mapped, times, nothing_in, byte_in, half_in, word_in, register_in, slot_in, unary_operators, binary_operators, one_of, unary_in, binary_in, width_of, width_in, slots_in}
 
 -- ---- tools
 
@@ -284,14 +287,25 @@ pub binary_field : IsField binary_in (λ o. binary_number o ∷ []) (λ o. Unit 
 unfolding binary_in
 binary_field = one_of_field binary_operators binary_number 19 refl binary_at
 
-pub width_field : IsField width_in (λ w. width ∷ []) (λ w. w ≡ width)
+width_told : (n : ℕ) (w : ElementWidth) → width_of n ≡ Some w → element_bytes w ≡ n
+width_told n w e =
+    elim (which (eqb n 1) (Some Byte) (cond (eqb n 4) (Some Word) None) w e) [
+      | inl p ↦ ap element_bytes (sym (same_Some Byte w p.1)) ∙ sym (eqb-true n 1 p.0)
+      | inr p ↦ (let g = when_some (eqb n 4) (Some Word) w p.1 in ap element_bytes (sym (same_Some Word w g.1)) ∙ sym (eqb-true n 4 g.0))
+    ]
+
+width_again : (w : ElementWidth) → width_of (element_bytes w) ≡ Some w
+width_again Byte = refl
+width_again Word = refl
+
+pub width_field : IsField width_in (λ w. element_bytes w ∷ []) (λ w. Unit {0})
 unfolding width_in
 width_field = record {
   takes = λ bytes w rest are e.
-      let b = bind_some (byte_in bytes) (λ b. cond (eqb b.0 width) (Some b) None) (w, rest) e in
-      let g = when_some (eqb b.0.0 width) (Some b.0) (w, rest) b.2 in
-      let is : b.0.0 ≡ width = eqb-true _ _ g.0 in
-      let same : b.0.0 ≡ w = ap (λ (p : ℕ × List ℕ). p.0) (same_Some b.0 (w, rest) g.1) in
-      subst (λ (v : ℕ). Takes bytes (v ∷ []) rest) (sym same ∙ is) (byte_takes bytes w rest are (b.1 ∙ g.1));
-  again = λ w rest is. rw is refl;
+      let b = bind_some (byte_in bytes) (λ b. width_of b.0 >>= λ w. Some (w, b.1)) (w, rest) e in
+      let y = bind_some (width_of b.0.0) (λ w. Some (w, b.0.1)) (w, rest) b.2 in
+      let is : element_bytes y.0 ≡ b.0.0 = width_told b.0.0 y.0 y.1 in
+      let t = byte_takes bytes b.0.0 b.0.1 are b.1 in
+      subst (λ (z : ElementWidth × List ℕ). Takes bytes (element_bytes z.0 ∷ []) z.1) (same_Some (y.0, b.0.1) (w, rest) y.2) (rw is t);
+  again = λ w rest good. rw (width_again w) refl;
 }

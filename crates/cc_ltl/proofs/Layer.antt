@@ -45,12 +45,12 @@ operate_grows arity (Unary o to from next) after at world words d e = keeps worl
 operate_grows arity (Binary o to left right next) after at world words d e =
     let y = tried_goes (apply_binary o (at (Register left)) (at (Register right))) _ d e in
     keeps world _ d refl y.2
-operate_grows arity (Load object to index next) after at world words d e =
-    let y = tried_goes (element world object (at (Register index))) _ d e in
+operate_grows arity (Load width object to index next) after at world words d e =
+    let y = tried_goes (element world width object (at (Register index))) _ d e in
     keeps world _ d refl y.2
-operate_grows arity (Store object index from next) after at world words d e =
-    let y = tried_goes (stored world object (at (Register index)) (at (Register from))) _ d e in
-    keeps world _ d (stored_output world object (at (Register index)) (at (Register from)) (element world object (at (Register index))) _ y.0 (λ old. refl) y.1) y.2
+operate_grows arity (Store width object index from next) after at world words d e =
+    let y = tried_goes (stored world width object (at (Register index)) (at (Register from))) _ d e in
+    keeps world _ d (stored_output world object (at (Register index)) (at (Register from)) (element world width object (at (Register index))) _ y.0 (λ old. refl) y.1) y.2
 operate_grows arity (Call function next) after at world words d e = absurd cc
 operate_grows arity (Read next) after at world words d e = keeps world _ d refl e
 operate_grows arity (Write next) after at world words d e = subst (GrowsTo world) (same_goes _ d e) (_, refl)
@@ -71,11 +71,11 @@ operate_calls arity (Unary o to from next) after at world words q resume e = abs
 operate_calls arity (Binary o to left right next) after at world words q resume e =
     let y = tried_calls (apply_binary o (at (Register left)) (at (Register right))) _ q resume e in
     absurd (cc y.2)
-operate_calls arity (Load object to index next) after at world words q resume e =
-    let y = tried_calls (element world object (at (Register index))) _ q resume e in
+operate_calls arity (Load width object to index next) after at world words q resume e =
+    let y = tried_calls (element world width object (at (Register index))) _ q resume e in
     absurd (cc y.2)
-operate_calls arity (Store object index from next) after at world words q resume e =
-    let y = tried_calls (stored world object (at (Register index)) (at (Register from))) _ q resume e in
+operate_calls arity (Store width object index from next) after at world words q resume e =
+    let y = tried_calls (stored world width object (at (Register index)) (at (Register from))) _ q resume e in
     absurd (cc y.2)
 operate_calls arity (Call function next) after at world words q resume e =
     let same = same_calls _ q _ resume e in

@@ -5,6 +5,8 @@ use Rattle.std.specs.List.{flat_map, AllByRecursion}
 use Rattle.std.proofs.lemmas.Bool.{eqb-true}
 use Rattle.std.proofs.lemmas.List.{append-nil, nil_from_length}
 use Rattle.std.proofs.lemmas.Option.{none-some, same_Some}
+use Rattle.cc_words.specs.declared.operators.Width.{Width}
+use Rattle.cc_words.specs.Widths.{bytes as element_bytes}
 use Rattle.cc_ltl.specs.declared.operation.Move.{Move}
 use Rattle.cc_ltl.specs.declared.operation.Move.TheVariants.{Between, Reload, Spill}
 use Rattle.cc_ltl.specs.declared.operation.Operation.{Operation}
@@ -14,7 +16,7 @@ use Rattle.cc_ltl.specs.declared.fault.LtlFault.{LtlFault}
 use Rattle.cc_ltl.specs.declared.fault.LtlFault.TheVariants.{Damaged, OutOfMemory}
 use Rattle.cc_ltl.specs.Registers.{IsAllocatable, most_slots}
 use Rattle.cc_ltl.specs.Ltl.{Ltl, IsWord, IsMove, AreMoves, IsOperation, IsBlock, IsLtl}
-use Rattle.cc_ltl.specs.Bytes.{half_bytes, word_bytes, width, unary_number, binary_number, move_bytes, operation_bytes, moves_bytes, block_bytes, ltl_bytes, Spells, ReadAnswers}
+use Rattle.cc_ltl.specs.Bytes.{half_bytes, word_bytes, unary_number, binary_number, move_bytes, operation_bytes, moves_bytes, block_bytes, ltl_bytes, Spells, ReadAnswers}
 use Rattle.cc_ltl.specs.internal.Reading.{◌>>=◌, Reader, both, mapped, nothing_in, byte_in, half_in, word_in, register_in, slot_in, unary_in, binary_in, width_in, chosen, between_in, reload_in, spill_in, move_kinds, move_in, moves_in, nop_in, const_in, unary_operation_in, binary_operation_in, access_in, load_in, store_in, call_in, read_in, write_in, branch_in, return_in, operation_kinds, operation_in, block_in, blocks_in, slots_in, parts_in}
 use Rattle.cc_ltl.proofs.Times.{IsFault}
 use Rattle.cc_ltl.proofs.Fields.{AreBytes, bind_some, which, when_some, Takes, IsField, both_field, mapped_takes, mapped_again, counted_field, nothing_field, half_field, word_field, register_field, slot_field, slots_field, unary_field, binary_field, width_field}
@@ -116,17 +118,16 @@ word_and_registers : IsField (both word_in (both register_in (both register_in w
 word_and_registers =
     both_field word_in word_bytes IsWord (both register_in (both register_in word_in)) (λ x. one x.0 ++ (one x.1.0 ++ word_bytes x.1.1)) (λ x. IsAllocatable x.0 × (IsAllocatable x.1.0 × IsWord x.1.1)) word_field registers_and_word
 
--- the width is the only one
-abbrev access_bytes : ℕ × (ℕ × (ℕ × (ℕ × ℕ))) → List ℕ
-access_bytes x = one width ++ (word_bytes x.1.0 ++ (one x.1.1.0 ++ (one x.1.1.1.0 ++ word_bytes x.1.1.1.1)))
+abbrev access_bytes : Width × (ℕ × (ℕ × (ℕ × ℕ))) → List ℕ
+access_bytes x = one (element_bytes x.0) ++ (word_bytes x.1.0 ++ (one x.1.1.0 ++ (one x.1.1.1.0 ++ word_bytes x.1.1.1.1)))
 
-abbrev IsAccess : ℕ × (ℕ × (ℕ × (ℕ × ℕ))) → Type 0
-IsAccess x = (x.0 ≡ width) × (IsWord x.1.0 × (IsAllocatable x.1.1.0 × (IsAllocatable x.1.1.1.0 × IsWord x.1.1.1.1)))
+abbrev IsAccess : Width × (ℕ × (ℕ × (ℕ × ℕ))) → Type 0
+IsAccess x = Unit {0} × (IsWord x.1.0 × (IsAllocatable x.1.1.0 × (IsAllocatable x.1.1.1.0 × IsWord x.1.1.1.1)))
 
 access_field : IsField access_in access_bytes IsAccess
 unfolding access_in
 access_field =
-    both_field width_in (λ w. one width) (λ w. w ≡ width) (both word_in (both register_in (both register_in word_in))) (λ x. word_bytes x.0 ++ (one x.1.0 ++ (one x.1.1.0 ++ word_bytes x.1.1.1)))
+    both_field width_in (λ w. one (element_bytes w)) (λ w. Unit {0}) (both word_in (both register_in (both register_in word_in))) (λ x. word_bytes x.0 ++ (one x.1.0 ++ (one x.1.1.0 ++ word_bytes x.1.1.1)))
     (λ x. IsWord x.0 × (IsAllocatable x.1.0 × (IsAllocatable x.1.1.0 × IsWord x.1.1.1))) width_field word_and_registers
 
 are_operation_kinds : AllByRecursion (IsKind operation_bytes) operation_kinds
@@ -140,9 +141,9 @@ are_operation_kinds = (
       (
         is_kind operation_bytes 3 _ _ _ binary_fields (λ x. Binary x.0 x.1.0 x.1.1.0 x.1.1.1.0 x.1.1.1.1) (λ a. refl),
         (
-          is_kind operation_bytes 4 access_in access_bytes _ access_field (λ x. Load x.1.0 x.1.1.0 x.1.1.1.0 x.1.1.1.1) (λ a. refl),
+          is_kind operation_bytes 4 access_in access_bytes _ access_field (λ x. Load x.0 x.1.0 x.1.1.0 x.1.1.1.0 x.1.1.1.1) (λ a. refl),
           (
-            is_kind operation_bytes 5 access_in access_bytes _ access_field (λ x. Store x.1.0 x.1.1.0 x.1.1.1.0 x.1.1.1.1) (λ a. refl),
+            is_kind operation_bytes 5 access_in access_bytes _ access_field (λ x. Store x.0 x.1.0 x.1.1.0 x.1.1.1.0 x.1.1.1.1) (λ a. refl),
             (
               is_kind operation_bytes 6 _ _ _ two_words (λ x. Call x.0 x.1) (λ a. refl),
               (
@@ -169,8 +170,8 @@ operation_again (Nop next) rest good = mapped_again word_in word_bytes _ word_fi
 operation_again (Const to w next) rest good = mapped_again _ _ _ register_and_words (λ x. Const x.0 x.1.0 x.1.1) (to, (w, next)) rest (good.0, (good.1, good.2))
 operation_again (Unary o to from next) rest good = mapped_again _ _ _ unary_fields (λ x. Unary x.0 x.1.0 x.1.1.0 x.1.1.1) (o, (to, (from, next))) rest (tt, (good.0, (good.1, good.2)))
 operation_again (Binary o to left right next) rest good = mapped_again _ _ _ binary_fields (λ x. Binary x.0 x.1.0 x.1.1.0 x.1.1.1.0 x.1.1.1.1) (o, (to, (left, (right, next)))) rest (tt, (good.0, (good.1, (good.2, good.3))))
-operation_again (Load object to index next) rest good = mapped_again access_in access_bytes _ access_field (λ x. Load x.1.0 x.1.1.0 x.1.1.1.0 x.1.1.1.1) (width, (object, (to, (index, next)))) rest (refl, (good.0, (good.1, (good.2, good.3))))
-operation_again (Store object index from next) rest good = mapped_again access_in access_bytes _ access_field (λ x. Store x.1.0 x.1.1.0 x.1.1.1.0 x.1.1.1.1) (width, (object, (index, (from, next)))) rest (refl, (good.0, (good.1, (good.2, good.3))))
+operation_again (Load width object to index next) rest good = mapped_again access_in access_bytes _ access_field (λ x. Load x.0 x.1.0 x.1.1.0 x.1.1.1.0 x.1.1.1.1) (width, (object, (to, (index, next)))) rest (tt, (good.0, (good.1, (good.2, good.3))))
+operation_again (Store width object index from next) rest good = mapped_again access_in access_bytes _ access_field (λ x. Store x.0 x.1.0 x.1.1.0 x.1.1.1.0 x.1.1.1.1) (width, (object, (index, (from, next)))) rest (tt, (good.0, (good.1, (good.2, good.3))))
 operation_again (Call function next) rest good = mapped_again _ _ _ two_words (λ x. Call x.0 x.1) (function, next) rest good
 operation_again (Read next) rest good = mapped_again word_in word_bytes _ word_field (λ x. Read x) next rest good
 operation_again (Write next) rest good = mapped_again word_in word_bytes _ word_field (λ x. Write x) next rest good

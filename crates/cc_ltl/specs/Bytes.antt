@@ -6,6 +6,7 @@ use Rattle.cc_words.specs.declared.operators.Unary.{Unary as UnaryOperator}
 use Rattle.cc_words.specs.declared.operators.Unary.TheVariants.{Neg, Complement, IsZero}
 use Rattle.cc_words.specs.declared.operators.Binary.{Binary as BinaryOperator}
 use Rattle.cc_words.specs.declared.operators.Binary.TheVariants.{Add, Sub, Mul, DivS, DivU, RemS, RemU, Shl, ShrS, ShrU, And, Or, Xor, Eq, Ne, LtS, LtU, LeS, LeU}
+use Rattle.cc_words.specs.Widths.{bytes as element_bytes}
 use Rattle.cc_ltl.specs.declared.operation.Move.{Move}
 use Rattle.cc_ltl.specs.declared.operation.Move.TheVariants.{Between, Reload, Spill}
 use Rattle.cc_ltl.specs.declared.operation.Operation.{Operation}
@@ -55,18 +56,14 @@ move_bytes (Between to from) = 0 ∷ to ∷ from ∷ []
 move_bytes (Reload to slot) = 1 ∷ to ∷ half_bytes slot
 move_bytes (Spill slot from) = 2 ∷ (half_bytes slot ++ from ∷ [])
 
--- how many bytes an element of an object has: today 4, and nothing else can be said
-abbrev pub width : ℕ
-width = 4
-
--- an operation: its number, and its fields
+-- an operation: its number, and its fields; of a load and of a store how many bytes an element has comes first
 abbrev pub operation_bytes : Operation → List ℕ
 operation_bytes (Nop next) = 0 ∷ word_bytes next
 operation_bytes (Const to w next) = 1 ∷ to ∷ (word_bytes w ++ word_bytes next)
 operation_bytes (Unary operator to from next) = 2 ∷ unary_number operator ∷ to ∷ from ∷ word_bytes next
 operation_bytes (Binary operator to left right next) = 3 ∷ binary_number operator ∷ to ∷ left ∷ right ∷ word_bytes next
-operation_bytes (Load object to index next) = 4 ∷ width ∷ (word_bytes object ++ to ∷ index ∷ word_bytes next)
-operation_bytes (Store object index from next) = 5 ∷ width ∷ (word_bytes object ++ index ∷ from ∷ word_bytes next)
+operation_bytes (Load width object to index next) = 4 ∷ element_bytes width ∷ (word_bytes object ++ to ∷ index ∷ word_bytes next)
+operation_bytes (Store width object index from next) = 5 ∷ element_bytes width ∷ (word_bytes object ++ index ∷ from ∷ word_bytes next)
 operation_bytes (Call function next) = 6 ∷ (word_bytes function ++ word_bytes next)
 operation_bytes (Read next) = 7 ∷ word_bytes next
 operation_bytes (Write next) = 8 ∷ word_bytes next

@@ -3,6 +3,8 @@ use Rattle.std.specs.Prelude.{ℕ, List, [], ◌++◌, codes}
 use Rattle.std.specs.List.{flat_map}
 use Rattle.std.specs.Fmt.{decimal}
 use Rattle.cc_words.specs.Operators.{unary_text, binary_text}
+use Rattle.cc_words.specs.declared.operators.Width.{Width}
+use Rattle.cc_words.specs.Widths.{width_text}
 use Rattle.cc_ltl.specs.declared.operation.Move.{Move}
 use Rattle.cc_ltl.specs.declared.operation.Move.TheVariants.{Between, Reload, Spill}
 use Rattle.cc_ltl.specs.declared.operation.Operation.{Operation}
@@ -25,9 +27,9 @@ move_text (Between to from) = assigned (register_text to) (register_text from)
 move_text (Reload to slot) = assigned (register_text to) (slot_text slot)
 move_text (Spill slot from) = assigned (slot_text slot) (register_text from)
 
--- an element of an object
-abbrev pub element_text : (object index : ℕ) → List ℕ
-element_text object index = codes "object" ++ decimal object ++ codes "[" ++ register_text index ++ codes "]"
+-- an element of an object, with `byte` in front where it is one
+abbrev pub element_text : Width → (object index : ℕ) → List ℕ
+element_text width object index = width_text width ++ codes "object" ++ decimal object ++ codes "[" ++ register_text index ++ codes "]"
 
 -- an operation without the blocks that come next
 abbrev pub operation_text : Operation → List ℕ
@@ -35,8 +37,8 @@ operation_text (Nop next) = codes "nop"
 operation_text (Const to word next) = assigned (register_text to) (decimal word)
 operation_text (Unary operator to from next) = assigned (register_text to) (unary_text operator ++ codes " " ++ register_text from)
 operation_text (Binary operator to left right next) = assigned (register_text to) (binary_text operator ++ codes " " ++ register_text left ++ codes ", " ++ register_text right)
-operation_text (Load object to index next) = assigned (register_text to) (element_text object index)
-operation_text (Store object index from next) = assigned (element_text object index) (register_text from)
+operation_text (Load width object to index next) = assigned (register_text to) (element_text width object index)
+operation_text (Store width object index from next) = assigned (element_text width object index) (register_text from)
 operation_text (Call function next) = codes "call " ++ decimal function
 operation_text (Read next) = codes "read"
 operation_text (Write next) = codes "write"
@@ -49,8 +51,8 @@ next_text (Nop next) = codes " -> " ++ decimal next
 next_text (Const to word next) = codes " -> " ++ decimal next
 next_text (Unary operator to from next) = codes " -> " ++ decimal next
 next_text (Binary operator to left right next) = codes " -> " ++ decimal next
-next_text (Load object to index next) = codes " -> " ++ decimal next
-next_text (Store object index from next) = codes " -> " ++ decimal next
+next_text (Load width object to index next) = codes " -> " ++ decimal next
+next_text (Store width object index from next) = codes " -> " ++ decimal next
 next_text (Call function next) = codes " -> " ++ decimal next
 next_text (Read next) = codes " -> " ++ decimal next
 next_text (Write next) = codes " -> " ++ decimal next

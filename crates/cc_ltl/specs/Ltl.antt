@@ -40,8 +40,8 @@ IsOperation (Nop next) = IsWord next
 IsOperation (Const to word next) = IsAllocatable to × IsWord word × IsWord next
 IsOperation (Unary operator to from next) = IsAllocatable to × IsAllocatable from × IsWord next
 IsOperation (Binary operator to left right next) = IsAllocatable to × IsAllocatable left × IsAllocatable right × IsWord next
-IsOperation (Load object to index next) = IsWord object × IsAllocatable to × IsAllocatable index × IsWord next
-IsOperation (Store object index from next) = IsWord object × IsAllocatable index × IsAllocatable from × IsWord next
+IsOperation (Load width object to index next) = IsWord object × IsAllocatable to × IsAllocatable index × IsWord next
+IsOperation (Store width object index from next) = IsWord object × IsAllocatable index × IsAllocatable from × IsWord next
 IsOperation (Call function next) = IsWord function × IsWord next
 IsOperation (Read next) = IsWord next
 IsOperation (Write next) = IsWord next
@@ -154,10 +154,10 @@ operate arity (Unary operator to from next) after at world words =
     Goes (to_block next after (put (Register to) (apply_unary operator (at (Register from))) at) world words)
 operate arity (Binary operator to left right next) after at world words =
     tried (apply_binary operator (at (Register left)) (at (Register right))) (λ word. Goes (to_block next after (put (Register to) word at) world words))
-operate arity (Load object to index next) after at world words =
-    tried (element world object (at (Register index))) (λ word. Goes (to_block next after (put (Register to) word at) world words))
-operate arity (Store object index from next) after at world words =
-    tried (stored world object (at (Register index)) (at (Register from))) (λ changed. Goes (to_block next after at changed words))
+operate arity (Load width object to index next) after at world words =
+    tried (element world width object (at (Register index))) (λ word. Goes (to_block next after (put (Register to) word at) world words))
+operate arity (Store width object index from next) after at world words =
+    tried (stored world width object (at (Register index)) (at (Register from))) (λ changed. Goes (to_block next after at changed words))
 operate arity (Call function next) after at world words =
     Calls (record { function = function; arguments = words_from first_argument (arity function) at; world = world }) (block_after_answer next after at words)
 operate arity (Read next) after at world words =

@@ -68,17 +68,25 @@ impl fmt::Display for Operation {
                 write!(f, "{to} = {name} {left}, {right}")
             }
             Operation::Load {
+                width,
                 object,
                 to,
                 index,
                 ..
-            } => write!(f, "{to} = object{object}[{index}]"),
+            } => {
+                let mark = width.mark();
+                write!(f, "{to} = {mark}object{object}[{index}]")
+            }
             Operation::Store {
+                width,
                 object,
                 index,
                 from,
                 ..
-            } => write!(f, "object{object}[{index}] = {from}"),
+            } => {
+                let mark = width.mark();
+                write!(f, "{mark}object{object}[{index}] = {from}")
+            }
             Operation::Call { function, .. } => write!(f, "call {function}"),
             Operation::Read { .. } => write!(f, "read"),
             Operation::Write { .. } => write!(f, "write"),

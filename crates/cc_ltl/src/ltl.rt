@@ -155,6 +155,7 @@ fn ends(operation: &Operation) -> bool
             to,
             index,
             next,
+            ..
         } => {
             let _registers = (to.number(), index.number());
             let _words = (*object, *next);
@@ -165,6 +166,7 @@ fn ends(operation: &Operation) -> bool
             index,
             from,
             next,
+            ..
         } => {
             let _registers = (index.number(), from.number());
             let _words = (*object, *next);

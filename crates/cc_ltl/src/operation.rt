@@ -1,7 +1,7 @@
 //! What a block does: moves between locations, and one operation on registers.
 
 use crate::location::{Register, Slot};
-use cc_words::{Binary, Unary};
+use cc_words::{Binary, Unary, Width};
 
 /// A word goes from one location to another. No word goes from slot to slot.
 #[derive(Clone, Copy)]
@@ -37,12 +37,14 @@ pub enum Operation {
         next: u32,
     },
     Load {
+        width: Width,
         object: u32,
         to: Register,
         index: Register,
         next: u32,
     },
     Store {
+        width: Width,
         object: u32,
         index: Register,
         from: Register,

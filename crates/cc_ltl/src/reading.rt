@@ -11,7 +11,7 @@ use crate::fault::LtlFault;
 use crate::location::{MOST_SLOTS, Register, Slot};
 use crate::ltl::Ltl;
 use crate::operation::{Move, Operation};
-use cc_words::{Binary, Unary};
+use cc_words::{Binary, Unary, Width};
 use std::alloc::Global;
 
 // The operators, in the order of their numbers.
@@ -42,7 +42,7 @@ const BINARY: [Binary; 19] = [
 /// The function that the bytes spell, all of them.
 ///
 /// 37 `Damaged` exactly where they spell none: a register that is not allocatable, a slot that is not below the number of slots, more
-/// than 495 slots, a number of a move, of an operation or of an operator that is unknown, a width other than 4, moves behind a branch or
+/// than 495 slots, a number of a move, of an operation or of an operator that is unknown, a width other than 1 and 4, moves behind a branch or
 /// a return, labels that do not ascend, bytes that are missing or left. 40 `OutOfMemory` where memory ran out.
 pub fn read_ltl(alloc: Global, bytes: &[u8]) -> Result<Ltl, LtlFault>
     ensures answers { ReadAnswers bytes.now result }
@@ -295,6 +295,7 @@ fn binary_operation_at(bytes: &[u8]) -> Option<(Operation, &[u8])>
 // An object with the width of its elements, two registers, and the next label: the fields of a load and of a store.
 #[derive(Clone, Copy)]
 struct Access {
+    width: Width,
     object: u32,
     first: Register,
     second: Register,
@@ -303,9 +304,9 @@ struct Access {
 
 #[tactic(auto, unfolding(crate::specs::internal::Reading::access_in))]
 fn access_at(bytes: &[u8]) -> Option<(Access, &[u8])>
-    ensures { option_map (λ x. ((4, (x.0.object, (x.0.first, (x.0.second, x.0.next)))), x.1.now)) result ≡ access_in bytes.now }
+    ensures { option_map (λ x. ((x.0.width, (x.0.object, (x.0.first, (x.0.second, x.0.next)))), x.1.now)) result ≡ access_in bytes.now }
 {
-    let rest = width_at(bytes)?;
+    let (width, rest) = width_at(bytes)?;
     let (object, rest) = word_at(rest)?;
     let Some((first, rest)) = register_at(rest) else {
         return None;
@@ -316,6 +317,7 @@ fn access_at(bytes: &[u8]) -> Option<(Access, &[u8])>
     let (next, rest) = word_at(rest)?;
     Some((
         Access {
+            width,
             object,
             first,
             second,
@@ -333,6 +335,7 @@ fn load_at(bytes: &[u8]) -> Option<(Operation, &[u8])>
         return None;
     };
     let Access {
+        width,
         object,
         first,
         second,
@@ -340,6 +343,7 @@ fn load_at(bytes: &[u8]) -> Option<(Operation, &[u8])>
     } = access;
     Some((
         Operation::Load {
+            width,
             object,
             to: first,
             index: second,
@@ -357,6 +361,7 @@ fn store_at(bytes: &[u8]) -> Option<(Operation, &[u8])>
         return None;
     };
     let Access {
+        width,
         object,
         first,
         second,
@@ -364,6 +369,7 @@ fn store_at(bytes: &[u8]) -> Option<(Operation, &[u8])>
     } = access;
     Some((
         Operation::Store {
+            width,
             object,
             index: first,
             from: second,
@@ -439,16 +445,17 @@ fn binary_at(bytes: &[u8]) -> Option<(Binary, &[u8])>
     }
 }
 
-// The width of an element, which is 4: the bytes after it.
+// How wide an element is, by how many bytes it has.
 #[tactic(auto, unfolding(crate::specs::internal::Reading::width_in))]
-fn width_at(bytes: &[u8]) -> Option<&[u8]>
-    ensures { option_map (λ rest. (4, rest.now)) result ≡ width_in bytes.now }
+fn width_at(bytes: &[u8]) -> Option<(Width, &[u8])>
+    ensures { option_map (λ x. (x.0, x.1.now)) result ≡ width_in bytes.now }
 {
     let (width, rest) = byte_at(bytes)?;
-    if width != 4 {
-        return None;
+    match width {
+        1 => Some((Width::Byte, rest)),
+        4 => Some((Width::Word, rest)),
+        _ => None,
     }
-    Some(rest)
 }
 
 #[tactic(auto, unfolding(crate::specs::internal::Reading::register_in))]

@@ -9,9 +9,6 @@ use crate::operation::{Move, Operation};
 use cc_words::{Binary, Unary};
 use std::alloc::{AllocError, Global};
 
-// The bytes of an element, as an operation on objects says it.
-const WIDTH: u8 = 4;
-
 /// The bytes that spell the function: three numbers of four bytes, the lowest first (slots, entry, how many blocks), and the blocks
 /// in the order of their labels. A block is its label, the moves before, the operation, the moves after, with how many moves there are
 /// as two bytes. See docs/FORMATS.md.
@@ -108,21 +105,23 @@ fn put_operation(bytes: &mut Vec<u8>, operation: &Operation) -> Result<(), Alloc
             )
         }
         Operation::Load {
+            width,
             object,
             to,
             index,
             next,
         } => {
-            put(bytes, &[4, WIDTH], object)?;
+            put(bytes, &[4, width.bytes()], object)?;
             put(bytes, &[to.number(), index.number()], next)
         }
         Operation::Store {
+            width,
             object,
             index,
             from,
             next,
         } => {
-            put(bytes, &[5, WIDTH], object)?;
+            put(bytes, &[5, width.bytes()], object)?;
             put(bytes, &[index.number(), from.number()], next)
         }
         Operation::Call { function, next } => {

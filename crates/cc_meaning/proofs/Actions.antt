@@ -1,6 +1,8 @@
 -- The instructions of assignments, of other actions and of declarations do what the source says.
 use Rattle.std.proofs.Common.{◌≡◌, ℕ, suc, ◌+◌, ◌<◌, Bool, true, false, if◌then◌else◌, List, [], ◌∷◌, length, nat_lt, inl, inr, Option, Some, None, slice_get, slice_set, unwrap_or, refl, sym, ap, ◌∙◌, subst, arith}
 use Rattle.std.proofs.lemmas.Bool.Decides.{leb_tells}
+use Rattle.cc_words.specs.Widths.{kept}
+use Rattle.cc_words.specs.declared.operators.Width.{Width}
 use Rattle.cc_tokens.specs.declared.scalar.Scalar.{Scalar}
 use Rattle.cc_syntax.specs.declared.ast.BinaryOperator.{BinaryOperator}
 use Rattle.cc_typing.specs.Operators.{working_type, binary_word}
@@ -16,6 +18,7 @@ use Rattle.cc_meaning.specs.Outcome as outcome
 use Rattle.cc_meaning.specs.declared.outcome.Cause.TheVariants.{Index}
 use Rattle.cc_meaning.specs.Meaning as meaning
 use Rattle.cc_meaning.specs.Meaning.{State, Run, Gives, Going, Wrong, Flow, Falls, then_do, Calls, words_of, with_element, with_local_word, variable_word, stored, read_element, write_element, cause_of, given, evaluate, evaluate_or, Destination, ToVariable, ToElement, old_value, write, new_value, perform, perform_optional, declare}
+use Rattle.cc_meaning.specs.Resolved.{IsOneWord}
 use Rattle.cc_meaning.specs.internal.FormMeaning.{Activation, Configuration, Move, Goes, Stops, instruction_move, binary_result, cause_of_operation, only_if, with_word, operated}
 use Rattle.cc_meaning.proofs.Named.{there}
 use Rattle.cc_meaning.proofs.Held.{reads_local, no_local, all_of, get_past}
@@ -85,9 +88,10 @@ module _ (form : FormTree) (cs : List Activation) (total : ℕ) where
             ∙ ap (λ k. operated o k w (λ new. Goes (conf p (slice_set vs i new) [] cs (stored x new s)))) old;
       }
 
-  pub stores_global : (v : Environment) (most : ℕ) (vs : List ℕ) (s : State) (x : List ℕ) → Fits v total most vs s → number_in v.locals x ≡ None → (extent_of v.layout.objects x).length ≡ 1 → Stores v most vs s x
+  pub stores_global : (v : Environment) (most : ℕ) (vs : List ℕ) (s : State) (x : List ℕ) → Fits v total most vs s → number_in v.locals x ≡ None → IsOneWord (extent_of v.layout.objects x) → Stores v most vs s x
   stores_global v most vs s x h e one =
       let offset : ℕ = (extent_of v.layout.objects x).offset in
+      let long : (extent_of v.layout.objects x).length ≡ 1 = one.0 in
       let f = found_object v total most vs s x h in
       let q : (w : ℕ) → Puts v total most vs s x 0 w = λ w. puts_element v total most vs s x 0 w h (omega arith) in
       let is : (w : ℕ) → stored x w s ≡ record s { globals = with_element x 0 w s.globals } = λ w. stored_object v total most vs s x w h e in
@@ -95,7 +99,7 @@ module _ (form : FormTree) (cs : List Activation) (total : ℕ) where
       let set : (p w : ℕ) → only_if (nat_lt offset (length (all_of s.globals))) (Goes (record (conf p vs [] cs s) { globals = slice_set (all_of s.globals) offset w })) ≡ Goes (conf p vs [] cs (stored x w s)) =
       λ p w.
       ap (λ b. only_if b (Goes (record (conf p vs [] cs s) { globals = slice_set (all_of s.globals) offset w }))) (subst (λ k. nat_lt k (length (all_of s.globals)) ≡ true) at (q w).below)
-      ∙ ap (λ gs. Goes (record (conf p vs [] cs s) { globals = gs })) (subst (λ k. slice_set (all_of s.globals) k w ≡ all_of (with_element x 0 w s.globals)) at (q w).words)
+      ∙ ap (λ gs. Goes (record (conf p vs [] cs s) { globals = gs })) (subst (λ k. slice_set (all_of s.globals) k w ≡ all_of (with_element x 0 w s.globals)) at (subst (λ (u : Width). slice_set (all_of s.globals) (offset + 0) (kept u w) ≡ all_of (with_element x 0 w s.globals)) one.1 (q w).words))
       ∙ ap (λ t. Goes (conf p vs [] cs t)) (sym (is w)) in
       let got = there (words_of s.globals x) 0 (let k = f.size in omega arith) in
       let here : slice_get (all_of s.globals) offset ≡ Some got.0 = ap (λ k. slice_get (all_of s.globals) k) (sym at) ∙ f.reads 0 (omega arith) ∙ got.1 in
@@ -150,19 +154,19 @@ module _ (form : FormTree) (cs : List Activation) (total : ℕ) where
   element_set_by v most vs x i p w s true is h e q =
       let ext : Extent = extent_of v.layout.objects x in
       let t : State = record s { globals = with_element x i w s.globals } in
-      let move : Move = only_if (nat_lt (ext.offset + i) (length (all_of s.globals))) (Goes (record (conf (p + 1) vs [] cs s) { globals = slice_set (all_of s.globals) (ext.offset + i) w })) in
+      let move : Move = only_if (nat_lt (ext.offset + i) (length (all_of s.globals))) (Goes (record (conf (p + 1) vs [] cs s) { globals = slice_set (all_of s.globals) (ext.offset + i) (kept ext.width w) })) in
       record {
         falls = refl;
         variables = vs;
         fits = (q refl).fits;
         leads = instructed form (instruction.SetElement ext) p vs (w ∷ i ∷ []) cs s (conf (p + 1) vs [] cs t) e
             (ap (λ b. if b then move else Stops (outcome.Wrong Index)) is
-            ∙ ap (λ b. only_if b (Goes (record (conf (p + 1) vs [] cs s) { globals = slice_set (all_of s.globals) (ext.offset + i) w }))) (q refl).below
+            ∙ ap (λ b. only_if b (Goes (record (conf (p + 1) vs [] cs s) { globals = slice_set (all_of s.globals) (ext.offset + i) (kept ext.width w) }))) (q refl).below
             ∙ ap (λ gs. Goes (record (conf (p + 1) vs [] cs s) { globals = gs })) (q refl).words);
       }
   element_set_by v most vs x i p w s false is h e q =
       let ext : Extent = extent_of v.layout.objects x in
-      let move : Move = only_if (nat_lt (ext.offset + i) (length (all_of s.globals))) (Goes (record (conf (p + 1) vs [] cs s) { globals = slice_set (all_of s.globals) (ext.offset + i) w })) in
+      let move : Move = only_if (nat_lt (ext.offset + i) (length (all_of s.globals))) (Goes (record (conf (p + 1) vs [] cs s) { globals = slice_set (all_of s.globals) (ext.offset + i) (kept ext.width w) })) in
       instructed_last form (instruction.SetElement ext) p vs (w ∷ i ∷ []) cs s (outcome.Wrong Index) e (ap (λ b. if b then move else Stops (outcome.Wrong Index)) is)
 
   -- the index is in the array of both
@@ -179,11 +183,11 @@ module _ (form : FormTree) (cs : List Activation) (total : ℕ) where
       ≡ elim o [
         | None ↦ Stops (outcome.Wrong (cause_of op))
         | Some new ↦ only_if (nat_lt ((extent_of v.layout.objects x).offset + i) (length (all_of s.globals)))
-            (Goes (record (conf p vs [] cs s) { globals = slice_set (all_of s.globals) ((extent_of v.layout.objects x).offset + i) new }))
+            (Goes (record (conf p vs [] cs s) { globals = slice_set (all_of s.globals) ((extent_of v.layout.objects x).offset + i) (kept (extent_of v.layout.objects x).width new) }))
       ]
   element_move v most vs op t x i p w old s o plain is lt here =
       let ext : Extent = extent_of v.layout.objects x in
-      let go : ℕ → Move = λ new. only_if (nat_lt (ext.offset + i) (length (all_of s.globals))) (Goes (record (conf p vs [] cs s) { globals = slice_set (all_of s.globals) (ext.offset + i) new })) in
+      let go : ℕ → Move = λ new. only_if (nat_lt (ext.offset + i) (length (all_of s.globals))) (Goes (record (conf p vs [] cs s) { globals = slice_set (all_of s.globals) (ext.offset + i) (kept ext.width new) })) in
       ap (λ b. if b then with_word (slice_get (all_of s.globals) (ext.offset + i)) (λ k. operated (operation op t) k w go) else Stops (outcome.Wrong Index)) lt
       ∙ ap (λ (n : Option ℕ). with_word n (λ k. operated (operation op t) k w go)) here
       ∙ operated_is op t old w o go plain is
@@ -208,7 +212,7 @@ module _ (form : FormTree) (cs : List Activation) (total : ℕ) where
         fits = q.fits;
         leads = instructed form (instruction.Update (operation op t) (slot.Element ext)) p vs (w ∷ i ∷ []) cs s (conf (p + 1) vs [] cs u) e
             (element_move v most vs op t x i (p + 1) w old s (Some new) plain is lt here
-            ∙ ap (λ b. only_if b (Goes (record (conf (p + 1) vs [] cs s) { globals = slice_set (all_of s.globals) (ext.offset + i) new }))) q.below
+            ∙ ap (λ b. only_if b (Goes (record (conf (p + 1) vs [] cs s) { globals = slice_set (all_of s.globals) (ext.offset + i) (kept ext.width new) }))) q.below
             ∙ ap (λ gs. Goes (record (conf (p + 1) vs [] cs s) { globals = gs })) q.words);
       })
 
@@ -237,5 +241,5 @@ module _ (form : FormTree) (cs : List Activation) (total : ℕ) where
             meets_same form c (Acted form cs total c v most (p + 1)) (whole (slice_get (words_of s.globals x) i)) (Wrong Index s.output) (ap whole past)
             (instructed_last form (instruction.Update (operation op (working_type op t u)) (slot.Element ext)) p vs (w ∷ i ∷ []) cs s (outcome.Wrong Index) e
             (ap (λ b. if b then with_word (slice_get (all_of s.globals) (ext.offset + i)) (λ k. operated (operation op (working_type op t u)) k w (λ new. only_if (nat_lt (ext.offset + i) (length (all_of s.globals)))
-            (Goes (record (conf (p + 1) vs [] cs s) { globals = slice_set (all_of s.globals) (ext.offset + i) new })))) else Stops (outcome.Wrong Index)) ge.0)))
+            (Goes (record (conf (p + 1) vs [] cs s) { globals = slice_set (all_of s.globals) (ext.offset + i) (kept ext.width new) })))) else Stops (outcome.Wrong Index)) ge.0)))
       ]

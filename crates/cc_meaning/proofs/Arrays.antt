@@ -1,10 +1,11 @@
 -- The name of an array in a unit is that of an object.
 use Rattle.std.proofs.Common.{◌≡◌, ℕ, suc, ◌+◌, Bool, true, false, true≢false, ◌||◌, if◌then◌else◌, List, [], ◌∷◌, ◌++◌, ◌⊎◌, inl, inr, Some, option_map, refl, sym, ap, ◌∙◌}
 use Rattle.cc_tokens.specs.declared.scalar.Scalar.{Scalar}
-use Rattle.cc_syntax.specs.Tree.{Signature, Object, Single, Array, External, Declaration, Definition, Objects}
+use Rattle.cc_tokens.specs.declared.scalar.Scalar.TheVariants.{Int}
+use Rattle.cc_syntax.specs.Tree.{Signature, Object, Single, Array, Bytes, External, Declaration, Definition, Objects}
 use Rattle.cc_typing.specs.Names.{same_name}
 use Rattle.cc_typing.specs.Scope.{Entity, Variable, Elements, found, is_declared, FileScope, with_declared, function_entity, with_function, with_object, with_objects, file_scope_behind, file_scope_behind_all}
-use Rattle.cc_typing.specs.Types.{object_words}
+use Rattle.cc_typing.specs.Types.{object_elements}
 use Rattle.cc_typing.specs.Limits.{objects, object_name}
 use Rattle.cc_resolve.specs.Layout.{laid_from, object_number}
 
@@ -35,6 +36,7 @@ function_array s x t f h =
 object_array : (u : Scalar) (o : Object) (x : List ℕ) (t : Scalar) (f : FileScope) → found (with_object u o f).bindings x ≡ Some (Elements t) → (found f.bindings x ≡ Some (Elements t)) ⊎ (same_name (object_name o).text x ≡ true)
 object_array u (Single y i) x t f h = elim (declared_array y.text x (Variable u) t f h) [ inl e ↦ inl e | inr e ↦ inr e.0 ]
 object_array u (Array y n values) x t f h = elim (declared_array y.text x (Elements u) t f h) [ inl e ↦ inl e | inr e ↦ inr e.0 ]
+object_array u (Bytes y n values) x t f h = elim (declared_array y.text x (Elements Int) t f h) [ inl e ↦ inl e | inr e ↦ inr e.0 ]
 
 or_first : (a b : Bool) → a ≡ true → (a || b) ≡ true
 or_first true b e = refl
@@ -74,14 +76,14 @@ externals_array (Objects u os ∷ rest) x t f h =
 
 -- a name among objects has a number
 number_by : (o : Object) (at : ℕ) (rest : List Object) (x : List ℕ) (b : Bool) → (b || is_named rest x) ≡ true
-    → (is_named rest x ≡ true → (number : ℕ) × (object_number (laid_from (at + object_words o) rest) x ≡ Some number))
-    → (number : ℕ) × ((if b then Some 0 else option_map suc (object_number (laid_from (at + object_words o) rest) x)) ≡ Some number)
+    → (is_named rest x ≡ true → (number : ℕ) × (object_number (laid_from (at + object_elements o) rest) x ≡ Some number))
+    → (number : ℕ) × ((if b then Some 0 else option_map suc (object_number (laid_from (at + object_elements o) rest) x)) ≡ Some number)
 number_by o at rest x true e ih = (0, refl)
 number_by o at rest x false e ih = let h = ih e in (suc h.0, ap (option_map suc) h.1)
 
 named_number : (at : ℕ) (os : List Object) (x : List ℕ) → is_named os x ≡ true → (number : ℕ) × (object_number (laid_from at os) x ≡ Some number)
 named_number at [] x e = absurd (true≢false (sym e))
-named_number at (o ∷ rest) x e = number_by o at rest x (same_name (object_name o).text x) e (named_number (at + object_words o) rest x)
+named_number at (o ∷ rest) x e = number_by o at rest x (same_name (object_name o).text x) e (named_number (at + object_elements o) rest x)
 
 pub array_object : (ds : List External) (f : FileScope) (x : List ℕ) (t : Scalar) → ((y : List ℕ) (u : Scalar) → found f.bindings y ≡ Some (Elements u) → ⊥)
     → found (file_scope_behind_all ds f).bindings x ≡ Some (Elements t) → (number : ℕ) × (object_number (laid_from 0 (objects ds)) x ≡ Some number)

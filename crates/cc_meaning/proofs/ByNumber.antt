@@ -10,20 +10,20 @@ use Rattle.cc_meaning.specs.Function as by_name
 use Rattle.cc_meaning.specs.Function.{Shared, call_function, body_of_function}
 use Rattle.cc_meaning.specs.Calls as calls
 use Rattle.cc_meaning.specs.Calls.{main_of, first_shared, outcome_of_effect}
-use Rattle.cc_meaning.specs.Numbered.{names_of, words_in, world_of, named, shared_in, objects_in, numbered, call_in, body_in, arity_in, TypedUnitsHaveMeanings, CallsAreNumbered, without_cause, outcome_by_number, ProgramsAreNumbered}
+use Rattle.cc_meaning.specs.Numbered.{names_of, objects_of, world_of, named, shared_in, objects_in, numbered, call_in, body_in, arity_in, TypedUnitsHaveMeanings, CallsAreNumbered, without_cause, outcome_by_number, ProgramsAreNumbered}
 use Rattle.cc_meaning.proofs.Named.{typed_units_have_meaning}
 use Rattle.cc_meaning.proofs.Effects.{calls_go_on}
 use Rattle.cc_meaning.proofs.Mains.{programs_call_main}
 
 -- ---- names and numbers
 
-renamed : (gs : List Global) → named (names_of gs) (words_in gs) ≡ gs
+renamed : (gs : List Global) → named (names_of gs) (objects_of gs) ≡ gs
 renamed [] = refl
 renamed (g ∷ gs) = ap (λ rest. g ∷ rest) (renamed gs)
 
 same_shared : (unit : List External) (h : Shared) → names_of h.globals ≡ names_of (initial_globals unit) → shared_in unit (world_of h) ≡ h
 same_shared unit h e =
-    ap (λ gs. record { globals = gs; input = h.input; output = h.output }) (ap (λ xs. named xs (words_in h.globals)) (sym e) ∙ renamed h.globals)
+    ap (λ gs. record { globals = gs; input = h.input; output = h.output }) (ap (λ xs. named xs (objects_of h.globals)) (sym e) ∙ renamed h.globals)
 
 pub calls_are_numbered : CallsAreNumbered
 calls_are_numbered unit n opened f ws h e = (

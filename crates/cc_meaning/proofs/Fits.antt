@@ -2,6 +2,7 @@
 -- it.
 use Rattle.std.proofs.Common.{◌≡◌, ℕ, ◌+◌, ◌<◌, ◌≤◌, Bool, true, false, if◌then◌else◌, List, [], ◌∷◌, ◌++◌, length, reverse, nat_lt, ◌⊎◌, inl, inr, Option, Some, None, is_some, slice_get, slice_set, unwrap_or, refl, sym, ap, ◌∙◌, subst, arith}
 use Rattle.std.proofs.lemmas.Bool.{lt-ltb}
+use Rattle.cc_words.specs.Widths.{kept}
 use Rattle.cc_tokens.specs.declared.scalar.Scalar.{Scalar}
 use Rattle.cc_typing.specs.Names.{same_name}
 use Rattle.cc_typing.specs.Scope as scope
@@ -11,7 +12,7 @@ use Rattle.cc_meaning.specs.internal.Form.{FormTree, load}
 use Rattle.cc_resolve.specs.Environment.{Environment, types_in, inner, with_local, number_in}
 use Rattle.cc_resolve.specs.Layout.{Layout, extent_of}
 use Rattle.cc_meaning.specs.Meaning.{State, local_word, words_of, with_local_word, with_element, variable_word, stored}
-use Rattle.cc_meaning.specs.Resolved.{IsObject}
+use Rattle.cc_meaning.specs.Resolved.{IsObject, IsOneWord}
 use Rattle.cc_meaning.specs.internal.FormMeaning.{Activation, Goes, instruction_move, with_word}
 use Rattle.cc_meaning.proofs.Named.{there}
 use Rattle.cc_meaning.proofs.Held.{names_of, words_in, reads_local, no_local, writes_local, all_of, layout_from, Finds, finds, layout_keep, length_slice_set, get_below}
@@ -29,7 +30,7 @@ pub record Fits (v : Environment) (total most : ℕ) (vs : List ℕ) (s : State)
 
 -- a variable in scope is a local, or an object of one word
 abbrev pub Readable : Environment → List ℕ → Type 0
-Readable v x = ((i : ℕ) × (number_in v.locals x ≡ Some i)) ⊎ ((number_in v.locals x ≡ None) × ((extent_of v.layout.objects x).length ≡ 1))
+Readable v x = ((i : ℕ) × (number_in v.locals x ≡ Some i)) ⊎ ((number_in v.locals x ≡ None) × IsOneWord (extent_of v.layout.objects x))
 
 -- what names in scope lead to; `Takes f n` says that f is called with n words
 pub record Scoped (layout : Layout) (defined : List (List ℕ)) (Takes : List ℕ → ℕ → Type 0) (v : Environment) : Type 0 where
@@ -100,7 +101,7 @@ load_global form v total most p vs ops cs s x h e one =
 pub load_move : (form : FormTree) (v : Environment) (total most p : ℕ) (vs ops : List ℕ) (cs : List Activation) (s : State) (x : List ℕ) → Fits v total most vs s → Readable v x
     → instruction_move form (load v x) (conf p vs ops cs s) ≡ Goes (conf p vs (variable_word x s ∷ ops) cs s)
 load_move form v total most p vs ops cs s x h r =
-    elim r [ inl q ↦ load_local form v total most p vs ops cs s x q.0 h q.1 | inr q ↦ load_global form v total most p vs ops cs s x h q.0 q.1 ]
+    elim r [ inl q ↦ load_local form v total most p vs ops cs s x q.0 h q.1 | inr q ↦ load_global form v total most p vs ops cs s x h q.0 q.1.0 ]
 
 -- ---- writing a variable
 
@@ -143,7 +144,7 @@ sets_local v total most vs s x i w h e =
 -- the words after a write to an object's element
 pub record Puts (v : Environment) (total most : ℕ) (vs : List ℕ) (s : State) (x : List ℕ) (i w : ℕ) : Type 0 where
   pub below : nat_lt ((extent_of v.layout.objects x).offset + i) (length (all_of s.globals)) ≡ true
-  pub words : slice_set (all_of s.globals) ((extent_of v.layout.objects x).offset + i) w ≡ all_of (with_element x i w s.globals)
+  pub words : slice_set (all_of s.globals) ((extent_of v.layout.objects x).offset + i) (kept (extent_of v.layout.objects x).width w) ≡ all_of (with_element x i w s.globals)
   pub fits : Fits v total most vs (record s { globals = with_element x i w s.globals })
 
 pub puts_element : (v : Environment) (total most : ℕ) (vs : List ℕ) (s : State) (x : List ℕ) (i w : ℕ) → Fits v total most vs s → i < (extent_of v.layout.objects x).length → Puts v total most vs s x i w

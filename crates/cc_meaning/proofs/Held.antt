@@ -1,6 +1,7 @@
 -- Locals as numbered variables, and globals as one list of words.
 use Rattle.std.proofs.Common.{◌≡◌, ℕ, zero, suc, ◌+◌, ◌<◌, ◌≤◌, Bool, true, false, if◌then◌else◌, List, [], ◌∷◌, ◌++◌, length, map, reverse, Some, None, slice_get, slice_set, refl, sym, ap, ◌∙◌, subst, arith, append_assoc, length-append}
 use Rattle.std.proofs.lemmas.List.{reverse-append, length-map, length-reverse}
+use Rattle.cc_words.specs.Widths.{kept}
 use Rattle.cc_typing.specs.Names.{same_name}
 use Rattle.cc_resolve.specs.declared.layout.Extent.{Extent}
 use Rattle.cc_resolve.specs.Layout.{LaidObject, extent_of}
@@ -145,13 +146,13 @@ all_of (g ∷ rest) = g.words ++ all_of rest
 -- where their words are, of which the first begins at a place
 abbrev pub layout_from : ℕ → List Global → List LaidObject
 layout_from at [] = []
-layout_from at (g ∷ rest) = record { name = g.name; extent = record { offset = at; length = length g.words } } ∷ layout_from (at + length g.words) rest
+layout_from at (g ∷ rest) = record { name = g.name; extent = record { offset = at; length = length g.words; width = g.width } } ∷ layout_from (at + length g.words) rest
 
 pub record Finds (front : List ℕ) (gs : List Global) (x : List ℕ) (ext : Extent) : Type 0 where
   pub size : ext.length ≡ length (words_of gs x)
   pub reads : (i : ℕ) → i < ext.length → slice_get (front ++ all_of gs) (ext.offset + i) ≡ slice_get (words_of gs x) i
   pub within : (i : ℕ) → i < ext.length → ext.offset + i < length (front ++ all_of gs)
-  pub writes : (i w : ℕ) → i < ext.length → slice_set (front ++ all_of gs) (ext.offset + i) w ≡ front ++ all_of (with_element x i w gs)
+  pub writes : (i w : ℕ) → i < ext.length → slice_set (front ++ all_of gs) (ext.offset + i) (kept ext.width w) ≡ front ++ all_of (with_element x i w gs)
 
 -- after the words of one object more
 finds_behind : (front : List ℕ) (g : Global) (rest : List Global) (x : List ℕ) (ext : Extent) → same_name g.name x ≡ false → Finds (front ++ g.words) rest x ext → Finds front (g ∷ rest) x ext
@@ -163,12 +164,12 @@ finds_behind front g rest x ext eq h =
       reads = λ i lt. ap (λ (l : List ℕ). slice_get l (ext.offset + i)) (sym all) ∙ h.reads i lt ∙ ap (λ (l : List ℕ). slice_get l i) (sym words);
       within = λ i lt. subst (λ (l : List ℕ). ext.offset + i < length l) all (h.within i lt);
       writes = λ i w lt.
-          let new : with_element x i w (g ∷ rest) ≡ g ∷ with_element x i w rest = ap (λ c. if c then record g { words = slice_set g.words i w } ∷ rest else g ∷ with_element x i w rest) eq in
-          ap (λ (l : List ℕ). slice_set l (ext.offset + i) w) (sym all) ∙ h.writes i w lt ∙ append_assoc front g.words (all_of (with_element x i w rest)) ∙ ap (λ ks. front ++ all_of ks) (sym new);
+          let new : with_element x i w (g ∷ rest) ≡ g ∷ with_element x i w rest = ap (λ c. if c then record g { words = slice_set g.words i (kept g.width w) } ∷ rest else g ∷ with_element x i w rest) eq in
+          ap (λ (l : List ℕ). slice_set l (ext.offset + i) (kept ext.width w)) (sym all) ∙ h.writes i w lt ∙ append_assoc front g.words (all_of (with_element x i w rest)) ∙ ap (λ ks. front ++ all_of ks) (sym new);
     }
 
 finds_here : (front : List ℕ) (g : Global) (rest : List Global) (x : List ℕ) (at : ℕ) → same_name g.name x ≡ true → length front ≡ at
-    → Finds front (g ∷ rest) x (record { offset = at; length = length g.words })
+    → Finds front (g ∷ rest) x (record { offset = at; length = length g.words; width = g.width })
 finds_here front g rest x at eq e =
     let words : words_of (g ∷ rest) x ≡ g.words = ap (λ c. if c then g.words else words_of rest x) eq in
     record {
@@ -177,13 +178,13 @@ finds_here front g rest x at eq e =
           get_right front (all_of (g ∷ rest)) i (at + i) (omega arith) ∙ get_left g.words (all_of rest) i lt ∙ ap (λ (l : List ℕ). slice_get l i) (sym words);
       within = λ i lt. omega (arith, length-append front (all_of (g ∷ rest)), length-append g.words (all_of rest));
       writes = λ i w lt.
-          let new : with_element x i w (g ∷ rest) ≡ record g { words = slice_set g.words i w } ∷ rest = ap (λ c. if c then record g { words = slice_set g.words i w } ∷ rest else g ∷ with_element x i w rest) eq in
-          set_right front (all_of (g ∷ rest)) i (at + i) w (omega arith) ∙ ap (λ (l : List ℕ). front ++ l) (set_left g.words (all_of rest) i w lt) ∙ ap (λ ks. front ++ all_of ks) (sym new);
+          let new : with_element x i w (g ∷ rest) ≡ record g { words = slice_set g.words i (kept g.width w) } ∷ rest = ap (λ c. if c then record g { words = slice_set g.words i (kept g.width w) } ∷ rest else g ∷ with_element x i w rest) eq in
+          set_right front (all_of (g ∷ rest)) i (at + i) (kept g.width w) (omega arith) ∙ ap (λ (l : List ℕ). front ++ l) (set_left g.words (all_of rest) i (kept g.width w) lt) ∙ ap (λ ks. front ++ all_of ks) (sym new);
     }
 
 finds_by : (front : List ℕ) (g : Global) (rest : List Global) (x : List ℕ) (at : ℕ) (b : Bool) → same_name g.name x ≡ b → length front ≡ at
     → Finds (front ++ g.words) rest x (extent_of (layout_from (at + length g.words) rest) x)
-    → Finds front (g ∷ rest) x (if b then record { offset = at; length = length g.words } else extent_of (layout_from (at + length g.words) rest) x)
+    → Finds front (g ∷ rest) x (if b then record { offset = at; length = length g.words; width = g.width } else extent_of (layout_from (at + length g.words) rest) x)
 finds_by front g rest x at true eq e ih = finds_here front g rest x at eq e
 finds_by front g rest x at false eq e ih = finds_behind front g rest x (extent_of (layout_from (at + length g.words) rest) x) eq ih
 
@@ -193,10 +194,10 @@ finds front (g ∷ rest) x at e =
     finds_by front g rest x at (same_name g.name x) refl e (finds (front ++ g.words) rest x (at + length g.words) (length-append front g.words ∙ ap (λ k. k + length g.words) e))
 
 layout_keep_by : (x : List ℕ) (i w at : ℕ) (g : Global) (rest : List Global) (b : Bool) → layout_from (at + length g.words) (with_element x i w rest) ≡ layout_from (at + length g.words) rest
-    → layout_from at (if b then record g { words = slice_set g.words i w } ∷ rest else g ∷ with_element x i w rest) ≡ layout_from at (g ∷ rest)
+    → layout_from at (if b then record g { words = slice_set g.words i (kept g.width w) } ∷ rest else g ∷ with_element x i w rest) ≡ layout_from at (g ∷ rest)
 layout_keep_by x i w at g rest true ih =
-    ap (λ k. record { name = g.name; extent = record { offset = at; length = k } } ∷ layout_from (at + k) rest) (length_slice_set g.words i w)
-layout_keep_by x i w at g rest false ih = ap (λ (ps : List LaidObject). record { name = g.name; extent = record { offset = at; length = length g.words } } ∷ ps) ih
+    ap (λ k. record { name = g.name; extent = record { offset = at; length = k; width = g.width } } ∷ layout_from (at + k) rest) (length_slice_set g.words i (kept g.width w))
+layout_keep_by x i w at g rest false ih = ap (λ (ps : List LaidObject). record { name = g.name; extent = record { offset = at; length = length g.words; width = g.width } } ∷ ps) ih
 
 -- a write moves no object
 pub layout_keep : (x : List ℕ) (i w at : ℕ) (gs : List Global) → layout_from at (with_element x i w gs) ≡ layout_from at gs

@@ -1,5 +1,6 @@
--- After a call the objects have the names and the numbers of words that they had.
+-- After a call the objects have the names and the sizes that they had.
 use Rattle.std.proofs.Common.{◌≡◌, ℕ, zero, suc, ◌+◌, Bool, true, false, if◌then◌else◌, List, [], ◌∷◌, length, nat_lt, Option, Some, None, is_some, slice_get, slice_set, codes, refl, ap, ◌∙◌}
+use Rattle.cc_words.specs.Widths.{kept}
 use Rattle.cc_tokens.specs.declared.scalar.Scalar.{Scalar}
 use Rattle.cc_tokens.specs.declared.scalar.Scalar.TheVariants.{Int}
 use Rattle.cc_syntax.specs.declared.ast.BinaryOperator.{BinaryOperator}
@@ -13,7 +14,7 @@ use Rattle.cc_typing.specs.Types.{value_type, target_type}
 use Rattle.cc_meaning.specs.declared.outcome.Cause.TheVariants.{Index, Depth}
 use Rattle.cc_meaning.specs.Meaning.{Global, State, Run, Gives, Going, Wrong, Flow, Falls, Breaks, Continues, Returns, then_do, choose, Calls, words_of, with_local_word, with_element, local_word, stored, read_element, given, unless_decided, evaluate, evaluate_all, evaluate_or, Destination, ToVariable, ToElement, destination, old_value, write, new_value, perform, perform_optional, spend_of, behind_flow, behind_body, begin_body, turns, with_local, declare, start, left_scope, in_block, execute, execute_all, Function, functions, function_named, bound, result_of, run_optional, read_input, most_open, calls}
 use Rattle.cc_meaning.specs.Function.{Shared, effect_of, state_within, name_of_function}
-use Rattle.cc_meaning.specs.Calls.{Size, sizes, KeepsObjects, CallsKeepObjects, BodiesKeepObjects}
+use Rattle.cc_meaning.specs.Calls.{Size, size, sizes, KeepsObjects, CallsKeepObjects, BodiesKeepObjects}
 use Rattle.cc_meaning.proofs.Steps.{begun, body_part}
 use Rattle.cc_meaning.proofs.Held.{length_slice_set}
 
@@ -45,9 +46,9 @@ keeps_unless None go p = p
 keeps_unless (Some w) go p = keeps_gives w
 
 element_by : (x : List ℕ) (i w : ℕ) (g : Global) (rest : List Global) (b : Bool) → sizes (with_element x i w rest) ≡ sizes rest
-    → sizes (if b then record g { words = slice_set g.words i w } ∷ rest else g ∷ with_element x i w rest) ≡ sizes (g ∷ rest)
-element_by x i w g rest true ih = ap (λ k. record { name = g.name; words = k } ∷ sizes rest) (length_slice_set g.words i w)
-element_by x i w g rest false ih = ap (λ (zs : List Size). record { name = g.name; words = length g.words } ∷ zs) ih
+    → sizes (if b then record g { words = slice_set g.words i (kept g.width w) } ∷ rest else g ∷ with_element x i w rest) ≡ sizes (g ∷ rest)
+element_by x i w g rest true ih = ap (λ k. record { name = g.name; width = g.width; elements = k } ∷ sizes rest) (length_slice_set g.words i (kept g.width w))
+element_by x i w g rest false ih = ap (λ (zs : List Size). size g ∷ zs) ih
 
 pub element_keeps : (x : List ℕ) (i w : ℕ) (gs : List Global) → sizes (with_element x i w gs) ≡ sizes gs
 element_keeps x i w [] = refl

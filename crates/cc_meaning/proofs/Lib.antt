@@ -39,3 +39,4 @@ pub mod WritingExpressions
 pub mod WritingActions
 pub mod WritingStatements
 pub mod WritingUnits
+pub mod Earlier

@@ -5,7 +5,7 @@ use Rattle.std.proofs.lemmas.Bool.{lt-ltb}
 use Rattle.std.proofs.lemmas.Option.{slice_get-map}
 use Rattle.std.proofs.lemmas.Cmp.{nat_list_eq_equiv}
 use Rattle.cc_tokens.specs.declared.scalar.Scalar.{Scalar}
-use Rattle.cc_syntax.specs.Tree.{Object, Single, Array, External, Declaration, Definition, Objects}
+use Rattle.cc_syntax.specs.Tree.{Object, Single, Array, Bytes, External, Declaration, Definition, Objects}
 use Rattle.cc_typing.specs.Names.{same_name}
 use Rattle.cc_typing.specs.Scope.{FileScope, has_name, first_file_scope, with_object, with_objects, file_scope_behind, body_scope}
 use Rattle.cc_typing.specs.Rules.{broken_if, signature_offences, statements_offences, external_offences, externals_offences}
@@ -30,6 +30,7 @@ Apart seen (f ∷ rest) = (has_name seen f.name ≡ false) × Apart (f.name ∷ 
 object_keeps : (t : Scalar) (o : Object) (f : FileScope) → (with_object t o f).defined ≡ f.defined
 object_keeps t (Single x initial) f = refl
 object_keeps t (Array x n values) f = refl
+object_keeps t (Bytes x n values) f = refl
 
 pub objects_keep : (t : Scalar) (os : List Object) (f : FileScope) → (with_objects t os f).defined ≡ f.defined
 objects_keep t [] f = refl

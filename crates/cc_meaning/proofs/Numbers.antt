@@ -6,13 +6,13 @@ use Rattle.std.specs.Cmp.Lexicographic.{same_text}
 use Rattle.cc_syntax.specs.Tree.{Name, Object, External, Declaration, Definition, Objects}
 use Rattle.cc_typing.specs.Names.{same_name}
 use Rattle.cc_typing.specs.Scope.{FileScope, has_name, first_file_scope, file_scope_behind}
-use Rattle.cc_typing.specs.Types.{object_words, initial_words}
+use Rattle.cc_typing.specs.Types.{object_elements, object_width}
 use Rattle.cc_typing.specs.Limits.{function_names, objects, object_name}
 use Rattle.cc_resolve.specs.Layout.{LaidObject, laid_from, extent_of, object_number, names_before, layout_of}
-use Rattle.cc_meaning.specs.Meaning.{Global, Function, functions_from, functions, function_named}
+use Rattle.cc_meaning.specs.Meaning.{Global, Function, functions_from, functions, function_named, initial_global}
 use Rattle.cc_meaning.specs.Function.{name_of_function}
 use Rattle.cc_meaning.specs.Resolved.{arities}
-use Rattle.cc_meaning.specs.Calls.{FunctionsAreNumbered, ObjectsAreNumbered, ObjectsAreSized}
+use Rattle.cc_meaning.specs.Calls.{Size, sizes, laid_sizes, FunctionsAreNumbered, ObjectsAreNumbered, ObjectsAreSized}
 use Rattle.cc_meaning.proofs.Scopes.{AllFit, all_fit}
 
 -- ---- functions
@@ -95,19 +95,18 @@ function_of_name unit x e = function_there (functions unit) x (ap (λ (xs : List
 -- ---- objects
 
 object_names : (at : ℕ) (os : List Object)
-    → map (λ (g : Global). g.name) (map (λ (o : Object). record { name = (object_name o).text; words = initial_words o }) os) ≡ map (λ (p : LaidObject). p.name) (laid_from at os)
+    → map (λ (g : Global). g.name) (map initial_global os) ≡ map (λ (p : LaidObject). p.name) (laid_from at os)
 object_names at [] = refl
-object_names at (o ∷ rest) = ap (λ (xs : List (List ℕ)). (object_name o).text ∷ xs) (object_names (at + object_words o) rest)
+object_names at (o ∷ rest) = ap (λ (xs : List (List ℕ)). (object_name o).text ∷ xs) (object_names (at + object_elements o) rest)
 
 pub objects_are_numbered : ObjectsAreNumbered
 objects_are_numbered unit = object_names 0 (objects unit)
 
-object_sizes : (at : ℕ) (os : List Object) → AllFit os
-    → map (λ (g : Global). length g.words) (map (λ (o : Object). record { name = (object_name o).text; words = initial_words o }) os) ≡ map (λ (p : LaidObject). p.extent.length) (laid_from at os)
+object_sizes : (at : ℕ) (os : List Object) → AllFit os → sizes (map initial_global os) ≡ laid_sizes (laid_from at os)
 object_sizes at [] h = refl
 object_sizes at (o ∷ rest) h =
-    ap (λ k. k ∷ map (λ (g : Global). length g.words) (map (λ (o : Object). record { name = (object_name o).text; words = initial_words o }) rest)) h.0
-    ∙ ap (λ (ks : List ℕ). object_words o ∷ ks) (object_sizes (at + object_words o) rest h.1)
+    ap (λ k. record { name = (object_name o).text; width = object_width o; elements = k } ∷ sizes (map initial_global rest)) h.0
+    ∙ ap (λ (zs : List Size). record { name = (object_name o).text; width = object_width o; elements = object_elements o } ∷ zs) (object_sizes (at + object_elements o) rest h.1)
 
 pub objects_are_sized : ObjectsAreSized
 objects_are_sized unit typed = object_sizes 0 (objects unit) (all_fit unit first_file_scope typed.0)

@@ -28,7 +28,7 @@ is_variable : (v : Environment) (x : List ℕ) → Readable v x → IsVariable v
 is_variable v x r =
     elim r [
       | inl q ↦ subst (λ o. IsPlaced o v x) (sym q.1) tt
-      | inr q ↦ subst (λ o. IsPlaced o v x) (sym q.0) (sized_number v.layout.objects x q.1, q.1)
+      | inr q ↦ subst (λ o. IsPlaced o v x) (sym q.0) (sized_number v.layout.objects x q.1.0, q.1)
     ]
 
 -- by what a name takes

@@ -1,20 +1,23 @@
 -- File scope in a typed unit: what a name stands for stays, a function's name stands for as many parameters as it has, and a
 -- variable's for an object of one word.
-use Rattle.std.proofs.Common.{◌≡◌, ℕ, suc, ◌+◌, ◌-◌, Bool, true, false, true≢false, not, ◌||◌, ◌&&◌, ◌==◌, if◌then◌else◌, List, [], ◌∷◌, ◌++◌, length, map, replicate, nat_lt, inl, inr, Option, Some, None, is_some, option_map, unwrap_or, refl, sym, ap, ◌∙◌, subst, arith, length-append, append_assoc, append-nil}
+use Rattle.std.proofs.Common.{◌≡◌, ℕ, suc, ◌+◌, ◌-◌, ◌%◌, ◌^◌, Bool, true, false, true≢false, not, ◌||◌, ◌&&◌, ◌==◌, if◌then◌else◌, List, [], ◌∷◌, ◌++◌, length, map, replicate, nat_lt, inl, inr, Option, Some, None, is_some, option_map, unwrap_or, refl, sym, ap, ◌∙◌, subst, arith, length-append, append_assoc, append-nil}
 use Rattle.std.proofs.lemmas.List.{length-map, length-replicate}
 use Rattle.std.proofs.lemmas.Bool.Decides.{leb_tells}
 use Rattle.std.proofs.lemmas.Cmp.{nat_list_eq_equiv}
+use Rattle.cc_words.specs.declared.operators.Width.TheVariants.{Byte, Word}
 use Rattle.cc_tokens.specs.declared.scalar.Scalar.{Scalar}
-use Rattle.cc_syntax.specs.Tree.{ConstantExpr, Parameter, Signature, Object, Single, Array, External, Declaration, Definition, Objects}
+use Rattle.cc_tokens.specs.declared.scalar.Scalar.TheVariants.{Int}
+use Rattle.cc_syntax.specs.Tree.{Name, ConstantExpr, Parameter, Signature, Object, Single, Array, Bytes, External, Declaration, Definition, Objects}
 use Rattle.cc_typing.specs.Names.{same_name}
 use Rattle.cc_typing.specs.Scope.{Entity, Variable, Elements, Function, Binding, found, is_declared, FileScope, with_declared, function_entity, with_function, with_object, with_objects, file_scope_behind, file_scope_behind_all, same_scalar, same_scalars, same_result}
-use Rattle.cc_typing.specs.Types.{constant_word, elements_of_word, array_length, object_words, initial_word, initial_words}
+use Rattle.cc_typing.specs.Types.{constant_word, elements_of_word, array_length, array_elements, object_elements, object_width, initial_word, zeros_behind, initial_words}
 use Rattle.cc_typing.specs.Types as types
-use Rattle.cc_typing.specs.Rules.{broken_if, differs, signature_offences, parameters_offences, optional_constant_offences, constants_offences, length_offences, object_offences, objects_offences, value_offences, external_offences, externals_offences}
+use Rattle.cc_typing.specs.Rules.{broken_if, differs, signature_offences, parameters_offences, optional_constant_offences, constants_offences, length_offences, named_array_offences, object_offences, objects_offences, value_offences, external_offences, externals_offences}
 use Rattle.cc_typing.specs.declared.rule.Rule.TheVariants.{Redeclared, WrongKind, WrongCount}
 use Rattle.cc_typing.specs.Limits.{objects, object_name}
 use Rattle.cc_resolve.specs.declared.layout.Extent.{Extent}
 use Rattle.cc_resolve.specs.Layout.{LaidObject, laid_from, extent_of}
+use Rattle.cc_meaning.specs.Resolved.{IsOneWord}
 use Rattle.cc_meaning.proofs.Offences.{nil_left, nil_right, not_broken, or_left, or_right}
 use Rattle.cc_meaning.proofs.Named.{name_is_itself, same_name_symm}
 
@@ -43,6 +46,7 @@ keeps_declared y x e e' f h = keeps_by f.bindings y x e e' (is_declared f.bindin
 keeps_object : (t : Scalar) (o : Object) (f : FileScope) (x : List ℕ) (e : Entity) → found f.bindings x ≡ Some e → found (with_object t o f).bindings x ≡ Some e
 keeps_object t (Single y i) f x e h = keeps_declared y.text x e (Variable t) f h
 keeps_object t (Array y n values) f x e h = keeps_declared y.text x e (Elements t) f h
+keeps_object t (Bytes y n values) f x e h = keeps_declared y.text x e (Elements Int) f h
 
 keeps_objects : (t : Scalar) (os : List Object) (f : FileScope) (x : List ℕ) (e : Entity) → found f.bindings x ≡ Some e → found (with_objects t os f).bindings x ≡ Some e
 keeps_objects t [] f x e h = h
@@ -125,25 +129,25 @@ named_append (p ∷ rest) qs x = ap (λ b. same_name p.name x || b) (named_appen
     or_assoc false b c = refl
 
 -- the first of that name stays the first
-extent_kept_by : (p : LaidObject) (rest qs : List LaidObject) (x : List ℕ) (b : Bool) → (if b then p.extent else extent_of rest x).length ≡ 1 → ((extent_of rest x).length ≡ 1 → (extent_of (rest ++ qs) x).length ≡ 1)
-    → (if b then p.extent else extent_of (rest ++ qs) x).length ≡ 1
+extent_kept_by : (p : LaidObject) (rest qs : List LaidObject) (x : List ℕ) (b : Bool) → IsOneWord (if b then p.extent else extent_of rest x) → (IsOneWord (extent_of rest x) → IsOneWord (extent_of (rest ++ qs) x))
+    → IsOneWord (if b then p.extent else extent_of (rest ++ qs) x)
 extent_kept_by p rest qs x true e ih = e
 extent_kept_by p rest qs x false e ih = ih e
 
-extent_kept : (ps qs : List LaidObject) (x : List ℕ) → (extent_of ps x).length ≡ 1 → (extent_of (ps ++ qs) x).length ≡ 1
-extent_kept [] qs x e = absurd (omega arith)
+extent_kept : (ps qs : List LaidObject) (x : List ℕ) → IsOneWord (extent_of ps x) → IsOneWord (extent_of (ps ++ qs) x)
+extent_kept [] qs x e = absurd (let z : 0 ≡ 1 = e.0 in omega arith)
 extent_kept (p ∷ rest) qs x e = extent_kept_by p rest qs x (same_name p.name x) e (extent_kept rest qs x)
 
 -- after all that have other names
 extent_last : (ps : List LaidObject) (q : LaidObject) (x : List ℕ) → named_in ps x ≡ false → same_name q.name x ≡ true → extent_of (ps ++ q ∷ []) x ≡ q.extent
-extent_last [] q x e h = ap (λ b. if b then q.extent else record { offset = 0; length = 0 }) h
+extent_last [] q x e h = ap (λ b. if b then q.extent else record { offset = 0; length = 0; width = Word }) h
 extent_last (p ∷ rest) q x e h =
     ap (λ b. if b then p.extent else extent_of (rest ++ q ∷ []) x) (or_left (same_name p.name x) (named_in rest x) e) ∙ extent_last rest q x (or_right (same_name p.name x) (named_in rest x) e) h
 
 -- each object has a declared name, and one of a variable is one word
 record Sized (bs : List Binding) (ps : List LaidObject) : Type 0 where
   known : (x : List ℕ) → named_in ps x ≡ true → is_declared bs x ≡ true
-  one : (x : List ℕ) (t : Scalar) → found bs x ≡ Some (Variable t) → (extent_of ps x).length ≡ 1
+  one : (x : List ℕ) (t : Scalar) → found bs x ≡ Some (Variable t) → IsOneWord (extent_of ps x)
 
 declared_kept : (y x : List ℕ) (e' : Entity) (f : FileScope) (o : Option Entity) → found f.bindings x ≡ o → is_some o ≡ true → is_declared (with_declared y e' f).bindings x ≡ true
 declared_kept y x e' f None e h = absurd (true≢false (sym h))
@@ -161,7 +165,7 @@ sized_function : (s : Signature) (f : FileScope) (ps : List LaidObject) → Size
 sized_function s f ps h = record {
   known = λ x e. declared_kept s.name.text x (function_entity s) f (found f.bindings x) refl (h.known x e);
   one = λ x t e.
-      new_by f s.name.text x (function_entity s) t (is_declared f.bindings s.name.text) (same_name s.name.text x) ((extent_of ps x).length ≡ 1) refl refl e (h.one x t)
+      new_by f s.name.text x (function_entity s) t (is_declared f.bindings s.name.text) (same_name s.name.text x) (IsOneWord (extent_of ps x)) refl refl e (h.one x t)
       (λ p q g. absurd (let z : function_entity s ≡ Variable t = g in cc));
 }
 
@@ -179,18 +183,18 @@ known_more y e' f ps q x true c p r e h = declared_kept y x e' f (found f.bindin
 known_more y e' f ps q x false true p r e h = sym (ap is_some (found_same (with_declared y e' f).bindings y x r)) ∙ declared_now y e' f
 known_more y e' f ps q x false false p r e h = absurd (true≢false (sym e))
 
-sized_new : (y : List ℕ) (e' : Entity) (f : FileScope) (ps : List LaidObject) (q : LaidObject) → q.name ≡ y → ((t : Scalar) → e' ≡ Variable t → q.extent.length ≡ 1) → Sized f.bindings ps
+sized_new : (y : List ℕ) (e' : Entity) (f : FileScope) (ps : List LaidObject) (q : LaidObject) → q.name ≡ y → ((t : Scalar) → e' ≡ Variable t → IsOneWord q.extent) → Sized f.bindings ps
     → Sized (with_declared y e' f).bindings (ps ++ q ∷ [])
 sized_new y e' f ps q is one h = record {
   known = λ x e.
       known_more y e' f ps q x (named_in ps x) (same_name y x) refl refl
       (ap (λ (z : List ℕ). named_in ps x || (same_name z x || false)) (sym is) ∙ sym (named_append ps (q ∷ []) x) ∙ e) h;
   one = λ x t e.
-      new_by f y x e' t (is_declared f.bindings y) (same_name y x) ((extent_of (ps ++ q ∷ []) x).length ≡ 1) refl refl e
+      new_by f y x e' t (is_declared f.bindings y) (same_name y x) (IsOneWord (extent_of (ps ++ q ∷ []) x)) refl refl e
       (λ old. extent_kept ps (q ∷ []) x (h.one x t old))
       (λ b c g.
       let fresh : named_in ps x ≡ false = unknown (named_in ps x) (λ k. true≢false (sym (h.known x k) ∙ ap is_some (sym (found_same f.bindings y x c)) ∙ b)) in
-      ap (λ (z : Extent). z.length) (extent_last ps q x fresh (ap (λ (z : List ℕ). same_name z x) is ∙ c)) ∙ one t g);
+      subst IsOneWord (sym (extent_last ps q x fresh (ap (λ (z : List ℕ). same_name z x) is ∙ c))) (one t g));
 }
   where
     unknown : (b : Bool) → (b ≡ true → ⊥) → b ≡ false
@@ -198,30 +202,32 @@ sized_new y e' f ps q is one h = record {
     unknown false h = refl
 
 sized_object : (t : Scalar) (o : Object) (at : ℕ) (f : FileScope) (ps : List LaidObject) → Sized f.bindings ps
-    → Sized (with_object t o f).bindings (ps ++ record { name = (object_name o).text; extent = record { offset = at; length = object_words o } } ∷ [])
+    → Sized (with_object t o f).bindings (ps ++ record { name = (object_name o).text; extent = record { offset = at; length = object_elements o; width = object_width o } } ∷ [])
 sized_object t (Single y i) at f ps h =
-    sized_new y.text (Variable t) f ps (record { name = y.text; extent = record { offset = at; length = 1 } }) refl (λ u e. refl) h
+    sized_new y.text (Variable t) f ps (record { name = y.text; extent = record { offset = at; length = 1; width = Word } }) refl (λ u e. (refl, refl)) h
 sized_object t (Array y n values) at f ps h =
-    sized_new y.text (Elements t) f ps (record { name = y.text; extent = record { offset = at; length = object_words (Array y n values) } }) refl (λ u e. absurd (let z : Elements t ≡ Variable u = e in cc)) h
+    sized_new y.text (Elements t) f ps (record { name = y.text; extent = record { offset = at; length = array_elements n values; width = Word } }) refl (λ u e. absurd (let z : Elements t ≡ Variable u = e in cc)) h
+sized_object t (Bytes y n values) at f ps h =
+    sized_new y.text (Elements Int) f ps (record { name = y.text; extent = record { offset = at; length = array_elements n values; width = Byte } }) refl (λ u e. absurd (let z : Elements Int ≡ Variable u = e in cc)) h
 
--- all words of some objects
-abbrev words_of_objects : List Object → ℕ
-words_of_objects [] = 0
-words_of_objects (o ∷ rest) = object_words o + words_of_objects rest
+-- all elements of some objects
+abbrev elements_of_objects : List Object → ℕ
+elements_of_objects [] = 0
+elements_of_objects (o ∷ rest) = object_elements o + elements_of_objects rest
 
-laid_append : (at : ℕ) (os more : List Object) → laid_from at (os ++ more) ≡ laid_from at os ++ laid_from (at + words_of_objects os) more
+laid_append : (at : ℕ) (os more : List Object) → laid_from at (os ++ more) ≡ laid_from at os ++ laid_from (at + elements_of_objects os) more
 laid_append at [] more = ap (λ k. laid_from k more) (let z : at ≡ at + 0 = omega arith in z)
 laid_append at (o ∷ rest) more =
-    ap (λ (ps : List LaidObject). record { name = (object_name o).text; extent = record { offset = at; length = object_words o } } ∷ ps)
-    (laid_append (at + object_words o) rest more
-    ∙ ap (λ k. laid_from (at + object_words o) rest ++ laid_from k more) (let z : at + object_words o + words_of_objects rest ≡ at + (object_words o + words_of_objects rest) = omega arith in z))
+    ap (λ (ps : List LaidObject). record { name = (object_name o).text; extent = record { offset = at; length = object_elements o; width = object_width o } } ∷ ps)
+    (laid_append (at + object_elements o) rest more
+    ∙ ap (λ k. laid_from (at + object_elements o) rest ++ laid_from k more) (let z : at + object_elements o + elements_of_objects rest ≡ at + (object_elements o + elements_of_objects rest) = omega arith in z))
 
 sized_objects : (t : Scalar) (os : List Object) (at : ℕ) (f : FileScope) (ps : List LaidObject) → Sized f.bindings ps → Sized (with_objects t os f).bindings (ps ++ laid_from at os)
 sized_objects t [] at f ps h = subst (Sized f.bindings) (sym (append-nil ps)) h
 sized_objects t (o ∷ rest) at f ps h =
-    let q : LaidObject = record { name = (object_name o).text; extent = record { offset = at; length = object_words o } } in
-    subst (Sized (with_objects t rest (with_object t o f)).bindings) (append_assoc ps (q ∷ []) (laid_from (at + object_words o) rest))
-    (sized_objects t rest (at + object_words o) (with_object t o f) (ps ++ q ∷ []) (sized_object t o at f ps h))
+    let q : LaidObject = record { name = (object_name o).text; extent = record { offset = at; length = object_elements o; width = object_width o } } in
+    subst (Sized (with_objects t rest (with_object t o f)).bindings) (append_assoc ps (q ∷ []) (laid_from (at + object_elements o) rest))
+    (sized_objects t rest (at + object_elements o) (with_object t o f) (ps ++ q ∷ []) (sized_object t o at f ps h))
 
 sized_externals : (ds : List External) (at : ℕ) (f : FileScope) (ps : List LaidObject) → Sized f.bindings ps → Sized (file_scope_behind_all ds f).bindings (ps ++ laid_from at (objects ds))
 sized_externals [] at f ps h = subst (Sized f.bindings) (sym (append-nil ps)) h
@@ -230,12 +236,12 @@ sized_externals (Definition s body ∷ rest) at f ps h = sized_externals rest at
 sized_externals (Objects t os ∷ rest) at f ps h =
     let g = with_objects t os f in
     subst (Sized (file_scope_behind_all rest g).bindings)
-    (append_assoc ps (laid_from at os) (laid_from (at + words_of_objects os) (objects rest)) ∙ ap (λ (qs : List LaidObject). ps ++ qs) (sym (laid_append at os (objects rest))))
-    (sized_externals rest (at + words_of_objects os) g (ps ++ laid_from at os) (sized_objects t os at f ps h))
+    (append_assoc ps (laid_from at os) (laid_from (at + elements_of_objects os) (objects rest)) ∙ ap (λ (qs : List LaidObject). ps ++ qs) (sym (laid_append at os (objects rest))))
+    (sized_externals rest (at + elements_of_objects os) g (ps ++ laid_from at os) (sized_objects t os at f ps h))
 
 -- a variable of a unit is an object of one word
 pub variable_size : (ds : List External) (f : FileScope) (x : List ℕ) (t : Scalar) → ((y : List ℕ) (u : Scalar) → found f.bindings y ≡ Some (Variable u) → ⊥) → found (file_scope_behind_all ds f).bindings x ≡ Some (Variable t)
-    → (extent_of (laid_from 0 (objects ds)) x).length ≡ 1
+    → IsOneWord (extent_of (laid_from 0 (objects ds)) x)
 variable_size ds f x t none e = (sized_externals ds 0 f [] (record { known = λ y b. absurd (true≢false (sym b)); one = λ y u g. absurd (none y u g) })).one x t e
 
 -- ---- the words of objects before the run
@@ -245,7 +251,7 @@ broken_not None e = absurd (true≢false e)
 broken_not (Some w) e = (w, refl)
 
 -- an array's length is known, and no less than its list is long
-array_fits_by : (o : Option ℕ) (given at : ℕ) → length_offences o given at ≡ [] → (o ≡ None → ⊥) → given + (unwrap_or o 0 - given) ≡ elim o [ None ↦ 0 | Some k ↦ k ]
+array_fits_by : (o : Option ℕ) (given at : ℕ) → length_offences o given at ≡ [] → (o ≡ None → ⊥) → given + (unwrap_or o 0 - given) ≡ unwrap_or o 0
 array_fits_by None given at e h = absurd (h refl)
 array_fits_by (Some k) given at e h =
     let less : nat_lt k given ≡ false = or_right (k == 0) (nat_lt k given) (not_broken (k == 0 || nat_lt k given) WrongCount at e) in
@@ -258,26 +264,32 @@ length_known_by (Some c) values bs e h =
     let z : option_map (elements_of_word (types.value_type [] c.expr)) (constant_word c) ≡ Some (elements_of_word (types.value_type [] c.expr) w.0) = ap (option_map (elements_of_word (types.value_type [] c.expr))) w.1 in
     let y : Some (elements_of_word (types.value_type [] c.expr) w.0) ≡ None = sym z ∙ h in cc
 
--- an object before the run has as many words as it takes
-pub object_size : (t : Scalar) (o : Object) (f : FileScope) → object_offences t o f ≡ [] → length (initial_words o) ≡ object_words o
-object_size t (Single x i) f e = refl
-object_size t (Array x n values) f e =
+-- an array before the run has as many words as elements, whatever it keeps of its list
+array_size : (t : Scalar) (x : Name) (n : Option ConstantExpr) (values : List ConstantExpr) (word : ConstantExpr → ℕ) (f : FileScope) → named_array_offences t x n values f ≡ []
+    → length (map word values ++ zeros_behind n values) ≡ array_elements n values
+array_size t x n values word f e =
     let a = broken_if (is_declared f.bindings x.text) Redeclared x.at in
     let b = optional_constant_offences f.bindings n in
     let c = length_offences (array_length n values) (length values) x.at in
-    let d = constants_offences (with_object t (Array x n values) f).bindings values in
+    let d = constants_offences (with_declared x.text (Elements t) f).bindings values in
     let e' = nil_right a (b ++ (c ++ d)) e in
     let of_n = nil_left b (c ++ d) e' in
     let of_length = nil_left c d (nil_right b (c ++ d) e') in
-    length-append (map (λ (v : ConstantExpr). initial_word (Some v)) values) (replicate (unwrap_or (array_length n values) 0 - length values) 0)
-    ∙ ap (λ k. k + length {A = ℕ} (replicate (unwrap_or (array_length n values) 0 - length values) 0)) (length-map values (λ (v : ConstantExpr). initial_word (Some v)))
-    ∙ ap (λ k. length values + k) (length-replicate (unwrap_or (array_length n values) 0 - length values) 0)
+    length-append (map word values) (zeros_behind n values)
+    ∙ ap (λ k. k + length {A = ℕ} (zeros_behind n values)) (length-map values word)
+    ∙ ap (λ k. length values + k) (length-replicate (array_elements n values - length values) 0)
     ∙ array_fits_by (array_length n values) (length values) x.at of_length (length_known_by n values f.bindings of_n)
+
+-- so has each object
+pub object_size : (t : Scalar) (o : Object) (f : FileScope) → object_offences t o f ≡ [] → length (initial_words o) ≡ object_elements o
+object_size t (Single x i) f e = refl
+object_size t (Array x n values) f e = array_size t x n values (λ (v : ConstantExpr). initial_word (Some v)) f e
+object_size t (Bytes x n values) f e = array_size Int x n values (λ (v : ConstantExpr). initial_word (Some v) % 2 ^ 8) f e
 
 -- each object of a list
 abbrev pub AllFit : List Object → Type 0
 AllFit [] = Unit {0}
-AllFit (o ∷ rest) = (length (initial_words o) ≡ object_words o) × AllFit rest
+AllFit (o ∷ rest) = (length (initial_words o) ≡ object_elements o) × AllFit rest
 
 fit_append : (os more : List Object) → AllFit os → AllFit more → AllFit (os ++ more)
 fit_append [] more h g = g

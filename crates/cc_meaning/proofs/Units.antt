@@ -8,7 +8,7 @@ use Rattle.cc_syntax.specs.Tree.{Name, Stmts, Parameter, Signature, Object, Exte
 use Rattle.cc_typing.specs.Names.{same_name}
 use Rattle.cc_typing.specs.Scope as scope
 use Rattle.cc_typing.specs.Scope.{Binding, Visible, found, FileScope, has_name, first_file_scope, with_function, with_objects, file_scope_behind, file_scope_behind_all, parameter_declared, parameters_declared, body_scope, same_result}
-use Rattle.cc_typing.specs.Types.{object_words, initial_words}
+use Rattle.cc_typing.specs.Types.{object_elements, object_width, initial_words}
 use Rattle.cc_typing.specs.Rules.{broken_if, signature_offences, statements_offences, external_offences, externals_offences, is_main, defines_main, undefined_among, called_in_statements, called_in_external, called}
 use Rattle.cc_typing.specs.declared.rule.Rule.TheVariants.{Redeclared}
 use Rattle.cc_typing.specs.Limits.{objects, object_name, function_names}
@@ -20,7 +20,7 @@ use Rattle.cc_resolve.specs.Environment.{number_in, parameter_names, environment
 use Rattle.cc_meaning.specs.internal.Form.{FunctionCode, functions_code, unit_functions, all_code, entries_from, resolved}
 use Rattle.cc_meaning.specs.Outcome as outcome
 use Rattle.cc_meaning.specs.Outcome.{Outcome}
-use Rattle.cc_meaning.specs.Meaning.{State, Run, Gives, Going, Wrong, Function, text_of, functions_from, functions, function_named, run_body, run_optional, calls, initial_globals, outcome_of, source_behavior}
+use Rattle.cc_meaning.specs.Meaning.{State, Run, Gives, Going, Wrong, Function, text_of, functions_from, functions, function_named, run_body, run_optional, calls, initial_global, initial_globals, outcome_of, source_behavior}
 use Rattle.cc_meaning.specs.internal.FormMeaning.{Configuration, form_run, first_configuration, started, form_behavior, FormsMeanTheirUnits}
 use Rattle.cc_meaning.proofs.Offences.{nil_left, nil_right, defined_left, defined_right}
 use Rattle.cc_meaning.proofs.Named.{same_name_symm, objects_keep}
@@ -191,15 +191,15 @@ main_named (Objects t os ∷ rest) d = main_named rest d
 
 -- ---- objects before the run
 
-words_laid : (os : List Object) → all_of (map (λ (o : Object). record { name = (object_name o).text; words = initial_words o }) os) ≡ all_words os
+words_laid : (os : List Object) → all_of (map initial_global os) ≡ all_words os
 words_laid [] = refl
 words_laid (o ∷ rest) = ap (λ (l : List ℕ). initial_words o ++ l) (words_laid rest)
 
-objects_laid : (at : ℕ) (os : List Object) → AllFit os → layout_from at (map (λ (o : Object). record { name = (object_name o).text; words = initial_words o }) os) ≡ laid_from at os
+objects_laid : (at : ℕ) (os : List Object) → AllFit os → layout_from at (map initial_global os) ≡ laid_from at os
 objects_laid at [] h = refl
 objects_laid at (o ∷ rest) h =
-    ap (λ k. record { name = (object_name o).text; extent = record { offset = at; length = k } } ∷ layout_from (at + k) (map (λ (x : Object). record { name = (object_name x).text; words = initial_words x }) rest)) h.0
-    ∙ ap (λ (ps : List LaidObject). record { name = (object_name o).text; extent = record { offset = at; length = object_words o } } ∷ ps) (objects_laid (at + object_words o) rest h.1)
+    ap (λ k. record { name = (object_name o).text; extent = record { offset = at; length = k; width = object_width o } } ∷ layout_from (at + k) (map initial_global rest)) h.0
+    ∙ ap (λ (ps : List LaidObject). record { name = (object_name o).text; extent = record { offset = at; length = object_elements o; width = object_width o } } ∷ ps) (objects_laid (at + object_elements o) rest h.1)
 
 -- ---- the functions of a unit beside their instructions
 

@@ -1,5 +1,6 @@
 -- What holds of every call and of the body of every function, whether the unit is typed or not: what a pass cites of the meaning.
 use Rattle.std.specs.Prelude.{◌≡◌, ℕ, ◌+◌, ◌<◌, List, [], ◌++◌, length, map, Some, slice_get, codes}
+use Rattle.cc_words.specs.declared.operators.Width.{Width}
 use Rattle.cc_syntax.specs.Tree.{External, Source}
 use Rattle.cc_typing.specs.Typed.{IsTyped}
 use Rattle.cc_resolve.specs.Layout.{LaidObject, names_before, layout_of, callee}
@@ -66,15 +67,19 @@ BodiesGoOn = (unit : List External) (opened f : ℕ) (ws : List ℕ) → EffectG
 
 -- ---- objects
 
--- an object's name, and how many words it has
+-- an object's name, how wide its elements are, and how many there are
 pub record Size : Type 0 where
   pub name : List ℕ
-  pub words : ℕ
+  pub width : Width
+  pub elements : ℕ
+
+abbrev pub size : Global → Size
+size g = record { name = g.name; width = g.width; elements = length g.words }
 
 abbrev pub sizes : List Global → List Size
-sizes gs = map (λ (g : Global). record { name = g.name; words = length g.words }) gs
+sizes gs = map size gs
 
--- the objects have the names and numbers of words that they had
+-- the objects have the names and sizes that they had
 abbrev pub KeepsObjects : Shared → Effect Answer → Type 0
 KeepsObjects h (Answers a left) = sizes a.shared.globals ≡ sizes h.globals
 KeepsObjects h (Unfinished output) = Unit {0}
@@ -95,10 +100,16 @@ FunctionsAreNumbered = (unit : List External) → map (λ (g : Function). g.name
 abbrev pub ObjectsAreNumbered : Type 0
 ObjectsAreNumbered = (unit : List External) → map (λ (g : Global). g.name) (initial_globals unit) ≡ map (λ (p : LaidObject). p.name) (layout_of unit).objects
 
--- in a typed unit each object has before the run as many words as it is laid out for
+-- the sizes that objects are laid out for
+abbrev pub laid_size : LaidObject → Size
+laid_size p = record { name = p.name; width = p.extent.width; elements = p.extent.length }
+
+abbrev pub laid_sizes : List LaidObject → List Size
+laid_sizes ps = map laid_size ps
+
+-- in a typed unit each object has before the run the size that it is laid out for
 abbrev pub ObjectsAreSized : Type 0
-ObjectsAreSized = (unit : List External) → IsTyped unit
-    → map (λ (g : Global). length g.words) (initial_globals unit) ≡ map (λ (p : LaidObject). p.extent.length) (layout_of unit).objects
+ObjectsAreSized = (unit : List External) → IsTyped unit → sizes (initial_globals unit) ≡ laid_sizes (layout_of unit).objects
 
 -- ---- programs
 

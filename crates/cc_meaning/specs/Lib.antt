@@ -10,6 +10,8 @@ pub mod Resolved
 pub mod Calls
 -- the same by number, as the passes speak of it
 pub mod Numbered
+-- what stays of texts without arrays of `unsigned char`
+pub mod Earlier
 -- what the code's answer shows
 pub mod Erase
 -- the number of the fault

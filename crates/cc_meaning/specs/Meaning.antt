@@ -5,6 +5,8 @@
 -- Steps are spent by the start of `main`, by each call of a defined function, and each time that the body of a loop
 -- begins. A number n, which is greater than the steps left, makes each recursion end and decides nothing.
 use Rattle.std.specs.Prelude.{ℕ, zero, suc, ◌+◌, ◌-◌, true, false, List, [], ◌∷◌, ◌++◌, length, drop, map, nat_lt, if◌then◌else◌, Option, Some, None, is_some, unwrap_or, slice_get, slice_set, codes}
+use Rattle.cc_words.specs.Widths.{kept}
+use Rattle.cc_words.specs.declared.operators.Width.{Width}
 use Rattle.cc_tokens.specs.declared.scalar.Scalar.{Scalar}
 use Rattle.cc_tokens.specs.declared.scalar.Scalar.TheVariants.{Int}
 use Rattle.cc_syntax.specs.declared.ast.BinaryOperator.{BinaryOperator}
@@ -15,7 +17,7 @@ use Rattle.cc_typing.specs.Names.{same_name}
 use Rattle.cc_typing.specs.Operators.{working_type, unary_word, binary_word, decided, applied_operator, step_operator}
 use Rattle.cc_typing.specs.Scope as scope
 use Rattle.cc_typing.specs.Scope.{Binding, Visible, in_scope, opened, declared, scope_behind, scope_behind_beginning, body_scope, FileScope, first_file_scope, file_scope_behind}
-use Rattle.cc_typing.specs.Types.{value_type, target_type, initial_words}
+use Rattle.cc_typing.specs.Types.{value_type, target_type, object_width, initial_words}
 use Rattle.cc_typing.specs.Limits.{objects, object_name}
 use Rattle.cc_meaning.specs.Outcome as outcome
 use Rattle.cc_meaning.specs.Outcome.{Outcome}
@@ -29,9 +31,10 @@ pub record Local : Type 0 where
   pub name : List ℕ
   pub word : ℕ
 
--- an object at file scope: its name, and its elements' words, one word for a single object (6.2.4)
+-- an object at file scope: its name, how wide its elements are, and their words, one word for a single object (6.2.4)
 pub record Global : Type 0 where
   pub name : List ℕ
+  pub width : Width
   pub words : List ℕ
 
 -- what a run has at one moment: the locals of the function that runs, the newest first, the globals, the words of the
@@ -90,10 +93,10 @@ abbrev pub with_local_word : List ℕ → ℕ → List Local → List Local
 with_local_word x w [] = []
 with_local_word x w (l ∷ behind) = if same_name l.name x then record l { word = w } ∷ behind else l ∷ with_local_word x w behind
 
--- an element of the object of that name gets a word
+-- an element of the object of that name gets a word, and keeps of it what has room there (6.3.1.3)
 abbrev pub with_element : List ℕ → ℕ → ℕ → List Global → List Global
 with_element x i w [] = []
-with_element x i w (g ∷ rest) = if same_name g.name x then record g { words = slice_set g.words i w } ∷ rest else g ∷ with_element x i w rest
+with_element x i w (g ∷ rest) = if same_name g.name x then record g { words = slice_set g.words i (kept g.width w) } ∷ rest else g ∷ with_element x i w rest
 
 -- the word of a variable: a local hides what file scope has (6.2.1, 6.5.1)
 abbrev pub variable_word : List ℕ → State → ℕ
@@ -380,9 +383,13 @@ calls (suc n) fs opened f ws s =
 
 -- ---- programs
 
--- the objects at file scope before the run, in the order of their declarations
+-- an object at file scope before the run
+abbrev pub initial_global : Object → Global
+initial_global o = record { name = (object_name o).text; width = object_width o; words = initial_words o }
+
+-- all of them, in the order of their declarations
 abbrev pub initial_globals : List External → List Global
-initial_globals externals = map (λ (o : Object). record { name = (object_name o).text; words = initial_words o }) (objects externals)
+initial_globals externals = map initial_global (objects externals)
 
 -- how a call comes out
 abbrev pub outcome_of : Run ℕ → Outcome ℕ

@@ -3,7 +3,7 @@ use Rattle.std.specs.Prelude.{◌≡◌, ℕ, List, [], ◌∷◌, length, map, 
 use Rattle.cc_syntax.specs.Tree.{External, Source}
 use Rattle.cc_typing.specs.Typed.{IsTyped}
 use Rattle.cc_runs.specs.Behavior as runs
-use Rattle.cc_runs.specs.World.{World, Effect, Gives, Unfinished, Failed}
+use Rattle.cc_runs.specs.World.{Object, Size, size_of, World, Effect, Gives, Unfinished, Failed}
 use Rattle.cc_runs.specs.Meaning.{Meaning}
 use Rattle.cc_meaning.specs.Outcome as outcome
 use Rattle.cc_meaning.specs.Meaning.{Global, functions, initial_globals, source_behavior}
@@ -14,30 +14,30 @@ use Rattle.cc_meaning.specs.Calls.{HasMain, main_of, first_shared}
 
 -- ---- objects by number
 
--- the names of objects, and their words
+-- the names of objects, and the objects
 abbrev pub names_of : List Global → List (List ℕ)
 names_of gs = map (λ (g : Global). g.name) gs
 
-abbrev pub words_in : List Global → List (List ℕ)
-words_in gs = map (λ (g : Global). g.words) gs
+abbrev pub objects_of : List Global → List Object
+objects_of gs = map (λ (g : Global). record { width = g.width; words = g.words }) gs
 
 -- what is shared, without the objects' names
 abbrev pub world_of : Shared → World
-world_of h = record { globals = words_in h.globals; input = h.input; output = h.output }
+world_of h = record { globals = objects_of h.globals; input = h.input; output = h.output }
 
--- objects of these names with these words, in the same order
-abbrev pub named : List (List ℕ) → List (List ℕ) → List Global
-named [] ws = []
+-- objects with these names, in the same order
+abbrev pub named : List (List ℕ) → List Object → List Global
+named [] os = []
 named (x ∷ xs) [] = []
-named (x ∷ xs) (w ∷ ws) = record { name = x; words = w } ∷ named xs ws
+named (x ∷ xs) (o ∷ os) = record { name = x; width = o.width; words = o.words } ∷ named xs os
 
 -- what is shared, with the names of a unit's objects
 abbrev pub shared_in : List External → World → Shared
 shared_in unit h = record { globals = named (names_of (initial_globals unit)) h.globals; input = h.input; output = h.output }
 
--- how many words each object of a unit has
-abbrev pub objects_in : List External → List ℕ
-objects_in unit = map (λ (ws : List ℕ). length ws) (words_in (initial_globals unit))
+-- the size of each object of a unit
+abbrev pub objects_in : List External → List Size
+objects_in unit = map size_of (objects_of (initial_globals unit))
 
 -- ---- calls by number
 

@@ -2,12 +2,14 @@
 -- word, a name that is indexed is an object, and a call is one of a builtin or of a function of the unit, with as many arguments as
 -- it has parameters.
 use Rattle.std.specs.Prelude.{◌≡◌, ℕ, ◌<◌, List, [], ◌∷◌, length, map, Option, Some, None, slice_get}
+use Rattle.cc_words.specs.declared.operators.Width.TheVariants.{Word}
 use Rattle.cc_tokens.specs.declared.scalar.Scalar.{Scalar}
 use Rattle.cc_syntax.specs.Tree as tree
 use Rattle.cc_syntax.specs.Tree.{Expr, Exprs, none, more, Number, Variable, Element, Parenthesised, Unary, Cast, Binary, Conditional, Target, AtVariable, AtElement, Action, Assign, Step, Evaluate, Declarator, Beginning, Declares, Performs, Stmt, Stmts, end, next, Block, Perform, Return, Break, Continue, If, IfElse, While, DoWhile, For, Parameter, Signature, External, Definition}
 use Rattle.cc_typing.specs.Rules.{count_of}
 use Rattle.cc_typing.specs.Typed.{IsTyped, definitions}
 use Rattle.cc_resolve.specs.Layout.{object_number, extent_of, layout_of, callee}
+use Rattle.cc_resolve.specs.declared.layout.Extent.{Extent}
 use Rattle.cc_resolve.specs.declared.layout.Callee.{Callee}
 use Rattle.cc_resolve.specs.declared.layout.Callee.TheVariants.{WriteWord, ReadWord, Defined}
 use Rattle.cc_resolve.specs.Environment.{Environment, number_in, inner, with_local, behind, behind_beginning, parameter_names, environments}
@@ -23,9 +25,13 @@ arities unit = map (λ (g : Function). length g.parameters) (functions unit)
 abbrev pub IsObject : Environment → List ℕ → Type 0
 IsObject v x = (number : ℕ) × (object_number v.layout.objects x ≡ Some number)
 
+-- an object of one word
+abbrev pub IsOneWord : Extent → Type 0
+IsOneWord e = (e.length ≡ 1) × (e.width ≡ Word)
+
 -- a variable is a local in scope, or else an object of one word
 abbrev pub IsPlaced : Option ℕ → Environment → List ℕ → Type 0
-IsPlaced None v x = IsObject v x × ((extent_of v.layout.objects x).length ≡ 1)
+IsPlaced None v x = IsObject v x × IsOneWord (extent_of v.layout.objects x)
 IsPlaced (Some number) v x = Unit {0}
 
 abbrev pub IsVariable : Environment → List ℕ → Type 0

@@ -1,9 +1,12 @@
 // What holds of the meaning of every program.
 
 ghost use Rattle.cc_meaning.specs.Calls.{BodiesGoOn, BodiesKeepObjects, CallsAreEffects, CallsGoOn, CallsKeepObjects, FunctionsAreNumbered, ObjectsAreNumbered, ObjectsAreSized, ProgramsCallMain, TypedUnitsHaveMain};
+ghost use Rattle.cc_meaning.specs.Earlier.{EarlierTreesStay, NoTreeIsNew, EarlierRulesStay, EarlierMeaningStays};
 ghost use Rattle.cc_meaning.specs.Function.{TypedUnitsHaveMeaning, RunsGoOn};
 ghost use Rattle.cc_meaning.specs.Numbered.{CallsAreNumbered, ProgramsAreNumbered, TypedUnitsHaveMeanings};
 ghost use Rattle.cc_meaning.specs.Resolved.{FunctionsAreResolved};
+
+use cc_syntax::{tokens_are_determined, trees_are_determined};
 
 /// Each function of a typed unit has its meaning: a call with no step left is unfinished; where 1,024 calls are open a call
 /// spends a step and goes wrong; below that it is its body with one step less.
@@ -30,13 +33,13 @@ pub fn calls_go_on()
     ensures bodies { BodiesGoOn }
 {}
 
-/// After a call, and after the body of a function, the objects have the names and the numbers of words that they had.
+/// After a call, and after the body of a function, the objects have the names and the sizes that they had.
 pub fn calls_keep_objects()
     ensures calls { CallsKeepObjects }
     ensures bodies { BodiesKeepObjects }
 {}
 
-/// Functions and objects have the numbers of their names; in a typed unit each object has the words that it is laid out for.
+/// Functions and objects have the numbers of their names; in a typed unit each object has the size that it is laid out for.
 pub fn names_have_numbers()
     ensures functions { FunctionsAreNumbered }
     ensures objects { ObjectsAreNumbered }
@@ -54,6 +57,18 @@ pub fn programs_call_main()
 pub fn functions_are_resolved()
     ensures { FunctionsAreResolved }
 {}
+
+/// A text that had a tree before there were arrays of `unsigned char` has it now, and no other; it keeps the rules and limits that it
+/// kept, and each clause of the meaning does what it did. A text without the word `char` has no tree that it had not.
+pub fn earlier_texts_stay()
+    ensures trees { EarlierTreesStay }
+    ensures none_new { NoTreeIsNew }
+    ensures rules { EarlierRulesStay }
+    ensures meaning { EarlierMeaningStays }
+{
+    tokens_are_determined();
+    trees_are_determined();
+}
 
 /// Each typed unit has a meaning by number, which its calls, its bodies and its run have by name.
 pub fn units_have_meanings()

@@ -18,6 +18,17 @@ use Rattle.cc_syntax.specs.contracts.ast.External as External
 use Rattle.cc_syntax.specs.contracts.unit.Unit as Unit
 use Rattle.cc_typing.specs.contracts.typed.TypedUnit as TypedUnit
 use Rattle.cc_typing.specs.contracts.typed.TypedUnit.TheInside as inside
+use Rattle.cc_ltl.specs.contracts.location.Register as Register
+use Rattle.cc_ltl.specs.contracts.location.Register.TheInside as registers
+use Rattle.cc_ltl.specs.contracts.location.Slot as Slot
+use Rattle.cc_ltl.specs.contracts.location.Slot.TheInside as slots
+use Rattle.cc_ltl.specs.contracts.operation.Move as Move
+use Rattle.cc_ltl.specs.contracts.operation.Operation as Operation
+use Rattle.cc_ltl.specs.contracts.block.Moves as Moves
+use Rattle.cc_ltl.specs.contracts.block.Moves.TheInside as moves
+use Rattle.cc_ltl.specs.contracts.block.Block as Block
+use Rattle.cc_ltl.specs.contracts.ltl.Ltl as Ltl
+use Rattle.cc_ltl.specs.contracts.ltl.Ltl.TheInside as ltl
 use Rattle.cc_emit.specs.contracts.item.Item as Word
 use Rattle.cc_emit.specs.contracts.piece.Piece as Piece
 use Rattle.cc_emit.specs.contracts.piece.Piece.TheInside as piece
@@ -136,8 +147,29 @@ typed_sync = view_sync _ _ _ _ _ (recorded_sync inside.the_field.row _ _ inside.
 word_send : IsSend Word.the_row
 word_send = search sendable depth 40 fits 40000
 
+register_send : IsSend Register.the_row
+register_send = search sendable depth 40 fits 40000
+
+slot_send : IsSend Slot.the_row
+slot_send = search sendable depth 40 fits 40000
+
+move_send : IsSend Move.the_row
+move_send = let r = register_send in let s = slot_send in search sendable depth 40 fits 40000
+
+moves_send : IsSend Moves.the_row
+moves_send = view_send _ _ _ _ _ (recorded_send moves.the_field.row _ _ moves.the_type.to_one (struct_send (shape moves.the_type) (Vec-send _ move_send, tt)))
+
+operation_send : IsSend (Operation.the_field).row
+operation_send = let r = register_send in search sendable depth 40 fits 40000
+
+block_send : IsSend Block.the_row
+block_send = recorded_send _ _ _ Block.the_type.to_one (struct_send (shape Block.the_type) (search sendable, (moves_send, (operation_send, (moves_send, tt)))))
+
+ltl_send : IsSend Ltl.the_row
+ltl_send = view_send _ _ _ _ _ (recorded_send ltl.the_field.row _ _ ltl.the_type.to_one (struct_send (shape ltl.the_type) (search sendable, (search sendable, (Vec-send _ block_send, tt)))))
+
 piece_send : IsSend Piece.the_row
-piece_send = view_send _ _ _ _ _ (recorded_send piece.the_field.row _ _ piece.the_type.to_one (struct_send (shape piece.the_type) (Arc-send _ typed_send typed_sync, (search sendable, (Vec-send _ word_send, tt)))))
+piece_send = view_send _ _ _ _ _ (recorded_send piece.the_field.row _ _ piece.the_type.to_one (struct_send (shape piece.the_type) (Arc-send _ typed_send typed_sync, (search sendable, (ltl_send, (Vec-send _ word_send, tt))))))
 
 refusal_send : IsSend Refusal.the_row
 refusal_send = view_send _ _ _ _ _ (recorded_send refusal.the_field.row _ _ refusal.the_type.to_one (struct_send (shape refusal.the_type) (Arc-send _ typed_send typed_sync, (search sendable, (search sendable depth 20, tt)))))

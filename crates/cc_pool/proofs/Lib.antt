@@ -1,5 +1,4 @@
 pub mod Crossing
-pub mod Few
 pub mod Lists
 pub mod Multisets
 pub mod Pieces

@@ -6,7 +6,7 @@ use Rattle.cc_typing.specs.Bindings.{closed, file_level, file_of}
 use Rattle.cc_typing.specs.internal.Counts.{defined_in, objects_in}
 use Rattle.cc_typing.specs.Limits.{objects, object_name, function_names}
 use Rattle.cc_typing.specs.Scope.{Binding, with_object, with_objects, parameter_declared, parameters_declared}
-use Rattle.cc_typing.specs.Types.{object_words, initial_words}
+use Rattle.cc_typing.specs.Types.{object_elements, object_width, initial_words}
 use Rattle.cc_typing.proofs.FileScopes.{with_objects-same, parameters_declared-outer}
 use Rattle.cc_resolve.specs.Layout.{LaidObject, Layout, laid_from, all_words}
 use Rattle.cc_resolve.specs.Environment.{Environment, parameter_names}
@@ -40,15 +40,15 @@ pub record Placing (p0 : Layout) (w0 : List ℕ) (at0 : ℕ) (all : List Object)
 
 pub Placing-next : (p0 : Layout) (w0 : List ℕ) (at0 : ℕ) (all : List Object) (p : Layout) (w : List ℕ) (at : ℕ) (o : Object) (rest : List Object) (p' : Layout) (w' : List ℕ) (at' : ℕ)
     → Placing p0 w0 at0 all p w at (o ∷ rest)
-    → p' ≡ record p { objects = p.objects ++ record { name = (object_name o).text; extent = record { offset = at; length = object_words o } } ∷ [] }
-    → w' ≡ w ++ initial_words o → at' ≡ at + object_words o → at' ≤ length w'
+    → p' ≡ record p { objects = p.objects ++ record { name = (object_name o).text; extent = record { offset = at; length = object_elements o; width = object_width o } } ∷ [] }
+    → w' ≡ w ++ initial_words o → at' ≡ at + object_elements o → at' ≤ length w'
     → Placing p0 w0 at0 all p' w' at' rest
 Placing-next p0 w0 at0 all p w at o rest p' w' at' before ep ew ea h =
-    let this : LaidObject = record { name = (object_name o).text; extent = record { offset = at; length = object_words o } } in
+    let this : LaidObject = record { name = (object_name o).text; extent = record { offset = at; length = object_elements o; width = object_width o } } in
     record {
       objects =
           ap (λ n. p'.objects ++ laid_from n rest) ea
-          ∙ one-more p.objects p'.objects this (laid_from (at + object_words o) rest) _ before.objects (ap (λ (q : Layout). q.objects) ep);
+          ∙ one-more p.objects p'.objects this (laid_from (at + object_elements o) rest) _ before.objects (ap (λ (q : Layout). q.objects) ep);
       functions = ap (λ (q : Layout). q.functions) ep ∙ before.functions;
       words = some-more w w' (initial_words o) (all_words rest) _ before.words ew;
       behind = ap (λ n. offset_behind n rest) ea ∙ before.behind;
@@ -57,7 +57,7 @@ Placing-next p0 w0 at0 all p w at o rest p' w' at' before ep ew ea h =
 
 pub laid_from-append : (at : ℕ) (xs ys : List Object) → laid_from at (xs ++ ys) ≡ laid_from at xs ++ laid_from (offset_behind at xs) ys
 laid_from-append at [] ys = refl
-laid_from-append at (o ∷ xs) ys = ap (λ l. record { name = (object_name o).text; extent = record { offset = at; length = object_words o } } ∷ l) (laid_from-append (at + object_words o) xs ys)
+laid_from-append at (o ∷ xs) ys = ap (λ l. record { name = (object_name o).text; extent = record { offset = at; length = object_elements o; width = object_width o } } ∷ l) (laid_from-append (at + object_elements o) xs ys)
 
 pub all_words-append : (xs ys : List Object) → all_words (xs ++ ys) ≡ all_words xs ++ all_words ys
 all_words-append [] ys = refl

@@ -8,6 +8,7 @@ use Rattle.cc_typing.specs.Names.{same_name}
 use Rattle.cc_typing.specs.Entities.{names_in}
 use Rattle.cc_typing.specs.Scope as scope
 use Rattle.cc_typing.specs.Bindings as bindings
+use Rattle.cc_words.specs.declared.operators.Width.TheVariants.{Word}
 use Rattle.cc_resolve.specs.Numberings.{first_of, ArePlaces, laid_objects, local_names}
 use Rattle.cc_resolve.specs.Layout.{LaidObject, extent_of, object_number, names_before}
 use Rattle.cc_resolve.specs.Environment.{number_in}
@@ -121,8 +122,8 @@ laid_objects-push (y ∷ xs) (k ∷ es) x e h = ap (λ (l : List LaidObject). re
 
 -- the words of the object with a number
 abbrev pub extent_at : List Extent → Option ℕ → Extent
-extent_at es None = record { offset = 0; length = 0 }
-extent_at es (Some i) = get_or es i (record { offset = 0; length = 0 })
+extent_at es None = record { offset = 0; length = 0; width = Word }
+extent_at es (Some i) = get_or es i (record { offset = 0; length = 0; width = Word })
 
 extent_at-suc : (e : Extent) (es : List Extent) (r : Option ℕ) → extent_at es r ≡ extent_at (e ∷ es) (option_map suc r)
 extent_at-suc e es None = refl

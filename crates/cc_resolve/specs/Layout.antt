@@ -1,9 +1,10 @@
 -- Where the names of file scope lead: the objects lie one after the other as one list of words, and a word's number is its
 -- offset in that list; the functions are numbered in the order of their definitions.
 use Rattle.std.specs.Prelude.{ℕ, suc, ◌+◌, List, [], ◌∷◌, ◌++◌, map, Option, Some, None, if◌then◌else◌, option_map, codes}
+use Rattle.cc_words.specs.declared.operators.Width.TheVariants.{Word}
 use Rattle.cc_syntax.specs.Tree.{Name, Object, External}
 use Rattle.cc_typing.specs.Names.{same_name}
-use Rattle.cc_typing.specs.Types.{object_words, initial_words}
+use Rattle.cc_typing.specs.Types.{object_elements, object_width, initial_words}
 use Rattle.cc_typing.specs.Limits.{objects, object_name, function_names}
 use Rattle.cc_resolve.specs.declared.layout.Extent.{Extent}
 use Rattle.cc_resolve.specs.declared.layout.Callee.{Callee}
@@ -18,11 +19,11 @@ pub record LaidObject : Type 0 where
 abbrev pub laid_from : ℕ → List Object → List LaidObject
 laid_from at [] = []
 laid_from at (o ∷ rest) =
-    record { name = (object_name o).text; extent = record { offset = at; length = object_words o } } ∷ laid_from (at + object_words o) rest
+    record { name = (object_name o).text; extent = record { offset = at; length = object_elements o; width = object_width o } } ∷ laid_from (at + object_elements o) rest
 
 -- the words of the object of a name
 abbrev pub extent_of : List LaidObject → List ℕ → Extent
-extent_of [] x = record { offset = 0; length = 0 }
+extent_of [] x = record { offset = 0; length = 0; width = Word }
 extent_of (p ∷ rest) x = if same_name p.name x then p.extent else extent_of rest x
 
 -- the number of the object of a name, where it is one: how many objects stand before it

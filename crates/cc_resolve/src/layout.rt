@@ -5,14 +5,17 @@ ghost use Rattle.cc_resolve.specs.Layout.{callee, extent_of, names_before, objec
 
 use super::places::Places;
 use cc_typing::{READ_WORD, WRITE_WORD};
+use cc_words::Width;
 use std::alloc::{AllocError, Global};
 use std::marker::Model;
 
-/// Where an object's words are among those of all objects: the number of the first one, and how many there are.
+/// Where an object's words, one for each element, are among those of all objects: the number of the first one, how many there are, and how
+/// wide the elements are.
 #[derive(Clone, Copy)]
 pub struct Extent {
     pub offset: usize,
     pub length: usize,
+    pub width: Width,
 }
 
 /// What a name that is called leads to.
@@ -29,6 +32,7 @@ pub enum Callee {
 const NOWHERE: Extent = Extent {
     offset: 0,
     length: 0,
+    width: Width::Word,
 };
 
 /// The objects of a unit, and the functions in the order of their definitions.

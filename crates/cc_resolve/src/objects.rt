@@ -1,6 +1,6 @@
 // The objects at file scope: their words before the run, where these are, and the objects' names.
 
-ghost use Rattle.std.specs.Prelude.{◌≡◌, ◌≤◌, ◌+◌, [], ◌∷◌, ◌++◌, Some, length, map, replicate, OnOk, IfOk};
+ghost use Rattle.std.specs.Prelude.{◌≡◌, ◌≤◌, ◌+◌, ◌%◌, ◌^◌, [], ◌∷◌, ◌++◌, Some, length, map, replicate, OnOk, IfOk};
 ghost use Rattle.cc_syntax.specs.Erase.{constant_tree, constant_trees, optional_constant, object_tree, object_trees};
 ghost use Rattle.cc_syntax.specs.Tree as tree;
 ghost use Rattle.cc_typing.specs.Bindings.{file_level, file_of};
@@ -8,12 +8,13 @@ ghost use Rattle.cc_typing.specs.Limits.{object_name};
 ghost use Rattle.cc_resolve.specs.Layout.{laid_from, all_words};
 ghost use Rattle.cc_resolve.specs.internal.Laying.{offset_behind};
 ghost use Rattle.cc_typing.specs.Scope.{with_object, with_objects};
-ghost use Rattle.cc_typing.specs.Types.{initial_word, initial_words, object_words};
+ghost use Rattle.cc_typing.specs.Types.{initial_word, initial_words, object_elements, object_width};
 
 use super::environment::Environment;
 use super::layout::{Extent, Layout};
 use cc_syntax::{ConstantExpression, Object, Scalar};
-use cc_typing::{Entity, array_length, constant_word, object_words};
+use cc_typing::{Entity, array_length, constant_word, object_elements};
+use cc_words::Width;
 use std::alloc::AllocError;
 
 // ---- words
@@ -46,6 +47,16 @@ fn add_values(words: &mut Vec<u32>, trees: &[ConstantExpression]) -> Result<(), 
     Ok(())
 }
 
+// Puts the bytes of a list after some words.
+fn add_bytes(words: &mut Vec<u32>, trees: &[ConstantExpression]) -> Result<(), AllocError>
+    ensures { OnOk result (words.new.items ≡ words.old.items ++ map (λ (c : tree.ConstantExpr). initial_word (Some c) % 2 ^ 8) (constant_trees trees.now)) }
+{
+    for tree in trees {
+        words.push(word_of(tree) % 256)?;
+    }
+    Ok(())
+}
+
 fn add_zeros(words: &mut Vec<u32>, count: usize) -> Result<(), AllocError>
     ensures { OnOk result (words.new.items ≡ words.old.items ++ replicate count 0) }
 {
@@ -55,8 +66,8 @@ fn add_zeros(words: &mut Vec<u32>, count: usize) -> Result<(), AllocError>
     Ok(())
 }
 
-// Puts the words of an object after some others.
-fn add_words(words: &mut Vec<u32>, tree: &Object) -> Result<(), AllocError>
+/// Puts the words of an object's elements after some others.
+pub fn add_words(words: &mut Vec<u32>, tree: &Object) -> Result<(), AllocError>
     ensures { OnOk result (words.new.items ≡ words.old.items ++ initial_words (object_tree tree.now)) }
 {
     match tree {
@@ -70,16 +81,34 @@ fn add_words(words: &mut Vec<u32>, tree: &Object) -> Result<(), AllocError>
             add_values(words, values)?;
             add_zeros(words, count.saturating_sub(values.len()))
         }
+        Object::Bytes(_, length, values) => {
+            let values = values.as_slice();
+            let count = array_length(length, values).unwrap_or(0);
+            add_bytes(words, values)?;
+            add_zeros(words, count.saturating_sub(values.len()))
+        }
     }
 }
 
 // ---- offsets
 
+/// How wide an object's elements are.
+pub fn object_width(tree: &Object) -> Width
+    ensures { result ≡ object_width (object_tree tree.now) }
+{
+    match tree {
+        Object::Single(_, _) | Object::Array(_, _, _) => Width::Word,
+        Object::Bytes(_, _, _) => Width::Byte,
+    }
+}
+
 fn object_name(tree: &Object) -> &[u8]
     ensures { result.now ≡ (object_name (object_tree tree.now)).text }
 {
     match tree {
-        Object::Single(name, _) | Object::Array(name, _, _) => name.bytes.as_slice(),
+        Object::Single(name, _) | Object::Array(name, _, _) | Object::Bytes(name, _, _) => {
+            name.bytes.as_slice()
+        }
     }
 }
 
@@ -93,15 +122,23 @@ fn add_object<'a>(
 ) -> Result<usize, AllocError>
     requires { offset ≤ length words.old.items }
     ensures layout { OnOk result (layout.new ≡ record layout.old {
-      objects = layout.old.objects ++ record { name = (object_name (object_tree tree.now)).text; extent = record { offset = offset; length = object_words (object_tree tree.now) } } ∷ [];
+      objects = layout.old.objects ++ record { name = (object_name (object_tree tree.now)).text; extent = record { offset = offset; length = object_elements (object_tree tree.now); width = object_width (object_tree tree.now) } } ∷ [];
     }) }
     ensures words { OnOk result (words.new.items ≡ words.old.items ++ initial_words (object_tree tree.now)) }
-    ensures behind { IfOk result (λ n. n ≡ offset + object_words (object_tree tree.now)) }
+    ensures behind { IfOk result (λ n. n ≡ offset + object_elements (object_tree tree.now)) }
     ensures fits { IfOk result (λ n. n ≤ length words.new.items) }
 {
-    let length = object_words(tree);
+    let length = object_elements(tree);
+    let width = object_width(tree);
     add_words(words, tree)?;
-    layout.add_object(object_name(tree), Extent { offset, length })?;
+    layout.add_object(
+        object_name(tree),
+        Extent {
+            offset,
+            length,
+            width,
+        },
+    )?;
     Ok(offset + length)
 }
 
@@ -142,6 +179,9 @@ fn declare_object<'a>(
         }
         Object::Array(name, _, _) => {
             names.declare_in_file(name.bytes.as_slice(), Entity::Elements(scalar))
+        }
+        Object::Bytes(name, _, _) => {
+            names.declare_in_file(name.bytes.as_slice(), Entity::Elements(Scalar::Int))
         }
     }
 }

@@ -58,7 +58,7 @@ module _ (unit : List External) where
   into_calls (Binary op a b) free to exit g all =
       operand_by_calls a (into_calls a) (variable_of a) free _
       (operand_by_calls b (into_calls b) (variable_of b) (taken a free) _ (one_more g (rtl.Binary op to (register a free) (register b (taken a free)) exit) all tt))
-  into_calls (Load o a) free to exit g all = operand_by_calls a (into_calls a) (variable_of a) free _ (one_more g (rtl.Load o to (register a free) exit) all tt)
+  into_calls (Load width o a) free to exit g all = operand_by_calls a (into_calls a) (variable_of a) free _ (one_more g (rtl.Load width o to (register a free) exit) all tt)
 
   operand_calls : (e : Expression) (free : ℕ) (next : Made) → AllCalls next.places → AllCalls (operand e free next).places
   operand_calls e free next all = operand_by_calls e (into_calls e) (variable_of e) free next all
@@ -70,8 +70,8 @@ module _ (unit : List External) where
   made_calls : (count : ℕ) (s : Statement) (exit : ℕ) (exits : List ℕ) (g : Places) → cminor.AreCalls unit s → AllCalls g → AllCalls (made count s exit exits g).places
   made_calls count Skip exit exits g calls all = all
   made_calls count (Set x e) exit exits g calls all = into_calls e count x exit g all
-  made_calls count (Store o i e) exit exits g calls all =
-      let n = rtl.Store o (register i count) (register e (taken i count)) exit in
+  made_calls count (Store width o i e) exit exits g calls all =
+      let n = rtl.Store width o (register i count) (register e (taken i count)) exit in
       operand_calls i count (operand e (taken i count) (pushed n g)) (operand_calls e (taken i count) (pushed n g) (one_more g n all tt))
   made_calls count (Call to f es) exit exits g calls all =
       operands_calls es count (pushed (rtl.Call f (registers es count) to exit) g) (one_more g (rtl.Call f (registers es count) to exit) all (calls ∙ ap (λ n. Some n) (sym (registers_many es count))))
@@ -98,8 +98,8 @@ module _ (unit : List External) where
   call_renamed t (rtl.Move to r n) is = tt
   call_renamed t (rtl.Unary op to r n) is = tt
   call_renamed t (rtl.Binary op to r s n) is = tt
-  call_renamed t (rtl.Load o to r n) is = tt
-  call_renamed t (rtl.Store o r s n) is = tt
+  call_renamed t (rtl.Load width o to r n) is = tt
+  call_renamed t (rtl.Store width o r s n) is = tt
   call_renamed t (rtl.Call f rs to n) is = is
   call_renamed t (rtl.Read to n) is = tt
   call_renamed t (rtl.Write r n) is = tt

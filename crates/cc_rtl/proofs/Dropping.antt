@@ -101,14 +101,14 @@ module _ (live : Sets) where
         let b = agree right (c.needed right (two right left [])) in
         tried_both (apply_binary operator (r left) (r right)) (apply_binary operator (r' left) (r' right)) to next (ap (λ w. apply_binary operator w (r' right)) a ∙ ap (apply_binary operator (r left)) b)
         (λ x l d. behind_next (Binary operator to left right next) next x c refl (some_other to x d) l)
-    kept (Load object to index next) c =
-        tried_both (element h object (r index)) (element h object (r' index)) to next (ap (element h object) (agree index (c.needed index (one index []))))
-        (λ x l d. behind_next (Load object to index next) next x c refl (some_other to x d) l)
-    kept (Store object index from next) c =
+    kept (Load width object to index next) c =
+        tried_both (element h width object (r index)) (element h width object (r' index)) to next (ap (element h width object) (agree index (c.needed index (one index []))))
+        (λ x l d. behind_next (Load width object to index next) next x c refl (some_other to x d) l)
+    kept (Store width object index from next) c =
         let a = agree index (c.needed index (one index (from ∷ []))) in
         let b = agree from (c.needed from (two from index [])) in
-        stored_both (stored h object (r index) (r from)) (stored h object (r' index) (r' from)) next (ap (λ w. stored h object w (r' from)) a ∙ ap (stored h object (r index)) b)
-        (λ x l. behind_next (Store object index from next) next x c refl (λ e. absurd (let z : None ≡ Some x = e in cc)) l)
+        stored_both (stored h width object (r index) (r from)) (stored h width object (r' index) (r' from)) next (ap (λ w. stored h width object w (r' from)) a ∙ ap (stored h width object (r index)) b)
+        (λ x l. behind_next (Store width object index from next) next x c refl (λ e. absurd (let z : None ≡ Some x = e in cc)) l)
     kept (Call function arguments to next) c = (
       ap (λ (ws : List ℕ). record { function = function; arguments = ws; world = h }) (same_words arguments (λ x i. agree x (c.needed x i))),
       λ a. answers_both to next a (λ x l d. behind_next (Call function arguments to next) next x c refl d l),
@@ -148,9 +148,9 @@ module _ (live : Sets) where
     gone (Move to from next) dead c = unread to (r from) next dead c
     gone (Unary operator to from next) dead c = unread to (apply_unary operator (r from)) next dead c
     gone (Binary operator to left right next) dead c = unread_tried (apply_binary operator (r left) (r right)) to next dead c
-    gone (Load object to index next) dead c = unread_tried (element h object (r index)) to next dead c
+    gone (Load width object to index next) dead c = unread_tried (element h width object (r index)) to next dead c
     gone (Nop next) dead c = kept (Nop next) c
-    gone (Store object index from next) dead c = absurd cc
+    gone (Store width object index from next) dead c = absurd cc
     gone (Call function arguments to next) dead c = absurd cc
     gone (Read to next) dead c = absurd cc
     gone (Write from next) dead c = absurd cc
@@ -235,8 +235,8 @@ calls_nop unit (Const to word next) h = tt
 calls_nop unit (Move to from next) h = tt
 calls_nop unit (Unary operator to from next) h = tt
 calls_nop unit (Binary operator to left right next) h = tt
-calls_nop unit (Load object to index next) h = tt
-calls_nop unit (Store object index from next) h = tt
+calls_nop unit (Load width object to index next) h = tt
+calls_nop unit (Store width object index from next) h = tt
 calls_nop unit (Call function arguments to next) h = h
 calls_nop unit (Read to next) h = tt
 calls_nop unit (Write from next) h = tt

@@ -42,7 +42,7 @@ cost (Constant w) = 1
 cost (Local x) = 1
 cost (Unary op a) = suc (cost a)
 cost (Binary op a b) = suc (cost a + cost b)
-cost (Load o a) = suc (cost a)
+cost (Load width o a) = suc (cost a)
 
 abbrev pub costs : List Expression → ℕ
 costs [] = 0
@@ -146,11 +146,11 @@ module _ (nodes : Graph) (count : ℕ) where
         last_node (x.moves + y.moves) (cost a + cost b) free to entry n exit r y.after (put to v y.after) v (rtl.Binary op to ra rb exit) (way_then (at entry r h) (at m x.after h) (at n y.after h) x.moves y.moves x.way y.way) stands
         (ap (λ w. tried w (λ w. Goes (at exit (put to w y.after) h))) here) (omega arith)
         (λ z below. put_alike to v v y.after r z refl (y.keeps z (omega arith) ∙ x.keeps z below))
-    into_runs (Load o a) free to entry exit r v (ra, free', m, held_a, stands) above low holds eq =
-        let p = bound (value a l h) (λ i. element h o i) v eq in
+    into_runs (Load width o a) free to entry exit r v (ra, free', m, held_a, stands) above low holds eq =
+        let p = bound (value a l h) (λ i. element h width o i) v eq in
         let x = held a (into_runs a) free ra free' entry m r p.part held_a above holds p.is in
-        let here : element h o (x.after ra) ≡ Some v = ap (element h o) x.holds ∙ p.gives in
-        last_node x.moves (cost a) free to entry m exit r x.after (put to v x.after) v (rtl.Load o to ra exit) x.way stands
+        let here : element h width o (x.after ra) ≡ Some v = ap (element h width o) x.holds ∙ p.gives in
+        last_node x.moves (cost a) free to entry m exit r x.after (put to v x.after) v (rtl.Load width o to ra exit) x.way stands
         (ap (λ w. tried w (λ w. Goes (at exit (put to w x.after) h))) here) x.few
         (λ y below. put_alike to v v x.after r y refl (x.keeps y below))
 

@@ -59,7 +59,7 @@ is_variable (Constant w) x e = absurd (let z : None ≡ Some x = e in cc)
 is_variable (Local y) x e = let z : Some y ≡ Some x = e in let w : y ≡ x = cc in ap Local w
 is_variable (Unary op a) x e = absurd (let z : None ≡ Some x = e in cc)
 is_variable (Binary op a b) x e = absurd (let z : None ≡ Some x = e in cc)
-is_variable (Load o a) x e = absurd (let z : None ≡ Some x = e in cc)
+is_variable (Load width o a) x e = absurd (let z : None ≡ Some x = e in cc)
 
 module _ (count : ℕ) where
   abbrev Makes : Expression → Type 0
@@ -119,9 +119,9 @@ module _ (count : ℕ) where
       weaker g _ (suc (operand_nodes a + operand_nodes b)) (suc (operand_nodes a + operand_nodes b)) (TwoHeld a b free (register a free) (register b (taken a free)) n) (λ f entry. Into f count (Binary op a b) free to entry exit)
       (two_held a b (makes a) (makes b) free n g uses_a uses_b above) (omega arith)
       (λ (free', m, free'', k, held_a, held_b, stands). (register a free, free', m, register b (taken a free), free'', k, held_a, held_b, stands))
-  makes (Load o a) free to exit g uses above =
-      let n = rtl.Load o to (register a free) exit in
-      weaker g _ (suc (operand_nodes a)) (suc (operand_nodes a)) (OneHeld a free (register a free) n) (λ f entry. Into f count (Load o a) free to entry exit)
+  makes (Load width o a) free to exit g uses above =
+      let n = rtl.Load width o to (register a free) exit in
+      weaker g _ (suc (operand_nodes a)) (suc (operand_nodes a)) (OneHeld a free (register a free) n) (λ f entry. Into f count (Load width o a) free to entry exit)
       (one_held a (makes a) free n (pushed n g) g 1 (suc (operand_nodes a)) (pushed_right n g) (omega arith) uses above) (omega arith)
       (λ (free', m, held, stands). (register a free, free', m, held, stands))
 
@@ -176,9 +176,9 @@ module _ (count : ℕ) where
   made_right Skip exit exits g formed = record { rest = []; front = append_none g; few = omega arith; claim = refl }
   made_right (Set x e) exit exits g (low, uses) =
       weaker g _ (into_nodes e) _ (λ f entry. Into f count e count x entry exit) (Here (Set x e) exit exits) (makes e count x exit g uses (omega arith)) (omega arith) (λ into. (low, into))
-  made_right (Store o i e) exit exits g (uses_i, uses_e) =
-      let n = rtl.Store o (register i count) (register e (taken i count)) exit in
-      weaker g _ (suc (operand_nodes i + operand_nodes e)) _ (TwoHeld i e count (register i count) (register e (taken i count)) n) (Here (Store o i e) exit exits)
+  made_right (Store width o i e) exit exits g (uses_i, uses_e) =
+      let n = rtl.Store width o (register i count) (register e (taken i count)) exit in
+      weaker g _ (suc (operand_nodes i + operand_nodes e)) _ (TwoHeld i e count (register i count) (register e (taken i count)) n) (Here (Store width o i e) exit exits)
       (two_held i e (makes i) (makes e) count n g uses_i uses_e (omega arith)) (omega arith)
       (λ (free', m, free'', k, held_i, held_e, stands). (register i count, free', m, register e (taken i count), free'', k, held_i, held_e, stands))
   made_right (Call to q es) exit exits g uses =

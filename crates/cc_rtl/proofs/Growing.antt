@@ -18,7 +18,7 @@ module _ (f g : Graph) (more : Extends f g) (count : ℕ) where
   into_grows (Unary op a) free to entry exit (r, free', m, x, y) = (r, free', m, held_grows a (Into f count a) (Into g count a) (into_grows a) free r free' entry m x, more _ _ y)
   into_grows (Binary op a b) free to entry exit (r, free', m, s, free'', n, x, y, z) =
       (r, free', m, s, free'', n, held_grows a (Into f count a) (Into g count a) (into_grows a) free r free' entry m x, held_grows b (Into f count b) (Into g count b) (into_grows b) free' s free'' m n y, more _ _ z)
-  into_grows (Load o a) free to entry exit (r, free', m, x, y) = (r, free', m, held_grows a (Into f count a) (Into g count a) (into_grows a) free r free' entry m x, more _ _ y)
+  into_grows (Load width o a) free to entry exit (r, free', m, x, y) = (r, free', m, held_grows a (Into f count a) (Into g count a) (into_grows a) free r free' entry m x, more _ _ y)
 
   pub operand_grows : (e : Expression) (free register free' entry exit : ℕ) → Operand f count e free register free' entry exit → Operand g count e free register free' entry exit
   operand_grows e free register free' entry exit x = held_grows e (Into f count e) (Into g count e) (into_grows e) free register free' entry exit x
@@ -36,7 +36,7 @@ module _ (f g : Graph) (more : Extends f g) (count : ℕ) where
   pub translates_grows : (s : Statement) (entry exit : ℕ) (exits : List ℕ) → Translates f count s entry exit exits → Translates g count s entry exit exits
   translates_grows Skip entry exit exits x = x
   translates_grows (Set v e) entry exit exits (lt, x) = (lt, into_grows e count v entry exit x)
-  translates_grows (Store o i e) entry exit exits (r, free, m, s, free', n, x, y, z) = (r, free, m, s, free', n, operand_grows i count r free entry m x, operand_grows e free s free' m n y, more _ _ z)
+  translates_grows (Store width o i e) entry exit exits (r, free, m, s, free', n, x, y, z) = (r, free, m, s, free', n, operand_grows i count r free entry m x, operand_grows e free s free' m n y, more _ _ z)
   translates_grows (Call to q es) entry exit exits (rs, m, x, y) = (rs, m, operands_grow es rs count entry m x, more _ _ y)
   translates_grows (Read to) entry exit exits (r, takes, x) = (r, takes_same to r takes, more _ _ x)
   translates_grows (Write e) entry exit exits (r, free, m, x, y) = (r, free, m, operand_grows e count r free entry m x, more _ _ y)

@@ -114,7 +114,7 @@ into_inside (Unary op a) free to exit g lt all = operand_by_inside a (into_insid
 into_inside (Binary op a b) free to exit g lt all =
     operand_by_inside a (into_inside a) (variable_of a) free g _
     (operand_by_inside b (into_inside b) (variable_of b) (taken a free) g _ (pushed_inside (rtl.Binary op to (register a free) (register b (taken a free)) exit) g (lt, tt) all))
-into_inside (Load o a) free to exit g lt all = operand_by_inside a (into_inside a) (variable_of a) free g _ (pushed_inside (rtl.Load o to (register a free) exit) g (lt, tt) all)
+into_inside (Load width o a) free to exit g lt all = operand_by_inside a (into_inside a) (variable_of a) free g _ (pushed_inside (rtl.Load width o to (register a free) exit) g (lt, tt) all)
 
 operand_inside : (e : Expression) (free : ℕ) (g : Places) (next : Made) → Inside g next → Inside g (operand e free next)
 operand_inside e free g next x = operand_by_inside e (into_inside e) (variable_of e) free g next x
@@ -139,7 +139,7 @@ closed_inside g body x =
 made_inside : (count : ℕ) (s : Statement) (exit : ℕ) (exits : List ℕ) (g : Places) → exit < length g → AllBelow (length g) exits → AllLead (length g) g → Inside g (made count s exit exits g)
 made_inside count Skip exit exits g lt below all = nothing_inside exit g lt all
 made_inside count (Set x e) exit exits g lt below all = into_inside e count x exit g lt all
-made_inside count (Store o i e) exit exits g lt below all = operand_inside i count g _ (operand_inside e (taken i count) g _ (pushed_inside (rtl.Store o (register i count) (register e (taken i count)) exit) g (lt, tt) all))
+made_inside count (Store width o i e) exit exits g lt below all = operand_inside i count g _ (operand_inside e (taken i count) g _ (pushed_inside (rtl.Store width o (register i count) (register e (taken i count)) exit) g (lt, tt) all))
 made_inside count (Call to f es) exit exits g lt below all = operands_inside es count g _ (pushed_inside (rtl.Call f (registers es count) to exit) g (lt, tt) all)
 made_inside count (Read to) exit exits g lt below all = pushed_inside (rtl.Read (held_in to count) exit) g (lt, tt) all
 made_inside count (Write e) exit exits g lt below all = operand_inside e count g _ (pushed_inside (rtl.Write (register e count) exit) g (lt, tt) all)

@@ -64,7 +64,7 @@ some_nodes (cminor.Constant w) = omega arith
 some_nodes (cminor.Local x) = omega arith
 some_nodes (cminor.Unary op a) = omega arith
 some_nodes (cminor.Binary op a b) = omega arith
-some_nodes (cminor.Load o a) = omega arith
+some_nodes (cminor.Load width o a) = omega arith
 
 kept_few : (v : Option ℕ) (n m : ℕ) → n ≤ m → kept_by v n ≤ m
 kept_few None n m le = le
@@ -75,7 +75,7 @@ into_few (cminor.Constant w) = omega arith
 into_few (cminor.Local x) = omega arith
 into_few (cminor.Unary op a) = let f = kept_few (variable_of a) _ _ (into_few a) in omega arith
 into_few (cminor.Binary op a b) = let f = kept_few (variable_of a) _ _ (into_few a) in let g = kept_few (variable_of b) _ _ (into_few b) in omega arith
-into_few (cminor.Load o a) = let f = kept_few (variable_of a) _ _ (into_few a) in omega arith
+into_few (cminor.Load width o a) = let f = kept_few (variable_of a) _ _ (into_few a) in omega arith
 
 operand_few : (e : cminor.Expression) → operand_nodes e ≤ expression_size e
 operand_few e = kept_few (variable_of e) _ _ (into_few e)
@@ -88,7 +88,7 @@ operands_few (e ∷ es) = let f = operand_few e in let g = operands_few es in om
 pub nodes_few : (s : cminor.Statement) → statement_nodes s ≤ statement_size s
 nodes_few cminor.Skip = omega arith
 nodes_few (cminor.Set x e) = let f = into_few e in omega arith
-nodes_few (cminor.Store o i e) = let f = operand_few i in let g = operand_few e in omega arith
+nodes_few (cminor.Store width o i e) = let f = operand_few i in let g = operand_few e in omega arith
 nodes_few (cminor.Call to f es) = let g = operands_few es in omega arith
 nodes_few (cminor.Read to) = omega arith
 nodes_few (cminor.Write e) = let f = operand_few e in omega arith
@@ -109,7 +109,7 @@ uses_more (cminor.Constant w) n m le uses = tt
 uses_more (cminor.Local x) n m le uses = omega arith
 uses_more (cminor.Unary op a) n m le uses = uses_more a n m le uses
 uses_more (cminor.Binary op a b) n m le (first, second) = (uses_more a n m le first, uses_more b n m le second)
-uses_more (cminor.Load o a) n m le uses = uses_more a n m le uses
+uses_more (cminor.Load width o a) n m le uses = uses_more a n m le uses
 
 expression_above : (e : cminor.Expression) (count : ℕ) → (count ≤ above_expression count e) × Uses (above_expression count e) e
 expression_above (cminor.Constant w) count = (omega arith, tt)
@@ -121,7 +121,7 @@ expression_above (cminor.Binary op a b) count =
     let le = f.0 in
     let le' = g.0 in
     (omega arith, (uses_more a _ _ le' f.1, g.1))
-expression_above (cminor.Load o a) count = expression_above a count
+expression_above (cminor.Load width o a) count = expression_above a count
 
 expressions_above : (es : List cminor.Expression) (count : ℕ) → (count ≤ above_expressions count es) × AllUse (above_expressions count es) es
 expressions_above [] count = (omega arith, tt)
@@ -143,7 +143,7 @@ all_use_more (e ∷ es) n m le (one, all) = (uses_more e n m le one, all_use_mor
 formed_more : (s : cminor.Statement) (n m : ℕ) → n ≤ m → IsFormed n s → IsFormed m s
 formed_more cminor.Skip n m le formed = tt
 formed_more (cminor.Set x e) n m le (low, uses) = (omega arith, uses_more e n m le uses)
-formed_more (cminor.Store o i e) n m le (first, second) = (uses_more i n m le first, uses_more e n m le second)
+formed_more (cminor.Store width o i e) n m le (first, second) = (uses_more i n m le first, uses_more e n m le second)
 formed_more (cminor.Call to f es) n m le uses = all_use_more es n m le uses
 formed_more (cminor.Read to) n m le formed = tt
 formed_more (cminor.Write e) n m le uses = uses_more e n m le uses
@@ -163,7 +163,7 @@ statement_above (cminor.Set x e) count =
     let lt = f.1 in
     let le' = g.0 in
     (omega arith, (omega arith, g.1))
-statement_above (cminor.Store o i e) count =
+statement_above (cminor.Store width o i e) count =
     let f = expression_above i count in
     let g = expression_above e (above_expression count i) in
     let le = f.0 in

@@ -15,7 +15,7 @@ use Rattle.cc_rtl.proofs.Expressions.{cost, costs, put_there, put_elsewhere, put
 abbrev pub size : Statement → ℕ
 size Skip = 0
 size (Set x e) = cost e
-size (Store o i e) = suc (cost i + cost e)
+size (Store width o i e) = suc (cost i + cost e)
 size (Call to f es) = costs es
 size (Read to) = 0
 size (Write e) = cost e
@@ -160,18 +160,18 @@ module _ (nodes : Graph) (count : ℕ) where
           way = c.way;
           related = falls κ (put l x v) h c.after exit exits next (λ y below. c.puts y below ∙ put_alike x v v r l y refl (holds y below)) (omega arith) turns;
         }))
-    statement_does (Store o i e) κ l h label r exit exits (ri, free, m, re, free', n, held_i, held_e, stands) next holds low turns =
+    statement_does (Store width o i e) κ l h label r exit exits (ri, free, m, re, free', n, held_i, held_e, stands) next holds low turns =
         owes_tried cminor_move cminor_output (graph_move nodes) rtl_output Rel measure most _ h.output (value i l h) _ (at label r h)
         (λ v eq. owes_tried cminor_move cminor_output (graph_move nodes) rtl_output Rel measure most _ h.output (value e l h) _ (at label r h)
-        (λ w eq'. owes_tried cminor_move cminor_output (graph_move nodes) rtl_output Rel measure most _ h.output (stored h o v w) _ (at label r h)
+        (λ w eq'. owes_tried cminor_move cminor_output (graph_move nodes) rtl_output Rel measure most _ h.output (stored h width o v w) _ (at label r h)
         (λ h' eq''.
         let x = operand_runs nodes count l h i count ri free label m r v held_i (omega arith) holds eq in
         let le = held_i.0 in
         let y = operand_runs nodes count l h e free re free' m n x.after w held_e (omega arith) (λ z lt. x.keeps z lt ∙ holds z lt) eq' in
         let few_x = x.few in
         let few_y = y.few in
-        let here : stored h o (y.after ri) (y.after re) ≡ Some h' = ap (λ z. stored h o z (y.after re)) (y.keeps ri held_i.1 ∙ x.holds) ∙ ap (stored h o v) y.holds ∙ eq'' in
-        inl (moves_on label (x.moves + y.moves) n exit r y.after y.after h h' (rtl.Store o ri re exit) (config Skip κ l h')
+        let here : stored h width o (y.after ri) (y.after re) ≡ Some h' = ap (λ z. stored h width o z (y.after re)) (y.keeps ri held_i.1 ∙ x.holds) ∙ ap (stored h width o v) y.holds ∙ eq'' in
+        inl (moves_on label (x.moves + y.moves) n exit r y.after y.after h h' (rtl.Store width o ri re exit) (config Skip κ l h')
         (way_then nodes count (at label r h) (at m x.after h) (at n y.after h) x.moves y.moves x.way y.way) stands (ap (λ z. tried z (λ after. Goes (at exit y.after after))) here) (omega arith)
         (falls κ l h' y.after exit exits next (λ z lt. y.keeps z (omega arith) ∙ x.keeps z lt ∙ holds z lt) (omega arith) turns)))))
     statement_does (Call to f es) κ l h label r exit exits (rs, m, held, stands) next holds low turns =

@@ -22,7 +22,7 @@ module _ (t : ℕ → ℕ) (f g : Graph) (more : (l : ℕ) (n : rtl.Node) → f 
   into_turns (Unary op a) free to entry exit (r, free', m, x, y) = (r, free', t m, held_turns a (Into f count a) (Into g count a) (into_turns a) free r free' entry m x, more _ _ y)
   into_turns (Binary op a b) free to entry exit (r, free', m, s, free'', n, x, y, z) =
       (r, free', t m, s, free'', t n, held_turns a (Into f count a) (Into g count a) (into_turns a) free r free' entry m x, held_turns b (Into f count b) (Into g count b) (into_turns b) free' s free'' m n y, more _ _ z)
-  into_turns (Load o a) free to entry exit (r, free', m, x, y) = (r, free', t m, held_turns a (Into f count a) (Into g count a) (into_turns a) free r free' entry m x, more _ _ y)
+  into_turns (Load width o a) free to entry exit (r, free', m, x, y) = (r, free', t m, held_turns a (Into f count a) (Into g count a) (into_turns a) free r free' entry m x, more _ _ y)
 
   pub operand_turns : (e : Expression) (free register free' entry exit : ℕ) → Operand f count e free register free' entry exit → Operand g count e free register free' (t entry) (t exit)
   operand_turns e free register free' entry exit x = held_turns e (Into f count e) (Into g count e) (into_turns e) free register free' entry exit x
@@ -40,7 +40,7 @@ module _ (t : ℕ → ℕ) (f g : Graph) (more : (l : ℕ) (n : rtl.Node) → f 
   pub translates_turns : (s : Statement) (entry exit : ℕ) (exits : List ℕ) → Translates f count s entry exit exits → Translates g count s (t entry) (t exit) (map t exits)
   translates_turns Skip entry exit exits x = ap t x
   translates_turns (Set v e) entry exit exits (lt, x) = (lt, into_turns e count v entry exit x)
-  translates_turns (Store o i e) entry exit exits (r, free, m, s, free', n, x, y, z) = (r, free, t m, s, free', t n, operand_turns i count r free entry m x, operand_turns e free s free' m n y, more _ _ z)
+  translates_turns (Store width o i e) entry exit exits (r, free, m, s, free', n, x, y, z) = (r, free, t m, s, free', t n, operand_turns i count r free entry m x, operand_turns e free s free' m n y, more _ _ z)
   translates_turns (Call to q es) entry exit exits (rs, m, x, y) = (rs, t m, operands_turn es rs count entry m x, more _ _ y)
   translates_turns (Read to) entry exit exits (r, takes, x) = (r, takes_same to r takes, more _ _ x)
   translates_turns (Write e) entry exit exits (r, free, m, x, y) = (r, free, t m, operand_turns e count r free entry m x, more _ _ y)

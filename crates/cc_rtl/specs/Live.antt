@@ -12,8 +12,8 @@ reads (Const to word next) = []
 reads (Move to from next) = from ∷ []
 reads (Unary operator to from next) = from ∷ []
 reads (Binary operator to left right next) = left ∷ right ∷ []
-reads (Load object to index next) = index ∷ []
-reads (Store object index from next) = index ∷ from ∷ []
+reads (Load width object to index next) = index ∷ []
+reads (Store width object index from next) = index ∷ from ∷ []
 reads (Call function arguments to next) = arguments
 reads (Read to next) = []
 reads (Write from next) = from ∷ []
@@ -26,7 +26,7 @@ pure_result (Const to word next) = Some to
 pure_result (Move to from next) = Some to
 pure_result (Unary operator to from next) = Some to
 pure_result (Binary operator to left right next) = Some to
-pure_result (Load object to index next) = Some to
+pure_result (Load width object to index next) = Some to
 pure_result node = None
 
 -- the register that gets its result
@@ -74,7 +74,7 @@ as_nop (Const to word next) = Nop next
 as_nop (Move to from next) = Nop next
 as_nop (Unary operator to from next) = Nop next
 as_nop (Binary operator to left right next) = Nop next
-as_nop (Load object to index next) = Nop next
+as_nop (Load width object to index next) = Nop next
 as_nop node = node
 
 -- A nop is pure too, and has no result.

@@ -3,6 +3,7 @@
 use Rattle.std.specs.Prelude.{◌≡◌, ◌≢◌, ℕ, ◌<◌, ◌≤◌, ◌==◌, List, [], ◌∷◌, length, map, get_or, Contains, Option, Some, None, IsSome, if◌then◌else◌}
 use Rattle.cc_words.specs.declared.operators.Unary as one
 use Rattle.cc_words.specs.declared.operators.Binary as two
+use Rattle.cc_words.specs.declared.operators.Width.{Width}
 use Rattle.cc_words.specs.Operators.{apply_unary, apply_binary}
 use Rattle.cc_runs.specs.World.{World, Answer, element, stored, next_word, after_read, after_write}
 use Rattle.cc_runs.specs.Run.{Move as Moving, Goes, Calls, Returns, tried}
@@ -16,8 +17,8 @@ pub data Node : Type 0 where
   Move : (to from next : ℕ) → Node
   Unary : one.Unary → (to from next : ℕ) → Node
   Binary : two.Binary → (to left right next : ℕ) → Node
-  Load : (object to index next : ℕ) → Node
-  Store : (object index from next : ℕ) → Node
+  Load : (width : Width) → (object to index next : ℕ) → Node
+  Store : (width : Width) → (object index from next : ℕ) → Node
   -- a call's result goes to a register or is dropped
   Call : (function : ℕ) → (arguments : List ℕ) → (to : Option ℕ) → (next : ℕ) → Node
   Read : (to next : ℕ) → Node
@@ -49,8 +50,8 @@ successors (Const to word next) = next ∷ []
 successors (Move to from next) = next ∷ []
 successors (Unary operator to from next) = next ∷ []
 successors (Binary operator to left right next) = next ∷ []
-successors (Load object to index next) = next ∷ []
-successors (Store object index from next) = next ∷ []
+successors (Load width object to index next) = next ∷ []
+successors (Store width object index from next) = next ∷ []
 successors (Call function arguments to next) = next ∷ []
 successors (Read to next) = next ∷ []
 successors (Write from next) = next ∷ []
@@ -116,8 +117,8 @@ node_move (Const to word next) r h = Goes (at next (put to word r) h)
 node_move (Move to from next) r h = Goes (at next (put to (r from) r) h)
 node_move (Unary operator to from next) r h = Goes (at next (put to (apply_unary operator (r from)) r) h)
 node_move (Binary operator to left right next) r h = tried (apply_binary operator (r left) (r right)) (λ word. Goes (at next (put to word r) h))
-node_move (Load object to index next) r h = tried (element h object (r index)) (λ word. Goes (at next (put to word r) h))
-node_move (Store object index from next) r h = tried (stored h object (r index) (r from)) (λ changed. Goes (at next r changed))
+node_move (Load width object to index next) r h = tried (element h width object (r index)) (λ word. Goes (at next (put to word r) h))
+node_move (Store width object index from next) r h = tried (stored h width object (r index) (r from)) (λ changed. Goes (at next r changed))
 node_move (Call function arguments to next) r h = Calls (record { function = function; arguments = map r arguments; world = h }) (answered to next r)
 node_move (Read to next) r h = Goes (at next (put to (next_word h) r) (after_read h))
 node_move (Write from next) r h = Goes (at next r (after_write (r from) h))

@@ -8,7 +8,7 @@ variable_of (Constant w) = None
 variable_of (Local x) = Some x
 variable_of (Unary op a) = None
 variable_of (Binary op a b) = None
-variable_of (Load o a) = None
+variable_of (Load width o a) = None
 
 -- how many nodes an operand takes: none where it is a variable
 abbrev pub kept_by : Option ℕ → (nodes : ℕ) → ℕ
@@ -21,7 +21,7 @@ into_nodes (Constant w) = 1
 into_nodes (Local x) = 1
 into_nodes (Unary op a) = suc (kept_by (variable_of a) (into_nodes a))
 into_nodes (Binary op a b) = suc (kept_by (variable_of a) (into_nodes a) + kept_by (variable_of b) (into_nodes b))
-into_nodes (Load o a) = suc (kept_by (variable_of a) (into_nodes a))
+into_nodes (Load width o a) = suc (kept_by (variable_of a) (into_nodes a))
 
 abbrev pub operand_nodes : Expression → ℕ
 operand_nodes e = kept_by (variable_of e) (into_nodes e)
@@ -33,7 +33,7 @@ operands_nodes (e ∷ es) = operand_nodes e + operands_nodes es
 abbrev pub statement_nodes : Statement → ℕ
 statement_nodes Skip = 0
 statement_nodes (Set x e) = into_nodes e
-statement_nodes (Store o i e) = suc (operand_nodes i + operand_nodes e)
+statement_nodes (Store width o i e) = suc (operand_nodes i + operand_nodes e)
 statement_nodes (Call to f es) = suc (operands_nodes es)
 statement_nodes (Read to) = 1
 statement_nodes (Write e) = suc (operand_nodes e)

@@ -43,17 +43,25 @@ impl fmt::Display for Node {
                 write!(f, "r{to} = {operator} r{left}, r{right} -> {next}")
             }
             Node::Load {
+                width,
                 object,
                 to,
                 index,
                 next,
-            } => write!(f, "r{to} = object{object}[r{index}] -> {next}"),
+            } => {
+                let mark = width.mark();
+                write!(f, "r{to} = {mark}object{object}[r{index}] -> {next}")
+            }
             Node::Store {
+                width,
                 object,
                 index,
                 from,
                 next,
-            } => write!(f, "object{object}[r{index}] = r{from} -> {next}"),
+            } => {
+                let mark = width.mark();
+                write!(f, "{mark}object{object}[r{index}] = r{from} -> {next}")
+            }
             Node::Call {
                 function,
                 arguments,

@@ -1,6 +1,6 @@
 //! The nodes of RTL.
 
-use cc_words::{Binary, Unary};
+use cc_words::{Binary, Unary, Width};
 use smallvec::SmallVec;
 
 /// A node: a pseudo-register `to` that gets a word, the pseudo-registers that it reads, and the label of the node that comes next.
@@ -34,15 +34,17 @@ pub enum Node {
         right: u32,
         next: u32,
     },
-    /// Takes an element of an object; goes wrong where there is none.
+    /// Takes an element, so wide, of an object; goes wrong where there is none, or the object's elements have another width.
     Load {
+        width: Width,
         object: u32,
         to: u32,
         index: u32,
         next: u32,
     },
-    /// Sets an element of an object; goes wrong where there is none.
+    /// Sets an element, so wide, of an object; goes wrong where there is none, or the object's elements have another width.
     Store {
+        width: Width,
         object: u32,
         index: u32,
         from: u32,

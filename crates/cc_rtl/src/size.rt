@@ -19,7 +19,7 @@ fn room_behind(e: &Expression, room: u32) -> Option<u32>
     match e {
         Expression::Constant(_) | Expression::Local(_) => Some(room - 1),
         Expression::Unary(_, a) => room_behind_operand(a, room - 1),
-        Expression::Load(_, a) => room_behind_operand(a, room - 1),
+        Expression::Load(_, _, a) => room_behind_operand(a, room - 1),
         Expression::Binary(_, a, b) => {
             let left = room_behind_operand(a, room - 1)?;
             room_behind_operand(b, left)
@@ -75,7 +75,7 @@ fn room_behind_statement(s: &Statement, room: u32) -> Option<u32>
     match s {
         Statement::Skip | Statement::Exit(_) => Some(room),
         Statement::Set(_, e) => room_behind(e, room),
-        Statement::Store(_, i, e) => room_behind_two(i, e, room),
+        Statement::Store(_, _, i, e) => room_behind_two(i, e, room),
         Statement::Call(_, _, es) => room_behind_operands(es.as_slice(), room.checked_sub(1)?),
         Statement::Read(_) => room.checked_sub(1),
         Statement::Write(e) => room_behind_one(e, room),

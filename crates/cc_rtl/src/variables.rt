@@ -46,7 +46,7 @@ fn with_expression(count: u32, e: &Expression) -> u32
         Expression::Local(variable) => with_variable(count, *variable),
         Expression::Unary(_, a) => with_expression(count, a),
         Expression::Binary(_, a, b) => with_expression(with_expression(count, a), b),
-        Expression::Load(_, a) => with_expression(count, a),
+        Expression::Load(_, _, a) => with_expression(count, a),
     }
 }
 
@@ -75,7 +75,7 @@ pub fn with_statement(count: u32, s: &Statement) -> u32
     match s {
         Statement::Skip | Statement::Exit(_) => count,
         Statement::Set(variable, e) => with_expression(with_variable(count, *variable), e),
-        Statement::Store(_, i, e) => with_expression(with_expression(count, i), e),
+        Statement::Store(_, _, i, e) => with_expression(with_expression(count, i), e),
         Statement::Call(to, _, es) => with_expressions(with_result(count, *to), es.as_slice()),
         Statement::Read(to) => with_result(count, *to),
         Statement::Write(e) => with_expression(count, e),

@@ -1,7 +1,7 @@
 -- What the passes know of a unit's meaning: a call of each function, and its body after the call's step, all by number.
 use Rattle.std.specs.Prelude.{◌≡◌, ℕ, suc, ◌+◌, ◌-◌, ◌<◌, ◌≤◌, List, length}
 use Rattle.cc_runs.specs.Behavior.{Going, Ended, Wrong, Outcome, IsPrefixOf, AreWords}
-use Rattle.cc_runs.specs.World.{World, Question, Answer, Effect, Gives, Unfinished, Failed, IsWorld}
+use Rattle.cc_runs.specs.World.{Size, World, Question, Answer, Effect, Gives, Unfinished, Failed, IsWorld}
 
 -- how many calls may be open
 abbrev pub most_open : ℕ
@@ -29,8 +29,8 @@ pub record Meaning : Type 0 where
   -- how many functions there are, and how many parameters each has
   pub functions : ℕ
   pub arity : ℕ → ℕ
-  -- how many words each object has
-  pub objects : List ℕ
+  -- each object's size
+  pub objects : List Size
   pub call : (n opened f : ℕ) → List ℕ → World → Effect
   pub body : (n opened f : ℕ) → List ℕ → World → Effect
   -- with no step left a call is unfinished; the 1,025th open call goes wrong; below that a call is its body with one step less

@@ -1,11 +1,27 @@
 -- What the functions of a unit share, by number, what a call of one asks and answers, and the changes that every language makes:
 -- an element read and stored, a word read and written.
-use Rattle.std.specs.Prelude.{◌≡◌, ℕ, List, [], ◌∷◌, ◌++◌, length, map, get_or, set, slice_get, Option, option_map}
+use Rattle.std.specs.Prelude.{◌≡◌, ℕ, if◌then◌else◌, List, [], ◌∷◌, ◌++◌, length, map, get_or, set, slice_get, Option, None, option_map}
+use Rattle.cc_words.specs.declared.operators.Width.{Width}
+use Rattle.cc_words.specs.declared.operators.Width.TheVariants.{Word}
+use Rattle.cc_words.specs.Widths.{same_width, kept}
 use Rattle.cc_runs.specs.Behavior.{AreWords}
 
--- the words of each object, the input that is left, the output so far
+-- an object: how wide its elements are, and the word of each
+pub record Object : Type 0 where
+  pub width : Width
+  pub words : List ℕ
+
+-- what stays of it whatever is stored: how wide its elements are, and how many it has
+pub record Size : Type 0 where
+  pub width : Width
+  pub elements : ℕ
+
+abbrev pub size_of : Object → Size
+size_of o = record { width = o.width; elements = length o.words }
+
+-- the objects, the input that is left, the output so far
 pub record World : Type 0 where
-  pub globals : List (List ℕ)
+  pub globals : List Object
   pub input : List ℕ
   pub output : List ℕ
 
@@ -26,13 +42,20 @@ pub data Effect : Type 0 where
   Unfinished : List ℕ → Effect
   Failed : List ℕ → Effect
 
--- the words of an object, none where there is no such object
-abbrev pub object_words : World → (object : ℕ) → List ℕ
-object_words h object = get_or h.globals object []
+-- an object by its number; one that there is not has no elements
+abbrev pub object_of : World → (object : ℕ) → Object
+object_of h object = get_or h.globals object (record { width = Word; words = [] })
 
--- each object has its number of words, and all are words, those of the input too
-pub record IsWorld (objects : List ℕ) (h : World) : Type 0 where
-  pub sizes : map (λ (ws : List ℕ). length ws) h.globals ≡ objects
+abbrev pub object_words : World → (object : ℕ) → List ℕ
+object_words h object = (object_of h object).words
+
+-- the size of an object by its number
+abbrev pub size_in : List Size → (object : ℕ) → Size
+size_in objects object = get_or objects object (record { width = Word; elements = 0 })
+
+-- each object has its size, and all are words, those of the input too
+pub record IsWorld (objects : List Size) (h : World) : Type 0 where
+  pub sizes : map size_of h.globals ≡ objects
   pub globals : (g : ℕ) → AreWords (object_words h g)
   pub input : AreWords h.input
 
@@ -47,13 +70,21 @@ abbrev pub rest_of : List ℕ → List ℕ
 rest_of [] = []
 rest_of (w ∷ ws) = ws
 
--- an element's word; none where there is no such element
-abbrev pub element : World → (object index : ℕ) → Option ℕ
-element h object index = slice_get (object_words h object) index
+-- an element's word; none where there is no such element, or where elements are wider or less wide
+abbrev pub element : World → Width → (object index : ℕ) → Option ℕ
+element h width object index = if same_width (object_of h object).width width then slice_get (object_words h object) index else None
 
--- the world with a word in an element; none where there is no such element
-abbrev pub stored : World → (object index word : ℕ) → Option World
-stored h object index word = option_map (λ old. record h { globals = set h.globals object (set (object_words h object) index word) }) (element h object index)
+-- the object with a word in an element
+abbrev pub object_with : Object → (index word : ℕ) → Object
+object_with o index word = record o { words = set o.words index word }
+
+-- the world with a word in an element
+abbrev pub with_element : World → (object index word : ℕ) → World
+with_element h object index word = record h { globals = set h.globals object (object_with (object_of h object) index word) }
+
+-- the world with what an element keeps of a word in it; none where there is no such element
+abbrev pub stored : World → Width → (object index word : ℕ) → Option World
+stored h width object index word = option_map (λ old. with_element h object index (kept width word)) (element h width object index)
 
 -- the next word of the input, or 0, and the world without it
 abbrev pub next_word : World → ℕ

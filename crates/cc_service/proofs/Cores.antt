@@ -5,12 +5,11 @@ use Rattle.std.specs.Prelude.{IsOk, if◌then◌else◌}
 use Rattle.std.specs.FinMap.{contains_key, insert, remove}
 use Rattle.std.proofs.lemmas.Bool.{le-leb, lt-leb}
 use Rattle.std.proofs.lemmas.List.{map-append, length-map, length-take-le}
-use Rattle.cc_disk.specs.declared.cell.Cell.{Cell}
-use Rattle.cc_disk.specs.Model.{bytes_of, IsImage, unsettled, written}
+use Rattle.cc_disk.specs.Model.{Cell, bytes_of, IsImage, unsettled, written}
 use Rattle.cc_disk.specs.Images.{DiffersWithin, IsWritten, LeavesAlone}
 use Rattle.std.specs.Int.{w32, to_le_bytes}
 use Rattle.cc_disk.specs.internal.Laws.{bytes_are_image}
-use Rattle.cc_disk.proofs.Cells.{bytes_of-synced}
+use Rattle.cc_disk.proofs.Images.{bytes_of-synced}
 use Rattle.cc_journal.specs.Commit.{Commit, FailsIn, IsCommitted, append_commit, area_begin}
 use Rattle.cc_journal.specs.Format.{HasAreaByte, HoldsRecords, records}
 use Rattle.cc_journal.proofs.Records.{length-records_push, length-four_bytes}

@@ -11,7 +11,8 @@ use Rattle.cc_disk.specs.contracts.count.FailureCount as Count
 use Rattle.cc_disk.specs.contracts.count.FailureCount.TheInside as counts
 use Rattle.cc_disk.specs.contracts.memory.MemoryDisk as MemoryDisk
 use Rattle.cc_disk.specs.contracts.memory.MemoryDisk.TheInside as memories
-use Rattle.cc_disk.specs.contracts.cell.Cell as Cell
+use Rattle.cc_disk.specs.contracts.cells.Cells as Cells
+use Rattle.cc_disk.specs.contracts.cells.Cells.TheInside as cells
 use Rattle.cc_disk.specs.contracts.fuse.FuseDisk as FuseDisk
 use Rattle.cc_journal.specs.contracts.body.Body as Body
 use Rattle.cc_journal.specs.contracts.body.Body.TheInside as bodies
@@ -26,6 +27,7 @@ use Rattle.cc_unit.specs.contracts.unit.Source as Source
 use Rattle.cc_unit.specs.contracts.unit.Source.TheInside as sources
 use Rattle.cc_unit.specs.contracts.unit.StoredUnit as StoredUnit
 use Rattle.cc_unit.specs.contracts.unit.Certificate as Certificate
+use Rattle.cc_unit.specs.contracts.unit.Certificate.TheInside as certificates
 use Rattle.cc_library.specs.contracts.name.Name as Name
 use Rattle.cc_library.specs.contracts.name.NamePartialEq.TheImpl as eq
 use Rattle.cc_library.specs.contracts.name.NamePartialOrd.TheImpl as partial
@@ -55,11 +57,11 @@ history_send T s = search (sendable, crosses) depth 20
 count_send : IsSend Count.the_row
 count_send = view_send _ _ _ _ _ (recorded_send counts.the_field.row _ _ counts.the_type.to_one (struct_send (shape counts.the_type) (search sendable, (search (sendable, crosses) depth 20, tt))))
 
-cell_send : IsSend Cell.the_row
-cell_send = search (sendable, crosses) depth 20
+cells_send : IsSend Cells.the_row
+cells_send = view_send _ _ _ _ _ (recorded_send cells.the_field.row _ _ cells.the_type.to_one (struct_send (shape cells.the_type) (search (sendable, crosses) depth 20, (search (sendable, crosses) depth 20, tt))))
 
 memory_send : IsSend MemoryDisk.the_row
-memory_send = view_send _ _ _ _ _ (recorded_send memories.the_field.row _ _ memories.the_type.to_one (struct_send (shape memories.the_type) (let c = cell_send in search (sendable, crosses) depth 20, (let c = cell_send in search (sendable, crosses) depth 20, tt))))
+memory_send = view_send _ _ _ _ _ (recorded_send memories.the_field.row _ _ memories.the_type.to_one (struct_send (shape memories.the_type) (let c = cells_send in search (sendable, crosses) depth 20, (let c = cells_send in search (sendable, crosses) depth 20, tt))))
 
 pub fuse_send : (D : RattleType) → IsSend D → IsSend (FuseDisk.the_row D)
 fuse_send D s = let c = count_send in search (sendable, crosses) depth 20 fits 10000
@@ -95,10 +97,10 @@ image_sync : IsSync (Image.the_field).row
 image_sync = struct_sync (shape Image.the_type) (code_sync, (globals_sync, tt))
 
 certificate_send : IsSend Certificate.the_row
-certificate_send = recorded_send _ _ _ Certificate.the_type.to_one (enum_send (enum_shape Certificate.the_type) tt)
+certificate_send = view_send _ _ _ _ _ (recorded_send certificates.the_field.row _ _ certificates.the_type.to_one (struct_send (shape certificates.the_type) (search (sendable, crosses) depth 20, tt)))
 
 certificate_sync : IsSync Certificate.the_row
-certificate_sync = recorded_sync _ _ _ Certificate.the_type.to_one (enum_sync (enum_shape Certificate.the_type) tt)
+certificate_sync = view_sync _ _ _ _ _ (recorded_sync certificates.the_field.row _ _ certificates.the_type.to_one (struct_sync (shape certificates.the_type) (search (sendable, crosses) depth 20, tt)))
 
 stored_send : IsSend StoredUnit.the_row
 stored_send = recorded_send _ _ _ StoredUnit.the_type.to_one (struct_send (shape StoredUnit.the_type) (source_send, (image_send, (let c = certificate_send in search (sendable, crosses) depth 20, tt))))

@@ -2,11 +2,10 @@
 use Rattle.std.proofs.Common.{◌≡◌, ℕ, zero, suc, ◌+◌, ◌*◌, ◌%◌, ◌<◌, ◌≤◌, List, [], ◌∷◌, ◌++◌, length, take, drop, map, get_or, sym, ap, ◌∙◌, subst, arith, length-append, length-drop}
 use Rattle.std.proofs.lemmas.Nat.{mod_below}
 use Rattle.std.proofs.lemmas.List.{length-map, length-take-le, take-append-drop, drop-drop, take-map, drop-map}
-use Rattle.cc_disk.specs.declared.cell.Cell.{Cell}
-use Rattle.cc_disk.specs.Model.{bytes_of, IsImage, unsettled, written, synced}
+use Rattle.cc_disk.specs.Model.{Cell, bytes_of, IsImage, unsettled, written, synced}
 use Rattle.cc_disk.specs.Images.{DiffersWithin, IsWritten}
 use Rattle.cc_disk.specs.internal.Laws.{bytes_are_image}
-use Rattle.cc_disk.proofs.Cells.{bytes_of-written, bytes_of-synced}
+use Rattle.cc_disk.proofs.Images.{bytes_of-written, bytes_of-synced}
 use Rattle.cc_journal.specs.Commit.{Commit, IsCommitted, area_begin}
 
 -- ---- where an area begins: behind the header, or behind the first area

@@ -1,13 +1,12 @@
 -- Pieces give the unit of a command: what the type of a compiled unit keeps, as the core's run asks for it.
-use Rattle.cc_library.specs.Body.{IsCommand}
 use Rattle.cc_core.specs.Rules.{HasBuilt}
 use Rattle.cc_build.specs.Built.{MadeUnitsAreBuilt}
 use Rattle.cc_build.specs.Compiling.{compiling, Keeps}
 use Rattle.cc_history.specs.declared.command.Command.{Command}
 use Rattle.cc_history.specs.declared.command.Command.TheVariants.{Add, Replace, Withdraw}
-use Rattle.cc_history.specs.Calls.{HasMade, change_of}
+use Rattle.cc_history.specs.Calls.{HasMade, HasSource, change_of}
 
-pub built_of : MadeUnitsAreBuilt → (command : Command) → IsCommand (change_of command) → HasMade command → HasBuilt compiling Keeps (change_of command)
-built_of builds (Add name unit) is made = builds unit is.1.source made
-built_of builds (Replace name unit) is made = builds unit is.1.source made
-built_of builds (Withdraw name) is made = tt
+pub built_of : MadeUnitsAreBuilt → (command : Command) → HasSource command → HasMade command → HasBuilt compiling Keeps (change_of command)
+built_of builds (Add name unit) few made = builds unit few made
+built_of builds (Replace name unit) few made = builds unit few made
+built_of builds (Withdraw name) few made = tt

@@ -1,11 +1,10 @@
 -- What a compaction answers is what the core's rewrite does: its four device steps, or those up to the failure.
 use Rattle.std.proofs.Common.{◌≡◌, ◌⊎◌, ℕ, ◌+◌, ◌≤◌, inl, inr, Bool, true, false, IsTrue, List, [], ◌∷◌, length, get_or, None, Result, Ok, Err, refl, sym, ap, ◌∙◌, subst, arith, length-append}
 use Rattle.std.proofs.lemmas.List.{length-map}
-use Rattle.cc_disk.specs.declared.cell.Cell.{Cell}
-use Rattle.cc_disk.specs.Model.{bytes_of, IsImage, written, synced}
+use Rattle.cc_disk.specs.Model.{Cell, bytes_of, IsImage, written, synced}
 use Rattle.cc_disk.specs.Images.{DiffersWithin, IsWritten, LeavesAlone}
 use Rattle.cc_disk.specs.internal.Laws.{bytes_are_image}
-use Rattle.cc_disk.proofs.Cells.{bytes_of-synced}
+use Rattle.cc_disk.proofs.Images.{bytes_of-synced}
 use Rattle.cc_journal.specs.Commit.{Commit, FailsIn, IsCommitted, other_area, rewrite_commit}
 use Rattle.cc_journal.specs.Format.{HasAreaByte, HoldsRecords, records, room_of}
 use Rattle.cc_library.specs.declared.command.Command as made

@@ -1,10 +1,10 @@
 -- How the tie between a book and the core is kept: a commit hands in its job with the pieces that gave its unit, and then takes the core's
 -- steps; a compaction takes those of a rewrite. That a run goes on so is the core's own law.
-use Rattle.std.proofs.Common.{◌≡◌, ℕ, ◌+◌, ◌≤◌, inl, inr, Bool, true, false, List, [], ◌∷◌, ◌++◌, map, Option, Some, None, Result, Ok, Err, refl, sym, ap, ◌∙◌, subst, arith}
+use Rattle.std.proofs.Common.{◌≡◌, ℕ, ◌+◌, ◌^◌, ◌<◌, ◌≤◌, length, inl, inr, Bool, true, false, List, [], ◌∷◌, ◌++◌, map, Option, Some, None, Result, Ok, Err, refl, sym, ap, ◌∙◌, subst, arith}
 use Rattle.std.specs.FinMap.{FinMap, get, get-empty}
 use Rattle.std.specs.Ordering.{nat_cmp}
 use Rattle.cc_library.specs.declared.command.Command as made
-use Rattle.cc_library.specs.Body.{IsCommand}
+use Rattle.cc_library.specs.Body.{IsCommand, body_of}
 use Rattle.cc_library.specs.Recovered.{StandFor, View}
 use Rattle.cc_disk.specs.Images.{LeavesAlone}
 use Rattle.cc_journal.specs.Format.{HoldsRecords}
@@ -14,12 +14,13 @@ use Rattle.cc_core.specs.declared.contents.Contents.{Contents}
 use Rattle.cc_core.specs.declared.contents.Phase.{Phase}
 use Rattle.cc_core.specs.declared.event.Event.{Event}
 use Rattle.cc_core.specs.declared.event.Event.TheVariants as event
+use Rattle.cc_core.specs.declared.fault.Refusal.{Refusal}
 use Rattle.cc_core.specs.declared.fault.Refusal.TheVariants as refusal
 use Rattle.cc_core.specs.declared.ids.ClientId.{ClientId}
 use Rattle.cc_core.specs.declared.ids.WorkerId.{WorkerId}
 use Rattle.cc_core.specs.declared.job.Job.{Job}
 use Rattle.cc_core.specs.Rules.{Rules, HasBuilt}
-use Rattle.cc_core.specs.Job.{command_of}
+use Rattle.cc_core.specs.Job.{closed, command_of}
 use Rattle.cc_core.specs.Step.{IsUp, Step}
 use Rattle.cc_core.specs.Run.{HandsIn, Run, Turn}
 use Rattle.cc_core.specs.Turns.{BeginsSpelled, CanBeReady, IsNoSubmit, IsNoTake}
@@ -87,15 +88,22 @@ module _ {P : Type 0} where
   no_begin rules old e plain client job command is held comes = let k : kind e ≡ 3 = ap kind is in absurd (omega (arith, plain, k))
 
 module _ {P : Type 0} (rules : Rules P) (keeps : P → Type 0) (law : TurnLaw rules keeps) where
+  -- The command of a state's job can be spelled where its record fits, and the area of a state in which no device step failed is no larger
+  -- than any area.
+  pub record CanSpell (old : Contents P) (c : made.Command) : Type 0 where
+    pub command : length (body_of c) < 2 ^ 32 → IsCommand c
+    pub area : closed old.core.phase ≡ None → old.core.store.area ≤ 2 ^ 30
+
   -- the beginning of a job whose command has a spelling
-  spelled : (old : Contents P) (client : ClientId) (c : made.Command) → Has rules old client c → IsCommand c → BeginsSpelled rules old (event.Begin client)
-  spelled old client c has is_command other job command is held comes =
+  spelled : (old : Contents P) (client : ClientId) (c : made.Command) → Has rules old client c → CanSpell old c → BeginsSpelled rules old (event.Begin client)
+  spelled old client c has can other job command is held comes open' fits =
       let same : client ≡ other = cc in
       let both : Some job ≡ Some has.its = sym held ∙ ap (λ (d : ClientId). get old.jobs d.number) (sym same) ∙ has.held in
       let its : job ≡ has.its = cc in
       let gives : Ok command ≡ Ok c = sym comes ∙ ap (λ (j : Job P). command_of rules j j.request) its ∙ has.gives in
       let it : c ≡ command = cc in
-      subst IsCommand it is_command
+      let few = can.area open' in
+      subst IsCommand it (can.command (subst (λ (d : made.Command). length (body_of d) < 2 ^ 32) (sym it) (omega (arith, fits, few))))
 
   -- these events lead on, and give no client a job and no worker a piece
   pub record LeadsOn (old : Contents P) (events : List (Event P)) (new : Contents P) : Type 0 where
@@ -123,10 +131,10 @@ module _ {P : Type 0} (rules : Rules P) (keeps : P → Type 0) (law : TurnLaw ru
       one_on old one.0 one.1 is.0 (events_of others) new (omega (arith, plain.0)) (no_begin rules old one.0 plain.0) is.1 (all_on is.0 others new plain.1 is.2)
 
   -- steps that begin a commit, and go on by plain ones
-  begun_steps : (old : Contents P) (client : ClientId) (reply : Option Reply) (others : List (Event P × Option Reply)) (new : Contents P) (c : made.Command) → Has rules old client c → IsCommand c → AllPlain others
+  begun_steps : (old : Contents P) (client : ClientId) (reply : Option Reply) (others : List (Event P × Option Reply)) (new : Contents P) (c : made.Command) → Has rules old client c → CanSpell old c → AllPlain others
       → Steps rules old ((event.Begin client, reply) ∷ others) new → LeadsOn old (event.Begin client ∷ events_of others) new
-  begun_steps old client reply others new c has is_command plain is =
-      one_on old (event.Begin client) reply is.0 (events_of others) new (omega arith) (spelled old client c has is_command) is.1 (all_on is.0 others new plain is.2)
+  begun_steps old client reply others new c has can plain is =
+      one_on old (event.Begin client) reply is.0 (events_of others) new (omega arith) (spelled old client c has can) is.1 (all_on is.0 others new plain is.2)
 
 -- ---- the tie
 
@@ -134,6 +142,10 @@ phase_up : (closed : Bool) (failed : List made.Command) (phase : Phase) → IsPh
 phase_up false failed phase is = subst IsUp (sym is.1) tt
 phase_up true [] phase is = subst IsUp (sym is) tt
 phase_up true (c ∷ failed) phase is = subst IsUp (sym is.2) tt
+
+not_open : (failed : List made.Command) (phase : Phase) → IsPhase true failed phase → closed phase ≡ None → ⊥
+not_open [] phase is open' = let h : ◌≡◌ {A = Option Refusal} (Some refusal.Closed) None = ap closed (sym is) ∙ open' in cc
+not_open (c ∷ failed) phase is open' = let h : ◌≡◌ {A = Option Refusal} (Some refusal.Closed) None = ap closed (sym is.2) ∙ open' in cc
 
 module _ {D P : Type 0} (rules : Rules P) (keeps : P → Type 0) (seen : D → List ℕ) (may_leave : D → List ℕ → Type 0) where
   abbrev Tied : BookView D → Type 0
@@ -233,14 +245,24 @@ module _ {D P : Type 0} (rules : Rules P) (keeps : P → Type 0) (law : TurnLaw 
   abbrev IsReadyFor : (book : BookView D) → TiedSo book → made.Command → Type 0
   IsReadyFor book tied c = CanBeReady rules keeps tied.now (next book tied) worker c
 
+  -- while no device call has failed, the disk's area is within its limits
+  area_small : (book : BookView D) (s : Contents P) → Shows true seen may_leave book s → closed s.core.phase ≡ None → s.core.store.area ≤ 2 ^ 30
+  area_small book s shows open' = by book.library.closed refl shows.phase
+    where
+      by : (b : Bool) → book.library.closed ≡ b → IsPhase b book.failed s.core.phase → s.core.store.area ≤ 2 ^ 30
+      by false e is = let most = (shows.disk.holds refl e).0.is_area.most in omega (arith, most, shows.disk.area)
+      by true e is = absurd (not_open book.failed s.core.phase is open')
+
   -- a commit that begins
-  begun_on : (before after_it : BookView D) (tied : TiedSo before) → after_it.base ≡ before.base → (c : made.Command) → IsCommand c → (ready_for : IsReadyFor before tied c)
+  begun_on : (before after_it : BookView D) (tied : TiedSo before) → after_it.base ≡ before.base → (c : made.Command) → (length (body_of c) < 2 ^ 32 → IsCommand c) → (ready_for : IsReadyFor before tied c)
       → (reply : Option Reply) (others : List (Event P × Option Reply)) → AllPlain rules keeps law others → (new : Contents P)
       → Steps rules ready_for.new ((event.Begin (next before tied), reply) ∷ others) new → ShownBy after_it new → TiedSo after_it
-  begun_on before after_it tied base c is_command ready_for reply others plain new steps shows =
+  begun_on before after_it tied base c can ready_for reply others plain new steps shows =
       let client = next before tied in
       let has : Has rules ready_for.new client c = record { its = ready_for.job; held = ready_for.held; there = ready_for.there; gives = ready_for.comes } in
-      let on = begun_steps rules keeps law ready_for.new client reply others new c has is_command plain steps in
+      let shown = same_core true seen may_leave before tied.now ready_for.new ready_for.core tied.shows in
+      let spelling : CanSpell rules keeps law ready_for.new c = record { command = can; area = area_small before ready_for.new shown } in
+      let on = begun_steps rules keeps law ready_for.new client reply others new c has spelling plain steps in
       let later = event.Begin client ∷ events_of rules keeps law others in
       goes_on before after_it tied base (ready_for.events ++ later) new (law.goes_on tied.now ready_for.new new ready_for.events later ready_for.run on.run) shows (tied.clients + 1)
       (λ k less. on.jobs k (ready_for.others k (λ is. absurd (omega (arith, less, is))) ∙ tied.fresh k (omega (arith, less)))) (on.workers 0 ready_for.idle)
@@ -257,38 +279,38 @@ module _ {D P : Type 0} (rules : Rules P) (keeps : P → Type 0) (law : TurnLaw 
 
   -- what the commit is for the core, it is for the tie
   commit_on : (failures : D → ℕ) (before after_it : BookView D) (old new : Holder) (command : Command) (result : Result Receipt BookFault) (tied : TiedSo before)
-      → CommitAnswers failures before old command after_it new result → IsCommand (change_of command) → (ready_for : IsReadyFor before tied (change_of command)) → after_it.base ≡ before.base
+      → CommitAnswers failures before old command after_it new result → (length (body_of (change_of command)) < 2 ^ 32 → IsCommand (change_of command)) → (ready_for : IsReadyFor before tied (change_of command)) → after_it.base ≡ before.base
       → IsCommitOf rules (ShownBy after_it) ready_for.new (next before tied) result → TiedSo after_it
-  commit_on failures before after_it old new command (Ok receipt) tied answers is_command ready_for base made =
-      begun_on before after_it tied base (change_of command) is_command ready_for None
+  commit_on failures before after_it old new command (Ok receipt) tied answers can ready_for base made =
+      begun_on before after_it tied base (change_of command) can ready_for None
       ((event.WriteBody, None) ∷ (event.SyncBody, None) ∷ (event.WriteGate, None) ∷ (event.SyncGate, None) ∷ (event.Ack (next before tied), Some replies.Done) ∷ [])
       (refl, (refl, (refl, (refl, (refl, tt))))) made.0 made.1 made.2
-  commit_on failures before after_it old new command (Err (Exists receipt)) tied answers is_command ready_for base made =
-      begun_on before after_it tied base (change_of command) is_command ready_for (Some (replies.Refused refusal.Exists)) [] tt made.0 made.1 made.2
-  commit_on failures before after_it old new command (Err (Absent receipt)) tied answers is_command ready_for base made =
-      begun_on before after_it tied base (change_of command) is_command ready_for (Some (replies.Refused refusal.Absent)) [] tt made.0 made.1 made.2
-  commit_on failures before after_it old new command (Err Closed) tied answers is_command ready_for base made =
-      begun_on before after_it tied base (change_of command) is_command ready_for (Some (replies.Refused refusal.Closed)) [] tt made.0 made.1 made.2
-  commit_on failures before after_it old new command (Err Full) tied answers is_command ready_for base made =
-      begun_on before after_it tied base (change_of command) is_command ready_for (Some (replies.Refused refusal.Full)) [] tt made.0 made.1 made.2
-  commit_on failures before after_it old new command (Err DiskFault) tied answers is_command ready_for base made =
+  commit_on failures before after_it old new command (Err (Exists receipt)) tied answers can ready_for base made =
+      begun_on before after_it tied base (change_of command) can ready_for (Some (replies.Refused refusal.Exists)) [] tt made.0 made.1 made.2
+  commit_on failures before after_it old new command (Err (Absent receipt)) tied answers can ready_for base made =
+      begun_on before after_it tied base (change_of command) can ready_for (Some (replies.Refused refusal.Absent)) [] tt made.0 made.1 made.2
+  commit_on failures before after_it old new command (Err Closed) tied answers can ready_for base made =
+      begun_on before after_it tied base (change_of command) can ready_for (Some (replies.Refused refusal.Closed)) [] tt made.0 made.1 made.2
+  commit_on failures before after_it old new command (Err Full) tied answers can ready_for base made =
+      begun_on before after_it tied base (change_of command) can ready_for (Some (replies.Refused refusal.Full)) [] tt made.0 made.1 made.2
+  commit_on failures before after_it old new command (Err DiskFault) tied answers can ready_for base made =
       elim made.1 [
-        | inl steps ↦ begun_on before after_it tied base (change_of command) is_command ready_for None ((event.Fail, Some (replies.Refused refusal.DiskFault)) ∷ []) (refl, tt) made.0 steps made.2
-        | inr steps ↦ begun_on before after_it tied base (change_of command) is_command ready_for None ((event.WriteBody, None) ∷ (event.SyncBody, None) ∷ (event.Fail, Some (replies.Refused refusal.DiskFault)) ∷ [])
+        | inl steps ↦ begun_on before after_it tied base (change_of command) can ready_for None ((event.Fail, Some (replies.Refused refusal.DiskFault)) ∷ []) (refl, tt) made.0 steps made.2
+        | inr steps ↦ begun_on before after_it tied base (change_of command) can ready_for None ((event.WriteBody, None) ∷ (event.SyncBody, None) ∷ (event.Fail, Some (replies.Refused refusal.DiskFault)) ∷ [])
             (refl, (refl, (refl, tt))) made.0 steps made.2
       ]
-  commit_on failures before after_it old new command (Err (Estranged number found)) tied (_, _, same, _) is_command ready_for base made = same_book rules keeps seen may_leave before after_it tied same
-  commit_on failures before after_it old new command (Err OutOfMemory) tied (_, same, _) is_command ready_for base made = same_book rules keeps seen may_leave before after_it tied same
+  commit_on failures before after_it old new command (Err (Estranged number found)) tied (_, _, same, _) can ready_for base made = same_book rules keeps seen may_leave before after_it tied same
+  commit_on failures before after_it old new command (Err OutOfMemory) tied (_, same, _) can ready_for base made = same_book rules keeps seen may_leave before after_it tied same
 
   pub commit_tied : ((disk : D) → may_leave disk (seen disk)) → (failures : D → ℕ) (before after_it : BookView D) (old new : Holder) (command : Command) (result : Result Receipt BookFault)
       → CommitAnswers failures before old command after_it new result → ChangesDisk seen may_leave (change_of command) before.library after_it.library result
-      → IsCommand (change_of command) → HasBuilt rules keeps (change_of command) → TiedSo before → TiedSo after_it
-  commit_tied now failures before after_it old new command result answers disk is_command built tied =
+      → (length (body_of (change_of command)) < 2 ^ 32 → IsCommand (change_of command)) → HasBuilt rules keeps (change_of command) → TiedSo before → TiedSo after_it
+  commit_tied now failures before after_it old new command result answers disk can built tied =
       let up = phase_up before.library.closed before.failed tied.now.core.phase tied.shows.phase in
       let ready_for = law.ready tied.now (next before tied) worker (change_of command) up (tied.fresh tied.clients (omega arith)) tied.idle built in
       let has : Has rules ready_for.new (next before tied) (change_of command) = record { its = ready_for.job; held = ready_for.held; there = ready_for.there; gives = ready_for.comes } in
       let shows = same_core true seen may_leave before tied.now ready_for.new ready_for.core tied.shows in
-      commit_on failures before after_it old new command result tied answers is_command ready_for (base_same failures before after_it old new command result answers)
+      commit_on failures before after_it old new command result tied answers can ready_for (base_same failures before after_it old new command result answers)
       (commits rules true seen may_leave (λ d h. now d) failures before after_it old new command result ready_for.new (next before tied) answers (λ h. disk) shows has)
 
   -- ---- a rewrite

@@ -10,10 +10,11 @@ use Rattle.cc_tokens.specs.declared.token.Punctuator.TheVariants as punctuator
 use Rattle.cc_tokens.specs.declared.token.TokenKind.{TokenKind}
 use Rattle.cc_tokens.specs.declared.token.TokenKind.TheVariants as kind
 use Rattle.cc_tokens.specs.Token.{Lexeme}
-use Rattle.cc_syntax.specs.Tree.{Name, Expr, Number, Element, Call, Parenthesised, Unary, Cast, Binary, Conditional, Target, AtVariable, AtElement, Action, Assign, Step, Evaluate, Declarator, Beginning, Declares, Performs, Stmt, Block, Local, Perform, Return, If, IfElse, While, DoWhile, For, ConstantExpr, Signature, Object, Single, Array, External, Declaration, Definition, Objects}
+use Rattle.cc_syntax.specs.Tree.{Name, Expr, Number, Element, Call, Parenthesised, Unary, Cast, Binary, Conditional, Target, AtVariable, AtElement, Action, Assign, Step, Evaluate, Declarator, Beginning, Declares, Performs, Stmt, Block, Local, Perform, Return, If, IfElse, While, DoWhile, For, ConstantExpr, Signature, Object, Single, External, Declaration, Definition, Objects}
+use Rattle.cc_syntax.specs.declared.parser.state.ObjectKind.{ObjectKind}
 use Rattle.cc_syntax.specs.internal.Roles.{role_of}
 use Rattle.cc_syntax.specs.Grammar.{Measured, precedence}
-use Rattle.cc_syntax.specs.internal.Parser.{State, AtFile, InBody, InFull, Inside, Stage, Item, AfterThen, AfterDo, Testing, Ending, Returning, ForOpening, ForStarting, ForTesting, ForStepping, LocalSign, Declaring, HasDeclared, Stepping, StepNamed, Stepped, Outer, Between, ResultSign, Typed, Named, Parameters, OnlyVoid, ParameterNext, ParameterSign, ParameterTyped, ParameterNamed, Headed, ObjectNext, ObjectNamed, Sizing, Sized, Initialising, Listing, Valuing, Listed, Phase, Operand, Operator, CastSign, CastType, Full, Context, OfBody, OfObject, Purpose, ToPerform, ToAssign, ToStep, ToReturn, ToTest, ToGoOn, ToInitialise, ForIf, ForWhile, ForDo, Position, AsLocal, AsHeader, Spot, AsStatement, AsStart, AsLast, Part, ToSize, ToSingle, ToValue, Naming, Open, InBlock, InThen, InElse, InWhile, InDo, InFor, Waiting, Parenthesis, Index, Arguments, Prefix, Casting, Infix, Then, Otherwise, in_body, settled, close_block, with_last, full_of, reduced, close, end_full, with_argument, with_object, with_parameter, constant, declared, step, standing}
+use Rattle.cc_syntax.specs.internal.Parser.{State, AtFile, InBody, InFull, Inside, Stage, Item, AfterThen, AfterDo, Testing, Ending, Returning, ForOpening, ForStarting, ForTesting, ForStepping, LocalSign, Declaring, HasDeclared, Stepping, StepNamed, Stepped, Outer, Between, ResultSign, Typed, Named, Parameters, OnlyVoid, ParameterNext, ParameterSign, ParameterTyped, ParameterNamed, Headed, ObjectNext, ObjectNamed, Sizing, Sized, Initialising, Listing, Valuing, Listed, Phase, Operand, Operator, CastSign, CastType, Full, Context, OfBody, OfObject, Purpose, ToPerform, ToAssign, ToStep, ToReturn, ToTest, ToGoOn, ToInitialise, ForIf, ForWhile, ForDo, Position, AsLocal, AsHeader, Spot, AsStatement, AsStart, AsLast, Part, ToSize, ToSingle, ToValue, Naming, Open, InBlock, InThen, InElse, InWhile, InDo, InFor, Waiting, Parenthesis, Index, Arguments, Prefix, Casting, Infix, Then, Otherwise, in_body, settled, close_block, with_last, full_of, reduced, close, end_full, with_argument, array_of, scalar_of, with_object, with_parameter, constant, declared, step, standing}
 use Rattle.cc_syntax.proofs.ParserRuns.{Runs}
 use Rattle.cc_syntax.proofs.Forms.{operand, operator, pops}
 use Rattle.cc_syntax.proofs.Settles.{within}
@@ -56,23 +57,22 @@ finished es e = record { rest = []; tree = es ++ e ∷ []; unit = some es; runs 
     some [] = tt
     some (u ∷ us) = tt
 
-finish_listed : (es : List External) (t : Scalar) (os : List Object) → Finishes (AtFile es (Listed t os))
-finish_listed es t os = by _ (AtFile (es ++ Objects t os ∷ []) Between) (mark punctuator.Semicolon) refl (finished es (Objects t os))
-
-finish_named : (es : List External) (n : Naming) → Finishes (AtFile es (ObjectNamed n))
-finish_named es n =
-    let o = Objects n.scalar (with_object n (Single n.name None)) in
-    by _ (AtFile (es ++ o ∷ []) Between) (mark punctuator.Semicolon) refl (finished es o)
-
-finish_next : (es : List External) (t : Scalar) (os : List Object) → Finishes (AtFile es (ObjectNext t os))
-finish_next es t os =
-    let n : Naming = record { scalar = t; objects = os; name = nameless } in
-    by _ (AtFile es (ObjectNamed n)) kind.Identifier refl (finish_named es n)
+finish_listed : (es : List External) (t : ObjectKind) (os : List Object) → Finishes (AtFile es (Listed t os))
+finish_listed es t os = by _ (AtFile (es ++ Objects (scalar_of t) os ∷ []) Between) (mark punctuator.Semicolon) refl (finished es (Objects (scalar_of t) os))
 
 finish_sized : (es : List External) (n : Naming) (size : Option ConstantExpr) → Finishes (AtFile es (Sized n size))
 finish_sized es n size =
-    let o = Objects n.scalar (with_object n (Array n.name size [])) in
+    let o = Objects (scalar_of n.kind) (with_object n (array_of n.kind n.name size [])) in
     by _ (AtFile (es ++ o ∷ []) Between) (mark punctuator.Semicolon) refl (finished es o)
+
+-- an array ends everywhere; of `unsigned char` nothing else does
+finish_named : (es : List External) (n : Naming) → Finishes (AtFile es (ObjectNamed n))
+finish_named es n = by _ (AtFile es (Sizing n)) (mark punctuator.OpenBracket) refl (by _ (AtFile es (Sized n None)) (mark punctuator.CloseBracket) refl (finish_sized es n None))
+
+finish_next : (es : List External) (t : ObjectKind) (os : List Object) → Finishes (AtFile es (ObjectNext t os))
+finish_next es t os =
+    let n : Naming = record { kind = t; objects = os; name = nameless } in
+    by _ (AtFile es (ObjectNamed n)) kind.Identifier refl (finish_named es n)
 
 finish_headed : (es : List External) (f : Signature) → Finishes (AtFile es (Headed f))
 finish_headed es f = by _ (AtFile (es ++ Declaration f ∷ []) Between) (mark punctuator.Semicolon) refl (finished es (Declaration f))
@@ -183,11 +183,11 @@ ends_body (ToInitialise w t ds v) b n e = record { last = mark punctuator.Semico
 ends_object : (p : Part) (es : List External) (v : Naming) (n : ℕ) (e : Expr) → EndsWhole (OfObject es v p) n e
 ends_object (ToSize at) es v n e = record { last = mark punctuator.CloseBracket; after = AtFile es (Sized v (Some (constant at e))); closes = λ f z. refl; goes = refl; finishes = finish_sized es v (Some (constant at e)) }
 ends_object (ToSingle at) es v n e =
-    let o = Objects v.scalar (with_object v (Single v.name (Some (constant at e)))) in
+    let o = Objects (scalar_of v.kind) (with_object v (Single v.name (Some (constant at e)))) in
     record { last = mark punctuator.Semicolon; after = AtFile (es ++ o ∷ []) Between; closes = λ f z. refl; goes = refl; finishes = finished es o }
 ends_object (ToValue size vs at) es v n e =
-    let os = with_object v (Array v.name size (vs ++ constant at e ∷ [])) in
-    record { last = mark punctuator.CloseBrace; after = AtFile es (Listed v.scalar os); closes = λ f z. refl; goes = refl; finishes = finish_listed es v.scalar os }
+    let os = with_object v (array_of v.kind v.name size (vs ++ constant at e ∷ [])) in
+    record { last = mark punctuator.CloseBrace; after = AtFile es (Listed v.kind os); closes = λ f z. refl; goes = refl; finishes = finish_listed es v.kind os }
 
 ends_whole : (c : Context) (n : ℕ) (e : Expr) → EndsWhole c n e
 ends_whole (OfBody b p) n e = ends_body p b n e

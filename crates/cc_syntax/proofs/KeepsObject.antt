@@ -1,18 +1,19 @@
 -- At file scope: a complete external declaration, a complete object, and the token that ends a constant expression keep what
 -- the tokens before the state spell.
-use Rattle.std.proofs.Common.{◌≡◌, ℕ, List, [], ◌∷◌, ◌++◌, map, Option, Some, refl, sym, ap, subst, ◌∙◌, append_assoc, inl}
+use Rattle.std.proofs.Common.{◌≡◌, ℕ, List, [], ◌∷◌, ◌++◌, map, Option, Some, refl, sym, ap, subst, ◌∙◌, append_assoc, inl, inr}
 use Rattle.std.proofs.lemmas.List.{append-nil}
-use Rattle.cc_tokens.specs.declared.scalar.Scalar.{Scalar}
 use Rattle.cc_tokens.specs.declared.token.Punctuator.TheVariants as punctuator
 use Rattle.cc_syntax.specs.declared.parser.role.Role.{Role}
 use Rattle.cc_syntax.specs.declared.parser.role.Role.TheVariants as role
 use Rattle.cc_tokens.specs.Token.{Lexeme}
-use Rattle.cc_syntax.specs.Tree.{Expr, ConstantExpr, Object, Single, Array, External, Objects}
-use Rattle.cc_syntax.specs.Grammar.{Measured, outside, full, identifier, Marks, SpellsExpression, SpellsRow, SpellsConstantExpr, IsOptionalComma, SpellsList, SpellsObject, SpellsExternal, SpellsExternals}
-use Rattle.cc_syntax.specs.internal.Parser.{AtFile, Outer, Between, Valuing, Phase, OfObject, Part, ToSize, ToSingle, ToValue, Naming, Waiting, with_object, constant, separated, end_list_value, end_in_object}
+use Rattle.cc_syntax.specs.declared.parser.state.ObjectKind.{ObjectKind}
+use Rattle.cc_syntax.specs.declared.parser.state.ObjectKind.TheVariants.{Words, Bytes}
+use Rattle.cc_syntax.specs.Tree.{Name, Expr, ConstantExpr, Object, Single, External, Objects}
+use Rattle.cc_syntax.specs.Grammar.{Measured, outside, full, identifier, Marks, SpellsExpression, SpellsRow, SpellsConstantExpr, IsOptionalComma, SpellsList, SpellsArray, SpellsObject, SpellsObjects, SpellsExternal, SpellsExternals}
+use Rattle.cc_syntax.specs.internal.Parser.{AtFile, Outer, Between, Valuing, Phase, OfObject, Part, ToSize, ToSingle, ToValue, Naming, Waiting, array_of, scalar_of, with_object, constant, separated, end_list_value, end_in_object}
 use Rattle.cc_syntax.proofs.KeepsPhase.{HasRole}
 use Rattle.cc_syntax.proofs.KeepsBody.{regrouped}
-use Rattle.cc_syntax.proofs.SoFarUnit.{ObjectsSoFar, NamingSoFar, OuterSoFar, FullSoFar, Kept}
+use Rattle.cc_syntax.proofs.SoFarUnit.{AreWords, SpellsKind, SpellsName, ObjectsSoFar, NamingSoFar, OuterSoFar, FullSoFar, Kept}
 use Rattle.cc_syntax.proofs.KeepsEnd.{row-done, row-comma}
 
 -- external declarations
@@ -39,23 +40,38 @@ naming-more n behind mine more h =
     (h.0, h.1, h.2, h.3, regrouped mine (map outside h.0) (h.1 ++ one) more h.4 ∙ ap (λ (z : List Measured). map outside h.0 ++ z) (append_assoc h.1 one more))
 
 -- the named object is complete
-pub object-done : (n : Naming) (o : Object) (behind mine : List Measured) → NamingSoFar n behind mine → SpellsObject (outside (identifier n.name) ∷ behind) o → ObjectsSoFar n.scalar (λ row. SpellsRow SpellsObject row (with_object n o)) [] mine
+pub object-done : (n : Naming) (o : Object) (behind mine : List Measured) → NamingSoFar n behind mine → SpellsName n.kind (outside (identifier n.name) ∷ behind) o → ObjectsSoFar n.kind (λ row. SpellsRow (SpellsName n.kind) row (with_object n o)) [] mine
 object-done n o behind mine h k =
     let one : List Measured = outside (identifier n.name) ∷ behind in
-    (h.0, h.1 ++ one, h.2, row-done SpellsObject n.objects o h.1 one h.3 k, h.4 ∙ ap (λ (z : List Measured). map outside h.0 ++ z) (sym (append-nil (h.1 ++ one))))
+    (h.0, h.1 ++ one, h.2, row-done (SpellsName n.kind) n.objects o h.1 one h.3 k, h.4 ∙ ap (λ (z : List Measured). map outside h.0 ++ z) (sym (append-nil (h.1 ++ one))))
+
+-- a single object stands in a declaration of words alone
+pub single-spelled : (t : ObjectKind) (ts : List Measured) (v : Name) (e : Option ConstantExpr) → AreWords t → SpellsObject ts (Single v e) → SpellsName t ts (Single v e)
+single-spelled (Words t) ts v e w h = h
+single-spelled Bytes ts v e w h = absurd w
+
+-- an array in both
+pub array-spelled : (t : ObjectKind) (ts : List Measured) (v : Name) (size : Option ConstantExpr) (values : List ConstantExpr) → SpellsArray ts v size values → SpellsName t ts (array_of t v size values)
+array-spelled (Words t) ts v size values h = h
+array-spelled Bytes ts v size values h = h
+
+-- a whole declaration
+objects-spelled : (t : ObjectKind) (ts : List Measured) (os : List Object) → SpellsObjects (SpellsKind t) (SpellsName t) ts os → SpellsExternal ts (Objects (scalar_of t) os)
+objects-spelled (Words t) ts os h = inl h
+objects-spelled Bytes ts os h = inr (refl, h)
 
 -- the token after a complete object
-pub kept-separated : (r : Role) (es : List External) (t : Scalar) (os : List Object) (before mine ts : List Measured) (x : Lexeme) → HasRole r x → SpellsExternals before es → ObjectsSoFar t (λ row. SpellsRow SpellsObject row os) [] mine → ts ≡ before ++ mine → Kept (separated es t os r) ts x 0
+pub kept-separated : (r : Role) (es : List External) (t : ObjectKind) (os : List Object) (before mine ts : List Measured) (x : Lexeme) → HasRole r x → SpellsExternals before es → ObjectsSoFar t (λ row. SpellsRow (SpellsName t) row os) [] mine → ts ≡ before ++ mine → Kept (separated es t os r) ts x 0
 kept-separated role.Comma es t os before mine ts x h k o e =
     let row = o.1 ++ outside x ∷ [] in
     let tokens : mine ++ outside x ∷ [] ≡ map outside o.0 ++ (row ++ []) =
     regrouped mine (map outside o.0) (o.1 ++ []) (outside x ∷ []) o.4
     ∙ ap (λ (z : List Measured). map outside o.0 ++ z) (ap (λ (z : List Measured). z ++ outside x ∷ []) (append-nil o.1) ∙ sym (append-nil row)) in
-    (before, mine ++ outside x ∷ [], k, (o.0, row, o.2, row-comma SpellsObject os o.1 x o.3 h, tokens), regrouped ts before mine (outside x ∷ []) e)
+    (before, mine ++ outside x ∷ [], k, (o.0, row, o.2, row-comma (SpellsName t) os o.1 x o.3 h, tokens), regrouped ts before mine (outside x ∷ []) e)
 kept-separated role.Semicolon es t os before mine ts x h k o e =
     let tokens : mine ++ outside x ∷ [] ≡ map outside o.0 ++ (o.1 ++ outside x ∷ []) =
     regrouped mine (map outside o.0) (o.1 ++ []) (outside x ∷ []) o.4 ∙ ap (λ (z : List Measured). map outside o.0 ++ (z ++ outside x ∷ [])) (append-nil o.1) in
-    kept-external es (Objects t os) before mine ts x k e (o.0, o.1, x, o.2, o.3, h, tokens)
+    kept-external es (Objects (scalar_of t) os) before mine ts x k e (objects-spelled t (mine ++ outside x ∷ []) os (o.0, o.1, x, o.2, o.3, h, tokens))
 kept-separated _ es t os before mine ts x h k o e = tt
 
 -- lists of values
@@ -65,7 +81,7 @@ list-spelled [] sign opening closing row comma h k m s c = absurd s
 list-spelled (v ∷ vs) sign opening closing row comma h k m s c = (sign, opening, closing, row, comma, h, k, m, s, c, refl)
 
 -- an array's list is complete
-pub array-done : (n : Naming) (size : Option ConstantExpr) (vs us : List ConstantExpr) (mine more row : List Measured) (comma : List Lexeme) (x : Lexeme) → (h : OuterSoFar (Valuing n size vs) mine) → Marks punctuator.CloseBrace x → SpellsRow SpellsConstantExpr row us → IsOptionalComma comma → h.5 ++ more ≡ row ++ (map outside comma ++ outside x ∷ []) → ObjectsSoFar n.scalar (λ r. SpellsRow SpellsObject r (with_object n (Array n.name size us))) [] (mine ++ more)
+pub array-done : (n : Naming) (size : Option ConstantExpr) (vs us : List ConstantExpr) (mine more row : List Measured) (comma : List Lexeme) (x : Lexeme) → (h : OuterSoFar (Valuing n size vs) mine) → Marks punctuator.CloseBrace x → SpellsRow SpellsConstantExpr row us → IsOptionalComma comma → h.5 ++ more ≡ row ++ (map outside comma ++ outside x ∷ []) → ObjectsSoFar n.kind (λ r. SpellsRow (SpellsName n.kind) r (with_object n (array_of n.kind n.name size us))) [] (mine ++ more)
 array-done n size vs us mine more row comma x h m s c e =
     let list : List Measured = outside h.2 ∷ outside h.3 ∷ row ++ (map outside comma ++ outside x ∷ []) in
     let old : List Measured = outside h.0 ∷ h.4 ++ (outside h.1 ∷ outside h.2 ∷ outside h.3 ∷ h.5) in
@@ -73,7 +89,8 @@ array-done n size vs us mine more row comma x h m s c e =
     let same : old ++ more ≡ behind =
     ap (λ (z : List Measured). outside h.0 ∷ z) (append_assoc h.4 (outside h.1 ∷ outside h.2 ∷ outside h.3 ∷ h.5) more ∙ ap (λ (z : List Measured). h.4 ++ (outside h.1 ∷ outside h.2 ∷ outside h.3 ∷ z)) e) in
     let naming : NamingSoFar n behind (mine ++ more) = subst (λ (z : List Measured). NamingSoFar n z (mine ++ more)) same (naming-more n old mine more h.12) in
-    object-done n (Array n.name size us) behind (mine ++ more) naming (h.0, h.1, h.4, list, h.6, h.7, h.8, list-spelled us h.2 h.3 x row comma h.9 h.10 m s c, refl)
+    object-done n (array_of n.kind n.name size us) behind (mine ++ more) naming
+    (array-spelled n.kind (outside (identifier n.name) ∷ behind) n.name size us (h.0, h.1, h.4, list, h.6, h.7, h.8, list-spelled us h.2 h.3 x row comma h.9 h.10 m s c, refl))
 
 -- a constant expression is complete
 
@@ -128,8 +145,9 @@ kept-constant (ToSingle at) r es n ws k q e ts x h f s =
     let value = full f.xs in
     let single = Single n.name (Some (constant at e)) in
     let naming = naming-more n (outside o.0 ∷ []) c.1 value o.2 in
-    kept-separated r es n.scalar (with_object n single) c.0 (c.1 ++ value) ts x h c.2
-    (object-done n single (outside o.0 ∷ value) (c.1 ++ value) naming (o.0, value, o.1, (f.xs, s, f.starts, refl), refl)) (whole-object es n (ToSingle at) ws k q ts f)
+    kept-separated r es n.kind (with_object n single) c.0 (c.1 ++ value) ts x h c.2
+    (object-done n single (outside o.0 ∷ value) (c.1 ++ value) naming
+    (single-spelled n.kind (outside (identifier n.name) ∷ outside o.0 ∷ value) n.name (Some (constant at e)) o.3 (o.0, value, o.1, (f.xs, s, f.starts, refl), refl))) (whole-object es n (ToSingle at) ws k q ts f)
 kept-constant (ToValue size vs at) r es n ws k q e ts x h f s =
     let c = f.context.1 in
     kept-value r es n size vs (constant at e) c.0 c.1 (full f.xs) ts x h c.2 c.3 (f.xs, s, f.starts, refl) (whole-object es n (ToValue size vs at) ws k q ts f)

@@ -10,16 +10,18 @@ use Rattle.cc_tokens.specs.declared.token.Punctuator.TheVariants as punctuator
 use Rattle.cc_syntax.specs.declared.parser.role.Role.{Role}
 use Rattle.cc_syntax.specs.declared.parser.role.Role.TheVariants as role
 use Rattle.cc_tokens.specs.Token.{Lexeme}
-use Rattle.cc_syntax.specs.Tree.{Name, ConstantExpr, Parameter, Signature, Object, Single, Array, External, Declaration}
+use Rattle.cc_syntax.specs.Tree.{Name, ConstantExpr, Parameter, Signature, Object, Single, External, Declaration}
+use Rattle.cc_syntax.specs.declared.parser.state.ObjectKind.{ObjectKind}
+use Rattle.cc_syntax.specs.declared.parser.state.ObjectKind.TheVariants.{Words, Bytes}
 use Rattle.cc_syntax.specs.Grammar.{Measured, outside, identifier, Marks, IsKeyword, SpellsType, SpellsRow, optional_identifier, SpellsParameter, SpellsParameters, AreNamed, SpellsExternals}
-use Rattle.cc_syntax.specs.internal.Parser.{AtFile, Outer, Between, ResultSign, Typed, Named, Parameters, OnlyVoid, ParameterNext, ParameterSign, ParameterTyped, ParameterNamed, Headed, ObjectNext, ObjectNamed, Sizing, Sized, Initialising, Listing, Valuing, Listed, OfObject, ToSize, ToSingle, ToValue, Naming, with_object, signature_of, with_parameter, all_named, external_step, typed_step, result_sign_step, object_step, named_step, parameter_step, parameters_step, only_void_step, parameter_named_step, parameter_typed_step, parameter_sign_step, defines, headed_step, object_next_step, sizing_step, sized_step, listing_step, end_list, valuing_step, outer_step, outer_level, name_of}
+use Rattle.cc_syntax.specs.internal.Parser.{AtFile, Outer, Between, ResultSign, Typed, Named, Parameters, OnlyVoid, ParameterNext, ParameterSign, ParameterTyped, ParameterNamed, Headed, ObjectNext, ObjectNamed, Sizing, Sized, Initialising, Listing, Valuing, Listed, OfObject, ToSize, ToSingle, ToValue, Naming, array_of, with_object, signature_of, with_parameter, all_named, external_step, typed_step, char_step, result_sign_step, single_step, object_step, named_step, parameter_step, parameters_step, only_void_step, parameter_named_step, parameter_typed_step, parameter_sign_step, defines, headed_step, object_next_step, sizing_step, sized_step, listing_step, end_list, valuing_step, outer_step, outer_level, name_of}
 use Rattle.cc_syntax.proofs.KeepsFull.{identified}
 use Rattle.cc_syntax.proofs.SoFarBody.{RowSoFar}
 use Rattle.cc_syntax.proofs.KeepsPhase.{HasRole}
 use Rattle.cc_syntax.proofs.KeepsBody.{regrouped}
-use Rattle.cc_syntax.proofs.SoFarUnit.{ParametersSoFar, NamingSoFar, OuterSoFar, AtFileSoFar, Kept}
+use Rattle.cc_syntax.proofs.SoFarUnit.{AreWords, ParametersSoFar, NamingSoFar, OuterSoFar, AtFileSoFar, Kept}
 use Rattle.cc_syntax.proofs.KeepsEnd.{row-done, row-comma}
-use Rattle.cc_syntax.proofs.KeepsObject.{kept-external, kept-file, naming-more, object-done, kept-separated, array-done}
+use Rattle.cc_syntax.proofs.KeepsObject.{kept-external, kept-file, naming-more, object-done, single-spelled, array-spelled, kept-separated, array-done}
 use Rattle.cc_syntax.proofs.KeepsOperator.{kept-begin}
 
 -- the first tokens of an external declaration
@@ -40,25 +42,36 @@ kept-typed role.Identifier t es before mine ts x h k o e =
     kept-file es (Named t (name_of x)) before mine ts x k e (o.0, o.1, tokens)
 kept-typed _ t es before mine ts x h k o e = tt
 
+kept-char : (t : Scalar) (es : List External) (before mine ts : List Measured) (x : Lexeme) → IsKeyword keyword.Char x → SpellsExternals before es → OuterSoFar (ResultSign t) mine → ts ≡ before ++ mine → Kept (char_step es t) ts x 0
+kept-char scalar.Unsigned es before mine ts x h k o e =
+    kept-file es (ObjectNext Bytes []) before mine ts x k e (o.0 ∷ x ∷ [], [], (o.0, x, o.1, h, refl), inl (refl, refl), last-one mine (outside o.0 ∷ []) x o.2)
+kept-char scalar.Int es before mine ts x h k o e = tt
+
 kept-result-sign : (r : Role) (t : Scalar) (es : List External) (before mine ts : List Measured) (x : Lexeme) → HasRole r x → SpellsExternals before es → OuterSoFar (ResultSign t) mine → ts ≡ before ++ mine → Kept (result_sign_step es t r (name_of x)) ts x 0
 kept-result-sign role.Int t es before mine ts x h k o e =
     kept-file es (Typed (Some t)) before mine ts x k e (o.0 ∷ x ∷ [], inr (inr (o.0, x, o.1, h, refl)), last-one mine (outside o.0 ∷ []) x o.2)
+kept-result-sign role.Char t es before mine ts x h k o e = kept-char t es before mine ts x h k o e
 kept-result-sign r t es before mine ts x h k o e = kept-typed r (Some t) es before mine ts x h k (o.0 ∷ [], inr (inl (o.0, o.1, refl)), o.2) e
 
 -- objects
 
+kept-single : (t : ObjectKind) (r : Role) (n : Naming) (es : List External) (before mine ts : List Measured) (x : Lexeme) → n.kind ≡ t → HasRole r x → SpellsExternals before es → OuterSoFar (ObjectNamed n) mine → ts ≡ before ++ mine → Kept (single_step es n t r) ts x 0
+kept-single (Words t) (role.Assignment assignment.Plain) n es before mine ts x is h k o e =
+    kept-file es (Initialising n) before mine ts x k e (x, h, naming-more n [] mine (outside x ∷ []) o, subst AreWords (sym is) tt)
+kept-single (Words t) r n es before mine ts x is h k o e =
+    let single = Single n.name None in
+    kept-separated r es n.kind (with_object n single) before mine ts x h k
+    (object-done n single [] mine o (single-spelled n.kind (outside (identifier n.name) ∷ []) n.name None (subst AreWords (sym is) tt) refl)) e
+kept-single Bytes r n es before mine ts x is h k o e = tt
+
 kept-object : (r : Role) (n : Naming) (es : List External) (before mine ts : List Measured) (x : Lexeme) → HasRole r x → SpellsExternals before es → OuterSoFar (ObjectNamed n) mine → ts ≡ before ++ mine → Kept (object_step es n r) ts x 0
 kept-object role.OpenBracket n es before mine ts x h k o e =
     kept-file es (Sizing n) before mine ts x k e (x, h, naming-more n [] mine (outside x ∷ []) o)
-kept-object (role.Assignment assignment.Plain) n es before mine ts x h k o e =
-    kept-file es (Initialising n) before mine ts x k e (x, h, naming-more n [] mine (outside x ∷ []) o)
-kept-object r n es before mine ts x h k o e =
-    let single = Single n.name None in
-    kept-separated r es n.scalar (with_object n single) before mine ts x h k (object-done n single [] mine o refl) e
+kept-object r n es before mine ts x h k o e = kept-single n.kind r n es before mine ts x refl h k o e
 
-kept-object-next : (r : Role) (t : Scalar) (os : List Object) (es : List External) (before mine ts : List Measured) (x : Lexeme) → HasRole r x → SpellsExternals before es → OuterSoFar (ObjectNext t os) mine → ts ≡ before ++ mine → Kept (object_next_step es t os r (name_of x)) ts x 0
+kept-object-next : (r : Role) (t : ObjectKind) (os : List Object) (es : List External) (before mine ts : List Measured) (x : Lexeme) → HasRole r x → SpellsExternals before es → OuterSoFar (ObjectNext t os) mine → ts ≡ before ++ mine → Kept (object_next_step es t os r (name_of x)) ts x 0
 kept-object-next role.Identifier t os es before mine ts x h k o e =
-    let n : Naming = record { scalar = t; objects = os; name = name_of x } in
+    let n : Naming = record { kind = t; objects = os; name = name_of x } in
     let tokens : mine ++ outside x ∷ [] ≡ map outside o.0 ++ (o.1 ++ outside (identifier n.name) ∷ []) =
     regrouped mine (map outside o.0) (o.1 ++ []) (outside x ∷ []) o.4 ∙ ap (λ (z : List Measured). map outside o.0 ++ z) (last-one (o.1 ++ []) o.1 x (append-nil o.1))
     ∙ ap (λ (y : Lexeme). map outside o.0 ++ (o.1 ++ outside y ∷ [])) (identified x h) in
@@ -78,9 +91,10 @@ kept-sized (role.Assignment assignment.Plain) n size es before mine ts x h k o e
     subst (λ (z : List Measured). NamingSoFar n z (mine ++ outside x ∷ [])) same (naming-more n (outside o.0 ∷ o.2 ++ outside o.1 ∷ []) mine (outside x ∷ []) o.6) in
     kept-file es (Listing n size) before mine ts x k e (o.0, o.1, x, o.2, o.3, o.4, o.5, h, naming)
 kept-sized r n size es before mine ts x h k o e =
-    let array = Array n.name size [] in
-    let done = object-done n array (outside o.0 ∷ o.2 ++ outside o.1 ∷ []) mine o.6 (o.0, o.1, o.2, [], o.3, o.4, o.5, refl, refl) in
-    kept-separated r es n.scalar (with_object n array) before mine ts x h k done e
+    let array = array_of n.kind n.name size [] in
+    let behind : List Measured = outside o.0 ∷ o.2 ++ outside o.1 ∷ [] in
+    let done = object-done n array behind mine o.6 (array-spelled n.kind (outside (identifier n.name) ∷ behind) n.name size [] (o.0, o.1, o.2, [], o.3, o.4, o.5, refl, refl)) in
+    kept-separated r es n.kind (with_object n array) before mine ts x h k done e
 
 kept-listing : (r : Role) (n : Naming) (size : Option ConstantExpr) (es : List External) (before mine ts : List Measured) (x : Lexeme) → HasRole r x → SpellsExternals before es → OuterSoFar (Listing n size) mine → ts ≡ before ++ mine → Kept (listing_step es n size r) ts x 0
 kept-listing role.OpenBrace n size es before mine ts x h k o e =
@@ -99,7 +113,7 @@ kept-list-end (v ∷ vs) n size es before mine ts x h k o e = elim o.11 [
   | inr r ↦
       let tokens : o.5 ++ outside x ∷ [] ≡ r.0 ++ (outside r.1 ∷ outside x ∷ []) = regrouped o.5 r.0 (outside r.1 ∷ []) (outside x ∷ []) r.4 in
       let us = v ∷ vs in
-      kept-file es (Listed n.scalar (with_object n (Array n.name size us))) before mine ts x k e
+      kept-file es (Listed n.kind (with_object n (array_of n.kind n.name size us))) before mine ts x k e
       (array-done n size us us mine (outside x ∷ []) r.0 (r.1 ∷ []) x o h r.2 (inr (r.1, r.3, refl)) tokens)
 ]
   where
@@ -117,7 +131,7 @@ kept-named t role.OpenParenthesis v es before mine ts x h k o e =
     kept-file es (Parameters (signature_of t v)) before mine ts x k e
     (refl, (o.0, x, [], o.1, h, refl, regrouped mine (map outside o.0) (outside (identifier v) ∷ []) (outside x ∷ []) o.2))
 kept-named (Some t) r v es before mine ts x h k o e =
-    kept-object r (record { scalar = t; objects = []; name = v }) es before mine ts x h k (o.0, [], o.1, inl (refl, refl), o.2) e
+    kept-object r (record { kind = Words t; objects = []; name = v }) es before mine ts x h k (o.0, [], o.1, inl (refl, refl), o.2) e
 kept-named None r v es before mine ts x h k o e = tt
 
 -- parameters so far with more tokens

@@ -23,6 +23,7 @@ abbrev pub HasRole : Role → Lexeme → Type 0
 HasRole role.Identifier x = x.kind ≡ kind.Identifier
 HasRole (role.Number t w) x = x.kind ≡ kind.Number t w
 HasRole role.Int x = IsKeyword keyword.Int x
+HasRole role.Char x = IsKeyword keyword.Char x
 HasRole (role.SignWord t) x = IsKeyword (sign_word t) x
 HasRole role.Void x = IsKeyword keyword.Void x
 HasRole role.Return x = IsKeyword keyword.Return x
@@ -53,6 +54,7 @@ HasRole role.Other x = Unit {0}
 
 keyword_has : (k : Keyword) (x : Lexeme) → x.kind ≡ kind.Keyword k → HasRole (keyword_role k) x
 keyword_has keyword.Int x h = h
+keyword_has keyword.Char x h = h
 keyword_has keyword.Signed x h = h
 keyword_has keyword.Unsigned x h = h
 keyword_has keyword.Void x h = h

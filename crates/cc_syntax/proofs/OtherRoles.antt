@@ -10,6 +10,7 @@ pub for_stepping-other : (b : Inside) (a : Beginning) (e : Option Expr) (r : Rol
 for_stepping-other b a e role.Identifier x h = refl
 for_stepping-other b a e (role.Number t n) x h = refl
 for_stepping-other b a e role.Int x h = refl
+for_stepping-other b a e role.Char x h = refl
 for_stepping-other b a e (role.SignWord t) x h = refl
 for_stepping-other b a e role.Void x h = refl
 for_stepping-other b a e role.Return x h = refl
@@ -43,6 +44,7 @@ pub else-other : (b : Inside) (e : Expr) (s : Stmt) (r : Role) (x : Name) → (r
 else-other b e s role.Identifier x h = refl
 else-other b e s (role.Number t n) x h = refl
 else-other b e s role.Int x h = refl
+else-other b e s role.Char x h = refl
 else-other b e s (role.SignWord t) x h = refl
 else-other b e s role.Void x h = refl
 else-other b e s role.Return x h = refl

@@ -11,10 +11,13 @@ use Rattle.cc_tokens.specs.declared.token.TokenKind.TheVariants as kind
 use Rattle.cc_syntax.specs.declared.parser.role.Role.{Role}
 use Rattle.cc_syntax.specs.declared.parser.role.Role.TheVariants as role
 use Rattle.cc_tokens.specs.Token.{Lexeme}
-use Rattle.cc_syntax.specs.Tree.{Name, Expr, Stmts, end, Block, ConstantExpr, Parameter, Signature, Object, Single, Array, External, Declaration, Definition, Objects}
+use Rattle.cc_syntax.specs.Tree.{Name, Expr, Stmts, end, Block, ConstantExpr, Parameter, Signature, Object, Single, Array, Bytes as ByteArray, External, Declaration, Definition, Objects}
+use Rattle.cc_syntax.specs.declared.parser.state.ObjectKind.{ObjectKind}
+use Rattle.cc_syntax.specs.declared.parser.state.ObjectKind.TheVariants.{Words, Bytes}
 use Rattle.cc_syntax.specs.internal.Roles.{role_of}
-use Rattle.cc_syntax.specs.Grammar.{Measured, outside, full, identifier, Marks, SpellsType, SpellsStatement, SpellsRow, BeginsAt, SpellsConstantExpr, SpellsOptionalConstant, IsOptionalComma, SpellsList, SpellsObject, optional_identifier, SpellsParameter, SpellsParameters, SpellsResult, SpellsSignature, AreNamed, SpellsExternal, SpellsExternals, SpellsUnit}
-use Rattle.cc_syntax.specs.internal.Parser.{State, AtFile, InBody, Inside, Item, Between, ResultSign, Typed, Named, Parameters, OnlyVoid, ParameterNext, ParameterSign, ParameterTyped, ParameterNamed, Headed, ObjectNext, ObjectNamed, Sizing, Sized, Initialising, Listing, Valuing, Listed, Naming, Context, OfObject, ToSize, ToSingle, ToValue, Waiting, full_of, close, first_step, with_object, with_parameter, signature_of, all_named, defines, end_list, role_step, role_level, name_of, count_of, start}
+use Rattle.cc_syntax.specs.Grammar.{Measured, outside, full, identifier, Marks, SpellsType, SpellsStatement, SpellsRow, BeginsAt, SpellsConstantExpr, SpellsOptionalConstant, IsOptionalComma, SpellsArray, SpellsList, optional_identifier, SpellsParameter, SpellsParameters, SpellsResult, SpellsSignature, AreNamed, SpellsExternal, SpellsExternals, SpellsUnit}
+use Rattle.cc_syntax.specs.internal.Parser.{State, AtFile, InBody, Inside, Item, Between, ResultSign, Typed, Named, Parameters, OnlyVoid, ParameterNext, ParameterSign, ParameterTyped, ParameterNamed, Headed, ObjectNext, ObjectNamed, Sizing, Sized, Initialising, Listing, Valuing, Listed, Naming, Context, OfObject, ToSize, ToSingle, ToValue, Waiting, full_of, close, first_step, array_of, scalar_of, with_object, with_parameter, signature_of, all_named, defines, end_list, role_step, role_level, name_of, count_of, start}
+use Rattle.cc_syntax.proofs.SoFarUnit.{AreWords, SpellsName}
 use Rattle.cc_syntax.proofs.ParserRuns.{Runs, token, runs-append}
 use Rattle.cc_syntax.proofs.Forms.{operand, operator, count_after}
 use Rattle.cc_syntax.proofs.Settles.{none-some}
@@ -247,38 +250,42 @@ abbrev separator : Separator → TokenKind
 separator Last = kind.Punctuator punctuator.Semicolon
 separator Further = kind.Punctuator punctuator.Comma
 
-abbrev behind : Separator → List External → Scalar → List Object → State
-behind Last es t os = AtFile (es ++ Objects t os ∷ []) Between
+abbrev behind : Separator → List External → ObjectKind → List Object → State
+behind Last es t os = AtFile (es ++ Objects (scalar_of t) os ∷ []) Between
 behind Further es t os = AtFile es (ObjectNext t os)
 
-behind-count : (z : Separator) (es : List External) (t : Scalar) (os : List Object) → 0 ≡ count_of (behind z es t os)
+behind-count : (z : Separator) (es : List External) (t : ObjectKind) (os : List Object) → 0 ≡ count_of (behind z es t os)
 behind-count Last es t os = refl
 behind-count Further es t os = refl
 
-abbrev naming : Scalar → List Object → Name → Naming
-naming t os v = record { scalar = t; objects = os; name = v }
+abbrev naming : ObjectKind → List Object → Name → Naming
+naming t os v = record { kind = t; objects = os; name = v }
+
+-- a state after the name of an object that may be a single one
+record BehindSingle (es : List External) (n : Naming) (s : State) : Type 0 where
+  sign : (v : Name) → role_step s (role.Assignment assignment.Plain) v ≡ Some (AtFile es (Initialising n))
+  ends : (z : Separator) (v : Name) → role_step s (role_of (separator z)) v ≡ Some (behind z es n.kind (with_object n (Single n.name None)))
+  sign_level : 0 ≡ role_level s (role.Assignment assignment.Plain)
+  ends_level : (z : Separator) → 0 ≡ role_level s (role_of (separator z))
 
 -- a state after the name of an object
 record BehindName (es : List External) (n : Naming) (s : State) : Type 0 where
   bracket : (v : Name) → role_step s role.OpenBracket v ≡ Some (AtFile es (Sizing n))
-  sign : (v : Name) → role_step s (role.Assignment assignment.Plain) v ≡ Some (AtFile es (Initialising n))
-  ends : (z : Separator) (v : Name) → role_step s (role_of (separator z)) v ≡ Some (behind z es n.scalar (with_object n (Single n.name None)))
   bracket_level : 0 ≡ role_level s role.OpenBracket
-  sign_level : 0 ≡ role_level s (role.Assignment assignment.Plain)
-  ends_level : (z : Separator) → 0 ≡ role_level s (role_of (separator z))
+  single : AreWords n.kind → BehindSingle es n s
 
 -- a state in which an object is named after others
-record NamesObject (es : List External) (t : Scalar) (os : List Object) (s : State) : Type 0 where
+record NamesObject (es : List External) (t : ObjectKind) (os : List Object) (s : State) : Type 0 where
   next : Name → State
   named : (v : Name) → role_step s role.Identifier v ≡ Some (next v)
   counted : (v : Name) → 0 ≡ count_of (next v)
   begun : 0 ≡ role_level s role.Identifier
   stands : (v : Name) → BehindName es (naming t os v) (next v)
 
-behind-first : (es : List External) (t : Scalar) (v : Name) → BehindName es (naming t [] v) (AtFile es (Named (Some t) v))
-behind-first es t v = record { bracket = λ x. refl; sign = λ x. refl; ends = ends; bracket_level = refl; sign_level = refl; ends_level = levels }
+behind-first : (es : List External) (t : Scalar) (v : Name) → BehindName es (naming (Words t) [] v) (AtFile es (Named (Some t) v))
+behind-first es t v = record { bracket = λ x. refl; bracket_level = refl; single = λ w. record { sign = λ x. refl; ends = ends; sign_level = refl; ends_level = levels } }
   where
-    ends : (z : Separator) (x : Name) → role_step (AtFile es (Named (Some t) v)) (role_of (separator z)) x ≡ Some (behind z es t (with_object (naming t [] v) (Single v None)))
+    ends : (z : Separator) (x : Name) → role_step (AtFile es (Named (Some t) v)) (role_of (separator z)) x ≡ Some (behind z es (Words t) (with_object (naming (Words t) [] v) (Single v None)))
     ends Last x = refl
     ends Further x = refl
 
@@ -286,21 +293,25 @@ behind-first es t v = record { bracket = λ x. refl; sign = λ x. refl; ends = e
     levels Last = refl
     levels Further = refl
 
-behind-next : (es : List External) (t : Scalar) (os : List Object) (v : Name) → BehindName es (naming t os v) (AtFile es (ObjectNamed (naming t os v)))
-behind-next es t os v = record { bracket = λ x. refl; sign = λ x. refl; ends = ends; bracket_level = refl; sign_level = refl; ends_level = levels }
+behind-single : (t : ObjectKind) (es : List External) (os : List Object) (v : Name) → AreWords t → BehindSingle es (naming t os v) (AtFile es (ObjectNamed (naming t os v)))
+behind-single Bytes es os v w = absurd w
+behind-single (Words t) es os v w = record { sign = λ x. refl; ends = ends; sign_level = refl; ends_level = levels }
   where
-    ends : (z : Separator) (x : Name) → role_step (AtFile es (ObjectNamed (naming t os v))) (role_of (separator z)) x ≡ Some (behind z es t (with_object (naming t os v) (Single v None)))
+    ends : (z : Separator) (x : Name) → role_step (AtFile es (ObjectNamed (naming (Words t) os v))) (role_of (separator z)) x ≡ Some (behind z es (Words t) (with_object (naming (Words t) os v) (Single v None)))
     ends Last x = refl
     ends Further x = refl
 
-    levels : (z : Separator) → 0 ≡ role_level (AtFile es (ObjectNamed (naming t os v))) (role_of (separator z))
+    levels : (z : Separator) → 0 ≡ role_level (AtFile es (ObjectNamed (naming (Words t) os v))) (role_of (separator z))
     levels Last = refl
     levels Further = refl
 
-names-first : (es : List External) (t : Scalar) (s : State) → FirstName es (Some t) s → NamesObject es t [] s
+behind-next : (es : List External) (t : ObjectKind) (os : List Object) (v : Name) → BehindName es (naming t os v) (AtFile es (ObjectNamed (naming t os v)))
+behind-next es t os v = record { bracket = λ x. refl; bracket_level = refl; single = behind-single t es os v }
+
+names-first : (es : List External) (t : Scalar) (s : State) → FirstName es (Some t) s → NamesObject es (Words t) [] s
 names-first es t s first = record { next = λ v. AtFile es (Named (Some t) v); named = λ v. first.named v; counted = λ v. refl; begun = first.begun; stands = λ v. behind-first es t v }
 
-names-next : (es : List External) (t : Scalar) (os : List Object) → NamesObject es t os (AtFile es (ObjectNext t os))
+names-next : (es : List External) (t : ObjectKind) (os : List Object) → NamesObject es t os (AtFile es (ObjectNext t os))
 names-next es t os = record { next = λ v. AtFile es (ObjectNamed (naming t os v)); named = λ v. refl; counted = λ v. refl; begun = refl; stands = λ v. behind-next es t os v }
 
 sizing-acts : (r : Role) (es : List External) (n : Naming) (at : ℕ) (v : Name) (z : State) → v.at ≡ at → first_step (OfObject es n (ToSize at)) r v ≡ Some z → role_step (AtFile es (Sizing n)) r v ≡ Some z
@@ -318,33 +329,33 @@ read_size None ts x es n rest m h k on =
 read_size (Some e) ts x es n rest m h k on =
     read_constant e ts (AtFile es (Sizing n)) (OfObject es n (ToSize e.at)) x (kind.Punctuator punctuator.CloseBracket) rest (AtFile es (Sized n (Some e))) m h (λ r v z a g. sizing-acts r es n e.at v z a g) (λ r v z g. refl) k (λ f z. refl) (λ j. refl) refl on
 
-end_list-some : (es : List External) (n : Naming) (size : Option ConstantExpr) (vs : List ConstantExpr) (v : ConstantExpr) → end_list es n size (vs ++ v ∷ []) ≡ Some (AtFile es (Listed n.scalar (with_object n (Array n.name size (vs ++ v ∷ [])))))
+end_list-some : (es : List External) (n : Naming) (size : Option ConstantExpr) (vs : List ConstantExpr) (v : ConstantExpr) → end_list es n size (vs ++ v ∷ []) ≡ Some (AtFile es (Listed n.kind (with_object n (array_of n.kind n.name size (vs ++ v ∷ [])))))
 end_list-some es n size [] v = refl
 end_list-some es n size (w ∷ vs) v = refl
 
 -- the values of a list, a comma or none, and the closing brace
-read_values : (vs : List ConstantExpr) (ts : List Measured) (comma : List Lexeme) (x : Lexeme) (es : List External) (n : Naming) (size : Option ConstantExpr) (done : List ConstantExpr) (rest : List Measured) (m : State) → SpellsRow SpellsConstantExpr ts vs → IsOptionalComma comma → Marks punctuator.CloseBrace x → Runs (AtFile es (Listed n.scalar (with_object n (Array n.name size (done ++ vs))))) rest m → Runs (AtFile es (Valuing n size done)) (ts ++ (map outside comma ++ outside x ∷ rest)) m
+read_values : (vs : List ConstantExpr) (ts : List Measured) (comma : List Lexeme) (x : Lexeme) (es : List External) (n : Naming) (size : Option ConstantExpr) (done : List ConstantExpr) (rest : List Measured) (m : State) → SpellsRow SpellsConstantExpr ts vs → IsOptionalComma comma → Marks punctuator.CloseBrace x → Runs (AtFile es (Listed n.kind (with_object n (array_of n.kind n.name size (done ++ vs))))) rest m → Runs (AtFile es (Valuing n size done)) (ts ++ (map outside comma ++ outside x ∷ rest)) m
 read_values [] ts comma x es n size done rest m h i k on = absurd h
 read_values (v ∷ []) ts comma x es n size done rest m h (inl i) k on =
     subst (λ (z : List Lexeme). Runs (AtFile es (Valuing n size done)) (ts ++ (map outside z ++ outside x ∷ rest)) m) (sym i)
-    (read_constant v ts (AtFile es (Valuing n size done)) (OfObject es n (ToValue size done v.at)) x (kind.Punctuator punctuator.CloseBrace) rest (AtFile es (Listed n.scalar (with_object n (Array n.name size (done ++ v ∷ []))))) m h (λ r u z a g. valuing-acts r es n size done v.at u z a g) (λ r u z g. refl) k (λ f z. refl) (λ j. refl) refl on)
+    (read_constant v ts (AtFile es (Valuing n size done)) (OfObject es n (ToValue size done v.at)) x (kind.Punctuator punctuator.CloseBrace) rest (AtFile es (Listed n.kind (with_object n (array_of n.kind n.name size (done ++ v ∷ []))))) m h (λ r u z a g. valuing-acts r es n size done v.at u z a g) (λ r u z g. refl) k (λ f z. refl) (λ j. refl) refl on)
 read_values (v ∷ []) ts comma x es n size done rest m h (inr i) k on =
     let middle = AtFile es (Valuing n size (done ++ v ∷ [])) in
     let last : Runs middle (outside x ∷ rest) m =
-    token middle (AtFile es (Listed n.scalar (with_object n (Array n.name size (done ++ v ∷ []))))) m x (kind.Punctuator punctuator.CloseBrace) 0 0 rest k (end_list-some es n size done v) refl refl on in
+    token middle (AtFile es (Listed n.kind (with_object n (array_of n.kind n.name size (done ++ v ∷ []))))) m x (kind.Punctuator punctuator.CloseBrace) 0 0 rest k (end_list-some es n size done v) refl refl on in
     subst (λ (z : List Lexeme). Runs (AtFile es (Valuing n size done)) (ts ++ (map outside z ++ outside x ∷ rest)) m) (sym i.2)
     (read_constant v ts (AtFile es (Valuing n size done)) (OfObject es n (ToValue size done v.at)) i.0 (kind.Punctuator punctuator.Comma) (outside x ∷ rest) middle m h (λ r u z a g. valuing-acts r es n size done v.at u z a g) (λ r u z g. refl) i.1 (λ f z. refl) (λ j. refl) refl last)
 read_values (v ∷ w ∷ vs) ts comma x es n size done rest m h i k on =
     let middle = AtFile es (Valuing n size (done ++ v ∷ [])) in
     let tail = map outside comma ++ outside x ∷ rest in
-    let on' : Runs (AtFile es (Listed n.scalar (with_object n (Array n.name size ((done ++ v ∷ []) ++ w ∷ vs))))) rest m =
-    subst (λ (z : List ConstantExpr). Runs (AtFile es (Listed n.scalar (with_object n (Array n.name size z)))) rest m) (sym (append_assoc done (v ∷ []) (w ∷ vs))) on in
+    let on' : Runs (AtFile es (Listed n.kind (with_object n (array_of n.kind n.name size ((done ++ v ∷ []) ++ w ∷ vs))))) rest m =
+    subst (λ (z : List ConstantExpr). Runs (AtFile es (Listed n.kind (with_object n (array_of n.kind n.name size z)))) rest m) (sym (append_assoc done (v ∷ []) (w ∷ vs))) on in
     let others : Runs middle (h.2 ++ tail) m = read_values (w ∷ vs) h.2 comma x es n size (done ++ v ∷ []) rest m h.5 i k on' in
     let first : Runs (AtFile es (Valuing n size done)) (h.1 ++ outside h.0 ∷ (h.2 ++ tail)) m =
     read_constant v h.1 (AtFile es (Valuing n size done)) (OfObject es n (ToValue size done v.at)) h.0 (kind.Punctuator punctuator.Comma) (h.2 ++ tail) middle m h.4 (λ r u z a g. valuing-acts r es n size done v.at u z a g) (λ r u z g. refl) h.3 (λ f z. refl) (λ j. refl) refl others in
     subst (λ (z : List Measured). Runs (AtFile es (Valuing n size done)) z m) (sym (append_assoc h.1 (outside h.0 ∷ h.2) tail) ∙ ap (λ (z : List Measured). z ++ tail) (sym h.6)) first
 
-sized-ends : (z : Separator) (es : List External) (n : Naming) (size : Option ConstantExpr) (v : Name) → role_step (AtFile es (Sized n size)) (role_of (separator z)) v ≡ Some (behind z es n.scalar (with_object n (Array n.name size [])))
+sized-ends : (z : Separator) (es : List External) (n : Naming) (size : Option ConstantExpr) (v : Name) → role_step (AtFile es (Sized n size)) (role_of (separator z)) v ≡ Some (behind z es n.kind (with_object n (array_of n.kind n.name size [])))
 sized-ends Last es n size v = refl
 sized-ends Further es n size v = refl
 
@@ -352,24 +363,24 @@ sized-level : (z : Separator) (es : List External) (n : Naming) (size : Option C
 sized-level Last es n size = refl
 sized-level Further es n size = refl
 
-listed-ends : (z : Separator) (es : List External) (t : Scalar) (os : List Object) (v : Name) → role_step (AtFile es (Listed t os)) (role_of (separator z)) v ≡ Some (behind z es t os)
+listed-ends : (z : Separator) (es : List External) (t : ObjectKind) (os : List Object) (v : Name) → role_step (AtFile es (Listed t os)) (role_of (separator z)) v ≡ Some (behind z es t os)
 listed-ends Last es t os v = refl
 listed-ends Further es t os v = refl
 
-listed-level : (z : Separator) (es : List External) (t : Scalar) (os : List Object) → 0 ≡ role_level (AtFile es (Listed t os)) (role_of (separator z))
+listed-level : (z : Separator) (es : List External) (t : ObjectKind) (os : List Object) → 0 ≡ role_level (AtFile es (Listed t os)) (role_of (separator z))
 listed-level Last es t os = refl
 listed-level Further es t os = refl
 
-read_list : (vs : List ConstantExpr) (ts : List Measured) (z : Separator) (x : Lexeme) (es : List External) (n : Naming) (size : Option ConstantExpr) → SpellsList ts vs → x.kind ≡ separator z → Runs (AtFile es (Sized n size)) (ts ++ outside x ∷ []) (behind z es n.scalar (with_object n (Array n.name size vs)))
+read_list : (vs : List ConstantExpr) (ts : List Measured) (z : Separator) (x : Lexeme) (es : List External) (n : Naming) (size : Option ConstantExpr) → SpellsList ts vs → x.kind ≡ separator z → Runs (AtFile es (Sized n size)) (ts ++ outside x ∷ []) (behind z es n.kind (with_object n (array_of n.kind n.name size vs)))
 read_list [] ts z x es n size h k =
-    let m = behind z es n.scalar (with_object n (Array n.name size [])) in
+    let m = behind z es n.kind (with_object n (array_of n.kind n.name size [])) in
     subst (λ (ps : List Measured). Runs (AtFile es (Sized n size)) (ps ++ outside x ∷ []) m) (sym h)
-    (token (AtFile es (Sized n size)) m m x (separator z) 0 0 [] k (sized-ends z es n size (name_of x)) (behind-count z es n.scalar (with_object n (Array n.name size []))) (sized-level z es n size) refl)
+    (token (AtFile es (Sized n size)) m m x (separator z) 0 0 [] k (sized-ends z es n size (name_of x)) (behind-count z es n.kind (with_object n (array_of n.kind n.name size []))) (sized-level z es n size) refl)
 read_list (v ∷ vs) ts z x es n size h k =
-    let os = with_object n (Array n.name size (v ∷ vs)) in
-    let m = behind z es n.scalar os in
-    let listed : Runs (AtFile es (Listed n.scalar os)) (outside x ∷ []) m =
-    token (AtFile es (Listed n.scalar os)) m m x (separator z) 0 0 [] k (listed-ends z es n.scalar os (name_of x)) (behind-count z es n.scalar os) (listed-level z es n.scalar os) refl in
+    let os = with_object n (array_of n.kind n.name size (v ∷ vs)) in
+    let m = behind z es n.kind os in
+    let listed : Runs (AtFile es (Listed n.kind os)) (outside x ∷ []) m =
+    token (AtFile es (Listed n.kind os)) m m x (separator z) 0 0 [] k (listed-ends z es n.kind os (name_of x)) (behind-count z es n.kind os) (listed-level z es n.kind os) refl in
     let values : Runs (AtFile es (Valuing n size [])) (h.3 ++ (map outside h.4 ++ outside h.2 ∷ outside x ∷ [])) m = read_values (v ∷ vs) h.3 h.4 h.2 es n size [] (outside x ∷ []) m h.8 h.9 h.7 listed in
     let grouped : (h.3 ++ (map outside h.4 ++ outside h.2 ∷ [])) ++ outside x ∷ [] ≡ h.3 ++ (map outside h.4 ++ outside h.2 ∷ outside x ∷ []) =
     append_assoc h.3 (map outside h.4 ++ outside h.2 ∷ []) (outside x ∷ []) ∙ ap (λ (ps : List Measured). h.3 ++ ps) (append_assoc (map outside h.4) (outside h.2 ∷ []) (outside x ∷ [])) in
@@ -379,7 +390,7 @@ read_list (v ∷ vs) ts z x es n size h k =
     (token (AtFile es (Sized n size)) (AtFile es (Listing n size)) m h.0 (kind.Punctuator punctuator.Assign) 0 0 (outside h.1 ∷ (h.3 ++ (map outside h.4 ++ outside h.2 ∷ [])) ++ outside x ∷ []) h.5 refl refl refl
     (token (AtFile es (Listing n size)) (AtFile es (Valuing n size [])) m h.1 (kind.Punctuator punctuator.OpenBrace) 0 0 ((h.3 ++ (map outside h.4 ++ outside h.2 ∷ [])) ++ outside x ∷ []) h.6 refl refl refl tail))
 
-single-ends : (z : Separator) (es : List External) (n : Naming) (c : ConstantExpr) (j : ℕ) → close (full_of (OfObject es n (ToSingle c.at)) [] j) (role_of (separator z)) (c.expr, []) ≡ Some (behind z es n.scalar (with_object n (Single n.name (Some c))))
+single-ends : (z : Separator) (es : List External) (n : Naming) (c : ConstantExpr) (j : ℕ) → close (full_of (OfObject es n (ToSingle c.at)) [] j) (role_of (separator z)) (c.expr, []) ≡ Some (behind z es n.kind (with_object n (Single n.name (Some c))))
 single-ends Last es n c j = refl
 single-ends Further es n c j = refl
 
@@ -387,25 +398,12 @@ separator-closes : (z : Separator) → Closes (separator z)
 separator-closes Last f e = refl
 separator-closes Further f e = refl
 
-read_object : (o : Object) (ts : List Measured) (z : Separator) (x : Lexeme) (es : List External) (t : Scalar) (os : List Object) (s : State) → NamesObject es t os s → SpellsObject ts o → x.kind ≡ separator z → Runs s (ts ++ outside x ∷ []) (behind z es t (os ++ o ∷ []))
-read_object (Single v None) ts z x es t os s names h k =
-    let m = behind z es t (os ++ Single v None ∷ []) in
-    let n = names.stands v in
-    subst (λ (ps : List Measured). Runs s (ps ++ outside x ∷ []) m) (sym h)
-    (token s (names.next v) m (identifier v) kind.Identifier 0 0 (outside x ∷ []) refl (names.named v) (names.counted v) names.begun
-    (token (names.next v) m m x (separator z) 0 0 [] k (n.ends z (name_of x)) (behind-count z es t (os ++ Single v None ∷ [])) (n.ends_level z) refl))
-read_object (Single v (Some c)) ts z x es t os s names h k =
+-- the name of an array, its length and its list
+read_array : (v : Name) (size : Option ConstantExpr) (values : List ConstantExpr) (ts : List Measured) (z : Separator) (x : Lexeme) (es : List External) (t : ObjectKind) (os : List Object) (s : State) → NamesObject es t os s → SpellsArray ts v size values → x.kind ≡ separator z
+    → Runs s (ts ++ outside x ∷ []) (behind z es t (os ++ array_of t v size values ∷ []))
+read_array v size values ts z x es t os s names h k =
     let n = naming t os v in
-    let m = behind z es t (os ++ Single v (Some c) ∷ []) in
-    let i = names.stands v in
-    let value : Runs (AtFile es (Initialising n)) (h.1 ++ outside x ∷ []) m =
-    read_constant c h.1 (AtFile es (Initialising n)) (OfObject es n (ToSingle c.at)) x (separator z) [] m m h.3 (λ r u y a g. ap (λ (b : ℕ). first_step (OfObject es n (ToSingle b)) r u) a ∙ g) (λ r u y g. refl) k (separator-closes z) (λ j. single-ends z es n c j) (behind-count z es t (os ++ Single v (Some c) ∷ [])) refl in
-    subst (λ (ps : List Measured). Runs s (ps ++ outside x ∷ []) m) (sym h.4)
-    (token s (names.next v) m (identifier v) kind.Identifier 0 0 (outside h.0 ∷ h.1 ++ outside x ∷ []) refl (names.named v) (names.counted v) names.begun
-    (token (names.next v) (AtFile es (Initialising n)) m h.0 (kind.Punctuator punctuator.Assign) 0 0 (h.1 ++ outside x ∷ []) h.2 (i.sign (name_of h.0)) refl i.sign_level value))
-read_object (Array v size values) ts z x es t os s names h k =
-    let n = naming t os v in
-    let m = behind z es t (os ++ Array v size values ∷ []) in
+    let m = behind z es t (os ++ array_of t v size values ∷ []) in
     let i = names.stands v in
     let list = read_list values h.3 z x es n size h.7 k in
     let sized : Runs (AtFile es (Sizing n)) (h.2 ++ outside h.1 ∷ (h.3 ++ outside x ∷ [])) m = read_size size h.2 h.1 es n (h.3 ++ outside x ∷ []) m h.6 h.5 list in
@@ -415,16 +413,38 @@ read_object (Array v size values) ts z x es t os s names h k =
     (token s (names.next v) m (identifier v) kind.Identifier 0 0 (outside h.0 ∷ (h.2 ++ outside h.1 ∷ h.3) ++ outside x ∷ []) refl (names.named v) (names.counted v) names.begun
     (token (names.next v) (AtFile es (Sizing n)) m h.0 (kind.Punctuator punctuator.OpenBracket) 0 0 ((h.2 ++ outside h.1 ∷ h.3) ++ outside x ∷ []) h.4 (i.bracket (name_of h.0)) refl i.bracket_level tail))
 
-read_objects : (others : List Object) (ts : List Measured) (x : Lexeme) (es : List External) (t : Scalar) (os : List Object) (s : State) → NamesObject es t os s → SpellsRow SpellsObject ts others → Marks punctuator.Semicolon x → Runs s (ts ++ outside x ∷ []) (AtFile (es ++ Objects t (os ++ others) ∷ []) Between)
+read_object : (t : ObjectKind) (o : Object) (ts : List Measured) (z : Separator) (x : Lexeme) (es : List External) (os : List Object) (s : State) → NamesObject es t os s → SpellsName t ts o → x.kind ≡ separator z → Runs s (ts ++ outside x ∷ []) (behind z es t (os ++ o ∷ []))
+read_object (Words t) (Single v None) ts z x es os s names h k =
+    let m = behind z es (Words t) (os ++ Single v None ∷ []) in
+    let i = (names.stands v).single tt in
+    subst (λ (ps : List Measured). Runs s (ps ++ outside x ∷ []) m) (sym h)
+    (token s (names.next v) m (identifier v) kind.Identifier 0 0 (outside x ∷ []) refl (names.named v) (names.counted v) names.begun
+    (token (names.next v) m m x (separator z) 0 0 [] k (i.ends z (name_of x)) (behind-count z es (Words t) (os ++ Single v None ∷ [])) (i.ends_level z) refl))
+read_object (Words t) (Single v (Some c)) ts z x es os s names h k =
+    let n = naming (Words t) os v in
+    let m = behind z es (Words t) (os ++ Single v (Some c) ∷ []) in
+    let i = (names.stands v).single tt in
+    let value : Runs (AtFile es (Initialising n)) (h.1 ++ outside x ∷ []) m =
+    read_constant c h.1 (AtFile es (Initialising n)) (OfObject es n (ToSingle c.at)) x (separator z) [] m m h.3 (λ r u y a g. ap (λ (b : ℕ). first_step (OfObject es n (ToSingle b)) r u) a ∙ g) (λ r u y g. refl) k (separator-closes z) (λ j. single-ends z es n c j) (behind-count z es (Words t) (os ++ Single v (Some c) ∷ [])) refl in
+    subst (λ (ps : List Measured). Runs s (ps ++ outside x ∷ []) m) (sym h.4)
+    (token s (names.next v) m (identifier v) kind.Identifier 0 0 (outside h.0 ∷ h.1 ++ outside x ∷ []) refl (names.named v) (names.counted v) names.begun
+    (token (names.next v) (AtFile es (Initialising n)) m h.0 (kind.Punctuator punctuator.Assign) 0 0 (h.1 ++ outside x ∷ []) h.2 (i.sign (name_of h.0)) refl i.sign_level value))
+read_object (Words t) (Array v size values) ts z x es os s names h k = read_array v size values ts z x es (Words t) os s names h k
+read_object (Words t) (ByteArray v size values) ts z x es os s names h k = absurd h
+read_object Bytes (Single v e) ts z x es os s names h k = absurd h
+read_object Bytes (Array v size values) ts z x es os s names h k = absurd h
+read_object Bytes (ByteArray v size values) ts z x es os s names h k = read_array v size values ts z x es Bytes os s names h k
+
+read_objects : (others : List Object) (ts : List Measured) (x : Lexeme) (es : List External) (t : ObjectKind) (os : List Object) (s : State) → NamesObject es t os s → SpellsRow (SpellsName t) ts others → Marks punctuator.Semicolon x → Runs s (ts ++ outside x ∷ []) (AtFile (es ++ Objects (scalar_of t) (os ++ others) ∷ []) Between)
 read_objects [] ts x es t os s names h k = absurd h
-read_objects (o ∷ []) ts x es t os s names h k = read_object o ts Last x es t os s names h k
+read_objects (o ∷ []) ts x es t os s names h k = read_object t o ts Last x es os s names h k
 read_objects (o ∷ p ∷ ps) ts x es t os s names h k =
     let middle = AtFile es (ObjectNext t (os ++ o ∷ [])) in
-    let m = AtFile (es ++ Objects t (os ++ o ∷ p ∷ ps) ∷ []) Between in
-    let first = read_object o h.1 Further h.0 es t os s names h.4 h.3 in
+    let m = AtFile (es ++ Objects (scalar_of t) (os ++ o ∷ p ∷ ps) ∷ []) Between in
+    let first = read_object t o h.1 Further h.0 es os s names h.4 h.3 in
     let rest = read_objects (p ∷ ps) h.2 x es t (os ++ o ∷ []) middle (names-next es t (os ++ o ∷ [])) h.5 k in
     let joined : Runs middle (h.2 ++ outside x ∷ []) m =
-    subst (λ (z : List Object). Runs middle (h.2 ++ outside x ∷ []) (AtFile (es ++ Objects t z ∷ []) Between)) (append_assoc os (o ∷ []) (p ∷ ps)) rest in
+    subst (λ (z : List Object). Runs middle (h.2 ++ outside x ∷ []) (AtFile (es ++ Objects (scalar_of t) z ∷ []) Between)) (append_assoc os (o ∷ []) (p ∷ ps)) rest in
     let runs = runs-append s middle m (h.1 ++ outside h.0 ∷ []) (h.2 ++ outside x ∷ []) first joined in
     subst (λ (z : List Measured). Runs s z m) (regroup h.1 (outside h.0) h.2 (outside x) ∙ ap (λ (z : List Measured). z ++ outside x ∷ []) (sym h.6)) runs
   where
@@ -443,10 +463,20 @@ read_external (Definition f body) ts es h =
     let m = AtFile (es ++ Definition f body ∷ []) Between in
     subst (λ (z : List Measured). Runs (AtFile es Between) z m) (sym h.5)
     (runs-append (AtFile es Between) (AtFile es (Headed f)) m h.0 h.1 (read_signature f h.0 es h.2) (read_body body h.1 es f h.3 h.4))
-read_external (Objects t os) ts es h =
+read_external (Objects t os) ts es (inl h) =
     let m = AtFile (es ++ Objects t os ∷ []) Between in
     subst (λ (z : List Measured). Runs (AtFile es Between) z m) (sym h.6)
-    (read_first_type t h.0 es (h.1 ++ outside h.2 ∷ []) m h.3 (λ a first. read_objects os h.1 h.2 es t [] a (names-first es t a first) h.4 h.5))
+    (read_first_type t h.0 es (h.1 ++ outside h.2 ∷ []) m h.3 (λ a first. read_objects os h.1 h.2 es (Words t) [] a (names-first es t a first) h.4 h.5))
+read_external (Objects t os) ts es (inr (e, h)) =
+    let m = AtFile (es ++ Objects scalar.Unsigned os ∷ []) Between in
+    let w = h.3 in
+    let rest = h.1 ++ outside h.2 ∷ [] in
+    let read : Runs (AtFile es Between) ts m =
+    subst (λ (z : List Measured). Runs (AtFile es Between) z m) (sym (h.6 ∙ ap (λ (z : List Lexeme). map outside z ++ rest) w.4))
+    (token (AtFile es Between) (AtFile es (ResultSign scalar.Unsigned)) m w.0 (kind.Keyword keyword.Unsigned) 0 0 (outside w.1 ∷ rest) w.2 refl refl refl
+    (token (AtFile es (ResultSign scalar.Unsigned)) (AtFile es (ObjectNext Bytes [])) m w.1 (kind.Keyword keyword.Char) 0 0 rest w.3 refl refl refl
+    (read_objects os h.1 h.2 es Bytes [] (AtFile es (ObjectNext Bytes [])) (names-next es Bytes []) h.4 h.5))) in
+    subst (λ (u : Scalar). Runs (AtFile es Between) ts (AtFile (es ++ Objects u os ∷ []) Between)) (sym e) read
 
 read_externals : (us : List External) (ts : List Measured) (es : List External) → SpellsExternals ts us → Runs (AtFile es Between) ts (AtFile (es ++ us) Between)
 read_externals [] ts es h =

@@ -1,11 +1,12 @@
 -- What the tokens before a state spell: at file scope, in a body, in a full expression.
 use Rattle.std.proofs.Common.{◌≡◌, ℕ, List, [], ◌∷◌, ◌++◌, map, Option, IfSome}
-use Rattle.cc_tokens.specs.declared.scalar.Scalar.{Scalar}
 use Rattle.cc_tokens.specs.declared.token.Keyword.TheVariants as keyword
 use Rattle.cc_tokens.specs.declared.token.Punctuator.TheVariants as punctuator
 use Rattle.cc_tokens.specs.Token.{Lexeme}
-use Rattle.cc_syntax.specs.Tree.{Signature, External}
-use Rattle.cc_syntax.specs.Grammar.{Measured, outside, full, identifier, Marks, IsKeyword, sign_word, SpellsType, SpellsRow, BeginsAt, SpellsConstantExpr, SpellsOptionalConstant, SpellsObject, SpellsParameter, SpellsResult, SpellsSignature, SpellsExternals}
+use Rattle.cc_syntax.specs.declared.parser.state.ObjectKind.{ObjectKind}
+use Rattle.cc_syntax.specs.declared.parser.state.ObjectKind.TheVariants.{Words, Bytes}
+use Rattle.cc_syntax.specs.Tree.{Object, Signature, External}
+use Rattle.cc_syntax.specs.Grammar.{Measured, outside, full, identifier, Marks, IsKeyword, sign_word, SpellsType, SpellsRow, BeginsAt, SpellsConstantExpr, SpellsOptionalConstant, SpellsObject, SpellsByteArray, SpellsUnsignedChar, SpellsParameter, SpellsResult, SpellsSignature, SpellsExternals}
 use Rattle.cc_syntax.specs.internal.Parser.{State, AtFile, InBody, InFull, Outer, Between, ResultSign, Typed, Named, Parameters, OnlyVoid, ParameterNext, ParameterSign, ParameterTyped, ParameterNamed, Headed, ObjectNext, ObjectNamed, Sizing, Sized, Initialising, Listing, Valuing, Listed, Phase, Context, OfBody, OfObject, Part, ToSize, ToSingle, ToValue, Naming, Waiting, count_of}
 use Rattle.cc_syntax.proofs.Forms.{count_after}
 use Rattle.cc_syntax.proofs.SoFarBody.{RowSoFar, BodySoFar, PurposeSoFar, leads, spot_of}
@@ -18,13 +19,26 @@ ParametersSoFar f Row behind mine =
     (type : List Lexeme) × (opening : Lexeme) × (row : List Measured) × SpellsResult type f.result × Marks punctuator.OpenParenthesis opening × Row row
     × (mine ≡ map outside type ++ (outside (identifier f.name) ∷ outside opening ∷ row ++ behind))
 
+-- what stands before the names of objects with such elements, and one name
+abbrev pub SpellsKind : ObjectKind → List Lexeme → Type 0
+SpellsKind (Words t) ts = SpellsType ts t
+SpellsKind Bytes ts = SpellsUnsignedChar ts
+
+abbrev pub SpellsName : ObjectKind → List Measured → Object → Type 0
+SpellsName (Words t) = SpellsObject
+SpellsName Bytes = SpellsByteArray
+
+abbrev pub AreWords : ObjectKind → Type 0
+AreWords (Words t) = Unit {0}
+AreWords Bytes = ⊥
+
 -- the type of a declaration of objects, the objects so far, and what stands after them
-abbrev pub ObjectsSoFar : Scalar → (List Measured → Type 0) → List Measured → List Measured → Type 0
+abbrev pub ObjectsSoFar : ObjectKind → (List Measured → Type 0) → List Measured → List Measured → Type 0
 ObjectsSoFar t Row behind mine =
-    (type : List Lexeme) × (row : List Measured) × SpellsType type t × Row row × (mine ≡ map outside type ++ (row ++ behind))
+    (type : List Lexeme) × (row : List Measured) × SpellsKind t type × Row row × (mine ≡ map outside type ++ (row ++ behind))
 
 abbrev pub NamingSoFar : Naming → List Measured → List Measured → Type 0
-NamingSoFar n behind mine = ObjectsSoFar n.scalar (λ row. RowSoFar SpellsObject row n.objects) (outside (identifier n.name) ∷ behind) mine
+NamingSoFar n behind mine = ObjectsSoFar n.kind (λ row. RowSoFar (SpellsName n.kind) row n.objects) (outside (identifier n.name) ∷ behind) mine
 
 -- an external declaration that has begun
 abbrev pub OuterSoFar : Outer → List Measured → Type 0
@@ -39,13 +53,13 @@ OuterSoFar (ParameterSign f t) mine = (word : Lexeme) × IsKeyword (sign_word t)
 OuterSoFar (ParameterTyped f t) mine = (words : List Lexeme) × SpellsType words t × ParametersSoFar f (λ row. RowSoFar SpellsParameter row f.parameters) (map outside words) mine
 OuterSoFar (ParameterNamed f) mine = ParametersSoFar f (λ row. SpellsRow SpellsParameter row f.parameters) [] mine
 OuterSoFar (Headed f) mine = SpellsSignature mine f
-OuterSoFar (ObjectNext t os) mine = ObjectsSoFar t (λ row. RowSoFar SpellsObject row os) [] mine
+OuterSoFar (ObjectNext t os) mine = ObjectsSoFar t (λ row. RowSoFar (SpellsName t) row os) [] mine
 OuterSoFar (ObjectNamed n) mine = NamingSoFar n [] mine
 OuterSoFar (Sizing n) mine = (opening : Lexeme) × Marks punctuator.OpenBracket opening × NamingSoFar n (outside opening ∷ []) mine
 OuterSoFar (Sized n size) mine =
     (opening closing : Lexeme) × (inner : List Measured) × Marks punctuator.OpenBracket opening × Marks punctuator.CloseBracket closing
     × SpellsOptionalConstant inner size × NamingSoFar n (outside opening ∷ inner ++ outside closing ∷ []) mine
-OuterSoFar (Initialising n) mine = (sign : Lexeme) × Marks punctuator.Assign sign × NamingSoFar n (outside sign ∷ []) mine
+OuterSoFar (Initialising n) mine = (sign : Lexeme) × Marks punctuator.Assign sign × NamingSoFar n (outside sign ∷ []) mine × AreWords n.kind
 OuterSoFar (Listing n size) mine =
     (opening closing sign : Lexeme) × (inner : List Measured) × Marks punctuator.OpenBracket opening × Marks punctuator.CloseBracket closing
     × SpellsOptionalConstant inner size × Marks punctuator.Assign sign × NamingSoFar n (outside opening ∷ inner ++ outside closing ∷ outside sign ∷ []) mine
@@ -53,7 +67,7 @@ OuterSoFar (Valuing n size vs) mine =
     (opening closing sign brace : Lexeme) × (inner row : List Measured) × Marks punctuator.OpenBracket opening × Marks punctuator.CloseBracket closing
     × SpellsOptionalConstant inner size × Marks punctuator.Assign sign × Marks punctuator.OpenBrace brace × RowSoFar SpellsConstantExpr row vs
     × NamingSoFar n (outside opening ∷ inner ++ (outside closing ∷ outside sign ∷ outside brace ∷ row)) mine
-OuterSoFar (Listed t os) mine = ObjectsSoFar t (λ row. SpellsRow SpellsObject row os) [] mine
+OuterSoFar (Listed t os) mine = ObjectsSoFar t (λ row. SpellsRow (SpellsName t) row os) [] mine
 
 -- an external declaration after those that are complete
 abbrev pub AtFileSoFar : List External → Outer → List Measured → Type 0

@@ -127,6 +127,7 @@ signature_tree s = record { result = s.result; name = name_tree s.name; paramete
 abbrev pub object_tree : Object → tree.Object
 object_tree (objects.Single x e) = tree.Single (name_tree x) (optional_constant e)
 object_tree (objects.Array x n es) = tree.Array (name_tree x) (optional_constant n) (constant_trees es.items)
+object_tree (objects.Bytes x n es) = tree.Bytes (name_tree x) (optional_constant n) (constant_trees es.items)
 
 -- the trees of the names of a declaration of objects
 abbrev pub object_trees : List Object → List tree.Object

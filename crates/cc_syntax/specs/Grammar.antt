@@ -16,7 +16,7 @@ use Rattle.cc_tokens.specs.declared.token.Punctuator.{Punctuator}
 use Rattle.cc_tokens.specs.declared.token.Punctuator.TheVariants as punctuator
 use Rattle.cc_tokens.specs.declared.token.TokenKind.TheVariants as kind
 use Rattle.cc_tokens.specs.Token.{Lexeme}
-use Rattle.cc_syntax.specs.Tree.{Name, Expr, Number, Variable, Element, Call, Parenthesised, Unary, Cast, Binary, Conditional, Exprs, none, more, Target, AtVariable, AtElement, Action, Assign, Step, Evaluate, Declarator, Beginning, Declares, Performs, Stmt, Block, Local, Perform, Return, Break, Continue, If, IfElse, While, DoWhile, For, Stmts, end, next, ConstantExpr, Parameter, Signature, Object, Single, Array, External, Declaration, Definition, Objects}
+use Rattle.cc_syntax.specs.Tree.{Name, Expr, Number, Variable, Element, Call, Parenthesised, Unary, Cast, Binary, Conditional, Exprs, none, more, Target, AtVariable, AtElement, Action, Assign, Step, Evaluate, Declarator, Beginning, Declares, Performs, Stmt, Block, Local, Perform, Return, Break, Continue, If, IfElse, While, DoWhile, For, Stmts, end, next, ConstantExpr, Parameter, Signature, Object, Single, Array, Bytes, External, Declaration, Definition, Objects}
 
 -- the punctuator of a unary operator (C99 6.5.3)
 abbrev pub unary_punctuator : UnaryOperator → Punctuator
@@ -324,16 +324,37 @@ SpellsList ts (v ∷ vs) =
     × Marks punctuator.OpenBrace opening × Marks punctuator.CloseBrace closing × SpellsRow SpellsConstantExpr row (v ∷ vs)
     × IsOptionalComma comma × (ts ≡ outside sign ∷ outside opening ∷ row ++ (map outside comma ++ outside closing ∷ []))
 
--- one name of a declaration of objects (C99 6.7, 6.7.5.2)
+-- the name of an array, its length and its list (C99 6.7.5.2, 6.7.8)
+abbrev pub SpellsArray : List Measured → Name → Option ConstantExpr → List ConstantExpr → Type 0
+SpellsArray ts n size values =
+    (opening closing : Lexeme) × (inner list : List Measured) × Marks punctuator.OpenBracket opening × Marks punctuator.CloseBracket closing
+    × SpellsOptionalConstant inner size × SpellsList list values
+    × (ts ≡ outside (identifier n) ∷ outside opening ∷ inner ++ outside closing ∷ list)
+
+-- one name of a declaration of objects of a type (C99 6.7)
 abbrev pub SpellsObject : List Measured → Object → Type 0
 SpellsObject ts (Single n None) = ts ≡ outside (identifier n) ∷ []
 SpellsObject ts (Single n (Some c)) =
     (sign : Lexeme) × (right : List Measured) × Marks punctuator.Assign sign × SpellsConstantExpr right c
     × (ts ≡ outside (identifier n) ∷ outside sign ∷ right)
-SpellsObject ts (Array n size values) =
-    (opening closing : Lexeme) × (inner list : List Measured) × Marks punctuator.OpenBracket opening × Marks punctuator.CloseBracket closing
-    × SpellsOptionalConstant inner size × SpellsList list values
-    × (ts ≡ outside (identifier n) ∷ outside opening ∷ inner ++ outside closing ∷ list)
+SpellsObject ts (Array n size values) = SpellsArray ts n size values
+SpellsObject ts (Bytes n size values) = ⊥
+
+-- one name of a declaration of arrays of `unsigned char`
+abbrev pub SpellsByteArray : List Measured → Object → Type 0
+SpellsByteArray ts (Single n e) = ⊥
+SpellsByteArray ts (Array n size values) = ⊥
+SpellsByteArray ts (Bytes n size values) = SpellsArray ts n size values
+
+-- `unsigned char`
+abbrev pub SpellsUnsignedChar : List Lexeme → Type 0
+SpellsUnsignedChar ts = (sign word : Lexeme) × IsKeyword keyword.Unsigned sign × IsKeyword keyword.Char word × (ts ≡ sign ∷ word ∷ [])
+
+-- a declaration of objects: what stands before their names, the names, a semicolon
+abbrev pub SpellsObjects : (List Lexeme → Type 0) → (List Measured → Object → Type 0) → List Measured → List Object → Type 0
+SpellsObjects Front Each ts os =
+    (type : List Lexeme) × (row : List Measured) × (semicolon : Lexeme) × Front type × SpellsRow Each row os
+    × Marks punctuator.Semicolon semicolon × (ts ≡ map outside type ++ (row ++ outside semicolon ∷ []))
 
 -- the token of a name that may be left out
 abbrev pub optional_identifier : Option Name → List Lexeme
@@ -376,8 +397,7 @@ SpellsExternal ts (Definition f body) =
     (head block : List Measured) × SpellsSignature head f × AreNamed f.parameters × SpellsStatement 1 block (Block body)
     × (ts ≡ head ++ block)
 SpellsExternal ts (Objects t os) =
-    (type : List Lexeme) × (row : List Measured) × (semicolon : Lexeme) × SpellsType type t × SpellsRow SpellsObject row os
-    × Marks punctuator.Semicolon semicolon × (ts ≡ map outside type ++ (row ++ outside semicolon ∷ []))
+    SpellsObjects (λ type. SpellsType type t) SpellsObject ts os ⊎ ((t ≡ scalar.Unsigned) × SpellsObjects SpellsUnsignedChar SpellsByteArray ts os)
 
 -- external declarations, one after the other
 abbrev pub SpellsExternals : List Measured → List External → Type 0

@@ -86,12 +86,14 @@ pub record Signature : Type 0 where
   pub parameters : List Parameter
 
 -- one name of a declaration of objects at file scope: a single object and its initialiser, or an array, its length where
--- it is given, and the values of its list, none where it has no list (C99 6.7, 6.9.2)
+-- it is given, and the values of its list, none where it has no list (C99 6.7, 6.9.2); or such an array of `unsigned char`
 pub data Object : Type 0 where
   Single : Name → Option ConstantExpr → Object
   Array : Name → Option ConstantExpr → List ConstantExpr → Object
+  Bytes : Name → Option ConstantExpr → List ConstantExpr → Object
 
--- an external declaration: of a function, its definition, or a declaration of objects of one type (C99 6.9)
+-- an external declaration: of a function, its definition, or a declaration of objects of one type (C99 6.9), which is unsigned where they
+-- are arrays of `unsigned char`
 pub data External : Type 0 where
   Declaration : Signature → External
   Definition : Signature → Stmts → External

@@ -165,6 +165,8 @@ pub enum Object {
     Single(Identifier, Option<ConstantExpression>),
     /// An array: its length where it is given, and the values of its list, none where it has no list.
     Array(Identifier, Option<ConstantExpression>, Vec<ConstantExpression>),
+    /// An array of `unsigned char`.
+    Bytes(Identifier, Option<ConstantExpression>, Vec<ConstantExpression>),
 }
 
 /// An external declaration (C99 6.9).
@@ -174,6 +176,6 @@ pub enum External {
     Declaration(Signature),
     /// The definition of a function, and the statements of its body.
     Definition(Signature, Vec<Statement>),
-    /// The declaration of objects of one type.
+    /// The declaration of objects of one type: `Unsigned` where they are arrays of `unsigned char`.
     Objects(Scalar, Vec<Object>),
 }

@@ -1,14 +1,14 @@
 -- The walk over file scope.
-use Rattle.std.proofs.Common.{◌≡◌, ℕ, Bool, true, false, ◌||◌, List, [], ◌∷◌, ◌++◌, length, Option, Some, None, refl, sym, ap, ◌∙◌}
+use Rattle.std.proofs.Common.{◌≡◌, ℕ, Bool, true, false, List, [], ◌∷◌, ◌++◌, length, Option, Some, None, refl, sym, ap, ◌∙◌}
 use Rattle.std.specs.Prelude.{not, is_some}
 use Rattle.cc_tokens.specs.declared.scalar.Scalar.{Scalar}
 use Rattle.cc_syntax.specs.Tree as tree
-use Rattle.cc_syntax.specs.Tree.{Parameter, Signature, Object, Single, Array, External, Declaration, Definition, Objects, Stmts, ConstantExpr}
+use Rattle.cc_syntax.specs.Tree.{Parameter, Signature, Object, Single, Array, Bytes, External, Declaration, Definition, Objects, Stmts, ConstantExpr}
 use Rattle.cc_typing.specs.Bindings.{closed, file_level, file_of, file_with}
 use Rattle.cc_typing.specs.internal.Counts.{defined_in}
 use Rattle.cc_typing.specs.internal.Findings.{Found, after, with_before, is_bad_length}
 use Rattle.cc_typing.specs.Scope.{Elements, Binding, Visible, in_scope, is_declared, FileScope, has_name, with_declared, with_function, with_object, with_objects, parameter_declared, parameters_declared, body_scope, file_scope_behind}
-use Rattle.cc_typing.specs.Rules.{Around, broken_if, optional_constant_offences, constants_offences, length_offences, object_offences, objects_offences, parameter_offences, parameters_offences, signature_offences, external_offences, externals_offences, statements_offences, called_in_constants, called_in_optional_constant, called_in_object, called_in_objects, called_in_external, called, called_in_statements}
+use Rattle.cc_typing.specs.Rules.{Around, broken_if, optional_constant_offences, constants_offences, length_offences, named_array_offences, object_offences, objects_offences, parameter_offences, parameters_offences, signature_offences, external_offences, externals_offences, statements_offences, called_in_constants, called_in_optional_constant, called_in_object, called_in_objects, called_in_external, called, called_in_statements}
 use Rattle.cc_typing.specs.declared.rule.Offence.{Offence}
 use Rattle.cc_typing.specs.declared.rule.Rule.TheVariants.{Redeclared, WrongCount}
 use Rattle.cc_typing.specs.Entities.{optional_entity}
@@ -37,6 +37,7 @@ pub record Objecting (t : Scalar) (v0 : Visible) (f0 : Found) (all : List Object
 with_object-file : (t : Scalar) (o : Object) (g : FileScope) → with_object t o g ≡ record { bindings = (with_object t o g).bindings; defined = g.defined }
 with_object-file t (Single x initial) g = refl
 with_object-file t (Array x n values) g = refl
+with_object-file t (Bytes x n values) g = refl
 
 pub Objecting-next : (t : Scalar) (v0 : Visible) (f0 : Found) (all : List Object) (v : Visible) (f : Found) (o : Object) (rest : List Object) (v' : Visible) (f' : Found)
     → Objecting t v0 f0 all v f (o ∷ rest) → v' ≡ file_level (with_object t o (file_of v)).bindings → f' ≡ after f (object_offences t o (file_of v)) (called_in_object o)
@@ -82,6 +83,7 @@ parameters_declared-outer (p ∷ ps) v = parameters_declared-outer ps (parameter
 with_object-same : (t : Scalar) (o : Object) (g h : FileScope) → g.bindings ≡ h.bindings → (with_object t o g).bindings ≡ (with_object t o h).bindings
 with_object-same t (Single x initial) g h e = ap (λ bs. (with_object t (Single x initial) (record { bindings = bs; defined = [] })).bindings) e
 with_object-same t (Array x n values) g h e = ap (λ bs. (with_object t (Array x n values) (record { bindings = bs; defined = [] })).bindings) e
+with_object-same t (Bytes x n values) g h e = ap (λ bs. (with_object t (Bytes x n values) (record { bindings = bs; defined = [] })).bindings) e
 
 pub with_objects-same : (t : Scalar) (os : List Object) (g h : FileScope) → g.bindings ≡ h.bindings → (with_objects t os g).bindings ≡ (with_objects t os h).bindings
 with_objects-same t [] g h e = e
@@ -90,6 +92,7 @@ with_objects-same t (o ∷ os) g h e = with_objects-same t os (with_object t o g
 with_object-defined : (t : Scalar) (o : Object) (g : FileScope) → (with_object t o g).defined ≡ g.defined
 with_object-defined t (Single x initial) g = refl
 with_object-defined t (Array x n values) g = refl
+with_object-defined t (Bytes x n values) g = refl
 
 pub with_objects-defined : (t : Scalar) (os : List Object) (g : FileScope) → (with_objects t os g).defined ≡ g.defined
 with_objects-defined t [] g = refl
@@ -98,6 +101,7 @@ with_objects-defined t (o ∷ os) g = with_objects-defined t os (with_object t o
 object_offences-same : (t : Scalar) (o : Object) (g h : FileScope) → g.bindings ≡ h.bindings → object_offences t o g ≡ object_offences t o h
 object_offences-same t (Single x initial) g h e = ap (λ bs. object_offences t (Single x initial) (record { bindings = bs; defined = [] })) e
 object_offences-same t (Array x n values) g h e = ap (λ bs. object_offences t (Array x n values) (record { bindings = bs; defined = [] })) e
+object_offences-same t (Bytes x n values) g h e = ap (λ bs. object_offences t (Bytes x n values) (record { bindings = bs; defined = [] })) e
 
 pub objects_offences-same : (t : Scalar) (os : List Object) (g h : FileScope) → g.bindings ≡ h.bindings → objects_offences t os g ≡ objects_offences t os h
 objects_offences-same t [] g h e = refl
@@ -196,24 +200,23 @@ four : (f g h k m : Found) (xs ys zs ws os : List Offence) (cs ds es gs all : Li
 four f g h k m xs ys zs ws os cs ds es gs all eg eh ek em eo ee =
     two f g m xs (ys ++ (zs ++ ws)) os cs (ds ++ (es ++ gs)) all eg (three g h k m ys zs ws (ys ++ (zs ++ ws)) ds es gs (ds ++ (es ++ gs)) eh ek em refl refl) eo ee
 
-pub array-found : (v w : Visible) (t : Scalar) (f g h k m : Found) (x : tree.Name) (n : Option ConstantExpr) (values : List ConstantExpr) (o : Object) (again bad : Bool)
-    → v.inner ≡ [] → o ≡ Array x n values → again ≡ is_declared (in_scope v) x.text → bad ≡ is_bad_length (array_length n values) (length values)
+pub array-found : (v w : Visible) (t : Scalar) (f g h k m : Found) (x : tree.Name) (n : Option ConstantExpr) (values : List ConstantExpr) (again bad : Bool)
+    → v.inner ≡ [] → again ≡ is_declared (in_scope v) x.text → bad ≡ is_bad_length (array_length n values) (length values)
     → w ≡ file_level (with_declared x.text (Elements t) (file_of v)).bindings
     → g ≡ after f (broken_if again Redeclared x.at) [] → h ≡ after g (optional_constant_offences (in_scope v) n) (called_in_optional_constant n)
     → k ≡ after h (broken_if bad WrongCount x.at) [] → m ≡ after k (constants_offences (in_scope w) values) (called_in_constants values)
-    → m ≡ after f (object_offences t o (file_of v)) (called_in_object o)
-array-found v w t f g h k m x n values o again bad none is ea eb ew eg eh ek em =
+    → m ≡ after f (named_array_offences t x n values (file_of v)) (called_in_optional_constant n ++ called_in_constants values)
+array-found v w t f g h k m x n values again bad none ea eb ew eg eh ek em =
     let there : List Binding = (with_declared x.text (Elements t) (file_of v)).bindings in
     let outside : in_scope v ≡ v.outer = in_scope-file v none in
     four f g h k m (broken_if again Redeclared x.at) (optional_constant_offences (in_scope v) n) (broken_if bad WrongCount x.at) (constants_offences (in_scope w) values) _
     [] (called_in_optional_constant n) [] (called_in_constants values) _ eg eh ek em
-    (ap (λ y. object_offences t y (file_of v)) is
-    ∙ ap (λ l. broken_if (is_declared v.outer x.text) Redeclared x.at ++ (optional_constant_offences v.outer n ++ (l ++ constants_offences there values))) (length-is (array_length n values) (length values) x.at)
+    (ap (λ l. broken_if (is_declared v.outer x.text) Redeclared x.at ++ (optional_constant_offences v.outer n ++ (l ++ constants_offences there values))) (length-is (array_length n values) (length values) x.at)
     ∙ ap (λ b. broken_if (is_declared v.outer x.text) Redeclared x.at ++ (optional_constant_offences v.outer n ++ (broken_if b WrongCount x.at ++ constants_offences there values))) (sym eb)
     ∙ ap (λ (u : Visible). broken_if (is_declared v.outer x.text) Redeclared x.at ++ (optional_constant_offences v.outer n ++ (broken_if bad WrongCount x.at ++ constants_offences (in_scope u) values))) (sym ew)
     ∙ ap (λ bs. broken_if (is_declared bs x.text) Redeclared x.at ++ (optional_constant_offences bs n ++ (broken_if bad WrongCount x.at ++ constants_offences (in_scope w) values))) (sym outside)
     ∙ ap (λ b. broken_if b Redeclared x.at ++ (optional_constant_offences (in_scope v) n ++ (broken_if bad WrongCount x.at ++ constants_offences (in_scope w) values))) (sym ea))
-    (ap called_in_object is)
+    refl
 
 pub is_some-entity : (e : Option code.Entity) → is_some e ≡ is_some (optional_entity e)
 is_some-entity None = refl

@@ -1,13 +1,12 @@
 -- The table of names: what a binding hides comes back when the binding goes.
-use Rattle.std.proofs.Common.{◌≡◌, ℕ, suc, ◌+◌, ◌<◌, ◌≤◌, Bool, true, false, cond, List, [], ◌∷◌, ◌++◌, length, map, reverse, get_or, Option, Some, None, IfSome, Result, Ok, Err, OnOk, OnErr, refl, sym, ap, subst, ◌∙◌, nat_eq, arith}
+use Rattle.std.proofs.Common.{◌≡◌, ℕ, suc, ◌+◌, ◌<◌, Bool, true, false, cond, List, [], ◌∷◌, ◌++◌, length, map, reverse, get_or, Option, Some, None, IfSome, Result, Ok, Err, OnOk, OnErr, refl, sym, ap, subst, ◌∙◌, nat_eq, arith}
 use Rattle.std.specs.Cmp.Lexicographic.{bytes_decides, nat_list_eq_equiv}
 use Rattle.std.proofs.lemmas.List.{reverse-append, reverse-reverse, length-append, length-reverse, get_or_append_left}
 use Rattle.std.proofs.Math.Seq.{get_or-append_seam}
-use Rattle.std.proofs.lemmas.Bool.Decides.{nat_tests}
 use Rattle.indexmap.specs.IndexMap.{IndexMap, get, Updates}
 use Rattle.cc_typing.specs.Scope as scope
 use Rattle.cc_typing.specs.Names.{same_name}
-use Rattle.cc_typing.specs.Numberings.{AreNumbers, IsNumbered, number_of_name, at_number}
+use Rattle.cc_typing.specs.Numberings.{IsNumbered, number_of_name, at_number}
 use Rattle.cc_typing.specs.Entities.{entity_of}
 use Rattle.cc_typing.specs.Bindings.{binding_of, bindings_of, AreHidden, IsTable, number_in, number_of, entity_found}
 use Rattle.cc_typing.specs.declared.bindings.Binding.{Binding}

@@ -1,6 +1,6 @@
 -- The limits that a unit may pass, each at the name that passes it.
 use Rattle.std.specs.Prelude.{ℕ, ◌+◌, List, [], ◌∷◌, ◌++◌, length, take, drop, map, if◌then◌else◌, nat_lt}
-use Rattle.cc_syntax.specs.Tree.{Name, Declarator, Beginning, Declares, Performs, Stmt, Stmts, end, next, Block, Local, Perform, Return, Break, Continue, If, IfElse, While, DoWhile, For, Signature, Object, Single, Array, External, Declaration, Definition, Objects}
+use Rattle.cc_syntax.specs.Tree.{Name, Declarator, Beginning, Declares, Performs, Stmt, Stmts, end, next, Block, Local, Perform, Return, Break, Continue, If, IfElse, While, DoWhile, For, Signature, Object, Single, Array, Bytes, External, Declaration, Definition, Objects}
 use Rattle.cc_typing.specs.Types.{object_words}
 use Rattle.cc_typing.specs.declared.rule.Offence.{Offence}
 use Rattle.cc_typing.specs.declared.rule.Rule.TheVariants.{TooMany}
@@ -79,6 +79,7 @@ objects (Objects t os ∷ rest) = os ++ objects rest
 abbrev pub object_name : Object → Name
 object_name (Single x initial) = x
 object_name (Array x n values) = x
+object_name (Bytes x n values) = x
 
 -- the object that passes the limit on words, where so many are taken before
 abbrev pub word_excesses : ℕ → List Object → List Offence

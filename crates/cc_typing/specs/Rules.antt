@@ -5,9 +5,9 @@ use Rattle.std.specs.Prelude.{ℕ, ◌+◌, Bool, true, false, ◌==◌, ◌||�
 use Rattle.cc_tokens.specs.declared.scalar.Scalar.{Scalar}
 use Rattle.cc_tokens.specs.declared.scalar.Scalar.TheVariants.{Int}
 use Rattle.cc_syntax.specs.Tree as tree
-use Rattle.cc_syntax.specs.Tree.{Name, Expr, Exprs, none, more, Number, Element, Call, Parenthesised, Unary, Cast, Binary, Conditional, Target, AtVariable, AtElement, Action, Assign, Step, Evaluate, Declarator, Beginning, Declares, Performs, Stmt, Stmts, end, next, Block, Local, Perform, Return, Break, Continue, If, IfElse, While, DoWhile, For, ConstantExpr, Parameter, Signature, Object, Single, Array, External, Declaration, Definition, Objects}
+use Rattle.cc_syntax.specs.Tree.{Name, Expr, Exprs, none, more, Number, Element, Call, Parenthesised, Unary, Cast, Binary, Conditional, Target, AtVariable, AtElement, Action, Assign, Step, Evaluate, Declarator, Beginning, Declares, Performs, Stmt, Stmts, end, next, Block, Local, Perform, Return, Break, Continue, If, IfElse, While, DoWhile, For, ConstantExpr, Parameter, Signature, Object, Single, Array, Bytes, External, Declaration, Definition, Objects}
 use Rattle.cc_typing.specs.Names.{same_name}
-use Rattle.cc_typing.specs.Scope.{Entity, Variable, Elements, Function, Binding, found, is_declared, Visible, in_scope, opened, declared, scope_behind, scope_behind_beginning, parameter_declared, FileScope, has_name, first_file_scope, with_function, with_object, file_scope_behind, file_scope_behind_all, function_entity, body_scope, same_entity, same_result}
+use Rattle.cc_typing.specs.Scope.{Entity, Variable, Elements, Function, Binding, found, is_declared, Visible, in_scope, opened, declared, scope_behind, scope_behind_beginning, parameter_declared, FileScope, has_name, first_file_scope, with_function, with_declared, with_object, file_scope_behind, file_scope_behind_all, function_entity, body_scope, same_entity, same_result}
 use Rattle.cc_typing.specs.Types.{result_type, constant_word, array_length}
 use Rattle.cc_typing.specs.declared.rule.Offence.{Offence}
 use Rattle.cc_typing.specs.declared.rule.Rule.{Rule}
@@ -175,17 +175,21 @@ abbrev pub length_offences : Option ℕ → ℕ → ℕ → List Offence
 length_offences None given at = []
 length_offences (Some n) given at = broken_if (n == 0 || nat_lt n given) WrongCount at
 
--- one name of a declaration of objects, which file scope has not yet. An array's length stands before its name is in
--- scope, and the values of its list after that (6.2.1)
+-- an array, which file scope has not yet. Its length stands before its name is in scope, and the values of its list after that (6.2.1)
+abbrev pub named_array_offences : Scalar → Name → Option ConstantExpr → List ConstantExpr → FileScope → List Offence
+named_array_offences t x n values f =
+    broken_if (is_declared f.bindings x.text) Redeclared x.at
+    ++ (optional_constant_offences f.bindings n
+    ++ (length_offences (array_length n values) (length values) x.at
+    ++ constants_offences (with_declared x.text (Elements t) f).bindings values))
+
+-- one name of a declaration of objects
 abbrev pub object_offences : Scalar → Object → FileScope → List Offence
 object_offences t (Single x initial) f =
     broken_if (is_declared f.bindings x.text) Redeclared x.at
     ++ optional_constant_offences (with_object t (Single x initial) f).bindings initial
-object_offences t (Array x n values) f =
-    broken_if (is_declared f.bindings x.text) Redeclared x.at
-    ++ (optional_constant_offences f.bindings n
-    ++ (length_offences (array_length n values) (length values) x.at
-    ++ constants_offences (with_object t (Array x n values) f).bindings values))
+object_offences t (Array x n values) f = named_array_offences t x n values f
+object_offences t (Bytes x n values) f = named_array_offences Int x n values f
 
 abbrev pub objects_offences : Scalar → List Object → FileScope → List Offence
 objects_offences t [] f = []
@@ -315,6 +319,7 @@ called_in_constants (c ∷ rest) = called_in_constant c ++ called_in_constants r
 abbrev pub called_in_object : Object → List Name
 called_in_object (Single x initial) = called_in_optional_constant initial
 called_in_object (Array x n values) = called_in_optional_constant n ++ called_in_constants values
+called_in_object (Bytes x n values) = called_in_optional_constant n ++ called_in_constants values
 
 abbrev pub called_in_objects : List Object → List Name
 called_in_objects [] = []

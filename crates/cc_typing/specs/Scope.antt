@@ -2,7 +2,7 @@
 use Rattle.std.specs.Prelude.{ℕ, Bool, true, false, ◌&&◌, ◌||◌, List, [], ◌∷◌, ◌++◌, map, Option, Some, None, if◌then◌else◌, is_some, codes}
 use Rattle.cc_tokens.specs.declared.scalar.Scalar.{Scalar}
 use Rattle.cc_tokens.specs.declared.scalar.Scalar.TheVariants.{Int, Unsigned}
-use Rattle.cc_syntax.specs.Tree.{Name, Declarator, Beginning, Declares, Performs, Stmt, Local, Parameter, Signature, Object, Single, Array, External, Declaration, Definition, Objects}
+use Rattle.cc_syntax.specs.Tree.{Name, Declarator, Beginning, Declares, Performs, Stmt, Local, Parameter, Signature, Object, Single, Array, Bytes, External, Declaration, Definition, Objects}
 use Rattle.cc_typing.specs.Names.{same_name}
 
 -- what a name stands for: an object of one value (a variable, a parameter, a local), an array of elements of one type, or
@@ -102,6 +102,8 @@ with_function s f = with_declared s.name.text (function_entity s) f
 abbrev pub with_object : Scalar → Object → FileScope → FileScope
 with_object t (Single x initial) f = with_declared x.text (Variable t) f
 with_object t (Array x n values) f = with_declared x.text (Elements t) f
+-- an element of `unsigned char` that is read is an `int` (6.3.1.1)
+with_object t (Bytes x n values) f = with_declared x.text (Elements Int) f
 
 abbrev pub with_objects : Scalar → List Object → FileScope → FileScope
 with_objects t [] f = f

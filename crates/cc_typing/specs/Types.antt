@@ -1,10 +1,13 @@
 -- The type of an expression (C99 6.5), and the value of a constant expression (C99 6.6).
-use Rattle.std.specs.Prelude.{ℕ, Bool, true, false, ◌&&◌, ◌-◌, List, [], ◌∷◌, ◌++◌, length, map, replicate, Option, Some, None, if◌then◌else◌, option_map, unwrap_or}
+use Rattle.std.specs.Prelude.{ℕ, Bool, true, false, ◌&&◌, ◌-◌, ◌%◌, ◌^◌, List, [], ◌∷◌, ◌++◌, length, map, replicate, Option, Some, None, if◌then◌else◌, option_map, unwrap_or}
 use Rattle.cc_words.specs.Words.{lt_s}
+use Rattle.cc_words.specs.Widths.{words_of}
+use Rattle.cc_words.specs.declared.operators.Width.{Width}
+use Rattle.cc_words.specs.declared.operators.Width.TheVariants.{Byte, Word}
 use Rattle.cc_tokens.specs.declared.scalar.Scalar.{Scalar}
 use Rattle.cc_tokens.specs.declared.scalar.Scalar.TheVariants.{Int, Unsigned}
 use Rattle.cc_syntax.specs.Tree as tree
-use Rattle.cc_syntax.specs.Tree.{Name, Expr, Exprs, none, more, Number, Element, Call, Parenthesised, Unary, Cast, Binary, Conditional, Target, AtVariable, AtElement, ConstantExpr, Object, Single, Array}
+use Rattle.cc_syntax.specs.Tree.{Name, Expr, Exprs, none, more, Number, Element, Call, Parenthesised, Unary, Cast, Binary, Conditional, Target, AtVariable, AtElement, ConstantExpr, Object, Single, Array, Bytes}
 use Rattle.cc_typing.specs.Operators.{common_type, working_type, binary_type, unary_type, unary_word, binary_word, decided, is_true}
 use Rattle.cc_typing.specs.Scope.{Entity, Variable, Elements, Function, Binding, found}
 
@@ -97,10 +100,25 @@ abbrev pub array_length : Option ConstantExpr → List ConstantExpr → Option �
 array_length None values = Some (length values)
 array_length (Some c) values = option_map (elements_of_word (value_type [] c.expr)) (constant_word c)
 
--- how many words an object takes; none where its length is not known
+-- the same, and none where that is not known
+abbrev pub array_elements : Option ConstantExpr → List ConstantExpr → ℕ
+array_elements n values = unwrap_or (array_length n values) 0
+
+-- how many elements an object has, where a single object is one
+abbrev pub object_elements : Object → ℕ
+object_elements (Single x initial) = 1
+object_elements (Array x n values) = array_elements n values
+object_elements (Bytes x n values) = array_elements n values
+
+-- how wide they are
+abbrev pub object_width : Object → Width
+object_width (Single x initial) = Word
+object_width (Array x n values) = Word
+object_width (Bytes x n values) = Byte
+
+-- how many words it takes: four bytes are one, and the last one is filled up
 abbrev pub object_words : Object → ℕ
-object_words (Single x initial) = 1
-object_words (Array x n values) = elim (array_length n values) [ None ↦ 0 | Some k ↦ k ]
+object_words o = words_of (object_width o) (object_elements o)
 
 -- ---- objects before the run
 
@@ -109,8 +127,12 @@ abbrev pub initial_word : Option ConstantExpr → ℕ
 initial_word None = 0
 initial_word (Some c) = unwrap_or (constant_word c) 0
 
--- the words of an object: those of its list, and 0 for each element that the list does not reach (6.7.8)
+-- 0 for each element that an array's list does not reach (6.7.8)
+abbrev pub zeros_behind : Option ConstantExpr → List ConstantExpr → List ℕ
+zeros_behind n values = replicate (array_elements n values - length values) 0
+
+-- the words of an object's elements: a byte keeps the low eight bits (6.3.1.3)
 abbrev pub initial_words : Object → List ℕ
 initial_words (Single x e) = initial_word e ∷ []
-initial_words (Array x n values) =
-    map (λ (c : ConstantExpr). initial_word (Some c)) values ++ replicate (unwrap_or (array_length n values) 0 - length values) 0
+initial_words (Array x n values) = map (λ (c : ConstantExpr). initial_word (Some c)) values ++ zeros_behind n values
+initial_words (Bytes x n values) = map (λ (c : ConstantExpr). initial_word (Some c) % 2 ^ 8) values ++ zeros_behind n values

@@ -1,12 +1,12 @@
 // The rules of file scope (C99 6.2.1, 6.6, 6.7, 6.9).
 
-ghost use Rattle.std.specs.Prelude.{◌≡◌, [], length, option_map, OnOk};
-ghost use Rattle.cc_syntax.specs.Erase.{constant_tree, optional_constant, constant_trees, object_tree, object_trees, parameter_tree, parameter_trees, signature_tree, external_tree, external_trees};
+ghost use Rattle.std.specs.Prelude.{◌≡◌, ◌++◌, ℕ, List, [], length, option_map, OnOk};
+ghost use Rattle.cc_syntax.specs.Erase.{name_tree, constant_tree, optional_constant, constant_trees, object_tree, object_trees, parameter_tree, parameter_trees, signature_tree, external_tree, external_trees};
 ghost use Rattle.cc_typing.specs.Bindings.{file_level, file_of, file_with};
 ghost use Rattle.cc_typing.specs.internal.Counts.{defined_in};
 ghost use Rattle.cc_typing.specs.internal.Findings.{after, noted, is_bad_length, with_before};
-ghost use Rattle.cc_typing.specs.Rules.{constant_offences, optional_constant_offences, constants_offences, object_offences, objects_offences, parameter_offences, parameters_offences, signature_offences, external_offences, externals_offences, called_in_constant, called_in_optional_constant, called_in_constants, called_in_object, called_in_objects, called_in_external, called, undefined_among};
-ghost use Rattle.cc_typing.specs.Scope.{in_scope, with_object, with_objects, parameter_declared, parameters_declared, body_scope, file_scope_behind};
+ghost use Rattle.cc_typing.specs.Rules.{constant_offences, optional_constant_offences, constants_offences, named_array_offences, object_offences, objects_offences, parameter_offences, parameters_offences, signature_offences, external_offences, externals_offences, called_in_constant, called_in_optional_constant, called_in_constants, called_in_object, called_in_objects, called_in_external, called, undefined_among};
+ghost use Rattle.cc_typing.specs.Scope.{Elements, in_scope, has_name, with_declared, with_object, with_objects, parameter_declared, parameters_declared, body_scope, file_scope_behind};
 
 use super::around::Surroundings;
 use super::constants::{array_length, constant_word};
@@ -16,7 +16,7 @@ use super::findings::Findings;
 use super::rule::Rule;
 use super::scope::Scope;
 use super::statements::all_statements;
-use cc_syntax::{ConstantExpression, External, Object, Parameter, Scalar, Signature};
+use cc_syntax::{ConstantExpression, External, Identifier, Object, Parameter, Scalar, Signature};
 use std::alloc::AllocError;
 
 // A constant expression.
@@ -73,16 +73,42 @@ fn object<'a>(
             optional_constant(scope, findings, initial);
         }
         Object::Array(name, length, values) => {
-            let bytes = name.bytes.as_slice();
-            let values = values.as_slice();
-            findings.note_if(scope.find(bytes).is_some(), Rule::Redeclared, name.at);
-            optional_constant(scope, findings, length);
-            let wrong = is_bad_length(array_length(length, values), values.len());
-            findings.note_if(wrong, Rule::WrongCount, name.at);
-            scope.declare_in_file(bytes, Entity::Elements(scalar))?;
-            constants(scope, findings, values);
+            array(scope, findings, scalar, name, length, values.as_slice())?;
+        }
+        Object::Bytes(name, length, values) => {
+            array(
+                scope,
+                findings,
+                Scalar::Int,
+                name,
+                length,
+                values.as_slice(),
+            )?;
         }
     }
+    Ok(())
+}
+
+// An array: its name, its length, and its list.
+fn array<'a>(
+    scope: &mut Scope<'a>,
+    findings: &mut Findings,
+    scalar: Scalar,
+    name: &'a Identifier,
+    length: &'a Option<ConstantExpression>,
+    values: &'a [ConstantExpression],
+) -> Result<(), AllocError>
+    requires { scope.old.inner ≡ [] }
+    ensures scope { OnOk result (scope.new ≡ file_level (with_declared (name_tree name.now).text (Elements scalar) (file_of scope.old)).bindings) }
+    ensures found { OnOk result (findings.new ≡ after findings.old (named_array_offences scalar (name_tree name.now) (optional_constant length.now) (constant_trees values.now) (file_of scope.old)) (called_in_optional_constant (optional_constant length.now) ++ called_in_constants (constant_trees values.now))) }
+{
+    let bytes = name.bytes.as_slice();
+    findings.note_if(scope.find(bytes).is_some(), Rule::Redeclared, name.at);
+    optional_constant(scope, findings, length);
+    let wrong = is_bad_length(array_length(length, values), values.len());
+    findings.note_if(wrong, Rule::WrongCount, name.at);
+    scope.declare_in_file(bytes, Entity::Elements(scalar))?;
+    constants(scope, findings, values);
     Ok(())
 }
 

@@ -33,7 +33,8 @@ pub use constants::{array_length, constant_word};
 pub use entity::Entity;
 pub use fault::TypeFault;
 pub use limits::{
-    MOST_FUNCTIONS, MOST_LOCALS, MOST_PARAMETERS, MOST_WORDS, local_count, object_words,
+    MOST_FUNCTIONS, MOST_LOCALS, MOST_PARAMETERS, MOST_WORDS, local_count, object_elements,
+    object_words,
 };
 pub use numbering::Numbering;
 pub use operators::{

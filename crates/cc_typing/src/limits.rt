@@ -1,16 +1,18 @@
 // The limits: parameters of a function, locals of a function, functions, and words of all objects.
 
 ghost use Rattle.std.specs.Prelude.{◌≡◌, ◌≤◌, [], ◌∷◌, None, length, IfOk};
-ghost use Rattle.cc_syntax.specs.Erase.{name_tree, declarator_trees, beginning_tree, statement_tree, statements_of, object_tree, object_trees, signature_tree, external_tree, external_trees};
+ghost use Rattle.cc_syntax.specs.Erase.{name_tree, optional_constant, constant_trees, declarator_trees, beginning_tree, statement_tree, statements_of, object_tree, object_trees, signature_tree, external_tree, external_trees};
 ghost use Rattle.cc_typing.specs.internal.Counts.{count_after, defines, excess_of, objects_in, word_count, with_words, words_after};
 ghost use Rattle.cc_typing.specs.internal.Findings.{noted};
 ghost use Rattle.cc_typing.specs.Limits.{most_functions, too_many, declared_names, beginning_names, locals_of, locals, function_names, objects, object_name, parameter_excesses, external_excesses, externals_excesses, excesses};
-ghost use Rattle.cc_typing.specs.Types.{object_words};
+ghost use Rattle.cc_typing.specs.Types.{array_elements, object_elements, object_words};
 
 use super::constants::array_length;
 use super::findings::earlier;
 use super::rule::{Offence, Rule};
-use cc_syntax::{Beginning, Declarator, External, Identifier, Object, Signature, Statement};
+use cc_syntax::{
+    Beginning, ConstantExpression, Declarator, External, Identifier, Object, Signature, Statement,
+};
 use std::alloc::AllocError;
 
 /// The most parameters of a function.
@@ -148,18 +150,39 @@ struct Words {
     past: Option<usize>,
 }
 
+/// How many elements an object has, where a single object is one; none where its length is not known.
+pub fn object_elements(object: &Object) -> usize
+    ensures { result ≡ object_elements (object_tree object.now) }
+{
+    match object {
+        Object::Single(_, _) => 1,
+        Object::Array(_, length, values) | Object::Bytes(_, length, values) => {
+            array_elements(length, values.as_slice())
+        }
+    }
+}
+
 /// How many words an object takes; none where its length is not known.
 pub fn object_words(object: &Object) -> usize
     ensures { result ≡ object_words (object_tree object.now) }
 {
     match object {
         Object::Single(_, _) => 1,
-        Object::Array(_, length, values) => {
-            match array_length(length, values.as_slice()) {
-                None => 0,
-                Some(count) => count,
-            }
+        Object::Array(_, length, values) => array_elements(length, values.as_slice()),
+        Object::Bytes(_, length, values) => {
+            let count = array_elements(length, values.as_slice());
+            count / 4 + usize::from(count % 4 != 0)
         }
+    }
+}
+
+// How many elements an array has; none where that is not known.
+fn array_elements(length: &Option<ConstantExpression>, values: &[ConstantExpression]) -> usize
+    ensures { result ≡ array_elements (optional_constant length.now) (constant_trees values.now) }
+{
+    match array_length(length, values) {
+        None => 0,
+        Some(count) => count,
     }
 }
 
@@ -167,7 +190,7 @@ fn object_place(object: &Object) -> usize
     ensures { result ≡ (object_name (object_tree object.now)).at }
 {
     match object {
-        Object::Single(name, _) | Object::Array(name, _, _) => name.at,
+        Object::Single(name, _) | Object::Array(name, _, _) | Object::Bytes(name, _, _) => name.at,
     }
 }
 

@@ -51,9 +51,44 @@ impl Source {
     }
 }
 
-/// A certificate of a unit. There is none yet.
+/// The certificate of a unit: any bytes, as many as memory holds. A clause sees their list.
+///
+/// Nothing here says what they spell: the store keeps them, and does not look at them.
 #[derive(Drop)]
-pub enum Certificate {}
+pub struct Certificate {
+    bytes: Vec<u8>,
+}
+
+impl Model for Certificate {
+    ghost use Rattle.std.specs.Prelude.{ℕ, List};
+
+    ghost Value = { List ℕ };
+
+    ghost view = { λ c. c.bytes.items };
+}
+
+impl Certificate {
+    /// The certificate of these bytes. It takes no memory.
+    pub fn new(bytes: Vec<u8>) -> Certificate
+        ensures { result ≡ bytes.items }
+    {
+        Certificate { bytes }
+    }
+
+    /// The bytes.
+    pub fn bytes(&self) -> &[u8]
+        ensures { result.now ≡ self.now }
+    {
+        self.bytes.as_slice()
+    }
+
+    /// The bytes, given up. It takes no memory.
+    pub fn into_bytes(self) -> Vec<u8>
+        ensures { result.items ≡ self }
+    {
+        self.bytes
+    }
+}
 
 /// A unit as the library keeps it: its source, the image that was made of it, and its certificate, where it has one.
 #[derive(Drop)]
@@ -64,12 +99,25 @@ pub struct StoredUnit {
 }
 
 impl StoredUnit {
-    /// Whether two units are the same: their sources, codes and globals are. There are no certificates yet.
+    /// Whether two units are the same: their sources, codes, globals and certificates are. A certificate without a byte
+    /// is not the same as none.
     pub fn is_same(&self, other: &StoredUnit) -> bool
         ensures { IsTrue result ↔ (self.now ≡ other.now) }
     {
         self.source.bytes() == other.source.bytes()
             && self.image.code.words() == other.image.code.words()
             && self.image.globals.words() == other.image.globals.words()
+            && are_same(&self.certificate, &other.certificate)
+    }
+}
+
+// Whether there are two certificates of the same bytes, or none.
+fn are_same(one: &Option<Certificate>, other: &Option<Certificate>) -> bool
+    ensures { IsTrue result ↔ (one.now ≡ other.now) }
+{
+    match (one, other) {
+        (None, None) => true,
+        (Some(one), Some(other)) => one.bytes() == other.bytes(),
+        _ => false,
     }
 }

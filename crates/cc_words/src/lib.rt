@@ -1,6 +1,6 @@
 //! The operations of a 32-bit machine word, as C99 and RV32IM have them: sums, comparisons, divisions, shifts.
 //! Free functions on `u32`; a signed operation reads its words in two's complement. `operators` has the operators of the
-//! intermediate languages as values.
+//! intermediate languages as values, and how wide the elements of an object are.
 //! Each call answers its formula over whole numbers, `specs/Words.antt`; an operation that C leaves
 //! undefined answers `None`. No call takes memory, and none can fail otherwise.
 //! Hands out the calls, the operators, the definitions (`specs/`) and their laws (`proofs/`).
@@ -11,7 +11,7 @@ mod operators;
 ghost use Rattle.std.specs.Prelude.{◌≡◌};
 ghost use Rattle.cc_words.specs.Words as words;
 
-pub use operators::{Binary, Unary};
+pub use operators::{Binary, Unary, Width};
 
 /// `left + right` modulo 2^32, signed or not (C99 6.5.6).
 pub fn add(left: u32, right: u32) -> u32

@@ -1,8 +1,9 @@
-//! The operators of the intermediate languages: three on one word, nineteen on two. Every language that comes after C has these
-//! and no others, so they and what they give stand here once.
+//! The operators of the intermediate languages: three on one word, nineteen on two; and how wide the elements are that they load
+//! and store. Every language that comes after C has these and no others, so they and what they give stand here once.
 
 ghost use Rattle.std.specs.Prelude.{◌≡◌};
 ghost use Rattle.cc_words.specs.Operators.{apply_unary, apply_binary, unary_text, binary_text};
+ghost use Rattle.cc_words.specs.Widths.{bytes, width_text};
 
 use super::{
     add, div_s, div_u, eq, le_s, le_u, lt_s, lt_u, mul, ne, rem_s, rem_u, shl, shr_s, shr_u, sub,
@@ -140,6 +141,37 @@ impl Binary {
             Binary::LtU => "lt_u",
             Binary::LeS => "le_s",
             Binary::LeU => "le_u",
+        }
+    }
+}
+
+/// How wide the elements of an object are.
+#[derive(Clone, Copy)]
+pub enum Width {
+    /// 1 byte: an array of `unsigned char`.
+    Byte,
+    /// 4 bytes: every other object.
+    Word,
+}
+
+impl Width {
+    /// How many bytes an element has.
+    pub fn bytes(self) -> u8
+        ensures { result ≡ bytes self }
+    {
+        match self {
+            Width::Byte => 1,
+            Width::Word => 4,
+        }
+    }
+
+    /// What stands in front of an element in a listing: `byte ` for a byte, nothing for a word.
+    pub fn mark(self) -> &'static str
+        ensures { result.now ≡ width_text self }
+    {
+        match self {
+            Width::Byte => "byte ",
+            Width::Word => "",
         }
     }
 }

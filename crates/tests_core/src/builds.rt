@@ -9,7 +9,8 @@ use std::alloc::Global;
 use std::sync::Arc;
 
 /// The build in which a source that begins with `2` has two pieces, and each other one. A source that begins with `#` is
-/// refused with 11, its pieces with 25 where it begins with `!`. Its units have one code word, the length of the source.
+/// refused with 11, its pieces with 25 where it begins with `!`. Its units have one code word, the length of the source, and
+/// where that begins with `c` a certificate of as many bytes as its second byte says.
 #[derive(Drop)]
 pub struct FewPieces {}
 

@@ -1,7 +1,7 @@
 // What a commit answers, and what it leaves.
 use crate::script::Line::{
-    Ack, Add, Begin, Done, Refuse, Replace, SyncBody, SyncGate, Take, Withdraw, WriteBody,
-    WriteGate,
+    Ack, Add, Begin, Crash, Done, Recover, Refuse, Replace, RewriteAll, SyncAll, SyncArea,
+    SyncBody, SyncGate, Take, Withdraw, WriteArea, WriteBody, WriteGate,
 };
 use crate::script::{Line, ONE, TWO, fresh, leaves, run};
 use cc_core::fault::{BuildFault, CoreFault};
@@ -216,6 +216,48 @@ fn full_area(rt: HostRuntime) -> Result<(), Fail> {
             fresh(alloc, 64)?,
             &FULL,
             (Some(ONE), Some(TWO), None, 2)
+        )?
+    );
+    Ok(())
+}
+
+// With a certificate a record takes its length, 4 bytes, and its bytes more: an area of 64 bytes has room for 31, and not for 32.
+// What has room is kept, by a rewrite and by a crash.
+const ROOM: [u8; 3] = [b'c', 31, b'x'];
+
+const NO_ROOM: [u8; 3] = [b'c', 32, b'x'];
+
+const CERTIFIED: [(Line, u32); 19] = [
+    (Add(7, b'a', NO_ROOM), 0),
+    (Take(3, 7, 0), 0),
+    (Done(3, NO_ROOM, 0), 0),
+    (Begin(7), 34),
+    (Add(1, b'a', ROOM), 0),
+    (Take(3, 1, 0), 0),
+    (Done(3, ROOM, 0), 0),
+    (Begin(1), 0),
+    (WriteBody, 0),
+    (SyncBody, 0),
+    (WriteGate, 0),
+    (SyncGate, 0),
+    (Ack(1), 1),
+    (RewriteAll, 0),
+    (SyncAll, 0),
+    (WriteArea, 0),
+    (SyncArea, 0),
+    (Crash(0), 0),
+    (Recover, 0),
+];
+
+#[test]
+fn a_certificate_that_has_no_room(rt: HostRuntime) -> Result<(), Fail> {
+    let alloc = rt.alloc();
+    assert!(rt;
+        leaves(
+            alloc,
+            fresh(alloc, 64)?,
+            &CERTIFIED,
+            (Some(ROOM), None, None, 1)
         )?
     );
     Ok(())

@@ -4,7 +4,7 @@ ghost use Rattle.tests_core.specs.Builds.{keeps};
 
 use cc_library::SharedUnit;
 use cc_rv32::image::{Code, Globals, Image};
-use cc_unit::{Source, StoredUnit};
+use cc_unit::{Certificate, Source, StoredUnit};
 use std::alloc::{AllocError, Global};
 use std::marker::Model;
 use std::sync::Arc;
@@ -43,6 +43,23 @@ impl Piece {
     }
 }
 
+/// How many bytes the certificate of a source's unit has, where it has one: a source that begins with `c` says it in its second
+/// byte.
+pub fn certified(source: &[u8]) -> Option<usize> {
+    match source {
+        [b'c', count, ..] => Some(*count as usize),
+        _ => None,
+    }
+}
+
+// A certificate of so many bytes, or none.
+fn certificate(alloc: Global, count: Option<usize>) -> Result<Option<Certificate>, AllocError> {
+    match count {
+        Some(count) => Ok(Some(Certificate::new(vec![in alloc; 7u8; count]?))),
+        None => Ok(None),
+    }
+}
+
 /// That part of a source of at most 65,536 bytes.
 pub fn compiled(alloc: Global, source: &[u8], part: u32) -> Result<Piece, AllocError>
     requires { length source.now ≤ 65536 }
@@ -54,7 +71,7 @@ pub fn compiled(alloc: Global, source: &[u8], part: u32) -> Result<Piece, AllocE
     let unit = StoredUnit {
         source: kept,
         image: Image { code, globals },
-        certificate: None,
+        certificate: certificate(alloc, certified(source))?,
     };
     let shared = Arc::new(alloc, unit)?;
     Ok(Piece {

@@ -2,7 +2,7 @@
 ghost use Rattle.std.specs.Prelude.{◌≤◌, ◌^◌};
 
 use crate::builds::FewPieces;
-use crate::piece::{Piece, compiled};
+use crate::piece::{Piece, certified, compiled};
 use cc_core::command::{Reply, Request};
 use cc_core::event::Event;
 use cc_core::fault::CoreFault;
@@ -10,6 +10,7 @@ use cc_core::ids::{CallId, ClientId, PartIndex, WorkerId};
 use cc_core::sequence::Sequence;
 use cc_core::state::{State, run_events};
 use cc_library::{Name, UnitMap};
+use cc_unit::StoredUnit;
 use std::alloc::{AllocError, Global};
 use std::test::Fail;
 
@@ -109,12 +110,22 @@ pub fn number_of(answer: Result<Option<Reply>, CoreFault>) -> u32 {
 /// What a state is to have: the sources of `a`, `b` and `c`, and how many commands were acknowledged.
 pub type Held = (Option<[u8; 3]>, Option<[u8; 3]>, Option<[u8; 3]>, usize);
 
-// Whether the name has a unit of this source, or none.
+// Whether the unit is the one of this source.
+fn is_of(unit: &StoredUnit, source: &[u8]) -> bool {
+    let certificate = match (&unit.certificate, certified(source)) {
+        (None, None) => true,
+        (Some(certificate), Some(count)) => certificate.bytes().len() == count,
+        _ => false,
+    };
+    certificate && unit.source.bytes() == source
+}
+
+// Whether the name has the unit of this source, or none.
 fn has(library: &UnitMap, letter: u8, wanted: Option<[u8; 3]>) -> Result<bool, Fail> {
     let name = name_of(letter)?;
     Ok(match (library.get(&name), wanted) {
         (None, None) => true,
-        (Some(unit), Some(source)) => unit.source.bytes() == source.as_slice(),
+        (Some(unit), Some(source)) => is_of(unit, &source),
         _ => false,
     })
 }

@@ -6,6 +6,8 @@
 #![tactic(auto)]
 
 #[cfg(test)]
+mod bytes;
+#[cfg(test)]
 mod calls;
 #[cfg(test)]
 mod diagnostic;

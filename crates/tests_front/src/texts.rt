@@ -4,7 +4,7 @@
 pub type Refused = (&'static [u8], u32, usize, usize);
 
 /// Texts that are units.
-pub static SPELLED: [&[u8]; 58] = [
+pub static SPELLED: [&[u8]; 62] = [
     b"int main(void){}",
     b"int main(){write_word(-7/2);write_word(-7%2);return 0;}",
     b"int main(void){write_word(-1<1u);write_word(-8>>1u);write_word(1<<31);}",
@@ -63,10 +63,14 @@ pub static SPELLED: [&[u8]; 58] = [
     b"int x=1;int y=-1,z;unsigned u=1u;",
     b"int x;",
     b"void f(int);",
+    b"unsigned char a[1];",
+    b"unsigned char a[2]={1,2,},b[]={3};",
+    b"unsigned char a[]={1};int b[2];unsigned char c[3];",
+    b"unsigned/**/char\na[1+2];",
 ];
 
 /// Texts that are none, each with the number, the line and the column of its fault.
-pub static REFUSED: [Refused; 64] = [
+pub static REFUSED: [Refused; 84] = [
     (b"", 5, 1, 1),
     (b"int main(void){return 1 2;}", 5, 1, 25),
     (b"int main(void){0xe+1;}", 3, 1, 16),
@@ -131,6 +135,28 @@ pub static REFUSED: [Refused; 64] = [
     (b"int x;;", 5, 1, 7),
     (b"void f(void){f()+g(h(1),2)[0;}", 5, 1, 27),
     (b"void f(void){((int))1;}", 5, 1, 20),
+    // `char` stands behind `unsigned` at file scope alone
+    (b"char a[1];", 5, 1, 1),
+    (b"signed char a[1];", 5, 1, 8),
+    (b"int char a[1];", 5, 1, 5),
+    (b"unsigned int char a[1];", 5, 1, 14),
+    (b"unsigned char int a[1];", 5, 1, 15),
+    (b"unsigned char unsigned a[1];", 5, 1, 15),
+    (b"int f(unsigned char a);", 5, 1, 16),
+    (b"int main(void){unsigned char a[1];}", 5, 1, 25),
+    (b"int main(void){char a;}", 5, 1, 16),
+    (b"int main(void){for(unsigned char a;;);}", 5, 1, 29),
+    (b"int main(void){return (unsigned char)1;}", 5, 1, 33),
+    (b"int main(void){return (char)1;}", 5, 1, 24),
+    // each name in such a declaration is an array's
+    (b"unsigned char x;int main(void){}", 5, 1, 16),
+    (b"unsigned char x=1;", 5, 1, 16),
+    (b"unsigned char f(void){}", 5, 1, 16),
+    (b"unsigned char a[1],b;", 5, 1, 21),
+    (b"unsigned char a[1],b,c[1];", 5, 1, 21),
+    (b"unsigned char a[1]=2;", 5, 1, 20),
+    (b"unsigned char;", 5, 1, 14),
+    (b"unsigned char", 5, 1, 14),
 ];
 
 /// A text of `before`, `middle` so many times, and `behind`: the three parts, how often, and the number, the line and the

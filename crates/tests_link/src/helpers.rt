@@ -33,11 +33,11 @@ pub fn image_runs(alloc: Global, unit: &CompiledUnit, run: Run<'_>) -> Result<bo
     Ok(same && outcome? == run.outcome)
 }
 
-/// Whether a text has an image that runs so, and its unit has it as its source and no certificate.
+/// Whether a text has an image that runs so, and its unit has it as its source, and a certificate.
 pub fn runs(alloc: Global, text: &[u8], run: Run<'_>) -> Result<bool, Fail> {
     let unit = compile(alloc, text)?;
     let stored = unit.stored();
-    let kept = stored.source.bytes() == text && stored.certificate.is_none();
+    let kept = stored.source.bytes() == text && stored.certificate.is_some();
     let right = image_runs(alloc, &unit, run);
     drop(unit);
     Ok(right? && kept)

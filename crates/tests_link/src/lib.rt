@@ -1,7 +1,9 @@
 //! Tests of the compiler from text to run: the worked rows, the pieces of a unit in every order, each refusal, the limits, comparisons with
-//! constants, and eight programs whose words are gcc's. `build` has those of the protocol core with the build that compiles.
+//! constants, and eight programs whose words are gcc's. `audits` has those of the audit, `build` those of the protocol core with the build that compiles.
 #![tactic(auto)]
 
+#[cfg(test)]
+mod audits;
 #[cfg(test)]
 mod build;
 #[cfg(test)]

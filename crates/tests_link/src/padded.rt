@@ -67,8 +67,8 @@ fn padded_ltl(alloc: Global, ltl: &Ltl, paddings: &[Padding]) -> Result<Ltl, Fai
     }
 }
 
-// The RTL of one function.
-fn rtl_of(alloc: Global, unit: &Arc<TypedUnit>, function: usize) -> Result<RtlPair, Fail> {
+/// The RTL of one function.
+pub fn rtl_of(alloc: Global, unit: &Arc<TypedUnit>, function: usize) -> Result<RtlPair, Fail> {
     if function >= unit.functions() {
         return Err(Fail::from("no such function"));
     }

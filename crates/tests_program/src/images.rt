@@ -3,7 +3,7 @@
 use super::helpers::{has_no_image, runs};
 
 // Small programs, the instructions of each run, what its image writes on no input and how it ends.
-static IMAGES: [(&str, u64, &str); 8] = [
+static IMAGES: [(&str, u64, &str); 9] = [
     ("int main(void){}", 1000, "exited 0\n"),
     (
         "int main(void){write_word(-7/2);write_word(-7%2);return 0;}",
@@ -25,6 +25,11 @@ static IMAGES: [(&str, u64, &str); 8] = [
         "int a[2];int f(void){a[0]=1;return 1;}int main(void){a[f()]+=a[0]+5;write_word(a[1]);}",
         1000,
         "6\nexited 0\n",
+    ),
+    (
+        "unsigned char c[2]={300,-1};int main(void){write_word(c[0]);write_word(c[1]);c[0]+=220;write_word(c[0]);write_word(c[1]<<24);write_word(-1<c[1]);}",
+        10_000,
+        "44\n255\n8\n-16777216\n1\nexited 0\n",
     ),
     (
         "unsigned u=4294967295u;int a[3]={1,2,3};int main(void){write_word(u/2==2147483647);write_word(a[1]+a[2]);return a[0]-4;}",

@@ -114,4 +114,8 @@ fn functions_and_words(rt: HostRuntime) {
     assert!(rt; checks(&rt, b"int a[65536];int main(void){}", "ok\n"));
     let past = b"int a[65536];int b;int main(void){}";
     assert!(rt; checks(&rt, past, "fault 21 TooMany at 1:18\n"));
+    // four bytes are a word, and the last word is filled up
+    assert!(rt; checks(&rt, b"unsigned char a[262144];int main(void){}", "ok\n"));
+    let past = b"unsigned char a[262145];int main(void){}";
+    assert!(rt; checks(&rt, past, "fault 21 TooMany at 1:15\n"));
 }

@@ -6,7 +6,7 @@ use cc_program::perform;
 use std::alloc::{AllocError, Global};
 
 // Small programs, the steps of each run, what it writes on no input and how it ends.
-static PROGRAMS: [(&str, u64, &str); 28] = [
+static PROGRAMS: [(&str, u64, &str); 30] = [
     // the empty main
     ("int main(void){}", 1, "ended 0\n"),
     ("int main(void){}", 0, "going\n"),
@@ -77,6 +77,17 @@ static PROGRAMS: [(&str, u64, &str); 28] = [
         "int a[3];int main(void){write_word(a[2]);write_word(a[-1]);}",
         9,
         "0\nwrong Index\n",
+    ),
+    // arrays of `unsigned char`
+    (
+        "unsigned char c[2]={300,-1};int main(void){write_word(c[0]);write_word(c[1]);c[0]+=220;write_word(c[0]);write_word(c[1]<<24);write_word(-1<c[1]);}",
+        9,
+        "44\n255\n8\n-16777216\n1\nended 0\n",
+    ),
+    (
+        "unsigned char c[2];int main(void){c[2]=1;}",
+        9,
+        "wrong Index\n",
     ),
     // calls
     (

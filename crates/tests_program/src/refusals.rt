@@ -5,7 +5,7 @@ use cc_link::{BuildFault, PieceFault};
 use cc_program::Fault;
 
 // Texts, and the line that `check` writes for each.
-static TEXTS: [(&str, &str); 28] = [
+static TEXTS: [(&str, &str); 30] = [
     // spelling
     ("", "fault 5 Unexpected at 1:1\n"),
     (
@@ -84,6 +84,15 @@ static TEXTS: [(&str, &str); 28] = [
     (
         "int main(void){return f();}int f(int x){}",
         "fault 11 Unknown at 1:23\n",
+    ),
+    // `char` stands in arrays at file scope alone
+    (
+        "unsigned char x;int main(void){}",
+        "fault 5 Unexpected at 1:16\n",
+    ),
+    (
+        "int main(void){return (unsigned char)1;}",
+        "fault 5 Unexpected at 1:33\n",
     ),
     // the empty main
     ("int main(void){}", "ok\n"),

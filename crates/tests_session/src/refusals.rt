@@ -6,7 +6,7 @@ use std::alloc::{AllocError, Global};
 use std::io::{self, Read};
 use std::test::Fail;
 
-// Scripts in an area of 64 bytes, with their answers. After each refusal the script goes on.
+// Scripts in an area of 160 bytes, with their answers. After each refusal the script goes on.
 static SCRIPTS: [(&str, &str); 12] = [
     ("withdraw A\n", "fault 33 BadName\n"),
     (
@@ -42,7 +42,7 @@ static SCRIPTS: [(&str, &str); 12] = [
     ),
     ("add a 0\n\n", "fault 5 Unexpected at 1:1\n"),
     ("replace a 16\nint main(void){}\n", "fault 32 Absent\n"),
-    // Records of two units do not fit 64 bytes.
+    // Records of two units do not fit 160 bytes.
     (
         "add a 16\nint main(void){}\nadd b 16\nint main(void){}\nlist\n",
         "ok 1\nfault 34 Full\nunit a\nok 2\n",
@@ -56,7 +56,7 @@ fn refusals(rt: HostRuntime) -> Result<(), Fail> {
             &rt,
             rt.alloc(),
             script.as_bytes(),
-            64,
+            160,
             lines,
             SessionEnd::Finished,
         )?;

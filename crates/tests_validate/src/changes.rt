@@ -2,7 +2,7 @@
 // or one move is dropped or made twice.
 
 use cc_ltl::{Block, Ltl, Move, Moves, Operation, Register, Slot};
-use cc_words::{Binary, Unary};
+use cc_words::{Binary, Unary, Width};
 use std::alloc::{AllocError, Global};
 use std::test::Fail;
 
@@ -104,14 +104,21 @@ fn label_at(number: u32, place: u32, label: u32, blocks: u32) -> u32 {
     }
 }
 
+fn width_at(number: u32, place: u32, width: Width) -> Width {
+    match (number == place, width) {
+        (true, Width::Word) | (false, Width::Byte) => Width::Byte,
+        (true, Width::Byte) | (false, Width::Word) => Width::Word,
+    }
+}
+
 /// How many changes an operation has.
 pub fn operation_changes(operation: &Operation) -> u32 {
     match operation {
         Operation::Nop { .. } | Operation::Read { .. } | Operation::Write { .. } => 1,
         Operation::Call { .. } => 2,
         Operation::Const { .. } | Operation::Branch { .. } => 3,
-        Operation::Unary { .. } | Operation::Load { .. } | Operation::Store { .. } => 4,
-        Operation::Binary { .. } => 5,
+        Operation::Unary { .. } => 4,
+        Operation::Binary { .. } | Operation::Load { .. } | Operation::Store { .. } => 5,
         Operation::Return => 0,
     }
 }
@@ -175,22 +182,26 @@ fn changed_plain(operation: Operation, blocks: u32, number: u32) -> Operation {
             next: label_at(number, 2, next, blocks),
         },
         Operation::Load {
+            width,
             object,
             to,
             index,
             next,
         } => Operation::Load {
+            width: width_at(number, 4, width),
             object: word_at(number, 0, object),
             to: register_at(number, 1, to),
             index: register_at(number, 2, index),
             next: label_at(number, 3, next, blocks),
         },
         Operation::Store {
+            width,
             object,
             index,
             from,
             next,
         } => Operation::Store {
+            width: width_at(number, 4, width),
             object: word_at(number, 0, object),
             index: register_at(number, 1, index),
             from: register_at(number, 2, from),

@@ -96,21 +96,23 @@ fn step(
             put(registers, *to, word, *next)
         }
         Node::Load {
+            width,
             object,
             to,
             index,
             next,
         } => {
-            let word = world.element(*object, registers.get(*index));
+            let word = world.element(*width, *object, registers.get(*index));
             put(registers, *to, word, *next)
         }
         Node::Store {
+            width,
             object,
             index,
             from,
             next,
         } => {
-            if world.store(*object, registers.get(*index), registers.get(*from)) {
+            if world.store(*width, *object, registers.get(*index), registers.get(*from)) {
                 Ok(Next::To(*next))
             } else {
                 Ok(Next::Stops(Stop::Wrong))

@@ -186,21 +186,23 @@ fn step(
             Ok(put(places, *to, word, *next))
         }
         Operation::Load {
+            width,
             object,
             to,
             index,
             next,
         } => {
-            let word = world.element(*object, places.get(*index));
+            let word = world.element(*width, *object, places.get(*index));
             Ok(put(places, *to, word, *next))
         }
         Operation::Store {
+            width,
             object,
             index,
             from,
             next,
         } => {
-            if world.store(*object, places.get(*index), places.get(*from)) {
+            if world.store(*width, *object, places.get(*index), places.get(*from)) {
                 Ok(Next::To(*next))
             } else {
                 Ok(Next::Stops(Stop::Wrong))

@@ -1,5 +1,6 @@
-// What an interpreter shares with the functions that it calls: one object, the input, the output.
+// What an interpreter shares with the functions that it calls: one object of words, the input, the output.
 
+use cc_words::Width;
 use std::alloc::{AllocError, Global};
 
 /// How a run stopped.
@@ -49,17 +50,17 @@ impl World {
         })
     }
 
-    pub fn element(&self, object: u32, index: u32) -> Option<u32> {
-        if object == 0 {
-            self.object.as_slice().get(index as usize).copied()
-        } else {
-            None
+    /// An element; none where there is no such one, or the access has another width.
+    pub fn element(&self, width: Width, object: u32, index: u32) -> Option<u32> {
+        match width {
+            Width::Word if object == 0 => self.object.as_slice().get(index as usize).copied(),
+            _ => None,
         }
     }
 
     /// Sets an element, and tells whether there is one.
-    pub fn store(&mut self, object: u32, index: u32, word: u32) -> bool {
-        if object != 0 {
+    pub fn store(&mut self, width: Width, object: u32, index: u32, word: u32) -> bool {
+        if object != 0 || matches!(width, Width::Byte) {
             return false;
         }
         match self.object.as_mut_slice().get_mut(index as usize) {

@@ -13,7 +13,7 @@ use Rattle.cc_syntax.specs.Tree as tree
 use Rattle.cc_syntax.specs.Tree.{Expr, Exprs, none, more, Number, Variable, Element, Parenthesised, Cast, Conditional, Target, AtVariable, AtElement, Action, Assign, Step, Evaluate, Declarator, Beginning, Declares, Performs, Stmt, Stmts, end, next, Perform, Break, Continue, IfElse, While, DoWhile, For}
 use Rattle.cc_typing.specs.Operators.{working_type, applied_operator, step_operator}
 use Rattle.cc_typing.specs.Types.{value_type, target_type}
-use Rattle.cc_resolve.specs.Layout.{Layout, object_number, callee}
+use Rattle.cc_resolve.specs.Layout.{Layout, object_number, extent_of, callee}
 use Rattle.cc_resolve.specs.Environment.{Environment, number_in, types_in, inner, with_local, behind, behind_beginning}
 use Rattle.cc_resolve.specs.Operations.{operation, unary_operation}
 use Rattle.cc_resolve.specs.declared.layout.Callee.{Callee}
@@ -22,6 +22,8 @@ use Rattle.cc_resolve.specs.declared.operations.UnaryOperation.{UnaryOperation}
 use Rattle.cc_resolve.specs.declared.operations.UnaryOperation.TheVariants as single
 use Rattle.cc_resolve.specs.declared.operations.BinaryOperation.{BinaryOperation}
 use Rattle.cc_resolve.specs.declared.operations.BinaryOperation.TheVariants as word
+use Rattle.cc_words.specs.declared.operators.Width.{Width}
+use Rattle.cc_words.specs.declared.operators.Width.TheVariants.{Word}
 use Rattle.cc_cminor.specs.Cminor.{Expression, Constant, Local, Unary, Binary, Load, Statement, Skip, Set, Store, Call, Read, Write, Sequence, If, Loop, Block, Exit, Return}
 use Rattle.cc_cminor.specs.Code.{in_sequence}
 
@@ -33,14 +35,18 @@ free v = length v.locals
 abbrev pub object_of : Layout → List ℕ → ℕ
 object_of g x = unwrap_or (object_number g.objects x) 0
 
+-- how wide the elements of that object are
+abbrev pub width_of : Layout → List ℕ → Width
+width_of g x = (extent_of g.objects x).width
+
 -- ---- variables and operators
 
 abbrev pub read_of : Option ℕ → (object : ℕ) → Expression
-read_of None o = Load o (Constant 0)
+read_of None o = Load Word o (Constant 0)
 read_of (Some i) o = Local i
 
 abbrev pub write_to : Option ℕ → (object : ℕ) → Expression → Statement
-write_to None o e = Store o (Constant 0) e
+write_to None o e = Store Word o (Constant 0) e
 write_to (Some i) o e = Set i e
 
 abbrev pub variable_of : Layout → Environment → List ℕ → Expression
@@ -132,7 +138,7 @@ are_plain (more e rest) = is_plain e && are_plain rest
 abbrev pub plain : Layout → Environment → Expr → Expression
 plain g v (Number t n) = Constant n
 plain g v (Variable x) = variable_of g v x.text
-plain g v (Element x e) = Load (object_of g x.text) (plain g v e)
+plain g v (Element x e) = Load (width_of g x.text) (object_of g x.text) (plain g v e)
 plain g v (tree.Call f es) = Constant 0
 plain g v (Parenthesised e) = plain g v e
 plain g v (tree.Unary op e) = unary_of op (plain g v e)
@@ -186,7 +192,7 @@ abbrev mutual
   pub put_expr : Layout → Environment → ℕ → Expr → Statement
   put_expr g v k (Number t n) = Set k (Constant n)
   put_expr g v k (Variable x) = Set k (variable_of g v x.text)
-  put_expr g v k (Element x e) = used (is_plain e) (plain g v e) (put_expr g v k e) k (λ i. Set k (Load (object_of g x.text) i))
+  put_expr g v k (Element x e) = used (is_plain e) (plain g v e) (put_expr g v k e) k (λ i. Set k (Load (width_of g x.text) (object_of g x.text) i))
   put_expr g v k (tree.Call f es) =
       called_on (are_plain es) (all_plain g v es) (in_sequence (put_all g v k es)) k (count es) (λ us. invoked (callee g f.text) k us)
   put_expr g v k (Parenthesised e) = put_expr g v k e
@@ -222,7 +228,7 @@ abbrev pub assigned : Layout → Environment → Target → (Scalar → Expressi
 assigned g v (AtVariable x) f go = go (free v) (λ e. variable_set g v x.text (f (target_type (types_in v) (AtVariable x)) (variable_of g v x.text) e))
 assigned g v (AtElement x i) f go =
     Sequence (put_expr g v (free v) i)
-    (go (suc (free v)) (λ e. Store (object_of g x.text) (Local (free v)) (f (target_type (types_in v) (AtElement x i)) (Load (object_of g x.text) (Local (free v))) e)))
+    (go (suc (free v)) (λ e. Store (width_of g x.text) (object_of g x.text) (Local (free v)) (f (target_type (types_in v) (AtElement x i)) (Load (width_of g x.text) (object_of g x.text) (Local (free v))) e)))
 
 abbrev pub performed : Layout → Environment → Action → Statement
 performed g v (Assign op target e) = assigned g v target (λ t old new. combined (applied_operator op) t (value_type (types_in v) e) old new) (λ k f. using g v k e f)

@@ -13,7 +13,7 @@ use Rattle.cc_cminor.specs.Cminor.{Expression, Constant, Local, Binary, Load, St
 use Rattle.cc_cminor.specs.Code.{expression_of, statement_of}
 use Rattle.cc_cminor.specs.declared.code.Expression as value
 use Rattle.cc_cminor.specs.declared.code.Statement as written
-use Rattle.cc_cminor.specs.internal.Lowering.{free, object_of, variable_of, variable_set, binary_of, truth_of, Kind, Conjunction, Disjunction, Strict, is_plain, plain, put_expr, combined}
+use Rattle.cc_cminor.specs.internal.Lowering.{free, object_of, width_of, variable_of, variable_set, binary_of, truth_of, Kind, Conjunction, Disjunction, Strict, is_plain, plain, put_expr, combined}
 
 pub record Taken : Type 0 where
   pub before : Option Statement
@@ -109,7 +109,8 @@ above_target v (AtElement x i) = suc (free v)
 
 -- an element is set whose index waits in variable k
 abbrev pub element_set : Layout → Environment → ℕ → Option BinaryOperator → List ℕ → Scalar → Expression → Statement
-element_set g v k op x t e = Store (object_of g x) (Local k) (combined op (element_type (found (types_in v) x)) t (Load (object_of g x) (Local k)) e)
+element_set g v k op x t e =
+    Store (width_of g x) (object_of g x) (Local k) (combined op (element_type (found (types_in v) x)) t (Load (width_of g x) (object_of g x) (Local k)) e)
 
 -- a target is set, with an operator on its old value or without, to a right side of a type
 abbrev pub assigned_to : Layout → Environment → Option BinaryOperator → Target → Scalar → Option Statement → Expression → Statement

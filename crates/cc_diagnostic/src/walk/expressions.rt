@@ -11,6 +11,7 @@ use cc_tokens::Scalar;
 use cc_typing::{
     Entity, applied_operator, binary_type, common_type, step_operator, unary_type, working_type,
 };
+use cc_words::Width;
 
 /// What is written: a variable of the function, a word of the objects, an array's element whose index is pushed, or nothing.
 #[derive(Clone, Copy)]
@@ -52,6 +53,7 @@ fn extent_of(standing: Option<Standing<'_>>) -> Extent {
     let nowhere = Extent {
         offset: 0,
         length: 0,
+        width: Width::Word,
     };
     match standing {
         None => nowhere,

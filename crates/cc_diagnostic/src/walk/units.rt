@@ -10,7 +10,8 @@ use cc_syntax::{
     ConstantExpression, External, Identifier, Object, Parameter, Signature, Statement,
 };
 use cc_tokens::Scalar;
-use cc_typing::{Entity, object_words};
+use cc_typing::{Entity, array_length};
+use cc_words::Width;
 use std::alloc::AllocError;
 
 fn is_main(name: &Identifier) -> bool {
@@ -108,8 +109,14 @@ impl<'a> Walk<'a> {
         self.note(tree.at, Use::Constant, None);
     }
 
-    // Declares an object, which gets the next words.
-    fn declare_object(&mut self, name: &'a Identifier, entity: Entity<'a>, length: usize) {
+    // Declares an object, whose elements get the next words.
+    fn declare_object(
+        &mut self,
+        name: &'a Identifier,
+        entity: Entity<'a>,
+        length: usize,
+        width: Width,
+    ) {
         let standing = self.names.find_inner(name.bytes.as_slice());
         self.note(name.at, Use::Declared, standing);
         let offset = self.words;
@@ -117,28 +124,46 @@ impl<'a> Walk<'a> {
         let standing = Standing {
             entity,
             at: Some(name.at),
-            lead: Lead::Words(Extent { offset, length }),
+            lead: Lead::Words(Extent {
+                offset,
+                length,
+                width,
+            }),
         };
         self.declare(name, standing);
     }
 
+    fn array(
+        &mut self,
+        scalar: Scalar,
+        width: Width,
+        name: &'a Identifier,
+        given: &'a Option<ConstantExpression>,
+        values: &'a [ConstantExpression],
+    ) {
+        let length = array_length(given, values).unwrap_or(0);
+        self.declare_object(name, Entity::Elements(scalar), length, width);
+        if let Some(given) = given {
+            self.constant(given);
+        }
+        for value in values {
+            self.constant(value);
+        }
+    }
+
     fn object(&mut self, scalar: Scalar, tree: &'a Object) {
-        let length = object_words(tree);
         match tree {
             Object::Single(name, initial) => {
-                self.declare_object(name, Entity::Variable(scalar), length);
+                self.declare_object(name, Entity::Variable(scalar), 1, Width::Word);
                 if let Some(initial) = initial {
                     self.constant(initial);
                 }
             }
             Object::Array(name, given, values) => {
-                self.declare_object(name, Entity::Elements(scalar), length);
-                if let Some(given) = given {
-                    self.constant(given);
-                }
-                for value in values.as_slice() {
-                    self.constant(value);
-                }
+                self.array(scalar, Width::Word, name, given, values.as_slice());
+            }
+            Object::Bytes(name, given, values) => {
+                self.array(Scalar::Int, Width::Byte, name, given, values.as_slice());
             }
         }
     }

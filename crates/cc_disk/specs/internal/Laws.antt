@@ -1,8 +1,7 @@
 -- Two of the laws that the disk in memory has to keep as a disk, proved.
 use Rattle.std.specs.Prelude.{ℕ, List, [], ◌∷◌, length}
 use Rattle.std.proofs.Common.{inl, inr, refl}
-use Rattle.cc_disk.specs.declared.cell.Cell.{Cell}
-use Rattle.cc_disk.specs.Model.{bytes_of, IsImage}
+use Rattle.cc_disk.specs.Model.{Cell, bytes_of, IsImage}
 use Rattle.cc_disk.specs.Past.{LeftSince}
 
 -- after the last call there is only the state now

@@ -1,6 +1,7 @@
 -- Worked emission, by computation: the code of a function item for item, its run on the machine, neighbours as one step, comparisons with
 -- a constant, and where a branch is near.
 use Rattle.std.specs.Prelude.{ℕ, zero, suc, ◌+◌, ◌-◌, ◌*◌, ◌/◌, ◌≡◌, refl, true, false, if◌then◌else◌, ◌==◌, nat_le, List, [], ◌∷◌, map, None, slice_get}
+use Rattle.cc_words.specs.declared.operators.Width.TheVariants.{Byte, Word}
 use Rattle.cc_words.specs.declared.operators.Binary.TheVariants.{Add, Sub, ShrS, Ne, Eq, LtS, LtU, LeS, LeU}
 use Rattle.cc_ltl.specs.declared.operation.Move.TheVariants.{Reload, Spill}
 use Rattle.cc_linear.specs.declared.item.Item as linear
@@ -17,16 +18,16 @@ use Rattle.cc_emit.specs.declared.item.Item.TheVariants as item
 use Rattle.cc_emit.specs.declared.item.Item.TheVariants.{Plain}
 use Rattle.cc_emit.specs.Contract.{Code, filled}
 use Rattle.cc_emit.specs.Objects.{object_address}
-use Rattle.cc_emit.specs.Emission.{addi, load_word, store_word, const_size, reaches, function_items}
+use Rattle.cc_emit.specs.Emission.{addi, load_element, load_word, store_element, store_word, const_size, reaches, function_items}
 
 -- 1 is added up once; the sum goes through a slot and through an element of the second object, whose address has a negative lower part
 abbrev loop : List linear.Item
 loop =
-    Const 18 1 ∷ Const 19 0 ∷ Label 7 ∷ IfZero 18 9 ∷ Binary Add 19 19 18 ∷ Const 7 1 ∷ Binary Sub 18 18 7 ∷ Jump 7 ∷ Label 9 ∷ Copy (Spill 1 19) ∷ Copy (Reload 10 1) ∷ Store 1 7 10 ∷ Load 1 10 7 ∷ Write
+    Const 18 1 ∷ Const 19 0 ∷ Label 7 ∷ IfZero 18 9 ∷ Binary Add 19 19 18 ∷ Const 7 1 ∷ Binary Sub 18 18 7 ∷ Jump 7 ∷ Label 9 ∷ Copy (Spill 1 19) ∷ Copy (Reload 10 1) ∷ Store Word 1 7 10 ∷ Load Word 1 10 7 ∷ Write
     ∷ Return ∷ []
 
 abbrev items : List Item
-items = function_items (object_address (768 ∷ 2 ∷ [])) 2 loop
+items = function_items (object_address (record { width = Word; elements = 768 } ∷ record { width = Word; elements = 2 } ∷ [])) 2 loop
 
 -- the words of items at an address
 abbrev words_of : (a : ℕ) → List Item → List ℕ
@@ -87,10 +88,37 @@ calling = refl
 -- a constant, and what overwrites its register; with a label between, another register, or no room for the word there are two steps
 pairs : function_items (λ g. 0x200000 + 2048 * g) 0
     (Const 7 5 ∷ Binary Add 7 10 7 ∷ Const 7 5 ∷ Binary Sub 7 10 7 ∷ Const 7 31 ∷ Binary ShrS 7 10 7 ∷ Const 7 32 ∷ Binary ShrS 7 10 7 ∷ Const 7 5 ∷ Label 1 ∷ Binary Add 7 10 7 ∷ Const 7 5 ∷ Binary Add 10 10 7 ∷ Const 7 2048 ∷ Binary Sub 7 10 7 ∷ Const 7 1
-    ∷ Load 1 7 7 ∷ Const 7 1 ∷ Load 1 10 7 ∷ Const 7 1 ∷ Store 1 7 7 ∷ [])
+    ∷ Load Word 1 7 7 ∷ Const 7 1 ∷ Load Word 1 10 7 ∷ Const 7 1 ∷ Store Word 1 7 7 ∷ [])
     ≡ addi 7 10 5 ∷ addi 7 10 0xfffffffb ∷ Plain (Shift Srai 7 10 31) ∷ addi 7 0 32 ∷ Plain (Op operation.Sra 7 10 7) ∷ addi 7 0 5 ∷ Plain (Op operation.Add 7 10 7) ∷ addi 7 0 5 ∷ Plain (Op operation.Add 10 10 7) ∷ addi 7 10 0xfffff800 ∷ Plain (Lui 5 0x201)
     ∷ load_word 7 5 0xfffff804 ∷ addi 7 0 1 ∷ Plain (Lui 5 0x201) ∷ load_word 10 5 0xfffff804 ∷ addi 7 0 1 ∷ Plain (Lui 5 0x201) ∷ store_word 5 7 0xfffff804 ∷ []
 pairs = refl
+
+-- bytes: an element by its number in a register, stored and loaded, and by a number that is known, where the constant is overwritten, and where
+-- it is kept
+bytes : function_items (object_address (record { width = Byte; elements = 5 } ∷ record { width = Byte; elements = 3 } ∷ [])) 0
+    (Store Byte 1 7 10 ∷ Load Byte 1 10 7 ∷ Const 7 2 ∷ Load Byte 1 7 7 ∷ Const 7 2 ∷ Load Byte 1 10 7 ∷ Const 7 2 ∷ Store Byte 1 7 10 ∷ [])
+    ≡ Plain (Lui 6 0x200) ∷ Plain (Op operation.Add 5 7 6) ∷ store_element Byte 5 10 8 ∷ Plain (Lui 6 0x200) ∷ Plain (Op operation.Add 5 7 6) ∷ load_element Byte 10 5 8 ∷ Plain (Lui 5 0x200) ∷ load_element Byte 7 5 10 ∷ addi 7 0 2 ∷ Plain (Lui 5 0x200)
+    ∷ load_element Byte 10 5 10 ∷ addi 7 0 2 ∷ Plain (Lui 5 0x200) ∷ store_element Byte 5 10 10 ∷ []
+bytes = refl
+
+-- 300 goes to byte 1 of the second object, which keeps 44 of it, between bytes that stay: 0xaabbccdd becomes 0xaabb2cdd; what is loaded is 44
+abbrev byte_instructions : List Instr
+byte_instructions =
+    instructions 0x10000 (function_items (object_address (record { width = Byte; elements = 5 } ∷ record { width = Byte; elements = 3 } ∷ [])) 0 (Const 7 1 ∷ Const 10 300 ∷ Store Byte 1 7 10 ∷ Load Byte 1 10 7 ∷ Write ∷ Return ∷ []))
+
+abbrev byte_code : Code
+byte_code a = if nat_le 0x10000 a then slice_get byte_instructions ((a - 0x10000) / 4) else None
+
+abbrev byte_steps : ℕ → State → State
+byte_steps zero s = s
+byte_steps (suc n) s = byte_steps n (after (executed (byte_code s.pc) s) s)
+
+bytes_seen : State → List ℕ
+bytes_seen s = s.pc ∷ s.registers 10 ∷ s.memory 0x200008 ∷ s.memory 0x200004 ∷ s.output
+
+bytes_ran : bytes_seen (byte_steps 11 (record called { memory = λ a. 0xaabbccdd })) ≡ 0x20004 ∷ 44 ∷ 0xaabb2cdd ∷ 0xaabbccdd ∷ 44 ∷ []
+unfolding bytes_seen
+bytes_ran = refl
 
 -- comparisons: less than 2047, and at most 2046 and 2047, of which the last has no room; at most 2^32 - 2 and 2^32 - 1, unsigned, of which
 -- the last has no next word; less than 2^32 - 2048, unsigned; equal to 0, and not to 7; more than 0 and than 1; at least 5

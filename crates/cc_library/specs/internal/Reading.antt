@@ -1,5 +1,5 @@
 -- Reading a body from left to right: each field is a value and the bytes after it, or there is none.
-use Rattle.std.specs.Prelude.{ℕ, zero, suc, ◌&&◌, List, [], ◌∷◌, length, take, drop, Option, Some, None, nat_lt, nat_le, ◌==◌, if◌then◌else◌}
+use Rattle.std.specs.Prelude.{ℕ, zero, suc, ◌&&◌, ◌||◌, List, [], ◌∷◌, length, take, drop, Option, Some, None, nat_lt, nat_le, ◌==◌, if◌then◌else◌}
 use Rattle.std.specs.Int.{w32, from_le_bytes}
 use Rattle.cc_unit.specs.declared.unit.StoredUnit.{StoredUnit}
 use Rattle.cc_library.specs.declared.command.Command.{Command}
@@ -51,19 +51,26 @@ name_in bytes = do
   name ← taken n.0 n.1
   if is_name name.0 then Some name else None
 
--- a unit without certificate
-unfoldable pub unit_in : List ℕ → Option (StoredUnit × List ℕ)
-unit_in bytes = do
+-- a certificate, or none: there is one in version 2 alone
+unfoldable pub certificate_in : (version : ℕ) → List ℕ → Option (Option (List ℕ) × List ℕ)
+certificate_in version bytes =
+    if version == 2 then (number_in bytes >>= λ n. taken n.0 n.1 >>= λ found. Some (Some found.0, found.1))
+    else Some (None, bytes)
+
+-- a unit
+unfoldable pub unit_in : (version : ℕ) → List ℕ → Option (StoredUnit × List ℕ)
+unit_in version bytes = do
   source ← source_in bytes
   code ← words_field_in 1 131072 source.1
   globals ← words_field_in 0 65536 code.1
-  Some (record { source = source.0; image = record { code = code.0; globals = globals.0 }; certificate = None }, globals.1)
+  certificate ← certificate_in version globals.1
+  Some (record { source = source.0; image = record { code = code.0; globals = globals.0 }; certificate = certificate.0 }, certificate.1)
 
 -- the command of this kind and name
-unfoldable pub kind_in : ℕ → List ℕ → List ℕ → Option (Command × List ℕ)
-kind_in kind name bytes =
-    if kind == 1 then (unit_in bytes >>= λ unit. Some (Add name unit.0, unit.1))
-    else (if kind == 2 then (unit_in bytes >>= λ unit. Some (Replace name unit.0, unit.1))
+unfoldable pub kind_in : (version : ℕ) → ℕ → List ℕ → List ℕ → Option (Command × List ℕ)
+kind_in version kind name bytes =
+    if kind == 1 then (unit_in version bytes >>= λ unit. Some (Add name unit.0, unit.1))
+    else (if kind == 2 then (unit_in version bytes >>= λ unit. Some (Replace name unit.0, unit.1))
     else (if kind == 3 then Some (Withdraw name, bytes) else None))
 
 -- the command of all of these bytes
@@ -72,5 +79,5 @@ command_in bytes = do
   version ← byte_in bytes
   kind ← byte_in version.1
   name ← name_in kind.1
-  command ← kind_in kind.0 name.0 name.1
-  if (version.0 == 1) && (length command.1 == 0) then Some command.0 else None
+  command ← kind_in version.0 kind.0 name.0 name.1
+  if ((version.0 == 1) || (version.0 == 2)) && (length command.1 == 0) then Some command.0 else None

@@ -5,6 +5,8 @@ use Rattle.cc_words.specs.declared.operators.Unary.{Unary as UnaryOperator}
 use Rattle.cc_words.specs.declared.operators.Unary.TheVariants.{Neg, Complement, IsZero}
 use Rattle.cc_words.specs.declared.operators.Binary.{Binary as BinaryOperator}
 use Rattle.cc_words.specs.declared.operators.Binary.TheVariants.{Add, Sub, Mul, DivS, DivU, RemS, RemU, Shl, ShrS, ShrU, And, Or, Xor, Eq, Ne, LtS, LtU, LeS, LeU}
+use Rattle.cc_words.specs.declared.operators.Width.{Width}
+use Rattle.cc_words.specs.declared.operators.Width.TheVariants.{Byte, Word}
 use Rattle.cc_ltl.specs.declared.operation.Move.{Move}
 use Rattle.cc_ltl.specs.declared.operation.Move.TheVariants.{Between, Reload, Spill}
 use Rattle.cc_ltl.specs.declared.operation.Operation.{Operation}
@@ -14,7 +16,6 @@ use Rattle.cc_ltl.specs.declared.fault.LtlFault.{LtlFault}
 use Rattle.cc_ltl.specs.declared.fault.LtlFault.TheVariants.{Damaged, OutOfMemory}
 use Rattle.cc_ltl.specs.Registers.{most_slots}
 use Rattle.cc_ltl.specs.Ltl.{Ltl}
-use Rattle.cc_ltl.specs.Bytes.{width}
 
 infixl 10 ◌>>=◌
 abbrev pub ◌>>=◌ : {A B : Type 0} → Option A → (A → Option B) → Option B
@@ -82,9 +83,12 @@ unary_in bytes = one_of unary_operators bytes
 unfoldable pub binary_in : Reader BinaryOperator
 binary_in bytes = one_of binary_operators bytes
 
--- the width of an element
-unfoldable pub width_in : Reader ℕ
-width_in bytes = byte_in bytes >>= λ b. if b.0 == width then Some b else None
+-- the width of an element that has so many bytes
+abbrev pub width_of : ℕ → Option Width
+width_of n = if n == 1 then Some Byte else (if n == 4 then Some Word else None)
+
+unfoldable pub width_in : Reader Width
+width_in bytes = byte_in bytes >>= λ b. width_of b.0 >>= λ w. Some (w, b.1)
 
 -- what a number in front of it leads to
 abbrev pub chosen : {A : Type 0} → List (ℕ × Reader A) → (number : ℕ) → Reader A
@@ -126,14 +130,14 @@ unfoldable pub binary_operation_in : Reader Operation
 binary_operation_in bytes = mapped (λ x. Binary x.0 x.1.0 x.1.1.0 x.1.1.1.0 x.1.1.1.1) (both binary_in (both register_in (both register_in (both register_in word_in)))) bytes
 
 -- an object with its width, two registers, a label: of a load and of a store
-unfoldable pub access_in : Reader (ℕ × (ℕ × (ℕ × (ℕ × ℕ))))
+unfoldable pub access_in : Reader (Width × (ℕ × (ℕ × (ℕ × ℕ))))
 access_in bytes = both width_in (both word_in (both register_in (both register_in word_in))) bytes
 
 unfoldable pub load_in : Reader Operation
-load_in bytes = mapped (λ x. Load x.1.0 x.1.1.0 x.1.1.1.0 x.1.1.1.1) access_in bytes
+load_in bytes = mapped (λ x. Load x.0 x.1.0 x.1.1.0 x.1.1.1.0 x.1.1.1.1) access_in bytes
 
 unfoldable pub store_in : Reader Operation
-store_in bytes = mapped (λ x. Store x.1.0 x.1.1.0 x.1.1.1.0 x.1.1.1.1) access_in bytes
+store_in bytes = mapped (λ x. Store x.0 x.1.0 x.1.1.0 x.1.1.1.0 x.1.1.1.1) access_in bytes
 
 unfoldable pub call_in : Reader Operation
 call_in bytes = mapped (λ x. Call x.0 x.1) (both word_in word_in) bytes

@@ -45,7 +45,7 @@ made_into (Local x) free to exit g = pushed (rtl.Move to x exit) g
 made_into (Unary op a) free to exit g = operand_by (variable_of a) (made_into a) free (pushed (rtl.Unary op to (register a free) exit) g)
 made_into (Binary op a b) free to exit g =
     operand_by (variable_of a) (made_into a) free (operand_by (variable_of b) (made_into b) (taken a free) (pushed (rtl.Binary op to (register a free) (register b (taken a free)) exit) g))
-made_into (Load o a) free to exit g = operand_by (variable_of a) (made_into a) free (pushed (rtl.Load o to (register a free) exit) g)
+made_into (Load width o a) free to exit g = operand_by (variable_of a) (made_into a) free (pushed (rtl.Load width o to (register a free) exit) g)
 
 abbrev pub operand : Expression → ℕ → Made → Made
 operand e free next = operand_by (variable_of e) (made_into e) free next
@@ -65,7 +65,7 @@ closed head body = record { entry = head; places = set body.places head (Some (r
 abbrev pub made : (count : ℕ) → Statement → (exit : ℕ) → List ℕ → Places → Made
 made count Skip exit exits g = record { entry = exit; places = g }
 made count (Set x e) exit exits g = made_into e count x exit g
-made count (Store o i e) exit exits g = operand i count (operand e (taken i count) (pushed (rtl.Store o (register i count) (register e (taken i count)) exit) g))
+made count (Store width o i e) exit exits g = operand i count (operand e (taken i count) (pushed (rtl.Store width o (register i count) (register e (taken i count)) exit) g))
 made count (Call to f es) exit exits g = operands es count (pushed (rtl.Call f (registers es count) to exit) g)
 made count (Read to) exit exits g = pushed (rtl.Read (held_in to count) exit) g
 made count (Write e) exit exits g = operand e count (pushed (rtl.Write (register e count) exit) g)
@@ -91,7 +91,7 @@ Uses count (Constant w) = Unit {0}
 Uses count (Local x) = x < count
 Uses count (Unary op a) = Uses count a
 Uses count (Binary op a b) = Uses count a × Uses count b
-Uses count (Load o a) = Uses count a
+Uses count (Load width o a) = Uses count a
 
 abbrev pub AllUse : (count : ℕ) → List Expression → Type 0
 AllUse count [] = Unit {0}
@@ -100,7 +100,7 @@ AllUse count (e ∷ es) = Uses count e × AllUse count es
 abbrev pub IsFormed : (count : ℕ) → Statement → Type 0
 IsFormed count Skip = Unit {0}
 IsFormed count (Set x e) = (x < count) × Uses count e
-IsFormed count (Store o i e) = Uses count i × Uses count e
+IsFormed count (Store width o i e) = Uses count i × Uses count e
 IsFormed count (Call to f es) = AllUse count es
 IsFormed count (Read to) = Unit {0}
 IsFormed count (Write e) = Uses count e
@@ -120,8 +120,8 @@ renamed t (rtl.Const to w n) = rtl.Const to w (t n)
 renamed t (rtl.Move to r n) = rtl.Move to r (t n)
 renamed t (rtl.Unary op to r n) = rtl.Unary op to r (t n)
 renamed t (rtl.Binary op to r s n) = rtl.Binary op to r s (t n)
-renamed t (rtl.Load o to r n) = rtl.Load o to r (t n)
-renamed t (rtl.Store o r s n) = rtl.Store o r s (t n)
+renamed t (rtl.Load width o to r n) = rtl.Load width o to r (t n)
+renamed t (rtl.Store width o r s n) = rtl.Store width o r s (t n)
 renamed t (rtl.Call f rs to n) = rtl.Call f rs to (t n)
 renamed t (rtl.Read to n) = rtl.Read to (t n)
 renamed t (rtl.Write r n) = rtl.Write r (t n)

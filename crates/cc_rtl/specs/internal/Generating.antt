@@ -27,7 +27,7 @@ last_node (Constant w) free to exit = rtl.Const to w exit
 last_node (Local x) free to exit = rtl.Move to x exit
 last_node (Unary op a) free to exit = rtl.Unary op to (register a free) exit
 last_node (Binary op a b) free to exit = rtl.Binary op to (register a free) (register b (taken a free)) exit
-last_node (Load o a) free to exit = rtl.Load o to (register a free) exit
+last_node (Load width o a) free to exit = rtl.Load width o to (register a free) exit
 
 -- the nodes of a function, whatever its parameters
 abbrev pub generated_nodes : (count : ℕ) → Statement → List rtl.Labelled

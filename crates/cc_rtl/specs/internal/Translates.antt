@@ -34,7 +34,7 @@ module _ (nodes : Graph) (count : ℕ) where
   Into (Unary op a) free to entry exit = (r : ℕ) × (free' : ℕ) × (m : ℕ) × Held a (Into a) free r free' entry m × Stands m (rtl.Unary op to r exit)
   Into (Binary op a b) free to entry exit =
       (r : ℕ) × (free' : ℕ) × (m : ℕ) × (s : ℕ) × (free'' : ℕ) × (n : ℕ) × Held a (Into a) free r free' entry m × Held b (Into b) free' s free'' m n × Stands n (rtl.Binary op to r s exit)
-  Into (Load o a) free to entry exit = (r : ℕ) × (free' : ℕ) × (m : ℕ) × Held a (Into a) free r free' entry m × Stands m (rtl.Load o to r exit)
+  Into (Load width o a) free to entry exit = (r : ℕ) × (free' : ℕ) × (m : ℕ) × Held a (Into a) free r free' entry m × Stands m (rtl.Load width o to r exit)
 
   abbrev pub Operand : Expression → (free register free' entry exit : ℕ) → Type 0
   Operand e = Held e (Into e)
@@ -55,8 +55,8 @@ module _ (nodes : Graph) (count : ℕ) where
   abbrev pub Translates : Statement → (entry exit : ℕ) → List ℕ → Type 0
   Translates Skip entry exit exits = entry ≡ exit
   Translates (Set x e) entry exit exits = (x < count) × Into e count x entry exit
-  Translates (Store o i e) entry exit exits =
-      (r : ℕ) × (free : ℕ) × (m : ℕ) × (s : ℕ) × (free' : ℕ) × (n : ℕ) × Operand i count r free entry m × Operand e free s free' m n × Stands n (rtl.Store o r s exit)
+  Translates (Store width o i e) entry exit exits =
+      (r : ℕ) × (free : ℕ) × (m : ℕ) × (s : ℕ) × (free' : ℕ) × (n : ℕ) × Operand i count r free entry m × Operand e free s free' m n × Stands n (rtl.Store width o r s exit)
   Translates (Call to f es) entry exit exits = (rs : List ℕ) × (m : ℕ) × Operands es rs count entry m × Stands m (rtl.Call f rs to exit)
   Translates (Read to) entry exit exits = (r : ℕ) × Takes to r × Stands entry (rtl.Read r exit)
   Translates (Write e) entry exit exits = (r : ℕ) × (free : ℕ) × (m : ℕ) × Operand e count r free entry m × Stands m (rtl.Write r exit)

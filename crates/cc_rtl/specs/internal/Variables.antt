@@ -16,7 +16,7 @@ above_expression count (Constant w) = count
 above_expression count (Local x) = above count x
 above_expression count (Unary op a) = above_expression count a
 above_expression count (Binary op a b) = above_expression (above_expression count a) b
-above_expression count (Load o a) = above_expression count a
+above_expression count (Load width o a) = above_expression count a
 
 abbrev pub above_expressions : (count : ℕ) → List Expression → ℕ
 above_expressions count [] = count
@@ -25,7 +25,7 @@ above_expressions count (e ∷ es) = above_expressions (above_expression count e
 abbrev pub above_statement : (count : ℕ) → Statement → ℕ
 above_statement count Skip = count
 above_statement count (Set x e) = above_expression (above count x) e
-above_statement count (Store o i e) = above_expression (above_expression count i) e
+above_statement count (Store width o i e) = above_expression (above_expression count i) e
 above_statement count (Call to f es) = above_expressions (above_result count to) es
 above_statement count (Read to) = above_result count to
 above_statement count (Write e) = above_expression count e

@@ -71,7 +71,8 @@ fn last_node(e: &Expression, free: u32, to: u32, exit: u32) -> Node
             right: register(b, taken(a, free)),
             next: exit,
         },
-        Expression::Load(object, a) => Node::Load {
+        Expression::Load(width, object, a) => Node::Load {
+            width: *width,
             object: *object as u32,
             to,
             index: register(a, free),
@@ -104,7 +105,7 @@ pub fn into(
             let next = operand(graph, b, taken(a, free), next)?;
             operand(graph, a, free, next)
         }
-        Expression::Load(_, a) => operand(graph, a, free, next),
+        Expression::Load(_, _, a) => operand(graph, a, free, next),
     }
 }
 

@@ -17,6 +17,7 @@ use super::expressions::{hold, into, operand, operands, register, taken};
 use super::graph::Graph;
 use crate::node::Node;
 use cc_cminor::{Expression, Statement};
+use cc_words::Width;
 use smallvec::SmallVec;
 use std::alloc::{AllocError, Global};
 
@@ -62,20 +63,22 @@ fn with_operand(
 // The nodes of a store.
 fn store(
     graph: &mut Graph,
+    width: Width,
     object: usize,
     index: &Expression,
     value: &Expression,
     count: u32,
     exit: u32,
 ) -> Result<u32, AllocError>
-    requires room { length graph.old + statement_nodes (Store object (expression_of index.now) (expression_of value.now)) ≤ most_nodes }
-    requires numbers { StatementFits (Store object (expression_of index.now) (expression_of value.now)) }
+    requires room { length graph.old + statement_nodes (Store width object (expression_of index.now) (expression_of value.now)) ≤ most_nodes }
+    requires numbers { StatementFits (Store width object (expression_of index.now) (expression_of value.now)) }
     requires count { count ≤ most_variables }
-    ensures made { IfOk result (λ entry. made_at entry graph.new ≡ made count (Store object (expression_of index.now) (expression_of value.now)) exit [] graph.old) }
-    ensures longer { OnOk result (length graph.new ≡ length graph.old + statement_nodes (Store object (expression_of index.now) (expression_of value.now))) }
+    ensures made { IfOk result (λ entry. made_at entry graph.new ≡ made count (Store width object (expression_of index.now) (expression_of value.now)) exit [] graph.old) }
+    ensures longer { OnOk result (length graph.new ≡ length graph.old + statement_nodes (Store width object (expression_of index.now) (expression_of value.now))) }
 {
     let behind = taken(index, count);
     let next = graph.put(Node::Store {
+        width,
         object: object as u32,
         index: register(index, count),
         from: register(value, behind),
@@ -133,8 +136,8 @@ pub fn statement(
     match s {
         Statement::Skip => Ok(exit),
         Statement::Set(x, e) => into(graph, e, count, *x as u32, exit),
-        Statement::Store(object, index, value) => {
-            store(graph, *object, index, value, count, exit)
+        Statement::Store(width, object, index, value) => {
+            store(graph, *width, *object, index, value, count, exit)
         }
         Statement::Call(to, function, arguments) => {
             call(alloc, graph, *to, *function, arguments, count, exit)

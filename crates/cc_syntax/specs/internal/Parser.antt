@@ -12,9 +12,11 @@ use Rattle.cc_syntax.specs.declared.ast.AssignmentOperator.TheVariants as assign
 use Rattle.cc_syntax.specs.declared.ast.StepOperator.{StepOperator}
 use Rattle.cc_syntax.specs.declared.parser.role.Role.{Role}
 use Rattle.cc_syntax.specs.declared.parser.role.Role.TheVariants as role
+use Rattle.cc_syntax.specs.declared.parser.state.ObjectKind.{ObjectKind}
+use Rattle.cc_syntax.specs.declared.parser.state.ObjectKind.TheVariants.{Words, Bytes}
 use Rattle.cc_syntax.specs.internal.Roles.{role_of}
 use Rattle.cc_tokens.specs.Token.{Lexeme}
-use Rattle.cc_syntax.specs.Tree.{Name, Expr, Number, Variable, Element, Call, Parenthesised, Unary, Cast, Binary, Conditional, Exprs, none, more, Target, AtVariable, AtElement, Action, Assign, Step, Evaluate, Declarator, Beginning, Declares, Performs, Stmt, Block, Local, Perform, Return, Break, Continue, If, IfElse, While, DoWhile, For, Stmts, end, next, ConstantExpr, Parameter, Signature, Object, Single, Array, External, Declaration, Definition, Objects}
+use Rattle.cc_syntax.specs.Tree.{Name, Expr, Number, Variable, Element, Call, Parenthesised, Unary, Cast, Binary, Conditional, Exprs, none, more, Target, AtVariable, AtElement, Action, Assign, Step, Evaluate, Declarator, Beginning, Declares, Performs, Stmt, Block, Local, Perform, Return, Break, Continue, If, IfElse, While, DoWhile, For, Stmts, end, next, ConstantExpr, Parameter, Signature, Object, Single, Array, Bytes as ByteArray, External, Declaration, Definition, Objects}
 use Rattle.cc_syntax.specs.Grammar.{Measured, precedence}
 
 -- what waits for an operand to its right, or for a closing token
@@ -72,9 +74,9 @@ pub data Purpose : Type 0 where
   ToGoOn : Beginning → Purpose
   ToInitialise : Position → Scalar → List Declarator → Name → Purpose
 
--- a declaration of objects so far: their type, those that are complete, and a name
+-- a declaration of objects so far: their elements, those that are complete, and a name
 pub record Naming : Type 0 where
-  pub scalar : Scalar
+  pub kind : ObjectKind
   pub objects : List Object
   pub name : Name
 
@@ -134,14 +136,14 @@ pub data Outer : Type 0 where
   ParameterTyped : Signature → Scalar → Outer
   ParameterNamed : Signature → Outer
   Headed : Signature → Outer
-  ObjectNext : Scalar → List Object → Outer
+  ObjectNext : ObjectKind → List Object → Outer
   ObjectNamed : Naming → Outer
   Sizing : Naming → Outer
   Sized : Naming → Option ConstantExpr → Outer
   Initialising : Naming → Outer
   Listing : Naming → Option ConstantExpr → Outer
   Valuing : Naming → Option ConstantExpr → List ConstantExpr → Outer
-  Listed : Scalar → List Object → Outer
+  Listed : ObjectKind → List Object → Outer
 
 -- where the parser stands between two tokens; at file scope, the external declarations that are complete
 pub data State : Type 0 where
@@ -256,10 +258,20 @@ end_in_body b (ToInitialise w t ds n) k e role.Comma = Some (InBody b (Declaring
 end_in_body b (ToInitialise w t ds n) k e role.Semicolon = declares b w t (ds ++ declared n (Some e) ∷ [])
 end_in_body b _ k e _ = None
 
+-- the type of elements, as an operand has it
+abbrev pub scalar_of : ObjectKind → Scalar
+scalar_of (Words t) = t
+scalar_of Bytes = scalar.Unsigned
+
+-- an array of such elements
+abbrev pub array_of : ObjectKind → Name → Option ConstantExpr → List ConstantExpr → Object
+array_of (Words t) = Array
+array_of Bytes = ByteArray
+
 -- the token after a complete object
-abbrev pub separated : List External → Scalar → List Object → Role → Option State
+abbrev pub separated : List External → ObjectKind → List Object → Role → Option State
 separated es t os role.Comma = Some (AtFile es (ObjectNext t os))
-separated es t os role.Semicolon = Some (AtFile (es ++ Objects t os ∷ []) Between)
+separated es t os role.Semicolon = Some (AtFile (es ++ Objects (scalar_of t) os ∷ []) Between)
 separated es t os _ = None
 
 abbrev pub constant : ℕ → Expr → ConstantExpr
@@ -272,14 +284,14 @@ with_object n o = n.objects ++ o ∷ []
 -- the token after a value of an array's list
 abbrev pub end_list_value : List External → Naming → Option ConstantExpr → List ConstantExpr → ConstantExpr → Role → Option State
 end_list_value es n size vs v role.Comma = Some (AtFile es (Valuing n size (vs ++ v ∷ [])))
-end_list_value es n size vs v role.CloseBrace = Some (AtFile es (Listed n.scalar (with_object n (Array n.name size (vs ++ v ∷ [])))))
+end_list_value es n size vs v role.CloseBrace = Some (AtFile es (Listed n.kind (with_object n (array_of n.kind n.name size (vs ++ v ∷ [])))))
 end_list_value es n size vs v _ = None
 
 -- the token after a constant expression
 abbrev pub end_in_object : List External → Naming → Part → Expr → Role → Option State
 end_in_object es n (ToSize at) e role.CloseBracket = Some (AtFile es (Sized n (Some (constant at e))))
 end_in_object es n (ToSize at) e _ = None
-end_in_object es n (ToSingle at) e r = separated es n.scalar (with_object n (Single n.name (Some (constant at e)))) r
+end_in_object es n (ToSingle at) e r = separated es n.kind (with_object n (Single n.name (Some (constant at e)))) r
 end_in_object es n (ToValue size vs at) e r = end_list_value es n size vs (constant at e) r
 
 -- the token after a full expression, of which so many tokens came
@@ -531,21 +543,36 @@ abbrev pub typed_step : List External → Option Scalar → Role → Name → Op
 typed_step es t role.Identifier x = file es (Named t x)
 typed_step es t _ x = None
 
+-- `char`, after `unsigned` alone
+abbrev pub char_step : List External → Scalar → Option State
+char_step es scalar.Unsigned = file es (ObjectNext Bytes [])
+char_step es scalar.Int = None
+
 abbrev pub result_sign_step : List External → Scalar → Role → Name → Option State
 result_sign_step es t role.Int x = file es (Typed (Some t))
+result_sign_step es t role.Char x = char_step es t
 result_sign_step es t r x = typed_step es (Some t) r x
+
+-- a token after the name of an object that is no array; of `unsigned char` there are arrays alone
+abbrev pub single_step : List External → Naming → ObjectKind → Role → Option State
+single_step es n (Words t) (role.Assignment assignment.Plain) = file es (Initialising n)
+single_step es n (Words t) r = separated es n.kind (with_object n (Single n.name None)) r
+single_step es n Bytes r = None
 
 -- a token after the name of an object
 abbrev pub object_step : List External → Naming → Role → Option State
 object_step es n role.OpenBracket = file es (Sizing n)
-object_step es n (role.Assignment assignment.Plain) = file es (Initialising n)
-object_step es n r = separated es n.scalar (with_object n (Single n.name None)) r
+object_step es n r = single_step es n n.kind r
+
+-- a token after the name of the first object of a type
+abbrev pub first_step_object : List External → Option Scalar → Name → Role → Option State
+first_step_object es (Some t) n r = object_step es (record { kind = Words t; objects = []; name = n }) r
+first_step_object es None n r = None
 
 -- a token after the first name of an external declaration
 abbrev pub named_step : List External → Option Scalar → Name → Role → Option State
 named_step es t n role.OpenParenthesis = file es (Parameters (signature_of t n))
-named_step es (Some t) n r = object_step es (record { scalar = t; objects = []; name = n }) r
-named_step es None n r = None
+named_step es t n r = first_step_object es t n r
 
 -- the first token of a parameter
 abbrev pub parameter_step : List External → Signature → Role → Option State
@@ -585,8 +612,8 @@ headed_step es f role.Semicolon = Some (AtFile (es ++ Declaration f ∷ []) Betw
 headed_step es f role.OpenBrace = defines es f (all_named f.parameters)
 headed_step es f _ = None
 
-abbrev pub object_next_step : List External → Scalar → List Object → Role → Name → Option State
-object_next_step es t os role.Identifier x = file es (ObjectNamed (record { scalar = t; objects = os; name = x }))
+abbrev pub object_next_step : List External → ObjectKind → List Object → Role → Name → Option State
+object_next_step es t os role.Identifier x = file es (ObjectNamed (record { kind = t; objects = os; name = x }))
 object_next_step es t os _ x = None
 
 abbrev pub sizing_step : List External → Naming → Role → Name → Option State
@@ -595,7 +622,7 @@ sizing_step es n r x = first_step (OfObject es n (ToSize x.at)) r x
 
 abbrev pub sized_step : List External → Naming → Option ConstantExpr → Role → Option State
 sized_step es n size (role.Assignment assignment.Plain) = file es (Listing n size)
-sized_step es n size r = separated es n.scalar (with_object n (Array n.name size [])) r
+sized_step es n size r = separated es n.kind (with_object n (array_of n.kind n.name size [])) r
 
 abbrev pub listing_step : List External → Naming → Option ConstantExpr → Role → Option State
 listing_step es n size role.OpenBrace = file es (Valuing n size [])
@@ -604,7 +631,7 @@ listing_step es n size _ = None
 -- the closing brace of a list, after a comma
 abbrev pub end_list : List External → Naming → Option ConstantExpr → List ConstantExpr → Option State
 end_list es n size [] = None
-end_list es n size (v ∷ vs) = file es (Listed n.scalar (with_object n (Array n.name size (v ∷ vs))))
+end_list es n size (v ∷ vs) = file es (Listed n.kind (with_object n (array_of n.kind n.name size (v ∷ vs))))
 
 abbrev pub valuing_step : List External → Naming → Option ConstantExpr → List ConstantExpr → Role → Name → Option State
 valuing_step es n size vs role.CloseBrace x = end_list es n size vs

@@ -91,7 +91,7 @@ purpose_view (purposes.Continue a) = ToGoOn (beginning_tree a.value)
 purpose_view (purposes.Initialise d) = ToInitialise (position_view d.value.position) d.value.scalar (declarator_trees d.value.declarators.items) (name_tree d.value.name)
 
 abbrev pub naming_view : naming.Naming → Naming
-naming_view n = record { scalar = n.scalar; objects = object_trees n.objects.items; name = name_tree n.name }
+naming_view n = record { kind = n.kind; objects = object_trees n.objects.items; name = name_tree n.name }
 
 abbrev pub part_view : part.Part → Part
 part_view (parts.Size at) = ToSize at

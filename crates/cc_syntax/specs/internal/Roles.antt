@@ -15,6 +15,7 @@ use Rattle.cc_syntax.specs.declared.parser.role.Role.TheVariants as role
 
 abbrev pub keyword_role : Keyword → Role
 keyword_role keyword.Int = role.Int
+keyword_role keyword.Char = role.Char
 keyword_role keyword.Signed = role.SignWord scalar.Int
 keyword_role keyword.Unsigned = role.SignWord scalar.Unsigned
 keyword_role keyword.Void = role.Void

@@ -5,9 +5,8 @@ ghost use Rattle.std.specs.Option.{option_map};
 ghost use Rattle.cc_syntax.specs.Grammar.{precedence};
 ghost use Rattle.cc_syntax.specs.Erase.{name_tree, expression_tree, declarator_trees, optional_tree, external_trees, target_tree, object_tree, constant_tree, object_trees, constant_trees, optional_constant};
 ghost use Rattle.cc_syntax.specs.internal.Arguments.{expressions_of};
-ghost use Rattle.cc_syntax.specs.internal.Parser.{name_of, reduced, full_of, goes_on, begins_full, end_in_body, end_in_object, end_full, close, operate, ask, open_name, target_of, assign, step_target, operator_step, cast, call_of_none, operand_step, cast_step, cast_sign_step, full_step, first_step, declared, separated, end_list_value, Operand, Operator, Arguments, ToInitialise, AtFile, InBody, Valuing, Stepped};
+ghost use Rattle.cc_syntax.specs.internal.Parser.{name_of, reduced, full_of, goes_on, begins_full, end_in_body, end_in_object, end_full, close, operate, ask, open_name, target_of, assign, step_target, operator_step, cast, call_of_none, operand_step, cast_step, cast_sign_step, full_step, first_step, declared, scalar_of, array_of, separated, end_list_value, Operand, Operator, Arguments, ToInitialise, AtFile, InBody, Valuing, Stepped};
 ghost use Rattle.cc_syntax.specs.internal.ParserView.{waiting_view, waiting_views, context_view, full_view, phase_view, state_view, body_view, position_view, purpose_view, naming_view, part_view, spot_view, Gives};
-ghost use Rattle.cc_syntax.specs.Tree.{Array};
 ghost use Rattle.cc_tokens.specs.Token.{lexeme};
 
 use crate::ast::{
@@ -20,8 +19,8 @@ use crate::parser::expression::{
 use crate::parser::role::Role;
 use crate::parser::settle::{end_action, end_declaration, end_test, settled_unboxed};
 use crate::parser::state::{
-    Body, Context, DeclaredName, File, Full, Naming, Outer, Part, Phase, Purpose, Spot, Stage,
-    State, SteppedName, SteppedTarget, Values, Waiting, at_file, in_body, in_full,
+    Body, Context, DeclaredName, File, Full, Naming, ObjectKind, Outer, Part, Phase, Purpose, Spot,
+    Stage, State, SteppedName, SteppedTarget, Values, Waiting, at_file, in_body, in_full,
 };
 use crate::parser::stop::Stop;
 use cc_tokens::{Scalar, Token};
@@ -94,20 +93,46 @@ pub fn with_one(mut objects: Vec<Object>, object: Object) -> Result<Vec<Object>,
     Ok(objects)
 }
 
+/// The type of the elements, as an operand has it.
+fn scalar_of(kind: ObjectKind) -> Scalar
+    ensures { result ≡ scalar_of kind }
+{
+    match kind {
+        ObjectKind::Words(scalar) => scalar,
+        ObjectKind::Bytes => Scalar::Unsigned,
+    }
+}
+
+/// An array of such elements.
+fn array_of(
+    kind: ObjectKind,
+    name: Identifier,
+    size: Option<ConstantExpression>,
+    values: Vec<ConstantExpression>,
+) -> Object
+    ensures { object_tree result ≡ array_of kind (name_tree name) (optional_constant size) (constant_trees values.items) }
+{
+    match kind {
+        ObjectKind::Words(_) => Object::Array(name, size, values),
+        ObjectKind::Bytes => Object::Bytes(name, size, values),
+    }
+}
+
 /// The token after a complete object.
 pub fn end_object(
     file: Box<File>,
-    scalar: Scalar,
+    kind: ObjectKind,
     objects: Vec<Object>,
     role: Role,
 ) -> Result<State, Stop>
-    ensures { Gives state_view result (separated (external_trees file.value.externals.items) scalar (object_trees objects.items) role) }
+    ensures { Gives state_view result (separated (external_trees file.value.externals.items) kind (object_trees objects.items) role) }
 {
     let mut file = file;
     match role {
-        Role::Comma => Ok(at_file(file, Outer::ObjectNext(scalar, objects))),
+        Role::Comma => Ok(at_file(file, Outer::ObjectNext(kind, objects))),
         Role::Semicolon => {
-            file.externals.push(External::Objects(scalar, objects))?;
+            file.externals
+                .push(External::Objects(scalar_of(kind), objects))?;
             Ok(at_file(file, Outer::Between))
         }
         _ => {
@@ -266,14 +291,14 @@ pub fn with_array(
     size: Option<ConstantExpression>,
     values: Vec<ConstantExpression>,
 ) -> Result<Vec<Object>, AllocError>
-    ensures { IfOk result (λ os. object_trees os.items ≡ object_trees naming.value.objects.items ++ Array (name_tree naming.value.name) (optional_constant size) (constant_trees values.items) ∷ []) }
+    ensures { IfOk result (λ os. object_trees os.items ≡ object_trees naming.value.objects.items ++ array_of naming.value.kind (name_tree naming.value.name) (optional_constant size) (constant_trees values.items) ∷ []) }
 {
     let Naming {
-        scalar: _,
+        kind,
         objects,
         name,
     } = Box::into_inner(naming);
-    with_one(objects, Object::Array(name, size, values))
+    with_one(objects, array_of(kind, name, size, values))
 }
 
 /// The state in which a value of an array's list is due.
@@ -312,7 +337,7 @@ fn end_value(
 ) -> Result<State, Stop>
     ensures { Gives state_view result (end_list_value (external_trees file.value.externals.items) (naming_view naming.value) (optional_constant size) (constant_trees values.items) (constant_tree value) role) }
 {
-    let scalar = naming.scalar;
+    let kind = naming.kind;
     let values = match with_value(values, value) {
         Ok(values) => values,
         Err(_) => {
@@ -325,7 +350,7 @@ fn end_value(
     match role {
         Role::Comma => listing(alloc, file, naming, size, values),
         Role::CloseBrace => match with_array(naming, size, values) {
-            Ok(objects) => Ok(at_file(file, Outer::Listed(scalar, objects))),
+            Ok(objects) => Ok(at_file(file, Outer::Listed(kind, objects))),
             Err(_) => {
                 drop(file);
                 Err(Stop::Memory)
@@ -367,13 +392,13 @@ fn end_object_part(
         },
         Part::Single(at) => {
             let Naming {
-                scalar,
+                kind,
                 objects,
                 name,
             } = Box::into_inner(naming);
             let value = ConstantExpression { at, expression };
             let objects = with_one(objects, Object::Single(name, Some(value)))?;
-            end_object(file, scalar, objects, role)
+            end_object(file, kind, objects, role)
         }
         Part::Value(size, values, at) => {
             let value = ConstantExpression { at, expression };

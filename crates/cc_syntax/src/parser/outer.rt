@@ -3,8 +3,9 @@
 ghost use Rattle.std.specs.Prelude.{◌≡◌, ◌≤◌, [], ◌∷◌, ◌++◌, IfOk, Some, None, length};
 ghost use Rattle.std.specs.Option.{option_map};
 ghost use Rattle.cc_syntax.specs.Erase.{name_tree, external_trees, signature_tree, parameter_trees, optional_constant, constant_trees, object_trees};
-ghost use Rattle.cc_syntax.specs.internal.Parser.{name_of, external_step, typed_step, result_sign_step, object_step, named_step, parameter_step, parameters_step, only_void_step, parameter_named_step, parameter_typed_step, parameter_sign_step, headed_step, object_next_step, sizing_step, sized_step, listing_step, end_list, valuing_step, outer_step, with_parameter, signature_of, all_named};
+ghost use Rattle.cc_syntax.specs.internal.Parser.{name_of, external_step, typed_step, char_step, result_sign_step, single_step, separated, object_step, first_step_object, named_step, parameter_step, parameters_step, only_void_step, parameter_named_step, parameter_typed_step, parameter_sign_step, headed_step, object_next_step, sizing_step, sized_step, listing_step, end_list, valuing_step, outer_step, with_parameter, signature_of, all_named};
 ghost use Rattle.cc_syntax.specs.internal.ParserView.{naming_view, outer_view, state_view, Gives};
+ghost use Rattle.cc_syntax.specs.Tree.{Single};
 ghost use Rattle.cc_tokens.specs.Token.{lexeme};
 
 use crate::ast::{
@@ -13,7 +14,7 @@ use crate::ast::{
 use crate::parser::full::{end_object, identifier, listing, step_first, with_array, with_one};
 use crate::parser::role::Role;
 use crate::parser::state::{
-    Body, Context, File, Naming, Outer, Part, Stage, State, Values, at_file,
+    Body, Context, File, Naming, ObjectKind, Outer, Part, Stage, State, Values, at_file,
 };
 use crate::parser::stop::Stop;
 use cc_tokens::{Scalar, Token};
@@ -55,6 +56,22 @@ fn step_typed(
     }
 }
 
+/// `char`, after `unsigned` alone.
+fn step_char(alloc: Global, file: Box<File>, scalar: Scalar) -> Result<State, Stop>
+    ensures { Gives state_view result (char_step (external_trees file.value.externals.items) scalar) }
+{
+    match scalar {
+        Scalar::Unsigned => {
+            let objects = Vec::new(alloc);
+            Ok(at_file(file, Outer::ObjectNext(ObjectKind::Bytes, objects)))
+        }
+        Scalar::Int => {
+            drop(file);
+            Err(Stop::Unexpected)
+        }
+    }
+}
+
 /// A token after `signed` or `unsigned`.
 fn step_result_sign(
     alloc: Global,
@@ -70,6 +87,7 @@ fn step_result_sign(
 {
     match role {
         Role::Int => Ok(at_file(file, Outer::Typed(Some(scalar)))),
+        Role::Char => step_char(alloc, file, scalar),
         _ => step_typed(alloc, file, Some(scalar), role, text, token),
     }
 }
@@ -80,23 +98,67 @@ fn step_object(file: Box<File>, naming: Box<Naming>, role: Role) -> Result<State
 {
     match role {
         Role::OpenBracket => Ok(at_file(file, Outer::Sizing(naming))),
-        Role::Assignment(AssignmentOperator::Plain) => {
-            Ok(at_file(file, Outer::Initialising(naming)))
-        }
-        _ => {
-            let Naming {
-                scalar,
-                objects,
-                name,
-            } = Box::into_inner(naming);
-            match with_one(objects, Object::Single(name, None)) {
-                Ok(objects) => end_object(file, scalar, objects, role),
-                Err(_) => {
-                    drop(file);
-                    Err(Stop::Memory)
-                }
+        _ => step_single(file, naming, role),
+    }
+}
+
+/// A token after the name of an object that is no array; of `unsigned char` there are arrays alone.
+fn step_single(file: Box<File>, naming: Box<Naming>, role: Role) -> Result<State, Stop>
+    ensures { Gives state_view result (single_step (external_trees file.value.externals.items) (naming_view naming.value) naming.value.kind role) }
+{
+    match naming.kind {
+        ObjectKind::Words(_) => match role {
+            Role::Assignment(AssignmentOperator::Plain) => {
+                Ok(at_file(file, Outer::Initialising(naming)))
             }
+            _ => end_single(file, naming, role),
+        },
+        ObjectKind::Bytes => {
+            drop(file);
+            drop(naming);
+            Err(Stop::Unexpected)
         }
+    }
+}
+
+/// The token after a single object without a value.
+fn end_single(file: Box<File>, naming: Box<Naming>, role: Role) -> Result<State, Stop>
+    ensures { Gives state_view result (separated (external_trees file.value.externals.items) naming.value.kind (object_trees naming.value.objects.items ++ Single (name_tree naming.value.name) None ∷ []) role) }
+{
+    let Naming {
+        kind,
+        objects,
+        name,
+    } = Box::into_inner(naming);
+    match with_one(objects, Object::Single(name, None)) {
+        Ok(objects) => end_object(file, kind, objects, role),
+        Err(_) => {
+            drop(file);
+            Err(Stop::Memory)
+        }
+    }
+}
+
+/// A token after the name of the first object of a type.
+fn step_first_object(
+    alloc: Global,
+    file: Box<File>,
+    object_type: Option<Scalar>,
+    name: Identifier,
+    role: Role,
+) -> Result<State, Stop>
+    ensures { Gives state_view result (first_step_object (external_trees file.value.externals.items) object_type (name_tree name) role) }
+{
+    match object_type {
+        Some(scalar) => {
+            let naming = Naming {
+                kind: ObjectKind::Words(scalar),
+                objects: Vec::new(alloc),
+                name,
+            };
+            step_object(file, Box::new(alloc, naming)?, role)
+        }
+        None => Err(Stop::Unexpected),
     }
 }
 
@@ -120,17 +182,7 @@ fn step_named(
             let signature = Box::new(alloc, signature)?;
             Ok(at_file(file, Outer::Parameters(signature)))
         }
-        _ => match result_type {
-            Some(scalar) => {
-                let naming = Naming {
-                    scalar,
-                    objects: Vec::new(alloc),
-                    name,
-                };
-                step_object(file, Box::new(alloc, naming)?, role)
-            }
-            None => Err(Stop::Unexpected),
-        },
+        _ => step_first_object(alloc, file, result_type, name, role),
     }
 }
 
@@ -317,7 +369,7 @@ fn step_headed(
 fn step_object_next(
     alloc: Global,
     file: Box<File>,
-    scalar: Scalar,
+    kind: ObjectKind,
     objects: Vec<Object>,
     role: Role,
     text: &[u8],
@@ -325,13 +377,13 @@ fn step_object_next(
 ) -> Result<State, Stop>
     requires order { token.from ≤ token.to }
     requires within { token.to ≤ length text.now }
-    ensures { Gives state_view result (object_next_step (external_trees file.value.externals.items) scalar (object_trees objects.items) role (name_of (lexeme text.now token))) }
+    ensures { Gives state_view result (object_next_step (external_trees file.value.externals.items) kind (object_trees objects.items) role (name_of (lexeme text.now token))) }
 {
     match role {
         Role::Identifier => {
             let name = identifier(alloc, text, token)?;
             let naming = Naming {
-                scalar,
+                kind,
                 objects,
                 name,
             };
@@ -382,9 +434,9 @@ fn step_sized(
             Ok(at_file(file, Outer::Listing(naming, size)))
         }
         _ => {
-            let scalar = naming.scalar;
+            let kind = naming.kind;
             match with_array(naming, size, Vec::new(alloc)) {
-                Ok(objects) => end_object(file, scalar, objects, role),
+                Ok(objects) => end_object(file, kind, objects, role),
                 Err(_) => {
                     drop(file);
                     Err(Stop::Memory)
@@ -431,9 +483,9 @@ fn end_list_of(
         drop(values);
         return Err(Stop::Unexpected);
     }
-    let scalar = naming.scalar;
+    let kind = naming.kind;
     match with_array(naming, size, values) {
-        Ok(objects) => Ok(at_file(file, Outer::Listed(scalar, objects))),
+        Ok(objects) => Ok(at_file(file, Outer::Listed(kind, objects))),
         Err(_) => {
             drop(file);
             Err(Stop::Memory)
@@ -499,8 +551,8 @@ pub fn step_outer(
         }
         Outer::ParameterNamed(signature) => step_parameter_named(file, signature, role),
         Outer::Headed(signature) => step_headed(alloc, file, signature, role),
-        Outer::ObjectNext(scalar, objects) => {
-            step_object_next(alloc, file, scalar, objects, role, text, token)
+        Outer::ObjectNext(kind, objects) => {
+            step_object_next(alloc, file, kind, objects, role, text, token)
         }
         Outer::ObjectNamed(naming) => step_object(file, naming, role),
         Outer::Sizing(naming) => step_sizing(alloc, file, naming, role, text, token),
@@ -511,6 +563,6 @@ pub fn step_outer(
         }
         Outer::Listing(naming, size) => step_listing(alloc, file, naming, size, role),
         Outer::Valuing(list) => step_valuing(alloc, file, list, role, text, token),
-        Outer::Listed(scalar, objects) => end_object(file, scalar, objects, role),
+        Outer::Listed(kind, objects) => end_object(file, kind, objects, role),
     }
 }

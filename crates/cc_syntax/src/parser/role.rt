@@ -12,6 +12,7 @@ pub enum Role {
     Identifier,
     Number(Scalar, u32),
     Int,
+    Char,
     /// `signed` or `unsigned`, after which `int` may stand.
     SignWord(Scalar),
     Void,
@@ -53,6 +54,7 @@ fn of_keyword(keyword: Keyword) -> Role
 {
     match keyword {
         Keyword::Int => Role::Int,
+        Keyword::Char => Role::Char,
         Keyword::Signed => Role::SignWord(Scalar::Int),
         Keyword::Unsigned => Role::SignWord(Scalar::Unsigned),
         Keyword::Void => Role::Void,

@@ -123,10 +123,17 @@ pub enum Purpose {
     Initialise(Box<DeclaredName>),
 }
 
+/// What a declaration of objects declares: objects of a type, or arrays of `unsigned char`.
+#[derive(Clone, Copy)]
+pub enum ObjectKind {
+    Words(Scalar),
+    Bytes,
+}
+
 /// A declaration of objects so far: their type, those that are complete, and a name.
 #[derive(Drop)]
 pub struct Naming {
-    pub scalar: Scalar,
+    pub kind: ObjectKind,
     pub objects: Vec<Object>,
     pub name: Identifier,
 }
@@ -237,8 +244,8 @@ pub enum Outer {
     ParameterNamed(Box<Signature>),
     /// A semicolon or a body.
     Headed(Box<Signature>),
-    /// A name, after a comma.
-    ObjectNext(Scalar, Vec<Object>),
+    /// A name, after a comma or after `unsigned char`.
+    ObjectNext(ObjectKind, Vec<Object>),
     /// `[`, `=`, a comma or a semicolon, after an object's name.
     ObjectNamed(Box<Naming>),
     /// A length or `]`.
@@ -252,7 +259,7 @@ pub enum Outer {
     /// A value, or after a comma `}`.
     Valuing(Box<Values>),
     /// A comma or a semicolon, after a complete object.
-    Listed(Scalar, Vec<Object>),
+    Listed(ObjectKind, Vec<Object>),
 }
 
 /// Where the parser stands between two tokens. It moves at each token, so it is small: what it has lies in boxes, which are

@@ -206,8 +206,8 @@ static FIRST_HOUR_2: [Row; 26] = [
     ),
     (
         "unsigned char c;\nint main(void) {\n  c = 200;\n  write_word(c);\n  return 0;\n}\n",
-        "1:10",
-        "there is no char in this C",
+        "1:16",
+        "there is no single unsigned char in this C",
     ),
     (
         "int main(void) {\n  int a[10];\n  for (int i = 0; i < 10; i++)\n    a[i] = i;\n  write_word(a[9]);\n  return 0;\n}\n",

@@ -110,8 +110,11 @@ fn limits(rt: HostRuntime) -> Result<(), Fail> {
         // the label before and the one after
         (25, 0, false),
         (25, 2, false),
-        // a width of 1
-        (83, 1, false),
+        // the widths are 1 and 4
+        (83, 1, true),
+        (83, 2, false),
+        (83, 3, false),
+        (83, 5, false),
     ] {
         assert!(rt;
             is_changed(rt.alloc(), &KINDS, place, value)? == right,

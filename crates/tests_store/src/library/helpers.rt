@@ -1,4 +1,6 @@
 // Units, names and disks, and what a library holds.
+ghost use Rattle.std.specs.Prelude.{◌≡◌, None, IfOk};
+
 use cc_disk::{Disk, MemoryDisk};
 use cc_journal::format;
 use cc_library::{Command, Edit, Library, LibraryFault, Name, SharedUnit};
@@ -17,8 +19,10 @@ pub enum Step {
     Compact,
 }
 
-/// The unit of that source, with this one code word and no globals.
-pub fn unit(alloc: Global, source: &[u8], word: u32) -> Result<StoredUnit, Fail> {
+/// The unit of that source, with this one code word, no globals and no certificate.
+pub fn unit(alloc: Global, source: &[u8], word: u32) -> Result<StoredUnit, Fail>
+    ensures { IfOk result (λ unit. unit.certificate ≡ None) }
+{
     let Ok(source) = Source::new(Vec::from_slice(alloc, source)?) else {
         return Err(Fail::from("the bytes are no source"));
     };

@@ -34,12 +34,13 @@ fn row_disk(alloc: Global, changes: &[(usize, u8)]) -> Result<MemoryDisk, Fail> 
 #[test]
 fn each_change_of_the_row(rt: HostRuntime) -> Result<(), Fail> {
     let alloc = rt.alloc();
-    let table: [(&[(usize, u8)], u32); 12] = [
-        // Withdraw of an absent name.
+    let table: [(&[(usize, u8)], u32); 13] = [
+        // Withdraw of an absent name, in both versions.
         (&[], 37),
+        (&[(21, 2)], 37),
         // A body of 58 bytes that is no command; another version, another kind, a bad name.
         (&[(17, 0x3a)], 37),
-        (&[(21, 2)], 37),
+        (&[(21, 3)], 37),
         (&[(21, 0)], 37),
         (&[(22, 4)], 37),
         (&[(23, 0)], 37),

@@ -1,6 +1,8 @@
 // Names, and the bytes of commands.
 use crate::library::helpers::{name, unit};
-use cc_library::{Kind, Name, ReadFault, body_of_command, command_body, read_command};
+use cc_library::{
+    Command, Kind, Name, ReadFault, body_length, body_of_command, command_body, read_command,
+};
 use std::alloc::Global;
 use std::test::Fail;
 
@@ -8,8 +10,18 @@ use std::test::Fail;
 static ADD: [u8; 36] =
     *b"\x01\x01\x01a\x10\x00\x00\x00int main(void){}\x01\x00\x00\x00\x00\x00\x00\x00\x00\x00\x00\x00";
 
-// The body of Withdraw of `a`.
-static WITHDRAW: [u8; 4] = *b"\x01\x03\x01a";
+// The same in version 2, with a certificate of no byte.
+static CERTIFIED: [u8; 40] =
+    *b"\x02\x01\x01a\x10\x00\x00\x00int main(void){}\x01\x00\x00\x00\x00\x00\x00\x00\x00\x00\x00\x00\x00\x00\x00\x00";
+
+// A Replace of `a` without source, with the code word 7 and a certificate of three bytes.
+static REPLACE: [u8; 27] =
+    *b"\x02\x02\x01a\x00\x00\x00\x00\x01\x00\x00\x00\x07\x00\x00\x00\x00\x00\x00\x00\x03\x00\x00\x00xyz";
+
+// The body of Withdraw of `a`, as it is written, and as it is read as well.
+static WITHDRAW: [u8; 4] = *b"\x02\x03\x01a";
+
+static WITHDRAW_1: [u8; 4] = *b"\x01\x03\x01a";
 
 #[test]
 fn names(rt: HostRuntime) {
@@ -46,14 +58,50 @@ fn add_body(alloc: Global) -> Result<Vec<u8>, Fail> {
 // The body of the command that the bytes are.
 fn spelled_again(alloc: Global, bytes: &[u8]) -> Result<Vec<u8>, Fail> {
     let command = read_command(alloc, bytes)?;
+    if body_length(&command) != bytes.len() || bytes.len() > 100 {
+        return Err(Fail::from("another length than what was read"));
+    }
     Ok(body_of_command(alloc, &command)?)
+}
+
+// The certificate of the unit of an Add or a Replace that the bytes are, where it has one.
+fn certificate_read(alloc: Global, bytes: &[u8]) -> Result<Option<Vec<u8>>, Fail> {
+    match read_command(alloc, bytes)? {
+        Command::Add(_, unit) | Command::Replace(_, unit) => match &unit.stored().certificate {
+            Some(certificate) => Ok(Some(Vec::from_slice(alloc, certificate.bytes())?)),
+            None => Ok(None),
+        },
+        Command::Withdraw(_) => Err(Fail::from("a Withdraw has no unit")),
+    }
 }
 
 #[test]
 fn bodies(rt: HostRuntime) -> Result<(), Fail> {
     assert!(rt; add_body(rt.alloc())?.as_slice() == ADD.as_slice());
     assert!(rt; spelled_again(rt.alloc(), &ADD)?.as_slice() == ADD.as_slice());
-    assert!(rt; spelled_again(rt.alloc(), &WITHDRAW)?.as_slice() == WITHDRAW.as_slice());
+    for body in [
+        CERTIFIED.as_slice(),
+        REPLACE.as_slice(),
+        WITHDRAW.as_slice(),
+    ] {
+        assert!(rt; spelled_again(rt.alloc(), body)?.as_slice() == body);
+    }
+    assert!(rt; spelled_again(rt.alloc(), &WITHDRAW_1)?.as_slice() == WITHDRAW.as_slice());
+    Ok(())
+}
+
+#[test]
+fn an_empty_certificate_is_not_none(rt: HostRuntime) -> Result<(), Fail> {
+    let alloc = rt.alloc();
+    assert!(rt; certificate_read(alloc, &ADD)?.is_none());
+    let Some(empty) = certificate_read(alloc, &CERTIFIED)? else {
+        return Err(Fail::from("a certificate without a byte"));
+    };
+    assert!(rt; empty.is_empty());
+    let Some(three) = certificate_read(alloc, &REPLACE)? else {
+        return Err(Fail::from("a certificate of three bytes"));
+    };
+    assert!(rt; three.as_slice() == b"xyz".as_slice());
     Ok(())
 }
 
@@ -67,10 +115,17 @@ fn is_refused(alloc: Global, bytes: &[u8]) -> bool {
 
 #[test]
 fn bytes_that_are_no_command(rt: HostRuntime) {
-    let table: [&[u8]; 7] = [
+    let table: [&[u8]; 14] = [
         b"",
         b"\x01\x03\x01",
-        b"\x02\x03\x01a",
+        b"\x00\x03\x01a",
+        b"\x03\x03\x01a",
+        b"\xff\x03\x01a",
+        b"\x02\x03\x01a\x00\x00\x00\x00",
+        &CERTIFIED[..36],
+        &CERTIFIED[..39],
+        &REPLACE[..26],
+        b"\x01\x01\x01a\x00\x00\x00\x00\x01\x00\x00\x00\x07\x00\x00\x00\x00\x00\x00\x00\x00\x00\x00\x00",
         b"\x01\x04\x01a",
         b"\x01\x03\x01A",
         b"\x01\x03\x01a\x00",

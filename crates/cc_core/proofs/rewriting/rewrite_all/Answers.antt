@@ -1,9 +1,9 @@
 -- What is written is the journal of one Add per name, and it fits, as the state's type keeps of an idle state.
-use Rattle.std.proofs.Common.{◌≡◌, ◌≤◌, List, ℕ, refl, sym, ap, subst, ◌∙◌}
+use Rattle.std.proofs.Common.{◌≡◌, ◌≤◌, List, ℕ, refl, sym, ap, subst, ◌∙◌, arith}
 use Rattle.cc_journal.specs.Commit.{rewrite_commit}
 use Rattle.cc_journal.specs.Format.{room_of}
-use Rattle.cc_library.specs.Compact.{adds_of, compacted}
-use Rattle.cc_library.proofs.Compacting.{spelled_bodies}
+use Rattle.cc_library.specs.Compact.{compacted}
+use Rattle.cc_library.proofs.Compacting.{spelled_compacted}
 use Rattle.cc_core.specs.declared.contents.RewriteDue.TheVariants as left
 use Rattle.cc_core.specs.declared.contents.Phase.{Phase}
 use Rattle.cc_core.specs.declared.contents.Phase.TheVariants.{Rewriting}
@@ -12,6 +12,12 @@ use Rattle.cc_core.specs.Store.{first_written, rewrite_of}
 use Rattle.cc_core.specs.Step.{RewritesAll}
 use Rattle.cc_core.proofs.Possible.{rewrites_all, memory_answers}
 use Rattle.cc_core.proofs.rewriting.rewrite_all.Goals as goal
+
+pub bodies-requires : goal.bodies-requires
+bodies-requires c =
+    let old = c.args.core.now in
+    let fits = subst (λ (phase : Phase). IsReadyIn phase old.library old.store old.order) c.in-Idle.is c.requires in
+    omega (arith, fits, c.used.ensures.small)
 
 pub returns-in_err-bodies : goal.returns-in_err-bodies
 returns-in_err-bodies c =
@@ -24,7 +30,7 @@ pub rewrite-requires : goal.rewrite-requires
 rewrite-requires c =
     let old = c.args.core.now in
     let fits = subst (λ (phase : Phase). IsReadyIn phase old.library old.store old.order) c.in-Idle.is c.requires in
-    let is : c.deref.result.now ≡ compacted old.library = c.deref.ensures.value ∙ spelled_bodies c.in_ok-bodies.bodies.items (adds_of old.library) c.in_ok-bodies.ensures in
+    let is : c.deref.result.now ≡ compacted old.library = c.deref.ensures.value ∙ spelled_compacted c.in_ok-bodies.bodies.items old.library c.in_ok-bodies.ensures in
     subst (λ (l : List (List ℕ)). room_of l ≤ old.store.area) (sym is) fits
 
 pub returns-in_err-commit : goal.returns-in_err-commit
@@ -38,7 +44,7 @@ pub returns : goal.returns
 returns c =
     let old = c.args.core.now in
     let fits = subst (λ (phase : Phase). IsReadyIn phase old.library old.store old.order) c.in-Idle.is c.requires in
-    let is : c.deref.result.now ≡ compacted old.library = c.deref.ensures.value ∙ spelled_bodies c.in_ok-bodies.bodies.items (adds_of old.library) c.in_ok-bodies.ensures in
+    let is : c.deref.result.now ≡ compacted old.library = c.deref.ensures.value ∙ spelled_compacted c.in_ok-bodies.bodies.items old.library c.in_ok-bodies.ensures in
     let commit = c.in_ok-commit.commit in
     let commit_is : commit ≡ rewrite_of old.store old.library = c.in_ok-commit.ensures.commit ∙ ap (λ (l : List (List ℕ)). rewrite_commit old.store.area_byte old.store.area l) is in (
       record {

@@ -2,6 +2,7 @@ use Rattle.std.proofs.Common.{◌≡◌, ℕ, sym, ap, ◌∙◌, true, ◌⊎�
 use Rattle.std.proofs.lemmas.Result.{on_ok_weaker}
 use Rattle.cc_words.specs.declared.operators.Unary.{Unary as UnaryOperator}
 use Rattle.cc_words.specs.declared.operators.Binary.{Binary as BinaryOperator}
+use Rattle.cc_words.specs.declared.operators.Width.{Width}
 use Rattle.cc_ltl.specs.declared.operation.Operation.{Operation}
 use Rattle.cc_ltl.specs.declared.operation.Operation.TheVariants.{Nop, Const, Unary, Binary, Load, Store, Call, Read, Write}
 use Rattle.cc_ltl.specs.Ltl.{goes_on}
@@ -28,8 +29,8 @@ LeadsOnTo op n =
     ⊎ (((to : ℕ) × (word : ℕ) × (op ≡ Const to word n))
     ⊎ (((o : UnaryOperator) × (to : ℕ) × (from : ℕ) × (op ≡ Unary o to from n))
     ⊎ (((o : BinaryOperator) × (to : ℕ) × (left : ℕ) × (right : ℕ) × (op ≡ Binary o to left right n))
-    ⊎ (((object : ℕ) × (to : ℕ) × (index : ℕ) × (op ≡ Load object to index n))
-    ⊎ (((object : ℕ) × (index : ℕ) × (from : ℕ) × (op ≡ Store object index from n))
+    ⊎ (((width : Width) × (object : ℕ) × (to : ℕ) × (index : ℕ) × (op ≡ Load width object to index n))
+    ⊎ (((width : Width) × (object : ℕ) × (index : ℕ) × (from : ℕ) × (op ≡ Store width object index from n))
     ⊎ (((function : ℕ) × (op ≡ Call function n))
     ⊎ ((op ≡ Read n)
     ⊎ (op ≡ Write n))))))))
@@ -39,8 +40,8 @@ leads_on op n (inl e) = (ap goes_on e, sym (ap next e))
 leads_on op n (inr (inl (to, word, e))) = (ap goes_on e, sym (ap next e))
 leads_on op n (inr (inr (inl (o, to, from, e)))) = (ap goes_on e, sym (ap next e))
 leads_on op n (inr (inr (inr (inl (o, to, left, right, e))))) = (ap goes_on e, sym (ap next e))
-leads_on op n (inr (inr (inr (inr (inl (object, to, index, e)))))) = (ap goes_on e, sym (ap next e))
-leads_on op n (inr (inr (inr (inr (inr (inl (object, index, from, e))))))) = (ap goes_on e, sym (ap next e))
+leads_on op n (inr (inr (inr (inr (inl (width, object, to, index, e)))))) = (ap goes_on e, sym (ap next e))
+leads_on op n (inr (inr (inr (inr (inr (inl (width, object, index, from, e))))))) = (ap goes_on e, sym (ap next e))
 leads_on op n (inr (inr (inr (inr (inr (inr (inl (function, e)))))))) = (ap goes_on e, sym (ap next e))
 leads_on op n (inr (inr (inr (inr (inr (inr (inr (inl e)))))))) = (ap goes_on e, sym (ap next e))
 leads_on op n (inr (inr (inr (inr (inr (inr (inr (inr e)))))))) = (ap goes_on e, sym (ap next e))

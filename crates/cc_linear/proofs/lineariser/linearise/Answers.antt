@@ -13,15 +13,17 @@ pub new-requires : goal.new-requires
 new-requires c =
     let p = c.args.pair in
     let items = c.in_ok-code.code.items in
-    let made : IsMadeOf p.ltl items = subst (λ (l : Ltl). IsMadeOf l items) c.code-2.ensures.code c.in_ok-code.ensures in
+    let made : IsMadeOf p.ltl items = subst (λ (l : Ltl). IsMadeOf l items) c.code.ensures.code c.in_ok-code.ensures in
     let kept : above.IsPair p = subst above.IsPair c.pair.view_is c.pair.invariant in
-    subst (λ (u : parsed.Unit). IsPair (record { unit = u; function = c.function-function.result; slots = c.slots-slots.result; code = items })) (sym c.into_unit.ensures.answer)
-    (subst (λ f. IsPair (record { unit = p.unit; function = f; slots = c.slots-slots.result; code = items })) (sym c.function-function.ensures.answer)
-    (subst (λ s. IsPair (record { unit = p.unit; function = p.function; slots = s; code = items })) (sym (c.slots-slots.ensures ∙ ap (λ (l : Ltl). l.slots) c.code.ensures.code)) (pair_made p items kept made)))
+    let unit = c.into_parts-unit.ensures.unit in
+    let ltl = c.into_parts-unit.ensures.ltl in
+    subst (λ (u : parsed.Unit). IsPair (record { unit = u; function = c.function-function.result; ltl = c.into_parts-unit.result.1; code = items })) (sym unit)
+    (subst (λ f. IsPair (record { unit = p.unit; function = f; ltl = c.into_parts-unit.result.1; code = items })) (sym c.function-function.ensures.answer)
+    (subst (λ (l : Ltl). IsPair (record { unit = p.unit; function = p.function; ltl = l; code = items })) (sym ltl) (pair_made p items kept made)))
 
 pub returns-clause-labels : goal.returns-clause-labels
 returns-clause-labels c =
     let p = c.args.pair in
     let items = c.in_ok-code.code.items in
-    let made : IsMadeOf p.ltl items = subst (λ (l : Ltl). IsMadeOf l items) c.code-2.ensures.code c.in_ok-code.ensures in
+    let made : IsMadeOf p.ltl items = subst (λ (l : Ltl). IsMadeOf l items) c.code.ensures.code c.in_ok-code.ensures in
     subst NoneIdle (sym (ap (λ (q : Pair). q.code) c.new.ensures)) (made_without p.ltl items made)

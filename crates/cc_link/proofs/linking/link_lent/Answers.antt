@@ -6,11 +6,12 @@ use Rattle.std.specs.Borrow.{Bor}
 use Rattle.cc_syntax.specs.Source.{source}
 use Rattle.cc_syntax.specs.declared.unit.Unit as parsed
 use Rattle.cc_emit.specs.declared.item.Item.{Item}
+use Rattle.cc_emit.specs.Piece.{Piece}
 use Rattle.cc_link.specs.declared.fault.LinkFault.TheVariants.{OutOfMemory}
 use Rattle.cc_link.specs.Link.{code_words, most_code}
-use Rattle.cc_link.specs.Linked.{stranger, doubled, in_order, linked, lent_pieces}
+use Rattle.cc_link.specs.Linked.{stranger, doubled, in_order, all_items, linked, lent_pieces}
 use Rattle.cc_link.specs.internal.Filling.{lent}
-use Rattle.cc_link.proofs.Answering.{order_refused, size_refused, count_is, stay_is, answer_is, agree_is}
+use Rattle.cc_link.proofs.Answering.{order_refused, size_refused, count_is, few_is, stay_is, answer_is, agree_is}
 use Rattle.cc_link.proofs.linking.link_lent.Goals as goal
 
 pub returns-in-Err-clause-refused : goal.returns-in-Err-clause-refused
@@ -29,10 +30,12 @@ returns-then-not-fits-clause-refused c =
     let ps = lent_pieces c.args.pieces.now in
     let a : stranger s.text 0 ps ≡ None = sym (c.in_default.ensures.answer ∙ ap (λ (t : List ℕ). stranger t 0 ps) c.text.ensures.answer) in
     let b : doubled [] 0 ps ≡ None = sym c.in_default-doubled.ensures in
-    let fs = c.as_slice.result.now in
-    let o : lent fs ≡ in_order ps 0 c.functions.result = ap (λ (l : List (Bor (List Item))). lent l) c.as_slice.ensures.value ∙ c.in-Ok.ensures.bodies in
+    let fs = c.as_slice-2.result.now in
+    let os = c.as_slice.result.now in
+    let o : lent_pieces os ≡ in_order ps 0 c.functions.result = ap (λ (l : List (Bor Piece)). lent_pieces l) c.as_slice.ensures.value ∙ c.in-Ok.ensures.ordered in
+    let i : lent fs ≡ all_items (lent_pieces os) = ap (λ (l : List (Bor (List Item))). lent l) c.as_slice-2.ensures.value ∙ c.in-Ok-all_items.ensures in
     let large : most_code < code_words (lent fs) = elim (cases_lt most_code (code_words (lent fs))) [ inl lt ↦ lt | inr le ↦ absurd (let d : false ≡ true = c.if-not-fits.ensures.1 le in cc) ] in
-    inr (ap (λ (v : parsed.Unit). linked (source v) ps) (sym c.deref-unit.ensures) ∙ size_refused s ps c.functions.result a b c.functions.ensures fs c.in-Ok.ensures.none o large)
+    inr (ap (λ (v : parsed.Unit). linked (source v) ps) (sym c.deref-unit.ensures) ∙ size_refused s ps c.functions.result a b c.functions.ensures os fs c.in-Ok.ensures.none o i large)
 
 pub stored-made-requires-clause-count : goal.stored-made-requires-clause-count
 stored-made-requires-clause-count c =
@@ -41,9 +44,11 @@ stored-made-requires-clause-count c =
     let ps = lent_pieces c.args.pieces.now in
     let a : stranger s.text 0 ps ≡ None = sym (c.in_default.ensures.answer ∙ ap (λ (t : List ℕ). stranger t 0 ps) c.text.ensures.answer) in
     let b : doubled [] 0 ps ≡ None = sym c.in_default-doubled.ensures in
-    let fs = c.as_slice-2.result.now in
-    let o : lent fs ≡ in_order ps 0 c.functions.result = ap (λ (l : List (Bor (List Item))). lent l) c.as_slice-2.ensures.value ∙ c.in-Ok.ensures.bodies in
-    count_is s ps c.functions.result a b c.functions.ensures fs c.in-Ok.ensures.none o
+    let fs = c.as_slice-3.result.now in
+    let os = c.as_slice-4.result.now in
+    let o : lent_pieces os ≡ in_order ps 0 c.functions.result = ap (λ (l : List (Bor Piece)). lent_pieces l) c.as_slice-4.ensures.value ∙ c.in-Ok.ensures.ordered in
+    let i : lent fs ≡ all_items (lent_pieces os) = ap (λ (l : List (Bor (List Item))). lent l) c.as_slice-3.ensures.value ∙ c.in-Ok-all_items.ensures ∙ ap (λ (l : List (Bor Piece)). all_items (lent_pieces l)) (c.as_slice.ensures.value ∙ sym c.as_slice-4.ensures.value) in
+    count_is s ps c.functions.result a b c.functions.ensures os fs c.in-Ok.ensures.none o i
 
 pub stored-made-requires-clause-stay : goal.stored-made-requires-clause-stay
 stored-made-requires-clause-stay c =
@@ -52,11 +57,26 @@ stored-made-requires-clause-stay c =
     let ps = lent_pieces c.args.pieces.now in
     let a : stranger s.text 0 ps ≡ None = sym (c.in_default.ensures.answer ∙ ap (λ (t : List ℕ). stranger t 0 ps) c.text.ensures.answer) in
     let b : doubled [] 0 ps ≡ None = sym c.in_default-doubled.ensures in
-    let fs = c.as_slice-2.result.now in
-    let o : lent fs ≡ in_order ps 0 c.functions.result = ap (λ (l : List (Bor (List Item))). lent l) c.as_slice-2.ensures.value ∙ c.in-Ok.ensures.bodies in
+    let fs = c.as_slice-3.result.now in
+    let os = c.as_slice-4.result.now in
+    let o : lent_pieces os ≡ in_order ps 0 c.functions.result = ap (λ (l : List (Bor Piece)). lent_pieces l) c.as_slice-4.ensures.value ∙ c.in-Ok.ensures.ordered in
+    let i : lent fs ≡ all_items (lent_pieces os) = ap (λ (l : List (Bor (List Item))). lent l) c.as_slice-3.ensures.value ∙ c.in-Ok-all_items.ensures ∙ ap (λ (l : List (Bor Piece)). all_items (lent_pieces l)) (c.as_slice.ensures.value ∙ sym c.as_slice-4.ensures.value) in
     let laws = c.unit_laws.ensures in
     let tree = c.externals-externals.ensures in
-    stay_is s ps c.functions.result a b c.functions.ensures fs c.in-Ok.ensures.none o laws.tokens laws.trees laws.meanings laws.sized tree.spelled tree.typed tree.limits c.in_default.ensures.kept
+    stay_is s ps c.functions.result a b c.functions.ensures os fs c.in-Ok.ensures.none o i laws.tokens laws.trees laws.meanings laws.sized tree.spelled tree.typed tree.limits c.in_default.ensures.kept
+
+pub stored-made-requires-clause-few_functions : goal.stored-made-requires-clause-few_functions
+stored-made-requires-clause-few_functions c =
+    let u = c.deref-unit.result.now in
+    let s = source u in
+    let ps = lent_pieces c.args.pieces.now in
+    let a : stranger s.text 0 ps ≡ None = sym (c.in_default.ensures.answer ∙ ap (λ (t : List ℕ). stranger t 0 ps) c.text.ensures.answer) in
+    let b : doubled [] 0 ps ≡ None = sym c.in_default-doubled.ensures in
+    let fs = c.as_slice-3.result.now in
+    let os = c.as_slice-4.result.now in
+    let o : lent_pieces os ≡ in_order ps 0 c.functions.result = ap (λ (l : List (Bor Piece)). lent_pieces l) c.as_slice-4.ensures.value ∙ c.in-Ok.ensures.ordered in
+    let i : lent fs ≡ all_items (lent_pieces os) = ap (λ (l : List (Bor (List Item))). lent l) c.as_slice-3.ensures.value ∙ c.in-Ok-all_items.ensures ∙ ap (λ (l : List (Bor Piece)). all_items (lent_pieces l)) (c.as_slice.ensures.value ∙ sym c.as_slice-4.ensures.value) in
+    few_is s ps c.functions.result a b c.functions.ensures os fs c.in-Ok.ensures.none o i c.externals-externals.ensures.limits
 
 pub new-requires-clause-agrees : goal.new-requires-clause-agrees
 new-requires-clause-agrees c =
@@ -65,12 +85,14 @@ new-requires-clause-agrees c =
     let ps = lent_pieces c.args.pieces.now in
     let a : stranger s.text 0 ps ≡ None = sym (c.in_default.ensures.answer ∙ ap (λ (t : List ℕ). stranger t 0 ps) c.text.ensures.answer) in
     let b : doubled [] 0 ps ≡ None = sym c.in_default-doubled.ensures in
-    let fs = c.as_slice-2.result.now in
-    let o : lent fs ≡ in_order ps 0 c.functions.result = ap (λ (l : List (Bor (List Item))). lent l) c.as_slice-2.ensures.value ∙ c.in-Ok.ensures.bodies in
+    let fs = c.as_slice-3.result.now in
+    let os = c.as_slice-4.result.now in
+    let o : lent_pieces os ≡ in_order ps 0 c.functions.result = ap (λ (l : List (Bor Piece)). lent_pieces l) c.as_slice-4.ensures.value ∙ c.in-Ok.ensures.ordered in
+    let i : lent fs ≡ all_items (lent_pieces os) = ap (λ (l : List (Bor (List Item))). lent l) c.as_slice-3.ensures.value ∙ c.in-Ok-all_items.ensures ∙ ap (λ (l : List (Bor Piece)). all_items (lent_pieces l)) (c.as_slice.ensures.value ∙ sym c.as_slice-4.ensures.value) in
     let few : code_words (lent fs) ≤ most_code =
-    subst (λ (l : List (Bor (List Item))). code_words (lent l) ≤ most_code) (c.as_slice.ensures.value ∙ sym c.as_slice-2.ensures.value) (c.if-not-fits.ensures.0 refl) in
+    subst (λ (l : List (Bor (List Item))). code_words (lent l) ≤ most_code) (c.as_slice-2.ensures.value ∙ sym c.as_slice-3.ensures.value) (c.if-not-fits.ensures.0 refl) in
     let tree = c.externals-externals.ensures in
-    agree_is s ps c.functions.result a b c.functions.ensures fs c.in-Ok.ensures.none o c.linked_units_agree.ensures tree.spelled (record { typed = tree.typed; limits = tree.limits }) c.in_default.ensures.kept (arc_value c.in_ok-made.field-0) few c.in_ok-made.ensures
+    agree_is s ps c.functions.result a b c.functions.ensures os fs c.in-Ok.ensures.none o i c.linked_units_agree.ensures tree.spelled (record { typed = tree.typed; limits = tree.limits }) c.in_default.ensures.kept (arc_value c.in_ok-made.field-0) few c.in_ok-made.ensures
 
 pub new-requires-clause-made : goal.new-requires-clause-made
 new-requires-clause-made c =
@@ -79,10 +101,12 @@ new-requires-clause-made c =
     let ps = lent_pieces c.args.pieces.now in
     let a : stranger s.text 0 ps ≡ None = sym (c.in_default.ensures.answer ∙ ap (λ (t : List ℕ). stranger t 0 ps) c.text.ensures.answer) in
     let b : doubled [] 0 ps ≡ None = sym c.in_default-doubled.ensures in
-    let fs = c.as_slice-2.result.now in
-    let o : lent fs ≡ in_order ps 0 c.functions.result = ap (λ (l : List (Bor (List Item))). lent l) c.as_slice-2.ensures.value ∙ c.in-Ok.ensures.bodies in
+    let fs = c.as_slice-3.result.now in
+    let os = c.as_slice-4.result.now in
+    let o : lent_pieces os ≡ in_order ps 0 c.functions.result = ap (λ (l : List (Bor Piece)). lent_pieces l) c.as_slice-4.ensures.value ∙ c.in-Ok.ensures.ordered in
+    let i : lent fs ≡ all_items (lent_pieces os) = ap (λ (l : List (Bor (List Item))). lent l) c.as_slice-3.ensures.value ∙ c.in-Ok-all_items.ensures ∙ ap (λ (l : List (Bor Piece)). all_items (lent_pieces l)) (c.as_slice.ensures.value ∙ sym c.as_slice-4.ensures.value) in
     let few : code_words (lent fs) ≤ most_code =
-    subst (λ (l : List (Bor (List Item))). code_words (lent l) ≤ most_code) (c.as_slice.ensures.value ∙ sym c.as_slice-2.ensures.value) (c.if-not-fits.ensures.0 refl) in
+    subst (λ (l : List (Bor (List Item))). code_words (lent l) ≤ most_code) (c.as_slice-2.ensures.value ∙ sym c.as_slice-3.ensures.value) (c.if-not-fits.ensures.0 refl) in
     let tree = c.externals-externals.ensures in
     record {
       of = s;
@@ -90,7 +114,7 @@ new-requires-clause-made c =
       checked = record { typed = tree.typed; limits = tree.limits };
       pieces = ps;
       compiled = c.in_default.ensures.compiled;
-      linked_is = answer_is s ps c.functions.result a b c.functions.ensures fs c.in-Ok.ensures.none o (arc_value c.in_ok-made.field-0) few c.in_ok-made.ensures;
+      linked_is = answer_is s ps c.functions.result a b c.functions.ensures os fs c.in-Ok.ensures.none o i (arc_value c.in_ok-made.field-0) few c.in_ok-made.ensures;
     }
 
 pub returns-clause-answer : goal.returns-clause-answer
@@ -100,9 +124,11 @@ returns-clause-answer c =
     let ps = lent_pieces c.args.pieces.now in
     let a : stranger s.text 0 ps ≡ None = sym (c.in_default.ensures.answer ∙ ap (λ (t : List ℕ). stranger t 0 ps) c.text.ensures.answer) in
     let b : doubled [] 0 ps ≡ None = sym c.in_default-doubled.ensures in
-    let fs = c.as_slice-2.result.now in
-    let o : lent fs ≡ in_order ps 0 c.functions.result = ap (λ (l : List (Bor (List Item))). lent l) c.as_slice-2.ensures.value ∙ c.in-Ok.ensures.bodies in
+    let fs = c.as_slice-3.result.now in
+    let os = c.as_slice-4.result.now in
+    let o : lent_pieces os ≡ in_order ps 0 c.functions.result = ap (λ (l : List (Bor Piece)). lent_pieces l) c.as_slice-4.ensures.value ∙ c.in-Ok.ensures.ordered in
+    let i : lent fs ≡ all_items (lent_pieces os) = ap (λ (l : List (Bor (List Item))). lent l) c.as_slice-3.ensures.value ∙ c.in-Ok-all_items.ensures ∙ ap (λ (l : List (Bor Piece)). all_items (lent_pieces l)) (c.as_slice.ensures.value ∙ sym c.as_slice-4.ensures.value) in
     let few : code_words (lent fs) ≤ most_code =
-    subst (λ (l : List (Bor (List Item))). code_words (lent l) ≤ most_code) (c.as_slice.ensures.value ∙ sym c.as_slice-2.ensures.value) (c.if-not-fits.ensures.0 refl) in
+    subst (λ (l : List (Bor (List Item))). code_words (lent l) ≤ most_code) (c.as_slice-2.ensures.value ∙ sym c.as_slice-3.ensures.value) (c.if-not-fits.ensures.0 refl) in
     ap (λ (v : parsed.Unit). linked (source v) ps) (sym c.deref-unit.ensures)
-    ∙ answer_is s ps c.functions.result a b c.functions.ensures fs c.in-Ok.ensures.none o (arc_value c.in_ok-made.field-0) few c.in_ok-made.ensures ∙ ap Ok (sym c.new.ensures)
+    ∙ answer_is s ps c.functions.result a b c.functions.ensures os fs c.in-Ok.ensures.none o i (arc_value c.in_ok-made.field-0) few c.in_ok-made.ensures ∙ ap Ok (sym c.new.ensures)

@@ -1,11 +1,10 @@
 use Rattle.std.proofs.Common.{◌≡◌, ◌-◌, ◌++◌}
 use Rattle.cc_link.specs.Linked.{missing, in_order, lent_pieces}
-use Rattle.cc_link.specs.internal.Filling.{lent}
 use Rattle.cc_link.proofs.order.in_order.Given as goal
 
--- none is missing so far; the bodies so far, and those that are left
+-- none is missing so far; the pieces so far, and those that are left
 abbrev pub invariant-loop-function : goal.invariant-loop-function
 invariant-loop-function l = record {
   left : missing (lent_pieces l.pieces) 0 l.functions ≡ missing (lent_pieces l.pieces) l.function (l.functions - l.function);
-  bodies : lent l.bodies.items ++ in_order (lent_pieces l.pieces) l.function (l.functions - l.function) ≡ in_order (lent_pieces l.pieces) 0 l.functions;
+  ordered : lent_pieces l.ordered.items ++ in_order (lent_pieces l.pieces) l.function (l.functions - l.function) ≡ in_order (lent_pieces l.pieces) 0 l.functions;
 }

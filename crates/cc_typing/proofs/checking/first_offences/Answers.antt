@@ -1,8 +1,6 @@
 -- The walk over file scope begins with the builtins, and knows all definitions.
-use Rattle.std.proofs.Common.{◌∙◌, ap}
+use Rattle.std.proofs.Common.{◌∙◌}
 use Rattle.cc_syntax.specs.Erase.{external_trees}
-use Rattle.cc_typing.specs.internal.Findings.{noted}
-use Rattle.cc_typing.specs.Limits.{excesses}
 use Rattle.cc_typing.proofs.Verdict.{first-are, undefined-are}
 use Rattle.cc_typing.proofs.checking.first_offences.Goals as goal
 

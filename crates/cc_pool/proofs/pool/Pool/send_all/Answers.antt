@@ -5,7 +5,7 @@ use Rattle.cc_syntax.specs.declared.unit.Unit.{Unit}
 use Rattle.cc_typing.specs.Typed.{IsWithinLimits, defined_names}
 use Rattle.cc_pool.specs.declared.item.Item.TheVariants.{Piece}
 use Rattle.cc_pool.specs.Shared.{piece_of, pieces_of}
-use Rattle.cc_pool.proofs.Few.{few_functions}
+use Rattle.cc_link.proofs.Few.{few_functions}
 use Rattle.cc_pool.proofs.Lists.{piece_next}
 use Rattle.cc_pool.proofs.pool.Pool.send_all.Goals as goal
 

@@ -18,7 +18,7 @@ invariant_of-self g c =
     let after_it : BookView g.row.D.Denot = c.commit-result.new.self in
     let done = c.commit-result.ensures in
     let law : TurnLaw compiling Keeps = record { turn = c.turn_law.ensures.turn; goes_on = c.turn_law.ensures.goes_on; no_job = c.turn_law.ensures.no_job; no_work = c.turn_law.ensures.no_work; ready = c.turn_law.ensures.ready } in
-    let built : HasBuilt compiling Keeps (change_of c.args.command) = built_of c.made_units_are_built.ensures c.args.command c.kept-2.ensures.command c.kept-2.ensures.made in
+    let built : HasBuilt compiling Keeps (change_of c.args.command) = built_of c.made_units_are_built.ensures c.args.command c.kept-2.ensures.source c.kept-2.ensures.made in
     record {
       tied = λ h. commit_tied compiling Keeps law D.seen D.may_leave (λ d. g.met.D.Disk.seen_is_image d h) D.failures before after_it
           c.client.inside.member c.commit-result.new.client c.args.command c.commit-result.result done.answers (done.disk h) c.kept-2.ensures.command built (c.self.invariant.tied h);

@@ -1,5 +1,5 @@
 -- A name that is there keeps its number, and a new one gets the next.
-use Rattle.std.proofs.Common.{◌≡◌, ◌∙◌, ◌+◌, if◌then◌else◌, is_some, None, Some, length, ap, sym, subst}
+use Rattle.std.proofs.Common.{◌≡◌, ◌∙◌, ◌+◌, if◌then◌else◌, is_some, Some, length, ap, sym, subst}
 use Rattle.cc_typing.specs.Numberings.{IsNumbered, number_of_name, numbered_in}
 use Rattle.cc_typing.proofs.NameNumbers.{get-numbered, IsNumbered-new, IsNumbered-again}
 use Rattle.cc_typing.proofs.numbering.Numbering.add.Goals as goal

@@ -1,0 +1,27 @@
+-- What an audit says of a text, an image and a certificate, whoever made them.
+use Rattle.std.specs.Prelude.{◌≡◌, ℕ, List, length, Option, Some, None}
+use Rattle.cc_syntax.specs.Tree.{External}
+use Rattle.cc_syntax.specs.Parse.{SpellsText}
+use Rattle.cc_meaning.specs.Meaning.{functions}
+use Rattle.cc_rv32.specs.declared.image.Image.{Image}
+use Rattle.cc_link.specs.Agree.{Agree}
+use Rattle.cc_link.specs.Certificate.{SpellsAll}
+use Rattle.cc_link.specs.Made.{IsMade}
+use Rattle.cc_link.specs.declared.audit_answer.Audit.{Audit}
+use Rattle.cc_link.specs.declared.audit_answer.Audit.TheVariants.{Confirmed, NoCertificate, Unconfirmed}
+
+-- The image agrees with the text; the certificate spells one function of LTL for each function of the text; and pieces that were compiled
+-- link to the three.
+pub record IsConfirmed (text certificate : List ℕ) (image : Image) : Type 0 where
+  pub tree : List External
+  pub spelled : ∥ SpellsText text tree ∥₁
+  pub agrees : Agree text image
+  pub spells : SpellsAll certificate (length (functions tree))
+  pub made : IsMade (record { source = text; image = image; certificate = Some certificate })
+
+-- an audit says that there is no certificate exactly where there is none, and confirms only what is so
+abbrev pub AuditSays : (text : List ℕ) → (certificate : Option (List ℕ)) → Image → Audit → Type 0
+AuditSays text None image audit = audit ≡ NoCertificate
+AuditSays text (Some certificate) image Confirmed = IsConfirmed text certificate image
+AuditSays text (Some certificate) image Unconfirmed = Unit {0}
+AuditSays text (Some certificate) image NoCertificate = ⊥

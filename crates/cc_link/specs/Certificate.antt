@@ -1,0 +1,26 @@
+-- The certificate of a unit: how many functions it has, and the LTL of each, in the order of definitions, behind its length. Numbers are
+-- four bytes, the lowest first.
+use Rattle.std.specs.Prelude.{ℕ, ◌≡◌, ◌<◌, ◌^◌, List, ◌++◌, length}
+use Rattle.std.specs.List.{AllByRecursion, flat_map}
+use Rattle.cc_ltl.specs.Ltl.{Ltl, IsLtl}
+use Rattle.cc_ltl.specs.Bytes.{word_bytes, ltl_bytes}
+
+-- how many bytes the LTL of a function takes, and these
+abbrev pub ltl_field : Ltl → List ℕ
+ltl_field ltl = word_bytes (length (ltl_bytes ltl)) ++ ltl_bytes ltl
+
+-- how many functions there are, and the field of each
+abbrev pub certificate_of : List Ltl → List ℕ
+certificate_of ltls = word_bytes (length ltls) ++ flat_map ltl_field ltls
+
+-- a function of LTL whose length four bytes can tell
+abbrev pub IsToldLtl : Ltl → Type 0
+IsToldLtl ltl = IsLtl ltl × (length (ltl_bytes ltl) < 2 ^ 32)
+
+-- the bytes spell the LTL of so many functions, and nothing else stands there
+pub record SpellsAll (bytes : List ℕ) (functions : ℕ) : Type 0 where
+  pub ltls : List Ltl
+  pub count : length ltls ≡ functions
+  pub few : functions < 2 ^ 32
+  pub told : AllByRecursion IsToldLtl ltls
+  pub spelled : bytes ≡ certificate_of ltls

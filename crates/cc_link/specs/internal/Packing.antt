@@ -1,0 +1,14 @@
+-- What a list of bytes is, and the words that the objects of one external declaration have in an image.
+use Rattle.std.specs.Prelude.{ℕ, ◌^◌, ◌<◌, List, [], ◌∷◌}
+use Rattle.cc_syntax.specs.Tree.{External, Declaration, Definition, Objects}
+use Rattle.cc_link.specs.Packed.{image_words}
+
+-- each is a byte
+abbrev pub AreBytes : List ℕ → Type 0
+AreBytes [] = Unit {0}
+AreBytes (b ∷ bs) = (b < 2 ^ 8) × AreBytes bs
+
+abbrev pub external_image : External → List ℕ
+external_image (Declaration s) = []
+external_image (Definition s body) = []
+external_image (Objects t os) = image_words os

@@ -1,0 +1,186 @@
+//! Whether a stored unit is what this compiler makes of its text along its certificate: the compiler's passes with the allocation read
+//! from the certificate in place of one that is made.
+//!
+//! Nothing is believed of the three parts. The unit is made anew from the text and the functions of LTL that are read, and is then the
+//! stored one or not: since a function of LTL has one spelling, no byte of the certificate can be left over, or be another. What a unit that
+//! was made is right in belongs to its type.
+
+ghost use Rattle.std.specs.Prelude.{◌≡◌, ◌↔◌, ◌<◌, length, Some, IfOk, IsTrue};
+ghost use Rattle.std.specs.Arc.{arc_value};
+ghost use Rattle.std.specs.Option.{option_map};
+ghost use Rattle.cc_syntax.specs.Source.{source};
+ghost use Rattle.cc_typing.specs.Typed.{defined_names};
+ghost use Rattle.cc_link.specs.Audit.{AuditSays};
+
+use crate::audit_answer::Audit;
+use crate::certificate::{first_ltl, number_at};
+use crate::compiled::CompiledUnit;
+use crate::fault::LinkFault;
+use crate::function::{emitted, prepared};
+use crate::laws::made_units_are_certified;
+use crate::linking::link;
+use cc_emit::Piece;
+use cc_ltl::{LtlFault, read_ltl};
+use cc_rtl::RtlFault;
+use cc_rv32::image::Image;
+use cc_syntax::{SyntaxFault, parse};
+use cc_typing::{TypeFault, TypedUnit, check};
+use cc_unit::StoredUnit;
+use cc_validate::{Refused, ValidateFault, validate};
+use std::alloc::{AllocError, Global};
+use std::sync::Arc;
+
+/// Audits a unit: whether its certificate shows that its image agrees with its source. Whoever made the three, nothing is believed of them.
+///
+/// `NoCertificate` exactly where there is none. `Confirmed` only where the image agrees with the source and the certificate spells the
+/// LTL of each of its functions; else `Unconfirmed`. It fails only where memory ran out (40).
+pub fn audit(
+    alloc: Global,
+    source: &[u8],
+    certificate: Option<&[u8]>,
+    image: &Image,
+) -> Result<Audit, AllocError>
+    ensures { IfOk result (λ audit. AuditSays source.now (option_map (λ c. c.now) certificate.entry) image.now audit) }
+{
+    let Some(certificate) = certificate else {
+        return Ok(Audit::NoCertificate);
+    };
+    let Some(made) = made_again(alloc, source, certificate)? else {
+        return Ok(Audit::Unconfirmed);
+    };
+    made_units_are_certified();
+    let same = is_of(made.stored(), source, certificate, image);
+    drop(made);
+    if same {
+        Ok(Audit::Confirmed)
+    } else {
+        Ok(Audit::Unconfirmed)
+    }
+}
+
+// Whether a unit has these three parts.
+fn is_of(unit: &StoredUnit, source: &[u8], certificate: &[u8], image: &Image) -> bool
+    ensures { IsTrue result ↔ (unit.now ≡ record { source = source.now; image = image.now; certificate = Some certificate.now }) }
+{
+    let Some(kept) = &unit.certificate else {
+        return false;
+    };
+    unit.source.bytes() == source
+        && unit.image.code.words() == image.code.words()
+        && unit.image.globals.words() == image.globals.words()
+        && kept.bytes() == certificate
+}
+
+// The unit that is made of a text along a certificate; none where the text is no program's, or the certificate has no LTL for a function
+// of it that the validator accepts.
+fn made_again(
+    alloc: Global,
+    source: &[u8],
+    certificate: &[u8],
+) -> Result<Option<CompiledUnit>, AllocError> {
+    let Some(unit) = typed(alloc, source)? else {
+        return Ok(None);
+    };
+    let made = linked(alloc, &unit, certificate);
+    drop(unit);
+    made
+}
+
+// The unit of a text, where it is a program's.
+fn typed(alloc: Global, text: &[u8]) -> Result<Option<Arc<TypedUnit>>, AllocError> {
+    let unit = match parse(alloc, text) {
+        Ok(unit) => unit,
+        Err(SyntaxFault::OutOfMemory) => return Err(AllocError),
+        Err(fault) => {
+            drop(fault);
+            return Ok(None);
+        }
+    };
+    match check(alloc, unit) {
+        Ok(unit) => Ok(Some(Arc::new(alloc, unit)?)),
+        Err(TypeFault::OutOfMemory) => Err(AllocError),
+        Err(fault) => {
+            drop(fault);
+            Ok(None)
+        }
+    }
+}
+
+// The unit that the pieces along a certificate link to.
+fn linked(
+    alloc: Global,
+    unit: &Arc<TypedUnit>,
+    certificate: &[u8],
+) -> Result<Option<CompiledUnit>, AllocError> {
+    let Some(pieces) = pieces(alloc, unit, certificate)? else {
+        return Ok(None);
+    };
+    match link(alloc, unit, pieces) {
+        Ok(made) => Ok(Some(made)),
+        Err(LinkFault::OutOfMemory) => Err(AllocError),
+        Err(_) => Ok(None),
+    }
+}
+
+// The pieces of a unit's functions, in the order of definitions, along a certificate. There are as many as the unit has functions,
+// whatever number the certificate begins with.
+fn pieces(
+    alloc: Global,
+    unit: &Arc<TypedUnit>,
+    certificate: &[u8],
+) -> Result<Option<Vec<Piece>>, AllocError> {
+    let Some((_, mut rest)) = number_at(certificate) else {
+        return Ok(None);
+    };
+    let mut pieces = Vec::new(alloc);
+    for function in 0..unit.functions() {
+        let Some((bytes, behind)) = first_ltl(rest) else {
+            drop(pieces);
+            return Ok(None);
+        };
+        let Some(piece) = piece(alloc, unit, function, bytes)? else {
+            drop(pieces);
+            return Ok(None);
+        };
+        pieces.push(piece)?;
+        rest = behind;
+    }
+    Ok(Some(pieces))
+}
+
+// The piece of a function by the LTL that the bytes spell, where they spell one that the validator accepts.
+fn piece(
+    alloc: Global,
+    unit: &Arc<TypedUnit>,
+    function: usize,
+    bytes: &[u8],
+) -> Result<Option<Piece>, AllocError>
+    requires { function < length (defined_names (source (arc_value unit.now))) }
+{
+    let ltl = match read_ltl(alloc, bytes) {
+        Ok(ltl) => ltl,
+        Err(LtlFault::Damaged) => return Ok(None),
+        Err(LtlFault::OutOfMemory) => return Err(AllocError),
+    };
+    let rtl = match prepared(alloc, unit, function) {
+        Ok(rtl) => rtl,
+        Err(RtlFault::FunctionTooLarge) => {
+            drop(ltl);
+            return Ok(None);
+        }
+        Err(RtlFault::OutOfMemory) => {
+            drop(ltl);
+            return Err(AllocError);
+        }
+    };
+    match validate(alloc, rtl, ltl) {
+        Ok(pair) => Ok(Some(emitted(alloc, pair)?)),
+        Err(Refused { pair, fault }) => {
+            drop(pair);
+            match fault {
+                ValidateFault::Unvalidated { .. } => Ok(None),
+                ValidateFault::OutOfMemory => Err(AllocError),
+            }
+        }
+    }
+}

@@ -1,0 +1,30 @@
+-- How wide the elements of an object are, what an element keeps of a word (C99 6.3.1.3), and how many words elements take.
+use Rattle.std.specs.Prelude.{ℕ, ◌+◌, ◌/◌, ◌%◌, ◌^◌, Bool, true, false, List, [], codes}
+use Rattle.cc_words.specs.declared.operators.Width.{Width}
+use Rattle.cc_words.specs.declared.operators.Width.TheVariants.{Byte, Word}
+
+-- in bytes
+abbrev pub bytes : Width → ℕ
+bytes Byte = 1
+bytes Word = 4
+
+abbrev pub same_width : Width → Width → Bool
+same_width Byte Byte = true
+same_width Word Word = true
+same_width Byte Word = false
+same_width Word Byte = false
+
+-- what an element keeps of a word: a byte its low eight bits
+abbrev pub kept : Width → (word : ℕ) → ℕ
+kept Byte w = w % 2 ^ 8
+kept Word w = w
+
+-- how many words so many elements take, the last one filled up
+abbrev pub words_of : Width → (elements : ℕ) → ℕ
+words_of Byte n = (n + 3) / 4
+words_of Word n = n
+
+-- what stands in front of an element in a listing
+abbrev pub width_text : Width → List ℕ
+width_text Byte = codes "byte "
+width_text Word = []

@@ -1,0 +1,151 @@
+// Arrays of `unsigned char`: what `check` says of them, and what runs do with them.
+
+use super::calls::typed_unit;
+use cc_meaning::{Cause, Stop, interpret};
+use cc_syntax::{Place, parse};
+use cc_typing::check;
+use std::alloc::Global;
+use std::test::Fail;
+
+/// A fault's number, line and column.
+fn placed(number: u32, place: Option<Place>) -> (u32, usize, usize) {
+    match place {
+        Some(Place { line, column }) => (number, line, column),
+        None => (number, 0, 0),
+    }
+}
+
+/// The number, the line and the column of a text's fault; zeros where it is a typed unit.
+fn answer(alloc: Global, text: &[u8]) -> (u32, usize, usize) {
+    match parse(alloc, text) {
+        Ok(unit) => match check(alloc, unit) {
+            Ok(typed) => {
+                drop(typed);
+                (0, 0, 0)
+            }
+            Err(fault) => placed(fault.number(), fault.place()),
+        },
+        Err(fault) => placed(fault.number(), fault.place()),
+    }
+}
+
+/// Texts, and the number, the line and the column of what `check` answers; zeros where it answers a unit.
+static CHECKED: [(&[u8], u32, usize, usize); 16] = [
+    // four elements are a word, and the last word of an array is filled up
+    (b"unsigned char a[262144];int main(void){}", 0, 0, 0),
+    (b"unsigned char a[262145];int main(void){}", 21, 1, 15),
+    (b"int a[65535];unsigned char b[4];int main(void){}", 0, 0, 0),
+    (
+        b"int a[65535];unsigned char b[5];int main(void){}",
+        21,
+        1,
+        28,
+    ),
+    (
+        b"int a[65536];unsigned char b[1];int main(void){}",
+        21,
+        1,
+        28,
+    ),
+    (
+        b"unsigned char a[1],b[1];int c[65534];int main(void){}",
+        0,
+        0,
+        0,
+    ),
+    (
+        b"unsigned char a[1],b[1];int c[65535];int main(void){}",
+        21,
+        1,
+        29,
+    ),
+    (
+        b"unsigned char a[262140],b[]={1,2,3,4,5};int main(void){}",
+        21,
+        1,
+        25,
+    ),
+    // the rules of arrays
+    (b"unsigned char a[0];int main(void){}", 14, 1, 15),
+    (b"unsigned char a[];int main(void){}", 14, 1, 15),
+    (b"unsigned char a[2]={1,2,3};int main(void){}", 14, 1, 15),
+    (b"unsigned char a[b];int main(void){}", 11, 1, 17),
+    (b"unsigned char a[1];int a;int main(void){}", 12, 1, 24),
+    (b"unsigned char a[1];int main(void){a;}", 13, 1, 35),
+    (b"unsigned char a[1];int main(void){a=1;}", 17, 1, 35),
+    (b"unsigned char a[1];int main(void){a();}", 13, 1, 35),
+];
+
+#[test]
+fn units_and_faults(rt: HostRuntime) {
+    for (index, (text, number, line, column)) in CHECKED.iter().enumerate() {
+        let is_right = answer(rt.alloc(), text) == (*number, *line, *column);
+        assert!(rt; is_right, "text {index}");
+    }
+}
+
+/// Programs, and what each writes before it ends with 0, within nine steps and on no input.
+static WRITTEN: [(&[u8], &[u32]); 7] = [
+    (
+        b"unsigned char c[2]={300,-1};int main(void){write_word(c[0]);write_word(c[1]);c[0]+=220;write_word(c[0]);write_word(c[1]<<24);write_word(-1<c[1]);}",
+        &[44, 255, 8, 0xff00_0000, 1],
+    ),
+    // a list's elements keep their low eight bits, and the others are 0
+    (
+        b"unsigned char c[4]={256,0xabcdef12,-2};int main(void){for(int i=0;i<4;i++)write_word(c[i]);}",
+        &[0, 0x12, 254, 0],
+    ),
+    // an element is an `int` where it is read, and the sum is one before it is kept
+    (
+        b"unsigned char c[]={255};int main(void){c[0]++;write_word(c[0]);c[0]--;write_word(c[0]);write_word(c[0]+1);write_word(-c[0]);}",
+        &[0, 255, 256, 0xffff_ff01],
+    ),
+    (
+        b"unsigned char c[1];int main(void){c[0]=65535/2;write_word(c[0]);c[0]*=2;write_word(c[0]);c[0]>>=1;write_word(c[0]);}",
+        &[255, 254, 127],
+    ),
+    // elements beside it stay, and so do variables
+    (
+        b"int x=-1;unsigned char c[3]={1,2,3};int y=-1;int main(void){c[1]=511;write_word(x);write_word(c[0]);write_word(c[1]);write_word(c[2]);write_word(y);}",
+        &[0xffff_ffff, 1, 255, 3, 0xffff_ffff],
+    ),
+    // a variable of one word keeps all of it beside an array of one byte
+    (
+        b"unsigned char c[1];int x;int main(void){x=-3;c[0]=x;write_word(x);write_word(c[0]);}",
+        &[0xffff_fffd, 253],
+    ),
+    // a local hides an array
+    (
+        b"unsigned char c[1];int main(void){int c=300;c++;write_word(c);}",
+        &[301],
+    ),
+];
+
+/// Whether a run of a program within nine steps writes these words and ends with 0.
+fn writes(alloc: Global, text: &[u8], words: &[u32]) -> Result<bool, Fail> {
+    let typed = typed_unit(alloc, text)?;
+    let outcome = interpret(alloc, &typed, &[], 9);
+    drop(typed);
+    let outcome = outcome?;
+    Ok(outcome.stop == Stop::Ended(0) && outcome.output.as_slice() == words)
+}
+
+#[test]
+fn runs(rt: HostRuntime) -> Result<(), Fail> {
+    for (index, (text, words)) in WRITTEN.iter().enumerate() {
+        let is_right = writes(rt.alloc(), text, words)?;
+        assert!(rt; is_right, "program {index}");
+    }
+    Ok(())
+}
+
+#[test]
+fn an_index_outside(rt: HostRuntime) -> Result<(), Fail> {
+    let text = b"unsigned char c[2];int main(void){c[2]=1;}";
+    let typed = typed_unit(rt.alloc(), text)?;
+    let outcome = interpret(rt.alloc(), &typed, &[], 9);
+    drop(typed);
+    let is_wrong = outcome?.stop == Stop::Wrong(Cause::Index);
+    assert!(rt; is_wrong);
+    Ok(())
+}

@@ -1,0 +1,155 @@
+// Bodies of both versions on a disk: files that were written before certificates came, and units with one.
+use crate::library::helpers::{formatted, name, opened, refusal, unit};
+use cc_disk::MemoryDisk;
+use cc_journal::Journal;
+use cc_library::Library;
+use cc_unit::{Certificate, StoredUnit};
+use std::alloc::Global;
+use std::sync::Arc;
+use std::test::Fail;
+
+// An Add of `a` with the source `int main(void){}` and one code word 0, as it is written: without a certificate, with one without a
+// byte, and with one of two bytes.
+static NONE: [u8; 36] =
+    *b"\x01\x01\x01a\x10\x00\x00\x00int main(void){}\x01\x00\x00\x00\x00\x00\x00\x00\x00\x00\x00\x00";
+
+static EMPTY: [u8; 40] =
+    *b"\x02\x01\x01a\x10\x00\x00\x00int main(void){}\x01\x00\x00\x00\x00\x00\x00\x00\x00\x00\x00\x00\x00\x00\x00\x00";
+
+static TWO: [u8; 42] =
+    *b"\x02\x01\x01a\x10\x00\x00\x00int main(void){}\x01\x00\x00\x00\x00\x00\x00\x00\x00\x00\x00\x00\x02\x00\x00\x00hi";
+
+// A Withdraw of `a` of version 1.
+static WITHDRAW: [u8; 4] = *b"\x01\x03\x01a";
+
+// The journal on a disk.
+fn journal_of(alloc: Global, disk: MemoryDisk) -> Result<Journal<MemoryDisk>, Fail> {
+    match Journal::open(alloc, disk) {
+        Ok(journal) => Ok(journal),
+        Err(_) => Err(Fail::from("no journal")),
+    }
+}
+
+// A disk with areas of 256 bytes and these records.
+fn disk_with(alloc: Global, bodies: &[&[u8]]) -> Result<MemoryDisk, Fail> {
+    let mut journal = journal_of(alloc, formatted(alloc, 256)?)?;
+    for body in bodies {
+        journal.append(alloc, body)?;
+    }
+    Ok(journal.into_disk())
+}
+
+// Whether the disk has these records.
+fn has_records(alloc: Global, disk: MemoryDisk, bodies: &[&[u8]]) -> Result<bool, Fail> {
+    let journal = journal_of(alloc, disk)?;
+    let records = journal.records();
+    Ok(
+        records.len() == bodies.len()
+            && records
+                .iter()
+                .zip(bodies)
+                .all(|(record, body)| record.as_slice() == *body),
+    )
+}
+
+// Whether `a` is the one unit, with that certificate.
+fn has_certificate(library: &Library<MemoryDisk>, wanted: Option<&[u8]>) -> Result<bool, Fail> {
+    let Some(unit) = library.get(&name(b'a')?) else {
+        return Ok(false);
+    };
+    Ok(match (&unit.certificate, wanted) {
+        (None, None) => true,
+        (Some(certificate), Some(bytes)) => certificate.bytes() == bytes,
+        _ => false,
+    })
+}
+
+// Whether a disk with this record has `a` with that certificate, and `compact` writes the same record.
+fn is_kept(alloc: Global, body: &[u8], wanted: Option<&[u8]>) -> Result<bool, Fail> {
+    let mut library = opened(alloc, disk_with(alloc, &[body])?)?;
+    if !has_certificate(&library, wanted)? {
+        return Ok(false);
+    }
+    library.compact(alloc)?;
+    let library = opened(alloc, library.into_disk())?;
+    if !has_certificate(&library, wanted)? {
+        return Ok(false);
+    }
+    has_records(alloc, library.into_disk(), &[body])
+}
+
+#[test]
+fn compact_keeps_each_certificate(rt: HostRuntime) -> Result<(), Fail> {
+    let alloc = rt.alloc();
+    assert!(rt; is_kept(alloc, &NONE, None)?);
+    assert!(rt; is_kept(alloc, &EMPTY, Some(b"".as_slice()))?);
+    assert!(rt; is_kept(alloc, &TWO, Some(b"hi".as_slice()))?);
+    Ok(())
+}
+
+// These bytes with another first one.
+fn of_version(alloc: Global, version: u8, body: &[u8]) -> Result<Vec<u8>, Fail> {
+    let mut bytes = vec![in alloc; version; 1]?;
+    for byte in body.iter().skip(1) {
+        bytes.push(*byte)?;
+    }
+    Ok(bytes)
+}
+
+#[test]
+fn records_that_are_no_commands(rt: HostRuntime) -> Result<(), Fail> {
+    let alloc = rt.alloc();
+    // Version 2 without its last field, and with a certificate that ends early; version 1 with a certificate; no version.
+    let table: [(u8, &[u8]); 4] = [(2, &NONE), (2, &TWO[..41]), (1, &EMPTY), (3, &TWO)];
+    for (i, (version, body)) in table.iter().enumerate() {
+        let body = of_version(alloc, *version, body)?;
+        assert!(rt;
+            refusal(alloc, disk_with(alloc, &[&body])?) == 37,
+            "row {i}"
+        );
+    }
+    Ok(())
+}
+
+#[test]
+fn files_of_version_1_open(rt: HostRuntime) -> Result<(), Fail> {
+    let alloc = rt.alloc();
+    let library = opened(alloc, disk_with(alloc, &[&NONE, &WITHDRAW, &NONE])?)?;
+    assert!(rt; has_certificate(&library, None)?);
+    let library = opened(alloc, disk_with(alloc, &[&NONE, &WITHDRAW])?)?;
+    assert!(rt; library.get(&name(b'a')?).is_none());
+    // What is written to them goes on in version 2.
+    let mut library = opened(alloc, disk_with(alloc, &[&NONE])?)?;
+    library.withdraw(alloc, name(b'a')?)?;
+    assert!(rt;
+        has_records(
+            alloc,
+            library.into_disk(),
+            &[&NONE, b"\x02\x03\x01a".as_slice()]
+        )?
+    );
+    Ok(())
+}
+
+// The unit of one word with a certificate of so many bytes.
+fn certified(alloc: Global, count: usize) -> Result<Arc<StoredUnit>, Fail> {
+    let bytes = vec![in alloc; 7u8; count]?;
+    let mut stored = unit(alloc, b"int main(void){}".as_slice(), 0)?;
+    stored.certificate = Some(Certificate::new(bytes));
+    Ok(Arc::new(alloc, stored)?)
+}
+
+#[test]
+fn a_certificate_that_has_no_room(rt: HostRuntime) -> Result<(), Fail> {
+    let alloc = rt.alloc();
+    // A record of 45 bytes and its certificate, and the closed gate: 18 bytes are left in an area of 64.
+    for (count, number) in [(18usize, 0u32), (19, 34), (1000, 34)] {
+        let mut library = opened(alloc, formatted(alloc, 64)?)?;
+        let answer = match library.add(alloc, name(b'a')?, certified(alloc, count)?) {
+            Ok(()) => 0,
+            Err(fault) => fault.number(),
+        };
+        assert!(rt; answer == number, "{count} bytes");
+    }
+    Ok(())
+}
