@@ -1,5 +1,6 @@
 -- The image that pieces make. Its code is the head, which calls main and exits with its word, and behind it the functions in the order
--- of their definitions; each item is filled in at its address. Its globals are the words of the objects in the order of declaration.
+-- of their definitions; each item is filled in at its address. Its globals are the objects in the order of declaration, each in words
+-- of its own (`Packed`).
 use Rattle.std.specs.Prelude.{ℕ, ◌+◌, ◌*◌, List, [], ◌∷◌, ◌++◌, length, take, map}
 use Rattle.cc_rv32.specs.declared.instr.Instr.{Instr}
 use Rattle.cc_rv32.specs.declared.instr.Instr.TheVariants.{OpImm, Ecall}

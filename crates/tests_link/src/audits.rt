@@ -7,7 +7,7 @@ use cc_colour::spill_all;
 use cc_emit::{Piece, emit};
 use cc_linear::linearise;
 use cc_link::{Audit, CompiledUnit, StoredUnit, audit, compile, link};
-use cc_live::drop_faint;
+use cc_live::{drop_dead, liveness};
 use cc_ltl::{read_ltl, write_ltl};
 use cc_rv32::image::{Code, Globals, Image};
 use cc_typing::TypedUnit;
@@ -74,12 +74,18 @@ fn image_of(alloc: Global, code: &[u32], globals: &[u32]) -> Result<Image, Fail>
 const OBJECTS: &str =
     "int a[2]={5,6};int b;int f(int n){b=a[n];return b;}int main(void){write_word(f(1));return a[0];}";
 
+/// Arrays of bytes.
+const BYTES: &str =
+    "unsigned char c[2]={300,-1};int main(void){write_word(c[0]);write_word(c[1]);c[0]+=220;\
+     write_word(c[0]);write_word(c[1]<<24);write_word(-1<c[1]);}";
+
 /// Texts of every kind: without a slot and with some, with loops, with calls, and with objects.
-static TEXTS: [&str; 5] = [
+static TEXTS: [&str; 6] = [
     "int main(void){}",
     "int main(void){int i;for(i=0;i<9;i++)if(i%2)write_word(i*i);return i;}",
     "int f(int n){if(n)return f(n-1);return 7;}int main(void){write_word(f(9));}",
     OBJECTS,
+    BYTES,
     LONG,
 ];
 
@@ -269,10 +275,12 @@ fn other_texts(rt: HostRuntime) -> Result<(), Fail> {
     Ok(())
 }
 
-// The piece of a function whose LTL has a slot for each value, behind the pass that drops what nobody needs.
+// The piece of a function whose LTL has a slot for each value, behind the pass that makes nops of dead nodes.
 fn spilled_piece(alloc: Global, unit: &Arc<TypedUnit>, function: usize) -> Result<Piece, Fail> {
     let mut pair = rtl_of(alloc, unit, function)?;
-    drop_faint(alloc, &mut pair)?;
+    let live = liveness(alloc, pair.code())?;
+    drop_dead(alloc, &mut pair, &live)?;
+    drop(live);
     let ltl = spill_all(alloc, pair.code())?;
     match validate(alloc, pair, ltl) {
         Ok(pair) => Ok(emit(alloc, linearise(alloc, pair)?)?),
@@ -343,7 +351,13 @@ fn is_spelled(alloc: Global, unit: &StoredUnit, functions: usize) -> Result<bool
 
 #[test]
 fn what_a_certificate_spells(rt: HostRuntime) -> Result<(), Fail> {
-    for (text, functions) in [(TEXTS[0], 1), (TEXTS[2], 2), (OBJECTS, 2), (LONG, 2)] {
+    for (text, functions) in [
+        (TEXTS[0], 1),
+        (TEXTS[2], 2),
+        (OBJECTS, 2),
+        (BYTES, 1),
+        (LONG, 2),
+    ] {
         let unit = compile(rt.alloc(), text.as_bytes())?;
         let right = is_spelled(rt.alloc(), unit.stored(), functions);
         drop(unit);
