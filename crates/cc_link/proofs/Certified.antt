@@ -1,12 +1,11 @@
 -- The certificate of a unit that was made spells the LTL of each function.
-use Rattle.std.proofs.Common.{◌≡◌, ℕ, suc, ◌+◌, ◌<◌, ◌≤◌, List, [], ◌∷◌, ◌++◌, length, get_or, drop, Some, Result, Ok, Err, refl, sym, ap, ◌∙◌, subst, arith, append_assoc}
+use Rattle.std.proofs.Common.{◌≡◌, ℕ, suc, ◌+◌, ◌<◌, ◌≤◌, List, [], ◌∷◌, ◌++◌, length, get_or, drop, Result, Ok, Err, refl, sym, ap, ◌∙◌, subst, arith, append_assoc}
 use Rattle.std.proofs.lemmas.List.{drop_more, length-map}
 use Rattle.std.proofs.lemmas.List.Elements.{All-head, All-tail}
 use Rattle.std.specs.Borrow.{Bor}
 use Rattle.std.specs.Prelude.{All, if◌then◌else◌}
 use Rattle.std.specs.Result.{OnOk, is_ok}
 use Rattle.std.specs.List.{AllByRecursion, flat_map}
-use Rattle.cc_syntax.specs.Tree.{External}
 use Rattle.cc_syntax.specs.Parse.{SpellsText}
 use Rattle.cc_meaning.specs.Meaning.{functions}
 use Rattle.cc_unit.specs.declared.unit.StoredUnit.{StoredUnit}
@@ -15,9 +14,9 @@ use Rattle.cc_ltl.specs.Ltl.{Ltl, IsLtl}
 use Rattle.cc_linear.specs.Pair.{most_blocks}
 use Rattle.cc_emit.specs.Piece.{Piece}
 use Rattle.cc_link.specs.Certificate.{IsToldLtl, ltl_field}
-use Rattle.cc_link.specs.Laws.{IsCertified, MadeUnitsAreCertified}
+use Rattle.cc_link.specs.Laws.{MadeUnitsAreCertified}
 use Rattle.cc_link.specs.Linked.{stranger, doubled, missing, ordered, all_ltl, certified, link_refusal, lent_pieces, unit_of}
-use Rattle.cc_link.specs.Made.{IsCompiled, IsMade}
+use Rattle.cc_link.specs.Made.{IsCompiled}
 use Rattle.cc_link.proofs.Deciding.{defined_long}
 use Rattle.cc_link.proofs.Few.{few_functions}
 use Rattle.cc_link.proofs.Linked.{EachFrom, none_or, not_refused, order_long, ordered_each}

@@ -20,3 +20,5 @@ pub mod Short
 pub mod Certified
 pub mod Confirming
 pub mod Packing
+pub mod EarlierRuns
+pub mod Earlier

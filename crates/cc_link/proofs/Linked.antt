@@ -18,7 +18,6 @@ use Rattle.cc_link.proofs.Sizes.{AllKept}
 use Rattle.cc_meaning.specs.Meaning.{functions}
 use Rattle.cc_meaning.specs.Calls.{TypedUnitsHaveMain, ObjectsAreSized}
 use Rattle.cc_meaning.specs.Numbered.{TypedUnitsHaveMeanings, ProgramsAreNumbered}
-use Rattle.cc_runs.specs.Behavior.{AreWords}
 use Rattle.cc_unit.specs.declared.unit.StoredUnit.{StoredUnit}
 use Rattle.cc_emit.specs.declared.item.Item.{Item}
 use Rattle.cc_emit.specs.Piece.{Piece, tree_of, AreOf, IsPieceOfUnit}

@@ -16,7 +16,6 @@ use Rattle.cc_meaning.specs.Meaning.{functions}
 use Rattle.cc_emit.specs.Piece as emit
 use Rattle.cc_link.specs.Fault.{link_fault_number}
 use Rattle.cc_link.specs.Made.{IsCompiled}
-use Rattle.cc_link.specs.declared.fault.LinkFault.{LinkFault}
 use Rattle.cc_link.specs.declared.fault.LinkFault.TheVariants as link
 use Rattle.cc_link.specs.declared.piece_fault.PieceFault.{PieceFault}
 use Rattle.cc_link.specs.declared.piece_fault.PieceFault.TheVariants as piece

@@ -1,17 +1,14 @@
 //! From a text to a compiled unit, on one thread.
 
-ghost use Rattle.std.specs.Prelude.{◌≡◌, ◌⊎◌, ◌<◌, ℕ, List, All, Err, length, IfOk, IfErr};
+ghost use Rattle.std.specs.Prelude.{◌≡◌, ◌<◌, ℕ, List, length, IfOk, IfErr};
 ghost use Rattle.std.specs.Arc.{arc_value};
 ghost use Rattle.cc_syntax.specs.Source.{source};
 ghost use Rattle.cc_syntax.specs.Tree.{External};
 ghost use Rattle.cc_syntax.specs.Parse.{SpellsText};
 ghost use Rattle.cc_meaning.specs.Meaning.{functions};
-ghost use Rattle.cc_emit.specs.Piece.{IsPieceOfUnit};
 ghost use Rattle.cc_link.specs.Agree.{Agree};
 ghost use Rattle.cc_link.specs.Compile.{IsProgramText, IsPieceRefusal, IsBuildRefusal, HasPiece};
 ghost use Rattle.cc_link.specs.Pieces.{AreFrom};
-ghost use Rattle.cc_link.specs.declared.fault.LinkFault.TheVariants.{ImageTooLarge, OutOfMemory};
-ghost use Rattle.cc_link.specs.Linked.{linked};
 
 use crate::build_fault::BuildFault;
 use crate::compiled::CompiledUnit;

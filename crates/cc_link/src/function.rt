@@ -1,6 +1,6 @@
 //! One function through all passes: from its tree to the piece of its code.
 
-ghost use Rattle.std.specs.Prelude.{◌≡◌, ◌<◌, ◌+◌, ◌⊎◌, length, IfOk, IfErr};
+ghost use Rattle.std.specs.Prelude.{◌≡◌, ◌<◌, length, IfOk, IfErr};
 ghost use Rattle.std.specs.Arc.{arc_value};
 ghost use Rattle.cc_syntax.specs.Source.{source};
 ghost use Rattle.cc_typing.specs.Typed.{defined_names};

@@ -4,9 +4,10 @@ ghost use Rattle.cc_tokens.specs.Tokens.{TokensAreOne};
 ghost use Rattle.cc_syntax.specs.Limits.{TreesAreOne};
 ghost use Rattle.cc_meaning.specs.Calls.{ObjectsAreSized, TypedUnitsHaveMain};
 ghost use Rattle.cc_meaning.specs.Numbered.{ProgramsAreNumbered, TypedUnitsHaveMeanings};
+ghost use Rattle.cc_link.specs.Earlier.{EarlierImagesAgree, EarlierProgramsStay, EarlierUnitsStay, NoAgreementIsNew};
 ghost use Rattle.cc_link.specs.Laws.{LinkedUnitsAgree, MadeUnitsAreCertified};
 
-use cc_meaning::{names_have_numbers, programs_call_main, units_have_meanings};
+use cc_meaning::{earlier_texts_stay, names_have_numbers, programs_call_main, units_have_meanings};
 use cc_syntax::trees_are_determined;
 use cc_tokens::tokens_are_determined;
 
@@ -37,3 +38,15 @@ pub fn linked_units_agree()
 pub fn made_units_are_certified()
     ensures { MadeUnitsAreCertified }
 {}
+
+/// A text that had a typed unit before there were arrays of `unsigned char` has it now, and its program does what it did; an image that
+/// agreed with the text agrees with it, and none agrees with a text without the word `char` that did not.
+pub fn earlier_images_agree()
+    ensures units { EarlierUnitsStay }
+    ensures programs { EarlierProgramsStay }
+    ensures images { EarlierImagesAgree }
+    ensures none_new { NoAgreementIsNew }
+{
+    tokens_are_determined();
+    earlier_texts_stay();
+}

@@ -2,7 +2,7 @@
 //!
 //! There are at most 64 functions, so a piece that is looked for is found by going over all of them.
 
-ghost use Rattle.std.specs.Prelude.{◌≡◌, ◌⊎◌, List, [], None, Some, All, length, slice_index, IfOk, IfErr, IfNone, MatchOption};
+ghost use Rattle.std.specs.Prelude.{◌≡◌, ◌⊎◌, [], None, Some, All, IfOk, IfErr, IfNone, MatchOption};
 ghost use Rattle.cc_emit.specs.Piece.{IsPieceOfUnit};
 ghost use Rattle.cc_link.specs.declared.fault.LinkFault.TheVariants.{OutOfMemory};
 ghost use Rattle.cc_link.specs.Made.{IsCompiled};

@@ -3,7 +3,7 @@
 //! A function's items become words one after the other; only where calls and jumps lead depends on where it stands, and all lies so
 //! near that every distance fits a jump.
 
-ghost use Rattle.std.specs.Prelude.{◌≡◌, ◌+◌, ◌-◌, ◌*◌, ◌%◌, ◌^◌, ◌<◌, ◌≤◌, ◌++◌, ◌↔◌, [], ◌∷◌, length, slice_index, IsTrue, IfOk, OnOk};
+ghost use Rattle.std.specs.Prelude.{◌≡◌, ◌+◌, ◌-◌, ◌%◌, ◌^◌, ◌<◌, ◌≤◌, ◌++◌, ◌↔◌, length, slice_index, IsTrue, IfOk, OnOk};
 ghost use Rattle.cc_emit.specs.Contract.{IsPlace, filled};
 ghost use Rattle.cc_link.specs.Link.{fill, fill_all, head, linked_code, encoded, code_words, most_code};
 ghost use Rattle.cc_link.specs.internal.Filling.{lent, AllStayIn, ArePlaces, Leads, CanStand, CanAllStand, places_from};

@@ -1,5 +1,5 @@
 -- The unit that was made again is the stored one, so what its type keeps is true of that.
-use Rattle.std.proofs.Common.{◌≡◌, ℕ, List, Option, Some, refl, sym, ◌∙◌, subst}
+use Rattle.std.proofs.Common.{ℕ, List, Option, refl, sym, ◌∙◌, subst}
 use Rattle.std.specs.Borrow.{Bor}
 use Rattle.std.specs.Option.{option_map}
 use Rattle.cc_unit.specs.declared.unit.StoredUnit.{StoredUnit}

@@ -1,4 +1,4 @@
-use Rattle.std.proofs.Common.{◌*◌, arith}
+use Rattle.std.proofs.Common.{arith}
 use Rattle.std.proofs.lemmas.Grind.{common_steps}
 use Rattle.cc_link.proofs.Packing.{word_more, none_left}
 use Rattle.cc_link.proofs.globals.add_packed.Goals as goal
