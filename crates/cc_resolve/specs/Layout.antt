@@ -1,5 +1,5 @@
--- Where the names of file scope lead: the objects lie one after the other as one list of words, one for each element however wide it is
--- (the image's words are others), and a word's number is its offset in that list; the functions are numbered in the order of their definitions.
+-- Where the names of file scope lead: the objects lie one after the other as one list of words, and a word's number is its
+-- offset in that list; the functions are numbered in the order of their definitions.
 use Rattle.std.specs.Prelude.{ℕ, suc, ◌+◌, List, [], ◌∷◌, ◌++◌, map, Option, Some, None, if◌then◌else◌, option_map, codes}
 use Rattle.cc_words.specs.declared.operators.Width.TheVariants.{Word}
 use Rattle.cc_syntax.specs.Tree.{Name, Object, External}
