@@ -17,13 +17,24 @@ use std::path::Path;
 /// have given up the pages that it could not write, and a later sync would not tell.
 ///
 /// While it lives no other process has the file open as a disk.
-#[derive(Drop)]
 pub struct FileDisk {
     file: fs::File,
     size: usize,
     failed: FailureCount,
     // Whether a sync failed.
     lost: bool,
+}
+
+// By hand, so that crates above call it and do not prove anew how each part is dropped.
+impl Drop for FileDisk {
+    fn drop(self) {
+        let FileDisk {
+            file,
+            size,
+            failed,
+            lost,
+        } = self;
+    }
 }
 
 impl FileDisk {

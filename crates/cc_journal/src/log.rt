@@ -18,7 +18,6 @@ use std::marker::Model;
 ///
 /// A clause sees the disk, the size of an area in bytes, the records (`bodies`, the oldest first), and whether the
 /// log is closed. While it is not closed, every image of an honest disk has these records alone.
-#[derive(Drop)]
 pub struct Log<D: Disk> {
     disk: D,
     // What its records are, for contracts alone.
@@ -28,6 +27,20 @@ pub struct Log<D: Disk> {
     area: usize,
     used: usize,
     closed: bool,
+}
+
+// By hand, so that crates above call it and do not prove anew how each part is dropped.
+impl<D: Disk + Drop> Drop for Log<D> {
+    fn drop(self) {
+        let Log {
+            disk,
+            bodies,
+            start,
+            area,
+            used,
+            closed,
+        } = self;
+    }
 }
 
 impl<D: Disk> Model for Log<D> {

@@ -17,12 +17,19 @@ pub const NAME_BYTES: usize = 32;
 
 /// The name of a unit: 1 to 32 bytes, a small letter, then small letters, digits and `_`.
 /// Contracts see its bytes. They lie in the value, so a name takes no memory.
-#[derive(Clone, Drop)]
+#[derive(Clone)]
 pub struct Name {
     bytes: [u8; 32],
     len: usize,
     // Its first eight bytes as one number, the first the highest, and zeros where it is shorter: most names differ there.
     front: u64,
+}
+
+// By hand, so that crates above call it and do not prove anew how each part is dropped.
+impl Drop for Name {
+    fn drop(self) {
+        let Name { bytes, len, front } = self;
+    }
 }
 
 impl Model for Name {

@@ -10,7 +10,7 @@ use cc_typing::TypeFault;
 use thiserror::Error;
 
 /// Why a text has no image: the faults of the stages, in their order.
-#[derive(Debug, Drop, Error)]
+#[derive(Debug, Error)]
 pub enum BuildFault {
     /// 1 to 7, 40: the text has no tree.
     #[error(transparent)]
@@ -24,6 +24,18 @@ pub enum BuildFault {
     /// 25, 40: the pieces make no image.
     #[error(transparent)]
     Link(LinkFault),
+}
+
+// By hand, so that crates above call it and do not prove anew how each part is dropped.
+impl Drop for BuildFault {
+    fn drop(self) {
+        match self {
+            BuildFault::Syntax(_) => (),
+            BuildFault::Typing(_) => (),
+            BuildFault::Piece(_) => (),
+            BuildFault::Link(_) => (),
+        }
+    }
 }
 
 impl BuildFault {
