@@ -15,11 +15,21 @@ pub struct Related {
 
 /// What is told of a text: a message, and the offset of the byte that it is about, where it is about one; and another place, where one
 /// helps. An offset past the text's end counts as its end.
-#[derive(Drop)]
 pub struct Diagnostic {
     pub at: Option<usize>,
     pub message: String,
     pub related: Option<Related>,
+}
+
+// By hand, so that crates above call it and do not prove anew how each part is dropped.
+impl Drop for Diagnostic {
+    fn drop(self) {
+        let Diagnostic {
+            at,
+            message,
+            related,
+        } = self;
+    }
 }
 
 // Writes a line of words about an offset, and below it the line of the text with a caret.

@@ -12,11 +12,21 @@ use std::marker::Model;
 /// A function: its number of slots, the label of the block that it begins with, and its blocks, whose labels ascend. The type holds
 /// exactly the functions that bytes can spell: at most 495 slots, each slot below their number, no move behind a branch or a return.
 /// A clause sees these parts.
-#[derive(Drop)]
 pub struct Ltl {
     slots: u16,
     entry: u32,
     blocks: Vec<Block>,
+}
+
+// By hand, so that crates above call it and do not prove anew how each part is dropped.
+impl Drop for Ltl {
+    fn drop(self) {
+        let Ltl {
+            slots,
+            entry,
+            blocks,
+        } = self;
+    }
 }
 
 impl Model for Ltl {
