@@ -37,8 +37,7 @@ fn add_packed(words: &mut Vec<u32>, bytes: &[u32]) -> Result<(), AllocError>
     requires { AreBytes bytes.now }
     ensures { OnOk result (words.new.items ≡ words.old.items ++ packed_bytes bytes.now) }
 {
-    let count = bytes.len() / 4 + usize::from(bytes.len() % 4 != 0);
-    for number in 0..count {
+    for number in 0..Width::Byte.words_of(bytes.len()) {
         words.push(word_at(bytes, 4 * number))?;
     }
     Ok(())

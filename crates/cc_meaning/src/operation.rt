@@ -1,23 +1,10 @@
 // What operations give on words.
 
 ghost use Rattle.std.specs.Prelude.{◌≡◌, ok_or};
-ghost use Rattle.cc_words.specs.Widths.{kept};
 ghost use Rattle.cc_meaning.specs.internal.FormMeaning.{unary_result, binary_result, cause_of_operation};
 
 use super::outcome::Cause;
 use cc_resolve::{BinaryOperation, UnaryOperation};
-use cc_words::Width;
-
-/// What an element keeps of a word: a byte its low eight bits.
-#[inline(always)]
-pub fn kept(width: Width, word: u32) -> u32
-    ensures { result ≡ kept width word }
-{
-    match width {
-        Width::Byte => word % 256,
-        Width::Word => word,
-    }
-}
 
 /// What an operation on one word gives.
 #[inline(always)]

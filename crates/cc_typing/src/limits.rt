@@ -13,6 +13,7 @@ use super::rule::{Offence, Rule};
 use cc_syntax::{
     Beginning, ConstantExpression, Declarator, External, Identifier, Object, Signature, Statement,
 };
+use cc_words::Width;
 use std::alloc::AllocError;
 
 /// The most parameters of a function.
@@ -170,8 +171,7 @@ pub fn object_words(object: &Object) -> usize
         Object::Single(_, _) => 1,
         Object::Array(_, length, values) => array_elements(length, values.as_slice()),
         Object::Bytes(_, length, values) => {
-            let count = array_elements(length, values.as_slice());
-            count / 4 + usize::from(count % 4 != 0)
+            Width::Byte.words_of(array_elements(length, values.as_slice()))
         }
     }
 }

@@ -2,7 +2,7 @@
 pub mod Words
 -- The operators of the intermediate languages, what each gives, and its name.
 pub mod Operators
--- How wide the elements of an object are, and what an element keeps of a word.
+-- How wide the elements of an object are, what an element keeps of a word, and how many words elements take.
 pub mod Widths
 -- Worked values of these, each by computation; no contract rests on them.
 pub mod rows

@@ -3,7 +3,7 @@
 
 ghost use Rattle.std.specs.Prelude.{◌≡◌};
 ghost use Rattle.cc_words.specs.Operators.{apply_unary, apply_binary, unary_text, binary_text};
-ghost use Rattle.cc_words.specs.Widths.{bytes, width_text};
+ghost use Rattle.cc_words.specs.Widths.{bytes, kept, width_text, words_of};
 
 use super::{
     add, div_s, div_u, eq, le_s, le_u, lt_s, lt_u, mul, ne, rem_s, rem_u, shl, shr_s, shr_u, sub,
@@ -162,6 +162,27 @@ impl Width {
         match self {
             Width::Byte => 1,
             Width::Word => 4,
+        }
+    }
+
+    /// What an element keeps of a word: a byte its low eight bits (C99 6.3.1.3).
+    #[inline(always)]
+    pub fn kept(self, word: u32) -> u32
+        ensures { result ≡ kept self word }
+    {
+        match self {
+            Width::Byte => word % 256,
+            Width::Word => word,
+        }
+    }
+
+    /// How many words so many elements take, the last one filled up.
+    pub fn words_of(self, elements: usize) -> usize
+        ensures { result ≡ words_of self elements }
+    {
+        match self {
+            Width::Byte => elements / 4 + usize::from(elements % 4 != 0),
+            Width::Word => elements,
         }
     }
 
