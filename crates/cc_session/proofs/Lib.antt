@@ -1,3 +1,4 @@
+pub mod Auditing
 pub mod Ends
 pub mod Lines
 pub mod Obeying
