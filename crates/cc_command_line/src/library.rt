@@ -35,6 +35,7 @@ The script comes on standard input, one command a line:
   list               print the names of all units
   run NAME STEPS     run the image of NAME for at most so many instructions
   compact            write the file anew, without what was replaced and withdrawn
+  audit              compile each unit anew along its certificate, and say whether the same comes of it
 
 A newline follows the LEN bytes. What is answered `ok` is kept, whatever happens to the computer.
 

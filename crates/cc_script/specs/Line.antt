@@ -14,6 +14,7 @@ pub data Asked : Type 0 where
   Names : Asked
   Run : (name : List ℕ) → (steps : ℕ) → Asked
   Compact : Asked
+  Audit : Asked
 
 -- what a command of the code asks for
 abbrev pub asked_by : Command → Asked
@@ -23,6 +24,7 @@ asked_by (command.Withdraw name) = Withdraw name.now
 asked_by command.List = Names
 asked_by (command.Run name steps) = Run name.now steps
 asked_by command.Compact = Compact
+asked_by command.Audit = Audit
 
 -- ---- numbers
 
@@ -59,7 +61,11 @@ abbrev pub is_word : List ℕ → Bool
 is_word bytes = nat_lt 0 (length bytes)
 
 abbrev pub one_word : (verb : List ℕ) → Option Asked
-one_word verb = if bytes_eq verb (codes "list") then Some Names else if bytes_eq verb (codes "compact") then Some Compact else None
+one_word verb =
+    if bytes_eq verb (codes "list") then Some Names
+    else if bytes_eq verb (codes "compact") then Some Compact
+    else if bytes_eq verb (codes "audit") then Some Audit
+    else None
 
 abbrev pub two_words : (verb name : List ℕ) → Option Asked
 two_words verb name = if bytes_eq verb (codes "withdraw") && is_word name then Some (Withdraw name) else None

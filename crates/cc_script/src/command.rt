@@ -25,6 +25,8 @@ pub enum Command<'a> {
     Run { name: &'a [u8], steps: u64 },
     /// Write the library anew, with one record for each unit.
     Compact,
+    /// Audit each unit along its certificate.
+    Audit,
 }
 
 // The first word of a line, and what stands behind the space that ends it, if one does.
@@ -75,6 +77,8 @@ fn one_word<'a>(verb: &[u8]) -> Option<Command<'a>>
         Some(Command::List)
     } else if verb == b"compact".as_slice() {
         Some(Command::Compact)
+    } else if verb == b"audit".as_slice() {
+        Some(Command::Audit)
     } else {
         None
     }

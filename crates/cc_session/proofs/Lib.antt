@@ -1,4 +1,5 @@
 pub mod Ends
+pub mod Fetching
 pub mod Lines
 pub mod Obeying
 pub mod Playing

@@ -1,9 +1,10 @@
 -- What a script is to the client that does it: line by line a call of the service, and what its answer makes of the client.
-use Rattle.std.specs.Prelude.{◌≡◌, ◌⊎◌, ◌<◌, ℕ, List, [], ◌∷◌, ◌++◌, length, take, nat_le, if◌then◌else◌, Option, Some, None, Result}
-use Rattle.cc_script.specs.Line.{Asked, Add, Replace, Withdraw, Names, Run, Compact, asked_of}
+use Rattle.std.specs.Prelude.{◌≡◌, ◌⊎◌, ◌<◌, ℕ, Bool, true, false, List, [], ◌∷◌, ◌++◌, length, take, nat_le, if◌then◌else◌, Option, Some, None, Result, Ok, Err}
+use Rattle.cc_script.specs.Line.{Asked, Add, Replace, Withdraw, Names, Run, Compact, Audit, asked_of}
 use Rattle.cc_script.specs.Reading.{IsLine}
 use Rattle.cc_history.specs.declared.command.Command.{Command}
 use Rattle.cc_history.specs.declared.entry.Receipt.{Receipt}
+use Rattle.cc_history.specs.declared.reply.Reply.TheVariants as reply
 use Rattle.cc_history.specs.History.{Holder}
 use Rattle.cc_service.specs.Serving.{Adds, Replaces, GetAnswers, ListAnswers, PutAnswers, WithdrawAnswers}
 use Rattle.cc_service.specs.declared.fault.ServiceFault.{ServiceFault}
@@ -23,6 +24,29 @@ pub record IsSent (Asks : (name source : List ℕ) → Command → Type 0) (name
       (IsLine rest [] after × (Calls (PutAnswers (Asks name (take 65537 source)) name (take 65537 source) old new) ⊎ (new ≡ old)))
       ⊎ ((behind : List ℕ) × (0 < length behind) × IsLine rest behind after × (new ≡ old))
 
+-- The units of these names are fetched to be audited, one call for each, in their order. Either all are found; or the last call is of the first
+-- that is refused, or of one that is found whose audit had no memory, or of which it could not be written what the audit says.
+abbrev pub FetchesEach : (names : List (List ℕ)) (all : Bool) (old new : Holder) → Type 0
+FetchesEach [] true old new = new ≡ old
+FetchesEach [] false old new = ⊥
+FetchesEach (name ∷ names) all old new =
+    ((all ≡ false) × Calls (GetAnswers name old new))
+    ⊎ ((receipt : Receipt) × (between : Holder) × GetAnswers name old between (Ok receipt) × FetchesEach names all between new)
+
+-- the names are listed, and the units of those that were answered are fetched
+pub record IsListedAndFetched (old new : Holder) : Type 0 where
+  pub receipt : Receipt
+  pub names : List (List ℕ)
+  pub all : Bool
+  pub between : Holder
+  pub listed : ListAnswers old between (Ok receipt)
+  pub names_are : receipt.entry.reply ≡ reply.Names names
+  pub fetched : FetchesEach names all between new
+
+-- all units are audited; nothing more is called where the list is refused
+abbrev pub Audits : (old new : Holder) → Type 0
+Audits old new = ((fault : ServiceFault) × ListAnswers old new (Err fault)) ⊎ IsListedAndFetched old new
+
 -- what a line asks for is done; nothing where it asks for nothing
 abbrev pub Obeys : Option Asked → (before after : List ℕ) (old new : Holder) → Type 0
 Obeys (Some (Add name count)) before after old new = IsSent Adds name count before after old new
@@ -31,6 +55,7 @@ Obeys (Some (Withdraw name)) before after old new = (after ≡ before) × Calls 
 Obeys (Some Names) before after old new = (after ≡ before) × Calls (ListAnswers old new)
 Obeys (Some (Run name steps)) before after old new = (after ≡ before) × Calls (GetAnswers name old new)
 Obeys (Some Compact) before after old new = (after ≡ before) × (new ≡ old)
+Obeys (Some Audit) before after old new = (after ≡ before) × Audits old new
 Obeys None before after old new = (after ≡ before) × (new ≡ old)
 
 -- what a line asks for; one of more than 128 bytes asks for nothing
@@ -59,7 +84,7 @@ pub record IsPlayed (script : List ℕ) (first last : Holder) : Type 0 where
   pub turns : List Turn
   pub plays : Plays script first turns [] last
 
--- a prefix of it is done; of the step behind it perhaps the call, whose answer could not be written
+-- a prefix of it is done; of the step behind it perhaps the call, whose answer could not be written (of an audit the calls up to such a one)
 pub record IsPlayedInPart (script : List ℕ) (first last : Holder) : Type 0 where
   pub turns : List Turn
   pub rest : List ℕ

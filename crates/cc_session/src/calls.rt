@@ -1,15 +1,18 @@
 // The commands of a script, done by one client.
 
-ghost use Rattle.std.specs.Prelude.{◌≡◌, Option, IfErr};
+ghost use Rattle.std.specs.Prelude.{◌≡◌, Option, Ok, IsTrue, false, IfErr, IfOk};
 ghost use Rattle.cc_script.specs.Line.{asked_of};
 ghost use Rattle.cc_script.specs.Reading.{rest_of};
+ghost use Rattle.cc_history.specs.declared.entry.Receipt.{Receipt};
 ghost use Rattle.cc_service.specs.Serving.{Adds, GetAnswers, ListAnswers, PutAnswers, Replaces, WithdrawAnswers};
-ghost use Rattle.cc_session.specs.Playing.{Calls, IsSent, Obeys};
+ghost use Rattle.cc_session.specs.Playing.{Audits, Calls, FetchesEach, IsSent, Obeys};
 ghost use Rattle.cc_session.specs.internal.Ending.{IsEnding};
 ghost use Rattle.cc_session.specs.internal.Steps.{IsDone, IsPlayedBy, asking};
 
+use crate::auditing::audit_found;
 use crate::talk::{Sent, Talk};
 use cc_disk::Disk;
+use cc_library::Name;
 use cc_program::run_image;
 use cc_script::{Command, LINE_BYTES, MOST_BYTES, Next, ScriptFault, command_of};
 use cc_service::{Client, Found, Named, Service};
@@ -183,6 +186,94 @@ impl<'a, N: Named + Send + Sync + 'static, H: Wait, D: Disk> Caller<'a, N, H, D>
         told
     }
 
+    // Tells what an audit says of a unit that was found, or that memory ran out in it: whether it said anything.
+    fn tell_audit<R: Read, W: Write, E: Write>(
+        &self,
+        talk: &mut Talk<R, W, E>,
+        name: &[u8],
+        found: &Found,
+    ) -> Result<bool, ScriptFault>
+        ensures ending { IfErr result IsEnding }
+        ensures rest { rest_of talk.new.script (R.remaining talk.new.reader) ≡ rest_of talk.old.script (R.remaining talk.old.reader) }
+    {
+        match audit_found(self.alloc, found) {
+            Ok(audit) => {
+                talk.tell_audit(name, audit)?;
+                Ok(true)
+            }
+            Err(_) => {
+                talk.tell_no_memory(self.alloc)?;
+                Ok(false)
+            }
+        }
+    }
+
+    // Audits the unit of a name: whether it was found and the audit said anything.
+    fn audit_name<R: Read, W: Write, E: Write>(
+        &mut self,
+        talk: &mut Talk<R, W, E>,
+        name: &[u8],
+    ) -> Result<bool, ScriptFault>
+        ensures ending { IfErr result IsEnding }
+        ensures rest { rest_of talk.new.script (R.remaining talk.new.reader) ≡ rest_of talk.old.script (R.remaining talk.old.reader) }
+        ensures called { Calls (GetAnswers name.now self.old.client.holder self.new.client.holder) }
+        ensures found { IfOk result (λ is_audited. IsTrue is_audited → (receipt : Receipt) × GetAnswers name.now self.old.client.holder self.new.client.holder (Ok receipt)) }
+    {
+        let answer = self
+            .service
+            .get(self.rt, self.alloc, &mut self.client, name);
+        let told = match &answer {
+            Ok(found) => self.tell_audit(talk, name, found),
+            Err(fault) => match talk.tell_refusal(self.alloc, fault, &[]) {
+                Ok(()) => Ok(false),
+                Err(fault) => Err(fault),
+            },
+        };
+        drop(answer);
+        told
+    }
+
+    // Audits the units of these names, up to the first that is not found or whose audit says nothing: whether none was.
+    fn audit_names<R: Read, W: Write, E: Write>(
+        &mut self,
+        talk: &mut Talk<R, W, E>,
+        names: &[Name],
+    ) -> Result<bool, ScriptFault>
+        ensures ending { IfErr result IsEnding }
+        ensures rest { rest_of talk.new.script (R.remaining talk.new.reader) ≡ rest_of talk.old.script (R.remaining talk.old.reader) }
+        ensures whole { IfOk result (λ all. FetchesEach names.now all self.old.client.holder self.new.client.holder) }
+        ensures part { IfErr result (λ fault. FetchesEach names.now false self.old.client.holder self.new.client.holder) }
+    {
+        for name in names {
+            if !self.audit_name(talk, name.bytes())? {
+                return Ok(false);
+            }
+        }
+        Ok(true)
+    }
+
+    // Audits all units.
+    fn audit<R: Read, W: Write, E: Write>(
+        &mut self,
+        talk: &mut Talk<R, W, E>,
+    ) -> Result<(), ScriptFault>
+        ensures ending { IfErr result IsEnding }
+        ensures rest { rest_of talk.new.script (R.remaining talk.new.reader) ≡ rest_of talk.old.script (R.remaining talk.old.reader) }
+        ensures called { Audits self.old.client.holder self.new.client.holder }
+    {
+        let answer = self.service.list(self.rt, self.alloc, &mut self.client);
+        let told = match &answer {
+            Ok(listing) => match self.audit_names(talk, listing.names().as_slice()) {
+                Ok(true) => talk.tell_ok(),
+                Ok(false) => Ok(()),
+                Err(fault) => Err(fault),
+            },
+            Err(fault) => talk.tell_refusal(self.alloc, fault, &[]),
+        };
+        drop(answer);
+        told
+    }
+
     // Does what a line asks for.
     fn obey<R: Read, W: Write, E: Write>(
         &mut self,
@@ -200,6 +291,7 @@ impl<'a, N: Named + Send + Sync + 'static, H: Wait, D: Disk> Caller<'a, N, H, D>
             Some(Command::List) => self.list(talk),
             Some(Command::Run { name, steps }) => self.run(talk, name, steps),
             Some(Command::Compact) => self.compact(talk),
+            Some(Command::Audit) => self.audit(talk),
             None => talk.refuse_line(),
         }
     }

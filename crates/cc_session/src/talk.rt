@@ -7,7 +7,7 @@ ghost use Rattle.cc_session.specs.internal.Steps.{HasSent};
 
 use crate::words::{explain_refusal, explain_words};
 use cc_history::Receipt;
-use cc_link::PieceFault;
+use cc_link::{Audit, PieceFault};
 use cc_program::{Answer, write_answer, write_fault_line};
 use cc_script::{LINE_BYTES, Next, Script, ScriptFault};
 use cc_service::{Listing, ServiceFault};
@@ -60,6 +60,19 @@ fn write_number<W: Write>(number: u64, writer: &mut W) -> io::Result<()> {
 
 fn write_ok<W: Write>(writer: &mut W) -> io::Result<()> {
     writeln!(writer, "ok")?;
+    writer.flush()
+}
+
+// Writes what an audit says of a name's unit.
+fn write_audit<W: Write>(name: &[u8], audit: Audit, writer: &mut W) -> io::Result<()> {
+    let said = match audit {
+        Audit::Confirmed => b" confirmed\n".as_slice(),
+        Audit::NoCertificate => b" none\n".as_slice(),
+        Audit::Unconfirmed => b" unconfirmed\n".as_slice(),
+    };
+    writer.write_all(b"audit ")?;
+    writer.write_all(name)?;
+    writer.write_all(said)?;
     writer.flush()
 }
 
@@ -187,6 +200,22 @@ impl<R: Read, W: Write, E: Write> Talk<R, W, E> {
         told
     }
 
+    // Writes what an audit says of a name's unit.
+    pub(crate) fn tell_audit(&mut self, name: &[u8], audit: Audit) -> Result<(), ScriptFault>
+        ensures ending { IfErr result IsEnding }
+        ensures rest { rest_of self.new.script (R.remaining self.new.reader) ≡ rest_of self.old.script (R.remaining self.old.reader) }
+    {
+        written(write_audit(name, audit, &mut self.answers))
+    }
+
+    // Writes that what was asked for is done.
+    pub(crate) fn tell_ok(&mut self) -> Result<(), ScriptFault>
+        ensures ending { IfErr result IsEnding }
+        ensures rest { rest_of self.new.script (R.remaining self.new.reader) ≡ rest_of self.old.script (R.remaining self.old.reader) }
+    {
+        written(write_ok(&mut self.answers))
+    }
+
     // Writes that the library was written anew, or why not.
     pub(crate) fn tell_done(
         &mut self,
@@ -197,7 +226,7 @@ impl<R: Read, W: Write, E: Write> Talk<R, W, E> {
         ensures rest { rest_of self.new.script (R.remaining self.new.reader) ≡ rest_of self.old.script (R.remaining self.old.reader) }
     {
         match answer {
-            Ok(()) => written(write_ok(&mut self.answers)),
+            Ok(()) => self.tell_ok(),
             Err(fault) => self.tell_refusal(alloc, fault, &[]),
         }
     }

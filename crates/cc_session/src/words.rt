@@ -23,7 +23,7 @@ pub fn words_of(number: u32) -> Option<&'static str> {
         40 => Some("memory ran out"),
         41 => Some("a worker thread could not be started, or gave no answer"),
         50 => Some(
-            "the line is no command: add NAME LEN, replace NAME LEN, withdraw NAME, list, run NAME STEPS or compact; \
+            "the line is no command: add NAME LEN, replace NAME LEN, withdraw NAME, list, run NAME STEPS, compact or audit; \
              a newline follows the LEN bytes of a source",
         ),
         51 => Some("the script ends within a source"),

@@ -14,7 +14,7 @@ use std::thread::Threads;
 
 /// What is expected of a person.
 const GREETING: &str =
-    "cclib: add NAME LEN, replace NAME LEN, withdraw NAME, list, run NAME STEPS or compact, one a line; \
+    "cclib: add NAME LEN, replace NAME LEN, withdraw NAME, list, run NAME STEPS, compact or audit, one a line; \
     a source of LEN bytes follows its line; end by Ctrl-D\n";
 
 /// What the command line says of a library.

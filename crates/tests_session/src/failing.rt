@@ -69,6 +69,42 @@ fn a_write_that_fails(rt: HostRuntime) -> Result<(), Fail> {
     Ok(())
 }
 
+/// Takes so many answers, and refuses every write from then on.
+#[derive(Drop)]
+struct Takes {
+    left: u8,
+    taken: Vec<u8>,
+}
+
+impl Write for Takes {
+    fn write(&mut self, buf: &[u8]) -> io::Result<usize> {
+        if self.left == 0 {
+            return Err(io::Error::from(ErrorKind::BrokenPipe));
+        }
+        self.taken.write(buf)
+    }
+
+    fn flush(&mut self) -> io::Result<()> {
+        self.left = self.left.saturating_sub(1);
+        Ok(())
+    }
+}
+
+// An audit that is cut off behind its first unit: nothing is told of the second one, and the script is over.
+#[test]
+fn an_audit_that_is_cut_off(rt: HostRuntime) -> Result<(), Fail> {
+    let mut reader =
+        b"add a 16\nint main(void){}\nadd b 16\nint main(void){}\naudit\nlist\n".as_slice();
+    let mut writer = Takes {
+        left: 3,
+        taken: Vec::new(rt.alloc()),
+    };
+    let wanted = SessionEnd::Fault(54);
+    let right = ends(&rt, rt.alloc(), &mut reader, &mut writer, 4096, wanted)?;
+    assert!(rt; right && writer.taken.as_slice() == b"ok 1\nok 2\naudit a confirmed\n".as_slice());
+    Ok(())
+}
+
 #[test]
 fn a_disk_that_is_no_library(rt: HostRuntime) -> Result<(), Fail> {
     let alloc = rt.alloc();

@@ -1,7 +1,7 @@
 // Scripts on formatted disks.
 
 use cc_disk::MemoryDisk;
-use cc_journal::format;
+use cc_journal::{Journal, format};
 use cc_session::{SessionEnd, session};
 use std::alloc::Global;
 use std::io::{Read, Write};
@@ -14,6 +14,17 @@ pub fn formatted(alloc: Global, area: u32) -> Result<MemoryDisk, Fail> {
     let mut disk = MemoryDisk::new(alloc, 16 + 2 * area as usize)?;
     format(&mut disk, area)?;
     Ok(disk)
+}
+
+/// A formatted disk with two areas of 64 bytes, and a record with this body.
+pub fn with_record(alloc: Global, body: &[u8]) -> Result<MemoryDisk, Fail> {
+    match Journal::open(alloc, formatted(alloc, 64)?) {
+        Ok(mut journal) => {
+            journal.append(alloc, body)?;
+            Ok(journal.into_disk())
+        }
+        Err(_) => Err(Fail::from("not opened")),
+    }
 }
 
 /// Whether a session over these streams on a disk with this area ends so, and gives the disk back.
@@ -33,7 +44,26 @@ where
     Ok(end == wanted && disk.is_some())
 }
 
-/// Whether a script on such a disk is answered by these lines, and ends so.
+/// Whether a script on this disk is answered by these lines, and ends so.
+pub fn answers_on<H>(
+    rt: &H,
+    alloc: Global,
+    script: &[u8],
+    disk: MemoryDisk,
+    lines: &str,
+    wanted: SessionEnd,
+) -> Result<bool, Fail>
+where
+    H: Threads + Wait + Copy + Send + 'static,
+{
+    let mut reader = script;
+    let mut written = Vec::new(alloc);
+    let (disk, end) = session(rt, alloc, &mut reader, &mut written, disk, 1);
+    let right = end == wanted && disk.is_some();
+    Ok(right && written.as_slice() == lines.as_bytes())
+}
+
+/// The same on a formatted disk with this area.
 pub fn answers<H>(
     rt: &H,
     alloc: Global,
@@ -45,8 +75,6 @@ pub fn answers<H>(
 where
     H: Threads + Wait + Copy + Send + 'static,
 {
-    let mut reader = script;
-    let mut written = Vec::new(alloc);
-    let right = ends(rt, alloc, &mut reader, &mut written, area, wanted)?;
-    Ok(right && written.as_slice() == lines.as_bytes())
+    let disk = formatted(alloc, area)?;
+    answers_on(rt, alloc, script, disk, lines, wanted)
 }

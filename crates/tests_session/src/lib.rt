@@ -1,9 +1,11 @@
 //! Tests of sessions, from outside: scripts with their answers, scripts that are refused, streams and disks that fail.
 //!
-//! `helpers` runs a script on a formatted disk, `scripts` has the worked scripts, `refusals` what is refused, `failing` readers and writers
-//! that fail, `files` a library in a file.
+//! `helpers` runs a script on a formatted disk, `scripts` has the worked scripts, `audits` those that audit, `refusals` what is refused,
+//! `failing` readers and writers that fail, `files` a library in a file.
 #![tactic(auto)]
 
+#[cfg(test)]
+mod audits;
 #[cfg(test)]
 mod failing;
 #[cfg(test)]

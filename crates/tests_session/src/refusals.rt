@@ -7,7 +7,7 @@ use std::io::{self, Read};
 use std::test::Fail;
 
 // Scripts in an area of 160 bytes, with their answers. After each refusal the script goes on.
-static SCRIPTS: [(&str, &str); 12] = [
+static SCRIPTS: [(&str, &str); 13] = [
     ("withdraw A\n", "fault 33 BadName\n"),
     (
         "run a 1000000001\nrun a 1000000000\n",
@@ -18,8 +18,12 @@ static SCRIPTS: [(&str, &str); 12] = [
         "fault 50 BadLine\nfault 50 BadLine\n",
     ),
     (
-        "audit\n list\nlist \n\nadd  1\n",
+        "hello\n list\nlist \n\nadd  1\n",
         "fault 50 BadLine\nfault 50 BadLine\nfault 50 BadLine\nfault 50 BadLine\nfault 50 BadLine\n",
+    ),
+    (
+        "audit a\naudit \naudit a 1\nlist\n",
+        "fault 50 BadLine\nfault 50 BadLine\nfault 50 BadLine\nok 1\n",
     ),
     (
         "add a 1234567\nadd a +1\n",
