@@ -1,4 +1,4 @@
-//! LTL that somebody hostile might hand to the validator, for bench/validate.sh: `hostile TASK SHAPE FILE TIMES`.
+//! LTL that somebody hostile might hand to the validator, for bench/validate.sh and bench/audit.sh: `hostile TASK SHAPE FILE TIMES`.
 //!
 //! FILE is a text of C; its first function is taken. Its LTL is that of `spill_all` with 495 slots, changed as SHAPE says:
 //! - `equal`: the first word read goes to every slot, and each word written comes from the next slot in turn;
@@ -20,17 +20,14 @@ use std::env::Args;
 
 const SLOTS: u16 = 495;
 
-// Of how many writes the moves have more in front, and how many times a slot's word goes to a register and back there.
-const LONG: u32 = 10;
-
-const TIMES: u16 = 30_000;
-
-/// What is changed.
+/// What is changed. In front of writes a slot's word goes to a register and back so many times.
 #[derive(Clone, Copy)]
-enum Shape {
-    Equal,
-    Turning,
-    Moving,
+pub enum Shape {
+    /// Each word written comes from the next of equal slots; in front of all writes there are more moves.
+    Equal { pairs: u16 },
+    /// The words of all slots turn behind the first write; so many writes after it have more moves in front.
+    Turning { writes: u32, pairs: u16 },
+    /// The slots are used from the top down.
     High,
 }
 
@@ -46,9 +43,15 @@ pub fn perform(rt: &HostRuntime, arguments: &mut Args) -> Result<()> {
         _ => bail!("no such task"),
     };
     let shape = match shape.as_str() {
-        "equal" => Shape::Equal,
-        "turning" => Shape::Turning,
-        "moving" => Shape::Moving,
+        "equal" => Shape::Equal { pairs: 0 },
+        "turning" => Shape::Turning {
+            writes: 0,
+            pairs: 0,
+        },
+        "moving" => Shape::Turning {
+            writes: 10,
+            pairs: 30_000,
+        },
         "high" => Shape::High,
         _ => bail!("no such shape"),
     };
@@ -82,8 +85,8 @@ fn count_moves(ltl: &Ltl) -> usize {
     count
 }
 
-// The function so changed.
-fn changed(alloc: Global, plain: &Ltl, shape: Shape) -> Result<Ltl> {
+/// The function so changed.
+pub fn changed(alloc: Global, plain: &Ltl, shape: Shape) -> Result<Ltl> {
     let mut blocks = Vec::new(alloc);
     let (mut reads, mut writes) = (0u32, 0u32);
     for block in plain.blocks() {
@@ -188,30 +191,31 @@ fn returned(alloc: Global, before: Vec<Move>, shape: Shape) -> Result<Vec<Move>>
 // In front of the write of this number.
 fn before_write(alloc: Global, before: Vec<Move>, shape: Shape, number: u32) -> Result<Vec<Move>> {
     match shape {
-        Shape::Equal => {
+        Shape::Equal { pairs } => {
             drop(before);
             let mut moves = Vec::new(alloc);
+            go_and_return(&mut moves, pairs)?;
             moves.push(Move::Reload {
                 to: register(10)?,
                 slot: slot((number % 495) as u16)?,
             })?;
             Ok(moves)
         }
-        Shape::Moving => {
+        Shape::Turning { writes, pairs } => {
             let mut moves = before;
-            if 0 < number && number <= LONG {
-                go_and_return(&mut moves)?;
+            if 0 < number && number <= writes {
+                go_and_return(&mut moves, pairs)?;
             }
             Ok(moves)
         }
-        Shape::Turning | Shape::High => Ok(before),
+        Shape::High => Ok(before),
     }
 }
 
-// Words of the slots go to a register and back, one after the other.
-fn go_and_return(moves: &mut Vec<Move>) -> Result<()> {
+// Words of the slots go to a register and back, one after the other, so many times.
+fn go_and_return(moves: &mut Vec<Move>, pairs: u16) -> Result<()> {
     let over = register(28)?;
-    for number in 0..TIMES {
+    for number in 0..pairs {
         let slot = slot(number % SLOTS)?;
         moves.push(Move::Reload { to: over, slot })?;
         moves.push(Move::Spill { slot, from: over })?;
@@ -221,7 +225,7 @@ fn go_and_return(moves: &mut Vec<Move>) -> Result<()> {
 
 // Behind the first write: each slot's word goes to the slot below, and that of the lowest to the highest.
 fn turn(after: &mut Vec<Move>, shape: Shape) -> Result<()> {
-    if !matches!(shape, Shape::Turning | Shape::Moving) {
+    if !matches!(shape, Shape::Turning { .. }) {
         return Ok(());
     }
     let (lowest, over) = (register(28)?, register(29)?);

@@ -1,16 +1,17 @@
 //! What the scripts of bench/ run: `bench TASK WORD.. [, TASK WORD..]` does each task in turn. Words that are a comma alone stand
 //! between two tasks.
 //!
-//! `compile FILE TIMES`, `again FILE` and `count FILE` compile a text, also once memory was refused, or count what its image executes
-//! (`compiler`); `hostile TASK SHAPE FILE TIMES` validates LTL that asks for much (`hostile`); `list COUNT` adds to an instruction list
-//! (`list`); `machine CODE GLOBALS STEPS [WORD..]` runs words on the simulator (`machine`); `passes TASK FILE TIMES` does the passes up to
-//! the validator (`passes`); `pool TASK FILE NUMBER..` has a pool of workers compile (`pool`); `service TASK FILE WORKERS CLIENTS CALLS SOURCE`
-//! has clients call a service (`service`); `stands SOURCE WORDS TIMES` looks whether a receipt stands (`stands`); `store TASK FILE
-//! [NUMBER..]` works on a library of units on a file (`store`). `arguments` reads the command line, `words` files of words, and `units`
-//! makes units and their names.
+//! `audit TASK WORD..` audits stored units (`audit`); `compile FILE TIMES`, `again FILE` and `count FILE` compile a text, also once memory
+//! was refused, or count what its image executes (`compiler`); `hostile TASK SHAPE FILE TIMES` validates LTL that asks for much
+//! (`hostile`); `list COUNT` adds to an instruction list (`list`); `machine CODE GLOBALS STEPS [WORD..]` runs words on the simulator
+//! (`machine`); `passes TASK FILE TIMES` does the passes up to the validator (`passes`); `pool TASK FILE NUMBER..` has a pool of workers
+//! compile (`pool`); `service TASK FILE WORKERS CLIENTS CALLS SOURCE` has clients call a service (`service`); `stands SOURCE WORDS TIMES`
+//! looks whether a receipt stands (`stands`); `store TASK FILE [NUMBER..]` works on a library of units on a file (`store`). `arguments`
+//! reads the command line, `words` files of words, and `units` makes units and their names.
 #![tactic(auto)]
 
 mod arguments;
+mod audit;
 mod compiler;
 mod hostile;
 mod list;
@@ -57,6 +58,7 @@ fn main(rt: HostRuntime) -> Result<()> {
 fn perform(rt: &HostRuntime, task: &str, arguments: &mut Args) -> Result<()> {
     match task {
         "again" => compiler::compile_after_refusal(rt, arguments)?,
+        "audit" => audit::perform(rt, arguments)?,
         "compile" => compiler::compile_again(rt, arguments)?,
         "count" => compiler::count(rt, arguments)?,
         "hostile" => hostile::perform(rt, arguments)?,
@@ -66,7 +68,7 @@ fn perform(rt: &HostRuntime, task: &str, arguments: &mut Args) -> Result<()> {
         "stands" => stands::look_again(rt, arguments)?,
         "store" => store::perform(rt, arguments)?,
         _ => bail!(
-            "usage: bench again|compile|count|hostile|list|machine|passes|pool|service|stands|store WORD.. [, TASK WORD..]"
+            "usage: bench again|audit|compile|count|hostile|list|machine|passes|pool|service|stands|store WORD.. [, TASK WORD..]"
         ),
     }
     end_of_task(arguments)

@@ -43,9 +43,13 @@ pub fn perform(rt: &HostRuntime, arguments: &mut Args) -> Result<()> {
 /// The unit of that file.
 pub fn checked(rt: &HostRuntime, path: &str) -> Result<Arc<TypedUnit>> {
     let text = fs::read(rt, path)?;
-    let unit = parse(rt.alloc(), text.as_slice())?;
-    let typed = check(rt.alloc(), unit)?;
-    Ok(Arc::new(rt.alloc(), typed)?)
+    typed(rt.alloc(), text.as_slice())
+}
+
+/// The unit of that text.
+pub fn typed(alloc: Global, text: &[u8]) -> Result<Arc<TypedUnit>> {
+    let unit = parse(alloc, text)?;
+    Ok(Arc::new(alloc, check(alloc, unit)?)?)
 }
 
 /// The RTL of the first function.
