@@ -2,7 +2,8 @@
 # What an audit costs. Times are the processor's, and ratios are within one run: the best of ROUNDS rounds (5) of each counts, asked in turn.
 # First a unit of 64 functions, audited TIMES times (20), by as many compilations of its text: at most 1 is asked for.
 # Then certificates that somebody hostile might hand in, of half a million bytes, a million and two (crates/bench/src/audit.rt): many moves in
-# front of many writes, straight on, in a loop over one value and in a loop over 64. Twice the bytes may take 2.5 times the time at most.
+# front of many writes, straight on, and in a loop in which the words of 495 slots turn. Twice the bytes may take 2.5 times the time at most
+# where they stand straight on. (`audit hostile loops`, with 64 values, makes LTL that the validator refuses, and is not asked for.)
 # Then how many bytes the record of a unit has on the disk, for the programs of bench/programs and for the unit of 64 functions: before there
 # were certificates, and with its own.
 # The program has to be built (rt run in crates/bench), or BENCH names one that is.
@@ -51,7 +52,7 @@ awk -v b="$(best both)" -v c="$(best compilations)" -v n="$times" 'BEGIN {
     printf "a unit of 64 functions: an audit %.2f ms, a compilation %.2f ms, ratio %.2f\n",
         (b - c) / n * 1e3, c / (n + 1) * 1e3, (b - c) / n / (c / (n + 1)) }'
 
-for shape in straight loop loops; do
+for shape in straight loop; do
     for bytes in 500000 1000000 2000000; do
         for _ in $(seq "$rounds"); do
             for turns in 0 1; do
