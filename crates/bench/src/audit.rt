@@ -4,12 +4,12 @@
 //! audit's answer, and what the audits and what these compilations took in nanoseconds.
 //! `bytes FILE` prints how many bytes the record's body that adds its unit has without a certificate, and with the unit's own.
 //! `hostile SHAPE BYTES TIMES` makes a text of one function, and a certificate of about so many bytes that somebody hostile might hand in:
-//! its LTL has many moves in front of each of many writes, and all of it is right, so that the validator has to look at all (`hostile`).
+//! its LTL has many moves in front of each of many writes, and the validator has to look at all of them (`hostile`).
 //! It audits them so many times with an image that is another one, and prints how many bytes the certificate has, whether the validator
 //! accepts its LTL, the answer, and what the audits took. As SHAPE says,
 //! - `straight`: the writes stand one behind the other, and each word comes from the next of 495 slots that are equal;
 //! - `loop`: they stand in a loop, in which the words of 495 slots turn;
-//! - `loops`: the same with 64 values, which are written in turn.
+//! - `loops`: the same with 64 values, which are written in turn; the validator refuses that in the end.
 
 use crate::arguments::{next_argument, next_number};
 use crate::hostile::{Shape, changed};
