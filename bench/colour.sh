@@ -18,7 +18,7 @@ rounds=${ROUNDS:-3} work=${WORK:-200000}
 # times COUNT TEXT: the text so often
 times() { for ((n = 0; n < $1; n++)); do printf '%s' "$2"; done; }
 
-# The text of each kind with so many parts.
+# The text of each kind with $1 parts.
 straight() {
     printf 'int main(void){int i;i=read_word();'
     times "$1" 'write_word(i*3+1);'

@@ -1,7 +1,7 @@
 #!/usr/bin/env python3
 """Compares what the interpreter, the compiled program and gcc's program write, for random programs whose meaning the standard fixes.
 
-compare.py [COUNT] [SEED]: so many programs (100), from a seed (1). The programs have both types, casts, all operators, arrays of words and of bytes, locals,
+compare.py [COUNT] [SEED]: COUNT programs (100), from a seed (1). The programs have both types, casts, all operators, arrays of words and of bytes, locals,
 functions of up to eight parameters without side effects, words of the input and all statements but goto; shifts and divisions are
 guarded, and sums wrap (-fwrapv). The words have to be the same, and the word that main returns; gcc tells only the last eight bits of
 that. A program in which an operation goes wrong is passed over, once it is seen that it is compiled. The program has to be built

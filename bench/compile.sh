@@ -25,7 +25,7 @@ sys.stdout.write(body + "int main(void)\n{\n    return f0(1, 2);\n}\n")
 P
 }
 
-# seconds COMMAND..: the least processor seconds of so many runs
+# seconds COMMAND..: the least processor seconds of some runs
 seconds() {
     local TIMEFORMAT='%U %S' least= now
     for _ in $(seq "${ROUNDS:-3}"); do

@@ -13,7 +13,7 @@ program=${CCLIB:-$here/crates/cclib/out/cclib}
 work=$(mktemp -d)
 trap 'rm -rf "$work"' EXIT
 
-# text KIND BYTES: a program of about so many bytes
+# text KIND BYTES: a program of about BYTES bytes
 text() {
   python3 - "$1" "$2" <<'P'
 import sys
@@ -41,7 +41,7 @@ sys.stdout.write(head + "".join(parts) + tail)
 P
 }
 
-# millis RUNS COMMAND..: the milliseconds of processor time of so many runs, which other work on the machine changes little
+# millis RUNS COMMAND..: the milliseconds of processor time of RUNS runs, which other work on the machine changes little
 millis() {
   local runs=$1 TIMEFORMAT='%U %S'; shift
   { time for _ in $(seq "$runs"); do "$@" >/dev/null; done; } 2>&1 | awk '{ printf "%d\n", ($1 + $2) * 1000 }'

@@ -8,7 +8,7 @@ four times a second at the toolchain's processes and adds up the processor secon
 crate, in seconds of processor, and writes the same to docs/GATE.md where the run passed (of the repository that the script stands in):
 
     lines   of src/, proofs left out
-    P       a whole proof from nothing
+    P       a whole proof from scratch
     tests   the proof of its tests, where it has some, and their build
     first   its first must-fail edit, which is a whole check again
     e       each further edit, on average
@@ -33,9 +33,10 @@ TICK = os.sysconf("SC_CLK_TCK")
 # What docs/GATE.md says above the table.
 HEAD = """# What each crate costs the gate
 
-Written by `bench/gate.py` on {day}: one whole run of the gate in a fresh clone, from nothing. Seconds of processor: P a whole proof from
-nothing, `tests` the proof of the crate's tests, `first` the first must-fail edit, e each further one on average, n a check that changes
-nothing, `sum` all of these; `proof` is the wall clock's seconds of the proof beside others.
+Written by `bench/gate.py` on {day}: one whole run of the gate in a fresh clone, from scratch. Seconds of processor: P a
+whole proof from scratch, `tests` the proof of the crate's tests, `first` the first must-fail edit, e each further one
+on average, n a check that changes nothing, `sum` all of these; `proof` is the wall clock's seconds of the proof beside
+others.
 
 """
 

@@ -1,7 +1,7 @@
 #!/usr/bin/env python3
 """Kills a process that adds units to a file, again and again, and looks whether the file has every unit that was acknowledged.
 
-kills.py [--session] [COUNT] [FOLDER] [SEED]: so many kills (1000), on a file in that folder (this one), from a seed (1). The process
+kills.py [--session] [COUNT] [FOLDER] [SEED]: COUNT kills (1000), on a file in that folder (this one), from a seed (1). The process
 says of each unit that its add has answered Ok. It is killed (SIGKILL) at a random moment of its first 50 milliseconds; then the
 library has to open, with all that was said and at most one unit more. The file is made anew once it is full.
 
@@ -29,7 +29,7 @@ class Store:
         subprocess.run([self.PROGRAM, "store", "make", path, str(AREA)], check=True)
 
     def add(self, path, before, moment):
-        """Adds units until the moment comes, behind so many: how many it has said, and whether the file is full."""
+        """Adds units behind `before` of them until the moment comes: how many it has said, and whether the file is full."""
         process = subprocess.Popen([self.PROGRAM, "store", "add", path, "1000000", *self.UNIT], stdout=subprocess.PIPE)
         printed = until(process, moment)
         # The last line may have been cut: it counts for nothing then.

@@ -14,7 +14,7 @@ work=$(mktemp -d)
 trap 'rm -rf "$work"' EXIT
 rounds=${ROUNDS:-5} times=${TIMES:-10}
 
-# text FUNCTIONS LINES: so many functions, the last of which is `main`, with a loop of so many lines each
+# text FUNCTIONS LINES: FUNCTIONS functions, the last of which is `main`, with a loop of LINES lines each
 text() {
     python3 - "$1" "$2" <<'P'
 import sys
@@ -66,7 +66,7 @@ if [ "${1:-}" = refuse ]; then
     exit
 fi
 
-# at_once COUNT: so many processes at once, each on one thread: the slowest one's time
+# at_once COUNT: COUNT processes at once, each on one thread: the slowest one's time
 at_once() {
     local n
     for n in $(seq "$1"); do "$program" pool alone "$work/64.c" "$times" > "$work/alone.$n" & done

@@ -1,7 +1,7 @@
 #!/usr/bin/env python3
 """Counts the random functions whose registers the validator refuses, so that they would get a slot for each value.
 
-refused.py [COUNT] [SEED]: so many programs (400), from a seed (1), each with ten functions beside those of bench/compare.py's programs. A
+refused.py [COUNT] [SEED]: COUNT programs (400), from a seed (1), each with ten functions beside those of bench/compare.py's programs. A
 function has up to eight parameters, up to 40 locals that may all be alive at once, loops, and calls of the functions before it. The text of a
 program with a refusal is printed. The program has to be built (rt run in crates/bench), or BENCH names one that is."""
 

@@ -1,7 +1,7 @@
 #!/usr/bin/env python3
 """Which definitions a public contract rests on, and whether each stands in the room where a reader looks for it.
 
-    bench/rooms.py                              of every crate: definitions right in specs/ on which no public contract rests and
+    bench/rooms.py                              of every crate: definitions directly in specs/ on which no public contract rests and
                                                 no type's model, definitions of specs/internal/ on which a contract or a public
                                                 type's model does, and contracts that rest on what stands in proofs/
     bench/rooms.py CRATE FUNCTION [CLAUSE..]    what that function's contract rests on, or these clauses of it: the pages in

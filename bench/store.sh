@@ -6,7 +6,7 @@
 # on the machine disturb less, in steps of a millisecond. Where others use the device, more rounds of fewer units find a quiet moment.
 # Opening: a library of 1,000 units against reading its file, in turn, TIMES times (200) in one process; the least time of each
 # call counts, and the ratio is ours by that of reading. What was opened or read is let go outside its time. The file has both
-# areas, of which opening reads one, and opening syncs twice besides.
+# areas, of which opening reads one, and opening also syncs twice.
 # The program has to be built (rt run in crates/bench).
 set -eu
 top=$(cd "$(dirname "$0")/.." && pwd)
@@ -60,7 +60,7 @@ commits() {
     echo "commits, bodies of $((length - 5)) bytes: $(ratio "$count" "$ours") a second, plain $(ratio "$count" "$plain"); ratio $(ratio "$plain" "$ours"), by processor $(ratio "$plain_busy" "$ours_busy")"
 }
 
-# Units of so many bytes of source and so many words of code.
+# Units of $1 bytes of source and $2 words of code.
 opening() {
     local source=$1 words=$2 length ours reading
     length=$((3 + 8 + 4 + source + 4 + 4 * words + 4 + 5))

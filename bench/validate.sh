@@ -23,7 +23,7 @@ rounds=${ROUNDS:-3} work=${WORK:-400000}
 # times COUNT TEXT: the text so often
 times() { for ((n = 0; n < $1; n++)); do printf '%s' "$2"; done; }
 
-# The text of each kind with so many parts.
+# The text of each kind with $1 parts.
 straight() {
     printf 'int main(void){int i;i=read_word();'
     times "$1" 'write_word(i*3+1);'
@@ -44,7 +44,7 @@ live() {
     printf 'return 0;}\n'
 }
 
-# 256 locals and 8 parameters, all of them live while so many words are written
+# 256 locals and 8 parameters, all of them live while $1 words are written
 wide() {
     local v
     printf 'int f(int p0,int p1,int p2,int p3,int p4,int p5,int p6,int p7){'
@@ -55,7 +55,7 @@ wide() {
     for ((v = 0; v < 8; v++)); do printf 'write_word(p%d);' $v; done
     printf 'return 0;}int main(void){}\n'
 }
-# one value written in so many blocks, straight on; VALUES values written in a loop of so many: each write takes two
+# one value written in $1 blocks, straight on; VALUES values written in a loop of $1: each write takes two
 written() {
     printf 'int main(void){int i;i=read_word();'
     times $(($1 / 2)) 'write_word(i);'
@@ -86,7 +86,7 @@ best() { awk '{ t = $1 + $2 } NR == 1 || t < low { low = t } END { printf "%.4f"
 # peak COMMAND..: the most memory that it took, in MB
 peak() { "$folder/peak" "$@"; }
 
-# sized KIND NODES: makes the text of that kind with so many nodes or a few less, and prints how many it has
+# sized KIND NODES: makes the text of that kind with NODES nodes or a few less, and prints how many it has
 sized() {
     local one two parts
     "$1" 1 > "$folder/one.c"

@@ -17,10 +17,13 @@ use Rattle.cc_resolve.specs.declared.operations.UnaryOperation.{UnaryOperation}
 use Rattle.cc_resolve.specs.declared.operations.UnaryOperation.TheVariants as single
 use Rattle.cc_resolve.specs.declared.operations.BinaryOperation.{BinaryOperation}
 use Rattle.cc_resolve.specs.declared.operations.BinaryOperation.TheVariants as word
-use Rattle.cc_cminor.specs.Cminor.{Expression, Constant, Local, Load, Statement, Skip, Set, Store, Sequence, If, Block, Exit, Return}
+use Rattle.cc_words.specs.declared.operators.Unary.TheVariants as one
+use Rattle.cc_words.specs.declared.operators.Binary as binary
+use Rattle.cc_words.specs.declared.operators.Binary.TheVariants as two
+use Rattle.cc_cminor.specs.Cminor.{Expression, Constant, Local, Unary, Binary, Load, Statement, Skip, Set, Store, Sequence, If, Block, Exit, Return}
 use Rattle.cc_cminor.specs.Code.{in_sequence}
 use Rattle.cc_cminor.specs.Size.{expression_size, expressions_size, statement_size}
-use Rattle.cc_cminor.specs.internal.Lowering.{free, object_of, width_of, read_of, write_to, variable_of, variable_set, single_or, unary_of, truth_of, operation_of, binary_of, Kind, Conjunction, Disjunction, Strict, kind, is_plain, are_plain, plain, all_plain, used, called_on, count, locals_from, last_value, invoked, connected, put_expr, put_all, using, using_or, combined, assigned, performed, performed_optional, initialised, declared_code, started, leaving, lowered, all_lowered, body_code}
+use Rattle.cc_cminor.specs.internal.Lowering.{free, object_of, width_of, read_of, write_to, variable_of, variable_set, single_or, unary_of, is_truth, truth_of, is_nothing, is_constant, compared, condition, is_reversed, branch, operation_of, binary_of, Kind, Conjunction, Disjunction, Strict, kind, is_plain, are_plain, plain, all_plain, used, called_on, count, locals_from, last_value, invoked, connected, put_expr, put_all, using, using_or, combined, assigned, performed, performed_optional, initialised, declared_code, started, leaving, lowered, all_lowered, body_code}
 use Rattle.cc_cminor.proofs.Tokens.{tokens, tokens_all, tokens_or, target_tokens, action_tokens, optional_tokens, declared_tokens, beginning_tokens, statement_tokens, statements_tokens}
 
 read_size : (o : Option ℕ) (n : ℕ) → expression_size (read_of o n) ≤ 2
@@ -89,6 +92,44 @@ used_size : (b : Bool) (e : Expression) (code : Statement) (k m t : ℕ) (f : Ex
 used_size true e code k m t f p q h = let a = h e in omega arith
 used_size false e code k m t f p q h = let a = h (Local k) in omega arith
 
+truth_size : (e : Expression) → expression_size (truth_of e) ≤ expression_size e + 2
+truth_size e = by (is_truth e)
+  where
+    by : (b : Bool) → expression_size (if b then e else Unary one.IsZero (Unary one.IsZero e)) ≤ expression_size e + 2
+    by true = omega arith
+    by false = omega arith
+
+equality_size : (a b : Expression) (n : Bool) → expression_size (if n then a else Binary two.Xor a b) ≤ suc (expression_size a + expression_size b)
+equality_size a b true = omega arith
+equality_size a b false = omega arith
+
+either_size : (op under : binary.Binary) (a b : Expression) (c : Bool) → expression_size (if c then Binary op a b else Binary under b a) ≤ suc (expression_size a + expression_size b)
+either_size op under a b true = omega arith
+either_size op under a b false = omega arith
+
+compared_size : (op : binary.Binary) (a b : Expression) → expression_size (compared op a b) ≤ suc (expression_size a + expression_size b)
+compared_size two.LeS a b = either_size two.LeS two.LtS a b (is_constant b)
+compared_size two.LeU a b = either_size two.LeU two.LtU a b (is_constant b)
+compared_size two.Eq a b = equality_size a b (is_nothing b)
+compared_size two.Ne a b = equality_size a b (is_nothing b)
+compared_size op a b = omega arith
+
+condition_size : (e : Expression) → expression_size (condition e) ≤ expression_size e
+condition_size (Constant w) = omega arith
+condition_size (Local x) = omega arith
+condition_size (Load width o a) = omega arith
+condition_size (Unary one.IsZero a) = let h = condition_size a in omega arith
+condition_size (Unary one.Neg a) = omega arith
+condition_size (Unary one.Complement a) = omega arith
+condition_size (Binary op a b) = compared_size op a b
+
+branch_size : (e : Expression) (a b : Statement) → statement_size (branch e a b) ≤ suc (expression_size e + (statement_size a + statement_size b))
+branch_size e a b = by (is_reversed e)
+  where
+    by : (r : Bool) → statement_size (if r then If (condition e) b a else If (condition e) a b) ≤ suc (expression_size e + (statement_size a + statement_size b))
+    by true = let h = condition_size e in omega arith
+    by false = let h = condition_size e in omega arith
+
 last_size : (us : List Expression) → expression_size (last_value us) ≤ expressions_size us + 1
 last_size [] = omega arith
 last_size (e ∷ []) = omega arith
@@ -124,12 +165,12 @@ called_size false es code k n t c p q = let a = invoked_size c k (locals_from k 
 connected_size : (kd : Kind) (op : BinaryOperator) (u : Scalar) (p q : Bool) (a b : Expression) (left right here : Statement) (k s t : ℕ) → expression_size a + 1 ≤ 6 * s → expression_size b + 1 ≤ 6 * t → statement_size left + 3 ≤ 12 * s → statement_size right + 3 ≤ 12 * t → statement_size here + 3 ≤ 12 * t
     → statement_size (connected kd op u p q a b left right here k) + 3 ≤ 12 * (1 + s + t)
 connected_size Conjunction op u p q a b left right here k s t ea eb el er eh =
-    let right_part = used_size q b here k 3 (12 * t) (λ y. Set k (truth_of y)) (omega arith) eh (λ x. omega arith) in
-    let whole = used_size p a left k (1 + statement_size (used q b here k (λ y. Set k (truth_of y))) + 2) (12 * s) (λ x. If x (used q b here k (λ y. Set k (truth_of y))) (Set k (Constant 0))) (omega arith) el (λ x. omega arith) in
+    let right_part = used_size q b here k 3 (12 * t) (λ y. Set k (truth_of y)) (omega arith) eh (λ x. let h = truth_size x in omega arith) in
+    let whole = used_size p a left k (1 + statement_size (used q b here k (λ y. Set k (truth_of y))) + 2) (12 * s) (λ x. branch x (used q b here k (λ y. Set k (truth_of y))) (Set k (Constant 0))) (omega arith) el (λ x. let h = branch_size x (used q b here k (λ y. Set k (truth_of y))) (Set k (Constant 0)) in omega arith) in
     omega arith
 connected_size Disjunction op u p q a b left right here k s t ea eb el er eh =
-    let right_part = used_size q b here k 3 (12 * t) (λ y. Set k (truth_of y)) (omega arith) eh (λ x. omega arith) in
-    let whole = used_size p a left k (1 + statement_size (used q b here k (λ y. Set k (truth_of y))) + 2) (12 * s) (λ x. If x (Set k (Constant 1)) (used q b here k (λ y. Set k (truth_of y)))) (omega arith) el (λ x. omega arith) in
+    let right_part = used_size q b here k 3 (12 * t) (λ y. Set k (truth_of y)) (omega arith) eh (λ x. let h = truth_size x in omega arith) in
+    let whole = used_size p a left k (1 + statement_size (used q b here k (λ y. Set k (truth_of y))) + 2) (12 * s) (λ x. branch x (Set k (Constant 1)) (used q b here k (λ y. Set k (truth_of y)))) (omega arith) el (λ x. let h = branch_size x (Set k (Constant 1)) (used q b here k (λ y. Set k (truth_of y))) in omega arith) in
     omega arith
 connected_size Strict op u p q a b left right here k s t ea eb el er eh = by (p && q)
   where
@@ -166,7 +207,7 @@ module _ (g : Layout) where
         let p = plain_size g v c in
         let x = put_size a v k in
         let y = put_size b v k in
-        let z = used_size (is_plain c) (plain g v c) (put_expr g v k c) k (1 + statement_size (put_expr g v k a) + statement_size (put_expr g v k b)) (12 * tokens c) (λ x. If x (put_expr g v k a) (put_expr g v k b)) (omega arith) (put_size c v k) (λ x. omega arith) in
+        let z = used_size (is_plain c) (plain g v c) (put_expr g v k c) k (1 + statement_size (put_expr g v k a) + statement_size (put_expr g v k b)) (12 * tokens c) (λ x. branch x (put_expr g v k a) (put_expr g v k b)) (omega arith) (put_size c v k) (λ x. let h = branch_size x (put_expr g v k a) (put_expr g v k b) in omega arith) in
         omega arith
 
     put_all_size : (es : Exprs) (v : Environment) (k : ℕ) → total (put_all g v k es) + 2 * count es ≤ 12 * tokens_all es
@@ -241,18 +282,18 @@ module _ (g : Layout) where
     lowered_size (Continue at) b v = let a = leaving_size b 0 in omega arith
     lowered_size (tree.If c a) b v =
         let x = lowered_size a b (inner v) in
-        let y = using_size c v (free v) (statement_size (lowered g b (inner v) a) + 2) (λ x. If x (lowered g b (inner v) a) Skip) (λ x. omega arith) in omega arith
+        let y = using_size c v (free v) (statement_size (lowered g b (inner v) a) + 2) (λ x. branch x (lowered g b (inner v) a) Skip) (λ x. let h = branch_size x (lowered g b (inner v) a) Skip in omega arith) in omega arith
     lowered_size (IfElse c a e) b v =
         let x = lowered_size a b (inner v) in
         let z = lowered_size e b (inner v) in
-        let y = using_size c v (free v) (statement_size (lowered g b (inner v) a) + statement_size (lowered g b (inner v) e) + 1) (λ x. If x (lowered g b (inner v) a) (lowered g b (inner v) e)) (λ x. omega arith) in omega arith
+        let y = using_size c v (free v) (statement_size (lowered g b (inner v) a) + statement_size (lowered g b (inner v) e) + 1) (λ x. branch x (lowered g b (inner v) a) (lowered g b (inner v) e)) (λ x. let h = branch_size x (lowered g b (inner v) a) (lowered g b (inner v) e) in omega arith) in omega arith
     lowered_size (While c body) b v =
         let A : Statement = lowered g true (inner v) body in
         let x = lowered_size body true (inner v) in
-        let y = using_size c v (free v) (statement_size A + 5) (λ x. If x (Sequence (Block A) Skip) (Exit 0)) (λ x. omega arith) in omega arith
+        let y = using_size c v (free v) (statement_size A + 5) (λ x. branch x (Sequence (Block A) Skip) (Exit 0)) (λ x. let h = branch_size x (Sequence (Block A) Skip) (Exit 0) in omega arith) in omega arith
     lowered_size (DoWhile body c) b v =
         let x = lowered_size body true (inner v) in
-        let y = using_size c v (free v) 3 (λ x. If x Skip (Exit 0)) (λ x. omega arith) in omega arith
+        let y = using_size c v (free v) 3 (λ x. branch x Skip (Exit 0)) (λ x. let h = branch_size x Skip (Exit 0) in omega arith) in omega arith
     lowered_size (For first c a body) b v =
         let w : Environment = behind_beginning first (inner v) in
         let A : Statement = lowered g true (inner w) body in
@@ -260,7 +301,7 @@ module _ (g : Layout) where
         let p = started_size first (inner v) in
         let q = optional_size a w in
         let x = lowered_size body true (inner w) in
-        let y = using_or_size c w (free w) 1 (statement_size A + statement_size X + 4) (λ x. If x (Sequence (Block A) X) (Exit 0)) (λ x. omega arith) in omega arith
+        let y = using_or_size c w (free w) 1 (statement_size A + statement_size X + 4) (λ x. branch x (Sequence (Block A) X) (Exit 0)) (λ x. let h = branch_size x (Sequence (Block A) X) (Exit 0) in omega arith) in omega arith
 
     pub all_lowered_size : (ss : Stmts) (b : Bool) (v : Environment) → total (all_lowered g b v ss) ≤ 12 * statements_tokens ss
     all_lowered_size end b v = omega arith

@@ -24,10 +24,13 @@ use Rattle.cc_resolve.specs.declared.operations.UnaryOperation.TheVariants as si
 use Rattle.cc_resolve.specs.declared.operations.BinaryOperation.{BinaryOperation}
 use Rattle.cc_resolve.specs.declared.operations.BinaryOperation.TheVariants as word
 use Rattle.cc_meaning.specs.Resolved.{arities, IsCalled, ExprResolved, ExprsResolved, OptionalResolved, TargetResolved, ActionResolved, OptionalActionResolved, DeclaratorsResolved, BeginningResolved, StmtResolved, StmtsResolved}
-use Rattle.cc_cminor.specs.Cminor.{Expression, Constant, Local, Unary, Load, Statement, Skip, Set, Store, Sequence, If, Loop, Block, Exit, Return}
+use Rattle.cc_words.specs.declared.operators.Unary.TheVariants as one
+use Rattle.cc_words.specs.declared.operators.Binary as binary
+use Rattle.cc_words.specs.declared.operators.Binary.TheVariants as two
+use Rattle.cc_cminor.specs.Cminor.{Expression, Constant, Local, Unary, Binary, Load, Statement, Skip, Set, Store, Sequence, If, Loop, Block, Exit, Return}
 use Rattle.cc_cminor.specs.Code.{in_sequence}
 use Rattle.cc_cminor.specs.Numbers.{ExpressionFits, ExpressionsFit, StatementFits}
-use Rattle.cc_cminor.specs.internal.Lowering.{free, object_of, width_of, read_of, write_to, variable_of, variable_set, single_or, unary_of, operation_of, binary_of, truth_of, Kind, Conjunction, Disjunction, Strict, kind, is_plain, are_plain, plain, all_plain, used, count, locals_from, last_value, invoked, called_on, connected, put_expr, put_all, using, using_or, combined, assigned, performed, performed_optional, initialised, declared_code, started, leaving, lowered, all_lowered, body_code}
+use Rattle.cc_cminor.specs.internal.Lowering.{free, object_of, width_of, read_of, write_to, variable_of, variable_set, single_or, unary_of, operation_of, binary_of, is_truth, truth_of, is_nothing, is_constant, compared, condition, is_reversed, branch, Kind, Conjunction, Disjunction, Strict, kind, is_plain, are_plain, plain, all_plain, used, count, locals_from, last_value, invoked, called_on, connected, put_expr, put_all, using, using_or, combined, assigned, performed, performed_optional, initialised, declared_code, started, leaving, lowered, all_lowered, body_code}
 use Rattle.cc_cminor.proofs.Known.{behind_layout, beginning_layout}
 use Rattle.cc_cminor.proofs.Tokens.{tokens, tokens_all, tokens_or, target_tokens, action_tokens, optional_tokens}
 use Rattle.cc_cminor.proofs.Longest.{larger, longest, longest_in, longest_declared, longest_beginning}
@@ -182,17 +185,52 @@ module _ (unit : List External) (g : Layout) (functions : length (arities unit) 
   called_fits true es code k n c i p lt le h = invoked_fits c k n es lt h i
   called_fits false es code k n c i p lt le h = (p, invoked_fits c k n (locals_from k n) lt h (locals_fit k n le))
 
+  equality_fits : (a b : Expression) → ExpressionFits a → ExpressionFits b → (n : Bool) → ExpressionFits (if n then a else Binary two.Xor a b)
+  equality_fits a b p q true = p
+  equality_fits a b p q false = (p, q)
+
+  either_fits : (op under : binary.Binary) (a b : Expression) → ExpressionFits a → ExpressionFits b → (c : Bool) → ExpressionFits (if c then Binary op a b else Binary under b a)
+  either_fits op under a b p q true = (p, q)
+  either_fits op under a b p q false = (q, p)
+
+  compared_fits : (op : binary.Binary) (a b : Expression) → ExpressionFits a → ExpressionFits b → ExpressionFits (compared op a b)
+  compared_fits two.LeS a b p q = either_fits two.LeS two.LtS a b p q (is_constant b)
+  compared_fits two.LeU a b p q = either_fits two.LeU two.LtU a b p q (is_constant b)
+  compared_fits two.Eq a b p q = equality_fits a b p q (is_nothing b)
+  compared_fits two.Ne a b p q = equality_fits a b p q (is_nothing b)
+  compared_fits op a b p q = (p, q)
+
+  condition_fits : (e : Expression) → ExpressionFits e → ExpressionFits (condition e)
+  condition_fits (Constant w) h = tt
+  condition_fits (Local x) h = h
+  condition_fits (Load width o a) h = h
+  condition_fits (Unary one.IsZero a) h = condition_fits a h
+  condition_fits (Unary one.Neg a) h = h
+  condition_fits (Unary one.Complement a) h = h
+  condition_fits (Binary op a b) h = compared_fits op a b h.0 h.1
+
+  branch_fits : (e : Expression) (a b : Statement) → ExpressionFits e × StatementFits a × StatementFits b → StatementFits (branch e a b)
+  branch_fits e a b h = by (is_reversed e)
+    where
+      by : (r : Bool) → StatementFits (if r then If (condition e) b a else If (condition e) a b)
+      by true = (condition_fits e h.0, h.2, h.1)
+      by false = (condition_fits e h.0, h.1, h.2)
+
   truth_taken : (k : ℕ) → k < 1024 → Takes (λ y. Set k (truth_of y))
-  truth_taken k lt = λ x h. (lt, h)
+  truth_taken k lt = λ x h. (lt, by x h (is_truth x))
+    where
+      by : (x : Expression) → ExpressionFits x → (b : Bool) → ExpressionFits (if b then x else Unary one.IsZero (Unary one.IsZero x))
+      by x h true = h
+      by x h false = h
 
   connected_fits : (kd : Kind) (op : BinaryOperator) (t : Scalar) (p q : Bool) (a b : Expression) (left right here : Statement) (k : ℕ) → suc k < 1024 → ExpressionFits a → ExpressionFits b → StatementFits left → StatementFits right → StatementFits here
       → StatementFits (connected kd op t p q a b left right here k)
   connected_fits Conjunction op t p q a b left right here k lt x y l r h =
-      used_fits p a left k (λ x. If x (used q b here k (λ y. Set k (truth_of y))) (Set k (Constant 0))) x l (omega arith)
-      (λ e i. (i, used_fits q b here k (λ y. Set k (truth_of y)) y h (omega arith) (truth_taken k (omega arith)), ((let d : k < 1024 = omega arith in d), tt)))
+      used_fits p a left k (λ x. branch x (used q b here k (λ y. Set k (truth_of y))) (Set k (Constant 0))) x l (omega arith)
+      (λ e i. branch_fits e (used q b here k (λ y. Set k (truth_of y))) (Set k (Constant 0)) (i, used_fits q b here k (λ y. Set k (truth_of y)) y h (omega arith) (truth_taken k (omega arith)), ((let d : k < 1024 = omega arith in d), tt)))
   connected_fits Disjunction op t p q a b left right here k lt x y l r h =
-      used_fits p a left k (λ x. If x (Set k (Constant 1)) (used q b here k (λ y. Set k (truth_of y)))) x l (omega arith)
-      (λ e i. (i, ((let d : k < 1024 = omega arith in d), tt), used_fits q b here k (λ y. Set k (truth_of y)) y h (omega arith) (truth_taken k (omega arith))))
+      used_fits p a left k (λ x. branch x (Set k (Constant 1)) (used q b here k (λ y. Set k (truth_of y)))) x l (omega arith)
+      (λ e i. branch_fits e (Set k (Constant 1)) (used q b here k (λ y. Set k (truth_of y))) (i, ((let d : k < 1024 = omega arith in d), tt), used_fits q b here k (λ y. Set k (truth_of y)) y h (omega arith) (truth_taken k (omega arith))))
   connected_fits Strict op t p q a b left right here k lt x y l r h = by (p && q)
     where
       low : k < 1024
@@ -224,8 +262,8 @@ module _ (unit : List External) (g : Layout) (functions : length (arities unit) 
         connected_fits (kind op) op (working_type op (value_type (types_in v) a) (value_type (types_in v) b)) (is_plain a) (is_plain b) (plain g v a) (plain g v b) (put_expr g v k a) (put_expr g v (suc k) b) (put_expr g v k b) k
         (omega arith) (plain_fits a v f) (plain_fits b v f) (put_fits a v k is h.0 f (omega arith)) (put_fits b v (suc k) is h.1 f (omega arith)) (put_fits b v k is h.1 f (omega arith))
     put_fits (Conditional c a b) v k is h f le =
-        used_fits (is_plain c) (plain g v c) (put_expr g v k c) k (λ x. If x (put_expr g v k a) (put_expr g v k b)) (plain_fits c v f) (put_fits c v k is h.0 f (omega arith)) (omega arith)
-        (λ x i. (i, put_fits a v k is h.1 f (omega arith), put_fits b v k is h.2 f (omega arith)))
+        used_fits (is_plain c) (plain g v c) (put_expr g v k c) k (λ x. branch x (put_expr g v k a) (put_expr g v k b)) (plain_fits c v f) (put_fits c v k is h.0 f (omega arith)) (omega arith)
+        (λ x i. branch_fits x (put_expr g v k a) (put_expr g v k b) (i, put_fits a v k is h.1 f (omega arith), put_fits b v k is h.2 f (omega arith)))
 
     put_all_fit : (es : Exprs) (v : Environment) (k : ℕ) → v.layout ≡ g → ExprsResolved (arities unit) v es → free v ≤ 1024 → k + tokens_all es ≤ 1024 → AllFit (put_all g v k es)
     put_all_fit none v k is h f le = tt
@@ -322,17 +360,17 @@ module _ (unit : List External) (g : Layout) (functions : length (arities unit) 
     lowered_fits (Break at) b v is h le short = leaving_fits b 1
     lowered_fits (Continue at) b v is h le short = leaving_fits b 0
     lowered_fits (tree.If c a) b v is h le short =
-        using_fits c v (free v) (λ x. If x (lowered g b (inner v) a) Skip) is h.0 (omega arith) (omega arith) (λ x i. (i, lowered_fits a b (inner v) is h.1 le (omega arith), tt))
+        using_fits c v (free v) (λ x. branch x (lowered g b (inner v) a) Skip) is h.0 (omega arith) (omega arith) (λ x i. branch_fits x (lowered g b (inner v) a) Skip (i, lowered_fits a b (inner v) is h.1 le (omega arith), tt))
     lowered_fits (IfElse c a e) b v is h le short =
         let both = length-append (locals_of a) (locals_of e) in
-        using_fits c v (free v) (λ x. If x (lowered g b (inner v) a) (lowered g b (inner v) e)) is h.0 (omega arith) (omega arith)
-        (λ x i. (i, lowered_fits a b (inner v) is h.1 (omega arith) (omega arith), lowered_fits e b (inner v) is h.2 (omega arith) (omega arith)))
+        using_fits c v (free v) (λ x. branch x (lowered g b (inner v) a) (lowered g b (inner v) e)) is h.0 (omega arith) (omega arith)
+        (λ x i. branch_fits x (lowered g b (inner v) a) (lowered g b (inner v) e) (i, lowered_fits a b (inner v) is h.1 (omega arith) (omega arith), lowered_fits e b (inner v) is h.2 (omega arith) (omega arith)))
     lowered_fits (While c body) b v is h le short =
-        using_fits c v (free v) (λ x. If x (Sequence (Block (lowered g true (inner v) body)) Skip) (Exit 0)) is h.0 (omega arith) (omega arith)
-        (λ x i. (i, (lowered_fits body true (inner v) is h.1 le (omega arith), tt), tt))
+        using_fits c v (free v) (λ x. branch x (Sequence (Block (lowered g true (inner v) body)) Skip) (Exit 0)) is h.0 (omega arith) (omega arith)
+        (λ x i. branch_fits x (Sequence (Block (lowered g true (inner v) body)) Skip) (Exit 0) (i, (lowered_fits body true (inner v) is h.1 le (omega arith), tt), tt))
     lowered_fits (DoWhile body c) b v is h le short = (
       lowered_fits body true (inner v) is h.1 le (omega arith),
-      using_fits c v (free v) (λ x. If x Skip (Exit 0)) is h.0 (omega arith) (omega arith) (λ x i. (i, tt, tt)),
+      using_fits c v (free v) (λ x. branch x Skip (Exit 0)) is h.0 (omega arith) (omega arith) (λ x i. branch_fits x Skip (Exit 0) (i, tt, tt)),
     )
     lowered_fits (For first c step body) b v is h le short =
         let w : Environment = behind_beginning first (inner v) in
@@ -340,8 +378,8 @@ module _ (unit : List External) (g : Layout) (functions : length (arities unit) 
         let both = length-append (beginning_names first) (locals_of body) in
         let now = beginning_many first (inner v) in (
           started_fits first (inner v) is h.0 (omega arith) (omega arith),
-          using_or_fits c w (free w) 1 (λ x. If x (Sequence (Block (lowered g true (inner w) body)) (performed_optional g w step)) (Exit 0)) same h.1 (omega arith) (omega arith)
-              (λ x i. (i, (lowered_fits body true (inner w) same h.3 (omega arith) (omega arith), optional_fits step w same h.2 (omega arith)), tt)),
+          using_or_fits c w (free w) 1 (λ x. branch x (Sequence (Block (lowered g true (inner w) body)) (performed_optional g w step)) (Exit 0)) same h.1 (omega arith) (omega arith)
+              (λ x i. branch_fits x (Sequence (Block (lowered g true (inner w) body)) (performed_optional g w step)) (Exit 0) (i, (lowered_fits body true (inner w) same h.3 (omega arith) (omega arith), optional_fits step w same h.2 (omega arith)), tt)),
         )
 
     all_lowered_fit : (ss : Stmts) (b : Bool) (v : Environment) → v.layout ≡ g → StmtsResolved (arities unit) v ss → free v + length (locals ss) ≤ 264 → longest_in ss ≤ 512 → AllFit (all_lowered g b v ss)

@@ -1,6 +1,7 @@
 pub mod Paths
 pub mod Known
 pub mod Variables
+pub mod Branches
 pub mod PutExpressions
 pub mod PerformedActions
 pub mod LoweredStatements

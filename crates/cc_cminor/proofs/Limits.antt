@@ -6,10 +6,10 @@ use Rattle.cc_tokens.specs.declared.scalar.Scalar.TheVariants.{Int}
 use Rattle.cc_syntax.specs.Tree.{Name, Stmts, Signature, ConstantExpr, Object, Single, Array, Bytes, External, Declaration, Definition, Objects}
 use Rattle.cc_typing.specs.Scope.{Elements, FileScope, with_declared, with_object, file_scope_behind, first_file_scope}
 use Rattle.cc_typing.specs.Types.{array_length, array_elements, object_elements, object_words, constant_word, elements_of_word, value_type}
-use Rattle.cc_typing.specs.Rules.{broken, broken_if, value_offences, constant_offences, optional_constant_offences, constants_offences, length_offences, named_array_offences, object_offences, objects_offences, external_offences, externals_offences, offences}
+use Rattle.cc_typing.specs.Rules.{broken, broken_if, value_errors, constant_errors, optional_constant_errors, constants_errors, length_errors, named_array_errors, object_errors, objects_errors, external_errors, externals_errors, errors}
 use Rattle.cc_typing.specs.Limits.{most_words, too_many, past, parameter_excesses, locals, function_names, objects, object_name, word_excesses, external_excesses, externals_excesses, excesses}
 use Rattle.cc_typing.specs.Typed.{IsTyped, IsWithinLimits, definitions}
-use Rattle.cc_typing.specs.declared.rule.Offence.{Offence}
+use Rattle.cc_typing.specs.declared.rule.RuleError.{RuleError}
 use Rattle.cc_typing.specs.declared.rule.Rule.TheVariants.{WrongKind, WrongCount}
 use Rattle.cc_resolve.specs.Layout.{laid_from}
 
@@ -69,7 +69,7 @@ words_append : (os ps : List Object) → HaveWords os → HaveWords ps → HaveW
 words_append [] ps h i = i
 words_append (o ∷ os) ps h i = (h.0, words_append os ps h.1 i)
 
-some_length : (n : Option ℕ) (given at : ℕ) → is_some n ≡ true → length_offences n given at ≡ [] → 1 ≤ unwrap_or n 0
+some_length : (n : Option ℕ) (given at : ℕ) → is_some n ≡ true → length_errors n given at ≡ [] → 1 ≤ unwrap_or n 0
 some_length None given at i e = absurd (let d : ◌≡◌ {A = Bool} false true = i in cc)
 some_length (Some zero) given at i e = absurd (let l = ap length e in let f : 1 ≡ 0 = l in omega arith)
 some_length (Some (suc n)) given at i e = omega arith
@@ -78,23 +78,23 @@ known_length : (o : Option ℕ) (f : ℕ → ℕ) → is_some o ≡ true → is_
 known_length None f e = e
 known_length (Some w) f e = refl
 
-constant_known : (o : Option ℕ) (os : List Offence) (at : ℕ) → os ++ broken_if (not (is_some o)) WrongKind at ≡ [] → is_some o ≡ true
+constant_known : (o : Option ℕ) (os : List RuleError) (at : ℕ) → os ++ broken_if (not (is_some o)) WrongKind at ≡ [] → is_some o ≡ true
 constant_known None os at e = absurd (let l = ap length (right_empty os (broken WrongKind at) e) in let f : 1 ≡ 0 = l in omega arith)
 constant_known (Some w) os at e = refl
 
-length_known : (f : FileScope) (n : Option ConstantExpr) (values : List ConstantExpr) → optional_constant_offences f.bindings n ≡ [] → is_some (array_length n values) ≡ true
+length_known : (f : FileScope) (n : Option ConstantExpr) (values : List ConstantExpr) → optional_constant_errors f.bindings n ≡ [] → is_some (array_length n values) ≡ true
 length_known f None values e = refl
-length_known f (Some c) values e = known_length (constant_word c) (elements_of_word (value_type [] c.expr)) (constant_known (constant_word c) (value_offences f.bindings c.expr) c.at e)
+length_known f (Some c) values e = known_length (constant_word c) (elements_of_word (value_type [] c.expr)) (constant_known (constant_word c) (value_errors f.bindings c.expr) c.at e)
 
-array_has_elements : (t : Scalar) (x : Name) (n : Option ConstantExpr) (values : List ConstantExpr) (f : FileScope) → named_array_offences t x n values f ≡ [] → 1 ≤ array_elements n values
+array_has_elements : (t : Scalar) (x : Name) (n : Option ConstantExpr) (values : List ConstantExpr) (f : FileScope) → named_array_errors t x n values f ≡ [] → 1 ≤ array_elements n values
 array_has_elements t x n values f e =
-    let list = constants_offences (with_declared x.text (Elements t) f).bindings values in
-    let behind = length_offences (array_length n values) (length values) x.at ++ list in
-    let parts = right_empty _ (optional_constant_offences f.bindings n ++ behind) e in
-    some_length (array_length n values) (length values) x.at (length_known f n values (left_empty (optional_constant_offences f.bindings n) behind parts))
-    (left_empty (length_offences (array_length n values) (length values) x.at) list (right_empty (optional_constant_offences f.bindings n) behind parts))
+    let list = constants_errors (with_declared x.text (Elements t) f).bindings values in
+    let behind = length_errors (array_length n values) (length values) x.at ++ list in
+    let parts = right_empty _ (optional_constant_errors f.bindings n ++ behind) e in
+    some_length (array_length n values) (length values) x.at (length_known f n values (left_empty (optional_constant_errors f.bindings n) behind parts))
+    (left_empty (length_errors (array_length n values) (length values) x.at) list (right_empty (optional_constant_errors f.bindings n) behind parts))
 
-object_has_words : (t : Scalar) (o : Object) (f : FileScope) → object_offences t o f ≡ [] → 1 ≤ object_words o
+object_has_words : (t : Scalar) (o : Object) (f : FileScope) → object_errors t o f ≡ [] → 1 ≤ object_words o
 object_has_words t (Single x initial) f e = omega arith
 object_has_words t (Array x n values) f e = array_has_elements t x n values f e
 object_has_words t (Bytes x n values) f e = filled (array_elements n values) (array_has_elements Int x n values f e)
@@ -102,20 +102,20 @@ object_has_words t (Bytes x n values) f e = filled (array_elements n values) (ar
     filled : (n : ℕ) → 1 ≤ n → 1 ≤ (n + 3) / 4
     filled n h = omega arith
 
-objects_have_words : (t : Scalar) (os : List Object) (f : FileScope) → objects_offences t os f ≡ [] → HaveWords os
+objects_have_words : (t : Scalar) (os : List Object) (f : FileScope) → objects_errors t os f ≡ [] → HaveWords os
 objects_have_words t [] f e = tt
 objects_have_words t (o ∷ rest) f e = (
-  object_has_words t o f (left_empty (object_offences t o f) (objects_offences t rest (with_object t o f)) e),
-  objects_have_words t rest (with_object t o f) (right_empty (object_offences t o f) (objects_offences t rest (with_object t o f)) e),
+  object_has_words t o f (left_empty (object_errors t o f) (objects_errors t rest (with_object t o f)) e),
+  objects_have_words t rest (with_object t o f) (right_empty (object_errors t o f) (objects_errors t rest (with_object t o f)) e),
 )
 
-unit_has_words : (unit : List External) (f : FileScope) → externals_offences unit f ≡ [] → HaveWords (objects unit)
+unit_has_words : (unit : List External) (f : FileScope) → externals_errors unit f ≡ [] → HaveWords (objects unit)
 unit_has_words [] f e = tt
-unit_has_words (Declaration s ∷ rest) f e = unit_has_words rest (file_scope_behind (Declaration s) f) (right_empty (external_offences (Declaration s) f) (externals_offences rest (file_scope_behind (Declaration s) f)) e)
-unit_has_words (Definition s b ∷ rest) f e = unit_has_words rest (file_scope_behind (Definition s b) f) (right_empty (external_offences (Definition s b) f) (externals_offences rest (file_scope_behind (Definition s b) f)) e)
+unit_has_words (Declaration s ∷ rest) f e = unit_has_words rest (file_scope_behind (Declaration s) f) (right_empty (external_errors (Declaration s) f) (externals_errors rest (file_scope_behind (Declaration s) f)) e)
+unit_has_words (Definition s b ∷ rest) f e = unit_has_words rest (file_scope_behind (Definition s b) f) (right_empty (external_errors (Definition s b) f) (externals_errors rest (file_scope_behind (Definition s b) f)) e)
 unit_has_words (Objects t os ∷ rest) f e =
-    words_append os (objects rest) (objects_have_words t os f (left_empty (objects_offences t os f) (externals_offences rest (file_scope_behind (Objects t os) f)) e))
-    (unit_has_words rest (file_scope_behind (Objects t os) f) (right_empty (objects_offences t os f) (externals_offences rest (file_scope_behind (Objects t os) f)) e))
+    words_append os (objects rest) (objects_have_words t os f (left_empty (objects_errors t os f) (externals_errors rest (file_scope_behind (Objects t os) f)) e))
+    (unit_has_words rest (file_scope_behind (Objects t os) f) (right_empty (objects_errors t os f) (externals_errors rest (file_scope_behind (Objects t os) f)) e))
 
 words_fit : (os : List Object) (taken : ℕ) → HaveWords os → taken ≤ 65536 → word_excesses taken os ≡ [] → taken + length os ≤ 65536
 words_fit [] taken h le e = omega arith

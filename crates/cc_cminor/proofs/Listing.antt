@@ -5,8 +5,8 @@ use Rattle.cc_tokens.specs.declared.scalar.Scalar.{Scalar}
 use Rattle.cc_syntax.specs.Tree.{Expr, Declarator, Beginning, Action, Stmt, Stmts, next, For}
 use Rattle.cc_resolve.specs.Layout.{Layout}
 use Rattle.cc_resolve.specs.Environment.{Environment, inner, with_locals, behind, behind_beginning}
-use Rattle.cc_cminor.specs.Cminor.{Statement, Set, Sequence, If, Block, Loop, Exit}
-use Rattle.cc_cminor.specs.internal.Lowering.{free, using, declared_code, started, performed_optional, lowered, all_lowered, behind_all}
+use Rattle.cc_cminor.specs.Cminor.{Statement, Set, Sequence, Block, Loop, Exit}
+use Rattle.cc_cminor.specs.internal.Lowering.{branch, free, using, declared_code, started, performed_optional, lowered, all_lowered, behind_all}
 use Rattle.cc_cminor.specs.internal.Taken.{Taken, taken, taken_or, behind_code}
 use Rattle.cc_cminor.proofs.Closing.{same-layout, in-beginning}
 use Rattle.cc_cminor.proofs.Taking.{using-is, using_or-is}
@@ -39,7 +39,7 @@ listing-next b done more s rest all v u w h e f = record {
 pub for-is : (b : Bool) (v u x : Environment) (n : ℕ) (first : Beginning) (test : Option Expr) (step : Option Action) (body : Stmt) (t : Taken) (s0 s1 s2 : Statement)
     → u ≡ inner v → x ≡ behind_beginning first u → n ≡ length x.locals → t ≡ taken_or x.layout x n 1 test
     → s0 ≡ started u.layout first u → s1 ≡ lowered x.layout true (inner x) body → s2 ≡ performed_optional x.layout x step
-    → Sequence s0 (Block (Loop (behind_code t.before (If t.value (Sequence (Block s1) s2) (Exit 0))))) ≡ lowered v.layout b v (For first test step body)
+    → Sequence s0 (Block (Loop (behind_code t.before (branch t.value (Sequence (Block s1) s2) (Exit 0))))) ≡ lowered v.layout b v (For first test step body)
 for-is b v u x n first test step body t s0 s1 s2 eu ex en et e0 e1 e2 =
     let w : Environment = behind_beginning first (inner v) in
     let same : x ≡ w = ex ∙ ap (behind_beginning first) eu in
@@ -50,9 +50,9 @@ for-is b v u x n first test step body t s0 s1 s2 eu ex en et e0 e1 e2 =
     let number : n ≡ free w = en ∙ ap (λ (y : Environment). length y.locals) same in
     let tested : t ≡ taken_or v.layout w (free w) 1 test =
     et ∙ ap (λ (y : Environment). taken_or y.layout y n 1 test) same ∙ ap (λ g. taken_or g w n 1 test) layout ∙ ap (λ m. taken_or v.layout w m 1 test) number in
-    ap (λ s. Sequence s (Block (Loop (behind_code t.before (If t.value (Sequence (Block s1) s2) (Exit 0)))))) begun
-    ∙ ap (λ s. Sequence (started v.layout first (inner v)) (Block (Loop (behind_code t.before (If t.value (Sequence (Block s) s2) (Exit 0)))))) turn
-    ∙ ap (λ s. Sequence (started v.layout first (inner v)) (Block (Loop (behind_code t.before (If t.value (Sequence (Block (lowered v.layout true (inner w) body)) s) (Exit 0)))))) stepped
-    ∙ ap (λ (y : Taken). Sequence (started v.layout first (inner v)) (Block (Loop (behind_code y.before (If y.value (Sequence (Block (lowered v.layout true (inner w) body)) (performed_optional v.layout w step)) (Exit 0)))))) tested
+    ap (λ s. Sequence s (Block (Loop (behind_code t.before (branch t.value (Sequence (Block s1) s2) (Exit 0)))))) begun
+    ∙ ap (λ s. Sequence (started v.layout first (inner v)) (Block (Loop (behind_code t.before (branch t.value (Sequence (Block s) s2) (Exit 0)))))) turn
+    ∙ ap (λ s. Sequence (started v.layout first (inner v)) (Block (Loop (behind_code t.before (branch t.value (Sequence (Block (lowered v.layout true (inner w) body)) s) (Exit 0)))))) stepped
+    ∙ ap (λ (y : Taken). Sequence (started v.layout first (inner v)) (Block (Loop (behind_code y.before (branch y.value (Sequence (Block (lowered v.layout true (inner w) body)) (performed_optional v.layout w step)) (Exit 0)))))) tested
     ∙ ap (λ s. Sequence (started v.layout first (inner v)) (Block (Loop s)))
-    (using_or-is v.layout w (free w) 1 test (λ e. If e (Sequence (Block (lowered v.layout true (inner w) body)) (performed_optional v.layout w step)) (Exit 0)))
+    (using_or-is v.layout w (free w) 1 test (λ e. branch e (Sequence (Block (lowered v.layout true (inner w) body)) (performed_optional v.layout w step)) (Exit 0)))

@@ -55,9 +55,9 @@ counted : (ts : List Measured) → AllByRecursion IsWithin ts → Counted ts
 counted [] h = tt
 counted (p ∷ ps) h = (h.0.0, counted ps h.1)
 
-front : (xs ys : List Measured) → Counted (xs ++ ys) → Counted xs
-front [] ys h = tt
-front (x ∷ xs) ys h = (h.0, front xs ys h.1)
+prefix : (xs ys : List Measured) → Counted (xs ++ ys) → Counted xs
+prefix [] ys h = tt
+prefix (x ∷ xs) ys h = (h.0, prefix xs ys h.1)
 
 back : (xs ys : List Measured) → Counted (xs ++ ys) → Counted ys
 back [] ys h = h
@@ -96,18 +96,18 @@ declarators_short [] ts h c = omega arith
 declarators_short (d ∷ []) ts h c = let p = declarator_short d ts h c in omega arith
 declarators_short (d ∷ e ∷ rest) ts h c =
     let all = subst Counted h.6 c in
-    let p = declarator_short d h.1 h.4 (front h.1 (outside h.0 ∷ h.2) all) in
+    let p = declarator_short d h.1 h.4 (prefix h.1 (outside h.0 ∷ h.2) all) in
     let q = declarators_short (e ∷ rest) h.2 h.5 (back h.1 (outside h.0 ∷ h.2) all).1 in omega arith
 
 local_short : (t : Scalar) (ds : List Declarator) (ts : List Measured) → SpellsLocal ts t ds → Counted ts → longest_declared ds ≤ 512
 local_short t ds ts h c =
     let all = subst Counted h.6 c in
     let rest = back (map outside h.0) (h.1 ++ outside h.2 ∷ []) all in
-    declarators_short ds h.1 h.4 (front h.1 (outside h.2 ∷ []) rest)
+    declarators_short ds h.1 h.4 (prefix h.1 (outside h.2 ∷ []) rest)
 
 beginning_short : (first : Beginning) (level : ℕ) (ts : List Measured) → SpellsBeginning level ts first → Counted ts → longest_beginning first ≤ 512
 beginning_short (Declares t ds) level ts h c = local_short t ds h.0 h.1 (begun level h.0 (subst Counted h.2 c))
-beginning_short (Performs a) level ts h c = action_short a h.0 h.2 (front h.0 (outside h.1 ∷ []) (subst Counted h.4 c))
+beginning_short (Performs a) level ts h c = action_short a h.0 h.2 (prefix h.0 (outside h.1 ∷ []) (subst Counted h.4 c))
 
 test_short : (e : Expr) (xs : List Lexeme) → SpellsOptional (full xs) (Some e) → Counted (full xs) → tokens_or (Some e) ≤ 512
 test_short e xs h c = optional_short (Some e) (full xs) h c
@@ -115,49 +115,49 @@ test_short e xs h c = optional_short (Some e) (full xs) h c
 mutual
   statement_short : (s : Stmt) (level : ℕ) (ts : List Measured) → SpellsStatement level ts s → Counted ts → longest s ≤ 512
   statement_short (Block all) level ts h c =
-      let inside = begun level (outside h.0 ∷ h.2 ++ outside h.1 ∷ []) (subst Counted h.6 c) in statements_short all (suc level) h.2 h.5 (front h.2 (outside h.1 ∷ []) inside.1)
+      let inside = begun level (outside h.0 ∷ h.2 ++ outside h.1 ∷ []) (subst Counted h.6 c) in statements_short all (suc level) h.2 h.5 (prefix h.2 (outside h.1 ∷ []) inside.1)
   statement_short (Local t ds) level ts h c = local_short t ds h.0 h.1 (begun level h.0 (subst Counted h.2 c))
   statement_short (Perform a) level ts h c =
-      action_short a h.0 h.2 (front h.0 (outside h.1 ∷ []) (begun level (h.0 ++ outside h.1 ∷ []) (subst Counted h.4 c)))
+      action_short a h.0 h.2 (prefix h.0 (outside h.1 ∷ []) (begun level (h.0 ++ outside h.1 ∷ []) (subst Counted h.4 c)))
   statement_short (Return at e) level ts h c =
-      let inside = begun level (outside h.0 ∷ h.2 ++ outside h.1 ∷ []) (subst Counted h.7 c) in optional_short e h.2 h.6 (front h.2 (outside h.1 ∷ []) inside.1)
+      let inside = begun level (outside h.0 ∷ h.2 ++ outside h.1 ∷ []) (subst Counted h.7 c) in optional_short e h.2 h.6 (prefix h.2 (outside h.1 ∷ []) inside.1)
   statement_short (Break at) level ts h c = omega arith
   statement_short (Continue at) level ts h c = omega arith
   statement_short (If e a) level ts h c =
       let inside = begun level (outside h.0 ∷ outside h.1 ∷ full h.3 ++ outside h.2 ∷ h.4) (subst Counted h.11 c) in
-      let p = test_short e h.3 (h.3, h.8, refl) (front (full h.3) (outside h.2 ∷ h.4) inside.1.1) in
+      let p = test_short e h.3 (h.3, h.8, refl) (prefix (full h.3) (outside h.2 ∷ h.4) inside.1.1) in
       let q = statement_short a (suc level) h.4 h.9 (back (full h.3) (outside h.2 ∷ h.4) inside.1.1).1 in omega arith
   statement_short (IfElse e a b) level ts h c =
       let inside = begun level (outside h.0 ∷ outside h.1 ∷ full h.4 ++ (outside h.2 ∷ h.5 ++ outside h.3 ∷ h.6)) (subst Counted h.17 c) in
-      let p = test_short e h.4 (h.4, h.11, refl) (front (full h.4) (outside h.2 ∷ h.5 ++ outside h.3 ∷ h.6) inside.1.1) in
+      let p = test_short e h.4 (h.4, h.11, refl) (prefix (full h.4) (outside h.2 ∷ h.5 ++ outside h.3 ∷ h.6) inside.1.1) in
       let parts = (back (full h.4) (outside h.2 ∷ h.5 ++ outside h.3 ∷ h.6) inside.1.1).1 in
-      let q = statement_short a (suc level) h.5 h.12 (front h.5 (outside h.3 ∷ h.6) parts) in
+      let q = statement_short a (suc level) h.5 h.12 (prefix h.5 (outside h.3 ∷ h.6) parts) in
       let r = statement_short b (suc level) h.6 h.15 (back h.5 (outside h.3 ∷ h.6) parts).1 in omega arith
   statement_short (While e a) level ts h c =
       let inside = begun level (outside h.0 ∷ outside h.1 ∷ full h.3 ++ outside h.2 ∷ h.4) (subst Counted h.11 c) in
-      let p = test_short e h.3 (h.3, h.8, refl) (front (full h.3) (outside h.2 ∷ h.4) inside.1.1) in
+      let p = test_short e h.3 (h.3, h.8, refl) (prefix (full h.3) (outside h.2 ∷ h.4) inside.1.1) in
       let q = statement_short a (suc level) h.4 h.9 (back (full h.3) (outside h.2 ∷ h.4) inside.1.1).1 in omega arith
   statement_short (DoWhile a e) level ts h c =
       let behind = outside h.1 ∷ outside h.2 ∷ full h.6 ++ outside h.3 ∷ outside h.4 ∷ [] in
       let inside = begun level (outside h.0 ∷ h.5 ++ behind) (subst Counted h.15 c) in
-      let q = statement_short a (suc level) h.5 h.12 (front h.5 behind inside.1) in
-      let p = test_short e h.6 (h.6, h.14, refl) (front (full h.6) (outside h.3 ∷ outside h.4 ∷ []) (back h.5 behind inside.1).1.1) in omega arith
+      let q = statement_short a (suc level) h.5 h.12 (prefix h.5 behind inside.1) in
+      let p = test_short e h.6 (h.6, h.14, refl) (prefix (full h.6) (outside h.3 ∷ outside h.4 ∷ []) (back h.5 behind inside.1).1.1) in omega arith
   statement_short (For first e step a) level ts h c =
       let last = h.6 ++ outside h.3 ∷ h.7 in
       let middle = h.5 ++ (outside h.2 ∷ last) in
       let inside = begun level (outside h.0 ∷ outside h.1 ∷ h.4 ++ middle) (subst Counted h.17 c) in
-      let p = beginning_short first (suc level) h.4 h.12 (front h.4 middle inside.1.1) in
+      let p = beginning_short first (suc level) h.4 h.12 (prefix h.4 middle inside.1.1) in
       let rest = back h.4 middle inside.1.1 in
-      let q = optional_short e h.5 h.13 (front h.5 (outside h.2 ∷ last) rest) in
+      let q = optional_short e h.5 h.13 (prefix h.5 (outside h.2 ∷ last) rest) in
       let end_part = (back h.5 (outside h.2 ∷ last) rest).1 in
-      let r = action_short step h.6 h.14 (front h.6 (outside h.3 ∷ h.7) end_part) in
+      let r = action_short step h.6 h.14 (prefix h.6 (outside h.3 ∷ h.7) end_part) in
       let s = statement_short a (suc level) h.7 h.15 (back h.6 (outside h.3 ∷ h.7) end_part).1 in omega arith
 
   statements_short : (ss : Stmts) (level : ℕ) (ts : List Measured) → SpellsStatements level ts ss → Counted ts → longest_in ss ≤ 512
   statements_short end level ts h c = omega arith
   statements_short (next s ss) level ts h c =
       let all = subst Counted h.4 c in
-      let p = statement_short s level h.0 h.2 (front h.0 h.1 all) in
+      let p = statement_short s level h.0 h.2 (prefix h.0 h.1 all) in
       let q = statements_short ss level h.1 h.3 (back h.0 h.1 all) in omega arith
 
 -- ---- each definition of a unit
@@ -170,7 +170,7 @@ definition_short (Definition g b ∷ rest) ts zero s body h c e =
     let is : ◌≡◌ {A = Option External} (Some (Definition g b)) (Some (Definition s body)) = e in
     let same : b ≡ body = cc in
     let d : SpellsExternal h.0 (Definition g b) = h.2 in
-    let all = subst Counted d.5 (front h.0 h.1 (subst Counted h.4 c)) in
+    let all = subst Counted d.5 (prefix h.0 h.1 (subst Counted h.4 c)) in
     subst (λ (x : Stmts). longest_in x ≤ 512) same (statement_short (Block b) 1 d.1 d.4 (back d.0 d.1 all))
 definition_short (Definition g b ∷ rest) ts (suc f) s body h c e = definition_short rest h.1 f s body h.3 (back h.0 h.1 (subst Counted h.4 c)) e
 

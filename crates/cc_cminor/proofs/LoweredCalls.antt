@@ -16,7 +16,7 @@ use Rattle.cc_meaning.specs.Resolved.{arities, IsCalled, ExprResolved, ExprsReso
 use Rattle.cc_cminor.specs.Cminor.{Expression, Constant, Local, Load, Statement, Skip, Set, Store, Sequence, If, Loop, Block, Exit, Return}
 use Rattle.cc_cminor.specs.Code.{in_sequence}
 use Rattle.cc_cminor.specs.Pair.{AreCalls}
-use Rattle.cc_cminor.specs.internal.Lowering.{free, object_of, width_of, variable_of, variable_set, write_to, unary_of, binary_of, truth_of, Kind, Conjunction, Disjunction, Strict, kind, is_plain, are_plain, plain, all_plain, used, count, locals_from, invoked, called_on, connected, put_expr, put_all, using, using_or, combined, assigned, performed, performed_optional, initialised, declared_code, started, leaving, lowered, all_lowered, body_code}
+use Rattle.cc_cminor.specs.internal.Lowering.{free, object_of, width_of, variable_of, variable_set, write_to, unary_of, binary_of, truth_of, condition, is_reversed, branch, Kind, Conjunction, Disjunction, Strict, kind, is_plain, are_plain, plain, all_plain, used, count, locals_from, invoked, called_on, connected, put_expr, put_all, using, using_or, combined, assigned, performed, performed_optional, initialised, declared_code, started, leaving, lowered, all_lowered, body_code}
 use Rattle.cc_cminor.proofs.Known.{behind_layout, beginning_layout}
 
 many : (es : Exprs) → count_of es ≡ count es
@@ -50,6 +50,13 @@ module _ (unit : List External) (g : Layout) where
   used_calls true e code k f c h = h e
   used_calls false e code k f c h = (c, h (Local k))
 
+  branch_calls : (e : Expression) (a b : Statement) → AreCalls unit a × AreCalls unit b → AreCalls unit (branch e a b)
+  branch_calls e a b h = by (is_reversed e)
+    where
+      by : (r : Bool) → AreCalls unit (if r then If (condition e) b a else If (condition e) a b)
+      by true = (h.1, h.0)
+      by false = h
+
   invoked_calls : (c : Callee) (k : ℕ) (es : List Expression) → IsCalled (arities unit) c (length es) → AreCalls unit (invoked c k es)
   invoked_calls WriteWord k es h = (tt, tt)
   invoked_calls ReadWord k es h = tt
@@ -61,9 +68,9 @@ module _ (unit : List External) (g : Layout) where
 
   connected_calls : (kd : Kind) (op : BinaryOperator) (t : Scalar) (p q : Bool) (a b : Expression) (left right here : Statement) (k : ℕ) → AreCalls unit left → AreCalls unit right → AreCalls unit here → AreCalls unit (connected kd op t p q a b left right here k)
   connected_calls Conjunction op t p q a b left right here k l r h =
-      used_calls p a left k (λ x. If x (used q b here k (λ y. Set k (truth_of y))) (Set k (Constant 0))) l (λ x. (used_calls q b here k (λ y. Set k (truth_of y)) h (λ y. tt), tt))
+      used_calls p a left k (λ x. branch x (used q b here k (λ y. Set k (truth_of y))) (Set k (Constant 0))) l (λ x. branch_calls x (used q b here k (λ y. Set k (truth_of y))) (Set k (Constant 0)) (used_calls q b here k (λ y. Set k (truth_of y)) h (λ y. tt), tt))
   connected_calls Disjunction op t p q a b left right here k l r h =
-      used_calls p a left k (λ x. If x (Set k (Constant 1)) (used q b here k (λ y. Set k (truth_of y)))) l (λ x. (tt, used_calls q b here k (λ y. Set k (truth_of y)) h (λ y. tt)))
+      used_calls p a left k (λ x. branch x (Set k (Constant 1)) (used q b here k (λ y. Set k (truth_of y)))) l (λ x. branch_calls x (Set k (Constant 1)) (used q b here k (λ y. Set k (truth_of y))) (tt, used_calls q b here k (λ y. Set k (truth_of y)) h (λ y. tt)))
   connected_calls Strict op t p q a b left right here k l r h = by (p && q)
     where
       by : (both : Bool) → AreCalls unit (if both then Set k (binary_of op t a b) else Sequence left (used q b right (suc k) (λ y. Set k (binary_of op t (Local k) y))))
@@ -85,7 +92,7 @@ module _ (unit : List External) (g : Layout) where
         connected_calls (kind op) op (working_type op (value_type (types_in v) a) (value_type (types_in v) b)) (is_plain a) (is_plain b) (plain g v a) (plain g v b) (put_expr g v k a) (put_expr g v (suc k) b) (put_expr g v k b) k
         (put_calls a v k is h.0) (put_calls b v (suc k) is h.1) (put_calls b v k is h.1)
     put_calls (Conditional c a b) v k is h =
-        used_calls (is_plain c) (plain g v c) (put_expr g v k c) k (λ x. If x (put_expr g v k a) (put_expr g v k b)) (put_calls c v k is h.0) (λ x. (put_calls a v k is h.1, put_calls b v k is h.2))
+        used_calls (is_plain c) (plain g v c) (put_expr g v k c) k (λ x. branch x (put_expr g v k a) (put_expr g v k b)) (put_calls c v k is h.0) (λ x. branch_calls x (put_expr g v k a) (put_expr g v k b) (put_calls a v k is h.1, put_calls b v k is h.2))
 
     put_all_calls : (es : Exprs) (v : Environment) (k : ℕ) → v.layout ≡ g → ExprsResolved (arities unit) v es → AllAreCalls (put_all g v k es)
     put_all_calls none v k is h = tt
@@ -151,18 +158,18 @@ module _ (unit : List External) (g : Layout) where
     lowered_calls (tree.Return at e) b v is h = using_or_calls e v (free v) 0 (λ x. Return x) is h (λ x. tt)
     lowered_calls (Break at) b v is h = leaving_calls b 1
     lowered_calls (Continue at) b v is h = leaving_calls b 0
-    lowered_calls (tree.If c a) b v is h = using_calls c v (free v) (λ x. If x (lowered g b (inner v) a) Skip) is h.0 (λ x. (lowered_calls a b (inner v) is h.1, tt))
+    lowered_calls (tree.If c a) b v is h = using_calls c v (free v) (λ x. branch x (lowered g b (inner v) a) Skip) is h.0 (λ x. branch_calls x (lowered g b (inner v) a) Skip (lowered_calls a b (inner v) is h.1, tt))
     lowered_calls (IfElse c a e) b v is h =
-        using_calls c v (free v) (λ x. If x (lowered g b (inner v) a) (lowered g b (inner v) e)) is h.0 (λ x. (lowered_calls a b (inner v) is h.1, lowered_calls e b (inner v) is h.2))
+        using_calls c v (free v) (λ x. branch x (lowered g b (inner v) a) (lowered g b (inner v) e)) is h.0 (λ x. branch_calls x (lowered g b (inner v) a) (lowered g b (inner v) e) (lowered_calls a b (inner v) is h.1, lowered_calls e b (inner v) is h.2))
     lowered_calls (While c body) b v is h =
-        using_calls c v (free v) (λ x. If x (Sequence (Block (lowered g true (inner v) body)) Skip) (Exit 0)) is h.0 (λ x. ((lowered_calls body true (inner v) is h.1, tt), tt))
-    lowered_calls (DoWhile body c) b v is h = (lowered_calls body true (inner v) is h.1, using_calls c v (free v) (λ x. If x Skip (Exit 0)) is h.0 (λ x. (tt, tt)))
+        using_calls c v (free v) (λ x. branch x (Sequence (Block (lowered g true (inner v) body)) Skip) (Exit 0)) is h.0 (λ x. branch_calls x (Sequence (Block (lowered g true (inner v) body)) Skip) (Exit 0) ((lowered_calls body true (inner v) is h.1, tt), tt))
+    lowered_calls (DoWhile body c) b v is h = (lowered_calls body true (inner v) is h.1, using_calls c v (free v) (λ x. branch x Skip (Exit 0)) is h.0 (λ x. branch_calls x Skip (Exit 0) (tt, tt)))
     lowered_calls (For first c step body) b v is h =
         let w : Environment = behind_beginning first (inner v) in
         let same : w.layout ≡ g = beginning_layout first (inner v) ∙ is in (
           started_calls first (inner v) is h.0,
-          using_or_calls c w (free w) 1 (λ x. If x (Sequence (Block (lowered g true (inner w) body)) (performed_optional g w step)) (Exit 0)) same h.1
-              (λ x. ((lowered_calls body true (inner w) same h.3, optional_calls step w same h.2), tt)),
+          using_or_calls c w (free w) 1 (λ x. branch x (Sequence (Block (lowered g true (inner w) body)) (performed_optional g w step)) (Exit 0)) same h.1
+              (λ x. branch_calls x (Sequence (Block (lowered g true (inner w) body)) (performed_optional g w step)) (Exit 0) ((lowered_calls body true (inner w) same h.3, optional_calls step w same h.2), tt)),
         )
 
     all_lowered_calls : (ss : Stmts) (b : Bool) (v : Environment) → v.layout ≡ g → StmtsResolved (arities unit) v ss → AllAreCalls (all_lowered g b v ss)

@@ -11,13 +11,14 @@ use Rattle.cc_resolve.specs.Environment.{Environment, types_in, inner, with_loca
 use Rattle.cc_meaning.specs.Meaning as meaning
 use Rattle.cc_meaning.specs.Meaning.{State, Run, Gives, Flow, Falls, Breaks, Continues, Returns, then_do, choose, evaluate, evaluate_or, perform_optional, start, spend_of, behind_flow, behind_body, begin_body, turns, left_scope, in_block, execute, execute_all}
 use Rattle.cc_runs.specs.World.{Question, Effect}
-use Rattle.cc_runs.specs.Run.{Goes, tried}
-use Rattle.cc_cminor.specs.Cminor.{Expression, Constant, value, Statement, Skip, Sequence, If, Loop, Block, Exit, Return, Continuation, Then, Again, Leaving, Config, config, chosen}
+use Rattle.cc_runs.specs.Run.{}
+use Rattle.cc_cminor.specs.Cminor.{Expression, Constant, value, Statement, Skip, Sequence, Loop, Block, Exit, Return, Continuation, Then, Again, Leaving, Config, config}
 use Rattle.cc_cminor.specs.Code.{in_sequence}
-use Rattle.cc_cminor.specs.internal.Lowering.{free, using, using_or, performed_optional, started, declared_code, looped, tested, lowered, all_lowered}
+use Rattle.cc_cminor.specs.internal.Lowering.{branch, free, using, using_or, performed_optional, started, declared_code, looped, tested, lowered, all_lowered}
 use Rattle.cc_cminor.proofs.Known.{Known, KnownOr, KnownIn, AllKnownIn}
 use Rattle.cc_cminor.proofs.Paths.{world_at, after_list, cut_here, one_paid, Comes, comes_after, comes_moved, comes_then, comes_as, comes_here, comes_first, comes_next, comes_exit}
 use Rattle.cc_cminor.proofs.Variables.{names_of, length_names, Holds, Fits, fits_length}
+use Rattle.cc_cminor.proofs.Branches.{branch_moves}
 use Rattle.cc_cminor.proofs.PutExpressions.{CallFacts, choice_comes}
 use Rattle.cc_cminor.proofs.PerformedActions.{Stops, Falling, using_comes, using_or_comes, optional_comes, declared_comes, started_comes}
 
@@ -279,27 +280,27 @@ module _ (effect : ℕ → Question → Effect) (g : Layout) where
     -- a loop's condition, with A where it holds
     cond_by : (w : ℕ) (x : Expression) (ns : List (List ℕ)) (A : Statement) (κ : Continuation) (T X c : Statement) (m : ℕ → ℕ) (u : State) → value x m (world_at u) ≡ Some w → Fits g ns u m
         → ((w : ℕ) → Comes effect (TestedBy ns κ (Then X (Again T (Leaving κ))) c) (config A (Again T (Leaving κ)) m (world_at u)) u.steps (Gives (suc w) u))
-        → Comes effect (TestedBy ns κ (Then X (Again T (Leaving κ))) c) (config (If x A (Exit 0)) (Again T (Leaving κ)) m (world_at u)) u.steps (Gives w u)
+        → Comes effect (TestedBy ns κ (Then X (Again T (Leaving κ))) c) (config (branch x A (Exit 0)) (Again T (Leaving κ)) m (world_at u)) u.steps (Gives w u)
     cond_by zero x ns A κ T X c m u is fits f =
         let Q = TestedBy ns κ (Then X (Again T (Leaving κ))) c in
         let around : Continuation = Again T (Leaving κ) in
-        comes_moved effect Q (config (If x A (Exit 0)) around m (world_at u)) (config (Exit 0) around m (world_at u)) u.steps (Gives 0 u) (ap (λ o. tried o (λ w. Goes (config (chosen w A (Exit 0)) around m (world_at u)))) is)
+        comes_moved effect Q (config (branch x A (Exit 0)) around m (world_at u)) (config (Exit 0) around m (world_at u)) u.steps (Gives 0 u) (branch_moves x A (Exit 0) around m (world_at u) zero is)
         (comes_moved effect Q (config (Exit 0) around m (world_at u)) (config (Exit 0) (Leaving κ) m (world_at u)) u.steps (Gives 0 u) refl
         (comes_moved effect Q (config (Exit 0) (Leaving κ) m (world_at u)) (config Skip κ m (world_at u)) u.steps (Gives 0 u) refl
         (comes_here effect Q (config Skip κ m (world_at u)) 0 u (record { variables = m; at = refl; fits = fits }))))
     cond_by (suc w) x ns A κ T X c m u is fits f =
         let Q = TestedBy ns κ (Then X (Again T (Leaving κ))) c in
         let around : Continuation = Again T (Leaving κ) in
-        comes_moved effect Q (config (If x A (Exit 0)) around m (world_at u)) (config A around m (world_at u)) u.steps (Gives (suc w) u) (ap (λ o. tried o (λ w. Goes (config (chosen w A (Exit 0)) around m (world_at u)))) is) (f w)
+        comes_moved effect Q (config (branch x A (Exit 0)) around m (world_at u)) (config A around m (world_at u)) u.steps (Gives (suc w) u) (branch_moves x A (Exit 0) around m (world_at u) (suc w) is) (f w)
 
     cond_comes : (cnd : Option Expr) (v : Environment) (A : Statement) (κ : Continuation) (T X c : Statement) (m : ℕ → ℕ) (s : State) → KnownOr g v cnd → s.steps < n → Fits g v.locals s m
         → ((m : ℕ → ℕ) (u : State) (w : ℕ) → Fits g v.locals u m → Comes effect (TestedBy v.locals κ (Then X (Again T (Leaving κ))) c) (config A (Again T (Leaving κ)) m (world_at u)) u.steps (Gives (suc w) u))
-        → Comes effect (TestedBy v.locals κ (Then X (Again T (Leaving κ))) c) (config (using_or g v (free v) 1 cnd (λ x. If x A (Exit 0))) (Again T (Leaving κ)) m (world_at s)) s.steps (evaluate_or 1 cnd (types_in v) call s)
+        → Comes effect (TestedBy v.locals κ (Then X (Again T (Leaving κ))) c) (config (using_or g v (free v) 1 cnd (λ x. branch x A (Exit 0))) (Again T (Leaving κ)) m (world_at s)) s.steps (evaluate_or 1 cnd (types_in v) call s)
     cond_comes cnd v A κ T X c m s known lt h f =
         let Q = TestedBy v.locals κ (Then X (Again T (Leaving κ))) c in
         let around : Continuation = Again T (Leaving κ) in
-        subst (λ r. Comes effect Q (config (using_or g v (free v) 1 cnd (λ x. If x A (Exit 0))) around m (world_at s)) s.steps r) (then_gives (evaluate_or 1 cnd (types_in v) call s))
-        (using_or_comes effect g call n facts Q 1 cnd v (free v) (λ x. If x A (Exit 0)) around m s (λ w t. Gives w t) known (omega arith) lt h
+        subst (λ r. Comes effect Q (config (using_or g v (free v) 1 cnd (λ x. branch x A (Exit 0))) around m (world_at s)) s.steps r) (then_gives (evaluate_or 1 cnd (types_in v) call s))
+        (using_or_comes effect g call n facts Q 1 cnd v (free v) (λ x. branch x A (Exit 0)) around m s (λ w t. Gives w t) known (omega arith) lt h
         (λ x k u w less fits same is. cond_by w x v.locals A κ T X c k u is fits (λ w. f k u w fits)))
 
     -- into the block of a body, from the code of a turn
@@ -389,7 +390,7 @@ module _ (effect : ℕ → Question → Effect) (g : Layout) where
           let Q = Flows b κ v.locals v.locals in
           let A : Statement = lowered g b (inner v) a in
           let ra : State → Run Flow = in_block (execute a n call (opened v.visible)) in
-          using_comes effect g call n facts Q c v (free v) (λ x. If x A Skip) κ l s (λ w t. choose w ra (λ u. Gives Falls u) t) known.0 (omega arith) lt h
+          using_comes effect g call n facts Q c v (free v) (λ x. branch x A Skip) κ l s (λ w t. choose w ra (λ u. Gives Falls u) t) known.0 (omega arith) lt h
           (λ x m u w less fits same is. choice_comes effect g Q x A Skip κ m u w ra (λ u. Gives Falls u) is
           (as_flows b κ v.locals (config A κ m (world_at u)) u.steps (ra u) (part_comes a b v κ (config A κ m (world_at u)) m u fits (lowered_comes a b (inner v) κ m u known.1 (omega arith) fits)))
           (comes_here effect Q (config Skip κ m (world_at u)) Falls u (record { variables = m; at = refl; fits = fits })))
@@ -399,7 +400,7 @@ module _ (effect : ℕ → Question → Effect) (g : Layout) where
           let E : Statement = lowered g b (inner v) e in
           let ra : State → Run Flow = in_block (execute a n call (opened v.visible)) in
           let re : State → Run Flow = in_block (execute e n call (opened v.visible)) in
-          using_comes effect g call n facts Q c v (free v) (λ x. If x A E) κ l s (λ w t. choose w ra re t) known.0 (omega arith) lt h
+          using_comes effect g call n facts Q c v (free v) (λ x. branch x A E) κ l s (λ w t. choose w ra re t) known.0 (omega arith) lt h
           (λ x m u w less fits same is. choice_comes effect g Q x A E κ m u w ra re is
           (as_flows b κ v.locals (config A κ m (world_at u)) u.steps (ra u) (part_comes a b v κ (config A κ m (world_at u)) m u fits (lowered_comes a b (inner v) κ m u known.1 (omega arith) fits)))
           (as_flows b κ v.locals (config E κ m (world_at u)) u.steps (re u) (part_comes e b v κ (config E κ m (world_at u)) m u fits (lowered_comes e b (inner v) κ m u known.2 (omega arith) fits))))

@@ -6,7 +6,7 @@ use Rattle.cc_syntax.specs.declared.ast.BinaryOperator.{BinaryOperator}
 use Rattle.cc_syntax.specs.declared.ast.BinaryOperator.TheVariants as source
 use Rattle.cc_typing.specs.Operators.{unary_word, binary_word, decided, is_true, working_type}
 use Rattle.cc_typing.specs.Types.{value_type}
-use Rattle.cc_words.specs.Words.{truth_value, is_zero}
+use Rattle.cc_words.specs.Words.{truth_value}
 use Rattle.cc_syntax.specs.Tree as tree
 use Rattle.cc_syntax.specs.Tree.{Name, Expr, Exprs, none, more, Number, Variable, Element, Parenthesised, Cast, Conditional}
 use Rattle.cc_resolve.specs.Layout.{Layout, callee}
@@ -22,12 +22,13 @@ use Rattle.cc_runs.specs.World as world
 use Rattle.cc_runs.specs.World.{World, Question, Answer, Effect, first_or_zero, rest_of}
 use Rattle.cc_runs.specs.Run as layer
 use Rattle.cc_runs.specs.Run.{Move, Goes, Calls, tried, run, work, act, work_act, work_resumed}
-use Rattle.cc_cminor.specs.Cminor.{Expression, Constant, Local, Load, then_value, value, values, put, Statement, Skip, Set, Call, Read, Write, Sequence, If, Continuation, Then, Config, config, chosen, cminor_move}
+use Rattle.cc_cminor.specs.Cminor.{Expression, Constant, Local, Load, then_value, value, values, put, Statement, Skip, Set, Call, Read, Write, Sequence, Continuation, Then, Config, config, cminor_move}
 use Rattle.cc_cminor.specs.Code.{in_sequence}
-use Rattle.cc_cminor.specs.internal.Lowering.{free, object_of, width_of, variable_of, unary_of, truth_of, binary_of, Kind, Conjunction, Disjunction, Strict, kind, is_strict, is_plain, are_plain, plain, all_plain, used, called_on, count, locals_from, last_value, invoked, connected, put_expr, put_all}
+use Rattle.cc_cminor.specs.internal.Lowering.{branch, free, object_of, width_of, variable_of, unary_of, truth_of, binary_of, Kind, Conjunction, Disjunction, Strict, kind, is_strict, is_plain, are_plain, plain, all_plain, used, called_on, count, locals_from, last_value, invoked, connected, put_expr, put_all}
 use Rattle.cc_cminor.proofs.Known.{IsCalled, Known, AllKnown}
 use Rattle.cc_cminor.proofs.Paths.{world_at, Exact, one_call, Comes, comes_moved, comes_then, comes_as, comes_here, after_list, comes_first, comes_next, runs, works}
-use Rattle.cc_cminor.proofs.Variables.{put_here, put_below, unary_value, binary_value, strict_undecided, is_conjunction, is_disjunction, PlainIs, plain_given, plain_read, Fits, fits_put, variable_value, element_value, plain_is, all_plain_is, truth_twice}
+use Rattle.cc_cminor.proofs.Branches.{branch_moves}
+use Rattle.cc_cminor.proofs.Variables.{put_here, put_below, unary_value, binary_value, strict_undecided, is_conjunction, is_disjunction, PlainIs, plain_given, plain_read, Fits, fits_put, variable_value, element_value, plain_is, all_plain_is, truth_is}
 
 -- what a call of function f on some words does: the caller goes on as the effect says, which the unit's meaning gives by number
 pub record CallIs (effect : ℕ → Question → Effect) (call : meaning.Calls) (x ws : List ℕ) (f : ℕ) (s : State) : Type 0 where
@@ -90,11 +91,11 @@ module _ (effect : ℕ → Question → Effect) (g : Layout) where
   -- one of two
   pub choice_comes : {A : Type 0} (R : A → State → Config → Type 0) (x : Expression) (a b : Statement) (κ : Continuation) (l : ℕ → ℕ) (s : State) (w : ℕ) (ra rb : State → Run A) → value x l (world_at s) ≡ Some w
       → Comes effect R (config a κ l (world_at s)) s.steps (ra s) → Comes effect R (config b κ l (world_at s)) s.steps (rb s)
-      → Comes effect R (config (If x a b) κ l (world_at s)) s.steps (choose w ra rb s)
+      → Comes effect R (config (branch x a b) κ l (world_at s)) s.steps (choose w ra rb s)
   choice_comes R x a b κ l s zero ra rb is p q =
-      comes_moved effect R (config (If x a b) κ l (world_at s)) (config b κ l (world_at s)) s.steps (rb s) (ap (λ o. tried o (λ w. Goes (config (chosen w a b) κ l (world_at s)))) is) q
+      comes_moved effect R (config (branch x a b) κ l (world_at s)) (config b κ l (world_at s)) s.steps (rb s) (branch_moves x a b κ l (world_at s) zero is) q
   choice_comes R x a b κ l s (suc w) ra rb is p q =
-      comes_moved effect R (config (If x a b) κ l (world_at s)) (config a κ l (world_at s)) s.steps (ra s) (ap (λ o. tried o (λ w. Goes (config (chosen w a b) κ l (world_at s)))) is) p
+      comes_moved effect R (config (branch x a b) κ l (world_at s)) (config a κ l (world_at s)) s.steps (ra s) (branch_moves x a b κ l (world_at s) (suc w) is) p
 
   -- ---- arguments
 
@@ -243,37 +244,37 @@ module _ (effect : ℕ → Question → Effect) (g : Layout) where
         used_comes (Puts k κ v.locals l) (is_plain b) (plain g v b) (put_expr g v k b) k (λ y. Set k (truth_of y)) κ v.locals l s (evaluate b (types_in v) call s) (λ y t. Gives (truth_value (is_true y)) t) h
         (λ p. plain_is g call b v l s p known h) (λ μ. hb v k μ l s known le lt h)
         (λ y m u w less fits same is. puts_from k κ v.locals l m _ u.steps (Gives (truth_value (is_true w)) u) same
-        (set_gives k (truth_value (is_true w)) (truth_of y) κ v.locals m u le fits (ap (λ o. then_value (then_value o (λ a. Some (is_zero a))) (λ a. Some (is_zero a))) is ∙ ap (λ x. Some x) (truth_twice w))))
+        (set_gives k (truth_value (is_true w)) (truth_of y) κ v.locals m u le fits (truth_is y m (world_at u) w is)))
 
     -- behind the left operand of &&, and of ||
     and_comes : (w : ℕ) (x : Expression) (t : Scalar) (b : Expr) (v : Environment) (k : ℕ) (κ : Continuation) (l : ℕ → ℕ) (s : State) → value x l (world_at s) ≡ Some w → PutsValue b → Known g v b → free v ≤ k → s.steps < n → Fits g v.locals s l
-        → Comes effect (Puts k κ v.locals l) (config (If x (used (is_plain b) (plain g v b) (put_expr g v k b) k (λ y. Set k (truth_of y))) (Set k (Constant 0))) κ l (world_at s)) s.steps
+        → Comes effect (Puts k κ v.locals l) (config (branch x (used (is_plain b) (plain g v b) (put_expr g v k b) k (λ y. Set k (truth_of y))) (Set k (Constant 0))) κ l (world_at s)) s.steps
         (unless_decided (decided source.LogicalAnd w) (λ u. then_do (evaluate b (types_in v) call u) (λ y z. given source.LogicalAnd (binary_word source.LogicalAnd t w y) z)) s)
     and_comes zero x t b v k κ l s is hb known le lt h =
-        comes_moved effect (Puts k κ v.locals l) (config (If x (used (is_plain b) (plain g v b) (put_expr g v k b) k (λ y. Set k (truth_of y))) (Set k (Constant 0))) κ l (world_at s)) (config (Set k (Constant 0)) κ l (world_at s)) s.steps (Gives 0 s)
-        (ap (λ o. tried o (λ w. Goes (config (chosen w (used (is_plain b) (plain g v b) (put_expr g v k b) k (λ y. Set k (truth_of y))) (Set k (Constant 0))) κ l (world_at s)))) is)
+        comes_moved effect (Puts k κ v.locals l) (config (branch x (used (is_plain b) (plain g v b) (put_expr g v k b) k (λ y. Set k (truth_of y))) (Set k (Constant 0))) κ l (world_at s)) (config (Set k (Constant 0)) κ l (world_at s)) s.steps (Gives 0 s)
+        (branch_moves x (used (is_plain b) (plain g v b) (put_expr g v k b) k (λ y. Set k (truth_of y))) (Set k (Constant 0)) κ l (world_at s) zero is)
         (set_gives k 0 (Constant 0) κ v.locals l s le h refl)
     and_comes (suc w) x t b v k κ l s is hb known le lt h =
-        subst (λ d. Comes effect (Puts k κ v.locals l) (config (If x (used (is_plain b) (plain g v b) (put_expr g v k b) k (λ y. Set k (truth_of y))) (Set k (Constant 0))) κ l (world_at s)) s.steps
+        subst (λ d. Comes effect (Puts k κ v.locals l) (config (branch x (used (is_plain b) (plain g v b) (put_expr g v k b) k (λ y. Set k (truth_of y))) (Set k (Constant 0))) κ l (world_at s)) s.steps
         (unless_decided (if not d then None else Some 0) (λ u. then_do (evaluate b (types_in v) call u) (λ y z. given source.LogicalAnd (Some (truth_value (not d && is_true y))) z)) s)) (sym (ne_eqb (suc w) 0 (λ e. let f : suc w ≡ 0 = e in omega arith)))
-        (comes_moved effect (Puts k κ v.locals l) (config (If x (used (is_plain b) (plain g v b) (put_expr g v k b) k (λ y. Set k (truth_of y))) (Set k (Constant 0))) κ l (world_at s)) (config (used (is_plain b) (plain g v b) (put_expr g v k b) k (λ y. Set k (truth_of y))) κ l (world_at s)) s.steps
+        (comes_moved effect (Puts k κ v.locals l) (config (branch x (used (is_plain b) (plain g v b) (put_expr g v k b) k (λ y. Set k (truth_of y))) (Set k (Constant 0))) κ l (world_at s)) (config (used (is_plain b) (plain g v b) (put_expr g v k b) k (λ y. Set k (truth_of y))) κ l (world_at s)) s.steps
         (then_do (evaluate b (types_in v) call s) (λ y z. Gives (truth_value (is_true y)) z))
-        (ap (λ o. tried o (λ w. Goes (config (chosen w (used (is_plain b) (plain g v b) (put_expr g v k b) k (λ y. Set k (truth_of y))) (Set k (Constant 0))) κ l (world_at s)))) is)
+        (branch_moves x (used (is_plain b) (plain g v b) (put_expr g v k b) k (λ y. Set k (truth_of y))) (Set k (Constant 0)) κ l (world_at s) (suc w) is)
         (truth_comes b v k κ l s hb known le lt h))
 
     or_comes : (w : ℕ) (x : Expression) (t : Scalar) (b : Expr) (v : Environment) (k : ℕ) (κ : Continuation) (l : ℕ → ℕ) (s : State) → value x l (world_at s) ≡ Some w → PutsValue b → Known g v b → free v ≤ k → s.steps < n → Fits g v.locals s l
-        → Comes effect (Puts k κ v.locals l) (config (If x (Set k (Constant 1)) (used (is_plain b) (plain g v b) (put_expr g v k b) k (λ y. Set k (truth_of y)))) κ l (world_at s)) s.steps
+        → Comes effect (Puts k κ v.locals l) (config (branch x (Set k (Constant 1)) (used (is_plain b) (plain g v b) (put_expr g v k b) k (λ y. Set k (truth_of y)))) κ l (world_at s)) s.steps
         (unless_decided (decided source.LogicalOr w) (λ u. then_do (evaluate b (types_in v) call u) (λ y z. given source.LogicalOr (binary_word source.LogicalOr t w y) z)) s)
     or_comes zero x t b v k κ l s is hb known le lt h =
-        comes_moved effect (Puts k κ v.locals l) (config (If x (Set k (Constant 1)) (used (is_plain b) (plain g v b) (put_expr g v k b) k (λ y. Set k (truth_of y)))) κ l (world_at s)) (config (used (is_plain b) (plain g v b) (put_expr g v k b) k (λ y. Set k (truth_of y))) κ l (world_at s)) s.steps
+        comes_moved effect (Puts k κ v.locals l) (config (branch x (Set k (Constant 1)) (used (is_plain b) (plain g v b) (put_expr g v k b) k (λ y. Set k (truth_of y)))) κ l (world_at s)) (config (used (is_plain b) (plain g v b) (put_expr g v k b) k (λ y. Set k (truth_of y))) κ l (world_at s)) s.steps
         (then_do (evaluate b (types_in v) call s) (λ y z. Gives (truth_value (is_true y)) z))
-        (ap (λ o. tried o (λ w. Goes (config (chosen w (Set k (Constant 1)) (used (is_plain b) (plain g v b) (put_expr g v k b) k (λ y. Set k (truth_of y)))) κ l (world_at s)))) is)
+        (branch_moves x (Set k (Constant 1)) (used (is_plain b) (plain g v b) (put_expr g v k b) k (λ y. Set k (truth_of y))) κ l (world_at s) zero is)
         (truth_comes b v k κ l s hb known le lt h)
     or_comes (suc w) x t b v k κ l s is hb known le lt h =
-        subst (λ d. Comes effect (Puts k κ v.locals l) (config (If x (Set k (Constant 1)) (used (is_plain b) (plain g v b) (put_expr g v k b) k (λ y. Set k (truth_of y)))) κ l (world_at s)) s.steps
+        subst (λ d. Comes effect (Puts k κ v.locals l) (config (branch x (Set k (Constant 1)) (used (is_plain b) (plain g v b) (put_expr g v k b) k (λ y. Set k (truth_of y)))) κ l (world_at s)) s.steps
         (unless_decided (if not d then Some 1 else None) (λ u. then_do (evaluate b (types_in v) call u) (λ y z. given source.LogicalOr (Some (truth_value (not d || is_true y))) z)) s)) (sym (ne_eqb (suc w) 0 (λ e. let f : suc w ≡ 0 = e in omega arith)))
-        (comes_moved effect (Puts k κ v.locals l) (config (If x (Set k (Constant 1)) (used (is_plain b) (plain g v b) (put_expr g v k b) k (λ y. Set k (truth_of y)))) κ l (world_at s)) (config (Set k (Constant 1)) κ l (world_at s)) s.steps (Gives 1 s)
-        (ap (λ o. tried o (λ w. Goes (config (chosen w (Set k (Constant 1)) (used (is_plain b) (plain g v b) (put_expr g v k b) k (λ y. Set k (truth_of y)))) κ l (world_at s)))) is)
+        (comes_moved effect (Puts k κ v.locals l) (config (branch x (Set k (Constant 1)) (used (is_plain b) (plain g v b) (put_expr g v k b) k (λ y. Set k (truth_of y)))) κ l (world_at s)) (config (Set k (Constant 1)) κ l (world_at s)) s.steps (Gives 1 s)
+        (branch_moves x (Set k (Constant 1)) (used (is_plain b) (plain g v b) (put_expr g v k b) k (λ y. Set k (truth_of y))) κ l (world_at s) (suc w) is)
         (set_gives k 1 (Constant 1) κ v.locals l s le h refl))
 
     -- an operator whose left word waits in variable k
@@ -296,7 +297,7 @@ module _ (effect : ℕ → Question → Effect) (g : Layout) where
         → Comes effect (Puts k κ v.locals l) (config (connected kd op (working_type op (value_type (types_in v) a) (value_type (types_in v) b)) (is_plain a) (is_plain b) (plain g v a) (plain g v b) (put_expr g v k a) (put_expr g v (suc k) b) (put_expr g v k b) k) κ l (world_at s)) s.steps (evaluate (tree.Binary op a b) (types_in v) call s)
     connected_comes Conjunction both op a b v k κ l s is bs ha hb known le lt h =
         let t : Scalar = working_type source.LogicalAnd (value_type (types_in v) a) (value_type (types_in v) b) in
-        let f : Expression → Statement = λ x. If x (used (is_plain b) (plain g v b) (put_expr g v k b) k (λ y. Set k (truth_of y))) (Set k (Constant 0)) in
+        let f : Expression → Statement = λ x. branch x (used (is_plain b) (plain g v b) (put_expr g v k b) k (λ y. Set k (truth_of y))) (Set k (Constant 0)) in
         let go : ℕ → State → Run ℕ = λ x z. unless_decided (decided source.LogicalAnd x) (λ u. then_do (evaluate b (types_in v) call u) (λ y w. given source.LogicalAnd (binary_word source.LogicalAnd t x y) w)) z in
         subst (λ o. Comes effect (Puts k κ v.locals l) (config (used (is_plain a) (plain g v a) (put_expr g v k a) k f) κ l (world_at s)) s.steps (evaluate (tree.Binary o a b) (types_in v) call s)) (sym (is_conjunction op is))
         (used_comes (Puts k κ v.locals l) (is_plain a) (plain g v a) (put_expr g v k a) k f κ v.locals l s (evaluate a (types_in v) call s) go h
@@ -304,7 +305,7 @@ module _ (effect : ℕ → Question → Effect) (g : Layout) where
         (λ y m u w less fits same at. puts_from k κ v.locals l m _ u.steps (go w u) same (and_comes w y t b v k κ m u at hb known.1 le (omega arith) fits)))
     connected_comes Disjunction both op a b v k κ l s is bs ha hb known le lt h =
         let t : Scalar = working_type source.LogicalOr (value_type (types_in v) a) (value_type (types_in v) b) in
-        let f : Expression → Statement = λ x. If x (Set k (Constant 1)) (used (is_plain b) (plain g v b) (put_expr g v k b) k (λ y. Set k (truth_of y))) in
+        let f : Expression → Statement = λ x. branch x (Set k (Constant 1)) (used (is_plain b) (plain g v b) (put_expr g v k b) k (λ y. Set k (truth_of y))) in
         let go : ℕ → State → Run ℕ = λ x z. unless_decided (decided source.LogicalOr x) (λ u. then_do (evaluate b (types_in v) call u) (λ y w. given source.LogicalOr (binary_word source.LogicalOr t x y) w)) z in
         subst (λ o. Comes effect (Puts k κ v.locals l) (config (used (is_plain a) (plain g v a) (put_expr g v k a) k f) κ l (world_at s)) s.steps (evaluate (tree.Binary o a b) (types_in v) call s)) (sym (is_disjunction op is))
         (used_comes (Puts k κ v.locals l) (is_plain a) (plain g v a) (put_expr g v k a) k f κ v.locals l s (evaluate a (types_in v) call s) go h
@@ -351,7 +352,7 @@ module _ (effect : ℕ → Question → Effect) (g : Layout) where
       puts (Cast t e) v k κ l s known le lt h = puts e v k κ l s known le lt h
       puts (tree.Binary op a b) v k κ l s known le lt h = connected_comes (kind op) (is_plain a && is_plain b) op a b v k κ l s refl refl (puts a) (puts b) known le lt h
       puts (Conditional c a b) v k κ l s known le lt h =
-          used_comes (Puts k κ v.locals l) (is_plain c) (plain g v c) (put_expr g v k c) k (λ x. If x (put_expr g v k a) (put_expr g v k b)) κ v.locals l s (evaluate c (types_in v) call s) (λ w t. choose w (evaluate a (types_in v) call) (evaluate b (types_in v) call) t) h
+          used_comes (Puts k κ v.locals l) (is_plain c) (plain g v c) (put_expr g v k c) k (λ x. branch x (put_expr g v k a) (put_expr g v k b)) κ v.locals l s (evaluate c (types_in v) call s) (λ w t. choose w (evaluate a (types_in v) call) (evaluate b (types_in v) call) t) h
           (λ p. plain_is g call c v l s p known.0 h) (λ μ. puts c v k μ l s known.0 le lt h)
           (λ y m u w less fits same is. puts_from k κ v.locals l m _ u.steps (choose w (evaluate a (types_in v) call) (evaluate b (types_in v) call) u) same
           (choice_comes (Puts k κ v.locals m) y (put_expr g v k a) (put_expr g v k b) κ m u w (evaluate a (types_in v) call) (evaluate b (types_in v) call) is

@@ -10,9 +10,9 @@ use Rattle.cc_typing.specs.Operators.{working_type}
 use Rattle.cc_typing.specs.Types.{value_type}
 use Rattle.cc_resolve.specs.Layout.{Layout, callee}
 use Rattle.cc_resolve.specs.Environment.{Environment, types_in}
-use Rattle.cc_cminor.specs.Cminor.{Expression, Local, Load, Statement, Set, Sequence, If}
+use Rattle.cc_cminor.specs.Cminor.{Expression, Local, Load, Statement, Set, Sequence}
 use Rattle.cc_cminor.specs.Code.{in_sequence}
-use Rattle.cc_cminor.specs.internal.Lowering.{object_of, width_of, binary_of, unary_of, Kind, Conjunction, Disjunction, Strict, kind, is_strict, is_plain, are_plain, plain, all_plain, used, called_on, count, locals_from, invoked, connected, put_expr, put_all, using, using_or}
+use Rattle.cc_cminor.specs.internal.Lowering.{branch, object_of, width_of, binary_of, unary_of, Kind, Conjunction, Disjunction, Strict, kind, is_strict, is_plain, are_plain, plain, all_plain, used, called_on, count, locals_from, invoked, connected, put_expr, put_all, using, using_or}
 use Rattle.cc_cminor.specs.internal.Taken.{Taken, taken_as, taken, taken_or, waiting, behind_code, put_in, right_from, joined, conditionally}
 
 and_plain : (d : Kind) (p q : Bool) (op : BinaryOperator) (t : Scalar) (a b : Expression) (l r h : Statement) (k : ℕ)
@@ -86,7 +86,7 @@ module _ (g : Layout) (v : Environment) where
   conditional-is k c a b =
       ap (λ s. conditionally k (taken g v k c).before (taken g v k c).value s (put_in k (taken g v k b).before (taken g v k b).value)) (put-is k a)
       ∙ ap (λ s. conditionally k (taken g v k c).before (taken g v k c).value (put_expr g v k a) s) (put-is k b)
-      ∙ ap (waiting k) (using-is k c (λ x. If x (put_expr g v k a) (put_expr g v k b)))
+      ∙ ap (waiting k) (using-is k c (λ x. branch x (put_expr g v k a) (put_expr g v k b)))
 
   pub binary-value : (k n : ℕ) (op : BinaryOperator) (t u : Scalar) (a b : Expr) (x y : Taken) → x ≡ taken g v k a → n ≡ right_from (kind op) k → y ≡ taken g v n b
       → t ≡ value_type (types_in v) a → u ≡ value_type (types_in v) b → joined (kind op) op (working_type op t u) k x.before x.value y.before y.value ≡ taken g v k (tree.Binary op a b)

@@ -1,5 +1,5 @@
 -- Variables and objects by number, and expressions that are one expression of Cminor.
-use Rattle.std.proofs.Common.{◌≡◌, ℕ, suc, ◌<◌, ◌≤◌, ◌==◌, ◌&&◌, ◌||◌, not, Bool, true, false, if◌then◌else◌, List, [], ◌∷◌, length, map, Option, Some, None, option_map, unwrap_or, get_or, set, slice_get, slice_set, refl, sym, ap, ◌∙◌, subst, arith}
+use Rattle.std.proofs.Common.{◌≡◌, ℕ, suc, ◌<◌, ◌≤◌, ◌==◌, ◌&&◌, ◌||◌, not, Bool, true, false, if◌then◌else◌, List, [], ◌∷◌, length, map, Option, Some, None, option_map, unwrap_or, get_or, set, slice_get, slice_set, int_lt, int_le, nat_lt, nat_le, refl, sym, ap, ◌∙◌, subst, arith}
 use Rattle.std.proofs.lemmas.Bool.{eq-eqb, ne_eqb, lt-ltb}
 use Rattle.std.proofs.lemmas.Option.{slice_get-get_or}
 use Rattle.std.proofs.lemmas.Cmp.{nat_list_eq_equiv}
@@ -13,7 +13,12 @@ use Rattle.cc_meaning.specs.declared.outcome.Cause.TheVariants.{Index}
 use Rattle.cc_typing.specs.Names.{same_name}
 use Rattle.cc_typing.specs.Operators.{unary_word, binary_word, decided, is_true, working_type}
 use Rattle.cc_typing.specs.Types.{value_type}
-use Rattle.cc_words.specs.Words.{truth_value, is_zero}
+use Rattle.cc_words.specs.Words.{signed_value, truth_value, is_zero}
+use Rattle.cc_words.specs.Operators.{apply_unary, apply_binary}
+use Rattle.cc_words.specs.declared.operators.Unary as unary
+use Rattle.cc_words.specs.declared.operators.Unary.TheVariants as one
+use Rattle.cc_words.specs.declared.operators.Binary as binary
+use Rattle.cc_words.specs.declared.operators.Binary.TheVariants as two
 use Rattle.cc_syntax.specs.Tree as tree
 use Rattle.cc_syntax.specs.Tree.{Name, Expr, Exprs, none, more, Number, Variable, Element, Parenthesised, Cast, Conditional}
 use Rattle.cc_meaning.specs.Meaning as meaning
@@ -28,7 +33,7 @@ use Rattle.cc_words.specs.declared.operators.Width.{Width}
 use Rattle.cc_words.specs.declared.operators.Width.TheVariants.{Byte, Word}
 use Rattle.cc_words.specs.Widths.{same_width, kept}
 use Rattle.cc_cminor.specs.Cminor.{Expression, Constant, Local, Unary, Binary, Load, then_value, value, values, put}
-use Rattle.cc_cminor.specs.internal.Lowering.{object_of, width_of, read_of, variable_of, unary_of, binary_of, Kind, Strict, Conjunction, Disjunction, kind, is_strict, is_plain, are_plain, plain, all_plain}
+use Rattle.cc_cminor.specs.internal.Lowering.{object_of, width_of, read_of, variable_of, unary_of, binary_of, is_zero_test, is_comparison, is_truth, truth_of, Kind, Strict, Conjunction, Disjunction, kind, is_strict, is_plain, are_plain, plain, all_plain}
 use Rattle.cc_cminor.proofs.Known.{IsObject, IsPlaced, IsVariable, Known, AllKnown}
 use Rattle.cc_cminor.proofs.Paths.{world_at}
 
@@ -253,8 +258,49 @@ truth_by : (b : Bool) → truth_value (truth_value b == 0) ≡ truth_value (not 
 truth_by true = refl
 truth_by false = refl
 
-pub truth_twice : (a : ℕ) → is_zero (is_zero a) ≡ truth_value (is_true a)
+truth_twice : (a : ℕ) → is_zero (is_zero a) ≡ truth_value (is_true a)
 truth_twice a = truth_by (a == 0)
+
+-- 0 and 1 are their own truth
+truth_same : (b : Bool) → truth_value b ≡ truth_value (is_true (truth_value b))
+truth_same true = refl
+truth_same false = refl
+
+kept_truth : (b : Bool) (w : ℕ) → Some (truth_value b) ≡ Some w → Some w ≡ Some (truth_value (is_true w))
+kept_truth b w is = let e : truth_value b ≡ w = cc in subst (λ x. Some x ≡ Some (truth_value (is_true x))) e (ap (λ x. Some x) (truth_same b))
+
+test_kept : (op : unary.Unary) (o : Option ℕ) (w : ℕ) → is_zero_test op ≡ true → then_value o (λ a. Some (apply_unary op a)) ≡ Some w → Some w ≡ Some (truth_value (is_true w))
+test_kept one.IsZero None w t is = absurd (cc)
+test_kept one.IsZero (Some a) w t is = kept_truth (a == 0) w is
+test_kept op o w t is = absurd (cc)
+
+comparison_kept : (op : binary.Binary) (a b w : ℕ) → is_comparison op ≡ true → apply_binary op a b ≡ Some w → Some w ≡ Some (truth_value (is_true w))
+comparison_kept two.Eq a b w t is = kept_truth (a == b) w is
+comparison_kept two.Ne a b w t is = kept_truth (not (a == b)) w is
+comparison_kept two.LtS a b w t is = kept_truth (int_lt (signed_value a) (signed_value b)) w is
+comparison_kept two.LtU a b w t is = kept_truth (nat_lt a b) w is
+comparison_kept two.LeS a b w t is = kept_truth (int_le (signed_value a) (signed_value b)) w is
+comparison_kept two.LeU a b w t is = kept_truth (nat_le a b) w is
+comparison_kept op a b w t is = absurd (cc)
+
+operands_kept : (op : binary.Binary) (o p : Option ℕ) (w : ℕ) → is_comparison op ≡ true → then_value o (λ a. then_value p (λ b. apply_binary op a b)) ≡ Some w → Some w ≡ Some (truth_value (is_true w))
+operands_kept op None p w t is = absurd (cc)
+operands_kept op (Some a) None w t is = absurd (cc)
+operands_kept op (Some a) (Some b) w t is = comparison_kept op a b w t is
+
+truth_kept : (e : Expression) (l : ℕ → ℕ) (h : World) (w : ℕ) → is_truth e ≡ true → value e l h ≡ Some w → Some w ≡ Some (truth_value (is_true w))
+truth_kept (Unary op e) l h w t is = test_kept op (value e l h) w t is
+truth_kept (Binary op a b) l h w t is = operands_kept op (value a l h) (value b l h) w t is
+truth_kept (Constant n) l h w t is = absurd (cc)
+truth_kept (Local x) l h w t is = absurd (cc)
+truth_kept (Load width o e) l h w t is = absurd (cc)
+
+pub truth_is : (e : Expression) (l : ℕ → ℕ) (h : World) (w : ℕ) → value e l h ≡ Some w → value (truth_of e) l h ≡ Some (truth_value (is_true w))
+truth_is e l h w is = by (is_truth e) refl
+  where
+    by : (b : Bool) → is_truth e ≡ b → value (if b then e else Unary one.IsZero (Unary one.IsZero e)) l h ≡ Some (truth_value (is_true w))
+    by true t = is ∙ truth_kept e l h w t is
+    by false t = ap (λ o. then_value (then_value o (λ a. Some (is_zero a))) (λ a. Some (is_zero a))) is ∙ ap (λ x. Some x) (truth_twice w)
 
 pub binary_value : (op : BinaryOperator) (t : Scalar) (a b : Expression) (l : ℕ → ℕ) (h : World) → kind op ≡ Strict
     → value (binary_of op t a b) l h ≡ then_value (value a l h) (λ x. then_value (value b l h) (λ y. binary_word op t x y))

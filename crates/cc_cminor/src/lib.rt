@@ -11,6 +11,7 @@ mod access;
 mod actions;
 mod boxes;
 mod code;
+mod conditions;
 mod display;
 mod expressions;
 mod fault;

@@ -4,7 +4,7 @@ ghost use Rattle.std.specs.Prelude.{◌≡◌, IfOk};
 ghost use Rattle.cc_cminor.specs.Cminor as cminor;
 ghost use Rattle.cc_cminor.specs.Code.{expression_of};
 ghost use Rattle.cc_cminor.specs.internal.Taken.{in_order};
-ghost use Rattle.cc_cminor.specs.internal.Lowering.{single_of, unary_of, operation_of, binary_of, truth_of};
+ghost use Rattle.cc_cminor.specs.internal.Lowering.{single_of, unary_of, operation_of, binary_of, is_comparison, is_truth, truth_of};
 
 use super::boxes::boxed_expression;
 use super::code::Expression;
@@ -40,10 +40,34 @@ pub fn unary(
     }
 }
 
-/// 1 where the value is not 0, else 0.
+// Whether an operator gives 0 or 1.
+fn is_comparison(operator: Binary) -> bool
+    ensures { result ≡ is_comparison operator }
+{
+    matches!(
+        operator,
+        Binary::Eq | Binary::Ne | Binary::LtS | Binary::LtU | Binary::LeS | Binary::LeU
+    )
+}
+
+// Whether the value of an expression is 0 or 1, by its form.
+fn is_truth(expression: &Expression) -> bool
+    ensures { result ≡ is_truth (expression_of expression.now) }
+{
+    match expression {
+        Expression::Unary(operator, _) => matches!(operator, Unary::IsZero),
+        Expression::Binary(operator, _, _) => is_comparison(*operator),
+        Expression::Constant(_) | Expression::Local(_) | Expression::Load(_, _, _) => false,
+    }
+}
+
+/// 1 where the value is not 0, else 0: itself where it is one of them already.
 pub fn truth(alloc: Global, operand: Box<Expression>) -> Result<Box<Expression>, AllocError>
     ensures { IfOk result (λ e. expression_of e.value ≡ truth_of (expression_of operand.value)) }
 {
+    if is_truth(&operand) {
+        return Ok(operand);
+    }
     let zero = boxed_expression(alloc, Expression::Unary(Unary::IsZero, operand))?;
     boxed_expression(alloc, Expression::Unary(Unary::IsZero, zero))
 }

@@ -11,7 +11,7 @@ ghost use Rattle.cc_resolve.specs.Environment.{inner, behind, behind_beginning, 
 ghost use Rattle.cc_cminor.specs.Cminor as cminor;
 ghost use Rattle.cc_cminor.specs.internal.Statements as codes;
 ghost use Rattle.cc_cminor.specs.Code.{expression_of, statement_of, in_sequence};
-ghost use Rattle.cc_cminor.specs.internal.Lowering.{initialised, declarator_code, declared_code, started, leaving, lowered, all_lowered, behind_all, body_code};
+ghost use Rattle.cc_cminor.specs.internal.Lowering.{branch, initialised, declarator_code, declared_code, started, leaving, lowered, all_lowered, behind_all, body_code};
 ghost use Rattle.cc_cminor.specs.internal.Taken.{code_before, behind_code};
 
 use super::actions::optional_action;
@@ -144,7 +144,7 @@ fn give_back(alloc: Global, given: Taken) -> Result<Box<Statement>, AllocError>
 
 // What is done where a value is not 0.
 fn held(alloc: Global, test: Taken, held: Box<Statement>) -> Result<Box<Statement>, AllocError>
-    ensures { IfOk result (λ s. statement_of s.value ≡ behind_code (code_before test.before) (cminor.If (expression_of test.expression.value) (statement_of held.value) cminor.Skip)) }
+    ensures { IfOk result (λ s. statement_of s.value ≡ behind_code (code_before test.before) (branch (expression_of test.expression.value) (statement_of held.value) cminor.Skip)) }
 {
     let skip = boxed_statement(alloc, Statement::Skip)?;
     choice(alloc, test, held, skip)
@@ -166,7 +166,7 @@ fn test_first(
     following: Box<Statement>,
 ) -> Result<Box<Statement>, AllocError>
     ensures { IfOk result (λ s. statement_of s.value ≡ cminor.Block (cminor.Loop (behind_code (code_before test.before)
-        (cminor.If (expression_of test.expression.value) (cminor.Sequence (cminor.Block (statement_of body.value)) (statement_of following.value)) (cminor.Exit 0))))) }
+        (branch (expression_of test.expression.value) (cminor.Sequence (cminor.Block (statement_of body.value)) (statement_of following.value)) (cminor.Exit 0))))) }
 {
     let body = boxed_statement(alloc, Statement::Block(body))?;
     let held = both(alloc, body, following)?;
@@ -178,7 +178,7 @@ fn test_first(
 // A loop with its condition last.
 fn test_last(alloc: Global, body: Box<Statement>, test: Taken) -> Result<Box<Statement>, AllocError>
     ensures { IfOk result (λ s. statement_of s.value ≡ cminor.Block (cminor.Loop (cminor.Sequence (cminor.Block (statement_of body.value))
-        (behind_code (code_before test.before) (cminor.If (expression_of test.expression.value) cminor.Skip (cminor.Exit 0)))))) }
+        (behind_code (code_before test.before) (branch (expression_of test.expression.value) cminor.Skip (cminor.Exit 0)))))) }
 {
     let body = boxed_statement(alloc, Statement::Block(body))?;
     let skip = boxed_statement(alloc, Statement::Skip)?;

@@ -9,11 +9,12 @@ ghost use Rattle.std.specs.Prelude.{◌≡◌, false, IfOk};
 ghost use Rattle.cc_typing.specs.Operators.{binary_type, common_type, unary_type, working_type};
 ghost use Rattle.cc_cminor.specs.Cminor as cminor;
 ghost use Rattle.cc_cminor.specs.Code.{expression_of, statement_of};
-ghost use Rattle.cc_cminor.specs.internal.Lowering.{is_strict, kind, unary_of};
+ghost use Rattle.cc_cminor.specs.internal.Lowering.{is_strict, kind, unary_of, branch};
 ghost use Rattle.cc_cminor.specs.internal.Taken.{code_before, taken_of, at_once, waiting, behind_code, kept, put_in, strictly, decided, logically, right_from, joined, conditionally};
 
-use super::boxes::{above, both, boxed_statement, constant, local, set};
+use super::boxes::{above, both, constant, local, set};
 use super::code::{Expression, Statement};
+use super::conditions::branch;
 use super::operators::{binary, truth, unary};
 use cc_syntax::{BinaryOperator, Scalar, UnaryOperator};
 use cc_typing::{binary_type, common_type, unary_type, working_type};
@@ -209,11 +210,11 @@ fn decide(
     if matches!(operator, BinaryOperator::LogicalAnd) {
         let zero = constant(alloc, 0)?;
         let decided = set(alloc, k, zero)?;
-        boxed_statement(alloc, Statement::If(left, second, decided))
+        branch(alloc, left, second, decided)
     } else {
         let one = constant(alloc, 1)?;
         let decided = set(alloc, k, one)?;
-        boxed_statement(alloc, Statement::If(left, decided, second))
+        branch(alloc, left, decided, second)
     }
 }
 
@@ -287,14 +288,14 @@ pub fn choice(
     otherwise: Box<Statement>,
 ) -> Result<Box<Statement>, AllocError>
     ensures { IfOk result (λ s. statement_of s.value
-        ≡ behind_code (code_before test.before) (cminor.If (expression_of test.expression.value) (statement_of nonzero.value) (statement_of otherwise.value))) }
+        ≡ behind_code (code_before test.before) (branch (expression_of test.expression.value) (statement_of nonzero.value) (statement_of otherwise.value))) }
 {
     let Taken {
         scalar: _,
         before,
         expression,
     } = test;
-    let statement = boxed_statement(alloc, Statement::If(expression, nonzero, otherwise))?;
+    let statement = branch(alloc, expression, nonzero, otherwise)?;
     behind(alloc, before, statement)
 }
 

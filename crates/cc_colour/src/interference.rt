@@ -86,7 +86,7 @@ impl Graph {
         Ok(graph)
     }
 
-    // That of so many webs of which nothing is known.
+    // That of this many webs of which nothing is known.
     fn empty(alloc: Global, count: u32) -> Result<Graph, AllocError> {
         let mut graph = Graph {
             edges: Matrix::new(alloc, count)?,

@@ -10,7 +10,7 @@ pub struct Points {
 }
 
 impl Points {
-    /// Those of so many nodes.
+    /// Those of this many nodes.
     pub fn of(alloc: Global, nodes: usize, live: Live<'_>) -> Result<Points, AllocError> {
         let mut firsts = Vec::new(alloc);
         let mut count = 0usize;

@@ -19,7 +19,7 @@ const QUIET: &str = "quiet";
 
 const WORD_RULE: &str =
     "WORD is a decimal number from 0 to 4294967295; a negative number is written as its value modulo 4294967296, \
-    as 4294967295 for -1";
+    for example 4294967295 for -1";
 
 // What a person reads below the list of commands.
 const WHOLE_HELP: &str = "\
@@ -47,7 +47,7 @@ pub enum Work {
     /// A task for the text on standard input.
     One(Task),
     /// The script on standard input, over the library in the file `disk`, which is made anew with two areas of `area` bytes where that is
-    /// given, by so many workers.
+    /// given, by this many workers.
     Library {
         disk: String,
         area: Option<u32>,
@@ -60,9 +60,9 @@ pub enum Work {
 pub enum Task {
     /// Say whether the text is a program of the profile.
     Check,
-    /// Run the program for at most so many steps on these input words.
+    /// Run the program for at most this many steps on these input words.
     Interpret(u64, Vec<u32>),
-    /// Compile the program and run its image for at most so many instructions on these input words.
+    /// Compile the program and run its image for at most this many instructions on these input words.
     Run(u64, Vec<u32>),
     /// Compile the program and list its image.
     Asm,

@@ -30,12 +30,12 @@ use Rattle.cc_core.proofs.Lists.{slice_get-push}
 -- ---- the header
 
 -- the bytes that were read first tell the size of an area and the area byte
-pub header_read : (image : List ℕ) (area : ℕ) (bodies : List (List ℕ)) (h : HoldsRecords image area bodies) (front : List ℕ) → front ≡ take 16 (drop 0 image)
-    → (area ≡ from_le_bytes w32 (get_or front 8 0 ∷ get_or front 9 0 ∷ get_or front 10 0 ∷ get_or front 11 0 ∷ [])) × (h.area_byte ≡ get_or front 0 0)
-header_read image area bodies h front read =
+pub header_read : (image : List ℕ) (area : ℕ) (bodies : List (List ℕ)) (h : HoldsRecords image area bodies) (prefix : List ℕ) → prefix ≡ take 16 (drop 0 image)
+    → (area ≡ from_le_bytes w32 (get_or prefix 8 0 ∷ get_or prefix 9 0 ∷ get_or prefix 10 0 ∷ get_or prefix 11 0 ∷ [])) × (h.area_byte ≡ get_or prefix 0 0)
+header_read image area bodies h prefix read =
     let rest = h.other ++ (records bodies ++ h.gate ∷ h.behind) in
-    let is : front ≡ header h.area_byte area = read ∙ ap (λ (l : List ℕ). take 16 l) h.bytes ∙ take_at (header h.area_byte area) rest 16 refl in
-    (sym (header_area front h.area_byte area is (omega (arith, h.is_area.most))), sym (ap (λ (l : List ℕ). get_or l 0 0) is))
+    let is : prefix ≡ header h.area_byte area = read ∙ ap (λ (l : List ℕ). take 16 l) h.bytes ∙ take_at (header h.area_byte area) rest 16 refl in
+    (sym (header_area prefix h.area_byte area is (omega (arith, h.is_area.most))), sym (ap (λ (l : List ℕ). get_or l 0 0) is))
 
 -- the same records, in areas of an equal size
 pub holds_at : (image other : List ℕ) (area size : ℕ) (bodies : List (List ℕ)) (h : HoldsRecords image area bodies) → image ≡ other → area ≡ size

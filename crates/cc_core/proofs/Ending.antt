@@ -35,11 +35,11 @@ use Rattle.cc_core.proofs.Rewrites.{InRewrite, rewrite_images, all_synced, byte_
 
 -- the records stand for the order without its last command, which was not acknowledged
 pub record LacksLast (bodies : List (List ℕ)) (order acknowledged : List Numbered) : Type 0 where
-  pub front : List Numbered
+  pub prefix : List Numbered
   pub last : Numbered
-  pub is : order ≡ front ++ last ∷ []
-  pub acked : All (Contains front) acknowledged
-  pub stand : StandFor bodies (library_of (commands front))
+  pub is : order ≡ prefix ++ last ∷ []
+  pub acked : All (Contains prefix) acknowledged
+  pub stand : StandFor bodies (library_of (commands prefix))
 
 -- the image holds records that stand for the order, or for the order without its last command
 pub record Ends (area : ℕ) (order acknowledged : List Numbered) (image : List ℕ) : Type 0 where
@@ -56,11 +56,11 @@ pub record HoldsOrder (store : StoreState) (order : List Numbered) : Type 0 wher
 -- in a commit: the disk is where the due step says, and held the order without the last command
 pub record HoldsFlight (numbered : Numbered) (due : Due) (store : StoreState) (order acknowledged : List Numbered) : Type 0 where
   pub bodies : List (List ℕ)
-  pub front : List Numbered
-  pub is : order ≡ front ++ numbered ∷ []
-  pub acked : All (Contains front) acknowledged
-  pub taken : IsOk (apply (library_of (commands front)) numbered.command)
-  pub stand : StandFor bodies (library_of (commands front))
+  pub prefix : List Numbered
+  pub is : order ≡ prefix ++ numbered ∷ []
+  pub acked : All (Contains prefix) acknowledged
+  pub taken : IsOk (apply (library_of (commands prefix)) numbered.command)
+  pub stand : StandFor bodies (library_of (commands prefix))
   pub spelled : IsCommand numbered.command
   pub room : HasRoom due store numbered.command
   pub on_disk : InCommit due store bodies (body_of numbered.command)
@@ -92,20 +92,20 @@ IsKept (Failed failed) store order acknowledged = HoldsEnds store order acknowle
 IsKept Crashed store order acknowledged = HoldsCrash store order acknowledged
 
 -- one record more stands for one command more
-pub stand_more : (bodies : List (List ℕ)) (front : List Numbered) (numbered : Numbered) (order : List Numbered) → order ≡ front ++ numbered ∷ [] → StandFor bodies (library_of (commands front)) → IsCommand numbered.command
-    → IsOk (apply (library_of (commands front)) numbered.command) → StandFor (bodies ++ body_of numbered.command ∷ []) (library_of (commands order))
-stand_more bodies front numbered order is stand spelled taken =
-    subst (StandFor (bodies ++ body_of numbered.command ∷ [])) (sym (ap (λ (l : List Numbered). library_of (commands l)) is ∙ library-push front numbered))
-    (one_more bodies (library_of (commands front)) (body_of numbered.command) numbered.command stand (written numbered.command spelled) taken)
+pub stand_more : (bodies : List (List ℕ)) (prefix : List Numbered) (numbered : Numbered) (order : List Numbered) → order ≡ prefix ++ numbered ∷ [] → StandFor bodies (library_of (commands prefix)) → IsCommand numbered.command
+    → IsOk (apply (library_of (commands prefix)) numbered.command) → StandFor (bodies ++ body_of numbered.command ∷ []) (library_of (commands order))
+stand_more bodies prefix numbered order is stand spelled taken =
+    subst (StandFor (bodies ++ body_of numbered.command ∷ [])) (sym (ap (λ (l : List Numbered). library_of (commands l)) is ∙ library-push prefix numbered))
+    (one_more bodies (library_of (commands prefix)) (body_of numbered.command) numbered.command stand (written numbered.command spelled) taken)
 
 -- what an image with the old records, or with one more, comes to
-pub ends_of : (numbered : Numbered) (store : StoreState) (order acknowledged : List Numbered) (bodies : List (List ℕ)) (front : List Numbered) → order ≡ front ++ numbered ∷ [] → All (Contains front) acknowledged
-    → IsOk (apply (library_of (commands front)) numbered.command) → StandFor bodies (library_of (commands front)) → IsCommand numbered.command
+pub ends_of : (numbered : Numbered) (store : StoreState) (order acknowledged : List Numbered) (bodies : List (List ℕ)) (prefix : List Numbered) → order ≡ prefix ++ numbered ∷ [] → All (Contains prefix) acknowledged
+    → IsOk (apply (library_of (commands prefix)) numbered.command) → StandFor bodies (library_of (commands prefix)) → IsCommand numbered.command
     → (image : List ℕ) → HoldsInOneOf store.area_byte store.area bodies (body_of numbered.command) image → Ends store.area order acknowledged image
-ends_of numbered store order acknowledged bodies front is acked taken stand spelled image (inl old) =
-    record { bodies = bodies; held = old.holds; known = inr (record { front = front; last = numbered; is = is; acked = acked; stand = stand }) }
-ends_of numbered store order acknowledged bodies front is acked taken stand spelled image (inr new) =
-    record { bodies = bodies ++ body_of numbered.command ∷ []; held = new.holds; known = inl (stand_more bodies front numbered order is stand spelled taken) }
+ends_of numbered store order acknowledged bodies prefix is acked taken stand spelled image (inl old) =
+    record { bodies = bodies; held = old.holds; known = inr (record { prefix = prefix; last = numbered; is = is; acked = acked; stand = stand }) }
+ends_of numbered store order acknowledged bodies prefix is acked taken stand spelled image (inr new) =
+    record { bodies = bodies ++ body_of numbered.command ∷ []; held = new.holds; known = inl (stand_more bodies prefix numbered order is stand spelled taken) }
 
 -- what an image with the old records or with the new ones of a rewrite comes to
 pub ends_either : (area : ℕ) (order acknowledged : List Numbered) (bodies more : List (List ℕ)) → StandFor bodies (library_of (commands order)) → StandFor more (library_of (commands order))
@@ -117,7 +117,7 @@ ends_either area order acknowledged bodies more stand stand_anew image (inr new)
 pub each_ends : (phase : Phase) (store : StoreState) (order acknowledged : List Numbered) → IsKept phase store order acknowledged → (image : List ℕ) → IsImage store.cells image → Ends store.area order acknowledged image
 each_ends Idle store order acknowledged k image now = record { bodies = k.bodies; held = (k.rest.images image now).holds; known = inl k.stand }
 each_ends (Committing client numbered due) store order acknowledged k image now =
-    ends_of numbered store order acknowledged k.bodies k.front k.is k.acked k.taken k.stand k.spelled image (commit_images due store k.bodies (body_of numbered.command) k.on_disk image now)
+    ends_of numbered store order acknowledged k.bodies k.prefix k.is k.acked k.taken k.stand k.spelled image (commit_images due store k.bodies (body_of numbered.command) k.on_disk image now)
 each_ends (Rewriting commit due) store order acknowledged k image now =
     ends_either store.area order acknowledged k.bodies k.more k.stand k.stand_anew image (rewrite_images due store k.bodies k.more k.room k.on_disk image now)
 each_ends (Failed failed) store order acknowledged k image now = k image now
@@ -164,24 +164,24 @@ ends_survives area order acknowledged image acked e = at e.known
       recovers = holds_recovers image area e.bodies (library_of (commands order)) (holds_alone image area e.bodies e.held) stand;
     }
     at (inr lacks) = record {
-      kept = lacks.front;
+      kept = lacks.prefix;
       lost = lacks.last ∷ [];
       in_order = lacks.is;
       few = omega arith;
       acked = lacks.acked;
-      recovers = holds_recovers image area e.bodies (library_of (commands lacks.front)) (holds_alone image area e.bodies e.held) lacks.stand;
+      recovers = holds_recovers image area e.bodies (library_of (commands lacks.prefix)) (holds_alone image area e.bodies e.held) lacks.stand;
     }
 
 -- so what it recovers to is right, where the order's library is, and that of the order without its last command
 pub ends_right : (is_right : StoredUnit → Type 0) (area : ℕ) (order acknowledged : List Numbered) (image : List ℕ) → Ends area order acknowledged image → EachUnit is_right (library_of (commands order))
-    → ((front : List Numbered) (last : Numbered) → order ≡ front ++ last ∷ [] → EachUnit is_right (library_of (commands front))) → (library : Units) → Recovers image library → EachUnit is_right library
+    → ((prefix : List Numbered) (last : Numbered) → order ≡ prefix ++ last ∷ [] → EachUnit is_right (library_of (commands prefix))) → (library : Units) → Recovers image library → EachUnit is_right library
 ends_right is_right area order acknowledged image e whole before library recovered = at e.known
   where
     at : StandFor e.bodies (library_of (commands order)) ⊎ LacksLast e.bodies order acknowledged → EachUnit is_right library
     at (inl stand) = subst (EachUnit is_right) (sym ((holds_recovers image area e.bodies (library_of (commands order)) (holds_alone image area e.bodies e.held) stand).alone library recovered)) whole
     at (inr lacks) =
-        subst (EachUnit is_right) (sym ((holds_recovers image area e.bodies (library_of (commands lacks.front)) (holds_alone image area e.bodies e.held) lacks.stand).alone library recovered))
-        (before lacks.front lacks.last lacks.is)
+        subst (EachUnit is_right) (sym ((holds_recovers image area e.bodies (library_of (commands lacks.prefix)) (holds_alone image area e.bodies e.held) lacks.stand).alone library recovered))
+        (before lacks.prefix lacks.last lacks.is)
 
 -- where both records stand for one library, what it recovers to is right
 pub one_right : (is_right : StoredUnit → Type 0) (area : ℕ) (bodies more : List (List ℕ)) (units : Units) → StandFor bodies units → StandFor more units → EachUnit is_right units
@@ -214,20 +214,20 @@ each_right is_right Crashed store order acknowledged w k each image library now 
 pub kept_acked : (bodies : List (List ℕ)) (order acknowledged kept : List Numbered) (library : Units) → All (Contains order) acknowledged → StandFor bodies library
     → StandFor bodies (library_of (commands order)) ⊎ LacksLast bodies order acknowledged → IsLongest library order kept → All (Contains kept) acknowledged
 kept_acked bodies order acknowledged kept library acked stand known longest =
-    subst (λ (l : List Numbered). All (Contains l) acknowledged) (sym longest.front) (at known (cases_eq longest.count (length order)))
+    subst (λ (l : List Numbered). All (Contains l) acknowledged) (sym longest.prefix) (at known (cases_eq longest.count (length order)))
   where
-    -- a front that leads to this library is no longer than what is kept
-    no_more : (n : ℕ) (front : List Numbered) → n ≤ length order → take n order ≡ front → StandFor bodies (library_of (commands front)) → longest.count < n → ⊥
-    no_more n front within is front_stand less =
-        longest.longest n less within (ap (λ (l : List Numbered). library_of (commands l)) is ∙ one_map empty bodies (library_of (commands front)) library front_stand stand)
+    -- a prefix that leads to this library is no longer than what is kept
+    no_more : (n : ℕ) (prefix : List Numbered) → n ≤ length order → take n order ≡ prefix → StandFor bodies (library_of (commands prefix)) → longest.count < n → ⊥
+    no_more n prefix within is prefix_stand less =
+        longest.longest n less within (ap (λ (l : List Numbered). library_of (commands l)) is ∙ one_map empty bodies (library_of (commands prefix)) library prefix_stand stand)
 
     at : StandFor bodies (library_of (commands order)) ⊎ LacksLast bodies order acknowledged → (longest.count ≡ length order) ⊎ (longest.count ≢ length order) → All (Contains (take longest.count order)) acknowledged
     at known (inl same) = subst (λ (l : List Numbered). All (Contains l) acknowledged) (sym (take_all longest.count order (omega arith))) acked
     at (inl whole) (inr differs) = absurd (no_more (length order) order (omega arith) (take_all (length order) order (omega arith)) whole (omega (arith, longest.within, differs)))
     at (inr lacks) (inr differs) =
-        let long : length order ≡ length lacks.front + 1 = ap length lacks.is ∙ length-append lacks.front (lacks.last ∷ []) in
-        let front_is : take (length lacks.front) order ≡ lacks.front =
-        ap (λ (l : List Numbered). take (length lacks.front) l) lacks.is ∙ take_at lacks.front (lacks.last ∷ []) (length lacks.front) refl in
-        let not_less : longest.count < length lacks.front → ⊥ = no_more (length lacks.front) lacks.front (omega arith) front_is lacks.stand in
-        let count_is : longest.count ≡ length lacks.front = omega (arith, not_less, differs, longest.within) in
-        subst (λ (l : List Numbered). All (Contains l) acknowledged) (sym (ap (λ (n : ℕ). take n order) count_is ∙ front_is)) lacks.acked
+        let long : length order ≡ length lacks.prefix + 1 = ap length lacks.is ∙ length-append lacks.prefix (lacks.last ∷ []) in
+        let prefix_is : take (length lacks.prefix) order ≡ lacks.prefix =
+        ap (λ (l : List Numbered). take (length lacks.prefix) l) lacks.is ∙ take_at lacks.prefix (lacks.last ∷ []) (length lacks.prefix) refl in
+        let not_less : longest.count < length lacks.prefix → ⊥ = no_more (length lacks.prefix) lacks.prefix (omega arith) prefix_is lacks.stand in
+        let count_is : longest.count ≡ length lacks.prefix = omega (arith, not_less, differs, longest.within) in
+        subst (λ (l : List Numbered). All (Contains l) acknowledged) (sym (ap (λ (n : ℕ). take n order) count_is ∙ prefix_is)) lacks.acked

@@ -56,9 +56,9 @@ begins_behind b byte area n same is = ap (λ (k : ℕ). 16 + k) (ap (λ (k : ℕ
 pub byte_of : (byte area : ℕ) (bodies : List (List ℕ)) (image : List ℕ) (a : HoldsIn byte area bodies image) → a.holds.area_byte ≡ byte
 byte_of byte area bodies image a =
     let h = a.holds in
-    let front : header h.area_byte area ≡ header byte area =
+    let prefix : header h.area_byte area ≡ header byte area =
     sym (take_at (header h.area_byte area) (h.other ++ (records bodies ++ h.gate ∷ h.behind)) 16 refl) ∙ sym (ap (λ (l : List ℕ). take 16 l) h.bytes) ∙ a.header_is in
-    first_of-header h.area_byte byte area front
+    first_of-header h.area_byte byte area prefix
 
 -- the records of an image stand in the area that its header names
 pub holds_in : (area : ℕ) (bodies : List (List ℕ)) (image : List ℕ) (h : HoldsRecords image area bodies) → HoldsIn h.area_byte area bodies image
@@ -72,13 +72,13 @@ holds_from byte area bodies image a =
     record { holds = a.holds; begins = begins_behind a.holds.area_byte byte area (length a.holds.other) (byte_of byte area bodies image a) a.holds.offset }
 
 -- the bytes in front of a range that differs
-same_header : (place n : ℕ) (old new : List ℕ) (front : List ℕ) → 16 ≤ place → DiffersWithin place n old new → take 16 old ≡ front → take 16 new ≡ front
-same_header place n old new front le differs is =
+same_header : (place n : ℕ) (old new : List ℕ) (prefix : List ℕ) → 16 ≤ place → DiffersWithin place n old new → take 16 old ≡ prefix → take 16 new ≡ prefix
+same_header place n old new prefix le differs is =
     sym (take-take 16 place new le) ∙ ap (λ (l : List ℕ). take 16 l) differs.before ∙ take-take 16 place old le ∙ is
 
 -- the bytes in front of a range that was written
-pub written_header : (place : ℕ) (bytes old new front : List ℕ) → 16 ≤ place → place ≤ length old → IsWritten old place bytes new → take 16 old ≡ front → take 16 new ≡ front
-written_header place bytes old new front le within is same =
+pub written_header : (place : ℕ) (bytes old new prefix : List ℕ) → 16 ≤ place → place ≤ length old → IsWritten old place bytes new → take 16 old ≡ prefix → take 16 new ≡ prefix
+written_header place bytes old new prefix le within is same =
     ap (λ (l : List ℕ). take 16 l) is
     ∙ take-append-le 16 (take place old) (bytes ++ drop (place + length bytes) old) (omega (arith, le, length-take-le place old within))
     ∙ take-take 16 place old le ∙ same
@@ -87,12 +87,12 @@ written_header place bytes old new front le within is same =
 pub two_writes : (old : List ℕ) (g x : ℕ) (xs written new : List ℕ) → g + 1 ≤ length old → IsWritten old (g + 1) xs written → IsWritten written g (x ∷ []) new → IsWritten old g (x ∷ xs) new
 two_writes old g x xs written new within first second =
     let rest = drop (g + 1 + length xs) old in
-    let front : take g written ≡ take g old =
+    let prefix : take g written ≡ take g old =
     ap (λ (l : List ℕ). take g l) first ∙ take-append-le g (take (g + 1) old) (xs ++ rest) (omega (arith, length-take-le (g + 1) old within)) ∙ take-take g (g + 1) old (omega arith) in
     let back : drop (g + 1) written ≡ xs ++ rest =
     ap (λ (l : List ℕ). drop (g + 1) l) first ∙ drop_at (take (g + 1) old) (xs ++ rest) (g + 1) (length-take-le (g + 1) old within) in
     let place : g + 1 + length xs ≡ g + length (x ∷ xs) = omega arith in
-    second ∙ ap (λ (l : List ℕ). l ++ x ∷ drop (g + 1) written) front ∙ ap (λ (l : List ℕ). take g old ++ x ∷ l) (back ∙ ap (λ (k : ℕ). xs ++ drop k old) place)
+    second ∙ ap (λ (l : List ℕ). l ++ x ∷ drop (g + 1) written) prefix ∙ ap (λ (l : List ℕ). take g old ++ x ∷ l) (back ∙ ap (λ (k : ℕ). xs ++ drop k old) place)
 
 module _ (byte area used : ℕ) (bodies : List (List ℕ)) (taken : used ≡ length (records bodies)) where
   -- whatever stands behind the closed gate, the old records are held

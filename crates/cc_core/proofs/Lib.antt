@@ -1,3 +1,4 @@
+-- From small to large: lists and orders, what the disk holds through a commit and a rewrite, what each step keeps, whole runs.
 pub mod Walks
 pub mod Jobs
 pub mod Lists

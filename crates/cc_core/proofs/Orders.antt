@@ -1,4 +1,4 @@
--- Orders of commands: one more at the end, the front that a recovery keeps, and what a command leaves in the library.
+-- Orders of commands: one more at the end, the prefix that a recovery keeps, and what a command leaves in the library.
 use Rattle.std.proofs.Common.{◌≡◌, ◌⊎◌, inl, inr, ℕ, ◌+◌, ◌-◌, Bool, true, false, cond, List, [], ◌∷◌, ◌++◌, length, take, Option, Some, None, Result, Ok, Err, refl, sym, ap, subst, ◌∙◌, arith, eqb}
 use Rattle.std.specs.Prelude.{IsOk, is_some, ◌↔◌}
 use Rattle.std.specs.declared.cmp.Ordering.{Ordering}
@@ -19,7 +19,7 @@ use Rattle.cc_library.specs.Apply.{Units, apply, kept, after, after_all, library
 use Rattle.cc_core.specs.declared.command.Numbered.{Numbered}
 use Rattle.cc_core.specs.Step.{commands, IsLongest}
 use Rattle.cc_core.specs.Run.{EachUnit, IsRightCommand, but_last}
-use Rattle.cc_core.specs.internal.Ready.{IsOfOrder, IsInEffect, IsFrontKept}
+use Rattle.cc_core.specs.internal.Ready.{IsOfOrder, IsInEffect, IsPrefixKept}
 use Rattle.cc_core.proofs.Lists.{take-push}
 
 cond_cases : {A : Type 0} (b : Bool) (x y z : A) → cond b x y ≡ z → (x ≡ z) ⊎ (y ≡ z)
@@ -63,11 +63,11 @@ after_all-push : (library : Units) (cs : List Command) (c : Command) → after_a
 after_all-push library [] c = refl
 after_all-push library (d ∷ cs) c = after_all-push (after library d) cs c
 
-commands-push : (front : List Numbered) (last : Numbered) → commands (front ++ last ∷ []) ≡ commands front ++ last.command ∷ []
-commands-push front last = map-append (λ (p : Numbered). p.command) front (last ∷ [])
+commands-push : (prefix : List Numbered) (last : Numbered) → commands (prefix ++ last ∷ []) ≡ commands prefix ++ last.command ∷ []
+commands-push prefix last = map-append (λ (p : Numbered). p.command) prefix (last ∷ [])
 
-pub library-push : (front : List Numbered) (last : Numbered) → library_of (commands (front ++ last ∷ [])) ≡ after (library_of (commands front)) last.command
-library-push front last = ap library_of (commands-push front last) ∙ after_all-push empty (commands front) last.command
+pub library-push : (prefix : List Numbered) (last : Numbered) → library_of (commands (prefix ++ last ∷ [])) ≡ after (library_of (commands prefix)) last.command
+library-push prefix last = ap library_of (commands-push prefix last) ∙ after_all-push empty (commands prefix) last.command
 
 accepted_push : (library : Units) (cs : List Command) (c : Command) → AreAccepted library cs → IsOk (apply (after_all library cs) c) → AreAccepted library (cs ++ c ∷ [])
 accepted_push library [] c all taken = (taken, tt)
@@ -81,17 +81,17 @@ accepted_last : (library : Units) (cs : List Command) (c : Command) → AreAccep
 accepted_last library [] c all = all.0
 accepted_last library (d ∷ cs) c all = accepted_last (after library d) cs c all.1
 
-pub AreAccepted-push : (front : List Numbered) (last : Numbered) → AreAccepted empty (commands front) → IsOk (apply (library_of (commands front)) last.command) → AreAccepted empty (commands (front ++ last ∷ []))
-AreAccepted-push front last all taken = subst (AreAccepted empty) (sym (commands-push front last)) (accepted_push empty (commands front) last.command all taken)
+pub AreAccepted-push : (prefix : List Numbered) (last : Numbered) → AreAccepted empty (commands prefix) → IsOk (apply (library_of (commands prefix)) last.command) → AreAccepted empty (commands (prefix ++ last ∷ []))
+AreAccepted-push prefix last all taken = subst (AreAccepted empty) (sym (commands-push prefix last)) (accepted_push empty (commands prefix) last.command all taken)
 
-pub AreAccepted-before : (front rest : List Numbered) → AreAccepted empty (commands (front ++ rest)) → AreAccepted empty (commands front)
-AreAccepted-before front rest all = accepted_before empty (commands front) (commands rest) (subst (AreAccepted empty) (map-append (λ (p : Numbered). p.command) front rest) all)
+pub AreAccepted-before : (prefix rest : List Numbered) → AreAccepted empty (commands (prefix ++ rest)) → AreAccepted empty (commands prefix)
+AreAccepted-before prefix rest all = accepted_before empty (commands prefix) (commands rest) (subst (AreAccepted empty) (map-append (λ (p : Numbered). p.command) prefix rest) all)
 
-pub AreAccepted-last : (front : List Numbered) (last : Numbered) → AreAccepted empty (commands (front ++ last ∷ [])) → IsOk (apply (library_of (commands front)) last.command)
-AreAccepted-last front last all = accepted_last empty (commands front) last.command (subst (AreAccepted empty) (commands-push front last) all)
+pub AreAccepted-last : (prefix : List Numbered) (last : Numbered) → AreAccepted empty (commands (prefix ++ last ∷ [])) → IsOk (apply (library_of (commands prefix)) last.command)
+AreAccepted-last prefix last all = accepted_last empty (commands prefix) last.command (subst (AreAccepted empty) (commands-push prefix last) all)
 
-pub but_last-push : (front : List Numbered) (last : Numbered) (order : List Numbered) → order ≡ front ++ last ∷ [] → but_last order ≡ front
-but_last-push front last order is = ap but_last is ∙ take-push front last
+pub but_last-push : (prefix : List Numbered) (last : Numbered) (order : List Numbered) → order ≡ prefix ++ last ∷ [] → but_last order ≡ prefix
+but_last-push prefix last order is = ap but_last is ∙ take-push prefix last
 
 -- two lists that end are equal in their last elements
 pub same_last : {A : Type 0} (xs : List A) (x : A) (ys : List A) (y : A) → xs ++ x ∷ [] ≡ ys ++ y ∷ [] → x ≡ y
@@ -231,7 +231,7 @@ decided_effect library (command.Replace name unit) = decided_found (get library 
 decided_effect library (command.Withdraw name) = decided_none (get library name)
 
 -- a list is empty, or it has a last element
-pub split_last : {A : Type 0} (xs : List A) → (xs ≡ []) ⊎ ((front : List A) × (last : A) × (xs ≡ front ++ last ∷ []))
+pub split_last : {A : Type 0} (xs : List A) → (xs ≡ []) ⊎ ((prefix : List A) × (last : A) × (xs ≡ prefix ++ last ∷ []))
 split_last [] = inl refl
 split_last (x ∷ xs) =
     elim (split_last xs) [
@@ -239,48 +239,48 @@ split_last (x ∷ xs) =
       | inr some ↦ inr (x ∷ some.0, some.1, ap (λ l. x ∷ l) some.2)
     ]
 
-pub no_push : {A : Type 0} (front : List A) (last : A) → [] ≡ front ++ last ∷ [] → ⊥
+pub no_push : {A : Type 0} (prefix : List A) (last : A) → [] ≡ prefix ++ last ∷ [] → ⊥
 no_push [] last e = absurd (cc)
-no_push (x ∷ front) last e = absurd (cc)
+no_push (x ∷ prefix) last e = absurd (cc)
 
--- the test of the last command keeps some front
-pub some_front : (library : Units) (order : List Numbered) → (kept : List Numbered) × IsFrontKept library order kept
-some_front library order =
+-- the test of the last command keeps some prefix
+pub some_prefix : (library : Units) (order : List Numbered) → (kept : List Numbered) × IsPrefixKept library order kept
+some_prefix library order =
     elim (split_last order) [
-      | inl none ↦ (order, inl (refl, λ front last is. absurd (no_push front last (sym none ∙ is))))
+      | inl none ↦ (order, inl (refl, λ prefix last is. absurd (no_push prefix last (sym none ∙ is))))
       | inr some ↦ elim (decided_effect library some.1.command) [
-        | inl there ↦ (order, inl (refl, λ front last is. subst (λ (p : Numbered). IsInEffect library p.command) (same_last some.0 some.1 front last (sym some.2 ∙ is)) there))
+        | inl there ↦ (order, inl (refl, λ prefix last is. subst (λ (p : Numbered). IsInEffect library p.command) (same_last some.0 some.1 prefix last (sym some.2 ∙ is)) there))
         | inr gone ↦ (some.0, inr (some.1, some.2, gone))
       ]
     ]
 
--- ---- the longest front
+-- ---- the longest prefix
 
 longest_whole : (library : Units) (order : List Numbered) → library_of (commands order) ≡ library → IsLongest library order order
 longest_whole library order leads = record {
   count = length order;
   within = omega arith;
-  front = sym (take_all (length order) order (omega arith));
+  prefix = sym (take_all (length order) order (omega arith));
   leads = leads;
   longest = λ n more within other. absurd (omega arith);
 }
 
--- what the test of the last command keeps is the longest front whose library was recovered
-pub front_longest : (library : Units) (old new : List Numbered) → AreAccepted empty (commands old) → IsOfOrder library old → IsFrontKept library old new → IsLongest library old new
-front_longest library old new all (inl whole) (inl keeps) =
+-- what the test of the last command keeps is the longest prefix whose library was recovered
+pub prefix_longest : (library : Units) (old new : List Numbered) → AreAccepted empty (commands old) → IsOfOrder library old → IsPrefixKept library old new → IsLongest library old new
+prefix_longest library old new all (inl whole) (inl keeps) =
     subst (IsLongest library old) (sym keeps.0) (longest_whole library old (sym whole))
-front_longest library old new all (inr lacks) (inl keeps) =
-    let front = lacks.0 in
+prefix_longest library old new all (inr lacks) (inl keeps) =
+    let prefix = lacks.0 in
     let last = lacks.1 in
-    let ok = AreAccepted-last front last (subst (λ (l : List Numbered). AreAccepted empty (commands l)) lacks.2 all) in
-    let there = subst (λ (m : Units). IsInEffect m last.command) lacks.3 (keeps.1 front last lacks.2) in
-    let leads = ap (λ (l : List Numbered). library_of (commands l)) lacks.2 ∙ library-push front last ∙ effect_stays (library_of (commands front)) last.command ok there ∙ sym lacks.3 in
+    let ok = AreAccepted-last prefix last (subst (λ (l : List Numbered). AreAccepted empty (commands l)) lacks.2 all) in
+    let there = subst (λ (m : Units). IsInEffect m last.command) lacks.3 (keeps.1 prefix last lacks.2) in
+    let leads = ap (λ (l : List Numbered). library_of (commands l)) lacks.2 ∙ library-push prefix last ∙ effect_stays (library_of (commands prefix)) last.command ok there ∙ sym lacks.3 in
     subst (IsLongest library old) (sym keeps.0) (longest_whole library old leads)
-front_longest library old new all known (inr drops) =
+prefix_longest library old new all known (inr drops) =
     record {
       count = length new;
       within = omega (arith, long);
-      front = sym (take-push new last) ∙ ap (λ (l : List Numbered). take (length l - 1) l) (sym is) ∙ ap (λ (n : ℕ). take n old) (omega (arith, long));
+      prefix = sym (take-push new last) ∙ ap (λ (l : List Numbered). take (length l - 1) l) (sym is) ∙ ap (λ (n : ℕ). take n old) (omega (arith, long));
       leads = leads known;
       longest = λ n more within other. not_in_effect (whole_in_effect (ap (λ (l : List Numbered). library_of (commands l)) (sym (take_all n old (omega (arith, long)))) ∙ other));
     }

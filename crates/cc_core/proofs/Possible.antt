@@ -44,7 +44,7 @@ use Rattle.cc_core.specs.Step.{Step, IsImpossible, IsUp, IsFree, Submits, Takes,
 use Rattle.cc_core.specs.Run.{PutsCommand}
 use Rattle.cc_core.specs.internal.Answers.{Answers}
 use Rattle.cc_core.specs.internal.Ready.{IsRecoverable}
-use Rattle.cc_core.proofs.Orders.{front_longest, some_front}
+use Rattle.cc_core.proofs.Orders.{prefix_longest, some_prefix}
 
 -- a phase that was matched by its parts
 pub committing_is : (phase : Phase) (a b : ClientId) (numbered : Numbered) (d e : Due) → phase ≡ Committing a numbered d → d ≡ e → a.number ≡ b.number → phase ≡ Committing b numbered e
@@ -102,7 +102,7 @@ crashes choice old = (None, record old { library = empty; phase = Crashed; store
 
 pub reopens : (old : Core) → old.phase ≡ Crashed → IsRecoverable old.store old.order → (reply : Option Reply) × (new : Core) × Reopens old reply new
 reopens old crashed r =
-    let kept = some_front r.library old.order in (
+    let kept = some_prefix r.library old.order in (
       None,
       record old { library = r.library; order = kept.0; phase = Idle; store = record old.store { area_byte = r.holds.holds.area_byte; used = length (records r.bodies) } },
       record {
@@ -112,7 +112,7 @@ reopens old crashed r =
         kept = kept.0;
         holds = r.holds.holds;
         stand = r.stand;
-        longest = front_longest r.library old.order kept.0 r.accepted r.known kept.1;
+        longest = prefix_longest r.library old.order kept.0 r.accepted r.known kept.1;
         silent = refl;
         new_is = refl;
       },
@@ -329,7 +329,7 @@ module _ {P : Type 0} where
   step_puts_none rules old event.Recover reply new plain step =
       let r = step.core_step in
       not_longer old.core new.core
-      (omega (arith, ap (λ (s : Core). length s.order) r.new_is, ap length r.longest.front, length-take-le r.longest.count old.core.order r.longest.within, r.longest.within))
+      (omega (arith, ap (λ (s : Core). length s.order) r.new_is, ap length r.longest.prefix, length-take-le r.longest.count old.core.order r.longest.within, r.longest.within))
 
   -- so of what an event answers
   pub puts_none : (rules : Rules P) (old : Contents P) (e : Event P) (result : Result (Option Reply) CoreFault) (new : Contents P) → IsNoBegin e

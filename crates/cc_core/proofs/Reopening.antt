@@ -12,9 +12,9 @@ use Rattle.cc_core.specs.declared.contents.Phase.TheVariants.{Idle, Crashed}
 use Rattle.cc_core.specs.StoreState.{StoreState}
 use Rattle.cc_core.specs.Step.{Reopens}
 use Rattle.cc_core.specs.internal.Opening.{IsFound}
-use Rattle.cc_core.specs.internal.Ready.{IsRecoverable, IsReady, IsReadyIn, IsFrontKept, IsOfOrder}
+use Rattle.cc_core.specs.internal.Ready.{IsRecoverable, IsReady, IsReadyIn, IsPrefixKept, IsOfOrder}
 use Rattle.cc_core.proofs.Beginnings.{holds_at}
-use Rattle.cc_core.proofs.Orders.{front_longest}
+use Rattle.cc_core.proofs.Orders.{prefix_longest}
 
 -- what is found fits the area that the state knows
 pub found_room : (store : StoreState) (order : List Numbered) (library : Units) (used area : ℕ) (bodies : List (List ℕ)) → IsRecoverable store order → IsFound (bytes_of store.cells) area bodies library used → used + 1 ≤ store.area
@@ -32,7 +32,7 @@ recovers_of store order r = record { area = store.area; bodies = r.bodies; holds
 -- so the state behind them is the recovery's
 pub found_reopens : (old new : Core) (library : Units) (used area : ℕ) (bodies : List (List ℕ)) (kept : List Numbered) → IsReady old → old.phase ≡ Crashed
     → (f : IsFound (bytes_of old.store.cells) area bodies library used) → (byte : ℕ) → f.holds.area_byte ≡ byte
-    → IsFrontKept library old.order kept → new ≡ record old { library = library; order = kept; phase = Idle; store = record old.store { area_byte = byte; used = used } } → Reopens old None new
+    → IsPrefixKept library old.order kept → new ≡ record old { library = library; order = kept; phase = Idle; store = record old.store { area_byte = byte; used = used } } → Reopens old None new
 found_reopens old new library used area bodies kept ready crashed f byte byte_is keeps is =
     let r = recoverable_of old ready crashed in
     let same = r.holds.alone area bodies f.holds in
@@ -46,7 +46,7 @@ found_reopens old new library used area bodies kept ready crashed f byte byte_is
       kept = kept;
       holds = held.0;
       stand = f.stand;
-      longest = front_longest library old.order kept r.accepted (subst (λ (m : Units). IsOfOrder m old.order) library_is r.known) keeps;
+      longest = prefix_longest library old.order kept r.accepted (subst (λ (m : Units). IsOfOrder m old.order) library_is r.known) keeps;
       silent = refl;
       new_is = is ∙ (λ i. record old { library = library; order = kept; phase = Idle; store = record old.store { area_byte = (sym byte_is ∙ sym held.1) i; used = f.used_is i } });
     }

@@ -107,14 +107,14 @@ area_most : (phase : Phase) (store : StoreState) (order acknowledged : List Numb
 area_most phase store order acknowledged k =
     (each_ends phase store order acknowledged k (bytes_of store.cells) (bytes_are_image store.cells)).held.is_area.most
 
--- what stands at an index of the front stands there in the whole
-slice_get-front : {X : Type 0} (xs ys : List X) (k : ℕ) (x : X) → slice_get xs k ≡ Some x → slice_get (xs ++ ys) k ≡ Some x
-slice_get-front [] ys k x is = absurd (cc)
-slice_get-front (z ∷ xs) ys zero x is = is
-slice_get-front (z ∷ xs) ys (suc k) x is = slice_get-front xs ys k x is
+-- what stands at an index of the prefix stands there in the whole
+slice_get-prefix : {X : Type 0} (xs ys : List X) (k : ℕ) (x : X) → slice_get xs k ≡ Some x → slice_get (xs ++ ys) k ≡ Some x
+slice_get-prefix [] ys k x is = absurd (cc)
+slice_get-prefix (z ∷ xs) ys zero x is = is
+slice_get-prefix (z ∷ xs) ys (suc k) x is = slice_get-prefix xs ys k x is
 
-in_whole : (front rest whole : List Numbered) → whole ≡ front ++ rest → (k : ℕ) (a : Numbered) → slice_get front k ≡ Some a → slice_get whole k ≡ Some a
-in_whole front rest whole is k a there = ap (λ (l : List Numbered). slice_get l k) is ∙ slice_get-front front rest k a there
+in_whole : (prefix rest whole : List Numbered) → whole ≡ prefix ++ rest → (k : ℕ) (a : Numbered) → slice_get prefix k ≡ Some a → slice_get whole k ≡ Some a
+in_whole prefix rest whole is k a there = ap (λ (l : List Numbered). slice_get l k) is ∙ slice_get-prefix prefix rest k a there
 
 -- after a crash the library can be opened
 recoverable : (store : StoreState) (order acknowledged : List Numbered) → AreAccepted empty (commands order) → HoldsCrash store order acknowledged → IsRecoverable store order
@@ -133,21 +133,21 @@ recoverable store order acknowledged all h = at h.ends.known
     at (inr lacks) = record {
       alone = h.alone;
       bodies = h.ends.bodies;
-      library = library_of (commands lacks.front);
+      library = library_of (commands lacks.prefix);
       holds = holds_alone (bytes_of store.cells) store.area h.ends.bodies h.ends.held;
       stand = lacks.stand;
       accepted = all;
-      known = inr (lacks.front, lacks.last, lacks.is, refl);
+      known = inr (lacks.prefix, lacks.last, lacks.is, refl);
     }
 
 -- what each acknowledged command's number is below
-acked_below : (order acknowledged front : List Numbered) (last : Numbered) → order ≡ front ++ last ∷ [] → AreRising order → All (Contains front) acknowledged → AreBelow last.number.value acknowledged
-acked_below order acknowledged front last is rising all k a there =
-    let found = All-slice_get (Contains front) acknowledged k a all there in
-    let at = Contains-slice_get front a found in
-    let first : slice_get order at.0 ≡ Some a = in_whole front (last ∷ []) order is at.0 a at.1 in
-    let second : slice_get order (length front) ≡ Some last = ap (λ (l : List Numbered). slice_get l (length front)) is ∙ slice_get-last front last in
-    rising at.0 (length front) a last (slice_get_within front at.0 a at.1) first second
+acked_below : (order acknowledged prefix : List Numbered) (last : Numbered) → order ≡ prefix ++ last ∷ [] → AreRising order → All (Contains prefix) acknowledged → AreBelow last.number.value acknowledged
+acked_below order acknowledged prefix last is rising all k a there =
+    let found = All-slice_get (Contains prefix) acknowledged k a all there in
+    let at = Contains-slice_get prefix a found in
+    let first : slice_get order at.0 ≡ Some a = in_whole prefix (last ∷ []) order is at.0 a at.1 in
+    let second : slice_get order (length prefix) ≡ Some last = ap (λ (l : List Numbered). slice_get l (length prefix)) is ∙ slice_get-last prefix last in
+    rising at.0 (length prefix) a last (slice_get_within prefix at.0 a at.1) first second
 
 -- phases that differ
 numbered_of : {a b : ClientId} {m n : Numbered} {d e : Due} → Committing a m d ≡ Committing b n e → m ≡ n
@@ -288,7 +288,7 @@ module _ {P : Type 0} (rules : Rules P) (keeps : P → Type 0) where
         right = λ image library now. ends_right is_right s.core.store.area s.core.order s.core.acknowledged image
             (each_ends Idle s.core.store s.core.order s.core.acknowledged (formatted_holds area s.core.store s.core.order st.formatted st.order) image now)
             (subst (λ (l : List Numbered). EachUnit is_right (library_of (commands l))) (sym st.order) (EachUnit-empty is_right))
-            (λ front last is. absurd (no_push front last (sym st.order ∙ is))) library;
+            (λ prefix last is. absurd (no_push prefix last (sym st.order ∙ is))) library;
         flying = λ client numbered due is. absurd (idle_not_committing client numbered due (sym st.phase ∙ is));
         acked = subst (All (Contains s.core.order)) (sym st.acknowledged) (All-nil (Contains s.core.order));
         rising = subst AreRising (sym st.order) (λ i j a b lt first second. absurd (cc));
@@ -368,7 +368,7 @@ module _ {P : Type 0} (rules : Rules P) (keeps : P → Type 0) where
         let h : HoldsOrder s.store s.order = subst (λ phase. IsKept phase s.store s.order s.acknowledged) r.0 sound.disk in
         let spelled : IsCommand c = puts numbered (ap (λ (n : Core). n.order) begun.1) in
         let there : IsSoundCore is_right (record (ticked s) { order = s.order ++ numbered ∷ []; phase = Committing client numbered due.WriteBody }) = record {
-          replay = library ∙ ap (λ front. library_of (commands front)) (sym (take-push s.order numbered));
+          replay = library ∙ ap (λ prefix. library_of (commands prefix)) (sym (take-push s.order numbered));
           accepted = AreAccepted-push s.order numbered sound.accepted ok;
           units = sound.units;
           right = sound.right;
@@ -379,7 +379,7 @@ module _ {P : Type 0} (rules : Rules P) (keeps : P → Type 0) where
           below = AreBelow-push s.upcoming.value s.order numbered sound.below refl;
           disk = record {
             bodies = h.bodies;
-            front = s.order;
+            prefix = s.order;
             is = refl;
             acked = sound.acked;
             taken = ok;
@@ -396,23 +396,23 @@ module _ {P : Type 0} (rules : Rules P) (keeps : P → Type 0) where
     flight s client numbered due sound committing = subst (λ phase. IsKept phase s.store s.order s.acknowledged) committing sound.disk
 
     -- the library of the order without its last command is right, and with it too
-    front_right : (s : Core) (client : ClientId) (numbered : Numbered) (due : Due) → IsSoundCore is_right s → s.phase ≡ Committing client numbered due
-        → (front : List Numbered) (last : Numbered) → s.order ≡ front ++ last ∷ [] → EachUnit is_right (library_of (commands front))
-    front_right s client numbered due sound committing front last is =
-        subst (EachUnit is_right) (sound.replay ∙ ap (λ phase. live phase s.order) committing ∙ ap (λ (l : List Numbered). library_of (commands l)) (but_last-push front last s.order is)) sound.units
+    prefix_right : (s : Core) (client : ClientId) (numbered : Numbered) (due : Due) → IsSoundCore is_right s → s.phase ≡ Committing client numbered due
+        → (prefix : List Numbered) (last : Numbered) → s.order ≡ prefix ++ last ∷ [] → EachUnit is_right (library_of (commands prefix))
+    prefix_right s client numbered due sound committing prefix last is =
+        subst (EachUnit is_right) (sound.replay ∙ ap (λ phase. live phase s.order) committing ∙ ap (λ (l : List Numbered). library_of (commands l)) (but_last-push prefix last s.order is)) sound.units
 
     whole_right : (s : Core) (client : ClientId) (numbered : Numbered) (due : Due) → IsSoundCore is_right s → s.phase ≡ Committing client numbered due → EachUnit is_right (library_of (commands s.order))
     whole_right s client numbered due sound committing =
         let f = flight s client numbered due sound committing in
-        subst (EachUnit is_right) (sym (ap (λ (l : List Numbered). library_of (commands l)) f.is ∙ library-push f.front numbered))
-        (EachUnit-after is_right (library_of (commands f.front)) numbered.command (front_right s client numbered due sound committing f.front numbered f.is) (sound.flying client numbered due committing))
+        subst (EachUnit is_right) (sym (ap (λ (l : List Numbered). library_of (commands l)) f.is ∙ library-push f.prefix numbered))
+        (EachUnit-after is_right (library_of (commands f.prefix)) numbered.command (prefix_right s client numbered due sound committing f.prefix numbered f.is) (sound.flying client numbered due committing))
 
     advanced_sound : (due : Due) (s : Core) (reply : Option Reply) (new : Core) → IsSoundCore is_right s → Advances due s reply new → IsSoundCore is_right new
     advanced_sound due s reply new sound step =
         let f = flight s step.client step.numbered due sound step.committing in
         let disk : HoldsFlight step.numbered (due_after due) (stepped due step.numbered.command s.store) s.order s.acknowledged = record {
           bodies = f.bodies;
-          front = f.front;
+          prefix = f.prefix;
           is = f.is;
           acked = f.acked;
           taken = f.taken;
@@ -427,7 +427,7 @@ module _ {P : Type 0} (rules : Rules P) (keeps : P → Type 0) where
           units = sound.units;
           right = λ image library now. ends_right is_right (stepped due step.numbered.command s.store).area s.order s.acknowledged image
               (each_ends (Committing step.client step.numbered (due_after due)) (stepped due step.numbered.command s.store) s.order s.acknowledged disk image now)
-              (whole_right s step.client step.numbered due sound step.committing) (front_right s step.client step.numbered due sound step.committing) library;
+              (whole_right s step.client step.numbered due sound step.committing) (prefix_right s step.client step.numbered due sound step.committing) library;
           flying = λ who which now is. subst (λ (n : Numbered). IsRightCommand is_right n.command) (numbered_of is) (sound.flying step.client step.numbered due step.committing);
           acked = sound.acked;
           rising = sound.rising;
@@ -441,14 +441,14 @@ module _ {P : Type 0} (rules : Rules P) (keeps : P → Type 0) where
     failed_sound client s reply new sound step =
         let f = flight s client step.numbered step.due sound step.committing in
         let disk : HoldsEnds step.store s.order s.acknowledged = λ image now.
-        ends_of step.numbered step.store s.order s.acknowledged f.bodies f.front f.is f.acked f.taken f.stand f.spelled image
+        ends_of step.numbered step.store s.order s.acknowledged f.bodies f.prefix f.is f.acked f.taken f.stand f.spelled image
         (failed_images step.due s.store step.store f.bodies step.numbered.command f.room f.on_disk step.failed image now) in
         let there : IsSoundCore is_right (record s { store = step.store; phase = Failed (Some step.numbered) }) = record {
           replay = sound.replay ∙ ap (λ phase. live phase s.order) step.committing;
           accepted = sound.accepted;
           units = sound.units;
           right = λ image library now. ends_right is_right step.store.area s.order s.acknowledged image (disk image now)
-              (whole_right s client step.numbered step.due sound step.committing) (front_right s client step.numbered step.due sound step.committing) library;
+              (whole_right s client step.numbered step.due sound step.committing) (prefix_right s client step.numbered step.due sound step.committing) library;
           flying = λ who which now is. absurd (failed_not_committing (Some step.numbered) who which now is);
           acked = sound.acked;
           rising = sound.rising;
@@ -462,22 +462,22 @@ module _ {P : Type 0} (rules : Rules P) (keeps : P → Type 0) where
     acked_sound client s reply new sound step =
         let numbered = step.numbered in
         let f = flight s client numbered due.Acknowledge sound step.committing in
-        let before : s.library ≡ library_of (commands f.front) =
-        sound.replay ∙ ap (λ phase. live phase s.order) step.committing ∙ ap (λ (l : List Numbered). library_of (commands l)) (but_last-push f.front numbered s.order f.is) in
+        let before : s.library ≡ library_of (commands f.prefix) =
+        sound.replay ∙ ap (λ phase. live phase s.order) step.committing ∙ ap (λ (l : List Numbered). library_of (commands l)) (but_last-push f.prefix numbered s.order f.is) in
         let there : IsSoundCore is_right (record s { library = after s.library numbered.command; acknowledged = s.acknowledged ++ numbered ∷ []; phase = Idle }) = record {
-          replay = ap (λ library. after library numbered.command) before ∙ sym (library-push f.front numbered) ∙ ap (λ (l : List Numbered). library_of (commands l)) (sym f.is);
+          replay = ap (λ library. after library numbered.command) before ∙ sym (library-push f.prefix numbered) ∙ ap (λ (l : List Numbered). library_of (commands l)) (sym f.is);
           accepted = sound.accepted;
           units = EachUnit-after is_right s.library numbered.command sound.units (sound.flying client numbered due.Acknowledge step.committing);
           right = sound.right;
           flying = λ who which now is. absurd (idle_not_committing who which now is);
-          acked = All-push (Contains s.order) s.acknowledged numbered sound.acked (subst (λ order. Contains order numbered) (sym f.is) (Contains-push f.front numbered));
+          acked = All-push (Contains s.order) s.acknowledged numbered sound.acked (subst (λ order. Contains order numbered) (sym f.is) (Contains-push f.prefix numbered));
           rising = sound.rising;
-          rising_acked = AreRising-push numbered.number.value s.acknowledged numbered sound.rising_acked (acked_below s.order s.acknowledged f.front numbered f.is sound.rising f.acked) refl;
+          rising_acked = AreRising-push numbered.number.value s.acknowledged numbered sound.rising_acked (acked_below s.order s.acknowledged f.prefix numbered f.is sound.rising f.acked) refl;
           below = sound.below;
           disk = record {
             bodies = f.bodies ++ body_of numbered.command ∷ [];
             rest = f.on_disk;
-            stand = stand_more f.bodies f.front numbered s.order f.is f.stand f.spelled f.taken;
+            stand = stand_more f.bodies f.prefix numbered s.order f.is f.stand f.spelled f.taken;
           };
         } in
         subst (IsSoundCore is_right) (sym step.new_is) there
@@ -584,7 +584,7 @@ module _ {P : Type 0} (rules : Rules P) (keeps : P → Type 0) where
         let e = h.ends in
         let kept = step.kept in
         let rest = drop step.longest.count s.order in
-        let whole : s.order ≡ kept ++ rest = sym (take-append-drop step.longest.count s.order) ∙ ap (λ (l : List Numbered). l ++ rest) (sym step.longest.front) in
+        let whole : s.order ≡ kept ++ rest = sym (take-append-drop step.longest.count s.order) ∙ ap (λ (l : List Numbered). l ++ rest) (sym step.longest.prefix) in
         let same : step.bodies ≡ e.bodies = (holds_same (bytes_of s.store.cells) s.store.area s.store.area e.bodies step.bodies e.held step.holds).1 in
         let byte = step.holds.area_byte in
         let held : HoldsIn byte s.store.area step.bodies (bytes_of s.store.cells) = holds_in s.store.area step.bodies (bytes_of s.store.cells) step.holds in

@@ -99,19 +99,19 @@ longer_than l n x is = omega (arith, ap length is, length-append l (x ∷ []), s
 module _ {P : Type 0} where
   -- some pieces are made, and the others wait
   abbrev progress : List P → ℕ → List (Progress P)
-  progress front waiting = map (λ (p : P). Made p) front ++ replicate waiting Waiting
+  progress prefix waiting = map (λ (p : P). Made p) prefix ++ replicate waiting Waiting
 
-  set_at : (front : List P) (x y : Progress P) (tail : List (Progress P)) → slice_set (map (λ (p : P). Made p) front ++ x ∷ tail) (length front) y ≡ map (λ (p : P). Made p) front ++ y ∷ tail
+  set_at : (prefix : List P) (x y : Progress P) (tail : List (Progress P)) → slice_set (map (λ (p : P). Made p) prefix ++ x ∷ tail) (length prefix) y ≡ map (λ (p : P). Made p) prefix ++ y ∷ tail
   set_at [] x y tail = refl
-  set_at (p ∷ front) x y tail = ap (λ (l : List (Progress P)). Made p ∷ l) (set_at front x y tail)
+  set_at (p ∷ prefix) x y tail = ap (λ (l : List (Progress P)). Made p ∷ l) (set_at prefix x y tail)
 
-  get_at : (front : List P) (x : Progress P) (tail : List (Progress P)) → slice_get (map (λ (p : P). Made p) front ++ x ∷ tail) (length front) ≡ Some x
+  get_at : (prefix : List P) (x : Progress P) (tail : List (Progress P)) → slice_get (map (λ (p : P). Made p) prefix ++ x ∷ tail) (length prefix) ≡ Some x
   get_at [] x tail = refl
-  get_at (p ∷ front) x tail = get_at front x tail
+  get_at (p ∷ prefix) x tail = get_at prefix x tail
 
-  made_push : (front : List P) (p : P) (tail : List (Progress P)) → map (λ (q : P). Made q) (front ++ p ∷ []) ++ tail ≡ map (λ (q : P). Made q) front ++ Made p ∷ tail
+  made_push : (prefix : List P) (p : P) (tail : List (Progress P)) → map (λ (q : P). Made q) (prefix ++ p ∷ []) ++ tail ≡ map (λ (q : P). Made q) prefix ++ Made p ∷ tail
   made_push [] p tail = refl
-  made_push (q ∷ front) p tail = ap (λ (l : List (Progress P)). Made q ∷ l) (made_push front p tail)
+  made_push (q ∷ prefix) p tail = ap (λ (l : List (Progress P)). Made q ∷ l) (made_push prefix p tail)
 
   there_all : (ps : List P) → IsTrue (all_there (map (λ (p : P). Made p) ps))
   there_all [] = refl
@@ -149,7 +149,7 @@ module _ {P : Type 0} (rules : Rules P) where
   kept_order old (event.Ack client) reply new none step n is = longer old.core.order n (sym (ap (λ (c : Core). c.order) step.core_step.new_is) ∙ is)
   kept_order old (event.Crash choice) reply new none step n is = longer old.core.order n (sym (ap (λ (c : Core). c.order) step.core_step.new_is) ∙ is)
   kept_order old event.Recover reply new none step n is =
-      longer_than old.core.order step.core_step.longest.count n (sym step.core_step.longest.front ∙ sym (ap (λ (c : Core). c.order) step.core_step.new_is) ∙ is)
+      longer_than old.core.order step.core_step.longest.count n (sym step.core_step.longest.prefix ∙ sym (ap (λ (c : Core). c.order) step.core_step.new_is) ∙ is)
 
   puts_begun : (old : Core) (client : ClientId) (v : Result Command Refusal) (reply : Option Reply) (new : Core) → ((d : Command) → v ≡ Ok d → IsCommand d) → Begun old client v reply new → PutsCommand old new
   puts_begun old client (Ok d) reply new is_put begun numbered is =
@@ -254,22 +254,22 @@ module _ {P : Type 0} (rules : Rules P) (keeps : P → Type 0) where
     idle : get new.workers worker.number ≡ None
 
   -- where a client's job has its first pieces made and waits for these, the worker hands them in one after the other
-  hands_all : (old : Contents P) (client : ClientId) (worker : WorkerId) (call : CallId) (asked : Request) (source : List ℕ) (front rest : List P)
-      → source_in asked ≡ Some source → get old.jobs client.number ≡ Some (job_at call asked (progress front (length rest))) → get old.workers worker.number ≡ None
-      → ((k : ℕ) (q : P) → slice_get rest k ≡ Some q → (rules.source_of q ≡ source) × (rules.part_of q ≡ length front + k) × keeps q)
-      → IsHandedIn old client worker (job_at call asked (map (λ (p : P). Made p) (front ++ rest)))
-  hands_all old client worker call asked source front [] from held idle named = record {
+  hands_all : (old : Contents P) (client : ClientId) (worker : WorkerId) (call : CallId) (asked : Request) (source : List ℕ) (prefix rest : List P)
+      → source_in asked ≡ Some source → get old.jobs client.number ≡ Some (job_at call asked (progress prefix (length rest))) → get old.workers worker.number ≡ None
+      → ((k : ℕ) (q : P) → slice_get rest k ≡ Some q → (rules.source_of q ≡ source) × (rules.part_of q ≡ length prefix + k) × keeps q)
+      → IsHandedIn old client worker (job_at call asked (map (λ (p : P). Made p) (prefix ++ rest)))
+  hands_all old client worker call asked source prefix [] from held idle named = record {
     events = [];
     new = old;
     run = refl;
     core = refl;
-    held = held ∙ ap (λ (l : List (Progress P)). Some (job_at call asked l)) (append-nil (map (λ (p : P). Made p) front) ∙ ap (map (λ (p : P). Made p)) (sym (append-nil front)));
+    held = held ∙ ap (λ (l : List (Progress P)). Some (job_at call asked l)) (append-nil (map (λ (p : P). Made p) prefix) ∙ ap (map (λ (p : P). Made p)) (sym (append-nil prefix)));
     others = λ k apart. refl;
     idle = idle;
   }
-  hands_all old client worker call asked source front (p ∷ rest) from held idle named =
-      let part : PartIndex = record { index = length front } in
-      let its : Job P = job_at call asked (progress front (suc (length rest))) in
+  hands_all old client worker call asked source prefix (p ∷ rest) from held idle named =
+      let part : PartIndex = record { index = length prefix } in
+      let its : Job P = job_at call asked (progress prefix (suc (length rest))) in
       let taken : Job P = with_piece its part Taken in
       let given : Job P = with_piece taken part (Made p) in
       let work : Work = record { client = client; part = part } in
@@ -277,21 +277,21 @@ module _ {P : Type 0} (rules : Rules P) (keeps : P → Type 0) where
       let s2 : Contents P = record s1 { jobs = insert s1.jobs client.number given; workers = remove s1.workers worker.number } in
       let at = named 0 p refl in
       let takes : Turn rules keeps old (event.Take worker client part) s1 = plain_turn old (event.Take worker client part) None s1 (λ c e. absurd (cc)) (λ w q e. absurd (cc))
-      (record { job = its; idle = idle; held = held; waits = get_at front Waiting (replicate (length rest) Waiting); silent = refl; new_is = refl }) in
+      (record { job = its; idle = idle; held = held; waits = get_at prefix Waiting (replicate (length rest) Waiting); silent = refl; new_is = refl }) in
       let finishes : Turn rules keeps s1 (event.Done worker p) s2 = plain_turn s1 (event.Done worker p) None s2 (λ c e. absurd (cc)) (λ w q e. let same : p ≡ q = cc in subst keeps same at.2)
       (record { work = work; job = taken; busy = got_inserted old.workers worker.number work; held = got_inserted old.jobs client.number taken; source = from ∙ ap Some (sym at.0); part = at.1 ∙ omega arith; silent = refl; new_is = refl }) in
-      let given_is : given ≡ job_at call asked (progress (front ++ p ∷ []) (length rest)) =
-      ap (job_at call asked) (ap (λ (l : List (Progress P)). slice_set l (length front) (Made p)) (set_at front Waiting Taken (replicate (length rest) Waiting))
-      ∙ set_at front Taken (Made p) (replicate (length rest) Waiting) ∙ sym (made_push front p (replicate (length rest) Waiting))) in
-      let more : IsHandedIn s2 client worker (job_at call asked (map (λ (q : P). Made q) ((front ++ p ∷ []) ++ rest))) =
-      hands_all s2 client worker call asked source (front ++ p ∷ []) rest from (got_inserted s1.jobs client.number given ∙ ap Some given_is) (got_removed s1.workers worker.number)
-      (λ k q here. let it = named (suc k) q here in (it.0, it.1 ∙ omega (arith, length-append front (p ∷ [])), it.2)) in
+      let given_is : given ≡ job_at call asked (progress (prefix ++ p ∷ []) (length rest)) =
+      ap (job_at call asked) (ap (λ (l : List (Progress P)). slice_set l (length prefix) (Made p)) (set_at prefix Waiting Taken (replicate (length rest) Waiting))
+      ∙ set_at prefix Taken (Made p) (replicate (length rest) Waiting) ∙ sym (made_push prefix p (replicate (length rest) Waiting))) in
+      let more : IsHandedIn s2 client worker (job_at call asked (map (λ (q : P). Made q) ((prefix ++ p ∷ []) ++ rest))) =
+      hands_all s2 client worker call asked source (prefix ++ p ∷ []) rest from (got_inserted s1.jobs client.number given ∙ ap Some given_is) (got_removed s1.workers worker.number)
+      (λ k q here. let it = named (suc k) q here in (it.0, it.1 ∙ omega (arith, length-append prefix (p ∷ [])), it.2)) in
       record {
         events = event.Take worker client part ∷ event.Done worker p ∷ more.events;
         new = more.new;
         run = (s1, (takes, (s2, (finishes, more.run))));
         core = more.core;
-        held = more.held ∙ ap (λ (l : List P). Some (job_at call asked (map (λ (q : P). Made q) l))) (append_assoc front (p ∷ []) rest);
+        held = more.held ∙ ap (λ (l : List P). Some (job_at call asked (map (λ (q : P). Made q) l))) (append_assoc prefix (p ∷ []) rest);
         others = λ k apart. more.others k apart ∙ other_inserted s1.jobs client.number given k apart ∙ other_inserted old.jobs client.number taken k apart;
         idle = more.idle;
       }

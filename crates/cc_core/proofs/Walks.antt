@@ -16,7 +16,7 @@ abbrev pub no_bytes : Val
 no_bytes = vstruct vnil
 
 module _ {M : Type 1} {𝓤 : Ura M} {𝓛 : Logic 𝓤} {K : Type 0} {Γ : List (Item 𝓤)} {G : Goal 𝓤 𝓛.H} where
-  -- its value owns nothing, so it can be made from nothing
+  -- its value owns nothing, so it can be made from scratch
   pub bare_made : K → Step K 𝓛 (‵ (bare.own_val tt (no_bytes ∷ [])) ∷ Γ) G Γ G
   bare_made t = step (λ s.
       nothing t $ feq_i t (List Val) (no_bytes ∷ []) (no_bytes ∷ []) refl $ fjoin t $

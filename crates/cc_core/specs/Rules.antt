@@ -6,7 +6,7 @@ use Rattle.cc_library.specs.declared.command.Command.TheVariants as command
 
 -- the rules of a build whose pieces are of the type P
 pub record Rules (P : Type 0) : Type 1 where
-  -- a source has so many pieces, or is refused with this number; a build answers so for each source
+  -- a source has this many pieces, or is refused with this number; a build answers so for each source
   pub plan : List ℕ → Result ℕ ℕ → Type 0
   -- the source that a piece names
   pub source_of : P → List ℕ

@@ -57,7 +57,7 @@ live (Failed (Some last)) order = library_of (commands (but_last order))
 live (Failed None) order = library_of (commands order)
 live Crashed order = empty
 
--- The image recovers, to the library of a front of the order and to no other. The front holds every acknowledged command, and
+-- The image recovers, to the library of a prefix of the order and to no other. The prefix holds every acknowledged command, and
 -- lacks at most the last of the order.
 pub record Survives (image : List ℕ) (order acknowledged : List Numbered) : Type 0 where
   pub kept : List Numbered

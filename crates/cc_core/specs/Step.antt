@@ -57,11 +57,11 @@ IsFree Crashed = ⊥
 abbrev pub commands : List Numbered → List Command
 commands order = map (λ numbered. numbered.command) order
 
--- the longest front of the order whose library is this one
+-- the longest prefix of the order whose library is this one
 pub record IsLongest (library : Units) (order kept : List Numbered) : Type 0 where
   pub count : ℕ
   pub within : count ≤ length order
-  pub front : kept ≡ take count order
+  pub prefix : kept ≡ take count order
   pub leads : library_of (commands kept) ≡ library
   pub longest : (n : ℕ) → count < n → n ≤ length order → library_of (commands (take n order)) ≡ library → ⊥
 
@@ -155,7 +155,7 @@ pub record Crashes (choice : List ℕ) (old : Core) (reply : Option Reply) (new 
   pub new_is : new ≡ record old { library = empty; phase = Crashed; store = crashed_store choice old.store }
 
 -- the library is opened: the live map is what the disk's records stand for, in the area that its area byte names, and the order
--- its longest front that leads there
+-- its longest prefix that leads there
 pub record Reopens (old : Core) (reply : Option Reply) (new : Core) : Type 0 where
   pub crashed : old.phase ≡ Crashed
   pub bodies : List (List ℕ)

@@ -39,13 +39,13 @@ pub enum RewriteDue {
 /// Whether a command is in commit or a rewrite under way, and whether the disk is usable.
 #[derive(Drop)]
 pub enum Phase {
-    /// Nothing is, and it is.
+    /// No command is in commit, no rewrite is under way, and the disk is usable.
     Idle,
-    /// This client's is, and this is due.
+    /// This client's command is in commit, and this is due next.
     Committing(ClientId, Numbered, Due),
-    /// The records are written anew by this commit of the journal, and this is due.
+    /// The records are written anew by this commit of the journal, and this is due next.
     Rewriting(Commit, RewriteDue),
-    /// A device step, of this command where it was one's, has failed: no more are made until the library is opened again.
+    /// A device step has failed, one of this command's where a command was in commit: no more are made until the library is opened again.
     Failed(Option<Numbered>),
     /// The disk has crashed: the library has to be opened.
     Crashed,

@@ -8,7 +8,7 @@ ghost use Rattle.cc_core.specs.declared.contents.Contents.{Contents};
 ghost use Rattle.cc_core.specs.Step.{Crashes, EndsAll, Reopens};
 ghost use Rattle.cc_core.specs.internal.Answers.{Answers};
 ghost use Rattle.cc_core.specs.Run.{but_last};
-ghost use Rattle.cc_core.specs.internal.Ready.{IsReady, IsInEffect, IsFrontKept};
+ghost use Rattle.cc_core.specs.internal.Ready.{IsReady, IsInEffect, IsPrefixKept};
 
 use crate::command::Numbered;
 use crate::contents::{Contents, Core, Phase};
@@ -62,7 +62,7 @@ fn is_in_effect(library: &UnitMap, command: &Command) -> bool
 
 // Drops the last command where the map is not as it leaves it.
 fn drop_undone(order: &mut Sequence<Numbered>, library: &UnitMap)
-    ensures { IsFrontKept library.now order.old order.new }
+    ensures { IsPrefixKept library.now order.old order.new }
 {
     if let Some(last) = order.as_slice().last() {
         if !is_in_effect(library, &last.command) {

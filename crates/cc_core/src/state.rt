@@ -35,10 +35,16 @@ use std::marker::Model;
 
 /// The protocol core over a build and a disk in memory. Contracts see its contents, and its type keeps that some list of
 /// events leads to them from a beginning: a new disk, or one that was opened with a library on it.
-#[derive(Drop)]
 pub struct State<B: Build> {
     build: B,
     contents: Contents<B::Piece>,
+}
+
+// By hand, so that crates above call it and do not prove anew how each part is dropped.
+impl<B: Build> Drop for State<B> {
+    fn drop(self) {
+        let State { build, contents } = self;
+    }
 }
 
 impl<B: Build> Model for State<B> {
@@ -204,7 +210,7 @@ pub fn run_events<B: Build>(
 ) -> Result<State<B>, CoreFault>
     // It is the run: a step for each event that has one, the state kept at each other.
     ensures run { IfOk result (λ new. Run B.rules B.keeps state events.items new) }
-    // Whatever a crash leaves of the disk recovers to the library of a front of the order, which holds every acknowledged
+    // Whatever a crash leaves of the disk recovers to the library of a prefix of the order, which holds every acknowledged
     // command and lacks at most the last one.
     ensures survives { IfOk result (λ new. EachImageSurvives new.core) }
     // Each unit of what is recovered is right for its source.

@@ -62,7 +62,7 @@ impl Store {
         })
     }
 
-    /// The journal of a disk with records, which take so many bytes of their area. All of the disk is settled from here on.
+    /// The journal of a disk with records, which take this many bytes of their area. All of the disk is settled from here on.
     pub(crate) fn of_disk(mut disk: MemoryDisk, used: usize) -> Store
         requires { (area : ℕ) × (bodies : List (List ℕ)) × HoldsRecords (bytes_of disk.cells) area bodies × (used ≡ length (records bodies)) }
         ensures bytes { bytes_of result.cells ≡ bytes_of disk.cells }
@@ -82,7 +82,7 @@ impl Store {
         }
     }
 
-    /// Whether a record with a body of so many bytes fits the area.
+    /// Whether a record with a body of this many bytes fits the area.
     pub(crate) fn fits(&self, count: usize) -> bool
         ensures { IsTrue result ↔ (self.now.used + (count + 6) ≤ self.now.area) }
     {
@@ -147,7 +147,7 @@ impl Store {
         let _ = self.disk.sync();
     }
 
-    /// Counts so many bytes of the area as taken by records.
+    /// Counts this many bytes of the area as taken by records.
     pub(crate) fn set_used(&mut self, used: usize)
         requires { used + 1 ≤ self.old.area }
         ensures { self.new ≡ record self.old { used = used } }
@@ -155,7 +155,7 @@ impl Store {
         self.used = used;
     }
 
-    /// Takes this area, and counts so many of its bytes as taken by records.
+    /// Takes this area, and counts this many of its bytes as taken by records.
     pub(crate) fn take_area(&mut self, area_byte: u8, used: usize)
         requires { used + 1 ≤ self.old.area }
         ensures { self.new ≡ record self.old { area_byte = area_byte; used = used } }

@@ -159,7 +159,7 @@ impl<'a> Around<'a> {
         false
     }
 
-    /// The number of the innermost bracket that is open behind the first tokens, so many.
+    /// The number of the innermost bracket that is open behind this many tokens, the first ones.
     fn innermost(&self, count: usize) -> Option<usize> {
         let mut closed: usize = 0;
         for (i, token) in self.before.iter().enumerate().rev() {

@@ -68,8 +68,8 @@ pub enum Instruction<'a> {
     Return,
 }
 
-/// A function: its name, and, once it is defined, where its instructions begin, how many parameters it has and how many variables
-/// besides.
+/// A function: its name, and, once it is defined, where its instructions begin, how many parameters it has and how many other
+/// variables.
 #[derive(Clone, Copy)]
 pub struct Function<'a> {
     pub name: &'a Identifier,

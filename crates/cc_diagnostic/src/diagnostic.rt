@@ -38,9 +38,9 @@ fn write_line<W: Write>(
 }
 
 impl Diagnostic {
-    /// Writes the message's line in the form that editors read, as `-:4:2: 'totl' is not declared`, and below it the line of the text
-    /// with a caret; then the same of the other place, behind `note: `. A message about no byte has its line alone, as `-: the text has
-    /// more than 65536 bytes`.
+    /// Writes the message's line in the form that editors read, for example `-:4:2: 'totl' is not declared`, and below it the line of
+    /// the text with a caret; then the same of the other place, behind `note: `. A message about no byte has its line alone, for example
+    /// `-: the text has more than 65536 bytes`.
     pub fn write<W: Write>(&self, text: &[u8], writer: &mut W) -> io::Result<()> {
         let message = self.message.as_str();
         let Some(at) = self.at else {
@@ -54,7 +54,7 @@ impl Diagnostic {
     }
 }
 
-/// Words about the name of so many bytes that begins at an offset of a text, behind the name in quotes.
+/// Words about the name of this many bytes that begins at an offset of a text, behind the name in quotes.
 ///
 /// `AllocError` where memory for it runs out.
 pub fn of_name<'a>(

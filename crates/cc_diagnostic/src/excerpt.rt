@@ -17,7 +17,7 @@ struct Excerpt<'a> {
     behind: &'a [u8],
 }
 
-// The end of the bytes from their last byte of a line's end on, at most so many.
+// The end of the bytes from their last byte of a line's end on, at most 80.
 fn end_of_line_before(bytes: &[u8]) -> &[u8] {
     let length = bytes
         .iter()
@@ -28,7 +28,7 @@ fn end_of_line_before(bytes: &[u8]) -> &[u8] {
     &bytes[bytes.len() - length..]
 }
 
-// The beginning of the bytes up to the end of their line, at most so many.
+// The beginning of the bytes up to the end of their line, at most 80.
 fn line_behind(bytes: &[u8]) -> &[u8] {
     let length = bytes
         .iter()

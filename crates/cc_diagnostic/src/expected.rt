@@ -138,7 +138,7 @@ impl Prefix {
         Ok(())
     }
 
-    // Adds the words of the first beginning that fits, and answers what can be told besides.
+    // Adds the words of the first beginning that fits, and answers what else can be told.
     fn add_beginning(
         &mut self,
         alloc: Global,
@@ -174,7 +174,7 @@ struct Phrase {
     candidates: &'static [&'static str],
 }
 
-/// What can be told of a place besides what begins there.
+/// What else can be told of a place than what begins there.
 #[derive(Clone, Copy)]
 enum Others {
     /// What ends a block.
@@ -195,7 +195,7 @@ impl Others {
     }
 }
 
-/// What can be told of what begins at a place, and what can be told of it besides.
+/// What can be told of what begins at a place, and what else can be told of the place.
 #[derive(Clone, Copy)]
 struct Beginning {
     phrase: Phrase,

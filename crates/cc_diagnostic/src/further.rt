@@ -63,7 +63,7 @@ fn fault_of(alloc: Global, unit: Unit) -> Result<Option<TypeFault>, AllocError> 
     }
 }
 
-// The fault of a text that has a tree, and its offset behind so many bytes.
+// The fault of a text that has a tree, and its offset behind this many bytes.
 fn found_in(alloc: Global, text: &[u8], shift: usize) -> Result<Option<Found>, AllocError> {
     match parse(alloc, text) {
         Ok(unit) => match fault_of(alloc, unit)? {

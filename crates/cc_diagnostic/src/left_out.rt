@@ -16,7 +16,7 @@ pub fn said_of(table: &[Entry], word: &[u8]) -> Option<&'static str> {
 }
 
 /// What a table says of the first of its spellings with which these bytes begin.
-pub fn said_of_front(table: &[Entry], bytes: &[u8]) -> Option<&'static str> {
+pub fn said_of_prefix(table: &[Entry], bytes: &[u8]) -> Option<&'static str> {
     for (spelling, said) in table {
         if bytes.starts_with(spelling.as_bytes()) {
             return Some(*said);
@@ -31,7 +31,7 @@ pub static KEYWORDS: [Entry; 26] = [
     ("case", "there is no case in this C; write if and else"),
     (
         "char",
-        "there is no char in this C but in arrays at file scope, as unsigned char line[80]; write int",
+        "there is no char in this C but in arrays at file scope, for example unsigned char line[80]; write int",
     ),
     (
         "const",
@@ -40,7 +40,7 @@ pub static KEYWORDS: [Entry; 26] = [
     ("default", "there is no default in this C; write else"),
     (
         "double",
-        "there is no double in this C; write int, and count in parts, as thousandths",
+        "there is no double in this C; write int, and count in parts, for example thousandths",
     ),
     ("enum", "there is no enum in this C; write the numbers"),
     (
@@ -49,7 +49,7 @@ pub static KEYWORDS: [Entry; 26] = [
     ),
     (
         "float",
-        "there is no float in this C; write int, and count in parts, as thousandths",
+        "there is no float in this C; write int, and count in parts, for example thousandths",
     ),
     (
         "goto",
@@ -300,7 +300,7 @@ pub const STRUCTURES: &str =
     "there are no structures in this C; write a variable or an array for each member";
 
 pub const FLOATING: &str =
-    "there are no floating constants in this C; count in parts, as thousandths";
+    "there are no floating constants in this C; count in parts, for example thousandths";
 
 pub const ROWS: &str =
     "there are no arrays of arrays in this C; write one array, and row * width + column as the index";

@@ -1,6 +1,6 @@
 // What is told of a byte, a comment or a number that is no token.
 
-use super::left_out::{BYTES, CHARACTERS, FLOATING, said_of_front};
+use super::left_out::{BYTES, CHARACTERS, FLOATING, said_of_prefix};
 use super::message::{Part, message, words};
 use std::alloc::{AllocError, Global};
 
@@ -43,7 +43,7 @@ fn said_of_character(c: char) -> &'static str {
 fn said(rest: &[u8]) -> &'static str {
     match rest {
         [b'.', b'0'..=b'9', ..] => FLOATING,
-        _ => match said_of_front(&BYTES, rest) {
+        _ => match said_of_prefix(&BYTES, rest) {
             Some(said) => said,
             None => match character(rest) {
                 Some(c) => said_of_character(c),

@@ -1,4 +1,4 @@
-//! What a person is told of a text besides its answer: of a fault what stands there and what was wanted, of a run that went wrong
+//! What a person is told of a text beside its answer: of a fault what stands there and what was expected, of a run that went wrong
 //! where and with which values.
 //!
 //! `diagnostic` is what is told and how it is written, with the line of the text that `excerpt` shows; `message` and `spelling` have what

@@ -4,7 +4,7 @@ ghost use Rattle.std.specs.Prelude.{◌≡◌, ◌≤◌, length, is_some, IfSom
 
 use cc_tokens::Place;
 
-// The offset behind so many ends of lines; the end of the text where it has fewer.
+// The offset behind this many ends of lines; the end of the text where it has fewer.
 fn line_start(text: &[u8], lines: usize) -> usize
     ensures { result ≤ length text.now }
 {

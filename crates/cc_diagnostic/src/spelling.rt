@@ -62,10 +62,10 @@ impl fmt::Display for Quoted<'_> {
         let bytes = self.0;
         let look = Look::Plain;
         match bytes.get(..MOST_SHOWN) {
-            Some(front) if bytes.len() > MOST_SHOWN => {
-                let bytes = front;
-                let front = Shown { bytes, look };
-                write!(f, "'{front}...'")
+            Some(prefix) if bytes.len() > MOST_SHOWN => {
+                let bytes = prefix;
+                let prefix = Shown { bytes, look };
+                write!(f, "'{prefix}...'")
             }
             _ => {
                 let whole = Shown { bytes, look };

@@ -37,7 +37,7 @@ fn alone(at: usize, message: Result<String, AllocError>) -> Result<Told, AllocEr
     })
 }
 
-// The words of a list, as `',', ';' or ')'`.
+// The words of a list, for example `',', ';' or ')'`.
 fn add_list(message: &mut String, list: &[&str]) -> Result<(), AllocError> {
     for (i, word) in list.iter().enumerate() {
         if i > 0 {

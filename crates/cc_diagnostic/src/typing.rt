@@ -289,7 +289,7 @@ fn wrong_length(alloc: Global, view: &View<'_>, object: &Object) -> Result<Strin
     )
 }
 
-// A call with so many arguments.
+// A call with this many arguments.
 fn wrong_call(
     alloc: Global,
     view: &View<'_>,

@@ -29,7 +29,7 @@ pub enum Use {
     Indexed,
     /// A name is written to.
     Written,
-    /// A name is called, with so many arguments.
+    /// A name is called, with this many arguments.
     Called(usize),
     /// A `return`, with a value or without.
     Returned(bool),

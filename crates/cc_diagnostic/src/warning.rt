@@ -28,7 +28,7 @@ pub enum Warning<'a> {
 fn token_at(text: &[u8], at: usize) -> Option<Token> {
     match next_token(text, at.min(text.len())) {
         Next::Token(token) => Some(token),
-        Next::End | Next::Flawed(_, _) => None,
+        Next::End | Next::Error(_, _) => None,
     }
 }
 

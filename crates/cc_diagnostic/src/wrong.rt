@@ -243,8 +243,8 @@ fn of_unit(alloc: Global, unit: &Unit, run: Run<'_>) -> Result<Option<Diagnostic
 }
 
 /// What is told of a text's run on the words of an input, within `steps` steps, that `interpret` answers to go wrong for a cause: the
-/// place, the values and the function, as `index 3 is outside a[3], in main`. The run is done once more, to see them. Nothing where
-/// it does not go wrong for that cause.
+/// place, the values and the function, for example `index 3 is outside a[3], in main`. The run is done once more, to see them. Nothing
+/// where it does not go wrong for that cause.
 ///
 /// `AllocError` where memory for it runs out.
 pub fn of_wrong(

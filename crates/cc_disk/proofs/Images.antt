@@ -33,21 +33,21 @@ length-image [] (b ∷ image) here = absurd here
 length-image (c ∷ cells) [] here = absurd here
 length-image (c ∷ cells) (b ∷ image) here = omega (arith, length-image cells image here.1)
 
-front_image : (front back : List Cell) (image : List ℕ) → IsImage (front ++ back) image → IsImage front (take (length front) image)
-front_image [] back image here = tt
-front_image (c ∷ front) back [] here = absurd here
-front_image (c ∷ front) back (b ∷ image) here = (here.0, front_image front back image here.1)
+prefix_image : (prefix back : List Cell) (image : List ℕ) → IsImage (prefix ++ back) image → IsImage prefix (take (length prefix) image)
+prefix_image [] back image here = tt
+prefix_image (c ∷ prefix) back [] here = absurd here
+prefix_image (c ∷ prefix) back (b ∷ image) here = (here.0, prefix_image prefix back image here.1)
 
-back_image : (front back : List Cell) (image : List ℕ) → IsImage (front ++ back) image → IsImage back (drop (length front) image)
+back_image : (prefix back : List Cell) (image : List ℕ) → IsImage (prefix ++ back) image → IsImage back (drop (length prefix) image)
 back_image [] back image here = here
-back_image (c ∷ front) back [] here = absurd here
-back_image (c ∷ front) back (b ∷ image) here = back_image front back image here.1
+back_image (c ∷ prefix) back [] here = absurd here
+back_image (c ∷ prefix) back (b ∷ image) here = back_image prefix back image here.1
 
-join_images : (front back : List Cell) (x y : List ℕ) → IsImage front x → IsImage back y → IsImage (front ++ back) (x ++ y)
+join_images : (prefix back : List Cell) (x y : List ℕ) → IsImage prefix x → IsImage back y → IsImage (prefix ++ back) (x ++ y)
 join_images [] back [] y here there = there
 join_images [] back (b ∷ x) y here there = absurd here
-join_images (c ∷ front) back [] y here there = absurd here
-join_images (c ∷ front) back (b ∷ x) y here there = (here.0, join_images front back x y here.1 there)
+join_images (c ∷ prefix) back [] y here there = absurd here
+join_images (c ∷ prefix) back (b ∷ x) y here there = (here.0, join_images prefix back x y here.1 there)
 
 -- three parts that make the whole
 in_parts : (cells : List Cell) (offset n : ℕ) → take offset cells ++ (take n (drop offset cells) ++ drop (offset + n) cells) ≡ cells
@@ -64,7 +64,7 @@ written_images cells offset bytes fits image now =
     let M = take n (drop offset cells) in
     let B = drop (offset + n) cells in
     let a-long : length A ≡ offset = length-take-le offset cells (omega arith) in
-    let front = front_image A (map unsettled bytes ++ B) image now in
+    let prefix = prefix_image A (map unsettled bytes ++ B) image now in
     let rest = back_image A (map unsettled bytes ++ B) image now in
     let behind = back_image (map unsettled bytes) B (drop (length A) image) rest in
     let x = take (length A) image in
@@ -77,7 +77,7 @@ written_images cells offset bytes fits image now =
     let image-long = length-image (written cells offset bytes) image now in
     let total : length (written cells offset bytes) ≡ length cells = omega (arith, length-append A (map unsettled bytes ++ B), length-append (map unsettled bytes) B, length-map bytes unsettled, a-long, length-drop (offset + n) cells) in
     let x-long : length x ≡ offset = ap length x-is ∙ length-take-le offset image (omega (arith, image-long, total)) in
-    let is_old : IsImage cells old = subst (λ (l : List Cell). IsImage l old) (in_parts cells offset n) (join_images A (M ++ B) x (y ++ z) front (join_images M B y z (bytes_are_image M) behind)) in (
+    let is_old : IsImage cells old = subst (λ (l : List Cell). IsImage l old) (in_parts cells offset n) (join_images A (M ++ B) x (y ++ z) prefix (join_images M B y z (bytes_are_image M) behind)) in (
       old,
       is_old,
       record {

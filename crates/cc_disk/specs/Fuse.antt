@@ -18,7 +18,7 @@ course_behind Once = Passes
 course_behind Before = Fails
 course_behind Within = Fails
 
--- what becomes of the next call, where so many calls pass before the fuse, or the fuse was met
+-- what becomes of the next call, where this many calls pass before the fuse, or the fuse was met
 abbrev pub course_of : FuseMode → Option ℕ → Bool → Course
 course_of mode (Some zero) write = course_at_fuse mode write
 course_of mode (Some (suc n)) write = Passes

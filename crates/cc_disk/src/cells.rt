@@ -97,7 +97,7 @@ fn put_part(bytes: &mut [u8], offset: usize, part: &[u8])
     bytes[offset..end].copy_from_slice(part);
 }
 
-// Clears so many marks from `offset` on.
+// Clears this many marks from `offset` on.
 fn clear_part(marks: &mut [bool], offset: usize, count: usize)
     requires { offset + count ≤ length marks.old }
     ensures { marks.new ≡ take offset marks.old ++ (replicate count false ++ drop (offset + count) marks.old) }

@@ -17,13 +17,24 @@ use std::path::Path;
 /// have given up the pages that it could not write, and a later sync would not tell.
 ///
 /// While it lives no other process has the file open as a disk.
-#[derive(Drop)]
 pub struct FileDisk {
     file: fs::File,
     size: usize,
     failed: FailureCount,
     // Whether a sync failed.
     lost: bool,
+}
+
+// By hand, so that crates above call it and do not prove anew how each part is dropped.
+impl Drop for FileDisk {
+    fn drop(self) {
+        let FileDisk {
+            file,
+            size,
+            failed,
+            lost,
+        } = self;
+    }
 }
 
 impl FileDisk {
@@ -122,7 +133,7 @@ fn is_whole(answer: io::Result<usize>, wanted: usize) -> bool
     }
 }
 
-// Whether so many bytes from that offset on were written, by one system call.
+// Whether this many bytes from that offset on were written, by one system call.
 fn is_written(file: &fs::File, offset: usize, bytes: &[u8]) -> bool {
     is_whole(file.write_at(bytes, offset as u64), bytes.len())
 }
@@ -133,7 +144,7 @@ fn is_read(file: &fs::File, offset: usize, buffer: &mut [u8]) -> bool {
     is_whole(answer, buffer.len())
 }
 
-// Writes so many zeros from the file's start on.
+// Writes this many zeros from the file's start on.
 fn put_zeros(file: &fs::File, size: usize) -> Result<(), DiskFault> {
     let zeros = [0u8; 4096];
     let mut done = 0;

@@ -29,7 +29,6 @@ enum Course {
 
 /// A disk that fails on purpose: it passes a number of calls of `read_at`, `write_at` and `sync` on to the disk that it
 /// was made of, and then does as its mode says. It is honest where that disk is.
-#[derive(Drop)]
 pub struct FuseDisk<D: Disk> {
     disk: D,
     // How many calls still pass before the fuse; none once it was met.
@@ -37,6 +36,18 @@ pub struct FuseDisk<D: Disk> {
     mode: FuseMode,
     // The failures that the fuse made, beside those of the disk.
     failed: FailureCount,
+}
+
+// By hand, so that crates above call it and do not prove anew how each part is dropped.
+impl<D: Disk + Drop> Drop for FuseDisk<D> {
+    fn drop(self) {
+        let FuseDisk {
+            disk,
+            ahead,
+            mode,
+            failed,
+        } = self;
+    }
 }
 
 impl<D: Disk> FuseDisk<D> {

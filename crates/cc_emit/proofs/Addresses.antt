@@ -6,7 +6,7 @@ use Rattle.cc_syntax.specs.Tree.{Object, External}
 use Rattle.cc_typing.specs.Types.{object_elements, object_words}
 use Rattle.cc_typing.specs.Limits.{objects, object_name, too_many, most_words, word_excesses, past, most_functions, function_names, externals_excesses}
 use Rattle.cc_typing.specs.Typed.{IsTyped, IsWithinLimits}
-use Rattle.cc_typing.specs.declared.rule.Offence.{Offence}
+use Rattle.cc_typing.specs.declared.rule.RuleError.{RuleError}
 use Rattle.cc_resolve.specs.Layout.{laid_from}
 use Rattle.cc_meaning.specs.Meaning.{Global, initial_globals}
 use Rattle.cc_meaning.specs.Numbered.{objects_in, objects_of}
@@ -24,7 +24,7 @@ pub behind_more : (a : ℕ) (os : List Object) → a ≤ address_behind a os
 behind_more a [] = omega arith
 behind_more a (o ∷ os) = let h = behind_more (a + 4 * object_words o) os in omega arith
 
-back_none : (xs ys : List Offence) → xs ++ ys ≡ [] → ys ≡ []
+back_none : (xs ys : List RuleError) → xs ++ ys ≡ [] → ys ≡ []
 back_none [] ys e = e
 back_none (x ∷ xs) ys e = absurd (let z : x ∷ (xs ++ ys) ≡ [] = e in cc)
 

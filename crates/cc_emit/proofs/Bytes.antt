@@ -115,7 +115,7 @@ kept_word Word v lt = lt
 
 -- ---- where elements lie
 
--- an element of an object with so many, which begins at b
+-- an element of an object with this many, which begins at b
 pub record Lies (w : Width) (b n i : ℕ) : Type 0 where
   pub low : b ≤ element_place w b i
   pub high : element_place w b i + bytes w ≤ b + 4 * words_of w n

@@ -64,12 +64,12 @@ pub record Reaches (x : Site) (next : List Step) (l : Locations) (h : World) (s 
 
 -- one move of Linear, with the words that it takes
 pub record Stepped (x : Site) (ops : List Step) (l : Locations) (h : World) (s : State) : Type 0 where
-  pub front : List ℕ
-  pub are_words : AreWords front
+  pub prefix : List ℕ
+  pub are_words : AreWords prefix
   pub next : List Step
   pub locations : Locations
   pub world : World
-  pub moves : (ws : List ℕ) → linear_move x.meaning.arity (items_behind x.steps) (at_items (items_behind ops) l h (front ++ ws)) ≡ Goes (at_items (items_behind next) locations world ws)
+  pub moves : (ws : List ℕ) → linear_move x.meaning.arity (items_behind x.steps) (at_items (items_behind ops) l h (prefix ++ ws)) ≡ Goes (at_items (items_behind next) locations world ws)
   pub reaches : Reaches x next locations world s
 
 -- or none, since it goes wrong
@@ -111,7 +111,7 @@ reach_set x next l h s p q b d v i e f g k u lt st w =
 
 -- an item that is done
 pub stepped : (x : Site) (ops next : List Step) (l k : Locations) (h g : World) (s : State) → ((ws : List ℕ) → linear_move x.meaning.arity (items_behind x.steps) (at_items (items_behind ops) l h ws) ≡ Goes (at_items (items_behind next) k g ws)) → Reaches x next k g s → Stepped x ops l h s
-stepped x ops next l k h g s moves r = record { front = []; are_words = tt; next = next; locations = k; world = g; moves = moves; reaches = r }
+stepped x ops next l k h g s moves r = record { prefix = []; are_words = tt; next = next; locations = k; world = g; moves = moves; reaches = r }
 
 abbrev pub Given : (x : Site) (w a : ℕ) (ops : List Step) (l : Locations) (h : World) (s : State) → Type 0
 Given x w a ops l h s = (s.pc ≡ x.place + 4 * a) × Standing x w a ops × Within x l h s
@@ -502,7 +502,7 @@ write_case x w a rest l h s (e, st, inside) =
     let t : State = record u { pc = u.pc + 4; output = u.output ++ (v ∷ []) } in
     let step : machine_step x.code u ≡ Continues t = step_at x.code u (x.place + 4 * a + 4) Ecall (ap (λ n. n + 4) e) items.1.0 ∙ ap (λ v. Continues (record u { pc = u.pc + 4; output = u.output ++ (v ∷ []) })) (sym (inside.same 10 (omega arith, omega arith))) in
     record {
-      front = 1 ∷ [];
+      prefix = 1 ∷ [];
       are_words = (omega arith, tt);
       next = rest;
       locations = k;
@@ -526,7 +526,7 @@ read_case x w a rest l h s (e, st, inside) =
     let step : machine_step x.code u ≡ Continues t = step_at x.code u (x.place + 4 * a + 4) Ecall (ap (λ n. n + 4) e) items.1.0 ∙ ap (λ n. Continues (record u { pc = u.pc + 4; registers = with_register u.registers 10 n; input = machine.rest_of u.input })) same in
     let set_v = within_set x (put (Register 17) 2 l) h u (u.pc + 4) 10 v (not_kept x.frame 10 (omega arith) (omega arith)) lt wu in
     record {
-      front = 2 ∷ [];
+      prefix = 2 ∷ [];
       are_words = (omega arith, tt);
       next = rest;
       locations = k;

@@ -90,7 +90,7 @@ module _ (x : Site) (c d : ℕ) (one : 1 ≤ c) (below : d < 1024) (all_places :
   Owes i steps o s mv = Done s (act (call_effect x.meaning (suc d)) mv o steps (lrun i)) (work_act (call_effect x.meaning (suc d)) mv steps (lwork i))
 
   stepped_follows : (k j : ℕ) (ops : List Step) (l : Locations) (h : World) (s : State) → s.output ≡ h.output → (z : Stepped x ops l h s) → (words : List ℕ) → FollowsWith k j (at_items (items_behind z.next) z.locations z.world words) z.reaches.to
-      → FollowsWith (suc k) j (at_items (items_behind ops) l h (z.front ++ words)) s
+      → FollowsWith (suc k) j (at_items (items_behind ops) l h (z.prefix ++ words)) s
   stepped_follows k j ops l h s o z words f zero steps le les = here s h.output o
   stepped_follows k j ops l h s o z words f (suc i) steps le les =
       let q = at_items (items_behind z.next) z.locations z.world words in
@@ -144,7 +144,7 @@ module _ (x : Site) (c d : ℕ) (one : 1 ≤ c) (below : d < 1024) (all_places :
   at_stepped k j ops l h s later o z =
       let r = z.reaches in
       let next = later j r.long r.offset z.next z.locations z.world r.to r.at r.standing r.within in
-      (z.front ++ next.0, words_append z.front next.0 z.are_words next.1, stepped_follows k j ops l h s o z next.0 next.2)
+      (z.prefix ++ next.0, words_append z.prefix next.0 z.are_words next.1, stepped_follows k j ops l h s o z next.0 next.2)
 
   at_case : (k j : ℕ) (ops : List Step) (l : Locations) (h : World) (s : State) → Later k → s.output ≡ h.output → Case x ops l h s → Simulated (suc k) j ops l h s
   at_case k j ops l h s later o (inl z) = at_stepped k j ops l h s later o z

@@ -6,7 +6,7 @@ use Rattle.cc_syntax.specs.Tree.{Parameter, Signature, External, Declaration, De
 use Rattle.cc_typing.specs.Limits.{too_many, most_parameters, parameter_excesses, external_excesses, externals_excesses}
 use Rattle.cc_typing.specs.Typed.{IsTyped, IsWithinLimits}
 use Rattle.cc_typing.specs.Scope.{FileScope, file_scope_behind, first_file_scope}
-use Rattle.cc_typing.specs.declared.rule.Offence.{Offence}
+use Rattle.cc_typing.specs.declared.rule.RuleError.{RuleError}
 use Rattle.cc_meaning.specs.Meaning.{Function, functions, functions_from, text_of}
 use Rattle.cc_meaning.specs.Numbered.{arity_in, objects_in}
 use Rattle.cc_runs.specs.World.{Size}
@@ -28,15 +28,15 @@ use Rattle.cc_emit.proofs.Emitted.{framed_meets}
 
 -- ---- a function has at most eight parameters
 
-front_none : (xs ys : List Offence) → xs ++ ys ≡ [] → xs ≡ []
-front_none [] ys e = refl
-front_none (x ∷ xs) ys e = absurd (let z : x ∷ (xs ++ ys) ≡ [] = e in cc)
+prefix_none : (xs ys : List RuleError) → xs ++ ys ≡ [] → xs ≡ []
+prefix_none [] ys e = refl
+prefix_none (x ∷ xs) ys e = absurd (let z : x ∷ (xs ++ ys) ≡ [] = e in cc)
 
-back_none : (xs ys : List Offence) → xs ++ ys ≡ [] → ys ≡ []
+back_none : (xs ys : List RuleError) → xs ++ ys ≡ [] → ys ≡ []
 back_none [] ys e = e
 back_none (x ∷ xs) ys e = absurd (let z : x ∷ (xs ++ ys) ≡ [] = e in cc)
 
-none_by : (b : Bool) (o : Offence) → cond b (o ∷ []) [] ≡ [] → b ≡ false
+none_by : (b : Bool) (o : RuleError) → cond b (o ∷ []) [] ≡ [] → b ≡ false
 none_by true o e = absurd (let z : o ∷ [] ≡ [] = e in cc)
 none_by false o e = refl
 
@@ -50,13 +50,13 @@ map_length g (x ∷ xs) = ap suc (map_length g xs)
 few_in : (externals : List External) (scope : FileScope) (g : ℕ) → externals_excesses externals ≡ [] → unwrap_or (slice_get (map (λ (h : Function). length h.parameters) (functions_from externals scope)) g) 0 ≤ 8
 few_in [] scope g none = omega arith
 few_in (Definition s body ∷ rest) scope zero none =
-    subst (λ n. n ≤ 8) (sym (map_length (λ (p : Parameter). text_of p.name) s.parameters)) (few_of s (front_none (parameter_excesses s) _ (front_none (external_excesses (Definition s body)) (externals_excesses rest) none)))
+    subst (λ n. n ≤ 8) (sym (map_length (λ (p : Parameter). text_of p.name) s.parameters)) (few_of s (prefix_none (parameter_excesses s) _ (prefix_none (external_excesses (Definition s body)) (externals_excesses rest) none)))
 few_in (Definition s body ∷ rest) scope (suc g) none = few_in rest (file_scope_behind (Definition s body) scope) g (back_none (external_excesses (Definition s body)) (externals_excesses rest) none)
 few_in (Declaration s ∷ rest) scope g none = few_in rest (file_scope_behind (Declaration s) scope) g (back_none (external_excesses (Declaration s)) (externals_excesses rest) none)
 few_in (Objects t os ∷ rest) scope g none = few_in rest (file_scope_behind (Objects t os) scope) g none
 
 pub few_parameters : (unit : List External) → IsWithinLimits unit → (g : ℕ) → arity_in unit g ≤ 8
-few_parameters unit limits g = few_in unit first_file_scope g (front_none (externals_excesses unit) _ limits)
+few_parameters unit limits g = few_in unit first_file_scope g (prefix_none (externals_excesses unit) _ limits)
 
 -- ---- the piece
 

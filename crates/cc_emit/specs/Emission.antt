@@ -337,7 +337,7 @@ abbrev pub framed_items : (base : ℕ → ℕ) → Frame → List Step → List 
 framed_items base f steps =
     prologue f ++ emitted base f (is_near f steps) (short_place f (is_near f steps) 0 (prologue_size f) steps) 0 (prologue_size f) steps
 
--- the code of a function with so many slots
+-- the code of a function with this many slots
 abbrev pub function_items : (base : ℕ → ℕ) → (slots : ℕ) → List linear.Item → List Item
 function_items base slots items = framed_items base (frame_of slots items) (steps items)
 

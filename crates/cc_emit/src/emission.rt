@@ -44,7 +44,7 @@ fn move_word(between: Move) -> Instr
     }
 }
 
-// Puts an access to an element that lies so many bytes behind the first: x5 becomes its address, less the lower part of its object's
+// Puts an access to an element that lies this many bytes behind the first: x5 becomes its address, less the lower part of its object's
 // address.
 fn put_based(
     items: &mut Vec<Item>,
@@ -160,7 +160,7 @@ fn put_branch(
     }
 }
 
-// Puts the items of one item of Linear that has so many from it on, with each branch long; `bases` has the objects' addresses.
+// Puts the items of one item of Linear that has this many from it on, with each branch long; `bases` has the objects' addresses.
 fn put_items_of_one(
     items: &mut Vec<Item>,
     frame: &Frame,
@@ -241,7 +241,7 @@ fn put_items_of_one(
     }
 }
 
-// Puts the items of a step that has so many from it on, with each branch long; `bases` has the objects' addresses.
+// Puts the items of a step that has this many from it on, with each branch long; `bases` has the objects' addresses.
 fn put_items_of(
     items: &mut Vec<Item>,
     frame: &Frame,
@@ -318,7 +318,7 @@ fn put_code(
     Ok(())
 }
 
-/// The items of the code of a function with so many slots; `bases` has the objects' addresses.
+/// The items of the code of a function with this many slots; `bases` has the objects' addresses.
 pub(crate) fn function_items(
     alloc: Global,
     slots: u16,

@@ -59,7 +59,7 @@ impl Places {
         self.long
     }
 
-    /// Whether a branch to a label is near that has so many items from it on, with each branch long.
+    /// Whether a branch to a label is near that has this many items from it on, with each branch long.
     pub(crate) fn is_near(&self, here: usize, label: u32) -> bool
         ensures { result ≡ near_behind self.now.first.items here label }
     {
@@ -108,7 +108,7 @@ fn reaches(from: usize, to: usize) -> bool
     }
 }
 
-// Whether a branch is near that has so many items from it on, where the first table knows its label.
+// Whether a branch is near that has this many items from it on, where the first table knows its label.
 fn is_near(first: &[usize], here: usize, label: u32) -> bool
     ensures { result ≡ near_behind first.now here label }
 {
@@ -169,7 +169,7 @@ pub(crate) fn long_size(frame: &Frame, step: &Step) -> usize
     }
 }
 
-// How many items an item of Linear takes, where so many come from it on: at most 15.
+// How many items an item of Linear takes, where this many come from it on: at most 15.
 fn size_of_one(frame: &Frame, first: &[usize], here: usize, item: &LinearItem) -> usize
     ensures answer { result ≡ size_of_one frame.now (near_behind first.now here) item.now }
     ensures few { result ≤ 15 }
@@ -182,7 +182,7 @@ fn size_of_one(frame: &Frame, first: &[usize], here: usize, item: &LinearItem) -
     }
 }
 
-// How many items a step takes, where so many come from it on: at most 15.
+// How many items a step takes, where this many come from it on: at most 15.
 fn size(frame: &Frame, first: &[usize], here: usize, step: &Step) -> usize
     ensures answer { result ≡ size frame.now (near_behind first.now here) step.now }
     ensures few { result ≤ 15 }

@@ -27,7 +27,7 @@ impl Model for Graph {
 }
 
 impl Graph {
-    /// A graph of so many nodes without an edge.
+    /// A graph of this many nodes without an edge.
     pub fn new(alloc: Global, nodes: usize) -> Result<Graph, AllocError>
         ensures { IfOk result (λ graph. graph ≡ replicate nodes []) }
     {

@@ -64,7 +64,7 @@ pub fn solve_backward<F: Facts, T: Transfer<F>>(
     Ok(Solution { facts })
 }
 
-/// The least value for each of so many nodes.
+/// The least value for each of this many nodes.
 fn least_facts<F: Facts>(alloc: Global, nodes: usize) -> Result<Vec<F>, AllocError>
     ensures long { IfOk result (λ facts. length facts.items ≡ nodes) }
     ensures least { IfOk result (λ facts. (node : ℕ) → facts_at F.bottom facts.items node ≡ F.bottom) }

@@ -27,7 +27,7 @@ impl Model for Worklist {
 }
 
 impl Worklist {
-    /// None of so many nodes waits.
+    /// None of this many nodes waits.
     fn of_none(alloc: Global, nodes: usize) -> Result<Worklist, AllocError>
         ensures { IfOk result (λ waiting. waiting ≡ replicate nodes false) }
     {
@@ -37,7 +37,7 @@ impl Worklist {
         })
     }
 
-    /// Each of so many nodes waits.
+    /// Each of this many nodes waits.
     pub fn of_all(alloc: Global, nodes: usize) -> Result<Worklist, AllocError>
         ensures long { IfOk result (λ waiting. length waiting ≡ nodes) }
         ensures waits { IfOk result (λ waiting. (node : ℕ) → node < nodes → waits waiting node ≡ true) }

@@ -1,5 +1,5 @@
--- What bytes that were read ahead say of the bytes of a disk. How: they are a front of the disk's bytes from their offset on, and
--- a part of a front is one too.
+-- What bytes that were read ahead say of the bytes of a disk. How: they are a prefix of the disk's bytes from their offset on, and
+-- a part of a prefix is one too.
 use Rattle.std.proofs.Common.{◌≡◌, ◌⊎◌, ℕ, ◌+◌, ◌-◌, ◌≤◌, List, [], ◌∷◌, ◌++◌, length, get_or, take, drop, ⊎_elim, Err, refl, sym, ◌∙◌, ap, subst, arith, append_assoc, length-append}
 use Rattle.std.proofs.Math.Seq.{take-add}
 use Rattle.std.proofs.lemmas.List.{drop-drop, drop-take, drop_all, length-drop, length-take-le, take-take, take_all, take_at}
@@ -8,50 +8,50 @@ use Rattle.cc_journal.specs.declared.fault.JournalFault.{JournalFault}
 use Rattle.cc_journal.specs.declared.fault.JournalFault.TheVariants.{Full, DiskFault, Closed, Damaged, NotALibrary, OutOfMemory}
 
 -- these are the first of those
-abbrev IsFront : (front all : List ℕ) → Type 0
-IsFront front all = front ≡ take (length front) all
+abbrev IsPrefix : (prefix all : List ℕ) → Type 0
+IsPrefix prefix all = prefix ≡ take (length prefix) all
 
 at_most_or_more : (m n : ℕ) → (m ≤ n) ⊎ (n ≤ m)
 at_most_or_more m n = grind arith
 
-front_of_front : (m : ℕ) (front all : List ℕ) → IsFront front all → IsFront (take m front) all
-front_of_front m front all is =
+prefix_of_prefix : (m : ℕ) (prefix all : List ℕ) → IsPrefix prefix all → IsPrefix (take m prefix) all
+prefix_of_prefix m prefix all is =
     ⊎_elim
     (λ few.
-    let long : length (take m front) ≡ m = length-take-le m front few in
-    ap (λ (l : List ℕ). take m l) is ∙ take-take m (length front) all few ∙ ap (λ (k : ℕ). take k all) (sym long))
-    (λ many. let same : take m front ≡ front = take_all m front many in same ∙ is ∙ ap (λ (l : List ℕ). take (length l) all) (sym same))
-    (at_most_or_more m (length front))
+    let long : length (take m prefix) ≡ m = length-take-le m prefix few in
+    ap (λ (l : List ℕ). take m l) is ∙ take-take m (length prefix) all few ∙ ap (λ (k : ℕ). take k all) (sym long))
+    (λ many. let same : take m prefix ≡ prefix = take_all m prefix many in same ∙ is ∙ ap (λ (l : List ℕ). take (length l) all) (sym same))
+    (at_most_or_more m (length prefix))
 
-front_behind : (k : ℕ) (front all : List ℕ) → IsFront front all → IsFront (drop k front) (drop k all)
-front_behind k front all is =
+prefix_behind : (k : ℕ) (prefix all : List ℕ) → IsPrefix prefix all → IsPrefix (drop k prefix) (drop k all)
+prefix_behind k prefix all is =
     ⊎_elim
     (λ within.
-    let rest = length front - k in
-    let long : length (drop k front) ≡ rest = length-drop k front in
-    let sum : length front ≡ k + rest = omega arith in
+    let rest = length prefix - k in
+    let long : length (drop k prefix) ≡ rest = length-drop k prefix in
+    let sum : length prefix ≡ k + rest = omega arith in
     ap (λ (l : List ℕ). drop k l) is ∙ ap (λ (n : ℕ). drop k (take n all)) sum ∙ drop-take k rest all ∙ ap (λ (n : ℕ). take n (drop k all)) (sym long))
-    (λ past. let none : drop k front ≡ [] = drop_all k front past in none ∙ ap (λ (l : List ℕ). take (length l) (drop k all)) (sym none))
-    (at_most_or_more k (length front))
+    (λ past. let none : drop k prefix ≡ [] = drop_all k prefix past in none ∙ ap (λ (l : List ℕ). take (length l) (drop k all)) (sym none))
+    (at_most_or_more k (length prefix))
 
 -- what a window shows from a later offset on
 pub shows_from : (offset later m : ℕ) (bytes seen : List ℕ) → offset ≤ later → Shows offset bytes seen → Shows later (take m (drop (later - offset) bytes)) seen
 shows_from offset later m bytes seen le shown =
     let same : drop (later - offset) (drop offset seen) ≡ drop later seen = drop-drop (later - offset) offset seen ∙ ap (λ (n : ℕ). drop n seen) (omega arith) in
-    subst (λ (l : List ℕ). IsFront (take m (drop (later - offset) bytes)) l) same (front_of_front m (drop (later - offset) bytes) (drop (later - offset) (drop offset seen)) (front_behind (later - offset) bytes (drop offset seen) shown))
+    subst (λ (l : List ℕ). IsPrefix (take m (drop (later - offset) bytes)) l) same (prefix_of_prefix m (drop (later - offset) bytes) (drop (later - offset) (drop offset seen)) (prefix_behind (later - offset) bytes (drop offset seen) shown))
 
 -- the first of what is shown
 pub shows_first : (offset m : ℕ) (bytes seen : List ℕ) → Shows offset bytes seen → Shows offset (take m bytes) seen
-shows_first offset m bytes seen shown = front_of_front m bytes (drop offset seen) shown
+shows_first offset m bytes seen shown = prefix_of_prefix m bytes (drop offset seen) shown
 
 -- bytes that are shown and those behind them
 pub shown_and_read : (offset done count : ℕ) (first rest seen : List ℕ) → Shows offset first seen → length first ≡ done → done ≤ count
     → rest ≡ take (count - done) (drop (offset + done) seen) → first ++ rest ≡ take count (drop offset seen)
 shown_and_read offset done count first rest seen shown long le read =
     let behind : rest ≡ take (count - done) (drop done (drop offset seen)) = read ∙ ap (λ (l : List ℕ). take (count - done) l) (sym (drop-drop done offset seen)) in
-    let front : first ≡ take done (drop offset seen) = shown ∙ ap (λ (n : ℕ). take n (drop offset seen)) long in
+    let prefix : first ≡ take done (drop offset seen) = shown ∙ ap (λ (n : ℕ). take n (drop offset seen)) long in
     let sum : done + (count - done) ≡ count = omega arith in
-    (λ i. front i ++ behind i) ∙ sym (take-add done (count - done) (drop offset seen)) ∙ ap (λ (n : ℕ). take n (drop offset seen)) sum
+    (λ i. prefix i ++ behind i) ∙ sym (take-add done (count - done) (drop offset seen)) ∙ ap (λ (n : ℕ). take n (drop offset seen)) sum
 
 -- a window that shows nothing
 pub shows_none : (offset : ℕ) (bytes seen : List ℕ) → bytes ≡ [] → Shows offset bytes seen
@@ -88,22 +88,22 @@ reading_of_bytes NotALibrary is = absurd is
 -- ---- a record's gate and length
 
 -- the first byte that is shown
-pub front_gate : (front bytes : List ℕ) → IsFront front bytes → 1 ≤ length front → bytes ≡ get_or front 0 0 ∷ drop 1 bytes
-front_gate [] bytes is some = absurd (omega arith)
-front_gate (x ∷ front) [] is some = cc
-front_gate (x ∷ front) (y ∷ bytes) is some = ap (λ (k : ℕ). k ∷ bytes) (first_same x y front (take (length front) bytes) is)
+pub prefix_gate : (prefix bytes : List ℕ) → IsPrefix prefix bytes → 1 ≤ length prefix → bytes ≡ get_or prefix 0 0 ∷ drop 1 bytes
+prefix_gate [] bytes is some = absurd (omega arith)
+prefix_gate (x ∷ prefix) [] is some = cc
+prefix_gate (x ∷ prefix) (y ∷ bytes) is some = ap (λ (k : ℕ). k ∷ bytes) (first_same x y prefix (take (length prefix) bytes) is)
   where
     first_same : (x y : ℕ) (xs ys : List ℕ) → x ∷ xs ≡ y ∷ ys → y ≡ x
     first_same x y xs ys e = cc
 
-pub gate_shown : (front bytes : List ℕ) → IsFront front bytes → 1 ≤ length front → take 1 front ≡ take 1 bytes
-gate_shown front bytes is some = front_of_front 1 front bytes is ∙ ap (λ (n : ℕ). take n bytes) (length-take-le 1 front some)
+pub gate_shown : (prefix bytes : List ℕ) → IsPrefix prefix bytes → 1 ≤ length prefix → take 1 prefix ≡ take 1 bytes
+gate_shown prefix bytes is some = prefix_of_prefix 1 prefix bytes is ∙ ap (λ (n : ℕ). take n bytes) (length-take-le 1 prefix some)
 
-pub length_shown : (front bytes : List ℕ) → IsFront front bytes → 5 ≤ length front → get_or front 1 0 ∷ get_or front 2 0 ∷ get_or front 3 0 ∷ get_or front 4 0 ∷ [] ≡ take 4 (drop 1 bytes)
-length_shown front bytes is long =
-    let behind = front_of_front 4 (drop 1 front) (drop 1 bytes) (front_behind 1 front bytes is) in
-    let four : length (take 4 (drop 1 front)) ≡ 4 = length-take-le 4 (drop 1 front) (omega (arith, length-drop 1 front)) in
-    spelled front long ∙ behind ∙ ap (λ (n : ℕ). take n (drop 1 bytes)) four
+pub length_shown : (prefix bytes : List ℕ) → IsPrefix prefix bytes → 5 ≤ length prefix → get_or prefix 1 0 ∷ get_or prefix 2 0 ∷ get_or prefix 3 0 ∷ get_or prefix 4 0 ∷ [] ≡ take 4 (drop 1 bytes)
+length_shown prefix bytes is long =
+    let behind = prefix_of_prefix 4 (drop 1 prefix) (drop 1 bytes) (prefix_behind 1 prefix bytes is) in
+    let four : length (take 4 (drop 1 prefix)) ≡ 4 = length-take-le 4 (drop 1 prefix) (omega (arith, length-drop 1 prefix)) in
+    spelled prefix long ∙ behind ∙ ap (λ (n : ℕ). take n (drop 1 bytes)) four
   where
     spelled : (l : List ℕ) → 5 ≤ length l → get_or l 1 0 ∷ get_or l 2 0 ∷ get_or l 3 0 ∷ get_or l 4 0 ∷ [] ≡ take 4 (drop 1 l)
     spelled [] few = absurd (omega arith)

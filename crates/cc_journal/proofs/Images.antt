@@ -1,4 +1,4 @@
--- What the images of a commit hold. How: a disk that holds records is a front, the closed gate, and the bytes after it; a
+-- What the images of a commit hold. How: a disk that holds records is a prefix, the closed gate, and the bytes after it; a
 -- commit changes the bytes after the gate, and then the gate alone.
 use Rattle.std.proofs.Common.{◌≡◌, ◌≢◌, inl, inr, ⊎_elim, ℕ, ◌+◌, ◌*◌, ◌%◌, ◌<◌, ◌≤◌, List, [], ◌∷◌, ◌++◌, length, get_or, take, drop, sym, ◌∙◌, ap, subst, arith, length-append, append_assoc, take-append-drop}
 use Rattle.std.proofs.lemmas.Bool.{cases_eq}
@@ -45,32 +45,32 @@ module _ (old new : List ℕ) where
   in_one_write staged gate byte bytes fits first second =
       let Z = drop (gate + 1 + length bytes) old in
       let long = length-take-le (gate + 1) old (omega (arith, fits)) in
-      let front : take gate staged ≡ take gate old =
+      let prefix : take gate staged ≡ take gate old =
       ap (λ (l : List ℕ). take gate l) first ∙ take-append-le gate (take (gate + 1) old) (bytes ++ Z) (omega (arith, long))
       ∙ sym (take-append-le gate (take (gate + 1) old) (drop (gate + 1) old) (omega (arith, long))) ∙ ap (λ (l : List ℕ). take gate l) (take-append-drop (gate + 1) old) in
       let rest : drop (gate + 1) staged ≡ bytes ++ Z = ap (λ (l : List ℕ). drop (gate + 1) l) first ∙ drop_at (take (gate + 1) old) (bytes ++ Z) (gate + 1) long in
       let tail : Z ≡ drop (gate + length (byte ∷ bytes)) old = ap (λ (n : ℕ). drop n old) (omega arith) in
-      second ∙ (λ i. front i ++ byte ∷ rest i) ∙ ap (λ (l : List ℕ). take gate old ++ byte ∷ (bytes ++ l)) tail
+      second ∙ (λ i. prefix i ++ byte ∷ rest i) ∙ ap (λ (l : List ℕ). take gate old ++ byte ∷ (bytes ++ l)) tail
 
 module _ (image : List ℕ) (start area used : ℕ) (bodies : List (List ℕ)) (from : HoldsFrom image start area bodies) (taken : used ≡ length (records bodies)) where
   abbrev h : HoldsRecords image area bodies
   h = from.holds
 
   -- the bytes in front of the closed gate
-  abbrev front : List ℕ
-  front = header h.area_byte area ++ (h.other ++ records bodies)
+  abbrev prefix : List ℕ
+  prefix = header h.area_byte area ++ (h.other ++ records bodies)
 
-  length-front : length front ≡ start + used
-  length-front = omega (arith, length-append (header h.area_byte area) (h.other ++ records bodies), length-header h.area_byte area, length-append h.other (records bodies), from.begins, taken)
+  length-prefix : length prefix ≡ start + used
+  length-prefix = omega (arith, length-append (header h.area_byte area) (h.other ++ records bodies), length-header h.area_byte area, length-append h.other (records bodies), from.begins, taken)
 
-  regroup : (tail : List ℕ) → front ++ tail ≡ header h.area_byte area ++ (h.other ++ (records bodies ++ tail))
+  regroup : (tail : List ℕ) → prefix ++ tail ≡ header h.area_byte area ++ (h.other ++ (records bodies ++ tail))
   regroup tail = append_assoc (header h.area_byte area) (h.other ++ records bodies) tail ∙ ap (λ (l : List ℕ). header h.area_byte area ++ l) (append_assoc h.other (records bodies) tail)
 
-  pub in_two : image ≡ front ++ h.gate ∷ h.behind
+  pub in_two : image ≡ prefix ++ h.gate ∷ h.behind
   in_two = h.bytes ∙ sym (regroup (h.gate ∷ h.behind))
 
-  -- an image of that front and a closed gate holds the old records
-  pub holds_old : (other : List ℕ) (gate : ℕ) (behind : List ℕ) → length other ≡ length image → other ≡ front ++ gate ∷ behind → gate ≢ open_gate → HoldsRecords other area bodies
+  -- an image of that prefix and a closed gate holds the old records
+  pub holds_old : (other : List ℕ) (gate : ℕ) (behind : List ℕ) → length other ≡ length image → other ≡ prefix ++ gate ∷ behind → gate ≢ open_gate → HoldsRecords other area bodies
   holds_old other gate behind long is closed = record {
     area_byte = h.area_byte;
     other = h.other;
@@ -84,7 +84,7 @@ module _ (image : List ℕ) (start area used : ℕ) (bodies : List (List ℕ)) (
   }
 
   -- with the new one after it and its gate open it holds the new one too
-  pub holds_new : (other body behind : List ℕ) → length other ≡ length image → used + length body + 6 ≤ area → other ≡ front ++ open_gate ∷ (frame body ++ behind) → HoldsFrom other start area (bodies ++ body ∷ [])
+  pub holds_new : (other body behind : List ℕ) → length other ≡ length image → used + length body + 6 ≤ area → other ≡ prefix ++ open_gate ∷ (frame body ++ behind) → HoldsFrom other start area (bodies ++ body ∷ [])
   holds_new other body behind long room is = record {
     holds = record {
       area_byte = h.area_byte;
@@ -104,17 +104,17 @@ module _ (image : List ℕ) (start area used : ℕ) (bodies : List (List ℕ)) (
       pushed = ap (λ (l : List ℕ). records bodies ++ open_gate ∷ l) (append_assoc (to_le_bytes w32 (length body)) (body ++ 0 ∷ []) behind ∙ ap (λ (l : List ℕ). to_le_bytes w32 (length body) ++ l) (append_assoc body (0 ∷ []) behind) ∙ sym (append_assoc (to_le_bytes w32 (length body)) body (0 ∷ behind)))
           ∙ sym (append_assoc (records bodies) (record_bytes body) (0 ∷ behind)) ∙ ap (λ (l : List ℕ). l ++ 0 ∷ behind) (sym (records_push bodies body))
 
-  take-front : take (start + used) image ≡ front
-  take-front = ap (λ (l : List ℕ). take (start + used) l) in_two ∙ take_at front (h.gate ∷ h.behind) (start + used) length-front
+  take-prefix : take (start + used) image ≡ prefix
+  take-prefix = ap (λ (l : List ℕ). take (start + used) l) in_two ∙ take_at prefix (h.gate ∷ h.behind) (start + used) length-prefix
 
-  front_gate : front ++ h.gate ∷ [] ≡ take (start + used + 1) image
-  front_gate = sym (ap (λ (l : List ℕ). take (start + used + 1) l) (in_two ∙ sym (append_assoc front (h.gate ∷ []) h.behind)) ∙ take_at (front ++ h.gate ∷ []) h.behind (start + used + 1) (omega (arith, length-append front (h.gate ∷ []), length-front)))
+  prefix_gate : prefix ++ h.gate ∷ [] ≡ take (start + used + 1) image
+  prefix_gate = sym (ap (λ (l : List ℕ). take (start + used + 1) l) (in_two ∙ sym (append_assoc prefix (h.gate ∷ []) h.behind)) ∙ take_at (prefix ++ h.gate ∷ []) h.behind (start + used + 1) (omega (arith, length-append prefix (h.gate ∷ []), length-prefix)))
 
   -- the body's write leaves the closed gate in front of whatever it leaves
   pub behind_gate : (other : List ℕ) (n : ℕ) → DiffersWithin (start + used + 1) n image other → HoldsRecords other area bodies
   behind_gate other n differs =
-      let is : other ≡ front ++ h.gate ∷ drop (start + used + 1) other =
-      sym (take-append-drop (start + used + 1) other) ∙ ap (λ (l : List ℕ). l ++ drop (start + used + 1) other) (differs.before ∙ sym front_gate) ∙ append_assoc front (h.gate ∷ []) (drop (start + used + 1) other) in
+      let is : other ≡ prefix ++ h.gate ∷ drop (start + used + 1) other =
+      sym (take-append-drop (start + used + 1) other) ∙ ap (λ (l : List ℕ). l ++ drop (start + used + 1) other) (differs.before ∙ sym prefix_gate) ∙ append_assoc prefix (h.gate ∷ []) (drop (start + used + 1) other) in
       holds_old other h.gate (drop (start + used + 1) other) differs.size is h.closed
 
   -- the gate's write leaves the old records, or the old ones and the new one
@@ -123,16 +123,16 @@ module _ (image : List ℕ) (start area used : ℕ) (bodies : List (List ℕ)) (
   at_gate body written other room is long differs =
       let g = start + used in
       let Z = drop (g + 1 + length (frame body)) image in
-      let staged : written ≡ front ++ h.gate ∷ (frame body ++ Z) = is ∙ ap (λ (l : List ℕ). l ++ (frame body ++ Z)) (sym front_gate) ∙ append_assoc front (h.gate ∷ []) (frame body ++ Z) in
+      let staged : written ≡ prefix ++ h.gate ∷ (frame body ++ Z) = is ∙ ap (λ (l : List ℕ). l ++ (frame body ++ Z)) (sym prefix_gate) ∙ append_assoc prefix (h.gate ∷ []) (frame body ++ Z) in
       let x = get_or other g 0 in
-      let before : take g other ≡ front = differs.before ∙ ap (λ (l : List ℕ). take g l) staged ∙ take_at front (h.gate ∷ (frame body ++ Z)) g length-front in
+      let before : take g other ≡ prefix = differs.before ∙ ap (λ (l : List ℕ). take g l) staged ∙ take_at prefix (h.gate ∷ (frame body ++ Z)) g length-prefix in
       let rest : drop (g + 1) other ≡ frame body ++ Z =
-      differs.behind ∙ ap (λ (l : List ℕ). drop (g + 1) l) (staged ∙ sym (append_assoc front (h.gate ∷ []) (frame body ++ Z))) ∙ drop_at (front ++ h.gate ∷ []) (frame body ++ Z) (g + 1) (omega (arith, length-append front (h.gate ∷ []), length-front)) in
-      let within : g < length other = omega (arith, differs.size, ap length staged, length-append front (h.gate ∷ (frame body ++ Z)), length-front) in
-      let whole : other ≡ front ++ x ∷ (frame body ++ Z) =
-      sym (take-append-drop g other) ∙ ap (λ (l : List ℕ). l ++ drop g other) before ∙ ap (λ (l : List ℕ). front ++ l) (drop_more other g 0 within ∙ ap (λ (l : List ℕ). x ∷ l) rest) in
+      differs.behind ∙ ap (λ (l : List ℕ). drop (g + 1) l) (staged ∙ sym (append_assoc prefix (h.gate ∷ []) (frame body ++ Z))) ∙ drop_at (prefix ++ h.gate ∷ []) (frame body ++ Z) (g + 1) (omega (arith, length-append prefix (h.gate ∷ []), length-prefix)) in
+      let within : g < length other = omega (arith, differs.size, ap length staged, length-append prefix (h.gate ∷ (frame body ++ Z)), length-prefix) in
+      let whole : other ≡ prefix ++ x ∷ (frame body ++ Z) =
+      sym (take-append-drop g other) ∙ ap (λ (l : List ℕ). l ++ drop g other) before ∙ ap (λ (l : List ℕ). prefix ++ l) (drop_more other g 0 within ∙ ap (λ (l : List ℕ). x ∷ l) rest) in
       ⊎_elim
-      (λ is_open. inr (holds_alone other area (bodies ++ body ∷ []) (holds_new other body Z (differs.size ∙ long) room (whole ∙ ap (λ (k : ℕ). front ++ k ∷ (frame body ++ Z)) is_open)).holds))
+      (λ is_open. inr (holds_alone other area (bodies ++ body ∷ []) (holds_new other body Z (differs.size ∙ long) room (whole ∙ ap (λ (k : ℕ). prefix ++ k ∷ (frame body ++ Z)) is_open)).holds))
       (λ shut. inl (holds_alone other area bodies (holds_old other x (frame body ++ Z) (differs.size ∙ long) whole shut)))
       (cases_eq x open_gate)
 
@@ -162,7 +162,7 @@ module _ (image : List ℕ) (start area used : ℕ) (bodies : List (List ℕ)) (
       let Z = drop (start + used + length (open_gate ∷ frame body)) image in
       holds_new written body Z
       (length-written (start + used) (open_gate ∷ frame body) written (omega (arith, in_area (1 + length (frame body)) (omega (arith, room, length-frame body)))) is)
-      room (is ∙ ap (λ (l : List ℕ). l ++ open_gate ∷ (frame body ++ Z)) take-front)
+      room (is ∙ ap (λ (l : List ℕ). l ++ open_gate ∷ (frame body ++ Z)) take-prefix)
 
   -- the commit of an append that was made: one write of the record, its gate open, and a closed gate
   pub appended : (body new : List ℕ) → used + length body + 6 ≤ area → IsCommitted (append_commit (start + used) body) image new → IsWritten image (start + used) (open_gate ∷ frame body) new

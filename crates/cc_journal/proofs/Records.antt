@@ -1,4 +1,4 @@
--- At most one list of records stands in an image. How: a header, and a record, at the front of two equal lists are equal,
+-- At most one list of records stands in an image. How: a header, and a record, at the start of two equal lists are equal,
 -- since they tell their own lengths; so of two lists of records in front of the same bytes one goes on from the other.
 use Rattle.std.proofs.Common.{◌≡◌, ◌≢◌, ℕ, zero, suc, ◌+◌, ◌*◌, ◌%◌, ◌^◌, ◌<◌, ◌≤◌, List, [], ◌∷◌, ◌++◌, length, get_or, take, drop, refl, sym, ◌∙◌, ap, arith, length-append, append_assoc, drop-cons}
 use Rattle.std.proofs.lemmas.List.{take_at, drop_at}
@@ -51,7 +51,7 @@ records_push bodies body = records-append bodies (body ∷ []) ∙ ap (λ (l : L
 pub length-records_push : (bodies : List (List ℕ)) (body : List ℕ) → length (records (bodies ++ body ∷ [])) ≡ length (records bodies) + (length body + 5)
 length-records_push bodies body = ap length (records_push bodies body) ∙ length-append (records bodies) (record_bytes body) ∙ ap (λ (k : ℕ). length (records bodies) + k) (length-record_bytes body)
 
--- going over records from the front
+-- going over records from the start
 pub next_body : (bodies : List (List ℕ)) (i : ℕ) (body : List ℕ) → i < length bodies → body ≡ get_or bodies i body → drop i bodies ≡ body ∷ drop (i + 1) bodies
 next_body bodies i body within is =
     let k : suc i ≡ i + 1 = omega arith in
@@ -80,18 +80,18 @@ first_same : (x y : ℕ) (xs ys : List ℕ) → x ∷ xs ≡ y ∷ ys → x ≡ 
 first_same x y xs ys same = cc
 
 -- records that stand in front of a closed gate go on from any that stand in front of the same bytes
-pub records_front : (bodies others : List (List ℕ)) (bytes : List ℕ) (gate : ℕ) (behind : List ℕ)
+pub records_prefix : (bodies others : List (List ℕ)) (bytes : List ℕ) (gate : ℕ) (behind : List ℕ)
     → length (records bodies) < 2 ^ 32 → length (records others) < 2 ^ 32 → gate ≢ open_gate → records bodies ++ bytes ≡ records others ++ gate ∷ behind
     → (more : List (List ℕ)) × (others ≡ bodies ++ more) × (bytes ≡ records more ++ gate ∷ behind)
-records_front [] others bytes gate behind small-b small-o closed same = (others, refl, same)
-records_front (body ∷ bodies) [] bytes gate behind small-b small-o closed same =
+records_prefix [] others bytes gate behind small-b small-o closed same = (others, refl, same)
+records_prefix (body ∷ bodies) [] bytes gate behind small-b small-o closed same =
     absurd (closed (sym (first_same open_gate gate _ behind same)))
-records_front (body ∷ bodies) (other ∷ others) bytes gate behind small-b small-o closed same =
+records_prefix (body ∷ bodies) (other ∷ others) bytes gate behind small-b small-o closed same =
     let long-b = length-append (record_bytes body) (records bodies) in
     let long-o = length-append (record_bytes other) (records others) in
     let whole = sym (append_assoc (record_bytes body) (records bodies) bytes) ∙ same ∙ append_assoc (record_bytes other) (records others) (gate ∷ behind) in
     let parts = record_same body other (records bodies ++ bytes) (records others ++ gate ∷ behind) (omega (arith, long-b, length-record_bytes body, small-b)) (omega (arith, long-o, length-record_bytes other, small-o)) whole in
-    let rest = records_front bodies others bytes gate behind (omega (arith, long-b, small-b)) (omega (arith, long-o, small-o)) closed parts.1 in
+    let rest = records_prefix bodies others bytes gate behind (omega (arith, long-b, small-b)) (omega (arith, long-o, small-o)) closed parts.1 in
     let same_body = sym parts.0 in
     (rest.0, (λ i. same_body i ∷ rest.1 i), rest.2)
 
@@ -101,7 +101,7 @@ holds_same image area size bodies others a b =
     let heads = header_same b.area_byte size a.area_byte area _ _ (omega (arith, b.is_area.most)) (omega (arith, a.is_area.most)) (sym b.bytes ∙ a.bytes) in
     let offsets : length b.other ≡ length a.other = b.offset ∙ same_offset b.area_byte a.area_byte size area heads.0 heads.1 ∙ sym a.offset in
     let areas = split_same b.other (records others ++ b.gate ∷ b.behind) a.other (records bodies ++ a.gate ∷ a.behind) offsets heads.2 in
-    let on = records_front bodies others (a.gate ∷ a.behind) b.gate b.behind (omega (arith, a.fits, a.is_area.most)) (omega (arith, b.fits, b.is_area.most)) b.closed (sym areas.1) in
+    let on = records_prefix bodies others (a.gate ∷ a.behind) b.gate b.behind (omega (arith, a.fits, a.is_area.most)) (omega (arith, b.fits, b.is_area.most)) b.closed (sym areas.1) in
     (heads.1, on.1 ∙ no_more on.0 a.gate a.behind b.gate b.behind a.closed bodies on.2)
   where
     same_offset : (b c s t : ℕ) → b ≡ c → s ≡ t → b % 2 * s ≡ c % 2 * t

@@ -35,14 +35,14 @@ same_side a b area e = ap (λ (k : ℕ). 16 + k * area) e
 
 -- ---- what stays of an image
 
-take_front : (n t : ℕ) (l : List ℕ) → n ≤ t → t ≤ length l → take n (take t l) ≡ take n l
-take_front n t l le within =
+take_prefix : (n t : ℕ) (l : List ℕ) → n ≤ t → t ≤ length l → take n (take t l) ≡ take n l
+take_prefix n t l le within =
     sym (take-append-le n (take t l) (drop t l) (omega (arith, length-take-le t l within, le))) ∙ ap (λ (x : List ℕ). take n x) (take-append-drop t l)
 
 module _ (old image : List ℕ) (long : length image ≡ length old) where
-  same_front : (n t : ℕ) → n ≤ t → t ≤ length old → take t image ≡ take t old → take n image ≡ take n old
-  same_front n t le within same =
-      sym (take_front n t image le (omega (arith, within, long))) ∙ ap (λ (x : List ℕ). take n x) same ∙ take_front n t old le within
+  same_prefix : (n t : ℕ) → n ≤ t → t ≤ length old → take t image ≡ take t old → take n image ≡ take n old
+  same_prefix n t le within same =
+      sym (take_prefix n t image le (omega (arith, within, long))) ∙ ap (λ (x : List ℕ). take n x) same ∙ take_prefix n t old le within
 
   same_behind : (e s : ℕ) → e ≤ s → drop e image ≡ drop e old → drop s image ≡ drop s old
   same_behind e s le same =
@@ -63,15 +63,15 @@ module _ (old image : List ℕ) (long : length image ≡ length old) where
   records_stay : (s t : ℕ) (bodies : List (List ℕ)) → s + room_of bodies ≤ t → t ≤ length old → take t image ≡ take t old → EndsClosed (drop s old) bodies → EndsClosed (drop s image) bodies
   records_stay s t bodies le within same ends =
       let room = room_of bodies in
-      let closed_front = records bodies ++ ends.gate ∷ [] in
-      let long-front : length closed_front ≡ room = length-append (records bodies) (ends.gate ∷ []) in
-      let front : take room (drop s image) ≡ closed_front =
-      sym (drop-take s room image) ∙ ap (λ (l : List ℕ). drop s l) (same_front (s + room) t le within same) ∙ drop-take s room old
-      ∙ ap (λ (l : List ℕ). take room l) (ends.is ∙ sym (append_assoc (records bodies) (ends.gate ∷ []) ends.behind)) ∙ take_at closed_front ends.behind room long-front in
+      let closed_prefix = records bodies ++ ends.gate ∷ [] in
+      let long-prefix : length closed_prefix ≡ room = length-append (records bodies) (ends.gate ∷ []) in
+      let prefix : take room (drop s image) ≡ closed_prefix =
+      sym (drop-take s room image) ∙ ap (λ (l : List ℕ). drop s l) (same_prefix (s + room) t le within same) ∙ drop-take s room old
+      ∙ ap (λ (l : List ℕ). take room l) (ends.is ∙ sym (append_assoc (records bodies) (ends.gate ∷ []) ends.behind)) ∙ take_at closed_prefix ends.behind room long-prefix in
       record {
         gate = ends.gate;
         behind = drop room (drop s image);
-        is = sym (take-append-drop room (drop s image)) ∙ ap (λ (l : List ℕ). l ++ drop room (drop s image)) front ∙ append_assoc (records bodies) (ends.gate ∷ []) (drop room (drop s image));
+        is = sym (take-append-drop room (drop s image)) ∙ ap (λ (l : List ℕ). l ++ drop room (drop s image)) prefix ∙ append_assoc (records bodies) (ends.gate ∷ []) (drop room (drop s image));
         closed = ends.closed;
       }
 
@@ -96,7 +96,7 @@ old_area_stays old image start area n bodies from small differs =
     let least : 16 ≤ t = omega arith in
     let within : t ≤ length old =
     ⊎_elim (λ a. omega (arith, a.1, size.room)) (λ z. omega (arith, z.1, size.room)) (sides b area) in
-    let head = header_stays old image differs.size start area (same_front old image differs.size 16 t least within differs.before) begins in
+    let head = header_stays old image differs.size start area (same_prefix old image differs.size 16 t least within differs.before) begins in
     let there : EndsClosed (drop start image) bodies =
     ⊎_elim
     (λ a. records_stay old image differs.size start t bodies (omega (arith, a.0, a.1, here, from.holds.fits)) within differs.before ends)

@@ -11,7 +11,7 @@ use Rattle.cc_journal.specs.Answers.{OpenFaults}
 use Rattle.cc_journal.specs.internal.Reading.{IsReadingFault, is_fault_of_disk}
 use Rattle.cc_journal.specs.declared.fault.JournalFault.{JournalFault}
 use Rattle.cc_journal.specs.declared.fault.JournalFault.TheVariants.{Full, DiskFault, Closed, Damaged, NotALibrary, OutOfMemory}
-use Rattle.cc_journal.proofs.Records.{length-header, header_same, length-record_bytes, records-append, records_push, records_front}
+use Rattle.cc_journal.proofs.Records.{length-header, header_same, length-record_bytes, records-append, records_push, records_prefix}
 
 -- one record more was read
 pub record_on : (bytes : List ℕ) (start used : ℕ) (bodies : List (List ℕ)) (body rest : List ℕ) → drop start bytes ≡ records bodies ++ drop (start + used) bytes → drop (start + used) bytes ≡ record_bytes body ++ rest
@@ -28,7 +28,7 @@ pub none_ends : (bytes : List ℕ) (start used area : ℕ) (bodies others : List
     → (rest : List ℕ) → drop (start + used) bytes ≡ open_gate ∷ rest → ((body rest : List ℕ) → drop (start + used) bytes ≡ record_bytes body ++ rest → length body < 2 ^ 32 → area - used < length body + 6)
     → EndsClosed (drop start bytes) others → room_of others ≤ area → ⊥
 none_ends bytes start used area bodies others small taken fits so_far rest is_open too_long ends room =
-    let on = records_front bodies others (drop (start + used) bytes) ends.gate ends.behind (omega (arith, taken)) (omega (arith, room)) ends.closed (sym so_far ∙ ends.is) in
+    let on = records_prefix bodies others (drop (start + used) bytes) ends.gate ends.behind (omega (arith, taken)) (omega (arith, room)) ends.closed (sym so_far ∙ ends.is) in
     by_more on.0 on.1 on.2
   where
     by_more : (more : List (List ℕ)) → others ≡ bodies ++ more → drop (start + used) bytes ≡ records more ++ ends.gate ∷ ends.behind → ⊥
@@ -92,11 +92,11 @@ ends_of bytes start area size bodies b small h =
     let same_area = heads.1 in
     let other-long : length h.other ≡ b.area_byte % 2 * area = h.offset ∙ both h.area_byte b.area_byte size area heads.0 same_area in
     let head = header h.area_byte size in
-    let front-long : length (head ++ h.other) ≡ start = length-append head h.other ∙ omega (arith, other-long, b.begins, length-header h.area_byte size) in (
+    let prefix-long : length (head ++ h.other) ≡ start = length-append head h.other ∙ omega (arith, other-long, b.begins, length-header h.area_byte size) in (
       record {
         gate = h.gate;
         behind = h.behind;
-        is = ap (λ (l : List ℕ). drop start l) (h.bytes ∙ sym (append_assoc head h.other (records bodies ++ h.gate ∷ h.behind))) ∙ drop_at (head ++ h.other) (records bodies ++ h.gate ∷ h.behind) start front-long;
+        is = ap (λ (l : List ℕ). drop start l) (h.bytes ∙ sym (append_assoc head h.other (records bodies ++ h.gate ∷ h.behind))) ∙ drop_at (head ++ h.other) (records bodies ++ h.gate ∷ h.behind) start prefix-long;
         closed = h.closed;
       },
       omega (arith, h.fits, same_area),

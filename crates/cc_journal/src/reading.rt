@@ -151,7 +151,7 @@ fn length_of(bytes: &[u8; 4]) -> u32
     u32::from_le_bytes([bytes[0], bytes[1], bytes[2], bytes[3]])
 }
 
-// The record at that offset, if its gate is open, where so many bytes of the area are left from there on.
+// The record at that offset, if its gate is open, where this many bytes of the area are left from there on.
 fn read_record<D: Disk>(
     alloc: Global,
     disk: &mut D,
@@ -172,16 +172,16 @@ fn read_record<D: Disk>(
     ensures others { IfErr result IsReadingFault }
 {
     window.look(disk, offset, offset + left, left.min(5))?;
-    let front = window.from(offset);
+    let prefix = window.from(offset);
     // A closed gate ends the records, whatever stands after it.
-    if front[0] != OPEN {
+    if prefix[0] != OPEN {
         return Ok(None);
     }
     if left < 6 {
         return Err(JournalFault::Damaged);
     }
     // The length says how far the record goes.
-    let length = length_of(&[front[1], front[2], front[3], front[4]]) as usize;
+    let length = length_of(&[prefix[1], prefix[2], prefix[3], prefix[4]]) as usize;
     if left - 6 < length {
         return Err(JournalFault::Damaged);
     }

@@ -43,18 +43,18 @@ less Less p = refl
 less Equal p = absurd p
 less Greater p = absurd p
 
-below_there : (x : List ℕ) (front rest : List Entry) (e : Entry) → T (below_all R x (front ++ e ∷ rest)) → R x e.0 ≡ Less
+below_there : (x : List ℕ) (prefix rest : List Entry) (e : Entry) → T (below_all R x (prefix ++ e ∷ rest)) → R x e.0 ≡ Less
 below_there x [] rest e h = less (R x e.0) (first (is_lt (R x e.0)) (below_all R x rest) h)
-below_there x (f ∷ front) rest e h = below_there x front rest e (second (is_lt (R x f.0)) (below_all R x (front ++ e ∷ rest)) h)
+below_there x (f ∷ prefix) rest e h = below_there x prefix rest e (second (is_lt (R x f.0)) (below_all R x (prefix ++ e ∷ rest)) h)
 
 -- a name of rising entries is not among those before it
-not_before : (front rest : List Entry) (e : Entry) → T (is_sorted R (front ++ e ∷ rest)) → find R e.0 front ≡ None
+not_before : (prefix rest : List Entry) (e : Entry) → T (is_sorted R (prefix ++ e ∷ rest)) → find R e.0 prefix ≡ None
 not_before [] rest e sorted = refl
-not_before (f ∷ front) rest e sorted =
-    let below = below_there f.0 front rest e (first (below_all R f.0 (front ++ e ∷ rest)) (is_sorted R (front ++ e ∷ rest)) sorted) in
+not_before (f ∷ prefix) rest e sorted =
+    let below = below_there f.0 prefix rest e (first (below_all R f.0 (prefix ++ e ∷ rest)) (is_sorted R (prefix ++ e ∷ rest)) sorted) in
     let greater : R e.0 f.0 ≡ Greater = nat_list_cmp_total.antisymm e.0 f.0 ∙ ap ordering_reverse below in
     let other : eq_by_cmp R e.0 f.0 ≡ false = ap is_eq greater in
-    ap (λ (b : Bool). cond b (Some f.1) (find R e.0 front)) other ∙ not_before front rest e (second (below_all R f.0 (front ++ e ∷ rest)) (is_sorted R (front ++ e ∷ rest)) sorted)
+    ap (λ (b : Bool). cond b (Some f.1) (find R e.0 prefix)) other ∙ not_before prefix rest e (second (below_all R f.0 (prefix ++ e ∷ rest)) (is_sorted R (prefix ++ e ∷ rest)) sorted)
 
 added : (units : Units) (e : Entry) → map.contains_key units e.0 ≡ false → apply units (Add e.0 e.1) ≡ Ok (map.insert units e.0 e.1)
 added units e none = ap (λ (b : Bool). if b then Err exists else Ok (map.insert units e.0 e.1)) none
@@ -62,17 +62,17 @@ added units e none = ap (λ (b : Bool). if b then Err exists else Ok (map.insert
 is_ok_by : (answer : Result Units ℕ) (made : Units) → answer ≡ Ok made → IsOk answer
 is_ok_by answer made e = subst (λ (r : Result Units ℕ). IsOk r) (sym e) refl
 
-leads : (front es : List Entry) → T (is_sorted R (front ++ es)) → AreAccepted (map.from_entries front) (adds es) × (after_all (map.from_entries front) (adds es) ≡ map.from_entries (front ++ es))
-leads front [] sorted = (tt, ap (λ (l : List Entry). map.from_entries l) (sym (append-nil front)))
-leads front (e ∷ es) sorted =
-    let units : Units = map.from_entries front in
-    let none = not_before front es e sorted in
-    let absent : map.contains_key units e.0 ≡ false = ap is_some (map.get-from_entries nat_list_cmp_total front e.0 ∙ none) in
+leads : (prefix es : List Entry) → T (is_sorted R (prefix ++ es)) → AreAccepted (map.from_entries prefix) (adds es) × (after_all (map.from_entries prefix) (adds es) ≡ map.from_entries (prefix ++ es))
+leads prefix [] sorted = (tt, ap (λ (l : List Entry). map.from_entries l) (sym (append-nil prefix)))
+leads prefix (e ∷ es) sorted =
+    let units : Units = map.from_entries prefix in
+    let none = not_before prefix es e sorted in
+    let absent : map.contains_key units e.0 ≡ false = ap is_some (map.get-from_entries nat_list_cmp_total prefix e.0 ∙ none) in
     let step = added units e absent in
-    let on : after units (Add e.0 e.1) ≡ map.from_entries (front ++ e ∷ []) =
-    ap (λ (r : Result Units ℕ). kept units r) step ∙ sym (map.from_entries_push nat_list_cmp_total (map.slice_cmp-IsAntisymmetric map.nat_cmp-IsAntisymmetric) front e.0 e.1 none) in
-    let parts : (front ++ e ∷ []) ++ es ≡ front ++ e ∷ es = append_assoc front (e ∷ []) es in
-    let rest = leads (front ++ e ∷ []) es (subst (λ (l : List Entry). T (is_sorted R l)) (sym parts) sorted) in (
+    let on : after units (Add e.0 e.1) ≡ map.from_entries (prefix ++ e ∷ []) =
+    ap (λ (r : Result Units ℕ). kept units r) step ∙ sym (map.from_entries_push nat_list_cmp_total (map.slice_cmp-IsAntisymmetric map.nat_cmp-IsAntisymmetric) prefix e.0 e.1 none) in
+    let parts : (prefix ++ e ∷ []) ++ es ≡ prefix ++ e ∷ es = append_assoc prefix (e ∷ []) es in
+    let rest = leads (prefix ++ e ∷ []) es (subst (λ (l : List Entry). T (is_sorted R l)) (sym parts) sorted) in (
       (is_ok_by (apply units (Add e.0 e.1)) (map.insert units e.0 e.1) step, subst (λ (m : Units). AreAccepted m (adds es)) (sym on) rest.0),
       ap (λ (m : Units). after_all m (adds es)) on ∙ rest.1 ∙ ap (λ (l : List Entry). map.from_entries l) parts,
     )
@@ -110,15 +110,15 @@ room_push (f ∷ es) e =
     omega (arith, room_push es e, length-append (record_bytes (body_of (Add f.0 f.1))) (records (bodies_of (adds (es ++ e ∷ [])))), length-append (record_bytes (body_of (Add f.0 f.1))) (records (bodies_of (adds es))))
 
 -- some entries take no more than all
-pub room_front : (front rest : List Entry) → room_of (bodies_of (adds front)) ≤ room_of (bodies_of (adds (front ++ rest)))
-room_front [] rest = omega arith
-room_front (f ∷ front) rest =
-    omega (arith, room_front front rest, length-append (record_bytes (body_of (Add f.0 f.1))) (records (bodies_of (adds (front ++ rest)))), length-append (record_bytes (body_of (Add f.0 f.1))) (records (bodies_of (adds front))))
+pub room_prefix : (prefix rest : List Entry) → room_of (bodies_of (adds prefix)) ≤ room_of (bodies_of (adds (prefix ++ rest)))
+room_prefix [] rest = omega arith
+room_prefix (f ∷ prefix) rest =
+    omega (arith, room_prefix prefix rest, length-append (record_bytes (body_of (Add f.0 f.1))) (records (bodies_of (adds (prefix ++ rest)))), length-append (record_bytes (body_of (Add f.0 f.1))) (records (bodies_of (adds prefix))))
 
 -- nor does one
-pub room_one : (front rest : List Entry) (e : Entry) → length (body_of (Add e.0 e.1)) < room_of (bodies_of (adds (front ++ e ∷ rest)))
+pub room_one : (prefix rest : List Entry) (e : Entry) → length (body_of (Add e.0 e.1)) < room_of (bodies_of (adds (prefix ++ e ∷ rest)))
 room_one [] rest e = omega (arith, length-append (record_bytes (body_of (Add e.0 e.1))) (records (bodies_of (adds rest))), record_long (body_of (Add e.0 e.1)))
-room_one (f ∷ front) rest e = omega (arith, room_one front rest e, length-append (record_bytes (body_of (Add f.0 f.1))) (records (bodies_of (adds (front ++ e ∷ rest)))))
+room_one (f ∷ prefix) rest e = omega (arith, room_one prefix rest e, length-append (record_bytes (body_of (Add f.0 f.1))) (records (bodies_of (adds (prefix ++ e ∷ rest)))))
 
 -- one more
 pub spelled_push : (bodies : List (List ℕ)) (es : List Entry) (body : List ℕ) (e : Entry) → AreSpelled bodies (adds es) → Spells body (Add e.0 e.1) → AreSpelled (bodies ++ body ∷ []) (adds (es ++ e ∷ []))

@@ -54,7 +54,7 @@ drop-below limit zero numbers below = below
 drop-below limit (suc k) [] below = tt
 drop-below limit (suc k) (n ∷ numbers) below = drop-below limit k numbers below.1
 
--- what a reader took from the front
+-- what a reader took from the start
 pub record Takes (bytes text rest : List ℕ) : Type 0 where
   pub parts : bytes ≡ text ++ rest
   pub below : AreBelow 256 rest
@@ -83,11 +83,11 @@ number_by_takes : (spell : ℕ → List ℕ) (value : List ℕ → ℕ) → IsWi
 number_by_takes spell value wide bytes n rest below e =
     let g = unless_some (ltb (length bytes) 4) (value (take 4 bytes), drop 4 bytes) (n, rest) e in
     let long : 4 ≤ length bytes = ltb-false _ _ g.0 in
-    let front : AreBelow 256 (take 4 bytes) = take-below 256 4 bytes below in
+    let prefix : AreBelow 256 (take 4 bytes) = take-below 256 4 bytes below in
     let n-is : value (take 4 bytes) ≡ n = ap (λ (p : ℕ × List ℕ). p.0) g.1 in
     let rest-is : drop 4 bytes ≡ rest = ap (λ (p : ℕ × List ℕ). p.1) g.1 in
-    let spelled : spell n ≡ take 4 bytes = wide.back (take 4 bytes) n (omega (arith, length-take 4 bytes)) front (sym n-is) in
-    (record { parts = rw (spelled, ← rest-is) (sym (take-append-drop 4 bytes)); below = rw (← rest-is) (drop-below 256 4 bytes below) }, rw (← n-is) (wide.small (take 4 bytes) front))
+    let spelled : spell n ≡ take 4 bytes = wide.back (take 4 bytes) n (omega (arith, length-take 4 bytes)) prefix (sym n-is) in
+    (record { parts = rw (spelled, ← rest-is) (sym (take-append-drop 4 bytes)); below = rw (← rest-is) (drop-below 256 4 bytes below) }, rw (← n-is) (wide.small (take 4 bytes) prefix))
 
 number_by_again : (spell : ℕ → List ℕ) (value : List ℕ → ℕ) → IsWide spell value → (n : ℕ) (rest : List ℕ) → n < 2 ^ 32 → number_by value (spell n ++ rest) ≡ Some (n, rest)
 number_by_again spell value wide n rest lt =
@@ -112,7 +112,7 @@ number_again = number_by_again (to_le_bytes w32) (from_le_bytes w32) four_bytes
 pub number_field : IsField number_in (to_le_bytes w32) (λ n. n < 2 ^ 32)
 number_field = record { takes = number_takes; again = number_again }
 
--- ---- so many bytes
+-- ---- a number of bytes
 
 pub taken_takes : (k : ℕ) (bytes text rest : List ℕ) → AreBelow 256 bytes → taken k bytes ≡ Some (text, rest) → Takes bytes text rest × (length text ≡ k) × AreBelow 256 text
 taken_takes k bytes text rest below e =

@@ -9,4 +9,4 @@ pub mod Opening
 pub mod Running
 pub mod Compacting
 mod Sizes
-pub mod Front
+pub mod Prefix

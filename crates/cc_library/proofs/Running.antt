@@ -213,17 +213,17 @@ after_push units (first ∷ done) command = after_push (after units first) done 
 
 -- nothing was done yet
 pub among_none : (units : Units) (edits : List Edit) (image : List ℕ) → RecoversAlone image units → RecoversAmong units edits [] image
-among_none units edits image recovers = record { front = []; behind = edits; earlier = []; later = []; done = []; edits_are = refl; numbers_are = refl; are_done = refl; recovers = recovers }
+among_none units edits image recovers = record { prefix = []; behind = edits; earlier = []; later = []; done = []; edits_are = refl; numbers_are = refl; are_done = refl; recovers = recovers }
 
 -- more edits
 pub among_more : (units : Units) (edits more : List Edit) (numbers others : List ℕ) (image : List ℕ) → RecoversAmong units edits numbers image → RecoversAmong units (edits ++ more) (numbers ++ others) image
 among_more units edits more numbers others image p = record {
-  front = p.front;
+  prefix = p.prefix;
   behind = p.behind ++ more;
   earlier = p.earlier;
   later = p.later ++ others;
   done = p.done;
-  edits_are = ap (λ (l : List Edit). l ++ more) p.edits_are ∙ append_assoc p.front p.behind more;
+  edits_are = ap (λ (l : List Edit). l ++ more) p.edits_are ∙ append_assoc p.prefix p.behind more;
   numbers_are = ap (λ (l : List ℕ). l ++ others) p.numbers_are ∙ append_assoc p.earlier p.later others;
   are_done = p.are_done;
   recovers = p.recovers;
@@ -232,12 +232,12 @@ among_more units edits more numbers others image p = record {
 -- all edits, of which these are the first
 pub among_all : (units : Units) (edits more all : List Edit) (numbers shown : List ℕ) (image : List ℕ) → edits ++ more ≡ all → numbers ≡ shown → RecoversAmong units edits numbers image → RecoversAmong units all shown image
 among_all units edits more all numbers shown image edits_are same p = record {
-  front = p.front;
+  prefix = p.prefix;
   behind = p.behind ++ more;
   earlier = p.earlier;
   later = p.later;
   done = p.done;
-  edits_are = sym edits_are ∙ ap (λ (l : List Edit). l ++ more) p.edits_are ∙ append_assoc p.front p.behind more;
+  edits_are = sym edits_are ∙ ap (λ (l : List Edit). l ++ more) p.edits_are ∙ append_assoc p.prefix p.behind more;
   numbers_are = sym same ∙ p.numbers_are;
   are_done = p.are_done;
   recovers = p.recovers;
@@ -247,7 +247,7 @@ among_all units edits more all numbers shown image edits_are same p = record {
 pub among_next : (units now : Units) (edits : List Edit) (numbers : List ℕ) (edit : Edit) (number : ℕ) (image : List ℕ) → (done : List Command) × AreDone edits numbers done × (now ≡ after_all units done) → IsMidEdit now edit number image
     → RecoversAmong units (edits ++ edit ∷ []) (numbers ++ number ∷ []) image
 among_next units now edits numbers edit number image (done, are, is) (inl recovers) = record {
-  front = edits;
+  prefix = edits;
   behind = edit ∷ [];
   earlier = numbers;
   later = number ∷ [];
@@ -258,7 +258,7 @@ among_next units now edits numbers edit number image (done, are, is) (inl recove
   recovers = subst (λ (m : Units). RecoversAlone image m) is recovers;
 }
 among_next units now edits numbers (Change command) number image (done, are, is) (inr (was, recovers)) = record {
-  front = edits ++ Change command ∷ [];
+  prefix = edits ++ Change command ∷ [];
   behind = [];
   earlier = numbers ++ number ∷ [];
   later = [];
@@ -269,7 +269,7 @@ among_next units now edits numbers (Change command) number image (done, are, is)
   recovers = subst (λ (m : Units). RecoversAlone image m) (ap (λ (m : Units). after m command) is ∙ sym (after_push units done command)) recovers;
 }
 among_next units now edits numbers Compact number image (done, are, is) (inr (was, recovers)) = record {
-  front = edits ++ Compact ∷ [];
+  prefix = edits ++ Compact ∷ [];
   behind = [];
   earlier = numbers ++ number ∷ [];
   later = [];

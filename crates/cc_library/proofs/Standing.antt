@@ -1,4 +1,4 @@
--- What records stand for: one record more at the front or at the back, and that records stand for one map at most. From
+-- What records stand for: one record more at the start or at the back, and that records stand for one map at most. From
 -- this, what images that hold records recover to.
 use Rattle.std.proofs.Common.{◌≡◌, ◌⊎◌, inl, inr, ⊎_elim, ℕ, List, [], ◌∷◌, ◌++◌, refl, sym, ap, subst, ◌∙◌, arith}
 use Rattle.std.specs.Prelude.{IsOk, Err}

@@ -36,14 +36,14 @@ after_edit units Compact = units
 -- The image recovers, alone, to the map after the changes done by the first of the edits, those that the first of the numbers
 -- belong to: by as many as are told here.
 pub record RecoversAmong (units : Units) (edits : List Edit) (numbers : List ℕ) (image : List ℕ) : Type 0 where
-  pub front : List Edit
+  pub prefix : List Edit
   pub behind : List Edit
   pub earlier : List ℕ
   pub later : List ℕ
   pub done : List Command
-  pub edits_are : edits ≡ front ++ behind
+  pub edits_are : edits ≡ prefix ++ behind
   pub numbers_are : numbers ≡ earlier ++ later
-  pub are_done : AreDone front earlier done
+  pub are_done : AreDone prefix earlier done
   pub recovers : RecoversAlone image (after_all units done)
 
 module _ {D : Type 0} where
@@ -106,14 +106,14 @@ module _ {D : Type 0} where
 
   -- a run that stopped: the edits up to one whose disk could not be opened again, with their numbers, the last of them 35
   pub record Stopped (honest : Bool) (failures : D → ℕ) (seen : D → List ℕ) (may_leave : D → List ℕ → Type 0) (old : View D) (edits : List Edit) (numbers : List ℕ) (fault : LibraryFault) (disk : D) : Type 0 where
-    pub front : List Edit
+    pub prefix : List Edit
     pub edit : Edit
     pub behind : List Edit
     pub earlier : List ℕ
     pub mid : View D
-    pub edits_are : edits ≡ front ++ edit ∷ behind
+    pub edits_are : edits ≡ prefix ++ edit ∷ behind
     pub numbers_are : numbers ≡ earlier ++ 35 ∷ []
-    pub edited : AreEdited honest failures old front earlier mid
+    pub edited : AreEdited honest failures old prefix earlier mid
     pub refused : IsRefused honest failures seen may_leave mid edit fault disk
 
   -- there was no room for the numbers, and nothing was done

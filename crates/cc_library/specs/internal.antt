@@ -1,4 +1,4 @@
 pub mod Reading
 pub mod Halves
 pub mod Steps
-pub mod Front
+pub mod Prefix

@@ -1,3 +1,5 @@
+// The names of units, and the order of their bytes, by which the map keeps them.
+
 ghost use Rattle.std.specs.Prelude.{◌≡◌, ◌↔◌, IsOk, IfOk, IsTrue, length, get_or, ◌≤◌};
 ghost use Rattle.std.specs.Ordering.{nat_cmp, as_partial_cmp, eq_by_cmp};
 ghost use Rattle.std.specs.Cmp.Lexicographic.{slice_cmp};
@@ -6,7 +8,7 @@ ghost use Rattle.std.specs.Cmp.Rules.{comparing};
 ghost use Rattle.std.proofs.Common.{rules};
 ghost use Rattle.std.specs.List.{list_all};
 ghost use Rattle.cc_library.specs.Name.{is_name, is_name_byte, is_small_letter};
-ghost use Rattle.cc_library.specs.internal.Front.{front_number};
+ghost use Rattle.cc_library.specs.internal.Prefix.{prefix_number};
 
 use crate::fault::NameFault;
 use std::cmp::Ordering;
@@ -17,25 +19,32 @@ pub const NAME_BYTES: usize = 32;
 
 /// The name of a unit: 1 to 32 bytes, a small letter, then small letters, digits and `_`.
 /// Contracts see its bytes. They lie in the value, so a name takes no memory.
-#[derive(Clone, Drop)]
+#[derive(Clone)]
 pub struct Name {
     bytes: [u8; 32],
     len: usize,
     // Its first eight bytes as one number, the first the highest, and zeros where it is shorter: most names differ there.
-    front: u64,
+    prefix: u64,
+}
+
+// By hand, so that crates above call it and do not prove anew how each part is dropped.
+impl Drop for Name {
+    fn drop(self) {
+        let Name { bytes, len, prefix } = self;
+    }
 }
 
 impl Model for Name {
     ghost use Rattle.std.specs.Prelude.{◌≤◌, ℕ, List, take, IsTrue};
     ghost use Rattle.std.specs.Prelude.{◌≡◌};
     ghost use Rattle.cc_library.specs.Name.{is_name};
-    ghost use Rattle.cc_library.specs.internal.Front.{front_number};
+    ghost use Rattle.cc_library.specs.internal.Prefix.{prefix_number};
 
     ghost Value = { List ℕ };
 
     ghost view = { λ n. take n.len n.bytes };
 
-    ghost invariant = { λ n. (n.len ≤ 32) × IsTrue (is_name (take n.len n.bytes)) × (n.front ≡ front_number 0 8 (take n.len n.bytes)) };
+    ghost invariant = { λ n. (n.len ≤ 32) × IsTrue (is_name (take n.len n.bytes)) × (n.prefix ≡ prefix_number 0 8 (take n.len n.bytes)) };
 }
 
 fn is_letter(byte: u8) -> bool
@@ -73,8 +82,8 @@ fn byte_or_zero(bytes: &[u8], i: usize) -> u8
 }
 
 // The first eight bytes as one number, the first the highest, and zeros where there are fewer.
-fn front_of(bytes: &[u8]) -> u64
-    ensures { result ≡ front_number 0 8 bytes.now }
+fn prefix_of(bytes: &[u8]) -> u64
+    ensures { result ≡ prefix_number 0 8 bytes.now }
 {
     u64::from_be_bytes([
         byte_or_zero(bytes, 0),
@@ -104,7 +113,7 @@ impl Name {
         Ok(Name {
             bytes: kept,
             len: bytes.len(),
-            front: front_of(bytes),
+            prefix: prefix_of(bytes),
         })
     }
 
@@ -154,8 +163,8 @@ impl Ord for Name {
     fn cmp(&self, other: &Name) -> Ordering {
         let mine = self.bytes();
         let theirs = other.bytes();
-        if self.front != other.front {
-            return self.front.cmp(&other.front);
+        if self.prefix != other.prefix {
+            return self.prefix.cmp(&other.prefix);
         }
         mine.cmp(theirs)
     }

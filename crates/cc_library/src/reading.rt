@@ -121,8 +121,8 @@ fn certificate_at(
         return Ok((None, bytes));
     }
     let (count, rest) = number_at(bytes)?;
-    let (front, rest) = bytes_at(count as usize, rest)?;
-    let bytes = Vec::from_slice(alloc, front)?;
+    let (prefix, rest) = bytes_at(count as usize, rest)?;
+    let bytes = Vec::from_slice(alloc, prefix)?;
     Ok((Some(Certificate::new(bytes)), rest))
 }
 
@@ -134,8 +134,8 @@ fn source_at(alloc: Global, bytes: &[u8]) -> Result<(Source, &[u8]), ReadFault>
     if count > 65_536 {
         return Err(ReadFault::NoCommand);
     }
-    let (front, rest) = bytes_at(count as usize, rest)?;
-    match Source::new(Vec::from_slice(alloc, front)?) {
+    let (prefix, rest) = bytes_at(count as usize, rest)?;
+    match Source::new(Vec::from_slice(alloc, prefix)?) {
         Ok(source) => Ok((source, rest)),
         Err(_) => Err(ReadFault::NoCommand),
     }
@@ -166,8 +166,8 @@ fn name_at(bytes: &[u8]) -> Result<(Name, &[u8]), ReadFault>
     ensures { Gives (λ x. (x.0, x.1.now)) result (name_in bytes.now) }
 {
     let (count, rest) = byte_at(bytes)?;
-    let (front, rest) = bytes_at(count as usize, rest)?;
-    match Name::new(front) {
+    let (prefix, rest) = bytes_at(count as usize, rest)?;
+    match Name::new(prefix) {
         Ok(name) => Ok((name, rest)),
         Err(_) => Err(ReadFault::NoCommand),
     }
@@ -205,7 +205,7 @@ fn words_at(alloc: Global, count: u32, bytes: &[u8]) -> Result<(Vec<u32>, &[u8])
     Ok((words, rest))
 }
 
-// Reads the words at the front of these bytes, as many as there is room for, each from four bytes, the lowest first.
+// Reads the words at the start of these bytes, as many as there is room for, each from four bytes, the lowest first.
 fn fill_from(words: &mut [u32], bytes: &[u8])
     requires { 4 * length words.old ≤ length bytes.now }
     ensures read { words_in (length words.old) bytes.now ≡ Some (words.new, drop (4 * length words.old) bytes.now) }
@@ -224,8 +224,8 @@ fn fill_from(words: &mut [u32], bytes: &[u8])
 fn number_at(bytes: &[u8]) -> Result<(u32, &[u8]), ReadFault>
     ensures { Gives (λ x. (x.0, x.1.now)) result (number_in bytes.now) }
 {
-    let (front, rest) = bytes_at(4, bytes)?;
-    let number = u32::from_le_bytes([front[0], front[1], front[2], front[3]]);
+    let (prefix, rest) = bytes_at(4, bytes)?;
+    let number = u32::from_le_bytes([prefix[0], prefix[1], prefix[2], prefix[3]]);
     Ok((number, rest))
 }
 

@@ -139,11 +139,11 @@ straight_put end block order old once twice middle last before after to b a g le
     let tail = tail_of end block order [] in
     let lasts : last ≡ tail = l ∙ ap (λ e. cond (is_empty block) (Jump e ∷ []) (leads e order [])) leads_to in
     let behind : moves_then after [] ++ last ≡ moves_then block.after tail = sym (moves_alone after last) ∙ ap (λ ms. moves_then ms last) a ∙ ap (moves_then block.after) lasts in
-    let front : moves_then before [] ++ middle ≡ moves_then block.before (operation_then block.operation []) =
+    let prefix : moves_then before [] ++ middle ≡ moves_then block.before (operation_then block.operation []) =
     sym (moves_alone before middle) ∙ ap (λ ms. moves_then ms middle) b ∙ ap (moves_then block.before) (sym m) in
     t ∙ ap (λ xs. xs ++ (moves_then after [] ++ last)) o ∙ append_assoc old (moves_then before [] ++ middle) (moves_then after [] ++ last)
     ∙ ap (λ xs. old ++ xs) (
-    ap (λ xs. xs ++ (moves_then after [] ++ last)) front ∙ ap (λ xs. moves_then block.before (operation_then block.operation []) ++ xs) behind
+    ap (λ xs. xs ++ (moves_then after [] ++ last)) prefix ∙ ap (λ xs. moves_then block.before (operation_then block.operation []) ++ xs) behind
     ∙ sym (moves_before block.before (operation_then block.operation []) (moves_then block.after tail)) ∙ ap (moves_then block.before) (sym (operation_alone block.operation (moves_then block.after tail)))
     ∙ sym (straight_is end block block.operation order [] g)
     )

@@ -80,8 +80,8 @@ are_ends next known ends (far, most, s) = (far, most, record { low = s.low; each
 abbrev Below : ℕ → List ℕ → Type 0
 Below n xs = All (λ x. x < n) xs
 
-pub all_front : (n : ℕ) (xs : List ℕ) (y : ℕ) → All (λ x. x < n) (xs ++ y ∷ []) → All (λ x. x < n) xs
-all_front n xs y h = λ k d below. subst (λ x. x < n) (get_or_append_left xs (y ∷ []) d k below) (h k d (let e = length-append xs (y ∷ []) in omega arith))
+pub all_prefix : (n : ℕ) (xs : List ℕ) (y : ℕ) → All (λ x. x < n) (xs ++ y ∷ []) → All (λ x. x < n) xs
+all_prefix n xs y h = λ k d below. subst (λ x. x < n) (get_or_append_left xs (y ∷ []) d k below) (h k d (let e = length-append xs (y ∷ []) in omega arith))
 
 pub all_last : (n : ℕ) (xs : List ℕ) (y : ℕ) → All (λ x. x < n) (xs ++ y ∷ []) → y < n
 all_last n [] y h = h 0 0 (omega arith)

@@ -20,7 +20,7 @@ labels [] = []
 labels (Label label ∷ items) = label ∷ labels items
 labels (item ∷ items) = labels items
 
--- an item of a function with so many slots, in a unit with so many functions: jumps and branches lead to labels of the list
+-- an item of a function with this many slots, in a unit with this many functions: jumps and branches lead to labels of the list
 abbrev pub IsItem : (slots functions : ℕ) → (labels : List ℕ) → Item → Type 0
 IsItem slots functions labels (Label label) = Unit {0}
 IsItem slots functions labels (Jump to) = Contains labels to
@@ -98,6 +98,6 @@ linear_move arity code c = does arity code c.items c.locations c.world c.words
 abbrev pub linear_output : Configuration → List ℕ
 linear_output c = c.world.output
 
--- where the run of a function with so many slots begins
+-- where the run of a function with this many slots begins
 abbrev pub linear_start : (slots : ℕ) → List Item → (words arguments : List ℕ) → World → Configuration
 linear_start slots code words arguments world = at_items code (at_entry slots words arguments) world (left_after_entry slots words)

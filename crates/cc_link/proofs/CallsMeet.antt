@@ -7,7 +7,7 @@ use Rattle.cc_runs.specs.Meaning.{Meaning}
 use Rattle.cc_emit.specs.declared.item.Item.{Item}
 use Rattle.cc_emit.specs.Contract.{Code, Layout, Placed, Meets, CallsMeet, IsPlace, PieceMeets}
 
--- the rate of a call, where so many more may be open
+-- the rate of a call, where this many more may be open
 unfoldable pub power : ℕ → ℕ → ℕ
 power rate zero = 1
 power rate (suc k) = suc rate * power rate k

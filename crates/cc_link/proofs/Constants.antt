@@ -67,9 +67,9 @@ cut_words (token k x ∷ ps) at text rest h = (kind_word k x h.2.2, cut_words ps
 text_words : (text : List ℕ) (ts : List Lexeme) → IsTokens text ts → AreNumbersWords ts
 text_words text ts h = subst AreNumbersWords (sym h.tokens) (cut_words h.pieces 0 text [] h.cut)
 
-front : (xs ys : List Lexeme) → AreNumbersWords (xs ++ ys) → AreNumbersWords xs
-front [] ys h = tt
-front (x ∷ xs) ys h = (h.0, front xs ys h.1)
+prefix : (xs ys : List Lexeme) → AreNumbersWords (xs ++ ys) → AreNumbersWords xs
+prefix [] ys h = tt
+prefix (x ∷ xs) ys h = (h.0, prefix xs ys h.1)
 
 back : (xs ys : List Lexeme) → AreNumbersWords (xs ++ ys) → AreNumbersWords ys
 back [] ys h = h
@@ -148,7 +148,7 @@ value_is (Variable x) level ts h are w e = none_word w e
 value_is (Element x i) level ts h are w e = none_word w e
 value_is (Call f es) level ts h are w e = none_word w e
 value_is (Parenthesised a) level ts h are w e =
-    let all : AreNumbersWords (h.0 ∷ h.2 ++ h.1 ∷ []) = subst AreNumbersWords h.6 are in value_is a 1 h.2 h.5 (front h.2 (h.1 ∷ []) all.1) w e
+    let all : AreNumbersWords (h.0 ∷ h.2 ++ h.1 ∷ []) = subst AreNumbersWords h.6 are in value_is a 1 h.2 h.5 (prefix h.2 (h.1 ∷ []) all.1) w e
 value_is (Unary op a) level ts h are w e =
     let all : AreNumbersWords (h.0 ∷ h.1) = subst AreNumbersWords h.4 are in mapped_is op (constant_value a) w (λ x f. value_is a 12 h.1 h.3 all.1 x f) e
 value_is (Cast t a) level ts h are w e =
@@ -156,7 +156,7 @@ value_is (Cast t a) level ts h are w e =
 value_is (Binary op a b) level ts h are w e =
     let all : AreNumbersWords (h.1 ++ h.0 ∷ h.2) = subst AreNumbersWords h.7 are in
     let x = with_some (constant_value a) (λ v. decided_or (decided op v) (with_word (constant_value b) (λ y. binary_word op (working_type op (value_type [] a) (value_type [] b)) v y))) w e in
-    let left : IsWord x.0 = value_is a _ h.1 h.5 (front h.1 (h.0 ∷ h.2) all) x.0 x.1 in
+    let left : IsWord x.0 = value_is a _ h.1 h.5 (prefix h.1 (h.0 ∷ h.2) all) x.0 x.1 in
     decided_is op x.0 w (with_word (constant_value b) (λ y. binary_word op (working_type op (value_type [] a) (value_type [] b)) x.0 y))
     (λ f. let y = with_some (constant_value b) (λ v. binary_word op (working_type op (value_type [] a) (value_type [] b)) x.0 v) w f in
     binary_is op (working_type op (value_type [] a) (value_type [] b)) x.0 y.0 w left (value_is b _ h.2 h.6 (back h.1 (h.0 ∷ h.2) all).1 y.0 y.1) y.2) x.2
@@ -164,16 +164,16 @@ value_is (Conditional c a b) level ts h are w e =
     let all : AreNumbersWords (h.2 ++ (h.0 ∷ h.3 ++ h.1 ∷ h.4)) = subst AreNumbersWords h.11 are in
     let rest : AreNumbersWords (h.3 ++ h.1 ∷ h.4) = (back h.2 (h.0 ∷ h.3 ++ h.1 ∷ h.4) all).1 in
     let x = with_some (constant_value c) (λ v. if is_true v then constant_value a else constant_value b) w e in
-    arm_is (is_true x.0) (constant_value a) (constant_value b) w (value_is a 1 h.3 h.9 (front h.3 (h.1 ∷ h.4) rest) w) (value_is b 1 h.4 h.10 (back h.3 (h.1 ∷ h.4) rest).1 w) x.2
+    arm_is (is_true x.0) (constant_value a) (constant_value b) w (value_is a 1 h.3 h.9 (prefix h.3 (h.1 ∷ h.4) rest) w) (value_is b 1 h.4 h.10 (back h.3 (h.1 ∷ h.4) rest).1 w) x.2
 
 -- ---- objects
 
 abbrev Have : List Measured → Type 0
 Have ts = AreNumbersWords (plain_tokens ts)
 
-front_of : (xs ys : List Measured) → Have (xs ++ ys) → Have xs
-front_of [] ys h = tt
-front_of (x ∷ xs) ys h = (h.0, front_of xs ys h.1)
+prefix_of : (xs ys : List Measured) → Have (xs ++ ys) → Have xs
+prefix_of [] ys h = tt
+prefix_of (x ∷ xs) ys h = (h.0, prefix_of xs ys h.1)
 
 back_of : (xs ys : List Measured) → Have (xs ++ ys) → Have ys
 back_of [] ys h = h
@@ -196,13 +196,13 @@ row_words [] ts h are = tt
 row_words (v ∷ []) ts h are = (constant_is v ts h are, tt)
 row_words (v ∷ w ∷ rest) ts h are =
     let all : Have (h.1 ++ outside h.0 ∷ h.2) = subst Have h.6 are in
-    (constant_is v h.1 h.4 (front_of h.1 (outside h.0 ∷ h.2) all), row_words (w ∷ rest) h.2 h.5 (back_of h.1 (outside h.0 ∷ h.2) all).1)
+    (constant_is v h.1 h.4 (prefix_of h.1 (outside h.0 ∷ h.2) all), row_words (w ∷ rest) h.2 h.5 (back_of h.1 (outside h.0 ∷ h.2) all).1)
 
 list_words : (vs : List ConstantExpr) (ts : List Measured) → SpellsList ts vs → Have ts → AreWords (map (λ (c : ConstantExpr). initial_word (Some c)) vs)
 list_words [] ts h are = tt
 list_words (v ∷ vs) ts h are =
     let all : Have (outside h.0 ∷ outside h.1 ∷ h.3 ++ (map outside h.4 ++ outside h.2 ∷ [])) = subst Have h.10 are in
-    row_words (v ∷ vs) h.3 h.8 (front_of h.3 (map outside h.4 ++ outside h.2 ∷ []) all.1.1)
+    row_words (v ∷ vs) h.3 h.8 (prefix_of h.3 (map outside h.4 ++ outside h.2 ∷ []) all.1.1)
 
 append_words : (xs ys : List ℕ) → AreWords xs → AreWords ys → AreWords (xs ++ ys)
 append_words [] ys h k = k
@@ -225,7 +225,7 @@ objects_are [] ts h are = tt
 objects_are (o ∷ []) ts h are = (object_is o ts h are, tt)
 objects_are (o ∷ p ∷ rest) ts h are =
     let all : Have (h.1 ++ outside h.0 ∷ h.2) = subst Have h.6 are in
-    (object_is o h.1 h.4 (front_of h.1 (outside h.0 ∷ h.2) all), objects_are (p ∷ rest) h.2 h.5 (back_of h.1 (outside h.0 ∷ h.2) all).1)
+    (object_is o h.1 h.4 (prefix_of h.1 (outside h.0 ∷ h.2) all), objects_are (p ∷ rest) h.2 h.5 (back_of h.1 (outside h.0 ∷ h.2) all).1)
 
 -- the elements of an array of `unsigned char` keep eight bits, whatever its list is
 pub byte_list : (vs : List ConstantExpr) (zeros : ℕ) → AreBytes (map (λ (c : ConstantExpr). initial_word (Some c) % 2 ^ 8) vs ++ replicate zeros 0)
@@ -250,7 +250,7 @@ kept_append (o ∷ os) ps h k = (h.0, kept_append os ps h.1 k)
 declared_are : (t : Scalar) (os : List Object) (ts : List Measured) → SpellsExternal ts (Objects t os) → Have ts → AllKept os
 declared_are t os ts (inl h) are =
     let one : Have (map outside h.0 ++ (h.1 ++ outside h.2 ∷ [])) = subst Have h.6 are in
-    objects_are os h.1 h.4 (front_of h.1 (outside h.2 ∷ []) (back_of (map outside h.0) (h.1 ++ outside h.2 ∷ []) one))
+    objects_are os h.1 h.4 (prefix_of h.1 (outside h.2 ∷ []) (back_of (map outside h.0) (h.1 ++ outside h.2 ∷ []) one))
 declared_are t os ts (inr (e, h)) are = byte_arrays_are os h.1 h.4
 
 externals_are : (es : List External) (ts : List Measured) → SpellsExternals ts es → Have ts → AllKept (objects es)
@@ -259,7 +259,7 @@ externals_are (Declaration s ∷ es) ts h are = externals_are es h.1 h.3 (back_o
 externals_are (Definition s body ∷ es) ts h are = externals_are es h.1 h.3 (back_of h.0 h.1 (subst Have h.4 are))
 externals_are (Objects t os ∷ es) ts h are =
     let all : Have (h.0 ++ h.1) = subst Have h.4 are in
-    kept_append os (objects es) (declared_are t os h.0 h.2 (front_of h.0 h.1 all)) (externals_are es h.1 h.3 (back_of h.0 h.1 all))
+    kept_append os (objects es) (declared_are t os h.0 h.2 (prefix_of h.0 h.1 all)) (externals_are es h.1 h.3 (back_of h.0 h.1 all))
 
 unit_kept : (es : List External) (ts : List Measured) → SpellsUnit ts es → Have ts → AllKept (objects es)
 unit_kept [] ts h are = absurd h

@@ -170,7 +170,7 @@ object_at gs objects is all g i lt =
 
 -- ---- words
 
--- so many words as the objects take
+-- as many words as the objects take
 pub image_long : (os : List Object) → length (globals_image os) ≡ total (map size_of os)
 image_long [] = refl
 image_long (o ∷ os) =

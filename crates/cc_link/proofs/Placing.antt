@@ -60,40 +60,40 @@ pub length_fill : (places : ℕ → ℕ) (place a : ℕ) (xs : List Item) → le
 length_fill places place a [] = refl
 length_fill places place a (x ∷ xs) = ap suc (length_fill places place (a + 4) xs)
 
-pub placed_behind : (code : List Instr) (places : ℕ → ℕ) (place : ℕ) (front : List Instr) (items : List Item) (back : List Instr) (a : ℕ) → code ≡ front ++ (fill places place a items ++ back) → a ≡ 0x10000 + 4 * length front → AreEncodable places place a items → Placed (instruction_at (encoded code)) places place a items
-placed_behind code places place front [] back a e at fit = tt
-placed_behind code places place front (x ∷ items) back a e at fit =
+pub placed_behind : (code : List Instr) (places : ℕ → ℕ) (place : ℕ) (prefix : List Instr) (items : List Item) (back : List Instr) (a : ℕ) → code ≡ prefix ++ (fill places place a items ++ back) → a ≡ 0x10000 + 4 * length prefix → AreEncodable places place a items → Placed (instruction_at (encoded code)) places place a items
+placed_behind code places place prefix [] back a e at fit = tt
+placed_behind code places place prefix (x ∷ items) back a e at fit =
     let y = filled places place a x in
-    let more = front ++ (y ∷ []) in
-    let g : front ++ (y ∷ (fill places place (a + 4) items ++ back)) ≡ more ++ (fill places place (a + 4) items ++ back) = sym (append_assoc front (y ∷ []) (fill places place (a + 4) items ++ back)) in
-    let n : length more ≡ length front + 1 = length-append front (y ∷ []) in (
-      ap (instruction_at (encoded code)) at ∙ fetch_at (encoded code) (length front) ∙ ap (λ c. option_and_then instruction_of (slice_get (encoded c) (length front))) e ∙ worded front y (fill places place (a + 4) items ++ back) fit.0,
+    let more = prefix ++ (y ∷ []) in
+    let g : prefix ++ (y ∷ (fill places place (a + 4) items ++ back)) ≡ more ++ (fill places place (a + 4) items ++ back) = sym (append_assoc prefix (y ∷ []) (fill places place (a + 4) items ++ back)) in
+    let n : length more ≡ length prefix + 1 = length-append prefix (y ∷ []) in (
+      ap (instruction_at (encoded code)) at ∙ fetch_at (encoded code) (length prefix) ∙ ap (λ c. option_and_then instruction_of (slice_get (encoded c) (length prefix))) e ∙ worded prefix y (fill places place (a + 4) items ++ back) fit.0,
       placed_behind code places place more items back (a + 4) (e ∙ g) (omega arith) fit.1,
     )
 
 -- one piece within all
 record Split (places : ℕ → ℕ) (a : ℕ) (pieces : List (List Item)) (f : ℕ) : Type 0 where
-  front : List Instr
+  prefix : List Instr
   back : List Instr
-  is : fill_all places a pieces ≡ front ++ (fill places (a + 4 * size_of (take f pieces)) (a + 4 * size_of (take f pieces)) (get_or pieces f []) ++ back)
-  long : length front ≡ size_of (take f pieces)
+  is : fill_all places a pieces ≡ prefix ++ (fill places (a + 4 * size_of (take f pieces)) (a + 4 * size_of (take f pieces)) (get_or pieces f []) ++ back)
+  long : length prefix ≡ size_of (take f pieces)
 
 split : (places : ℕ → ℕ) (a : ℕ) (pieces : List (List Item)) (f : ℕ) → f < length pieces → Split places a pieces f
 split places a [] f lt = absurd (omega arith)
 split places a (p ∷ ps) zero lt =
     let e : a ≡ a + 4 * 0 = omega arith in
-    record { front = []; back = fill_all places (a + 4 * length p) ps; is = ap (λ n. fill places n n p ++ fill_all places (a + 4 * length p) ps) e; long = refl }
+    record { prefix = []; back = fill_all places (a + 4 * length p) ps; is = ap (λ n. fill places n n p ++ fill_all places (a + 4 * length p) ps) e; long = refl }
 split places a (p ∷ ps) (suc f) lt =
     let r = split places (a + 4 * length p) ps f (omega arith) in
     let first = fill places a a p in
-    let n = length-append first r.front in
+    let n = length-append first r.prefix in
     let k = length_fill places a a p in
     let m = r.long in
     let e : a + 4 * length p + 4 * size_of (take f ps) ≡ a + 4 * (length p + size_of (take f ps)) = omega arith in
     record {
-      front = first ++ r.front;
+      prefix = first ++ r.prefix;
       back = r.back;
-      is = ap (λ l. first ++ l) r.is ∙ sym (append_assoc first r.front _) ∙ ap (λ b. (first ++ r.front) ++ (fill places b b (get_or ps f []) ++ r.back)) e;
+      is = ap (λ l. first ++ l) r.is ∙ sym (append_assoc first r.prefix _) ∙ ap (λ b. (first ++ r.prefix) ++ (fill places b b (get_or ps f []) ++ r.back)) e;
       long = omega arith;
     }
 
@@ -124,9 +124,9 @@ module _ (meaning : Meaning) (layout : Layout meaning.objects) (main : ℕ) (pie
       let s = split places 0x1000c pieces f (omega arith) in
       let long = s.long in
       let first = fill places 0x10000 0x10000 (head main) in
-      let n = length-append first s.front in
+      let n = length-append first s.prefix in
       let k = length_fill places 0x10000 0x10000 (head main) in
-      placed_behind code places _ (first ++ s.front) (get_or pieces f []) s.back _ (ap (λ l. first ++ l) s.is ∙ sym (append_assoc first s.front _)) (omega arith) (piece_encodable f lt)
+      placed_behind code places _ (first ++ s.prefix) (get_or pieces f []) s.back _ (ap (λ l. first ++ l) s.is ∙ sym (append_assoc first s.prefix _)) (omega arith) (piece_encodable f lt)
 
   head_place : (k : ℕ) → k < 4 → IsPlace (0x10000 + 4 * k)
   head_place k lt = record { aligned = omega arith; from = omega arith; to = omega arith }

@@ -17,7 +17,7 @@ certificate_of ltls = word_bytes (length ltls) ++ flat_map ltl_field ltls
 abbrev pub IsToldLtl : Ltl → Type 0
 IsToldLtl ltl = IsLtl ltl × (length (ltl_bytes ltl) < 2 ^ 32)
 
--- the bytes spell the LTL of so many functions, and nothing else stands there
+-- the bytes spell the LTL of this many functions, and nothing else stands there
 pub record SpellsAll (bytes : List ℕ) (functions : ℕ) : Type 0 where
   pub ltls : List Ltl
   pub count : length ltls ≡ functions

@@ -43,7 +43,7 @@ build_fault_place (Link f) = None
 
 -- ---- why a function has no piece
 
--- the name of a function begins in the text at this offset and has so many bytes
+-- the name of a function begins in the text at this offset and has this many bytes
 abbrev pub IsNameAt : List External → (function at count : ℕ) → Type 0
 IsNameAt unit f at count = (name : Name) × (slice_get (function_names unit) f ≡ Some name) × (at ≡ name.at) × (count ≡ length name.text)
 

@@ -14,14 +14,14 @@ use Rattle.cc_typing.specs.Checked.{IsChecked}
 use Rattle.cc_typing.specs.Verdict.{source_with}
 use Rattle.cc_meaning.specs.Meaning.{source_behavior}
 use Rattle.cc_meaning.specs.Numbered.{without_cause}
-use Rattle.cc_meaning.specs.Earlier.{HasNoChar, EarlierText, earlier_externals_offences, earlier_excesses}
+use Rattle.cc_meaning.specs.Earlier.{HasNoChar, EarlierText, earlier_externals_errors, earlier_excesses}
 use Rattle.cc_runs.specs.Behavior.{AreWords, Outcome, Follows}
 use Rattle.cc_link.specs.Agree.{image_behavior, Agree}
 use Rattle.cc_link.specs.EarlierMeaning as earlier
 
 -- a tree broke no rule, defined main, and defined each function that it called
 abbrev pub EarlierTyped : List External → Type 0
-EarlierTyped tree = (earlier_externals_offences tree first_file_scope ≡ []) × (defines_main tree ≡ true) × (undefined_calls tree ≡ [])
+EarlierTyped tree = (earlier_externals_errors tree first_file_scope ≡ []) × (defines_main tree ≡ true) × (undefined_calls tree ≡ [])
 
 -- what a program did on an input, within a number of steps
 abbrev pub earlier_program_behavior : Source → (input : List ℕ) → ℕ → Outcome ℕ

@@ -266,7 +266,7 @@ abbrev pub read_input : List ℕ → State → Run ℕ
 read_input [] s = Gives 0 s
 read_input (w ∷ rest) s = Gives w (record s { input = rest })
 
--- a call while so many calls are open, where fewer than n steps are left: the builtins spend no step; a call of a defined
+-- a call while this many calls are open, where fewer than n steps are left: the builtins spend no step; a call of a defined
 -- function spends one, and then goes wrong where too many calls would be open
 abbrev pub calls : ℕ → List Function → ℕ → Calls
 calls zero fs opened f ws s = Going s.output

@@ -49,7 +49,7 @@ abbrev pub piece_of : List Piece → (function : ℕ) → Option Piece
 piece_of [] f = None
 piece_of (p ∷ ps) f = if p.function == f then Some p else piece_of ps f
 
--- 26: the least function without a piece, of so many from this one on
+-- 26: the least function without a piece, of this many from this one on
 abbrev pub missing : List Piece → (from count : ℕ) → Option LinkFault
 missing pieces from zero = None
 missing pieces from (suc count) = if is_some (piece_of pieces from) then missing pieces (suc from) count else Some (Missing from)
@@ -59,7 +59,7 @@ abbrev pub put_first : Option Piece → List Piece → List Piece
 put_first None ps = ps
 put_first (Some p) ps = p ∷ ps
 
--- the first pieces of so many functions from this one on
+-- the first pieces of this many functions from this one on
 abbrev pub in_order : List Piece → (from count : ℕ) → List Piece
 in_order pieces from zero = []
 in_order pieces from (suc count) = put_first (piece_of pieces from) (in_order pieces (suc from) count)

@@ -5,7 +5,7 @@ ghost use Rattle.cc_link.specs.Compile.{piece_fault_number};
 
 use thiserror::Error;
 
-/// Why a function has no piece. The function's name begins in the text at the offset `at` and has so many bytes.
+/// Why a function has no piece. The function's name begins in the text at the offset `at` and has `length` bytes.
 #[derive(Clone, Copy, Debug, Error)]
 pub enum PieceFault {
     /// 22: the function would have more than 4,096 nodes of RTL, which no definition of at most 256 tokens has.

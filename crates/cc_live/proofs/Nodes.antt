@@ -10,15 +10,15 @@ use Rattle.cc_rtl.specs.Positions.{position_of, graph_of}
 use Rattle.cc_rtl.proofs.Places.{position_is}
 use Rattle.cc_flow.specs.Lattice.{Equivalent}
 use Rattle.cc_rows.specs.Rows.{holds}
-use Rattle.cc_live.specs.internal.Facts.{Below, nothing, in_front, carries}
+use Rattle.cc_live.specs.internal.Facts.{Below, nothing, live_before, carries}
 use Rattle.cc_live.specs.internal.Laws.{laws}
 
 pub nobody : Labelled
 nobody = record { label = 0; node = Nop 0 }
 
-pub carries_at : (strong : Bool) (ns : List Labelled) (i : ℕ) (n : Labelled) (row : List ℕ) → slice_get ns i ≡ Some n → carries strong ns i row ≡ in_front strong n.node row
+pub carries_at : (strong : Bool) (ns : List Labelled) (i : ℕ) (n : Labelled) (row : List ℕ) → slice_get ns i ≡ Some n → carries strong ns i row ≡ live_before strong n.node row
 carries_at strong [] i n row e = absurd cc
-carries_at strong (m ∷ ns) zero n row e = ap (λ (x : Labelled). in_front strong x.node row) (same_Some m n e)
+carries_at strong (m ∷ ns) zero n row e = ap (λ (x : Labelled). live_before strong x.node row) (same_Some m n e)
 carries_at strong (m ∷ ns) (suc i) n row e = carries_at strong ns i n row e
 
 pub carries_past : (strong : Bool) (ns : List Labelled) (i : ℕ) (row : List ℕ) → length ns ≤ i → carries strong ns i row ≡ nothing

@@ -12,9 +12,9 @@ use Rattle.cc_rtl.proofs.Places.{placed, past, node_of_position}
 use Rattle.cc_rows.specs.Rows.{holds}
 use Rattle.cc_live.specs.Rows.{rows_at}
 use Rattle.cc_live.specs.Liveness.{LieWithin, AreStronglyLive}
-use Rattle.cc_live.specs.internal.Facts.{Below, nothing, either, with_all, those, in_front, carries, AreLiveAs, AreLeastAs}
+use Rattle.cc_live.specs.internal.Facts.{Below, nothing, either, with_all, those, live_before, carries, AreLiveAs, AreLeastAs}
 use Rattle.cc_rows.specs.internal.Holding.{holds-nothing}
-use Rattle.cc_live.specs.internal.Holding.{holds-either, in_those, those_in, with_all_first, list_in, in_front_cases, read_in_front, behind_in_front}
+use Rattle.cc_live.specs.internal.Holding.{holds-either, in_those, those_in, with_all_first, list_in, live_before_cases, read_live_before, behind_live_before}
 use Rattle.cc_live.proofs.Behind.{in_one, one_in, read_less, read_same}
 use Rattle.cc_live.proofs.Nodes.{nobody, carries_at, row_at, label_at, label_of_position, all_reads, read_among}
 
@@ -51,11 +51,11 @@ solved strong ns rows solves label node e =
     let p = placed ns label node e in
     let row = behind ns facts i in
     let within : i < length (graph_of ns) = (let l = graph_length ns in let h = slice_get_within ns i p.0 p.1 in omega (arith, l, h)) in
-    let own : Below (in_front strong node row) (facts i) = subst (λ x. Below x (facts i)) (carries_at strong ns i p.0 row p.1 ∙ ap (λ (m : Node). in_front strong m row) p.2) (solves i within) in
+    let own : Below (live_before strong node row) (facts i) = subst (λ x. Below x (facts i)) (carries_at strong ns i p.0 row p.1 ∙ ap (λ (m : Node). live_before strong m row) p.2) (solves i within) in
     let same : (r : ℕ) → holds row r ≡ live_behind (rows_at ns rows) node r = λ r. behind_is ns facts i p.0 p.1 r ∙ ap (λ (m : Node). live_behind (rows_at ns rows) m r) p.2 in
     record {
-      needed = λ stays r read. own r (read_in_front strong node row r (ap (λ b. strong && b) (read_same row (rows_at ns rows) node same) ∙ stays) read);
-      inherited = λ r h d. own r (behind_in_front strong node row r (same r ∙ h) d);
+      needed = λ stays r read. own r (read_live_before strong node row r (ap (λ b. strong && b) (read_same row (rows_at ns rows) node same) ∙ stays) read);
+      inherited = λ r h d. own r (behind_live_before strong node row r (same r ∙ h) d);
     }
 
 -- ---- other live sets, cut down
@@ -84,7 +84,7 @@ module _ (strong : Bool) (rtl : Rtl) (is : IsRtl rtl) (other : Sets) (live : Are
       let here = (node_of_position rtl.nodes is.ascend i n e).0 in
       let row = behind rtl.nodes (cut rtl.nodes other) i in
       let own = live n.label n.node here in
-      elim (in_front_cases strong n.node row r (ap (λ x. holds x r) (sym (carries_at strong rtl.nodes i n row e)) ∙ h)) [
+      elim (live_before_cases strong n.node row r (ap (λ x. holds x r) (sym (carries_at strong rtl.nodes i n row e)) ∙ h)) [
         | inl (stays, read) ↦
             those_in (other n.label) (bound rtl.nodes) r (with_all_first (all_reads rtl.nodes) [] r (list_in (all_reads rtl.nodes) r (read_among rtl.nodes i n r e read)))
             (own.needed (read_less row other n.node strong (λ x k. (held i n e here x k).0) stays) r read)

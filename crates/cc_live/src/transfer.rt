@@ -5,7 +5,7 @@ ghost use Rattle.cc_rtl.specs.Code.{node_of};
 ghost use Rattle.cc_rtl.specs.Live.{reads, result as result_of, pure_result as pure_result_of, among};
 ghost use Rattle.cc_rows.specs.Rows.{holds};
 ghost use Rattle.cc_live.specs.Rows.{rows_at};
-ghost use Rattle.cc_live.specs.internal.Facts.{in_front as made_in_front, is_unread, is_result, carries, AreLeastAs};
+ghost use Rattle.cc_live.specs.internal.Facts.{live_before as made_live_before, is_unread, is_result, carries, AreLeastAs};
 ghost use Rattle.cc_live.specs.internal.Laws.{carries_up};
 
 use crate::set::RegisterSet;
@@ -30,7 +30,7 @@ impl<'a> Transfer<RegisterSet> for Code<'a> {
         facts: &RegisterSet,
     ) -> Result<RegisterSet, AllocError> {
         match self.rtl.at(node) {
-            Some(node) => in_front(alloc, self.strong, node, facts),
+            Some(node) => live_before(alloc, self.strong, node, facts),
             None => RegisterSet::least(alloc),
         }
     }
@@ -39,29 +39,29 @@ impl<'a> Transfer<RegisterSet> for Code<'a> {
 }
 
 /// What is live in front of a node, of what is live behind it.
-fn in_front(
+fn live_before(
     alloc: Global,
     strong: bool,
     node: &Node,
     behind: &RegisterSet,
 ) -> Result<RegisterSet, AllocError>
-    ensures { IfOk result (λ front. (r : ℕ) → IsTrue (holds front r) ↔ IsTrue (holds (made_in_front strong (node_of node.now) behind.now) r)) }
+    ensures { IfOk result (λ before. (r : ℕ) → IsTrue (holds before r) ↔ IsTrue (holds (made_live_before strong (node_of node.now) behind.now) r)) }
 {
-    let mut front = behind.copy(alloc)?;
+    let mut before = behind.copy(alloc)?;
     if is_left_out(strong, node, behind) {
-        return Ok(front);
+        return Ok(before);
     }
-    drop_result(&mut front, node);
-    add_reads(&mut front, node)?;
-    Ok(front)
+    drop_result(&mut before, node);
+    add_reads(&mut before, node)?;
+    Ok(before)
 }
 
 /// Takes out the register that gets a node's result.
-fn drop_result(front: &mut RegisterSet, node: &Node)
-    ensures { (r : ℕ) → holds front.new r ≡ (holds front.old r && not (is_result (result_of (node_of node.now)) r)) }
+fn drop_result(before: &mut RegisterSet, node: &Node)
+    ensures { (r : ℕ) → holds before.new r ≡ (holds before.old r && not (is_result (result_of (node_of node.now)) r)) }
 {
     if let Some(to) = result(node) {
-        front.remove(to);
+        before.remove(to);
     }
 }
 
@@ -104,8 +104,8 @@ fn result(node: &Node) -> Option<u32>
 }
 
 /// Puts in what a node reads.
-fn add_reads(front: &mut RegisterSet, node: &Node) -> Result<(), AllocError>
-    ensures { IfOk result (λ _. (r : ℕ) → holds front.new r ≡ (among (reads (node_of node.now)) r || holds front.old r)) }
+fn add_reads(before: &mut RegisterSet, node: &Node) -> Result<(), AllocError>
+    ensures { IfOk result (λ _. (r : ℕ) → holds before.new r ≡ (among (reads (node_of node.now)) r || holds before.old r)) }
 {
     match node {
         Node::Nop { .. } | Node::Const { .. } | Node::Read { .. } => Ok(()),
@@ -114,19 +114,19 @@ fn add_reads(front: &mut RegisterSet, node: &Node) -> Result<(), AllocError>
         | Node::Load { index: from, .. }
         | Node::Write { from, .. }
         | Node::Branch { from, .. }
-        | Node::Return { from } => add_all(front, &[*from]),
-        Node::Binary { left, right, .. } => add_all(front, &[*left, *right]),
-        Node::Store { index, from, .. } => add_all(front, &[*index, *from]),
-        Node::Call { arguments, .. } => add_all(front, arguments.as_slice()),
+        | Node::Return { from } => add_all(before, &[*from]),
+        Node::Binary { left, right, .. } => add_all(before, &[*left, *right]),
+        Node::Store { index, from, .. } => add_all(before, &[*index, *from]),
+        Node::Call { arguments, .. } => add_all(before, arguments.as_slice()),
     }
 }
 
 /// Puts some registers in.
-fn add_all(front: &mut RegisterSet, registers: &[u32]) -> Result<(), AllocError>
-    ensures { IfOk result (λ _. (r : ℕ) → holds front.new r ≡ (among registers.now r || holds front.old r)) }
+fn add_all(before: &mut RegisterSet, registers: &[u32]) -> Result<(), AllocError>
+    ensures { IfOk result (λ _. (r : ℕ) → holds before.new r ≡ (among registers.now r || holds before.old r)) }
 {
     for register in registers {
-        front.insert(*register)?;
+        before.insert(*register)?;
     }
     Ok(())
 }

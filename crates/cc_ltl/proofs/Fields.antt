@@ -65,7 +65,7 @@ drop-bytes zero bytes are = are
 drop-bytes (suc k) [] are = tt
 drop-bytes (suc k) (b ∷ bytes) are = drop-bytes k bytes are.1
 
--- what a reader took from the front
+-- what a reader took from the start
 pub record Takes (bytes text rest : List ℕ) : Type 0 where
   pub parts : bytes ≡ text ++ rest
   pub are : AreBytes rest
@@ -105,7 +105,7 @@ mapped_takes {A} {B} f s P p make bytes y rest are e =
 pub mapped_again : {A B : Type 0} (f : Reader A) (s : A → List ℕ) (P : A → Type 0) → IsField f s P → (make : A → B) (a : A) (rest : List ℕ) → P a → mapped make f (s a ++ rest) ≡ Some (make a, rest)
 mapped_again f s P p make a rest good = rw (p.again a rest good) refl
 
--- so many of a field
+-- a field a number of times
 
 times_take : {A : Type 0} (f : Reader A) (s : A → List ℕ) (P : A → Type 0) → IsField f s P → (n : ℕ) (bytes : List ℕ) (xs : List A) (rest : List ℕ) → AreBytes bytes
     → times f n bytes ≡ Some (xs, rest) → Takes bytes (flat_map s xs) rest × (length xs ≡ n)
@@ -128,7 +128,7 @@ times_again {A} f s P p (x ∷ xs) rest good =
     let regrouped : flat_map s (x ∷ xs) ++ rest ≡ s x ++ (flat_map s xs ++ rest) = ap (λ (t : List ℕ). t ++ rest) (flat_map-cons s x xs) ∙ append_assoc (s x) (flat_map s xs) rest in
     ap (times f (suc (length xs))) regrouped ∙ rw (p.again x (flat_map s xs ++ rest) good.0, times_again f s P p xs rest good.1) refl
 
--- a number, and so many
+-- a number, and what is read that many times
 abbrev counted : {A : Type 0} → Reader ℕ → Reader A → Reader (List A)
 counted count f bytes = count bytes >>= λ n. times f n.0 n.1
 

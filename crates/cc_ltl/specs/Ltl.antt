@@ -26,7 +26,7 @@ pub record Ltl : Type 0 where
 abbrev pub IsWord : ℕ → Type 0
 IsWord n = n < 2 ^ 32
 
--- a move of a function with so many slots
+-- a move of a function with this many slots
 abbrev pub IsMove : (slots : ℕ) → Move → Type 0
 IsMove slots (Between to from) = IsAllocatable to × IsAllocatable from
 IsMove slots (Reload to slot) = IsAllocatable to × (slot < slots)

@@ -9,9 +9,15 @@ use std::marker::Model;
 pub const MOST_MOVES: usize = 65_535;
 
 /// Moves, made one after the other: at most 65,535. A clause sees their list.
-#[derive(Drop)]
 pub struct Moves {
     moves: Vec<Move>,
+}
+
+// By hand, so that crates above call it and do not prove anew how each part is dropped.
+impl Drop for Moves {
+    fn drop(self) {
+        let Moves { moves } = self;
+    }
 }
 
 impl Model for Moves {

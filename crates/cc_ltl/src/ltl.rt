@@ -12,11 +12,21 @@ use std::marker::Model;
 /// A function: its number of slots, the label of the block that it begins with, and its blocks, whose labels ascend. The type holds
 /// exactly the functions that bytes can spell: at most 495 slots, each slot below their number, no move behind a branch or a return.
 /// A clause sees these parts.
-#[derive(Drop)]
 pub struct Ltl {
     slots: u16,
     entry: u32,
     blocks: Vec<Block>,
+}
+
+// By hand, so that crates above call it and do not prove anew how each part is dropped.
+impl Drop for Ltl {
+    fn drop(self) {
+        let Ltl {
+            slots,
+            entry,
+            blocks,
+        } = self;
+    }
 }
 
 impl Model for Ltl {
@@ -96,7 +106,7 @@ fn ascend_after(first: &Block, rest: &[Block]) -> bool
     true
 }
 
-// Whether each block may stand in a function with so many slots.
+// Whether each block may stand in a function with this many slots.
 fn blocks_fit(slots: u16, blocks: &[Block]) -> bool
     ensures { IsTrue result ↔ AllByRecursion (IsBlock slots) blocks.now }
 {

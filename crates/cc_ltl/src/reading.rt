@@ -486,8 +486,8 @@ fn word_at(bytes: &[u8]) -> Option<(u32, &[u8])>
     if bytes.len() < 4 {
         return None;
     }
-    let (front, rest) = bytes.split_at(4);
-    let number = u32::from_le_bytes([front[0], front[1], front[2], front[3]]);
+    let (prefix, rest) = bytes.split_at(4);
+    let number = u32::from_le_bytes([prefix[0], prefix[1], prefix[2], prefix[3]]);
     Some((number, rest))
 }
 
@@ -497,8 +497,8 @@ fn half_at(bytes: &[u8]) -> Option<(u16, &[u8])>
     if bytes.len() < 2 {
         return None;
     }
-    let (front, rest) = bytes.split_at(2);
-    let number = u16::from_le_bytes([front[0], front[1]]);
+    let (prefix, rest) = bytes.split_at(2);
+    let number = u16::from_le_bytes([prefix[0], prefix[1]]);
     Some((number, rest))
 }
 

@@ -143,10 +143,10 @@ fn put_operation(bytes: &mut Vec<u8>, operation: &Operation) -> Result<(), Alloc
 }
 
 // Some bytes, and a number of four.
-fn put(bytes: &mut Vec<u8>, front: &[u8], number: u32) -> Result<(), AllocError>
-    ensures { OnOk result (bytes.new.items ≡ bytes.old.items ++ (front.now ++ word_bytes number)) }
+fn put(bytes: &mut Vec<u8>, prefix: &[u8], number: u32) -> Result<(), AllocError>
+    ensures { OnOk result (bytes.new.items ≡ bytes.old.items ++ (prefix.now ++ word_bytes number)) }
 {
-    bytes.extend_from_slice(front)?;
+    bytes.extend_from_slice(prefix)?;
     put_word(bytes, number)
 }
 

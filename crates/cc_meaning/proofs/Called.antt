@@ -5,7 +5,7 @@ use Rattle.std.proofs.lemmas.List.{length-map, length-reverse, length-replicate,
 use Rattle.cc_syntax.specs.Tree.{Name, Parameter}
 use Rattle.cc_typing.specs.Names.{same_name}
 use Rattle.cc_typing.specs.Scope.{has_name}
-use Rattle.cc_typing.specs.Rules.{Around, statements_offences, undefined_among, called_in_statements}
+use Rattle.cc_typing.specs.Rules.{Around, statements_errors, undefined_among, called_in_statements}
 use Rattle.cc_typing.specs.Limits.{locals}
 use Rattle.cc_meaning.specs.declared.form.Entry.{Entry}
 use Rattle.cc_meaning.specs.declared.form.Instruction.{Instruction}
@@ -50,7 +50,7 @@ bound_variables xs ws e = ap (λ (l : List ℕ). reverse l) (bound_words xs ws [
 
 -- ---- functions
 
--- what a name takes: a builtin so many words, a function that is defined as many as it has parameters
+-- what a name takes: a builtin none or one word, a function that is defined as many as it has parameters
 pub data Takes (names : List (List ℕ)) (fs : List Function) (x : List ℕ) (count : ℕ) : Type 0 where
   Writes : same_name x (codes "write_word") ≡ true → count ≡ 1 → Takes names fs x count
   Reads : same_name x (codes "write_word") ≡ false → same_name x (codes "read_word") ≡ true → count ≡ 0 → Takes names fs x count
@@ -67,7 +67,7 @@ pub record Defined (layout : Layout) (defined : List (List ℕ)) (fs : List Func
   pub visible : environment.visible ≡ g.visible
   pub scoped : Scoped layout defined (Takes layout.functions fs) environment
   pub around : Around
-  pub keeps_rules : statements_offences g.body around environment.visible ≡ []
+  pub keeps_rules : statements_errors g.body around environment.visible ≡ []
   pub called : undefined_among defined (called_in_statements g.body) ≡ []
   pub code : fc.code ≡ statements_code environment (record { breaks = 0; continues = 0 }) g.body ++ instruction.Constant 0 ∷ instruction.Return ∷ []
   pub variables : fc.variables ≡ length (locals g.body)

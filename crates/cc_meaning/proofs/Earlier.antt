@@ -13,13 +13,13 @@ use Rattle.cc_syntax.specs.Limits.{TreesAreOne, SpellsWithin}
 use Rattle.cc_typing.specs.Names.{same_name}
 use Rattle.cc_typing.specs.Scope.{FileScope, first_file_scope, with_object, file_scope_behind}
 use Rattle.cc_typing.specs.Types.{array_length, object_width, object_words, initial_words}
-use Rattle.cc_typing.specs.Rules.{object_offences, objects_offences, external_offences, externals_offences}
+use Rattle.cc_typing.specs.Rules.{object_errors, objects_errors, external_errors, externals_errors}
 use Rattle.cc_typing.specs.Limits.{most_words, most_functions, too_many, past, function_names, objects, object_name, word_excesses, externals_excesses}
-use Rattle.cc_typing.specs.declared.rule.Offence.{Offence}
+use Rattle.cc_typing.specs.declared.rule.RuleError.{RuleError}
 use Rattle.cc_meaning.specs.Meaning.{Global, words_of, with_element, initial_global}
 use Rattle.cc_meaning.specs.Function.{Shared, Effect, Answer, Answers, Unfinished, Failed, call_function, body_of_function}
 use Rattle.cc_meaning.specs.Calls.{Size, sizes, KeepsObjects}
-use Rattle.cc_meaning.specs.Earlier.{HasNoChar, IsNoByteArray, IsPlain, ArePlain, EarlierObject, EarlierExternal, EarlierExternals, EarlierUnit, EarlierText, EarlierTreesStay, NoTreeIsNew, earlier_object_offences, earlier_objects_offences, earlier_external_offences, earlier_externals_offences, earlier_object_words, earlier_word_excesses, EarlierRulesStay, EarlierGlobal, earlier_words_of, earlier_with_element, earlier_initial_words, earlier_global, AreOfWords, StayOfWords, EarlierMeaningStays}
+use Rattle.cc_meaning.specs.Earlier.{HasNoChar, IsNoByteArray, IsPlain, ArePlain, EarlierObject, EarlierExternal, EarlierExternals, EarlierUnit, EarlierText, EarlierTreesStay, NoTreeIsNew, earlier_object_errors, earlier_objects_errors, earlier_external_errors, earlier_externals_errors, earlier_object_words, earlier_word_excesses, EarlierRulesStay, EarlierGlobal, earlier_words_of, earlier_with_element, earlier_initial_words, earlier_global, AreOfWords, StayOfWords, EarlierMeaningStays}
 use Rattle.cc_meaning.proofs.Kept.{calls_keep_objects, bodies_keep_objects}
 
 -- ---- the grammar
@@ -120,27 +120,27 @@ no_tree_is_new text tree now none =
 
 -- ---- the rules
 
-same_object : (t : Scalar) (o : Object) (f : FileScope) → IsNoByteArray o → object_offences t o f ≡ earlier_object_offences t o f
+same_object : (t : Scalar) (o : Object) (f : FileScope) → IsNoByteArray o → object_errors t o f ≡ earlier_object_errors t o f
 same_object t (Single x initial) f h = refl
 same_object t (Array x n values) f h = refl
 same_object t (Bytes x n values) f h = absurd h
 
-same_objects : (t : Scalar) (os : List Object) (f : FileScope) → AllByRecursion IsNoByteArray os → objects_offences t os f ≡ earlier_objects_offences t os f
+same_objects : (t : Scalar) (os : List Object) (f : FileScope) → AllByRecursion IsNoByteArray os → objects_errors t os f ≡ earlier_objects_errors t os f
 same_objects t [] f h = refl
 same_objects t (o ∷ rest) f h =
-    ap (λ (l : List Offence). l ++ objects_offences t rest (with_object t o f)) (same_object t o f h.0)
-    ∙ ap (λ (l : List Offence). earlier_object_offences t o f ++ l) (same_objects t rest (with_object t o f) h.1)
+    ap (λ (l : List RuleError). l ++ objects_errors t rest (with_object t o f)) (same_object t o f h.0)
+    ∙ ap (λ (l : List RuleError). earlier_object_errors t o f ++ l) (same_objects t rest (with_object t o f) h.1)
 
-same_external : (e : External) (f : FileScope) → IsPlain e → external_offences e f ≡ earlier_external_offences e f
+same_external : (e : External) (f : FileScope) → IsPlain e → external_errors e f ≡ earlier_external_errors e f
 same_external (Declaration s) f h = refl
 same_external (Definition s body) f h = refl
 same_external (Objects t os) f h = same_objects t os f h
 
-same_externals : (es : List External) (f : FileScope) → ArePlain es → externals_offences es f ≡ earlier_externals_offences es f
+same_externals : (es : List External) (f : FileScope) → ArePlain es → externals_errors es f ≡ earlier_externals_errors es f
 same_externals [] f h = refl
 same_externals (e ∷ rest) f h =
-    ap (λ (l : List Offence). l ++ externals_offences rest (file_scope_behind e f)) (same_external e f h.0)
-    ∙ ap (λ (l : List Offence). earlier_external_offences e f ++ l) (same_externals rest (file_scope_behind e f) h.1)
+    ap (λ (l : List RuleError). l ++ externals_errors rest (file_scope_behind e f)) (same_external e f h.0)
+    ∙ ap (λ (l : List RuleError). earlier_external_errors e f ++ l) (same_externals rest (file_scope_behind e f) h.1)
 
 -- ---- the limit on words
 
@@ -157,7 +157,7 @@ same_excesses : (taken : ℕ) (os : List Object) → AllByRecursion IsNoByteArra
 same_excesses taken [] h = refl
 same_excesses taken (o ∷ rest) h =
     ap (λ k. if nat_lt most_words (taken + k) then too_many (object_name o) ∷ [] else word_excesses (taken + k) rest) (same_words o h.0)
-    ∙ ap (λ (l : List Offence). if nat_lt most_words (taken + earlier_object_words o) then too_many (object_name o) ∷ [] else l) (same_excesses (taken + earlier_object_words o) rest h.1)
+    ∙ ap (λ (l : List RuleError). if nat_lt most_words (taken + earlier_object_words o) then too_many (object_name o) ∷ [] else l) (same_excesses (taken + earlier_object_words o) rest h.1)
 
 all_apart : (os more : List Object) → AllByRecursion IsNoByteArray os → AllByRecursion IsNoByteArray more → AllByRecursion IsNoByteArray (os ++ more)
 all_apart [] more h g = g
@@ -172,7 +172,7 @@ plain_objects (Objects t os ∷ rest) h = all_apart os (objects rest) h.0 (plain
 pub earlier_rules_stay : EarlierRulesStay
 earlier_rules_stay tree h = (
   same_externals tree first_file_scope h,
-  ap (λ (l : List Offence). externals_excesses tree ++ (past most_functions (function_names tree) ++ l)) (same_excesses 0 (objects tree) (plain_objects tree h)),
+  ap (λ (l : List RuleError). externals_excesses tree ++ (past most_functions (function_names tree) ++ l)) (same_excesses 0 (objects tree) (plain_objects tree h)),
 )
 
 -- ---- the meaning

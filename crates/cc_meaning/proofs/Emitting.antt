@@ -6,9 +6,9 @@ use Rattle.std.proofs.lemmas.List.{reverse-append, length-reverse, set-append_le
 pub reverse-push : {A : Type 0} (xs : List A) (x : A) → reverse (xs ++ x ∷ []) ≡ x ∷ reverse xs
 reverse-push xs x = reverse-append xs (x ∷ [])
 
--- and one kept at the front stands after the others
-pub reverse-front : {A : Type 0} (x : A) (xs : List A) → reverse (x ∷ xs) ≡ reverse xs ++ x ∷ []
-reverse-front x xs = reverse-append (x ∷ []) xs
+-- and one kept at the start stands after the others
+pub reverse-prefix : {A : Type 0} (x : A) (xs : List A) → reverse (x ∷ xs) ≡ reverse xs ++ x ∷ []
+reverse-prefix x xs = reverse-append (x ∷ []) xs
 
 -- the place of an instruction from the other end
 pub reverse-set : {A : Type 0} (xs : List A) (k : ℕ) (v : A) → k < length xs → reverse (set xs k v) ≡ set (reverse xs) (length xs - (k + 1)) v
@@ -17,13 +17,13 @@ reverse-set (x ∷ xs) zero v h =
     let at : length (x ∷ xs) - (0 + 1) ≡ length xs = omega arith in
     let none : length xs - length xs ≡ 0 = omega arith in
     let le : length xs ≤ length xs = omega arith in
-    reverse-front v xs
-    ∙ sym (ap (λ l. set l (length (x ∷ xs) - (0 + 1)) v) (reverse-front x xs) ∙ ap (λ i. set (reverse xs ++ x ∷ []) i v) at
+    reverse-prefix v xs
+    ∙ sym (ap (λ l. set l (length (x ∷ xs) - (0 + 1)) v) (reverse-prefix x xs) ∙ ap (λ i. set (reverse xs ++ x ∷ []) i v) at
     ∙ set-append_right (reverse xs) (x ∷ []) (length xs) (length xs) v (length-reverse xs) le ∙ ap (λ i. reverse xs ++ set (x ∷ []) i v) none)
 reverse-set (x ∷ xs) (suc k) v h =
     let inside : k < length xs = omega arith in
     let at : length (x ∷ xs) - (suc k + 1) ≡ length xs - (k + 1) = omega arith in
     let below : length xs - (k + 1) < length (reverse xs) = omega (arith, length-reverse xs) in
-    reverse-front x (set xs k v) ∙ ap (λ l. l ++ x ∷ []) (reverse-set xs k v inside)
-    ∙ sym (ap (λ l. set l (length (x ∷ xs) - (suc k + 1)) v) (reverse-front x xs) ∙ ap (λ i. set (reverse xs ++ x ∷ []) i v) at
+    reverse-prefix x (set xs k v) ∙ ap (λ l. l ++ x ∷ []) (reverse-set xs k v inside)
+    ∙ sym (ap (λ l. set l (length (x ∷ xs) - (suc k + 1)) v) (reverse-prefix x xs) ∙ ap (λ i. set (reverse xs ++ x ∷ []) i v) at
     ∙ set-append_left (reverse xs) (x ∷ []) (length xs - (k + 1)) v below)

@@ -4,7 +4,7 @@ use Rattle.cc_syntax.specs.Tree.{Name, Expr, Exprs, none, more, Number, Variable
 use Rattle.cc_typing.specs.Operators.{working_type, unary_word}
 use Rattle.cc_typing.specs.Scope.{found}
 use Rattle.cc_typing.specs.Types.{value_type}
-use Rattle.cc_typing.specs.Rules.{array_offences, function_offences, count_of, void_offences, expression_offences, argument_offences, undefined_among, called_in, called_in_all}
+use Rattle.cc_typing.specs.Rules.{array_errors, function_errors, count_of, void_errors, expression_errors, argument_errors, undefined_among, called_in, called_in_all}
 use Rattle.cc_typing.specs.declared.rule.Rule.TheVariants.{WrongKind}
 use Rattle.cc_meaning.specs.declared.form.Instruction.TheVariants as instruction
 use Rattle.cc_meaning.specs.internal.Form.{FormTree, unary_code, load, call_of, expression_code, arguments_code}
@@ -12,7 +12,7 @@ use Rattle.cc_resolve.specs.Environment.{Environment, types_in}
 use Rattle.cc_resolve.specs.Layout.{Layout, extent_of}
 use Rattle.cc_meaning.specs.Meaning.{State, Gives, then_do, Calls, variable_word, read_element, evaluate, evaluate_all}
 use Rattle.cc_meaning.specs.internal.FormMeaning.{Activation}
-use Rattle.cc_meaning.proofs.Offences.{nil_left, nil_right, defined_left, defined_right, is_defined, variable_found, function_found}
+use Rattle.cc_meaning.proofs.Errors.{nil_left, nil_right, defined_left, defined_right, is_defined, variable_found, function_found}
 use Rattle.cc_meaning.proofs.Held.{newest_last}
 use Rattle.cc_meaning.proofs.Moves.{Leads, leads_refl, leads_then, conf, Meets, meets_then, meets_after, Stands, stands_left, stands_right}
 use Rattle.cc_meaning.proofs.Plain.{kind_of}
@@ -64,7 +64,7 @@ module _ (form : FormTree) (cs : List Activation) (total : ℕ) (layout : Layout
       (λ ws t got. value_after form cs total v most vs ops c (conf (p + length code) vs (reverse ws ++ ops) cs t) (p + length code + 1) (p + length (code ++ last)) (call f.text ws t) got.leads (omega arith)
       (calls_meet v f.text ws (p + length code) vs ops t most scoped.laid (subst (Takes f.text) (sym got.many) takes) in_last.0 got.fits lt))
 
-  takes_of : (f : Name) (es : Exprs) (v : Environment) → Scoped layout defined Takes v → function_offences (found (types_in v) f.text) (count_of es) f.at ≡ []
+  takes_of : (f : Name) (es : Exprs) (v : Environment) → Scoped layout defined Takes v → function_errors (found (types_in v) f.text) (count_of es) f.at ≡ []
       → undefined_among defined (called_in (Call f es)) ≡ [] → Takes f.text (count_of es)
   takes_of f es v scoped e d =
       let g = function_found (found (types_in v) f.text) (count_of es) f.at e in
@@ -94,49 +94,49 @@ module _ (form : FormTree) (cs : List Activation) (total : ℕ) (layout : Layout
       })))
 
   mutual
-    pub expression_meets : (e : Expr) (v : Environment) (most : ℕ) (vs : List ℕ) → Scoped layout defined Takes v → most < n → expression_offences (types_in v) e ≡ [] → undefined_among defined (called_in e) ≡ []
+    pub expression_meets : (e : Expr) (v : Environment) (most : ℕ) (vs : List ℕ) → Scoped layout defined Takes v → most < n → expression_errors (types_in v) e ≡ [] → undefined_among defined (called_in e) ≡ []
         → Part form cs total v most vs (expression_code v e) (evaluate e (types_in v) call)
     expression_meets (Number t k) v most vs scoped lt e d = λ p ops s st h. pushes form cs total v most vs ops ops p (p + 1) k s (instruction.Constant k) st.0 h refl refl
     expression_meets (Variable x) v most vs scoped lt e d = λ p ops s st h.
         let f = variable_found WrongKind (found (types_in v) x.text) x.at e in
         pushes form cs total v most vs ops ops p (p + 1) (variable_word x.text s) s (load v x.text) st.0 h refl (load_move form v total most (p + 1) vs ops cs s x.text h (scoped.variable x.text f.0 f.1))
     expression_meets (Element x i) v most vs scoped lt e d =
-        let own = nil_right (array_offences (found (types_in v) x.text) x.at) (expression_offences (types_in v) i ++ void_offences (types_in v) i) e in
-        element_part i x v most vs (expression_meets i v most vs scoped lt (nil_left (expression_offences (types_in v) i) (void_offences (types_in v) i) own) d)
+        let own = nil_right (array_errors (found (types_in v) x.text) x.at) (expression_errors (types_in v) i ++ void_errors (types_in v) i) e in
+        element_part i x v most vs (expression_meets i v most vs scoped lt (nil_left (expression_errors (types_in v) i) (void_errors (types_in v) i) own) d)
     expression_meets (Call f es) v most vs scoped lt e d =
         call_part f es v most vs scoped lt
-        (takes_of f es v scoped (nil_left (function_offences (found (types_in v) f.text) (count_of es) f.at) (argument_offences (types_in v) es) e) d)
-        (arguments_meet es v most vs scoped lt (nil_right (function_offences (found (types_in v) f.text) (count_of es) f.at) (argument_offences (types_in v) es) e) (defined_right defined (f ∷ []) (called_in_all es) d))
+        (takes_of f es v scoped (nil_left (function_errors (found (types_in v) f.text) (count_of es) f.at) (argument_errors (types_in v) es) e) d)
+        (arguments_meet es v most vs scoped lt (nil_right (function_errors (found (types_in v) f.text) (count_of es) f.at) (argument_errors (types_in v) es) e) (defined_right defined (f ∷ []) (called_in_all es) d))
     expression_meets (Parenthesised i) v most vs scoped lt e d = expression_meets i v most vs scoped lt e d
     expression_meets (Unary op i) v most vs scoped lt e d =
-        unary_part i op v most vs (expression_meets i v most vs scoped lt (nil_left (expression_offences (types_in v) i) (void_offences (types_in v) i) e) d)
-    expression_meets (Cast t i) v most vs scoped lt e d = expression_meets i v most vs scoped lt (nil_left (expression_offences (types_in v) i) (void_offences (types_in v) i) e) d
+        unary_part i op v most vs (expression_meets i v most vs scoped lt (nil_left (expression_errors (types_in v) i) (void_errors (types_in v) i) e) d)
+    expression_meets (Cast t i) v most vs scoped lt e d = expression_meets i v most vs scoped lt (nil_left (expression_errors (types_in v) i) (void_errors (types_in v) i) e) d
     expression_meets (Binary op a b) v most vs scoped lt e d =
         let bs = types_in v in
-        let of_a = nil_left (expression_offences bs a ++ void_offences bs a) (expression_offences bs b ++ void_offences bs b) e in
-        let of_b = nil_right (expression_offences bs a ++ void_offences bs a) (expression_offences bs b ++ void_offences bs b) e in
+        let of_a = nil_left (expression_errors bs a ++ void_errors bs a) (expression_errors bs b ++ void_errors bs b) e in
+        let of_b = nil_right (expression_errors bs a ++ void_errors bs a) (expression_errors bs b ++ void_errors bs b) e in
         binary_meets form cs total v most vs op (working_type op (value_type bs a) (value_type bs b)) (expression_code v a) (expression_code v b) (evaluate a bs call) (evaluate b bs call) (kind_of op)
-        (expression_meets a v most vs scoped lt (nil_left (expression_offences bs a) (void_offences bs a) of_a) (defined_left defined (called_in a) (called_in b) d))
-        (expression_meets b v most vs scoped lt (nil_left (expression_offences bs b) (void_offences bs b) of_b) (defined_right defined (called_in a) (called_in b) d))
+        (expression_meets a v most vs scoped lt (nil_left (expression_errors bs a) (void_errors bs a) of_a) (defined_left defined (called_in a) (called_in b) d))
+        (expression_meets b v most vs scoped lt (nil_left (expression_errors bs b) (void_errors bs b) of_b) (defined_right defined (called_in a) (called_in b) d))
     expression_meets (Conditional c a b) v most vs scoped lt e d =
         let bs = types_in v in
-        let of_c = nil_left (expression_offences bs c ++ void_offences bs c) ((expression_offences bs a ++ void_offences bs a) ++ (expression_offences bs b ++ void_offences bs b)) e in
-        let of_ab = nil_right (expression_offences bs c ++ void_offences bs c) ((expression_offences bs a ++ void_offences bs a) ++ (expression_offences bs b ++ void_offences bs b)) e in
-        let of_a = nil_left (expression_offences bs a ++ void_offences bs a) (expression_offences bs b ++ void_offences bs b) of_ab in
-        let of_b = nil_right (expression_offences bs a ++ void_offences bs a) (expression_offences bs b ++ void_offences bs b) of_ab in
+        let of_c = nil_left (expression_errors bs c ++ void_errors bs c) ((expression_errors bs a ++ void_errors bs a) ++ (expression_errors bs b ++ void_errors bs b)) e in
+        let of_ab = nil_right (expression_errors bs c ++ void_errors bs c) ((expression_errors bs a ++ void_errors bs a) ++ (expression_errors bs b ++ void_errors bs b)) e in
+        let of_a = nil_left (expression_errors bs a ++ void_errors bs a) (expression_errors bs b ++ void_errors bs b) of_ab in
+        let of_b = nil_right (expression_errors bs a ++ void_errors bs a) (expression_errors bs b ++ void_errors bs b) of_ab in
         let d_ab = defined_right defined (called_in c) (called_in a ++ called_in b) d in
         conditional_meets form cs total v most vs (expression_code v c) (expression_code v a) (expression_code v b) (evaluate c bs call) (evaluate a bs call) (evaluate b bs call)
-        (expression_meets c v most vs scoped lt (nil_left (expression_offences bs c) (void_offences bs c) of_c) (defined_left defined (called_in c) (called_in a ++ called_in b) d))
-        (expression_meets a v most vs scoped lt (nil_left (expression_offences bs a) (void_offences bs a) of_a) (defined_left defined (called_in a) (called_in b) d_ab))
-        (expression_meets b v most vs scoped lt (nil_left (expression_offences bs b) (void_offences bs b) of_b) (defined_right defined (called_in a) (called_in b) d_ab))
+        (expression_meets c v most vs scoped lt (nil_left (expression_errors bs c) (void_errors bs c) of_c) (defined_left defined (called_in c) (called_in a ++ called_in b) d))
+        (expression_meets a v most vs scoped lt (nil_left (expression_errors bs a) (void_errors bs a) of_a) (defined_left defined (called_in a) (called_in b) d_ab))
+        (expression_meets b v most vs scoped lt (nil_left (expression_errors bs b) (void_errors bs b) of_b) (defined_right defined (called_in a) (called_in b) d_ab))
 
-    pub arguments_meet : (es : Exprs) (v : Environment) (most : ℕ) (vs : List ℕ) → Scoped layout defined Takes v → most < n → argument_offences (types_in v) es ≡ [] → undefined_among defined (called_in_all es) ≡ []
+    pub arguments_meet : (es : Exprs) (v : Environment) (most : ℕ) (vs : List ℕ) → Scoped layout defined Takes v → most < n → argument_errors (types_in v) es ≡ [] → undefined_among defined (called_in_all es) ≡ []
         → Arguments v most vs es
     arguments_meet none v most vs scoped lt e d = λ p ops s st h.
         record { fits = h; many = refl; leads = subst (λ k. Leads form (conf p vs ops cs s) (conf k vs ops cs s)) (let z : p ≡ p + 0 = omega arith in z) (leads_refl form (conf p vs ops cs s)) }
     arguments_meet (more i rest) v most vs scoped lt e d =
         let bs = types_in v in
-        let of_i = nil_left (expression_offences bs i ++ void_offences bs i) (argument_offences bs rest) e in
+        let of_i = nil_left (expression_errors bs i ++ void_errors bs i) (argument_errors bs rest) e in
         more_part i rest v most vs
-        (expression_meets i v most vs scoped lt (nil_left (expression_offences bs i) (void_offences bs i) of_i) (defined_left defined (called_in i) (called_in_all rest) d))
-        (arguments_meet rest v most vs scoped lt (nil_right (expression_offences bs i ++ void_offences bs i) (argument_offences bs rest) e) (defined_right defined (called_in i) (called_in_all rest) d))
+        (expression_meets i v most vs scoped lt (nil_left (expression_errors bs i) (void_errors bs i) of_i) (defined_left defined (called_in i) (called_in_all rest) d))
+        (arguments_meet rest v most vs scoped lt (nil_right (expression_errors bs i ++ void_errors bs i) (argument_errors bs rest) e) (defined_right defined (called_in i) (called_in_all rest) d))

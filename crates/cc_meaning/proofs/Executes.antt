@@ -5,7 +5,7 @@ use Rattle.cc_tokens.specs.declared.scalar.Scalar.{Scalar}
 use Rattle.cc_syntax.specs.Tree as tree
 use Rattle.cc_syntax.specs.Tree.{Expr, Action, Declarator, Beginning, Declares, Performs, Stmt, Stmts, end, next, Block, Perform, Return, Break, Continue, If, IfElse, While, DoWhile, For}
 use Rattle.cc_typing.specs.Scope.{Binding, Visible, in_scope, opened, scope_behind, scope_behind_beginning}
-use Rattle.cc_typing.specs.Rules.{broken, void_offences, expression_offences, value_offences, optional_offences, optional_action_offences, beginning_offences, return_offences, Around, within_loop, statement_offences, statements_offences, undefined_among, called_in, called_in_optional, called_in_optional_action, called_in_beginning, called_in_statement, called_in_statements}
+use Rattle.cc_typing.specs.Rules.{broken, void_errors, expression_errors, value_errors, optional_errors, optional_action_errors, beginning_errors, return_errors, Around, within_loop, statement_errors, statements_errors, undefined_among, called_in, called_in_optional, called_in_optional_action, called_in_beginning, called_in_statement, called_in_statements}
 use Rattle.cc_typing.specs.declared.rule.Rule.TheVariants.{BadReturn}
 use Rattle.cc_typing.specs.Limits.{beginning_names, locals_of, locals}
 use Rattle.cc_meaning.specs.declared.form.Instruction.{Instruction}
@@ -15,7 +15,7 @@ use Rattle.cc_resolve.specs.Environment.{Environment, types_in, inner, with_loca
 use Rattle.cc_resolve.specs.Layout.{Layout}
 use Rattle.cc_meaning.specs.Meaning.{State, Run, Gives, Flow, Falls, Breaks, Continues, Returns, then_do, choose, Calls, behind_flow, begin_body, turns, evaluate, evaluate_or, perform_optional, declare, start, in_block, return, execute, execute_all}
 use Rattle.cc_meaning.specs.internal.FormMeaning.{Activation, Configuration}
-use Rattle.cc_meaning.proofs.Offences.{nil_left, nil_right, defined_left, defined_right}
+use Rattle.cc_meaning.proofs.Errors.{nil_left, nil_right, defined_left, defined_right}
 use Rattle.cc_meaning.proofs.Moves.{Leads, leads_refl, leads_then, conf, Meets, meets_then, meets_after, Stands, stands_end, stands_left, stands_right, jumps}
 use Rattle.cc_meaning.proofs.Fits.{Fits, Scoped, scoped_inner}
 use Rattle.cc_meaning.proofs.Expressions.{Value, CallsMeet, Part, pushes, branches, passes}
@@ -50,8 +50,8 @@ behind_beginning_is layout defined Takes (Declares t ds) v h =
 behind_beginning_is layout defined Takes (Performs a) v h = record { visible = refl; laid = refl; extra = []; locals = refl; room = omega arith; scoped = h }
 
 -- the value of a return keeps the rules
-return_value : (r : Option Scalar) (bs : List Binding) (at : ℕ) (e : Expr) → return_offences r bs at (Some e) ≡ [] → value_offences bs e ≡ []
-return_value None bs at e h = nil_right (broken BadReturn at) (value_offences bs e) h
+return_value : (r : Option Scalar) (bs : List Binding) (at : ℕ) (e : Expr) → return_errors r bs at (Some e) ≡ [] → value_errors bs e ≡ []
+return_value None bs at e h = nil_right (broken BadReturn at) (value_errors bs e) h
 return_value (Some t) bs at e h = h
 
 -- what never comes
@@ -132,22 +132,22 @@ module _ (form : FormTree) (cs : List Activation) (total : ℕ) (layout : Layout
 
   -- ---- parts of statements
 
-  used : (e : Expr) (v : Environment) (most : ℕ) (vs : List ℕ) → Scoped layout defined Takes v → most < n → value_offences (types_in v) e ≡ [] → undefined_among defined (called_in e) ≡ []
+  used : (e : Expr) (v : Environment) (most : ℕ) (vs : List ℕ) → Scoped layout defined Takes v → most < n → value_errors (types_in v) e ≡ [] → undefined_among defined (called_in e) ≡ []
       → Part form cs total v most vs (expression_code v e) (evaluate e (types_in v) call)
   used e v most vs scoped lt o d =
-      expression_meets form cs total layout defined Takes n call calls_meet e v most vs scoped lt (nil_left (expression_offences (types_in v) e) (void_offences (types_in v) e) o) d
+      expression_meets form cs total layout defined Takes n call calls_meet e v most vs scoped lt (nil_left (expression_errors (types_in v) e) (void_errors (types_in v) e) o) d
 
-  condition_meets : (e : Option Expr) (v : Environment) (most : ℕ) (vs : List ℕ) → Scoped layout defined Takes v → most < n → optional_offences (types_in v) e ≡ [] → undefined_among defined (called_in_optional e) ≡ []
+  condition_meets : (e : Option Expr) (v : Environment) (most : ℕ) (vs : List ℕ) → Scoped layout defined Takes v → most < n → optional_errors (types_in v) e ≡ [] → undefined_among defined (called_in_optional e) ≡ []
       → Part form cs total v most vs (condition_code v e) (evaluate_or 1 e (types_in v) call)
   condition_meets None v most vs scoped lt o d = λ p ops s st h. pushes form cs total v most vs ops ops p (p + 1) 1 s (instruction.Constant 1) st.0 h refl refl
   condition_meets (Some e) v most vs scoped lt o d = used e v most vs scoped lt o d
 
-  value_meets : (r : Option Scalar) (at : ℕ) (e : Option Expr) (v : Environment) (most : ℕ) (vs : List ℕ) → Scoped layout defined Takes v → most < n → return_offences r (types_in v) at e ≡ [] → undefined_among defined (called_in_optional e) ≡ []
+  value_meets : (r : Option Scalar) (at : ℕ) (e : Option Expr) (v : Environment) (most : ℕ) (vs : List ℕ) → Scoped layout defined Takes v → most < n → return_errors r (types_in v) at e ≡ [] → undefined_among defined (called_in_optional e) ≡ []
       → Part form cs total v most vs (value_code v e) (evaluate_or 0 e (types_in v) call)
   value_meets r at None v most vs scoped lt o d = λ p ops s st h. pushes form cs total v most vs ops ops p (p + 1) 0 s (instruction.Constant 0) st.0 h refl refl
   value_meets r at (Some e) v most vs scoped lt o d = used e v most vs scoped lt (return_value r (types_in v) at e o) d
 
-  return_meets : (r : Option Scalar) (at : ℕ) (e : Option Expr) (v : Environment) (x : Exits) (most : ℕ) → Scoped layout defined Takes v → most < n → return_offences r (types_in v) at e ≡ [] → undefined_among defined (called_in_optional e) ≡ []
+  return_meets : (r : Option Scalar) (at : ℕ) (e : Option Expr) (v : Environment) (x : Exits) (most : ℕ) → Scoped layout defined Takes v → most < n → return_errors r (types_in v) at e ≡ [] → undefined_among defined (called_in_optional e) ≡ []
       → StatementDoes v v x most (value_code v e ++ instruction.Return ∷ []) (return e (types_in v) call)
   return_meets r at e v x most scoped lt o d p b k vs t eb ek lb lk st h =
       let c = conf p vs [] cs t in
@@ -246,15 +246,15 @@ module _ (form : FormTree) (cs : List Activation) (total : ℕ) (layout : Layout
       → BlockDoes v x most (test ++ instruction.JumpIfZero (length first + 1) ∷ first ++ instruction.Jump (length second) ∷ second) (λ t. then_do (condition t) (λ w u. choose w part other u))
   if_else_meets v x most test first second condition part other f g r p b k vs t eb ek lb lk st h =
       let c = conf p vs [] cs t in
-      let front = test ++ instruction.JumpIfZero (length first + 1) ∷ first in
+      let prefix = test ++ instruction.JumpIfZero (length first + 1) ∷ first in
       let last = instruction.Jump (length second) ∷ second in
-      let size = length-append front last in
+      let size = length-append prefix last in
       let size' = length-append test (instruction.JumpIfZero (length first + 1) ∷ first) in
       let q = p + length test in
-      let end_at = p + length (front ++ last) in
-      let in_front = stands_left form.code p front last st in
+      let end_at = p + length (prefix ++ last) in
+      let in_front = stands_left form.code p prefix last st in
       let in_first = stands_right form.code p q test (instruction.JumpIfZero (length first + 1) ∷ first) refl in_front in
-      let in_last = stands_right form.code p (q + 1 + length first) front last (omega arith) st in
+      let in_last = stands_right form.code p (q + 1 + length first) prefix last (omega arith) st in
       let z = q + 1 + length first + 1 + length second in
       meets_then form c (Value form cs total c v most vs q []) (Done form cs total layout c most (Reaches form cs total c v most end_at) (Reaches form cs total c v most b) (Reaches form cs total c v most k)) (condition t)
       (λ w u. choose w part other u) (f vs p [] t (stands_left form.code p test (instruction.JumpIfZero (length first + 1) ∷ first) in_front) h)
@@ -395,7 +395,7 @@ module _ (form : FormTree) (cs : List Activation) (total : ℕ) (layout : Layout
 
   -- ---- the first part of a `for` header
 
-  start_meets : (first : Beginning) (v : Environment) (most : ℕ) → Scoped layout defined Takes v → most < n → beginning_offences first v.visible ≡ [] → undefined_among defined (called_in_beginning first) ≡ []
+  start_meets : (first : Beginning) (v : Environment) (most : ℕ) → Scoped layout defined Takes v → most < n → beginning_errors first v.visible ≡ [] → undefined_among defined (called_in_beginning first) ≡ []
       → length v.locals + length (beginning_names first) ≤ total → (p : ℕ) (vs : List ℕ) (t : State) → Stands form.code p (beginning_code v first) → Fits v total most vs t
       → Meets form (conf p vs [] cs t) (Acted form cs total (conf p vs [] cs t) (behind_beginning first v) most (p + length (beginning_code v first))) (start first call v.visible t)
   start_meets (Declares t ds) v most scoped lt o d room =
@@ -415,7 +415,7 @@ module _ (form : FormTree) (cs : List Activation) (total : ℕ) (layout : Layout
   -- ---- statements
 
   mutual
-    pub execute_meets : (s : Stmt) (v : Environment) (x : Exits) (a : Around) (most : ℕ) → Scoped layout defined Takes v → most < n → statement_offences s a v.visible ≡ [] → undefined_among defined (called_in_statement s) ≡ []
+    pub execute_meets : (s : Stmt) (v : Environment) (x : Exits) (a : Around) (most : ℕ) → Scoped layout defined Takes v → most < n → statement_errors s a v.visible ≡ [] → undefined_among defined (called_in_statement s) ≡ []
         → length v.locals + length (locals_of s) ≤ total → StatementDoes v (behind s v) x most (statement_code v x s) (execute s n call v.visible)
     execute_meets (Block all) v x a most scoped lt o d room =
         statement_of_block v x most (statements_code (inner v) x all) (in_block (execute_all all n call (opened v.visible)))
@@ -431,8 +431,8 @@ module _ (form : FormTree) (cs : List Activation) (total : ℕ) (layout : Layout
     execute_meets (Continue at) v x a most scoped lt o d room = λ p b k vs t eb ek lb lk st h. jump_leaves v most x.continues p k vs t st.0 ek lk h
     execute_meets (If c s) v x a most scoped lt o d room =
         let code = statement_code (inner v) x s in
-        let of_c = nil_left (value_offences (types_in v) c) (statement_offences s a (opened v.visible)) o in
-        let of_s = nil_right (value_offences (types_in v) c) (statement_offences s a (opened v.visible)) o in
+        let of_c = nil_left (value_errors (types_in v) c) (statement_errors s a (opened v.visible)) o in
+        let of_s = nil_right (value_errors (types_in v) c) (statement_errors s a (opened v.visible)) o in
         statement_of_block v x most (expression_code v c ++ instruction.JumpIfZero (length code) ∷ code)
         (λ t. then_do (evaluate c (types_in v) call t) (λ w u. choose w (in_block (execute s n call (opened v.visible))) (λ y. Gives Falls y) u))
         (if_meets v x most (expression_code v c) code (evaluate c (types_in v) call) (in_block (execute s n call (opened v.visible)))
@@ -442,8 +442,8 @@ module _ (form : FormTree) (cs : List Activation) (total : ℕ) (layout : Layout
     execute_meets (IfElse c s r) v x a most scoped lt o d room =
         let second = statement_code (inner v) x r in
         let first = statement_code (inner v) (further (length second + 1) x) s in
-        let of_c = nil_left (value_offences (types_in v) c) (statement_offences s a (opened v.visible) ++ statement_offences r a (opened v.visible)) o in
-        let of_both = nil_right (value_offences (types_in v) c) (statement_offences s a (opened v.visible) ++ statement_offences r a (opened v.visible)) o in
+        let of_c = nil_left (value_errors (types_in v) c) (statement_errors s a (opened v.visible) ++ statement_errors r a (opened v.visible)) o in
+        let of_both = nil_right (value_errors (types_in v) c) (statement_errors s a (opened v.visible) ++ statement_errors r a (opened v.visible)) o in
         let d_both = defined_right defined (called_in c) (called_in_statement s ++ called_in_statement r) d in
         let names = length-append (locals_of s) (locals_of r) in
         let scoped' = scoped_inner layout defined Takes v scoped in
@@ -452,17 +452,17 @@ module _ (form : FormTree) (cs : List Activation) (total : ℕ) (layout : Layout
         (if_else_meets v x most (expression_code v c) first second (evaluate c (types_in v) call) (in_block (execute s n call (opened v.visible))) (in_block (execute r n call (opened v.visible)))
         (λ vs. used c v most vs scoped lt of_c (defined_left defined (called_in c) (called_in_statement s ++ called_in_statement r) d))
         (block_of_statement s v (further (length second + 1) x) most first (execute s n call (opened v.visible)) scoped
-        (execute_meets s (inner v) (further (length second + 1) x) a most scoped' lt (nil_left (statement_offences s a (opened v.visible)) (statement_offences r a (opened v.visible)) of_both)
+        (execute_meets s (inner v) (further (length second + 1) x) a most scoped' lt (nil_left (statement_errors s a (opened v.visible)) (statement_errors r a (opened v.visible)) of_both)
         (defined_left defined (called_in_statement s) (called_in_statement r) d_both) (omega arith)))
         (block_of_statement r v x most second (execute r n call (opened v.visible)) scoped
-        (execute_meets r (inner v) x a most scoped' lt (nil_right (statement_offences s a (opened v.visible)) (statement_offences r a (opened v.visible)) of_both)
+        (execute_meets r (inner v) x a most scoped' lt (nil_right (statement_errors s a (opened v.visible)) (statement_errors r a (opened v.visible)) of_both)
         (defined_right defined (called_in_statement s) (called_in_statement r) d_both) (omega arith))))
     execute_meets (While c s) v x a most scoped lt o d room =
         let test = expression_code v c in
         let out = exits_of_body [] test in
         let body = statement_code (inner v) out s in
-        let of_c = nil_left (value_offences (types_in v) c) (statement_offences s (within_loop a) (opened v.visible)) o in
-        let of_s = nil_right (value_offences (types_in v) c) (statement_offences s (within_loop a) (opened v.visible)) o in
+        let of_c = nil_left (value_errors (types_in v) c) (statement_errors s (within_loop a) (opened v.visible)) o in
+        let of_s = nil_right (value_errors (types_in v) c) (statement_errors s (within_loop a) (opened v.visible)) o in
         let inside : State → Run Flow = in_block (execute s n call (opened v.visible)) in
         never_leaves v v x most (loop_code body [] test) (turns (suc n) (evaluate c (types_in v) call) inside (λ u. Gives Falls u))
         (λ p vs t st h. loop_meets v body [] test (evaluate c (types_in v) call) inside (λ u. Gives Falls u) scoped.laid
@@ -474,8 +474,8 @@ module _ (form : FormTree) (cs : List Activation) (total : ℕ) (layout : Layout
         let test = expression_code v c in
         let out = exits_of_body [] test in
         let body = statement_code (inner v) out s in
-        let of_s = nil_left (statement_offences s (within_loop a) (opened v.visible)) (value_offences (types_in v) c) o in
-        let of_c = nil_right (statement_offences s (within_loop a) (opened v.visible)) (value_offences (types_in v) c) o in
+        let of_s = nil_left (statement_errors s (within_loop a) (opened v.visible)) (value_errors (types_in v) c) o in
+        let of_c = nil_right (statement_errors s (within_loop a) (opened v.visible)) (value_errors (types_in v) c) o in
         let inside : State → Run Flow = in_block (execute s n call (opened v.visible)) in
         never_leaves v v x most (turns_code body [] test) (begin_body inside (turns (suc n) (evaluate c (types_in v) call) inside (λ u. Gives Falls u)))
         (λ p vs t st h. do_meets v body test (evaluate c (types_in v) call) inside scoped.laid
@@ -496,13 +496,13 @@ module _ (form : FormTree) (cs : List Activation) (total : ℕ) (layout : Layout
         let names = length-append (beginning_names first) (locals_of s) in
         let few = i.room in
         let vis : Visible = scope_behind_beginning first (opened v.visible) in
-        let all_of_loop : Visible → List _ = λ y. optional_offences (in_scope y) c ++ (optional_action_offences (in_scope y) following ++ statement_offences s (within_loop a) (opened y)) in
-        let of_start = nil_left (beginning_offences first (opened v.visible)) (all_of_loop vis) o in
-        let of_loop : all_of_loop within.visible ≡ [] = subst (λ y. all_of_loop y ≡ []) (sym i.visible) (nil_right (beginning_offences first (opened v.visible)) (all_of_loop vis) o) in
-        let of_c = nil_left (optional_offences (types_in within) c) (optional_action_offences (types_in within) following ++ statement_offences s (within_loop a) (opened within.visible)) of_loop in
-        let of_rest = nil_right (optional_offences (types_in within) c) (optional_action_offences (types_in within) following ++ statement_offences s (within_loop a) (opened within.visible)) of_loop in
-        let of_f = nil_left (optional_action_offences (types_in within) following) (statement_offences s (within_loop a) (opened within.visible)) of_rest in
-        let of_s = nil_right (optional_action_offences (types_in within) following) (statement_offences s (within_loop a) (opened within.visible)) of_rest in
+        let all_of_loop : Visible → List _ = λ y. optional_errors (in_scope y) c ++ (optional_action_errors (in_scope y) following ++ statement_errors s (within_loop a) (opened y)) in
+        let of_start = nil_left (beginning_errors first (opened v.visible)) (all_of_loop vis) o in
+        let of_loop : all_of_loop within.visible ≡ [] = subst (λ y. all_of_loop y ≡ []) (sym i.visible) (nil_right (beginning_errors first (opened v.visible)) (all_of_loop vis) o) in
+        let of_c = nil_left (optional_errors (types_in within) c) (optional_action_errors (types_in within) following ++ statement_errors s (within_loop a) (opened within.visible)) of_loop in
+        let of_rest = nil_right (optional_errors (types_in within) c) (optional_action_errors (types_in within) following ++ statement_errors s (within_loop a) (opened within.visible)) of_loop in
+        let of_f = nil_left (optional_action_errors (types_in within) following) (statement_errors s (within_loop a) (opened within.visible)) of_rest in
+        let of_s = nil_right (optional_action_errors (types_in within) following) (statement_errors s (within_loop a) (opened within.visible)) of_rest in
         let d_start = defined_left defined (called_in_beginning first) (called_in_optional c ++ (called_in_optional_action following ++ called_in_statement s)) d in
         let d_loop = defined_right defined (called_in_beginning first) (called_in_optional c ++ (called_in_optional_action following ++ called_in_statement s)) d in
         let d_rest = defined_right defined (called_in_optional c) (called_in_optional_action following ++ called_in_statement s) d_loop in
@@ -523,7 +523,7 @@ module _ (form : FormTree) (cs : List Activation) (total : ℕ) (layout : Layout
         (first_then w within x most (beginning_code w first) (loop_code body next_part test) (start first call w.visible) (turns (suc n) (evaluate_or 1 c (types_in within) call) inside (perform_optional following (types_in within) call))
         (start_meets first w most scoped' lt of_start d_start (omega arith)) i.extra i.locals i.laid looped)))
 
-    pub execute_all_meets : (ss : Stmts) (v : Environment) (x : Exits) (a : Around) (most : ℕ) → Scoped layout defined Takes v → most < n → statements_offences ss a v.visible ≡ [] → undefined_among defined (called_in_statements ss) ≡ []
+    pub execute_all_meets : (ss : Stmts) (v : Environment) (x : Exits) (a : Around) (most : ℕ) → Scoped layout defined Takes v → most < n → statements_errors ss a v.visible ≡ [] → undefined_among defined (called_in_statements ss) ≡ []
         → length v.locals + length (locals ss) ≤ total → ListDoes v x most (statements_code v x ss) (execute_all ss n call v.visible)
     execute_all_meets end v x a most scoped lt o d room = λ p b k vs t eb ek lb lk st h. record {
       extra = [];
@@ -536,9 +536,9 @@ module _ (form : FormTree) (cs : List Activation) (total : ℕ) (layout : Layout
         let i = behind_is layout defined Takes first v scoped in
         let others = statements_code w x rest in
         let code = statement_code v (further (length others) x) first in
-        let of_first = nil_left (statement_offences first a v.visible) (statements_offences rest a (scope_behind first v.visible)) o in
-        let of_rest : statements_offences rest a w.visible ≡ [] =
-        subst (λ y. statements_offences rest a y ≡ []) (sym i.visible) (nil_right (statement_offences first a v.visible) (statements_offences rest a (scope_behind first v.visible)) o) in
+        let of_first = nil_left (statement_errors first a v.visible) (statements_errors rest a (scope_behind first v.visible)) o in
+        let of_rest : statements_errors rest a w.visible ≡ [] =
+        subst (λ y. statements_errors rest a y ≡ []) (sym i.visible) (nil_right (statement_errors first a v.visible) (statements_errors rest a (scope_behind first v.visible)) o) in
         let names = length-append (locals_of first) (locals rest) in
         let few = i.room in
         subst (λ y. ListDoes v x most (code ++ others) (λ t. then_do (execute first n call v.visible t) (λ flow u. behind_flow flow (execute_all rest n call y) u))) i.visible

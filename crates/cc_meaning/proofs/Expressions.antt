@@ -38,7 +38,7 @@ pub record Values (form : FormTree) (cs : List Activation) (total : ℕ) (c : Co
   pub many : length ws ≡ count
   pub leads : Leads form c (conf q vs (reverse ws ++ ops) cs t)
 
--- each call that takes so many words gives in the form what it gives in the source, where fewer than n steps are left
+-- each call that takes this many words gives in the form what it gives in the source, where fewer than n steps are left
 abbrev pub CallsMeet : FormTree → Layout → (List ℕ → ℕ → Type 0) → List Activation → (total n : ℕ) → Calls → Type 0
 CallsMeet form layout Takes cs total n call =
     (v : Environment) (f ws : List ℕ) (p : ℕ) (vs ops : List ℕ) (s : State) (most : ℕ)
@@ -234,15 +234,15 @@ module _ (form : FormTree) (cs : List Activation) (total : ℕ) where
       → Part v most vs left first → Part v most vs right second → Part v most vs (joined LogicalAnd o left right) (both_operands LogicalAnd t first second)
   and_meets v most vs o t left right first second f g p ops s st h =
       let n = length right + 1 in
-      let front = left ++ instruction.AndThen n ∷ right in
-      let code = front ++ instruction.Truth ∷ [] in
+      let prefix = left ++ instruction.AndThen n ∷ right in
+      let code = prefix ++ instruction.Truth ∷ [] in
       let c = conf p vs ops cs s in
       let l = length left in
       let size = and_code n left right in
-      let in_front = stands_left form.code p front (instruction.Truth ∷ []) st in
+      let in_front = stands_left form.code p prefix (instruction.Truth ∷ []) st in
       let in_left = stands_left form.code p left (instruction.AndThen n ∷ right) in_front in
       let in_right = stands_right form.code p (p + l) left (instruction.AndThen n ∷ right) refl in_front in
-      let in_last = stands_right form.code p (p + l + 1 + length right) front (instruction.Truth ∷ []) (let e = length-append left (instruction.AndThen n ∷ right) in omega arith) st in
+      let in_last = stands_right form.code p (p + l + 1 + length right) prefix (instruction.Truth ∷ []) (let e = length-append left (instruction.AndThen n ∷ right) in omega arith) st in
       meets_then form c (Value form cs total c v most vs (p + l) ops) (Value form cs total c v most vs (p + length code) ops) (first s)
       (λ a u. unless_decided (decided LogicalAnd a) (λ x. then_do (second x) (λ b y. given LogicalAnd (binary_word LogicalAnd t a b) y)) u) (f p ops s in_left h)
       (λ a u got. value_after v most vs ops c (conf (p + l) vs (a ∷ ops) cs u) (p + length code) (p + length code)
@@ -253,15 +253,15 @@ module _ (form : FormTree) (cs : List Activation) (total : ℕ) where
       → Part v most vs left first → Part v most vs right second → Part v most vs (joined LogicalOr o left right) (both_operands LogicalOr t first second)
   or_meets v most vs o t left right first second f g p ops s st h =
       let n = length right + 1 in
-      let front = left ++ instruction.OrElse n ∷ right in
-      let code = front ++ instruction.Truth ∷ [] in
+      let prefix = left ++ instruction.OrElse n ∷ right in
+      let code = prefix ++ instruction.Truth ∷ [] in
       let c = conf p vs ops cs s in
       let l = length left in
       let size = or_code n left right in
-      let in_front = stands_left form.code p front (instruction.Truth ∷ []) st in
+      let in_front = stands_left form.code p prefix (instruction.Truth ∷ []) st in
       let in_left = stands_left form.code p left (instruction.OrElse n ∷ right) in_front in
       let in_right = stands_right form.code p (p + l) left (instruction.OrElse n ∷ right) refl in_front in
-      let in_last = stands_right form.code p (p + l + 1 + length right) front (instruction.Truth ∷ []) (let e = length-append left (instruction.OrElse n ∷ right) in omega arith) st in
+      let in_last = stands_right form.code p (p + l + 1 + length right) prefix (instruction.Truth ∷ []) (let e = length-append left (instruction.OrElse n ∷ right) in omega arith) st in
       meets_then form c (Value form cs total c v most vs (p + l) ops) (Value form cs total c v most vs (p + length code) ops) (first s)
       (λ a u. unless_decided (decided LogicalOr a) (λ x. then_do (second x) (λ b y. given LogicalOr (binary_word LogicalOr t a b) y)) u) (f p ops s in_left h)
       (λ a u got. value_after v most vs ops c (conf (p + l) vs (a ∷ ops) cs u) (p + length code) (p + length code)
@@ -313,14 +313,14 @@ module _ (form : FormTree) (cs : List Activation) (total : ℕ) where
       → Part v most vs test condition → Part v most vs left first → Part v most vs right second
       → Part v most vs (test ++ instruction.JumpIfZero (length left + 1) ∷ left ++ instruction.Jump (length right) ∷ right) (λ s. then_do (condition s) (λ w t. choose w first second t))
   conditional_meets v most vs test left right condition first second k f g p ops s st h =
-      let front = test ++ instruction.JumpIfZero (length left + 1) ∷ left in
-      let code = front ++ instruction.Jump (length right) ∷ right in
+      let prefix = test ++ instruction.JumpIfZero (length left + 1) ∷ left in
+      let code = prefix ++ instruction.Jump (length right) ∷ right in
       let c = conf p vs ops cs s in
-      let size = length-append front (instruction.Jump (length right) ∷ right) in
+      let size = length-append prefix (instruction.Jump (length right) ∷ right) in
       let size' = length-append test (instruction.JumpIfZero (length left + 1) ∷ left) in
-      let in_front = stands_left form.code p front (instruction.Jump (length right) ∷ right) st in
+      let in_front = stands_left form.code p prefix (instruction.Jump (length right) ∷ right) st in
       let in_left = stands_right form.code p (p + length test) test (instruction.JumpIfZero (length left + 1) ∷ left) refl in_front in
-      let in_right = stands_right form.code p (p + length test + 1 + length left) front (instruction.Jump (length right) ∷ right) (omega arith) st in
+      let in_right = stands_right form.code p (p + length test + 1 + length left) prefix (instruction.Jump (length right) ∷ right) (omega arith) st in
       meets_then form c (Value form cs total c v most vs (p + length test) ops) (Value form cs total c v most vs (p + length code) ops) (condition s) (λ w t. choose w first second t)
       (k p ops s (stands_left form.code p test (instruction.JumpIfZero (length left + 1) ∷ left) in_front) h)
       (λ w t got. value_after v most vs ops c (conf (p + length test) vs (w ∷ ops) cs t) (p + length test + 1 + length left + 1 + length right) (p + length code) (choose w first second t) got.leads (omega arith)

@@ -19,7 +19,7 @@ use Rattle.cc_meaning.proofs.Held.{names_of, words_in, reads_local, no_local, wr
 use Rattle.cc_meaning.proofs.Moves.{conf}
 
 -- the variables are the words of the locals, the oldest first, with others after them that no name has; the objects stand
--- where they are placed; at most so many steps are left
+-- where they are placed; at most this many steps are left
 pub record Fits (v : Environment) (total most : ℕ) (vs : List ℕ) (s : State) : Type 0 where
   pub names : names_of s.locals ≡ v.locals
   pub laid : layout_from 0 s.globals ≡ v.layout.objects

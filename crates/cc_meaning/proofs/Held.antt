@@ -148,50 +148,50 @@ abbrev pub layout_from : ℕ → List Global → List LaidObject
 layout_from at [] = []
 layout_from at (g ∷ rest) = record { name = g.name; extent = record { offset = at; length = length g.words; width = g.width } } ∷ layout_from (at + length g.words) rest
 
-pub record Finds (front : List ℕ) (gs : List Global) (x : List ℕ) (ext : Extent) : Type 0 where
+pub record Finds (prefix : List ℕ) (gs : List Global) (x : List ℕ) (ext : Extent) : Type 0 where
   pub size : ext.length ≡ length (words_of gs x)
-  pub reads : (i : ℕ) → i < ext.length → slice_get (front ++ all_of gs) (ext.offset + i) ≡ slice_get (words_of gs x) i
-  pub within : (i : ℕ) → i < ext.length → ext.offset + i < length (front ++ all_of gs)
-  pub writes : (i w : ℕ) → i < ext.length → slice_set (front ++ all_of gs) (ext.offset + i) (kept ext.width w) ≡ front ++ all_of (with_element x i w gs)
+  pub reads : (i : ℕ) → i < ext.length → slice_get (prefix ++ all_of gs) (ext.offset + i) ≡ slice_get (words_of gs x) i
+  pub within : (i : ℕ) → i < ext.length → ext.offset + i < length (prefix ++ all_of gs)
+  pub writes : (i w : ℕ) → i < ext.length → slice_set (prefix ++ all_of gs) (ext.offset + i) (kept ext.width w) ≡ prefix ++ all_of (with_element x i w gs)
 
 -- after the words of one object more
-finds_behind : (front : List ℕ) (g : Global) (rest : List Global) (x : List ℕ) (ext : Extent) → same_name g.name x ≡ false → Finds (front ++ g.words) rest x ext → Finds front (g ∷ rest) x ext
-finds_behind front g rest x ext eq h =
+finds_behind : (prefix : List ℕ) (g : Global) (rest : List Global) (x : List ℕ) (ext : Extent) → same_name g.name x ≡ false → Finds (prefix ++ g.words) rest x ext → Finds prefix (g ∷ rest) x ext
+finds_behind prefix g rest x ext eq h =
     let words : words_of (g ∷ rest) x ≡ words_of rest x = ap (λ c. if c then g.words else words_of rest x) eq in
-    let all : (front ++ g.words) ++ all_of rest ≡ front ++ all_of (g ∷ rest) = append_assoc front g.words (all_of rest) in
+    let all : (prefix ++ g.words) ++ all_of rest ≡ prefix ++ all_of (g ∷ rest) = append_assoc prefix g.words (all_of rest) in
     record {
       size = h.size ∙ ap length (sym words);
       reads = λ i lt. ap (λ (l : List ℕ). slice_get l (ext.offset + i)) (sym all) ∙ h.reads i lt ∙ ap (λ (l : List ℕ). slice_get l i) (sym words);
       within = λ i lt. subst (λ (l : List ℕ). ext.offset + i < length l) all (h.within i lt);
       writes = λ i w lt.
           let new : with_element x i w (g ∷ rest) ≡ g ∷ with_element x i w rest = ap (λ c. if c then record g { words = slice_set g.words i (kept g.width w) } ∷ rest else g ∷ with_element x i w rest) eq in
-          ap (λ (l : List ℕ). slice_set l (ext.offset + i) (kept ext.width w)) (sym all) ∙ h.writes i w lt ∙ append_assoc front g.words (all_of (with_element x i w rest)) ∙ ap (λ ks. front ++ all_of ks) (sym new);
+          ap (λ (l : List ℕ). slice_set l (ext.offset + i) (kept ext.width w)) (sym all) ∙ h.writes i w lt ∙ append_assoc prefix g.words (all_of (with_element x i w rest)) ∙ ap (λ ks. prefix ++ all_of ks) (sym new);
     }
 
-finds_here : (front : List ℕ) (g : Global) (rest : List Global) (x : List ℕ) (at : ℕ) → same_name g.name x ≡ true → length front ≡ at
-    → Finds front (g ∷ rest) x (record { offset = at; length = length g.words; width = g.width })
-finds_here front g rest x at eq e =
+finds_here : (prefix : List ℕ) (g : Global) (rest : List Global) (x : List ℕ) (at : ℕ) → same_name g.name x ≡ true → length prefix ≡ at
+    → Finds prefix (g ∷ rest) x (record { offset = at; length = length g.words; width = g.width })
+finds_here prefix g rest x at eq e =
     let words : words_of (g ∷ rest) x ≡ g.words = ap (λ c. if c then g.words else words_of rest x) eq in
     record {
       size = ap length (sym words);
       reads = λ i lt.
-          get_right front (all_of (g ∷ rest)) i (at + i) (omega arith) ∙ get_left g.words (all_of rest) i lt ∙ ap (λ (l : List ℕ). slice_get l i) (sym words);
-      within = λ i lt. omega (arith, length-append front (all_of (g ∷ rest)), length-append g.words (all_of rest));
+          get_right prefix (all_of (g ∷ rest)) i (at + i) (omega arith) ∙ get_left g.words (all_of rest) i lt ∙ ap (λ (l : List ℕ). slice_get l i) (sym words);
+      within = λ i lt. omega (arith, length-append prefix (all_of (g ∷ rest)), length-append g.words (all_of rest));
       writes = λ i w lt.
           let new : with_element x i w (g ∷ rest) ≡ record g { words = slice_set g.words i (kept g.width w) } ∷ rest = ap (λ c. if c then record g { words = slice_set g.words i (kept g.width w) } ∷ rest else g ∷ with_element x i w rest) eq in
-          set_right front (all_of (g ∷ rest)) i (at + i) (kept g.width w) (omega arith) ∙ ap (λ (l : List ℕ). front ++ l) (set_left g.words (all_of rest) i (kept g.width w) lt) ∙ ap (λ ks. front ++ all_of ks) (sym new);
+          set_right prefix (all_of (g ∷ rest)) i (at + i) (kept g.width w) (omega arith) ∙ ap (λ (l : List ℕ). prefix ++ l) (set_left g.words (all_of rest) i (kept g.width w) lt) ∙ ap (λ ks. prefix ++ all_of ks) (sym new);
     }
 
-finds_by : (front : List ℕ) (g : Global) (rest : List Global) (x : List ℕ) (at : ℕ) (b : Bool) → same_name g.name x ≡ b → length front ≡ at
-    → Finds (front ++ g.words) rest x (extent_of (layout_from (at + length g.words) rest) x)
-    → Finds front (g ∷ rest) x (if b then record { offset = at; length = length g.words; width = g.width } else extent_of (layout_from (at + length g.words) rest) x)
-finds_by front g rest x at true eq e ih = finds_here front g rest x at eq e
-finds_by front g rest x at false eq e ih = finds_behind front g rest x (extent_of (layout_from (at + length g.words) rest) x) eq ih
+finds_by : (prefix : List ℕ) (g : Global) (rest : List Global) (x : List ℕ) (at : ℕ) (b : Bool) → same_name g.name x ≡ b → length prefix ≡ at
+    → Finds (prefix ++ g.words) rest x (extent_of (layout_from (at + length g.words) rest) x)
+    → Finds prefix (g ∷ rest) x (if b then record { offset = at; length = length g.words; width = g.width } else extent_of (layout_from (at + length g.words) rest) x)
+finds_by prefix g rest x at true eq e ih = finds_here prefix g rest x at eq e
+finds_by prefix g rest x at false eq e ih = finds_behind prefix g rest x (extent_of (layout_from (at + length g.words) rest) x) eq ih
 
-pub finds : (front : List ℕ) (gs : List Global) (x : List ℕ) (at : ℕ) → length front ≡ at → Finds front gs x (extent_of (layout_from at gs) x)
-finds front [] x at e = record { size = refl; reads = λ i lt. absurd (omega arith); within = λ i lt. absurd (omega arith); writes = λ i w lt. absurd (omega arith) }
-finds front (g ∷ rest) x at e =
-    finds_by front g rest x at (same_name g.name x) refl e (finds (front ++ g.words) rest x (at + length g.words) (length-append front g.words ∙ ap (λ k. k + length g.words) e))
+pub finds : (prefix : List ℕ) (gs : List Global) (x : List ℕ) (at : ℕ) → length prefix ≡ at → Finds prefix gs x (extent_of (layout_from at gs) x)
+finds prefix [] x at e = record { size = refl; reads = λ i lt. absurd (omega arith); within = λ i lt. absurd (omega arith); writes = λ i w lt. absurd (omega arith) }
+finds prefix (g ∷ rest) x at e =
+    finds_by prefix g rest x at (same_name g.name x) refl e (finds (prefix ++ g.words) rest x (at + length g.words) (length-append prefix g.words ∙ ap (λ k. k + length g.words) e))
 
 layout_keep_by : (x : List ℕ) (i w at : ℕ) (g : Global) (rest : List Global) (b : Bool) → layout_from (at + length g.words) (with_element x i w rest) ≡ layout_from (at + length g.words) rest
     → layout_from at (if b then record g { words = slice_set g.words i (kept g.width w) } ∷ rest else g ∷ with_element x i w rest) ≡ layout_from at (g ∷ rest)

@@ -1,7 +1,7 @@
 pub mod Lasting
 pub mod Steps
 pub mod Exact
-pub mod Offences
+pub mod Errors
 pub mod Named
 pub mod Held
 pub mod Moves

@@ -8,12 +8,12 @@ use Rattle.cc_tokens.specs.declared.scalar.Scalar.{Scalar}
 use Rattle.cc_syntax.specs.Tree.{Object, Single, Array, Bytes, External, Declaration, Definition, Objects}
 use Rattle.cc_typing.specs.Names.{same_name}
 use Rattle.cc_typing.specs.Scope.{FileScope, has_name, first_file_scope, with_object, with_objects, file_scope_behind, body_scope}
-use Rattle.cc_typing.specs.Rules.{broken_if, signature_offences, statements_offences, external_offences, externals_offences}
+use Rattle.cc_typing.specs.Rules.{broken_if, signature_errors, statements_errors, external_errors, externals_errors}
 use Rattle.cc_typing.specs.declared.rule.Rule.TheVariants.{Redeclared}
 use Rattle.cc_typing.specs.Typed.{IsTyped}
 use Rattle.cc_meaning.specs.Meaning.{State, Function, functions_from, functions, function_named, calls, run_optional, most_open}
 use Rattle.cc_meaning.specs.Function.{Shared, effect_of, state_within, name_of_function, call_function, body_of_function, TypedUnitsHaveMeaning}
-use Rattle.cc_meaning.proofs.Offences.{nil_left, nil_right, not_broken, or_left, or_right}
+use Rattle.cc_meaning.proofs.Errors.{nil_left, nil_right, not_broken, or_left, or_right}
 use Rattle.cc_meaning.proofs.Steps.{begun, body_part}
 
 pub name_is_itself : (x : List ℕ) → same_name x x ≡ true
@@ -36,19 +36,19 @@ pub objects_keep : (t : Scalar) (os : List Object) (f : FileScope) → (with_obj
 objects_keep t [] f = refl
 objects_keep t (o ∷ rest) f = objects_keep t rest (with_object t o f) ∙ object_keeps t o f
 
-apart_from : (externals : List External) (f : FileScope) → externals_offences externals f ≡ [] → Apart f.defined (functions_from externals f)
+apart_from : (externals : List External) (f : FileScope) → externals_errors externals f ≡ [] → Apart f.defined (functions_from externals f)
 apart_from [] f e = tt
 apart_from (Declaration s ∷ rest) f e =
-    apart_from rest (file_scope_behind (Declaration s) f) (nil_right (external_offences (Declaration s) f) (externals_offences rest (file_scope_behind (Declaration s) f)) e)
+    apart_from rest (file_scope_behind (Declaration s) f) (nil_right (external_errors (Declaration s) f) (externals_errors rest (file_scope_behind (Declaration s) f)) e)
 apart_from (Definition s body ∷ rest) f e =
-    let here = nil_left (external_offences (Definition s body) f) (externals_offences rest (file_scope_behind (Definition s body) f)) e in
-    let behind = nil_right (external_offences (Definition s body) f) (externals_offences rest (file_scope_behind (Definition s body) f)) e in
-    let again = nil_left (broken_if (has_name f.defined s.name.text) Redeclared s.name.at) (statements_offences body (record { result = s.result; in_loop = false }) (body_scope s f))
-    (nil_right (signature_offences s f) (broken_if (has_name f.defined s.name.text) Redeclared s.name.at ++ statements_offences body (record { result = s.result; in_loop = false }) (body_scope s f)) here) in
+    let here = nil_left (external_errors (Definition s body) f) (externals_errors rest (file_scope_behind (Definition s body) f)) e in
+    let behind = nil_right (external_errors (Definition s body) f) (externals_errors rest (file_scope_behind (Definition s body) f)) e in
+    let again = nil_left (broken_if (has_name f.defined s.name.text) Redeclared s.name.at) (statements_errors body (record { result = s.result; in_loop = false }) (body_scope s f))
+    (nil_right (signature_errors s f) (broken_if (has_name f.defined s.name.text) Redeclared s.name.at ++ statements_errors body (record { result = s.result; in_loop = false }) (body_scope s f)) here) in
     (not_broken (has_name f.defined s.name.text) Redeclared s.name.at again, apart_from rest (file_scope_behind (Definition s body) f) behind)
 apart_from (Objects t os ∷ rest) f e =
     subst (λ names. Apart names (functions_from rest (with_objects t os f))) (objects_keep t os f)
-    (apart_from rest (with_objects t os f) (nil_right (external_offences (Objects t os) f) (externals_offences rest (with_objects t os f)) e))
+    (apart_from rest (with_objects t os f) (nil_right (external_errors (Objects t os) f) (externals_errors rest (with_objects t os f)) e))
 
 pub functions_apart : (unit : List External) → IsTyped unit → Apart first_file_scope.defined (functions unit)
 functions_apart unit typed = apart_from unit first_file_scope typed.0

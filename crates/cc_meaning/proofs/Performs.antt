@@ -9,7 +9,7 @@ use Rattle.cc_syntax.specs.Tree.{Expr, Target, AtVariable, AtElement, Action, As
 use Rattle.cc_typing.specs.Operators.{applied_operator, step_operator}
 use Rattle.cc_typing.specs.Scope.{found, is_declared}
 use Rattle.cc_typing.specs.Types.{value_type, target_type}
-use Rattle.cc_typing.specs.Rules.{broken_if, array_offences, void_offences, expression_offences, value_offences, optional_offences, target_offences, action_offences, optional_action_offences, declared_offences, undefined_among, called_in, called_in_optional, called_in_target, called_in_action, called_in_optional_action, called_in_declared}
+use Rattle.cc_typing.specs.Rules.{broken_if, array_errors, void_errors, expression_errors, value_errors, optional_errors, target_errors, action_errors, optional_action_errors, declared_errors, undefined_among, called_in, called_in_optional, called_in_target, called_in_action, called_in_optional_action, called_in_declared}
 use Rattle.cc_typing.specs.declared.rule.Rule.TheVariants.{BadAssign, Redeclared}
 use Rattle.cc_meaning.specs.declared.form.Instruction.{Instruction}
 use Rattle.cc_meaning.specs.declared.form.Instruction.TheVariants as instruction
@@ -19,7 +19,7 @@ use Rattle.cc_resolve.specs.Layout.{Layout, extent_of}
 use Rattle.cc_meaning.specs.Meaning as meaning
 use Rattle.cc_meaning.specs.Meaning.{State, Run, Gives, Flow, Falls, then_do, Calls, with_local_word, with_element, stored, evaluate, evaluate_or, Destination, ToVariable, ToElement, write, new_value, perform, perform_optional, declare}
 use Rattle.cc_meaning.specs.internal.FormMeaning.{Activation, Configuration, Goes, only_if}
-use Rattle.cc_meaning.proofs.Offences.{nil_left, nil_right, defined_left, defined_right, variable_found}
+use Rattle.cc_meaning.proofs.Errors.{nil_left, nil_right, defined_left, defined_right, variable_found}
 use Rattle.cc_meaning.proofs.Named.{name_is_itself}
 use Rattle.cc_meaning.proofs.Held.{words_in, set_right, newest_last, length_slice_set}
 use Rattle.cc_meaning.proofs.Moves.{Leads, leads_refl, leads_then, conf, Meets, meets_then, meets_after, meets_same, Stands, stands_left, stands_right, instructed}
@@ -87,7 +87,7 @@ module _ (form : FormTree) (cs : List Activation) (total : ℕ) (layout : Layout
       (element_store_meets form cs total v most vs op t u x i (p + length left + length right) w z plain got'.fits in_last.0)))))
 
   target_assigned : (v : Environment) (most : ℕ) (vs : List ℕ) (op : Option BinaryOperator) (t u : Scalar) (target : Target) (right : List Instruction) (part : State → Run ℕ) → Scoped layout defined Takes v → most < n → IsPlainIfAny op
-      → target_offences (types_in v) target ≡ [] → undefined_among defined (called_in_target target) ≡ [] → Part form cs total v most vs right part
+      → target_errors (types_in v) target ≡ [] → undefined_among defined (called_in_target target) ≡ [] → Part form cs total v most vs right part
       → (p : ℕ) (s : State) → Stands form.code p (assignment_code (applied op t u) v target right) → Fits v total most vs s
       → Meets form (conf p vs [] cs s) (Acted form cs total (conf p vs [] cs s) v most (p + length (assignment_code (applied op t u) v target right)))
       (then_do (meaning.destination target (types_in v) call s) (λ d y. then_do (part y) (λ w z. then_do (new_value op t u d w z) (λ new k. write d new k))))
@@ -95,9 +95,9 @@ module _ (form : FormTree) (cs : List Activation) (total : ℕ) (layout : Layout
       let is = variable_found BadAssign (found (types_in v) x.text) x.at e in
       variable_assigned v most vs op t u x.text right part plain (scoped.variable x.text is.0 is.1) f
   target_assigned v most vs op t u (AtElement x i) right part scoped lt plain e d f =
-      let own = nil_right (array_offences (found (types_in v) x.text) x.at) (value_offences (types_in v) i) e in
+      let own = nil_right (array_errors (found (types_in v) x.text) x.at) (value_errors (types_in v) i) e in
       element_assigned v most vs op t u x.text (expression_code v i) right (evaluate i (types_in v) call) part plain
-      (expression_meets form cs total layout defined Takes n call calls_meet i v most vs scoped lt (nil_left (expression_offences (types_in v) i) (void_offences (types_in v) i) own) d) f
+      (expression_meets form cs total layout defined Takes n call calls_meet i v most vs scoped lt (nil_left (expression_errors (types_in v) i) (void_errors (types_in v) i) own) d) f
 
   -- ---- actions
 
@@ -122,22 +122,22 @@ module _ (form : FormTree) (cs : List Activation) (total : ℕ) (layout : Layout
             (ap (λ k. Goes (conf k vs [] cs t)) (let z : p + length code + 1 ≡ p + length (code ++ last) = omega arith in z)));
       })
 
-  pub perform_meets : (a : Action) (v : Environment) (most : ℕ) (vs : List ℕ) → Scoped layout defined Takes v → most < n → action_offences (types_in v) a ≡ [] → undefined_among defined (called_in_action a) ≡ []
+  pub perform_meets : (a : Action) (v : Environment) (most : ℕ) (vs : List ℕ) → Scoped layout defined Takes v → most < n → action_errors (types_in v) a ≡ [] → undefined_among defined (called_in_action a) ≡ []
       → (p : ℕ) (s : State) → Stands form.code p (action_code v a) → Fits v total most vs s
       → Meets form (conf p vs [] cs s) (Acted form cs total (conf p vs [] cs s) v most (p + length (action_code v a))) (perform a (types_in v) call s)
   perform_meets (Assign op target e) v most vs scoped lt o d =
       let bs = types_in v in
-      let own = nil_right (target_offences bs target) (value_offences bs e) o in
+      let own = nil_right (target_errors bs target) (value_errors bs e) o in
       target_assigned v most vs (applied_operator op) (target_type bs target) (value_type bs e) target (expression_code v e) (evaluate e bs call) scoped lt (applied_is_plain op)
-      (nil_left (target_offences bs target) (value_offences bs e) o) (defined_left defined (called_in_target target) (called_in e) d)
-      (expression_meets form cs total layout defined Takes n call calls_meet e v most vs scoped lt (nil_left (expression_offences bs e) (void_offences bs e) own) (defined_right defined (called_in_target target) (called_in e) d))
+      (nil_left (target_errors bs target) (value_errors bs e) o) (defined_left defined (called_in_target target) (called_in e) d)
+      (expression_meets form cs total layout defined Takes n call calls_meet e v most vs scoped lt (nil_left (expression_errors bs e) (void_errors bs e) own) (defined_right defined (called_in_target target) (called_in e) d))
   perform_meets (Step op target) v most vs scoped lt o d =
       target_assigned v most vs (applied_operator (step_operator op)) (target_type (types_in v) target) Int target (instruction.Constant 1 ∷ []) (λ s. Gives 1 s) scoped lt (step_is_plain op) o d
       (λ p ops s st h. pushes form cs total v most vs ops ops p (p + 1) 1 s (instruction.Constant 1) st.0 h refl refl)
   perform_meets (Evaluate e) v most vs scoped lt o d =
       dropped e v most vs (expression_meets form cs total layout defined Takes n call calls_meet e v most vs scoped lt o d)
 
-  pub optional_meets : (a : Option Action) (v : Environment) (most : ℕ) (vs : List ℕ) → Scoped layout defined Takes v → most < n → optional_action_offences (types_in v) a ≡ [] → undefined_among defined (called_in_optional_action a) ≡ []
+  pub optional_meets : (a : Option Action) (v : Environment) (most : ℕ) (vs : List ℕ) → Scoped layout defined Takes v → most < n → optional_action_errors (types_in v) a ≡ [] → undefined_among defined (called_in_optional_action a) ≡ []
       → (p : ℕ) (s : State) → Stands form.code p (optional_action_code v a) → Fits v total most vs s
       → Meets form (conf p vs [] cs s) (Acted form cs total (conf p vs [] cs s) v most (p + length (optional_action_code v a))) (perform_optional a (types_in v) call s)
   optional_meets None v most vs scoped lt o d p s st h = record {
@@ -216,7 +216,7 @@ module _ (form : FormTree) (cs : List Activation) (total : ℕ) (layout : Layout
       (f p [] s (stands_left form.code p code last st) h)
 
   initial_meets : (t : Scalar) (x : List ℕ) (e : Option Expr) (v : Environment) (most : ℕ) (vs : List ℕ) → Scoped layout defined Takes (with_local t x v) → most < n
-      → optional_offences (types_in (with_local t x v)) e ≡ [] → undefined_among defined (called_in_optional e) ≡ []
+      → optional_errors (types_in (with_local t x v)) e ≡ [] → undefined_among defined (called_in_optional e) ≡ []
       → (p : ℕ) (s : State) → Stands form.code p (initial_code (with_local t x v) (length v.locals) e) → Fits (with_local t x v) total most vs (meaning.with_local x s)
       → Meets form (conf p vs [] cs (meaning.with_local x s)) (Begun (conf p vs [] cs (meaning.with_local x s)) (with_local t x v) most (p + length (initial_code (with_local t x v) (length v.locals) e)) x)
       (evaluate_or 0 e (types_in (with_local t x v)) call (meaning.with_local x s))
@@ -232,9 +232,9 @@ module _ (form : FormTree) (cs : List Activation) (total : ℕ) (layout : Layout
   initial_meets t x (Some e) v most vs scoped lt o d p s st h =
       let bs = types_in (with_local t x v) in
       initial_value t x e v most vs
-      (expression_meets form cs total layout defined Takes n call calls_meet e (with_local t x v) most vs scoped lt (nil_left (expression_offences bs e) (void_offences bs e) o) d) p (meaning.with_local x s) st h
+      (expression_meets form cs total layout defined Takes n call calls_meet e (with_local t x v) most vs scoped lt (nil_left (expression_errors bs e) (void_errors bs e) o) d) p (meaning.with_local x s) st h
 
-  pub declare_meets : (t : Scalar) (ds : List Declarator) (v : Environment) (most : ℕ) → Scoped layout defined Takes v → most < n → declared_offences t ds v.visible ≡ [] → undefined_among defined (called_in_declared ds) ≡ []
+  pub declare_meets : (t : Scalar) (ds : List Declarator) (v : Environment) (most : ℕ) → Scoped layout defined Takes v → most < n → declared_errors t ds v.visible ≡ [] → undefined_among defined (called_in_declared ds) ≡ []
       → length v.locals + length ds ≤ total → (p : ℕ) (vs : List ℕ) (s : State) → Stands form.code p (declared_code v t ds) → Fits v total most vs s
       → Meets form (conf p vs [] cs s) (Acted form cs total (conf p vs [] cs s) (with_locals t ds v) most (p + length (declared_code v t ds))) (declare t ds call v.visible s)
   declare_meets t [] v most scoped lt o d room p vs s st h = record {
@@ -254,7 +254,7 @@ module _ (form : FormTree) (cs : List Activation) (total : ℕ) (layout : Layout
       let code = (instruction.Clear i ∷ first) ++ others in
       let c = conf p vs [] cs s in
       let again = broken_if (is_declared v.visible.inner name) Redeclared x.name.at in
-      let own = nil_right again (optional_offences (types_in v') x.initial ++ declared_offences t rest v'.visible) o in
+      let own = nil_right again (optional_errors (types_in v') x.initial ++ declared_errors t rest v'.visible) o in
       let scoped' = scoped_local layout defined Takes t name v scoped in
       let to = clears t name v most p vs s h (omega arith) st.0 in
       let fits' = new_local t name v most vs s h (omega arith) in
@@ -265,9 +265,9 @@ module _ (form : FormTree) (cs : List Activation) (total : ℕ) (layout : Layout
       (λ flow y got. record { falls = got.falls; variables = got.variables; fits = got.fits; leads = leads_then form c d' (conf end got.variables [] cs y) to got.leads })
       (meets_then form d' (Begun d' v' most (p + 1 + length first) name) (Acted form cs total d' (with_locals t rest v') most end) (evaluate_or 0 x.initial (types_in v') call s')
       (λ w y. declare t rest call v'.visible (stored name w y))
-      (initial_meets t name x.initial v most vs' scoped' lt (nil_left (optional_offences (types_in v') x.initial) (declared_offences t rest v'.visible) own) (defined_left defined (called_in_optional x.initial) (called_in_declared rest) d)
+      (initial_meets t name x.initial v most vs' scoped' lt (nil_left (optional_errors (types_in v') x.initial) (declared_errors t rest v'.visible) own) (defined_left defined (called_in_optional x.initial) (called_in_declared rest) d)
       (p + 1) s (stands_left form.code (p + 1) first others st.1) fits')
       (λ w y got. acted_after form cs total (with_locals t rest v') most d' (conf (p + 1 + length first) got.variables [] cs (stored name w y)) (p + 1 + length first + length others) end
       (declare t rest call v'.visible (stored name w y)) got.leads (omega arith)
-      (declare_meets t rest v' most scoped' lt (nil_right (optional_offences (types_in v') x.initial) (declared_offences t rest v'.visible) own) (defined_right defined (called_in_optional x.initial) (called_in_declared rest) d)
+      (declare_meets t rest v' most scoped' lt (nil_right (optional_errors (types_in v') x.initial) (declared_errors t rest v'.visible) own) (defined_right defined (called_in_optional x.initial) (called_in_declared rest) d)
       (omega arith) (p + 1 + length first) got.variables (stored name w y) (stands_right form.code (p + 1) (p + 1 + length first) first others refl st.1) got.fits)))

@@ -12,13 +12,13 @@ use Rattle.cc_typing.specs.Names.{same_name}
 use Rattle.cc_typing.specs.Scope.{Entity, Variable, Elements, Function, Binding, found, is_declared, FileScope, with_declared, function_entity, with_function, with_object, with_objects, file_scope_behind, file_scope_behind_all, same_scalar, same_scalars, same_result}
 use Rattle.cc_typing.specs.Types.{constant_word, elements_of_word, array_length, array_elements, object_elements, object_width, initial_word, zeros_behind, initial_words}
 use Rattle.cc_typing.specs.Types as types
-use Rattle.cc_typing.specs.Rules.{broken_if, differs, signature_offences, parameters_offences, optional_constant_offences, constants_offences, length_offences, named_array_offences, object_offences, objects_offences, value_offences, external_offences, externals_offences}
+use Rattle.cc_typing.specs.Rules.{broken_if, differs, signature_errors, parameters_errors, optional_constant_errors, constants_errors, length_errors, named_array_errors, object_errors, objects_errors, value_errors, external_errors, externals_errors}
 use Rattle.cc_typing.specs.declared.rule.Rule.TheVariants.{Redeclared, WrongKind, WrongCount}
 use Rattle.cc_typing.specs.Limits.{objects, object_name}
 use Rattle.cc_resolve.specs.declared.layout.Extent.{Extent}
 use Rattle.cc_resolve.specs.Layout.{LaidObject, laid_from, extent_of}
 use Rattle.cc_meaning.specs.Resolved.{IsOneWord}
-use Rattle.cc_meaning.proofs.Offences.{nil_left, nil_right, not_broken, or_left, or_right}
+use Rattle.cc_meaning.proofs.Errors.{nil_left, nil_right, not_broken, or_left, or_right}
 use Rattle.cc_meaning.proofs.Named.{name_is_itself, same_name_symm}
 
 -- ---- names
@@ -77,7 +77,7 @@ same_scalars_length [] (u ∷ us) e = absurd (true≢false (sym e))
 same_scalars_length (t ∷ ts) [] e = absurd (true≢false (sym e))
 same_scalars_length (t ∷ ts) (u ∷ us) e = ap suc (same_scalars_length ts us (and_right (same_scalar t u) (same_scalars ts us) e))
 
--- a name stands for a function of so many parameters
+-- a name stands for a function of this many parameters
 pub record Takes (bs : List Binding) (x : List ℕ) (count : ℕ) : Type 0 where
   pub result : Option Scalar
   pub scalars : List Scalar
@@ -107,11 +107,11 @@ takes_by s f (Some (Function r ts)) e d =
           ∙ length-map s.parameters (λ (p : Parameter). p.scalar);
     }
 
-pub signature_takes : (s : Signature) (f : FileScope) → signature_offences s f ≡ [] → Takes (with_function s f).bindings s.name.text (length s.parameters)
+pub signature_takes : (s : Signature) (f : FileScope) → signature_errors s f ≡ [] → Takes (with_function s f).bindings s.name.text (length s.parameters)
 signature_takes s f e =
     takes_by s f (found f.bindings s.name.text) refl
     (not_broken (differs (found f.bindings s.name.text) (function_entity s)) Redeclared s.name.at
-    (nil_left (broken_if (differs (found f.bindings s.name.text) (function_entity s)) Redeclared s.name.at) (parameters_offences s.parameters (record { inner = []; outer = (with_function s f).bindings })) e))
+    (nil_left (broken_if (differs (found f.bindings s.name.text) (function_entity s)) Redeclared s.name.at) (parameters_errors s.parameters (record { inner = []; outer = (with_function s f).bindings })) e))
 
 -- ---- objects
 
@@ -251,27 +251,27 @@ broken_not None e = absurd (true≢false e)
 broken_not (Some w) e = (w, refl)
 
 -- an array's length is known, and no less than its list is long
-array_fits_by : (o : Option ℕ) (given at : ℕ) → length_offences o given at ≡ [] → (o ≡ None → ⊥) → given + (unwrap_or o 0 - given) ≡ unwrap_or o 0
+array_fits_by : (o : Option ℕ) (given at : ℕ) → length_errors o given at ≡ [] → (o ≡ None → ⊥) → given + (unwrap_or o 0 - given) ≡ unwrap_or o 0
 array_fits_by None given at e h = absurd (h refl)
 array_fits_by (Some k) given at e h =
     let less : nat_lt k given ≡ false = or_right (k == 0) (nat_lt k given) (not_broken (k == 0 || nat_lt k given) WrongCount at e) in
     elim (leb_tells (suc k) given) [ inl t ↦ absurd (true≢false (sym t.0 ∙ less)) | inr t ↦ (let z = t.1 in omega arith) ]
 
-length_known_by : (n : Option ConstantExpr) (values : List ConstantExpr) (bs : List Binding) → optional_constant_offences bs n ≡ [] → array_length n values ≡ None → ⊥
+length_known_by : (n : Option ConstantExpr) (values : List ConstantExpr) (bs : List Binding) → optional_constant_errors bs n ≡ [] → array_length n values ≡ None → ⊥
 length_known_by None values bs e h = let z : Some (length values) ≡ None = h in cc
 length_known_by (Some c) values bs e h =
-    let w = broken_not (constant_word c) (not_broken (not (is_some (constant_word c))) WrongKind c.at (nil_right (value_offences bs c.expr) (broken_if (not (is_some (constant_word c))) WrongKind c.at) e)) in
+    let w = broken_not (constant_word c) (not_broken (not (is_some (constant_word c))) WrongKind c.at (nil_right (value_errors bs c.expr) (broken_if (not (is_some (constant_word c))) WrongKind c.at) e)) in
     let z : option_map (elements_of_word (types.value_type [] c.expr)) (constant_word c) ≡ Some (elements_of_word (types.value_type [] c.expr) w.0) = ap (option_map (elements_of_word (types.value_type [] c.expr))) w.1 in
     let y : Some (elements_of_word (types.value_type [] c.expr) w.0) ≡ None = sym z ∙ h in cc
 
 -- an array before the run has as many words as elements, whatever it keeps of its list
-array_size : (t : Scalar) (x : Name) (n : Option ConstantExpr) (values : List ConstantExpr) (word : ConstantExpr → ℕ) (f : FileScope) → named_array_offences t x n values f ≡ []
+array_size : (t : Scalar) (x : Name) (n : Option ConstantExpr) (values : List ConstantExpr) (word : ConstantExpr → ℕ) (f : FileScope) → named_array_errors t x n values f ≡ []
     → length (map word values ++ zeros_behind n values) ≡ array_elements n values
 array_size t x n values word f e =
     let a = broken_if (is_declared f.bindings x.text) Redeclared x.at in
-    let b = optional_constant_offences f.bindings n in
-    let c = length_offences (array_length n values) (length values) x.at in
-    let d = constants_offences (with_declared x.text (Elements t) f).bindings values in
+    let b = optional_constant_errors f.bindings n in
+    let c = length_errors (array_length n values) (length values) x.at in
+    let d = constants_errors (with_declared x.text (Elements t) f).bindings values in
     let e' = nil_right a (b ++ (c ++ d)) e in
     let of_n = nil_left b (c ++ d) e' in
     let of_length = nil_left c d (nil_right b (c ++ d) e') in
@@ -281,7 +281,7 @@ array_size t x n values word f e =
     ∙ array_fits_by (array_length n values) (length values) x.at of_length (length_known_by n values f.bindings of_n)
 
 -- so has each object
-pub object_size : (t : Scalar) (o : Object) (f : FileScope) → object_offences t o f ≡ [] → length (initial_words o) ≡ object_elements o
+pub object_size : (t : Scalar) (o : Object) (f : FileScope) → object_errors t o f ≡ [] → length (initial_words o) ≡ object_elements o
 object_size t (Single x i) f e = refl
 object_size t (Array x n values) f e = array_size t x n values (λ (v : ConstantExpr). initial_word (Some v)) f e
 object_size t (Bytes x n values) f e = array_size Int x n values (λ (v : ConstantExpr). initial_word (Some v) % 2 ^ 8) f e
@@ -295,15 +295,15 @@ fit_append : (os more : List Object) → AllFit os → AllFit more → AllFit (o
 fit_append [] more h g = g
 fit_append (o ∷ rest) more h g = (h.0, fit_append rest more h.1 g)
 
-objects_fit : (t : Scalar) (os : List Object) (f : FileScope) → objects_offences t os f ≡ [] → AllFit os
+objects_fit : (t : Scalar) (os : List Object) (f : FileScope) → objects_errors t os f ≡ [] → AllFit os
 objects_fit t [] f e = tt
 objects_fit t (o ∷ rest) f e =
-    (object_size t o f (nil_left (object_offences t o f) (objects_offences t rest (with_object t o f)) e), objects_fit t rest (with_object t o f) (nil_right (object_offences t o f) (objects_offences t rest (with_object t o f)) e))
+    (object_size t o f (nil_left (object_errors t o f) (objects_errors t rest (with_object t o f)) e), objects_fit t rest (with_object t o f) (nil_right (object_errors t o f) (objects_errors t rest (with_object t o f)) e))
 
-pub all_fit : (ds : List External) (f : FileScope) → externals_offences ds f ≡ [] → AllFit (objects ds)
+pub all_fit : (ds : List External) (f : FileScope) → externals_errors ds f ≡ [] → AllFit (objects ds)
 all_fit [] f e = tt
-all_fit (Declaration s ∷ rest) f e = all_fit rest (file_scope_behind (Declaration s) f) (nil_right (external_offences (Declaration s) f) (externals_offences rest (file_scope_behind (Declaration s) f)) e)
-all_fit (Definition s body ∷ rest) f e = all_fit rest (file_scope_behind (Definition s body) f) (nil_right (external_offences (Definition s body) f) (externals_offences rest (file_scope_behind (Definition s body) f)) e)
+all_fit (Declaration s ∷ rest) f e = all_fit rest (file_scope_behind (Declaration s) f) (nil_right (external_errors (Declaration s) f) (externals_errors rest (file_scope_behind (Declaration s) f)) e)
+all_fit (Definition s body ∷ rest) f e = all_fit rest (file_scope_behind (Definition s body) f) (nil_right (external_errors (Definition s body) f) (externals_errors rest (file_scope_behind (Definition s body) f)) e)
 all_fit (Objects t os ∷ rest) f e =
-    fit_append os (objects rest) (objects_fit t os f (nil_left (objects_offences t os f) (externals_offences rest (with_objects t os f)) e))
-    (all_fit rest (with_objects t os f) (nil_right (objects_offences t os f) (externals_offences rest (with_objects t os f)) e))
+    fit_append os (objects rest) (objects_fit t os f (nil_left (objects_errors t os f) (externals_errors rest (with_objects t os f)) e))
+    (all_fit rest (with_objects t os f) (nil_right (objects_errors t os f) (externals_errors rest (with_objects t os f)) e))

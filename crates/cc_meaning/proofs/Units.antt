@@ -9,7 +9,7 @@ use Rattle.cc_typing.specs.Names.{same_name}
 use Rattle.cc_typing.specs.Scope as scope
 use Rattle.cc_typing.specs.Scope.{Binding, Visible, found, FileScope, has_name, first_file_scope, with_function, with_objects, file_scope_behind, file_scope_behind_all, parameter_declared, parameters_declared, body_scope, same_result}
 use Rattle.cc_typing.specs.Types.{object_elements, object_width, initial_words}
-use Rattle.cc_typing.specs.Rules.{broken_if, signature_offences, statements_offences, external_offences, externals_offences, is_main, defines_main, undefined_among, called_in_statements, called_in_external, called}
+use Rattle.cc_typing.specs.Rules.{broken_if, signature_errors, statements_errors, external_errors, externals_errors, is_main, defines_main, undefined_among, called_in_statements, called_in_external, called}
 use Rattle.cc_typing.specs.declared.rule.Rule.TheVariants.{Redeclared}
 use Rattle.cc_typing.specs.Limits.{objects, object_name, function_names}
 use Rattle.cc_typing.specs.Typed.{IsTyped}
@@ -22,7 +22,7 @@ use Rattle.cc_meaning.specs.Outcome as outcome
 use Rattle.cc_meaning.specs.Outcome.{Outcome}
 use Rattle.cc_meaning.specs.Meaning.{State, Run, Gives, Going, Wrong, Function, text_of, functions_from, functions, function_named, run_body, run_optional, calls, initial_global, initial_globals, outcome_of, source_behavior}
 use Rattle.cc_meaning.specs.internal.FormMeaning.{Configuration, form_run, first_configuration, started, form_behavior, FormsMeanTheirUnits}
-use Rattle.cc_meaning.proofs.Offences.{nil_left, nil_right, defined_left, defined_right}
+use Rattle.cc_meaning.proofs.Errors.{nil_left, nil_right, defined_left, defined_right}
 use Rattle.cc_meaning.proofs.Named.{same_name_symm, objects_keep}
 use Rattle.cc_meaning.proofs.Held.{all_of, layout_from, get_right}
 use Rattle.cc_meaning.proofs.Moves.{Halts, conf, Meets, Stands}
@@ -34,12 +34,12 @@ use Rattle.cc_meaning.proofs.Called.{Takes, Writes, Reads, Enters, Defined, Ente
 
 -- ---- what stands in the whole code
 
-stands_in : (front xs back : List Instruction) → Stands (front ++ (xs ++ back)) (length front) xs
-stands_in front [] back = omega (arith, length-append front back)
-stands_in front (i ∷ xs) back = (
-  get_right front (i ∷ (xs ++ back)) 0 (length front) (omega arith),
-  subst (λ code. Stands code (length front + 1) xs) (append_assoc front (i ∷ []) (xs ++ back))
-      (subst (λ p. Stands ((front ++ i ∷ []) ++ (xs ++ back)) p xs) (length-append front (i ∷ [])) (stands_in (front ++ i ∷ []) xs back)),
+stands_in : (prefix xs back : List Instruction) → Stands (prefix ++ (xs ++ back)) (length prefix) xs
+stands_in prefix [] back = omega (arith, length-append prefix back)
+stands_in prefix (i ∷ xs) back = (
+  get_right prefix (i ∷ (xs ++ back)) 0 (length prefix) (omega arith),
+  subst (λ code. Stands code (length prefix + 1) xs) (append_assoc prefix (i ∷ []) (xs ++ back))
+      (subst (λ p. Stands ((prefix ++ i ∷ []) ++ (xs ++ back)) p xs) (length-append prefix (i ∷ [])) (stands_in (prefix ++ i ∷ []) xs back)),
 )
 
 -- ---- scopes
@@ -116,20 +116,20 @@ parameters_by s body rest f final x g others true whole same h e ih =
     (subst (scopes.Takes final.bindings x) (sym (length-map s.parameters (λ (p : Parameter). text_of p.name))) (kept_takes rest (file_scope_behind (Definition s body) f) final s.name.text x (length s.parameters) whole same h))
 parameters_by s body rest f final x g others false whole same h e ih = ih e
 
-function_takes : (ds : List External) (f final : FileScope) (x : List ℕ) (g : Function) → externals_offences ds f ≡ [] → file_scope_behind_all ds f ≡ final → function_named (functions_from ds f) x ≡ Some g
+function_takes : (ds : List External) (f final : FileScope) (x : List ℕ) (g : Function) → externals_errors ds f ≡ [] → file_scope_behind_all ds f ≡ final → function_named (functions_from ds f) x ≡ Some g
     → scopes.Takes final.bindings x (length g.parameters)
 function_takes [] f final x g o whole e = absurd (let z : None ≡ Some g = e in cc)
 function_takes (Declaration s ∷ rest) f final x g o whole e =
-    function_takes rest (file_scope_behind (Declaration s) f) final x g (nil_right (external_offences (Declaration s) f) (externals_offences rest (file_scope_behind (Declaration s) f)) o) whole e
+    function_takes rest (file_scope_behind (Declaration s) f) final x g (nil_right (external_errors (Declaration s) f) (externals_errors rest (file_scope_behind (Declaration s) f)) o) whole e
 function_takes (Definition s body ∷ rest) f final x g o whole e =
     let f' = file_scope_behind (Definition s body) f in
-    let here = nil_left (external_offences (Definition s body) f) (externals_offences rest f') o in
+    let here = nil_left (external_errors (Definition s body) f) (externals_errors rest f') o in
     let others = functions_from rest f' in
     parameters_by s body rest f final x g others (same_name s.name.text x) whole refl
-    (signature_takes s f (nil_left (signature_offences s f) (broken_if (has_name f.defined s.name.text) Redeclared s.name.at ++ statements_offences body (record { result = s.result; in_loop = false }) (body_scope s f)) here)) e
-    (λ e'. function_takes rest f' final x g (nil_right (external_offences (Definition s body) f) (externals_offences rest f') o) whole e')
+    (signature_takes s f (nil_left (signature_errors s f) (broken_if (has_name f.defined s.name.text) Redeclared s.name.at ++ statements_errors body (record { result = s.result; in_loop = false }) (body_scope s f)) here)) e
+    (λ e'. function_takes rest f' final x g (nil_right (external_errors (Definition s body) f) (externals_errors rest f') o) whole e')
 function_takes (Objects t os ∷ rest) f final x g o whole e =
-    function_takes rest (with_objects t os f) final x g (nil_right (external_offences (Objects t os) f) (externals_offences rest (with_objects t os f)) o) whole e
+    function_takes rest (with_objects t os f) final x g (nil_right (external_errors (Objects t os) f) (externals_errors rest (with_objects t os f)) o) whole e
 
 same_count : (bs : List Binding) (x : List ℕ) (m k : ℕ) → scopes.Takes bs x m → scopes.Takes bs x k → m ≡ k
 same_count bs x m k p q =
@@ -160,18 +160,18 @@ main_by s body rest f final true e whole h d ih =
     (kept_takes rest (file_scope_behind (Definition s body) f) final s.name.text (codes "main") (length s.parameters) whole (same_name_symm s.name.text (codes "main") ∙ same) h)
 main_by s body rest f final false e whole h d ih = ih d
 
-main_takes : (ds : List External) (f final : FileScope) → externals_offences ds f ≡ [] → file_scope_behind_all ds f ≡ final → defines_main ds ≡ true → scopes.Takes final.bindings (codes "main") 0
+main_takes : (ds : List External) (f final : FileScope) → externals_errors ds f ≡ [] → file_scope_behind_all ds f ≡ final → defines_main ds ≡ true → scopes.Takes final.bindings (codes "main") 0
 main_takes [] f final o whole d = absurd (true≢false (sym d))
 main_takes (Declaration s ∷ rest) f final o whole d =
-    main_takes rest (file_scope_behind (Declaration s) f) final (nil_right (external_offences (Declaration s) f) (externals_offences rest (file_scope_behind (Declaration s) f)) o) whole d
+    main_takes rest (file_scope_behind (Declaration s) f) final (nil_right (external_errors (Declaration s) f) (externals_errors rest (file_scope_behind (Declaration s) f)) o) whole d
 main_takes (Definition s body ∷ rest) f final o whole d =
     let f' = file_scope_behind (Definition s body) f in
-    let here = nil_left (external_offences (Definition s body) f) (externals_offences rest f') o in
+    let here = nil_left (external_errors (Definition s body) f) (externals_errors rest f') o in
     main_by s body rest f final (is_main (Definition s body)) refl whole
-    (signature_takes s f (nil_left (signature_offences s f) (broken_if (has_name f.defined s.name.text) Redeclared s.name.at ++ statements_offences body (record { result = s.result; in_loop = false }) (body_scope s f)) here)) d
-    (λ d'. main_takes rest f' final (nil_right (external_offences (Definition s body) f) (externals_offences rest f') o) whole d')
+    (signature_takes s f (nil_left (signature_errors s f) (broken_if (has_name f.defined s.name.text) Redeclared s.name.at ++ statements_errors body (record { result = s.result; in_loop = false }) (body_scope s f)) here)) d
+    (λ d'. main_takes rest f' final (nil_right (external_errors (Definition s body) f) (externals_errors rest f') o) whole d')
 main_takes (Objects t os ∷ rest) f final o whole d =
-    main_takes rest (with_objects t os f) final (nil_right (external_offences (Objects t os) f) (externals_offences rest (with_objects t os f)) o) whole d
+    main_takes rest (with_objects t os f) final (nil_right (external_errors (Objects t os) f) (externals_errors rest (with_objects t os f)) o) whole d
 
 main_named_by : (s : Signature) (body : Stmts) (names : List (List ℕ)) (more : Bool) (b : Bool) → is_main (Definition s body) ≡ b → (b || more) ≡ true → (more ≡ true → has_name names (codes "main") ≡ true)
     → (same_name s.name.text (codes "main") || has_name names (codes "main")) ≡ true
@@ -284,15 +284,15 @@ module _ (unit : List External) (typed : IsTyped unit) where
   Matched (g ∷ gs) (c ∷ cs) (x ∷ xs) = (g.name ≡ x) × Defined layout known (functions unit) g c × Matched gs cs xs
   Matched gs cs xs = ⊥
 
-  matched : (ds : List External) (f : FileScope) → externals_offences ds f ≡ [] → undefined_among known (called ds) ≡ [] → file_scope_behind_all ds f ≡ final_scope unit
+  matched : (ds : List External) (f : FileScope) → externals_errors ds f ≡ [] → undefined_among known (called ds) ≡ [] → file_scope_behind_all ds f ≡ final_scope unit
       → Matched (functions_from ds f) (functions_code layout f ds) (names_in ds)
   matched [] f o d whole = tt
   matched (Declaration s ∷ rest) f o d whole =
-      matched rest (file_scope_behind (Declaration s) f) (nil_right (external_offences (Declaration s) f) (externals_offences rest (file_scope_behind (Declaration s) f)) o) d whole
+      matched rest (file_scope_behind (Declaration s) f) (nil_right (external_errors (Declaration s) f) (externals_errors rest (file_scope_behind (Declaration s) f)) o) d whole
   matched (Definition s body ∷ rest) f o d whole =
       let f' = file_scope_behind (Definition s body) f in
-      let here = nil_left (external_offences (Definition s body) f) (externals_offences rest f') o in
-      let of_body = statements_offences body (record { result = s.result; in_loop = false }) (body_scope s f) in
+      let here = nil_left (external_errors (Definition s body) f) (externals_errors rest f') o in
+      let of_body = statements_errors body (record { result = s.result; in_loop = false }) (body_scope s f) in
       let again = broken_if (has_name f.defined s.name.text) Redeclared s.name.at in (
         refl,
         record {
@@ -304,15 +304,15 @@ module _ (unit : List External) (typed : IsTyped unit) where
           visible = refl;
           scoped = body_scoped s body rest f whole;
           around = record { result = s.result; in_loop = false };
-          keeps_rules = nil_right again of_body (nil_right (signature_offences s f) (again ++ of_body) here);
+          keeps_rules = nil_right again of_body (nil_right (signature_errors s f) (again ++ of_body) here);
           called = defined_left known (called_in_statements body) (called rest) d;
           code = refl;
           variables = refl;
         },
-        matched rest f' (nil_right (external_offences (Definition s body) f) (externals_offences rest f') o) (defined_right known (called_in_statements body) (called rest) d) whole,
+        matched rest f' (nil_right (external_errors (Definition s body) f) (externals_errors rest f') o) (defined_right known (called_in_statements body) (called rest) d) whole,
       )
   matched (Objects t os ∷ rest) f o d whole =
-      matched rest (with_objects t os f) (nil_right (external_offences (Objects t os) f) (externals_offences rest (with_objects t os f)) o) (defined_right known (called_in_external (Objects t os)) (called rest) d) whole
+      matched rest (with_objects t os f) (nil_right (external_errors (Objects t os) f) (externals_errors rest (with_objects t os f)) o) (defined_right known (called_in_external (Objects t os)) (called rest) d) whole
 
   -- a name among them: its function, its number, and where its instructions stand
   record Listed (gs : List Function) (cs : List FunctionCode) (xs : List (List ℕ)) (code : List Instruction) (at : ℕ) (x : List ℕ) : Type 0 where
@@ -349,17 +349,17 @@ module _ (unit : List External) (typed : IsTyped unit) where
         means = r.means;
       }
 
-  listed : (gs : List Function) (cs : List FunctionCode) (xs : List (List ℕ)) (front : List Instruction) (at : ℕ) (x : List ℕ) → length front ≡ at → Matched gs cs xs → has_name xs x ≡ true → Listed gs cs xs (front ++ all_code cs) at x
-  listed [] [] [] front at x e m has = absurd (true≢false (sym has))
-  listed [] [] (y ∷ xs) front at x e m has = absurd m
-  listed [] (c ∷ cs) xs front at x e m has = absurd m
-  listed (g ∷ gs) [] xs front at x e m has = absurd m
-  listed (g ∷ gs) (c ∷ cs) [] front at x e m has = absurd m
-  listed (g ∷ gs) (c ∷ cs) (y ∷ xs) front at x e m has =
-      listed_by g gs c cs y xs (front ++ (c.code ++ all_code cs)) at x (same_name y x) refl m.0 m.1
-      (subst (λ p. Stands (front ++ (c.code ++ all_code cs)) p c.code) e (stands_in front c.code (all_code cs))) has
-      (λ has'. subst (λ code. Listed gs cs xs code (at + length c.code) x) (append_assoc front c.code (all_code cs))
-      (listed gs cs xs (front ++ c.code) (at + length c.code) x (length-append front c.code ∙ ap (λ k. k + length c.code) e) m.2 has'))
+  listed : (gs : List Function) (cs : List FunctionCode) (xs : List (List ℕ)) (prefix : List Instruction) (at : ℕ) (x : List ℕ) → length prefix ≡ at → Matched gs cs xs → has_name xs x ≡ true → Listed gs cs xs (prefix ++ all_code cs) at x
+  listed [] [] [] prefix at x e m has = absurd (true≢false (sym has))
+  listed [] [] (y ∷ xs) prefix at x e m has = absurd m
+  listed [] (c ∷ cs) xs prefix at x e m has = absurd m
+  listed (g ∷ gs) [] xs prefix at x e m has = absurd m
+  listed (g ∷ gs) (c ∷ cs) [] prefix at x e m has = absurd m
+  listed (g ∷ gs) (c ∷ cs) (y ∷ xs) prefix at x e m has =
+      listed_by g gs c cs y xs (prefix ++ (c.code ++ all_code cs)) at x (same_name y x) refl m.0 m.1
+      (subst (λ p. Stands (prefix ++ (c.code ++ all_code cs)) p c.code) e (stands_in prefix c.code (all_code cs))) has
+      (λ has'. subst (λ code. Listed gs cs xs code (at + length c.code) x) (append_assoc prefix c.code (all_code cs))
+      (listed gs cs xs (prefix ++ c.code) (at + length c.code) x (length-append prefix c.code ∙ ap (λ k. k + length c.code) e) m.2 has'))
 
   table : (x : List ℕ) → has_name layout.functions x ≡ true → Entered (resolved unit) layout known (functions unit) x
   table x has =

@@ -14,7 +14,7 @@ use Rattle.cc_meaning.specs.internal.Form.{further, initial_code, declared_code,
 use Rattle.cc_meaning.specs.declared.form.Instruction.{Instruction}
 use Rattle.cc_meaning.specs.declared.form.Instruction.TheVariants.{Clear, Step, Repeat}
 use Rattle.cc_meaning.specs.declared.writer.statements.Exits.{Exits}
-use Rattle.cc_meaning.proofs.Emitting.{reverse-front}
+use Rattle.cc_meaning.proofs.Emitting.{reverse-prefix}
 
 -- ---- declarations
 
@@ -31,7 +31,7 @@ pub with_locals-reversed : (t : Scalar) (ds : List Declarator) (w : Environment)
 with_locals-reversed t [] w = refl
 with_locals-reversed t (d ∷ ds) w =
     with_locals-reversed t ds (with_local t d.name.bytes.items w) ∙ sym (with_reversed-append t (reverse ds) (d ∷ []) w)
-    ∙ sym (ap (λ l. with_reversed t l w) (reverse-front d ds))
+    ∙ sym (ap (λ l. with_reversed t l w) (reverse-prefix d ds))
 
 -- one name of a declaration, whose local is the newest in an environment after another one
 abbrev pub declarator_code : Scalar → Declarator → Environment → List Instruction
@@ -53,7 +53,7 @@ pub declared-is : (t : Scalar) (ds : List Declarator) (w : Environment) (c : Lis
 declared-is t [] w c = refl
 declared-is t (d ∷ ds) w c =
     let there = with_local t d.name.bytes.items w in
-    ap (λ l. declared_onto t l w c) (reverse-front d ds) ∙ declared_onto-append t (reverse ds) (d ∷ []) w c
+    ap (λ l. declared_onto t l w c) (reverse-prefix d ds) ∙ declared_onto-append t (reverse ds) (d ∷ []) w c
     ∙ ap (λ l. declarator_code t d w ++ l) (declared-is t ds there c)
     ∙ sym (append_assoc (declarator_code t d w) (declared_code there t (declarator_trees ds)) c)
 
@@ -96,7 +96,7 @@ pub behind_all-reversed : (ss : List Statement) (w : Environment) → behind_all
 behind_all-reversed [] w = refl
 behind_all-reversed (s ∷ ss) w =
     behind_all-reversed ss (behind (statement_tree s) w) ∙ sym (behind_reversed-append (reverse ss) (s ∷ []) w)
-    ∙ sym (ap (λ l. behind_reversed l w) (reverse-front s ss))
+    ∙ sym (ap (λ l. behind_reversed l w) (reverse-prefix s ss))
 
 -- statements, the last one first, before some instructions
 abbrev pub written_onto : Exits → List Statement → Environment → List Instruction → List Instruction
@@ -128,7 +128,7 @@ written-is x [] w c hb hc = refl
 written-is x (s ∷ ss) w c hb hc =
     let there = behind (statement_tree s) w in
     let others = statements_code there (exits_of (length c) x) (statements_of ss) in
-    ap (λ l. written_onto x l w c) (reverse-front s ss) ∙ written_onto-append x (reverse ss) (s ∷ []) w c
+    ap (λ l. written_onto x l w c) (reverse-prefix s ss) ∙ written_onto-append x (reverse ss) (s ∷ []) w c
     ∙ ap (λ l. statement_code w (exits_of (length l) x) (statement_tree s) ++ l) (written-is x ss there c hb hc)
     ∙ ap (λ e. statement_code w e (statement_tree s) ++ (others ++ c)) (further-exits x c others hb hc)
     ∙ sym (append_assoc (statement_code w (further (length others) (exits_of (length c) x)) (statement_tree s)) others c)
@@ -166,7 +166,7 @@ statement-is s met v w x c c' is e stays written =
 
 -- ---- loops
 
--- the body of a loop, of whose instructions so many stand when it is written
+-- the body of a loop, of whose instructions this many stand when it is written
 pub exits-of-body : (following test rest c : List Instruction) (breaks : ℕ) → c ≡ following ++ (test ++ Repeat 0 ∷ rest) → breaks ≡ length rest
     → exits_of (length c) (record { breaks = breaks; continues = length c }) ≡ exits_of_body following test
 exits-of-body following test rest c breaks e b =
@@ -180,19 +180,19 @@ pub turns-are : (body following test rest c0 c1 c2 c3 : List Instruction) (break
     → c1 ≡ body ++ c0 → c2 ≡ set c1 (length c1 - (breaks + 1)) (Repeat (length c1 - breaks)) → c3 ≡ Step ∷ c2
     → c3 ≡ turns_code body following test ++ rest
 turns-are body following test rest c0 c1 c2 c3 breaks e0 b e1 e2 e3 =
-    let front = body ++ following ++ test in
-    let is : c1 ≡ front ++ Repeat 0 ∷ rest =
+    let prefix = body ++ following ++ test in
+    let is : c1 ≡ prefix ++ Repeat 0 ∷ rest =
     e1 ∙ ap (λ l. body ++ l) e0 ∙ sym (append_assoc body following (test ++ Repeat 0 ∷ rest)) ∙ sym (append_assoc (body ++ following) test (Repeat 0 ∷ rest)) in
-    let front-long : length front ≡ length body + length following + length test = length-append (body ++ following) test ∙ ap (λ n. n + length test) (length-append body following) in
-    let long : length c1 ≡ length front + length (Repeat 0 ∷ rest) = ap length is ∙ length-append front (Repeat 0 ∷ rest) in
+    let prefix-long : length prefix ≡ length body + length following + length test = length-append (body ++ following) test ∙ ap (λ n. n + length test) (length-append body following) in
+    let long : length c1 ≡ length prefix + length (Repeat 0 ∷ rest) = ap length is ∙ length-append prefix (Repeat 0 ∷ rest) in
     let tail : length (Repeat 0 ∷ rest) ≡ length rest + 1 = omega arith in
-    let at : length c1 - (breaks + 1) ≡ length front = omega arith in
+    let at : length c1 - (breaks + 1) ≡ length prefix = omega arith in
     let back : length c1 - breaks ≡ 1 + length body + length following + length test = omega arith in
-    let le : length front ≤ length front = omega arith in
-    let none : length front - length front ≡ 0 = omega arith in
+    let le : length prefix ≤ length prefix = omega arith in
+    let none : length prefix - length prefix ≡ 0 = omega arith in
     let jump = Repeat (1 + length body + length following + length test) in
     e3 ∙ ap (λ l. Step ∷ l)
-    (e2 ∙ ap (λ n. set c1 n (Repeat (length c1 - breaks))) at ∙ ap (λ n. set c1 (length front) (Repeat n)) back ∙ ap (λ l. set l (length front) jump) is
-    ∙ set-append_right front (Repeat 0 ∷ rest) (length front) (length front) jump refl le
-    ∙ ap (λ n. front ++ set (Repeat 0 ∷ rest) n jump) none
-    ∙ sym (append_assoc front (jump ∷ []) rest))
+    (e2 ∙ ap (λ n. set c1 n (Repeat (length c1 - breaks))) at ∙ ap (λ n. set c1 (length prefix) (Repeat n)) back ∙ ap (λ l. set l (length prefix) jump) is
+    ∙ set-append_right prefix (Repeat 0 ∷ rest) (length prefix) (length prefix) jump refl le
+    ∙ ap (λ n. prefix ++ set (Repeat 0 ∷ rest) n jump) none
+    ∙ sym (append_assoc prefix (jump ∷ []) rest))

@@ -45,7 +45,7 @@ output_of (Answers a left) = a.shared.output
 output_of (Unfinished output) = output
 output_of (Failed cause output) = output
 
--- the second effect is what the first comes to with so many steps more
+-- the second effect is what the first comes to with this many steps more
 abbrev pub WithMoreSteps : (more : ℕ) → Effect Answer → Effect Answer → Type 0
 WithMoreSteps more (Answers a left) z = z ≡ Answers a (left + more)
 WithMoreSteps more (Unfinished output) z = IsPrefixOf output (output_of z)

@@ -18,9 +18,9 @@ use Rattle.cc_syntax.specs.Parse.{SpellsText}
 use Rattle.cc_typing.specs.Names.{same_name}
 use Rattle.cc_typing.specs.Scope.{FileScope, is_declared, first_file_scope, with_object, file_scope_behind}
 use Rattle.cc_typing.specs.Types.{array_length, initial_word}
-use Rattle.cc_typing.specs.Rules.{broken_if, optional_constant_offences, constants_offences, length_offences, external_offences, offences}
+use Rattle.cc_typing.specs.Rules.{broken_if, optional_constant_errors, constants_errors, length_errors, external_errors, errors}
 use Rattle.cc_typing.specs.Limits.{most_words, most_functions, too_many, past, function_names, objects, object_name, externals_excesses, excesses}
-use Rattle.cc_typing.specs.declared.rule.Offence.{Offence}
+use Rattle.cc_typing.specs.declared.rule.RuleError.{RuleError}
 use Rattle.cc_typing.specs.declared.rule.Rule.TheVariants.{Redeclared}
 use Rattle.cc_meaning.specs.Meaning.{Global, words_of, with_element, initial_globals}
 use Rattle.cc_meaning.specs.Function.{Shared, Effect, Answer, Answers, Unfinished, Failed, call_function, body_of_function}
@@ -94,29 +94,29 @@ NoTreeIsNew = (text : List ℕ) (tree : List External) (now : SpellsText text tr
 
 -- ---- the rules
 
-abbrev pub earlier_object_offences : Scalar → Object → FileScope → List Offence
-earlier_object_offences t (Single x initial) f =
+abbrev pub earlier_object_errors : Scalar → Object → FileScope → List RuleError
+earlier_object_errors t (Single x initial) f =
     broken_if (is_declared f.bindings x.text) Redeclared x.at
-    ++ optional_constant_offences (with_object t (Single x initial) f).bindings initial
-earlier_object_offences t (Array x n values) f =
+    ++ optional_constant_errors (with_object t (Single x initial) f).bindings initial
+earlier_object_errors t (Array x n values) f =
     broken_if (is_declared f.bindings x.text) Redeclared x.at
-    ++ (optional_constant_offences f.bindings n
-    ++ (length_offences (array_length n values) (length values) x.at
-    ++ constants_offences (with_object t (Array x n values) f).bindings values))
-earlier_object_offences t (Bytes x n values) f = []
+    ++ (optional_constant_errors f.bindings n
+    ++ (length_errors (array_length n values) (length values) x.at
+    ++ constants_errors (with_object t (Array x n values) f).bindings values))
+earlier_object_errors t (Bytes x n values) f = []
 
-abbrev pub earlier_objects_offences : Scalar → List Object → FileScope → List Offence
-earlier_objects_offences t [] f = []
-earlier_objects_offences t (o ∷ rest) f = earlier_object_offences t o f ++ earlier_objects_offences t rest (with_object t o f)
+abbrev pub earlier_objects_errors : Scalar → List Object → FileScope → List RuleError
+earlier_objects_errors t [] f = []
+earlier_objects_errors t (o ∷ rest) f = earlier_object_errors t o f ++ earlier_objects_errors t rest (with_object t o f)
 
-abbrev pub earlier_external_offences : External → FileScope → List Offence
-earlier_external_offences (Declaration s) f = external_offences (Declaration s) f
-earlier_external_offences (Definition s body) f = external_offences (Definition s body) f
-earlier_external_offences (Objects t os) f = earlier_objects_offences t os f
+abbrev pub earlier_external_errors : External → FileScope → List RuleError
+earlier_external_errors (Declaration s) f = external_errors (Declaration s) f
+earlier_external_errors (Definition s body) f = external_errors (Definition s body) f
+earlier_external_errors (Objects t os) f = earlier_objects_errors t os f
 
-abbrev pub earlier_externals_offences : List External → FileScope → List Offence
-earlier_externals_offences [] f = []
-earlier_externals_offences (e ∷ rest) f = earlier_external_offences e f ++ earlier_externals_offences rest (file_scope_behind e f)
+abbrev pub earlier_externals_errors : List External → FileScope → List RuleError
+earlier_externals_errors [] f = []
+earlier_externals_errors (e ∷ rest) f = earlier_external_errors e f ++ earlier_externals_errors rest (file_scope_behind e f)
 
 -- ---- the limit on words
 
@@ -125,20 +125,20 @@ earlier_object_words (Single x initial) = 1
 earlier_object_words (Array x n values) = elim (array_length n values) [ None ↦ 0 | Some k ↦ k ]
 earlier_object_words (Bytes x n values) = 0
 
-abbrev pub earlier_word_excesses : ℕ → List Object → List Offence
+abbrev pub earlier_word_excesses : ℕ → List Object → List RuleError
 earlier_word_excesses taken [] = []
 earlier_word_excesses taken (o ∷ rest) =
     if nat_lt most_words (taken + earlier_object_words o) then too_many (object_name o) ∷ []
     else earlier_word_excesses (taken + earlier_object_words o) rest
 
-abbrev pub earlier_excesses : List External → List Offence
+abbrev pub earlier_excesses : List External → List RuleError
 earlier_excesses externals = externals_excesses externals ++ (past most_functions (function_names externals) ++ earlier_word_excesses 0 (objects externals))
 
 -- a tree of before breaks the rules that it broke, and passes the limits that it passed
 abbrev pub EarlierRulesStay : Type 0
 EarlierRulesStay =
     (tree : List External) → ArePlain tree
-    → (offences tree ≡ earlier_externals_offences tree first_file_scope) × (excesses tree ≡ earlier_excesses tree)
+    → (errors tree ≡ earlier_externals_errors tree first_file_scope) × (excesses tree ≡ earlier_excesses tree)
 
 -- ---- the meaning
 

@@ -21,7 +21,7 @@ pub record Answer : Type 0 where
   pub word : ℕ
   pub shared : Shared
 
--- what a call comes to: an answer with so many steps left, no step left, or a cause
+-- what a call comes to: an answer with the number of steps left, no step left, or a cause
 pub data Effect (A : Type 0) : Type 0 where
   Answers : A → ℕ → Effect A
   Unfinished : List ℕ → Effect A
@@ -40,11 +40,11 @@ state_within n h = record { locals = []; globals = h.globals; input = h.input; o
 abbrev pub name_of_function : List External → ℕ → List ℕ
 name_of_function unit f = unwrap_or (slice_get (map (λ (g : Function). g.name) (functions unit)) f) []
 
--- a call of function f on words, within n steps and while so many calls are open
+-- a call of function f on words, within n steps and while this many calls are open
 abbrev pub call_function : List External → (n opened f : ℕ) → List ℕ → Shared → Effect Answer
 call_function unit n opened f ws h = effect_of (calls (suc n) (functions unit) opened (name_of_function unit f) ws (state_within n h))
 
--- its body within n steps, while so many calls were open before
+-- its body within n steps, while this many calls were open before
 abbrev pub body_of_function : List External → (n opened f : ℕ) → List ℕ → Shared → Effect Answer
 body_of_function unit n opened f ws h =
     effect_of (run_optional (slice_get (functions unit) f) (suc n) (calls (suc n) (functions unit) (opened + 1)) ws (state_within n h))

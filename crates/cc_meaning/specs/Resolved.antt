@@ -37,7 +37,7 @@ IsPlaced (Some number) v x = Unit {0}
 abbrev pub IsVariable : Environment → List ℕ → Type 0
 IsVariable v x = IsPlaced (number_in v.locals x) v x
 
--- so many arguments are those of a builtin, or of a function of the unit, where the functions have so many parameters
+-- this many arguments are those of a builtin, or of a function of the unit, where the functions have these numbers of parameters
 abbrev pub IsCalled : (arities : List ℕ) → Callee → (count : ℕ) → Type 0
 IsCalled arities WriteWord count = count ≡ 1
 IsCalled arities ReadWord count = count ≡ 0

@@ -46,7 +46,7 @@ impl Emitter {
         Ok(())
     }
 
-    /// How many instructions a jump that is written next skips, to go where so many stood after it.
+    /// How many instructions a jump that is written next skips, to go where this many stood after it.
     pub fn distance(&self, target: usize) -> usize
         requires { target ≤ length self.now }
         ensures { result ≡ length self.now - target }
@@ -54,7 +54,7 @@ impl Emitter {
         self.items.len() - target
     }
 
-    /// Writes another instruction in the place of one, before which so many stood after.
+    /// Writes another instruction in the place of one, before which this many stood after.
     pub fn replace(&mut self, behind: usize, instruction: Instruction)
         requires { behind < length self.old }
         ensures { self.new ≡ slice_set self.old (length self.old - (behind + 1)) instruction }

@@ -1,7 +1,7 @@
 // The resolved form of a unit: one list of instructions over a stack of words, with numbers in place of names.
 //
 // The arguments of a call are its callee's first variables, and stand where the caller left them on the stack; the other
-// variables follow, and above them the words of unfinished expressions. A jump skips so many instructions after itself.
+// variables follow, and above them the words of unfinished expressions. A jump skips a number of instructions after itself.
 
 use cc_resolve::{BinaryOperation, Extent, UnaryOperation};
 
@@ -41,15 +41,15 @@ pub enum Instruction {
     Drop,
     /// Replaces a word by 1, and 0 stays.
     Truth,
-    /// Where the word is 0, leaves it and skips so many instructions; else takes it away.
+    /// Where the word is 0, leaves it and skips this many instructions; else takes it away.
     AndThen(usize),
-    /// Where the word is not 0, replaces it by 1 and skips so many instructions; else takes it away.
+    /// Where the word is not 0, replaces it by 1 and skips this many instructions; else takes it away.
     OrElse(usize),
-    /// Skips so many instructions.
+    /// Skips this many instructions.
     Jump(usize),
-    /// Takes a word, and skips so many instructions where it is 0.
+    /// Takes a word, and skips this many instructions where it is 0.
     JumpIfZero(usize),
-    /// Takes a word, and where it is not 0 goes back over so many instructions and itself.
+    /// Takes a word, and where it is not 0 goes back over this many instructions and itself.
     Repeat(usize),
     /// Spends a step; stops where none is left.
     Step,
@@ -63,7 +63,7 @@ pub enum Instruction {
     Return,
 }
 
-/// Where a function's instructions begin, how many parameters it has, and how many variables besides.
+/// Where a function's instructions begin, how many parameters it has, and how many other variables.
 #[derive(Clone, Copy)]
 pub struct Entry {
     pub start: usize,

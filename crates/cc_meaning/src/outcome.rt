@@ -29,9 +29,15 @@ pub enum Stop {
 }
 
 /// A list of words.
-#[derive(Drop)]
 pub struct Words {
     words: Vec<u32>,
+}
+
+// By hand, so that crates above call it and do not prove anew how each part is dropped.
+impl Drop for Words {
+    fn drop(self) {
+        let Words { words } = self;
+    }
 }
 
 impl Model for Words {

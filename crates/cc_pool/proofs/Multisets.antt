@@ -42,7 +42,7 @@ item_is Stop Stop p = refl
 
 -- where an item stands in a list
 abbrev Stands : Item → List Item → Type 0
-Stands x ys = (front : List Item) × (back : List Item) × (ys ≡ front ++ x ∷ back)
+Stands x ys = (prefix : List Item) × (back : List Item) × (ys ≡ prefix ++ x ∷ back)
 
 -- an item that counts stands somewhere
 first_or_later : (x y : Item) (ys : List Item) → 0 < sum_by (is_item x) (y ∷ ys) → (0 < sum_by (is_item x) ys → Stands x ys) → (n : ℕ) → is_item x y ≡ n → Stands x (y ∷ ys)

@@ -11,16 +11,16 @@ pub record Lists : Type 0 where
 abbrev pub piece_of : (job function : ℕ) → Item
 piece_of job function = Piece (record { job = job; function = function })
 
--- so many functions of a job, from one on, in the order of their definitions
+-- this many functions of a job, from one on, in the order of their definitions
 abbrev pub pieces_from : (job function count : ℕ) → List Item
 pieces_from job function zero = []
 pieces_from job function (suc count) = piece_of job function ∷ pieces_from job (suc function) count
 
--- the first functions of a job, so many
+-- the first functions of a job, this many
 abbrev pub pieces_of : (job count : ℕ) → List Item
 pieces_of job = pieces_from job 0
 
--- so many words to stop
+-- this many words to stop
 abbrev pub stops : ℕ → List Item
 stops zero = []
 stops (suc n) = Stop ∷ stops n
@@ -30,7 +30,7 @@ abbrev pub sent_by : List Lists → List Item
 sent_by [] = []
 sent_by (p ∷ ps) = p.sent ++ sent_by ps
 
--- the pass's list grew by the first functions of some job, so many at most
+-- the pass's list grew by the first functions of some job, this many at most
 pub record HasSentSome (before after : Lists) (most : ℕ) : Type 0 where
   pub job : ℕ
   pub count : ℕ

@@ -22,7 +22,7 @@ use std::thread::{Builder, Threads};
 /// A worker's stack in bytes: as much as a main thread usually has, so that what can be done there can be done here.
 const STACK: usize = 8 << 20;
 
-// Starts so many workers, which hand their passes back there. Answers how many were started: all, where there is no fault.
+// Starts this many workers, which hand their passes back there. Answers how many were started: all, where there is no fault.
 pub(crate) fn hire<N, R, G>(
     rt: &R,
     alloc: Global,
@@ -98,7 +98,7 @@ where
         .is_ok()
 }
 
-// Sends each of so many workers the word to stop, and takes the pass of each in.
+// Sends each of this many workers the word to stop, and takes the pass of each in.
 pub(crate) fn dismiss<N: Queued, R: Wait>(
     rt: &R,
     ends: &Ends<N>,
@@ -116,7 +116,7 @@ pub(crate) fn dismiss<N: Queued, R: Wait>(
     take_back(rt, ends, seat, back, count)
 }
 
-// Takes the passes of so many workers in.
+// Takes the passes of this many workers in.
 fn take_back<N: Queued, R: Wait>(
     rt: &R,
     ends: &Ends<N>,
@@ -139,7 +139,7 @@ fn take_back<N: Queued, R: Wait>(
     Ok(())
 }
 
-// Sends so many words to stop.
+// Sends this many words to stop.
 fn stop<N: Queued, R: Wait>(
     rt: &R,
     ends: &Ends<N>,

@@ -101,7 +101,7 @@ fn piece_of(pieces: &mut Vec<Piece>, text: &[u8], function: usize) -> Option<Pie
     Some(pieces.swap_remove(at))
 }
 
-// The pieces of so many functions of a text, in their order; or the fault of the least that was refused; or 41, where an answer is
+// The pieces of this many functions of a text, in their order; or the fault of the least that was refused; or 41, where an answer is
 // missing and none is a refusal.
 pub(crate) fn in_order(
     alloc: Global,

@@ -28,13 +28,25 @@ use std::sync::{Arc, Mutex, Wait};
 use std::thread::Threads;
 
 /// Workers that compile the functions of units. Contracts see how many there are.
-#[derive(Drop)]
 pub struct Pool<N: Queued> {
     ends: Ends<N>,
     own: Mutex<Own<N>>,
     back: Receiver<Taker<N>>,
     workers: usize,
     jobs: AtomicU64,
+}
+
+// By hand, so that crates above call it and do not prove anew how each part is dropped.
+impl<N: Queued> Drop for Pool<N> {
+    fn drop(self) {
+        let Pool {
+            ends,
+            own,
+            back,
+            workers,
+            jobs,
+        } = self;
+    }
 }
 
 impl<N: Queued> Model for Pool<N> {
@@ -46,7 +58,7 @@ impl<N: Queued> Model for Pool<N> {
 }
 
 impl<N: Queued + Send + Sync + 'static> Pool<N> {
-    /// Starts so many workers, which pass the gate before each piece. Each has a stack of 8 MiB.
+    /// Starts this many workers, which pass the gate before each piece. Each has a stack of 8 MiB.
     ///
     /// Refusals: 40; 41 where a thread could not be started. None of the workers is left then.
     pub fn start<R, G>(

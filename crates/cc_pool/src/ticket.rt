@@ -19,11 +19,21 @@ use std::marker::Model;
 use std::sync::{Arc, Wait};
 
 /// A job that was handed in. Contracts see its number, and its unit by text and number of functions.
-#[derive(Drop)]
 pub struct Ticket {
     number: u64,
     unit: Arc<TypedUnit>,
     answers: Receiver<Answer>,
+}
+
+// By hand, so that crates above call it and do not prove anew how each part is dropped.
+impl Drop for Ticket {
+    fn drop(self) {
+        let Ticket {
+            number,
+            unit,
+            answers,
+        } = self;
+    }
 }
 
 impl Model for Ticket {

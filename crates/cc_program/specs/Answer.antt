@@ -41,7 +41,7 @@ abbrev pub IsRan : (steps : ℕ) → (words text : List ℕ) → Answer → Type
 IsRan steps words text (Ran o) = (p : ProgramOf text) × (outcome_tree o ≡ source_behavior p.program words steps)
 IsRan steps words text answer = ⊥
 
--- what an image does on the input words within so many instructions
+-- what an image does on the input words within this many instructions
 abbrev pub IsRunOf : Image → (steps : ℕ) → (words : List ℕ) → Answer → Type 0
 IsRunOf image steps words (Executed output outcome) = machine_behavior image words steps ≡ record { outcome = outcome; output = output.items }
 IsRunOf image steps words answer = ⊥
@@ -62,7 +62,7 @@ Answers (Interpret steps words) text answer = IsRan steps words.items text answe
 Answers (Run steps words) text answer = IsExecuted steps words.items text answer
 Answers Asm text answer = IsListed text answer
 
--- the text spells a tree that is refused for a rule, a limit or the want of main
+-- the text spells a tree that is refused for a rule, a limit or the lack of main
 pub record IsTextRefusal (text : List ℕ) (fault : TypeFault) : Type 0 where
   pub program : Source
   pub whose : program.text ≡ text

@@ -88,7 +88,7 @@ fn compiled(alloc: Global, text: &[u8]) -> Result<CompiledUnit, Fault>
     }
 }
 
-/// What an image does on the input words within so many instructions. `AllocError` where memory was refused as it ran.
+/// What an image does on the input words within this many instructions. `AllocError` where memory was refused as it ran.
 pub fn run_image(
     alloc: Global,
     image: &Image,

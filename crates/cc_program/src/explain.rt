@@ -1,4 +1,4 @@
-// What is told to a person besides the answer: of a fault, and of a run that went wrong.
+// What is told to a person beside the answer: of a fault, and of a run that went wrong.
 
 use super::fault::Fault;
 use cc_command_line::Task;
@@ -101,7 +101,7 @@ fn write_further<W: Write>(
     }
 }
 
-/// Writes what is told of a fault of a text: its place with the line of the text, what was found there and what was wanted; of one of
+/// Writes what is told of a fault of a text: its place with the line of the text, what was found there and what was expected; of one of
 /// scope or type the further ones too, up to twenty in all. Nothing where memory for that runs out.
 pub fn explain_fault<W: Write>(
     alloc: Global,

@@ -96,8 +96,8 @@ impl Fault {
     }
 }
 
-/// Writes the line of a fault for the text that has it: its number and its name; where it stands in the text its place, as
-/// `fault 5 Unexpected at 1:25`; where it is one of a function that one's name, as `fault 22 FunctionTooLarge in main`.
+/// Writes the line of a fault for the text that has it: its number and its name; where it stands in the text its place, for example
+/// `fault 5 Unexpected at 1:25`; where it is one of a function that one's name, for example `fault 22 FunctionTooLarge in main`.
 pub fn write_fault_line<F: Display, W: Write>(
     number: u32,
     fault: &F,
@@ -123,7 +123,7 @@ pub fn write_fault_line<F: Display, W: Write>(
     writeln!(writer)
 }
 
-// In which function a fault is: the name of so many bytes that begins there in the text.
+// In which function a fault is: the name of this many bytes that begins there in the text.
 fn write_name<W: Write>(text: &[u8], at: usize, length: usize, writer: &mut W) -> io::Result<()> {
     writer.write_all(b" in ")?;
     let rest = text.get(at..).unwrap_or(b"");

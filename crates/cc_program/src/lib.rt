@@ -1,7 +1,7 @@
 //! The work of the program: a task, done over any reader and writer.
 //!
 //! `source` reads the text, `answer` has the answer to a task for a text, `work` does a task, `fault` has every refusal with its
-//! line, `explain` what a person is told besides. Which words ask for which task is the matter of `cc_command_line`, what
+//! line, `explain` what a person is told beside it. Which words ask for which task is the matter of `cc_command_line`, what
 //! a text means that of the crates of the language.
 //! Hands out `answer_for`, `run_image`, `perform`, `perform_and_explain`, their types, what writes an answer and a fault's line and what
 //! explains a fault of a function, and the definitions that the contracts name (`specs/`).

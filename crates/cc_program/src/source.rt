@@ -7,7 +7,7 @@ use cc_tokens::MOST_BYTES;
 use std::alloc::Global;
 use std::io::Read;
 
-/// One byte more than a text may have: so many are read, that a longer text is seen to be one.
+/// One byte more than a text may have: that many are read, so that a longer text is seen to be one.
 const MOST_READ: usize = MOST_BYTES + 1;
 
 /// The bytes of a reader up to its end, or the first `MOST_READ` of them.

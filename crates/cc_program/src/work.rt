@@ -166,7 +166,7 @@ pub fn perform<H: AllocGlobal, R: Read, W: Write>(
 }
 
 /// Does a task as `perform` does, and writes to `explanations` what helps a person with a fault or with a run that went wrong: the
-/// place, as editors read it, what was found there and what was wanted, and the line of the text; of another program what is warned of.
+/// place, as editors read it, what was found there and what was expected, and the line of the text; of another program what is warned of.
 /// Of a write to `writer` that fails it says so. Where memory for an explanation runs out, or it can not be written, there is none; the
 /// status is the same.
 pub fn perform_and_explain<H: AllocGlobal, R: Read, W: Write, E: Write>(

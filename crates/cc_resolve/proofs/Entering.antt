@@ -31,7 +31,7 @@ length-environments p (Declaration s ∷ es) f = length-environments p es (file_
 length-environments p (Definition s body ∷ es) f = ap suc (length-environments p es (file_scope_behind (Definition s body) f))
 length-environments p (Objects t os ∷ es) f = length-environments p es (file_scope_behind (Objects t os) f)
 
--- after some external declarations of a unit, with so many functions left before the one of the number
+-- after some external declarations of a unit, with this many functions left before the one of the number
 pub record Entering (all : List External) (function : ℕ) (v : Environment) (left : ℕ) (rest : List External) : Type 0 where
   pub inner : v.visible.inner ≡ []
   pub locals : v.locals ≡ []

@@ -68,7 +68,7 @@ impl<'a> Environment<'a> {
         self.visible.open()
     }
 
-    /// Ends a scope, whose names go, inside one that had declared so many. The locals stay.
+    /// Ends a scope, whose names go, inside one that had declared this many. The locals stay.
     pub fn close(&mut self, around: usize)
         requires { around ≤ length self.old.visible.outer }
         ensures { self.new ≡ record self.old { visible = closed around self.old.visible } }

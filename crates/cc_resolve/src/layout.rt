@@ -36,11 +36,21 @@ const NOWHERE: Extent = Extent {
 };
 
 /// The objects of a unit, and the functions in the order of their definitions.
-#[derive(Drop)]
 pub struct Layout<'a> {
     objects: Places<'a>,
     extents: Vec<Extent>,
     functions: Places<'a>,
+}
+
+// By hand, so that crates above call it and do not prove anew how each part is dropped.
+impl Drop for Layout<'_> {
+    fn drop(self) {
+        let Layout {
+            objects,
+            extents,
+            functions,
+        } = self;
+    }
 }
 
 impl<'a> Model for Layout<'a> {

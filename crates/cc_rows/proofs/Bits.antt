@@ -113,7 +113,7 @@ moved_none from to old none k = here (to == k) refl (from == k) refl
 
 -- ---- words within words
 
--- the first so many words hold nothing that the others do not
+-- the first words, this many, hold nothing that the others do not
 abbrev pub WithinFirst : (words : ℕ) → (some all : List ℕ) → Type 0
 WithinFirst n some all = (r : ℕ) → r / 64 < n → IsTrue (holds some r) → IsTrue (holds all r)
 
@@ -158,7 +158,7 @@ one_outside some all n word other a b fits fits_too lt d =
 
 -- ---- words put to words
 
--- the first so many words of `from` are in
+-- the first n words of `from` are in
 pub record PutFirst (n : ℕ) (start from now : List ℕ) : Type 0 where
   pub long : length now ≡ length start
   pub put : (r : ℕ) → r / 64 < n → holds now r ≡ (holds start r || holds from r)

@@ -147,7 +147,7 @@ module _ (n from to : ℕ) (old now : ℕ → ℕ → Bool) where
       stays : (k : ℕ) → n ≤ i → now i k ≡ old i k
       stays k ge = h i k ∙ ap (λ b. if b then moved from to (old i) k else old i k) (not_below i n ge)
 
--- the same in a row of rows of so many words: where the next row's words are, and that no row was put behind the last one
+-- the same in a row of rows of this many words: where the next row's words are, and that no row was put behind the last one
 pub record MovedTo (r width from to at target : ℕ) (old now : List ℕ) : Type 0 where
   pub here : at ≡ width * r + from / 64
   pub goes : target ≡ 64 * (width * r) + to
@@ -164,7 +164,7 @@ nowhere_moved width from to at target words a t = record {
 
 -- one row more: it is one of the rows, so what is put in lies before their end
 module _ (r width from to at target : ℕ) (old now next : List ℕ) (h : MovedTo r width from to at target old now) (f : from < 64 * width) (t : to < 64 * width) where
-  -- a row that has a word is one of so many rows that hold the words
+  -- a row that has a word is one of this many rows that hold the words
   inside : (many : ℕ) → length now ≤ width * many → at < length now → r < many
   inside many few lt = let here = h.here in lt_of_mul-lt-mul_left width {m = r} {n = many} (omega (arith, here, few, lt))
 

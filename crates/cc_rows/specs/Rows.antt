@@ -6,7 +6,7 @@ use Rattle.std.specs.Int.{bit_at}
 abbrev pub holds : (row : List ℕ) → (k : ℕ) → Bool
 holds row k = bit_at (get_or row (k / 64) 0) (k % 64) == 1
 
--- rows of so many words each
+-- rows of width words each
 pub record Table : Type 0 where
   pub width : ℕ
   pub words : List ℕ
@@ -29,7 +29,7 @@ most_rows = 2 ^ 32
 abbrev pub most_words : ℕ
 most_words = 2 ^ 36
 
--- rows of so many words, and none past so many rows
+-- rows of this many words each, and at most this many of them
 pub record AreRows (width rows : ℕ) (words : List ℕ) : Type 0 where
   pub narrow : width ≤ most_width
   pub low : rows ≤ most_rows

@@ -66,7 +66,7 @@ impl BitRow {
         Ok(BitRow { words })
     }
 
-    /// The same set once more, with memory for so many words behind its end.
+    /// The same set once more, with memory for this many words behind its end.
     pub(crate) fn copy_with_room(&self, alloc: Global, room: usize) -> Result<BitRow, AllocError>
         requires { room ≤ most_words }
         ensures { IfOk result (λ made. made ≡ self.now) }
@@ -101,7 +101,7 @@ impl BitRow {
         }
     }
 
-    /// Moves the bit of each row, of so many words each, from one column to another. Where memory runs out, some may have moved.
+    /// Moves the bit of each row, of this many words each, from one column to another. Where memory runs out, some may have moved.
     pub(crate) fn move_column(
         &mut self,
         width: usize,
@@ -195,7 +195,7 @@ fn word_at(words: &[u64], at: usize) -> u64
     }
 }
 
-/// Makes a row no shorter than so many words. Without memory it stays as it was.
+/// Makes a row no shorter than this many words. Without memory it stays as it was.
 fn grow(words: &mut Vec<u64>, least: usize) -> Result<(), AllocError>
     ensures same { (k : ℕ) → slice_index words.new.items k ≡ slice_index words.old.items k }
     ensures long { IfOk result (λ _. least ≤ length words.new.items) }

@@ -7,7 +7,7 @@ use crate::row::BitRow;
 use std::alloc::{AllocError, Global};
 use std::marker::Model;
 
-// A copy has room for so many rows more.
+// How many rows more a copy has room for.
 const ROOM: usize = 4;
 
 /// Rows of bits: the pairs of a row and a column. Contracts see how many words a row has, and all words.
@@ -105,7 +105,7 @@ impl BitRows {
         }
     }
 
-    /// The same once more, with rows of so many words at least, and with memory for some rows more.
+    /// The same once more, with rows of this many words at least, and with memory for some rows more.
     pub fn copy(&self, width: usize) -> Result<BitRows, AllocError>
         requires { width ≤ most_width }
         ensures { IfOk result (λ made. (r c : ℕ) → has made r c ≡ has self.now r c) }

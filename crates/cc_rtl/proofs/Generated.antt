@@ -38,20 +38,20 @@ leads (x ∷ exits) (suc k) d = leads exits k d
 -- what was there is still there, few nodes are new, and of the nodes and the entry the claim holds
 pub record Right (g : Places) (m : Made) (most : ℕ) (Claim : Graph → ℕ → Type 0) : Type 0 where
   pub rest : Places
-  pub front : m.places ≡ g ++ rest
+  pub prefix : m.places ≡ g ++ rest
   pub few : length m.places ≡ length g + most
   pub claim : Claim (place_at m.places) m.entry
 
 pub pushed_right : (n : rtl.Node) (g : Places) → Right g (pushed n g) 1 (λ f l. f l ≡ Some n)
-pushed_right n g = record { rest = Some n ∷ []; front = refl; few = let e = length-append g (Some n ∷ []) in omega arith; claim = node_here g (Some n) [] }
+pushed_right n g = record { rest = Some n ∷ []; prefix = refl; few = let e = length-append g (Some n ∷ []) in omega arith; claim = node_here g (Some n) [] }
 
 pub right_then : (g : Places) (m m' : Made) (c d most : ℕ) (P Q R : Graph → ℕ → Type 0) → Right g m c P → Right m.places m' d Q → c + d ≡ most
     → (Extends (place_at m.places) (place_at m'.places) → P (place_at m.places) m.entry → Q (place_at m'.places) m'.entry → R (place_at m'.places) m'.entry) → Right g m' most R
 right_then g m m' c d most P Q R x y le f = record {
   rest = x.rest ++ y.rest;
-  front = y.front ∙ ap (λ z. z ++ y.rest) x.front ∙ append_assoc g x.rest y.rest;
+  prefix = y.prefix ∙ ap (λ z. z ++ y.rest) x.prefix ∙ append_assoc g x.rest y.rest;
   few = let a = x.few in let b = y.few in omega arith;
-  claim = f (subst (λ z. Extends (place_at m.places) (place_at z)) (sym y.front) (node_kept m.places y.rest)) x.claim y.claim;
+  claim = f (subst (λ z. Extends (place_at m.places) (place_at z)) (sym y.prefix) (node_kept m.places y.rest)) x.claim y.claim;
 }
 
 is_variable : (e : Expression) (x : ℕ) → variable_of e ≡ Some x → e ≡ Local x
@@ -69,11 +69,11 @@ module _ (count : ℕ) where
       → Right next.places (operand_by v (made_into e) free next) (kept_by v (into_nodes e)) (λ f entry. Held f count e (Into f count e) free (held_in v free) (taken_by v free) entry next.entry)
   operand_by_right e makes None is free next uses above =
       let x = makes (suc free) free next.entry next.places uses (omega arith) in
-      record { rest = x.rest; front = x.front; few = x.few; claim = (omega arith, omega arith, inr (omega arith, x.claim)) }
+      record { rest = x.rest; prefix = x.prefix; few = x.few; claim = (omega arith, omega arith, inr (omega arith, x.claim)) }
   operand_by_right e makes (Some x) is free next uses above =
       let same = is_variable e x is in
       let low : x < count = subst (Uses count) same uses in
-      record { rest = []; front = append_none next.places; few = omega arith; claim = (omega arith, omega arith, inl (same, low, refl)) }
+      record { rest = []; prefix = append_none next.places; few = omega arith; claim = (omega arith, omega arith, inl (same, low, refl)) }
 
   above_taken : (e : Expression) (free : ℕ) (v : Option ℕ) → count ≤ free → count ≤ taken_by v free
   above_taken e free None above = omega arith
@@ -104,7 +104,7 @@ module _ (count : ℕ) where
 
   -- the claim for another word, or for more
   weaker : (g : Places) (m : Made) (c most : ℕ) (P Q : Graph → ℕ → Type 0) → Right g m c P → c ≡ most → (P (place_at m.places) m.entry → Q (place_at m.places) m.entry) → Right g m most Q
-  weaker g m c most P Q x le f = record { rest = x.rest; front = x.front; few = let a = x.few in omega arith; claim = f x.claim }
+  weaker g m c most P Q x le f = record { rest = x.rest; prefix = x.prefix; few = let a = x.few in omega arith; claim = f x.claim }
 
   pub makes : (e : Expression) → Makes e
   makes (Constant w) free to exit g uses above = pushed_right (rtl.Const to w exit) g
@@ -129,7 +129,7 @@ module _ (count : ℕ) where
   operand_right e free next uses above = operand_by_right e (makes e) (variable_of e) refl free next uses above
 
   pub operands_right : (es : List Expression) (free : ℕ) (next : Made) → AllUse count es → count ≤ free → Right next.places (operands es free next) (operands_nodes es) (λ f entry. Operands f count es (registers es free) free entry next.entry)
-  operands_right [] free next uses above = record { rest = []; front = append_none next.places; few = omega arith; claim = refl }
+  operands_right [] free next uses above = record { rest = []; prefix = append_none next.places; few = omega arith; claim = refl }
   operands_right (e ∷ es) free next (uses, all) above =
       let above' = above_taken e free (variable_of e) above in
       let x = operands_right es (taken e free) next all above' in
@@ -154,13 +154,13 @@ module _ (count : ℕ) where
   closed_right : (a : Statement) (exit : ℕ) (exits : List ℕ) (g : Places) (body : Made) (most : ℕ) → Right (g ++ (None ∷ [])) body most (Here a (length g) exits) → Right g (closed (length g) body) (suc most) (Here (Loop a) exit exits)
   closed_right a exit exits g body most x =
       let n = Some (rtl.Nop body.entry) in
-      let was : body.places ≡ g ++ (None ∷ x.rest) = x.front ∙ append_assoc g (None ∷ []) x.rest in
+      let was : body.places ≡ g ++ (None ∷ x.rest) = x.prefix ∙ append_assoc g (None ∷ []) x.rest in
       let is : set body.places (length g) n ≡ g ++ (n ∷ x.rest) = ap (λ z. set z (length g) n) was ∙ set_seam g x.rest None n in
       let more : Extends (place_at body.places) (place_at (set body.places (length g) n)) =
       subst (λ z. Extends (place_at z) (place_at (set body.places (length g) n))) (sym was) (subst (λ z. Extends (place_at (g ++ (None ∷ x.rest))) (place_at z)) (sym is) (fills g x.rest n)) in
       record {
         rest = n ∷ x.rest;
-        front = is;
+        prefix = is;
         few =
             (let e1 = ap length was in
             let e2 = ap length is in
@@ -173,7 +173,7 @@ module _ (count : ℕ) where
       }
 
   pub made_right : (s : Statement) (exit : ℕ) (exits : List ℕ) (g : Places) → IsFormed count s → Right g (made count s exit exits g) (statement_nodes s) (Here s exit exits)
-  made_right Skip exit exits g formed = record { rest = []; front = append_none g; few = omega arith; claim = refl }
+  made_right Skip exit exits g formed = record { rest = []; prefix = append_none g; few = omega arith; claim = refl }
   made_right (Set x e) exit exits g (low, uses) =
       weaker g _ (into_nodes e) _ (λ f entry. Into f count e count x entry exit) (Here (Set x e) exit exits) (makes e count x exit g uses (omega arith)) (omega arith) (λ into. (low, into))
   made_right (Store width o i e) exit exits g (uses_i, uses_e) =
@@ -208,7 +208,7 @@ module _ (count : ℕ) where
       (λ more (code_b, code_a) (free', k, held, stands). (register e count, free', k, m.entry, n.entry, held, stands, translates_grows _ _ more count a m.entry exit exits code_a, translates_grows _ _ more count b n.entry exit exits code_b))
   made_right (Loop a) exit exits g formed = closed_right a exit exits g (made count a (length g) exits (g ++ (None ∷ []))) (statement_nodes a) (made_right a (length g) exits (g ++ (None ∷ [])) formed)
   made_right (Block a) exit exits g formed = weaker g _ (statement_nodes a) _ (Here a exit (exit ∷ exits)) (Here (Block a) exit exits) (made_right a exit (exit ∷ exits) g formed) (omega arith) (λ code. code)
-  made_right (Exit k) exit exits g formed = record { rest = []; front = append_none g; few = omega arith; claim = leads exits k exit }
+  made_right (Exit k) exit exits g formed = record { rest = []; prefix = append_none g; few = omega arith; claim = leads exits k exit }
   made_right (Return e) exit exits g uses =
       let n = rtl.Return (register e count) in
       weaker g _ (suc (operand_nodes e)) _ (OneHeld e count (register e count) n) (Here (Return e) exit exits) (one_operand e n g uses) (omega arith)
@@ -221,8 +221,8 @@ module _ (count : ℕ) where
       let b = made count body 1 [] ends in
       let x = made_right body 1 [] ends formed in
       let p = pushed_right (rtl.Nop b.entry) b.places in
-      let more : Extends (place_at ends) (place_at b.places) = subst (λ z. Extends (place_at ends) (place_at z)) (sym x.front) (node_kept ends x.rest) in
-      let more' : Extends (place_at b.places) (place_at (pushed (rtl.Nop b.entry) b.places).places) = subst (λ z. Extends (place_at b.places) (place_at z)) (sym p.front) (node_kept b.places p.rest) in (
+      let more : Extends (place_at ends) (place_at b.places) = subst (λ z. Extends (place_at ends) (place_at z)) (sym x.prefix) (node_kept ends x.rest) in
+      let more' : Extends (place_at b.places) (place_at (pushed (rtl.Nop b.entry) b.places).places) = subst (λ z. Extends (place_at b.places) (place_at z)) (sym p.prefix) (node_kept b.places p.rest) in (
         record {
           first = b.entry;
           exit = 1;

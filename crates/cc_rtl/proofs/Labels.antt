@@ -21,10 +21,10 @@ node_by_place last from (suc i) (x ∷ ns) n e =
     let s : suc from + i ≡ from + suc i = omega arith in
     ap (λ b. cond b (Some (renamed (λ l. last - l) x)) (rtl.node_at (labelled_from last (suc from) ns) (from + suc i))) t ∙ ap (rtl.node_at (labelled_from last (suc from) ns)) (sym s) ∙ node_by_place last (suc from) i ns n e
 
-nth_front : (ns ms : List rtl.Node) (i : ℕ) (n : rtl.Node) → nth ns i ≡ Some n → nth (ns ++ ms) i ≡ Some n
-nth_front [] ms i n e = absurd (let z : None ≡ Some n = e in cc)
-nth_front (x ∷ ns) ms zero n e = e
-nth_front (x ∷ ns) ms (suc i) n e = nth_front ns ms i n e
+nth_prefix : (ns ms : List rtl.Node) (i : ℕ) (n : rtl.Node) → nth ns i ≡ Some n → nth (ns ++ ms) i ≡ Some n
+nth_prefix [] ms i n e = absurd (let z : None ≡ Some n = e in cc)
+nth_prefix (x ∷ ns) ms zero n e = e
+nth_prefix (x ∷ ns) ms (suc i) n e = nth_prefix ns ms i n e
 
 nth_last : (ns : List rtl.Node) (n : rtl.Node) → nth (ns ++ n ∷ []) (length ns) ≡ Some n
 nth_last [] n = refl
@@ -52,7 +52,7 @@ back_place (Some x ∷ g) f zero n lt e =
     ap (nth (nodes_back g ++ x ∷ [])) k ∙ nth_last (nodes_back g) x ∙ ap (λ y. Some y) w
 back_place (Some x ∷ g) f (suc l) n lt e =
     let k : suc (length g) - suc (suc l) ≡ length g - suc l = omega arith in
-    ap (nth (nodes_back g ++ x ∷ [])) k ∙ nth_front (nodes_back g) (x ∷ []) (length g - suc l) n (back_place g f l n (omega arith) e)
+    ap (nth (nodes_back g ++ x ∷ [])) k ∙ nth_prefix (nodes_back g) (x ∷ []) (length g - suc l) n (back_place g f l n (omega arith) e)
 
 -- the node of a place, by its label
 pub turned_node : (g : Places) (last : ℕ) → AreFilled g → length g ≡ suc last → (l : ℕ) (n : rtl.Node) → l < length g → place_at g l ≡ Some n → rtl.node_at (labelled_from last 0 (nodes_back g)) (last - l) ≡ Some (renamed (λ k. last - k) n)

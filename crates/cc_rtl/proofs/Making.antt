@@ -266,9 +266,9 @@ module _ {T : Type 0} where
   first_there [] l h = absurd (let z : None ≡ Some l = h in cc)
   first_there (e ∷ es) l h = subst (λ t. IsSome (if t then Some e.item else item_at l es)) (sym (first_is e es l h)) refl
 
-  pub put_front : (es : List (Entry T)) (l : ℕ) (new : Entry T) → first_label es ≡ Some l → with_before l new es ≡ new ∷ es
-  put_front [] l new h = absurd (let z : None ≡ Some l = h in cc)
-  put_front (e ∷ es) l new h = ap (λ t. if t then new ∷ e ∷ es else e ∷ with_before l new es) (first_is e es l h)
+  pub put_prefix : (es : List (Entry T)) (l : ℕ) (new : Entry T) → first_label es ≡ Some l → with_before l new es ≡ new ∷ es
+  put_prefix [] l new h = absurd (let z : None ≡ Some l = h in cc)
+  put_prefix (e ∷ es) l new h = ap (λ t. if t then new ∷ e ∷ es else e ∷ with_before l new es) (first_is e es l h)
 
   pub first_out : (es : List (Entry T)) (l : ℕ) (x : T) → first_label es ≡ Some l → item_at l es ≡ Some x → es ≡ entry l x ∷ without l es
   first_out [] l x h i = absurd (let z : None ≡ Some l = h in cc)

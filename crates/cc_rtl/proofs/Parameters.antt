@@ -5,7 +5,7 @@ use Rattle.std.proofs.lemmas.Option.{slice_get-map, slice_get_within}
 use Rattle.cc_syntax.specs.Tree.{Name, Stmts, Parameter, Signature, External, Declaration, Definition, Objects, Source}
 use Rattle.cc_typing.specs.Limits.{too_many, most_parameters, parameter_excesses, external_excesses, externals_excesses, function_names}
 use Rattle.cc_typing.specs.Typed.{IsTyped, IsWithinLimits, definitions, defined_names}
-use Rattle.cc_typing.specs.declared.rule.Offence.{Offence}
+use Rattle.cc_typing.specs.declared.rule.RuleError.{RuleError}
 use Rattle.cc_meaning.specs.Meaning.{Function, functions, text_of}
 use Rattle.cc_meaning.specs.Resolved.{arities, IsResolved, FunctionsAreResolved}
 use Rattle.cc_syntax.specs.Erase.{parameter_tree, signature_tree, statements_of}
@@ -14,15 +14,15 @@ use Rattle.cc_syntax.specs.declared.unit.Unit as parsed
 use Rattle.cc_typing.specs.Defined.{definition_tree}
 use Rattle.cc_typing.specs.declared.typed.Definition.{Definition as Defined}
 
-front_none : (xs ys : List Offence) → xs ++ ys ≡ [] → xs ≡ []
-front_none [] ys e = refl
-front_none (x ∷ xs) ys e = absurd (let z : x ∷ (xs ++ ys) ≡ [] = e in cc)
+prefix_none : (xs ys : List RuleError) → xs ++ ys ≡ [] → xs ≡ []
+prefix_none [] ys e = refl
+prefix_none (x ∷ xs) ys e = absurd (let z : x ∷ (xs ++ ys) ≡ [] = e in cc)
 
-back_none : (xs ys : List Offence) → xs ++ ys ≡ [] → ys ≡ []
+back_none : (xs ys : List RuleError) → xs ++ ys ≡ [] → ys ≡ []
 back_none [] ys e = e
 back_none (x ∷ xs) ys e = absurd (let z : x ∷ (xs ++ ys) ≡ [] = e in cc)
 
-few_by : (b : Bool) (o : Offence) → cond b (o ∷ []) [] ≡ [] → b ≡ false
+few_by : (b : Bool) (o : RuleError) → cond b (o ∷ []) [] ≡ [] → b ≡ false
 few_by true o e = absurd (let z : o ∷ [] ≡ [] = e in cc)
 few_by false o e = refl
 
@@ -34,13 +34,13 @@ few_in [] f s body none e = absurd (let z : None ≡ Some (Definition s body) = 
 few_in (Definition t b ∷ rest) zero s body none e =
     let z : Some (Definition t b) ≡ Some (Definition s body) = e in
     let w : t ≡ s = cc in
-    subst (λ (k : Signature). length k.parameters ≤ 8) w (few_of t (front_none (parameter_excesses t) _ (front_none (external_excesses (Definition t b)) (externals_excesses rest) none)))
+    subst (λ (k : Signature). length k.parameters ≤ 8) w (few_of t (prefix_none (parameter_excesses t) _ (prefix_none (external_excesses (Definition t b)) (externals_excesses rest) none)))
 few_in (Definition t b ∷ rest) (suc f) s body none e = few_in rest f s body (back_none (external_excesses (Definition t b)) (externals_excesses rest) none) e
 few_in (Declaration t ∷ rest) f s body none e = few_in rest f s body (back_none (external_excesses (Declaration t)) (externals_excesses rest) none) e
 few_in (Objects t os ∷ rest) f s body none e = few_in rest f s body none e
 
 pub few_parameters : (externals : List External) (f : ℕ) (s : Signature) (body : Stmts) → IsWithinLimits externals → slice_get (definitions externals) f ≡ Some (Definition s body) → length s.parameters ≤ 8
-few_parameters externals f s body within e = few_in externals f s body (front_none (externals_excesses externals) _ within) e
+few_parameters externals f s body within e = few_in externals f s body (prefix_none (externals_excesses externals) _ within) e
 
 many_names : (externals : List External) → length (definitions externals) ≡ length (function_names externals)
 many_names [] = refl

@@ -17,13 +17,13 @@ written_by (Gives a left) = a.world.output
 written_by (Unfinished o) = o
 written_by (Failed o) = o
 
--- the second effect is what the first comes to with so many steps more
+-- the second effect is what the first comes to with this many steps more
 abbrev pub Later : (more : ℕ) → Effect → Effect → Type 0
 Later more (Gives a left) z = z ≡ Gives a (left + more)
 Later more (Unfinished o) z = IsPrefixOf o (written_by z)
 Later more (Failed o) z = z ≡ Failed o
 
--- a unit's meaning: `call n opened f ws h` is a call of function f within n steps while so many calls are open, `body` what the
+-- a unit's meaning: `call n opened f ws h` is a call of function f within n steps while this many calls are open, `body` what the
 -- function does after the call's own step
 pub record Meaning : Type 0 where
   -- how many functions there are, and how many parameters each has
@@ -49,7 +49,7 @@ pub record IsCall (meaning : Meaning) (f : ℕ) (ws : List ℕ) (h : World) : Ty
   pub words : AreWords ws
   pub world : IsWorld meaning.objects h
 
--- what the calls in a function do, while so many are open
+-- what the calls in a function do, while this many are open
 abbrev pub call_effect : Meaning → (opened : ℕ) → ℕ → Question → Effect
 call_effect meaning opened j q = meaning.call j opened q.function q.arguments q.world
 

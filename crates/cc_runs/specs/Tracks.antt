@@ -13,7 +13,7 @@ Keeps rate n (Gives a left) done z = (z ≡ record { stop = Ended a; output = a.
 Keeps rate n (Unfinished o) done z = (z ≡ record { stop = Going; output = o }) × (n ≤ rate * suc done)
 Keeps rate n (Failed o) done z = Unit {0}
 
--- some cut of the run, of at most so many moves and steps, keeps that
+-- some cut of the run, of at most this many moves and steps, keeps that
 pub record Keeping {C : Type 0} (move : C → Move C) (output : C → List ℕ) (effect : ℕ → Question → Effect) (rate n : ℕ) (source : Effect) (start : C) (most most_steps : ℕ) : Type 0 where
   pub moves : ℕ
   pub steps : ℕ

@@ -10,7 +10,7 @@ use Rattle.cc_runs.specs.World.{first_or_zero, rest_of}
 abbrev pub unknown_register : (words : List ℕ) (r : ℕ) → ℕ
 unknown_register words r = get_or (take 32 words) r 0
 
--- at entry, the word of slot i of so many
+-- at entry, the word of slot i of this many
 abbrev pub unknown_slot : (slots : ℕ) (words : List ℕ) (i : ℕ) → ℕ
 unknown_slot slots words i = get_or (take slots (drop 32 words)) i 0
 
@@ -26,7 +26,7 @@ register_after_call words r before = if survives r then before else unknown_regi
 abbrev pub unknown_word : (words : List ℕ) → ℕ
 unknown_word words = first_or_zero words
 
--- the words that are left: after a function's entry with so many slots, after a call, after a read or a write
+-- the words that are left: after a function's entry with this many slots, after a call, after a read or a write
 abbrev pub left_after_entry : (slots : ℕ) → List ℕ → List ℕ
 left_after_entry slots words = drop slots (drop 32 words)
 

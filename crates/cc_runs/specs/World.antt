@@ -36,7 +36,7 @@ pub record Answer : Type 0 where
   pub value : ℕ
   pub world : World
 
--- what a call comes to within a number of steps: an answer with so many left; no step left, or wrong, with the output so far
+-- what a call comes to within a number of steps: an answer with how many are left; no step left, or wrong, with the output so far
 pub data Effect : Type 0 where
   Gives : Answer → ℕ → Effect
   Unfinished : List ℕ → Effect

@@ -26,7 +26,7 @@ use Rattle.cc_rv32.specs.Machine.{code_from}
 abbrev pub hexadecimal_digit : ℕ → ℕ
 hexadecimal_digit n = if nat_lt n 10 then 48 + n else 87 + n
 
--- the lowest so many digits of base 16, the highest first
+-- the lowest digits of base 16, this many, the highest first
 abbrev pub hexadecimal : (digits w : ℕ) → List ℕ
 hexadecimal zero w = []
 hexadecimal (suc n) w = hexadecimal n (w / 16) ++ hexadecimal_digit (w % 16) ∷ []

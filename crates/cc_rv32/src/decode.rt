@@ -281,7 +281,7 @@ fn count(word: u32) -> ShiftCount
     ShiftCount::new(((word >> 20) & 31) as u8)
 }
 
-/// The word of a number of so many bits in two's complement; `sign` is the weight of the highest of them.
+/// The word of a number of this many bits in two's complement; `sign` is the weight of the highest of them.
 fn sign_extended(number: u32, sign: u32) -> u32
     ensures { result ≡ (if nat_lt number sign then number else (number + (2 ^ 32 - sign) + (2 ^ 32 - sign)) % 2 ^ 32) }
 {

@@ -11,9 +11,15 @@ pub const MOST_CODE: usize = 131_072;
 pub const MOST_GLOBALS: usize = 65_536;
 
 /// The code of an image: 1 to 131,072 words. A clause sees their list.
-#[derive(Drop)]
 pub struct Code {
     words: Vec<u32>,
+}
+
+// By hand, so that crates above call it and do not prove anew how each part is dropped.
+impl Drop for Code {
+    fn drop(self) {
+        let Code { words } = self;
+    }
 }
 
 impl Model for Code {
@@ -51,14 +57,21 @@ impl Code {
     pub fn into_words(self) -> Vec<u32>
         ensures { result.items ≡ self }
     {
-        self.words
+        let Code { words } = self;
+        words
     }
 }
 
 /// The globals of an image: at most 65,536 words. A clause sees their list.
-#[derive(Drop)]
 pub struct Globals {
     words: Vec<u32>,
+}
+
+// By hand, so that crates above call it and do not prove anew how each part is dropped.
+impl Drop for Globals {
+    fn drop(self) {
+        let Globals { words } = self;
+    }
 }
 
 impl Model for Globals {
@@ -95,7 +108,8 @@ impl Globals {
     pub fn into_words(self) -> Vec<u32>
         ensures { result.items ≡ self }
     {
-        self.words
+        let Globals { words } = self;
+        words
     }
 }
 

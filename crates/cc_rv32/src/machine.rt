@@ -12,9 +12,15 @@ use std::alloc::Global;
 use std::marker::Model;
 
 /// A machine that runs an image. A clause sees what it holds, and `shown_run` the run that this stands for.
-#[derive(Drop)]
 pub struct Machine {
     simulator: Simulator,
+}
+
+// By hand, so that crates above call it and do not prove anew how each part is dropped.
+impl Drop for Machine {
+    fn drop(self) {
+        let Machine { simulator } = self;
+    }
 }
 
 impl Model for Machine {
@@ -54,7 +60,7 @@ impl Machine {
         self.run(1)
     }
 
-    /// Does at most so many instructions, fewer where it exits or traps, and tells what the run has come to: what `a`
+    /// Does at most this many instructions, fewer where it exits or traps, and tells what the run has come to: what `a`
     /// and then `b` instructions come to is what `a + b` do. 40 only where an instruction writes a word and the output
     /// could not grow; then the instructions before that one are done.
     pub fn run(&mut self, steps: u64) -> Result<MachineOutcome, MachineFault>

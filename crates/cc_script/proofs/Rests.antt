@@ -31,13 +31,13 @@ taken (Some bytes) piece next end false None more inside kept = kept
 taken (Some bytes) piece next end false (Some later) more inside kept = sym kept ∙ ap (λ (held : List ℕ). held ++ later) (range_more piece next end more inside)
 
 -- bytes behind bytes
-pub consumed_on : (before between after : Option (List ℕ)) (front back : List ℕ) → Consumes before between front → Consumes between after back
-    → Consumes before after (front ++ back)
-consumed_on None between after front back one two = tt
-consumed_on (Some bytes) None after front back one two = absurd one
-consumed_on (Some bytes) (Some rest) None front back one two = two
-consumed_on (Some bytes) (Some rest) (Some later) front back one two =
-    one ∙ (ap (λ (l : List ℕ). front ++ l) two ∙ sym (append_assoc front back later))
+pub consumed_on : (before between after : Option (List ℕ)) (prefix back : List ℕ) → Consumes before between prefix → Consumes between after back
+    → Consumes before after (prefix ++ back)
+consumed_on None between after prefix back one two = tt
+consumed_on (Some bytes) None after prefix back one two = absurd one
+consumed_on (Some bytes) (Some rest) None prefix back one two = two
+consumed_on (Some bytes) (Some rest) (Some later) prefix back one two =
+    one ∙ (ap (λ (l : List ℕ). prefix ++ l) two ∙ sym (append_assoc prefix back later))
 
 -- no bytes
 pub consumed_none : (before : Option (List ℕ)) → Consumes before before []
@@ -87,8 +87,8 @@ pub consumed_more : (before between after : Option (List ℕ)) (line : List ℕ)
 consumed_more before between after line n byte within one two =
     subst (λ (l : List ℕ). Consumes before after l) (sym (take_more_set line n byte within)) (consumed_on before between after (take n line) (byte ∷ []) one two)
 
-pub length_one_more : (front : List ℕ) (byte n : ℕ) → length front ≡ n → length (front ++ byte ∷ []) ≡ n + 1
-length_one_more front byte n same = length-append front (byte ∷ []) ∙ ap (λ (k : ℕ). k + 1) same
+pub length_one_more : (prefix : List ℕ) (byte n : ℕ) → length prefix ≡ n → length (prefix ++ byte ∷ []) ≡ n + 1
+length_one_more prefix byte n same = length-append prefix (byte ∷ []) ∙ ap (λ (k : ℕ). k + 1) same
 
 -- one byte more than a line may have
 pub too_long : (before between after : Option (List ℕ)) (line : List ℕ) (byte : ℕ) → length line ≡ 128 → All (λ b. b ≢ 10) (take 128 line) → byte ≢ 10
@@ -115,4 +115,4 @@ pub source_read : (before after : Option (List ℕ)) (source : List ℕ) (count 
     → IfSome kept (λ bytes. bytes ≡ take 65537 source) → Between before after (λ b a. IsSource b count kept a)
 source_read None after source count kept one same it = tt
 source_read (Some bytes) None source count kept one same it = one
-source_read (Some bytes) (Some rest) source count kept one same it = record { source = source; front = one; count_is = same; kept_is = it }
+source_read (Some bytes) (Some rest) source count kept one same it = record { source = source; prefix = one; count_is = same; kept_is = it }

@@ -6,7 +6,7 @@ use Rattle.std.specs.Str.{bytes_eq}
 use Rattle.cc_script.specs.declared.command.Command.{Command}
 use Rattle.cc_script.specs.declared.command.Command.TheVariants as command
 
--- what a script asks for: a change with so many bytes of source behind its line, one without, or a look
+-- what a script asks for: a change with a number of bytes of source behind its line, one without, or a look
 pub data Asked : Type 0 where
   Add : (name : List ℕ) → (length : ℕ) → Asked
   Replace : (name : List ℕ) → (length : ℕ) → Asked
@@ -38,7 +38,7 @@ abbrev pub at_most : (limit : ℕ) → Option ℕ → Option ℕ
 at_most limit (Some n) = if nat_le n limit then Some n else None
 at_most limit None = None
 
--- the number of 1 to so many digits, not above the limit, that stands there
+-- the number of 1 to this many digits, not above the limit, that stands there
 abbrev pub number_in : (digits limit : ℕ) → List ℕ → Option ℕ
 number_in digits limit bytes = if nat_lt 0 (length bytes) && nat_le (length bytes) digits then at_most limit (number_from 0 bytes) else None
 

@@ -58,13 +58,13 @@ pub record IsLine (before line after : List ℕ) : Type 0 where
 -- what comes next: a line; the first 129 bytes of a longer one; the end
 abbrev pub IsNext : (before : List ℕ) → Next → (line after : List ℕ) → Type 0
 IsNext before (Line length) line after = IsLine before (take length line) after
-IsNext before TooLong line after = (front : List ℕ) × (before ≡ front ++ after) × (length front ≡ 129) × All (λ byte. byte ≢ 10) front
+IsNext before TooLong line after = (prefix : List ℕ) × (before ≡ prefix ++ after) × (length prefix ≡ 129) × All (λ byte. byte ≢ 10) prefix
 IsNext before End line after = before ≡ []
 
--- a source of so many bytes comes next, of which the first 65,537 are kept, where they are
+-- a source of this many bytes comes next, of which the first 65,537 are kept, where they are
 pub record IsSource (before : List ℕ) (count : ℕ) (kept : Option (List ℕ)) (after : List ℕ) : Type 0 where
   pub source : List ℕ
-  pub front : before ≡ source ++ after
+  pub prefix : before ≡ source ++ after
   pub count_is : length source ≡ count
   pub kept_is : IfSome kept (λ bytes. bytes ≡ take 65537 source)
 
@@ -73,7 +73,7 @@ abbrev pub IsLineEnd : (before : List ℕ) → Bool → (after : List ℕ) → T
 IsLineEnd before true after = IsLine before [] after
 IsLineEnd before false after = (byte : ℕ) × (byte ≢ 10) × (before ≡ byte ∷ after)
 
--- fewer bytes than so many are left
+-- fewer bytes than this many are left
 abbrev pub HasFewer : (before : Option (List ℕ)) → (count : ℕ) → Type 0
 HasFewer None count = Unit {0}
 HasFewer (Some before) count = length before < count

@@ -13,7 +13,7 @@ const MOST_LENGTH: u64 = 999_999;
 /// What a line of a script asks for.
 #[derive(Clone, Copy, Drop)]
 pub enum Command<'a> {
-    /// Add a unit by that name, compiled from so many bytes of source behind the line.
+    /// Add a unit by that name, compiled from `length` bytes of source behind the line.
     Add { name: &'a [u8], length: usize },
     /// Replace the unit by that name, in the same way.
     Replace { name: &'a [u8], length: usize },
@@ -21,7 +21,7 @@ pub enum Command<'a> {
     Withdraw { name: &'a [u8] },
     /// List the names of all units.
     List,
-    /// Run the unit by that name for at most so many instructions.
+    /// Run the unit by that name for at most `steps` instructions.
     Run { name: &'a [u8], steps: u64 },
     /// Write the library anew, with one record for each unit.
     Compact,
@@ -41,7 +41,7 @@ fn cut(line: &[u8]) -> (&[u8], Option<&[u8]>)
     (line, None)
 }
 
-// The number of 1 to so many digits, not above the limit, that stands there.
+// The number of 1 to `digits` digits, not above the limit, that stands there.
 fn number_in(bytes: &[u8], digits: usize, limit: u64) -> Option<u64>
     requires { digits ≤ 10 }
     ensures { result ≡ number_in digits limit bytes.now }

@@ -24,7 +24,7 @@ const KEPT_BYTES: usize = 65_537;
 /// What comes next in a script.
 #[derive(Clone, Copy, Drop)]
 pub enum Next {
-    /// A line of so many bytes, without its newline. One is there where the script ends behind at least one byte.
+    /// A line of this many bytes, without its newline. One is there where the script ends behind at least one byte.
     Line(usize),
     /// More bytes of a line than it may have. The rest of it is still to be skipped.
     TooLong,
@@ -155,7 +155,7 @@ impl Script {
         Ok(())
     }
 
-    /// The source of so many bytes that comes next: of one with more than 65,536 the first 65,537. None where there is no room
+    /// The source of this many bytes that comes next: of one with more than 65,536 the first 65,537. None where there is no room
     /// for it, and then too it is read.
     ///
     /// 51 where the script ends before it does, 52 and 53 as for a line.

@@ -23,11 +23,11 @@ begin_least byte area = omega arith
 
 -- ---- images of a disk with a range unsettled
 
-joined : (front back : List Cell) (x y : List ℕ) → IsImage front x → IsImage back y → IsImage (front ++ back) (x ++ y)
+joined : (prefix back : List Cell) (x y : List ℕ) → IsImage prefix x → IsImage back y → IsImage (prefix ++ back) (x ++ y)
 joined [] back [] y here there = there
 joined [] back (b ∷ x) y here there = absurd here
-joined (c ∷ front) back [] y here there = absurd here
-joined (c ∷ front) back (b ∷ x) y here there = (here.0, joined front back x y here.1 there)
+joined (c ∷ prefix) back [] y here there = absurd here
+joined (c ∷ prefix) back (b ∷ x) y here there = (here.0, joined prefix back x y here.1 there)
 
 any_image : (bytes image : List ℕ) → length image ≡ length bytes → IsImage (map unsettled bytes) image
 any_image [] [] long = tt
@@ -44,7 +44,7 @@ within_is_image cells offset bytes image fits differs =
     let n = length bytes in
     let f = λ (c : Cell). c.byte in
     let long : length image ≡ length cells = differs.size ∙ length-bytes cells in
-    let front : take offset image ≡ bytes_of (take offset cells) = differs.before ∙ take-map f offset cells in
+    let prefix : take offset image ≡ bytes_of (take offset cells) = differs.before ∙ take-map f offset cells in
     let behind : drop (offset + n) image ≡ bytes_of (drop (offset + n) cells) = differs.behind ∙ drop-map f (offset + n) cells in
     let middle : length (take n (drop offset image)) ≡ n = length-take-le n (drop offset image) (omega (arith, length-drop offset image, long)) in
     let parts : take offset image ++ (take n (drop offset image) ++ drop (offset + n) image) ≡ image =
@@ -52,7 +52,7 @@ within_is_image cells offset bytes image fits differs =
     ∙ ap (λ (l : List ℕ). take offset image ++ l) (take-append-drop n (drop offset image)) ∙ take-append-drop offset image in
     subst (λ (l : List ℕ). IsImage (written cells offset bytes) l) parts
     (joined (take offset cells) (map unsettled bytes ++ drop (offset + n) cells) (take offset image) (take n (drop offset image) ++ drop (offset + n) image)
-    (subst (λ (l : List ℕ). IsImage (take offset cells) l) (sym front) (bytes_are_image (take offset cells)))
+    (subst (λ (l : List ℕ). IsImage (take offset cells) l) (sym prefix) (bytes_are_image (take offset cells)))
     (joined (map unsettled bytes) (drop (offset + n) cells) (take n (drop offset image)) (drop (offset + n) image) (any_image bytes (take n (drop offset image)) middle)
     (subst (λ (l : List ℕ). IsImage (drop (offset + n) cells) l) (sym behind) (bytes_are_image (drop (offset + n) cells)))))
 
@@ -98,9 +98,9 @@ pub first_byte_kept : (c : Commit) (old new : List ℕ) → 1 ≤ c.offset → 1
 first_byte_kept c old new first last long done =
     let staged_long : length done.0 ≡ length (take c.offset old) + (length c.bytes + length (drop (c.offset + length c.bytes) old)) =
     ap length done.1 ∙ length-append (take c.offset old) (c.bytes ++ drop (c.offset + length c.bytes) old) ∙ ap (λ (k : ℕ). length (take c.offset old) + k) (length-append c.bytes (drop (c.offset + length c.bytes) old)) in
-    first_byte done.0 new (c.deciding_byte ∷ []) c.deciding_offset last (omega (arith, staged_long, front_some c.offset old first long)) done.2 ∙ first_byte old done.0 c.bytes c.offset first long done.1
+    first_byte done.0 new (c.deciding_byte ∷ []) c.deciding_offset last (omega (arith, staged_long, prefix_some c.offset old first long)) done.2 ∙ first_byte old done.0 c.bytes c.offset first long done.1
   where
-    front_some : (k : ℕ) (l : List ℕ) → 1 ≤ k → 1 ≤ length l → 1 ≤ length (take k l)
-    front_some zero l some long = absurd (omega (arith, some))
-    front_some (suc k) [] some long = absurd (omega (arith, long))
-    front_some (suc k) (x ∷ l) some long = omega arith
+    prefix_some : (k : ℕ) (l : List ℕ) → 1 ≤ k → 1 ≤ length l → 1 ≤ length (take k l)
+    prefix_some zero l some long = absurd (omega (arith, some))
+    prefix_some (suc k) [] some long = absurd (omega (arith, long))
+    prefix_some (suc k) (x ∷ l) some long = omega arith

@@ -35,7 +35,7 @@ apart clients own i j one other at at' same =
 pub own_numbers : (clients : List ClientView) → AreApart (holders clients) → HaveOwnNumbers clients
 own_numbers clients apart i j one other at at' same = apart i j one.holder other.holder (holder_at clients i one at) (holder_at clients j other at') same
 
--- these are not all: not so many, or not apart
+-- these are not all: not as many, or not apart
 pub not_all : (clients : List ClientView) (made : ℕ) → (length clients ≡ made → HaveOwnNumbers clients → ⊥) → (length (holders clients) ≢ made) ⊎ (¬ AreApart (holders clients))
 not_all clients made none = by (length clients == made) refl
   where

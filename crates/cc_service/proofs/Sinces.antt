@@ -29,11 +29,11 @@ module _ {D : Type 0} (moment : D → ℕ) (may_leave : D → List ℕ → Type 
   -- ---- what an image holds
 
   -- an image with the map that a shorter history left
-  of_front : (book : BookView D) (n : ℕ) (image : List ℕ) (front rest : List Entry) (base units : Units) → book.base ≡ base → book.history ≡ front ++ rest → units ≡ units_after base front → n ≤ length front → RecoversAlone image units → HoldsFrom book n image
-  of_front book n image front rest base units same is map few recovers =
-      let long = ap length is ∙ length-append front rest in
-      let cut : take (length front) book.history ≡ front = ap (take (length front)) is ∙ take-append-le (length front) front rest (omega arith) ∙ take_all (length front) front (omega arith) in
-      inl (length front, few, omega (arith, long), subst (λ (u : Units). RecoversAlone image u) (map ∙ (λ i. units_after (sym same i) (sym cut i))) recovers)
+  of_prefix : (book : BookView D) (n : ℕ) (image : List ℕ) (prefix rest : List Entry) (base units : Units) → book.base ≡ base → book.history ≡ prefix ++ rest → units ≡ units_after base prefix → n ≤ length prefix → RecoversAlone image units → HoldsFrom book n image
+  of_prefix book n image prefix rest base units same is map few recovers =
+      let long = ap length is ∙ length-append prefix rest in
+      let cut : take (length prefix) book.history ≡ prefix = ap (take (length prefix)) is ∙ take-append-le (length prefix) prefix rest (omega arith) ∙ take_all (length prefix) prefix (omega arith) in
+      inl (length prefix, few, omega (arith, long), subst (λ (u : Units). RecoversAlone image u) (map ∙ (λ i. units_after (sym same i) (sym cut i))) recovers)
 
   -- what held of a shorter history holds of a longer one
   still_holds : (before after_it : BookView D) (more : List Entry) (n : ℕ) (image : List ℕ) → after_it.base ≡ before.base → after_it.history ≡ before.history ++ more
@@ -48,8 +48,8 @@ module _ {D : Type 0} (moment : D → ℕ) (may_leave : D → List ℕ → Type 
 
   -- an image of the disk now
   holds_now : (book : BookView D) (image : List ℕ) (failed : List made.Command) → book.library.units ≡ units_after book.base book.history → book.failed ≡ failed → length failed ≤ 1 → RecoversTo book.library.units failed image → HoldsFrom book (length book.history) image
-  holds_now book image [] map is one recovers = of_front book (length book.history) image book.history [] book.base book.library.units refl (sym (nothing_behind book.history)) map (omega arith) recovers
-  holds_now book image (c ∷ []) map is one (inl recovers) = of_front book (length book.history) image book.history [] book.base book.library.units refl (sym (nothing_behind book.history)) map (omega arith) recovers
+  holds_now book image [] map is one recovers = of_prefix book (length book.history) image book.history [] book.base book.library.units refl (sym (nothing_behind book.history)) map (omega arith) recovers
+  holds_now book image (c ∷ []) map is one (inl recovers) = of_prefix book (length book.history) image book.history [] book.base book.library.units refl (sym (nothing_behind book.history)) map (omega arith) recovers
   holds_now book image (c ∷ []) map is one (inr recovers) = inr (c, is, recovers)
   holds_now book image (c ∷ d ∷ others) map is one recovers = absurd (omega (arith, one))
 
@@ -95,8 +95,8 @@ module _ {D : Type 0} (moment : D → ℕ) (may_leave : D → List ℕ → Type 
         let c = change_of command in
         written_since before after_it was (receipt.entry ∷ []) (RecoversOneOf before.library.units (after before.library.units c)) done.recorded.base done.recorded.history (idle done.asked.idle) (leaves done.asked.idle)
         (λ n image few recovers. elim recovers [
-          | inl old_map ↦ of_front after_it n image before.history (receipt.entry ∷ []) before.base before.library.units done.recorded.base done.recorded.history replays.units few old_map
-          | inr new_map ↦ of_front after_it n image after_it.history [] after_it.base after_it.library.units refl (sym (nothing_behind after_it.history)) replays_after.units
+          | inl old_map ↦ of_prefix after_it n image before.history (receipt.entry ∷ []) before.base before.library.units done.recorded.base done.recorded.history replays.units few old_map
+          | inr new_map ↦ of_prefix after_it n image after_it.history [] after_it.base after_it.library.units refl (sym (nothing_behind after_it.history)) replays_after.units
               (omega (arith, few, ap length done.recorded.history, length-append before.history (receipt.entry ∷ []))) (subst (λ (v : View D). RecoversAlone image v.units) (sym done.library) new_map)
         ]) since
     commit_since failures old new command (Err (Exists receipt)) refused leaves was since =
@@ -115,7 +115,7 @@ module _ {D : Type 0} (moment : D → ℕ) (may_leave : D → List ℕ → Type 
         let failed : after_it.failed ≡ c ∷ [] = ap (λ (b : BookView D). b.failed) same in
         written_since before after_it was [] (RecoversOneOf before.library.units (after before.library.units c)) base (history ∙ sym (nothing_behind before.history)) (idle asked.idle) (leaves asked.idle)
         (λ n image few recovers. elim recovers [
-          | inl old_map ↦ of_front after_it n image before.history [] before.base before.library.units base (history ∙ sym (nothing_behind before.history)) replays.units few old_map
+          | inl old_map ↦ of_prefix after_it n image before.history [] before.base before.library.units base (history ∙ sym (nothing_behind before.history)) replays.units few old_map
           | inr new_map ↦ inr (c, failed, subst (λ (u : Units). RecoversAlone image (after u c)) (sym units) new_map)
         ]) since
 
@@ -133,7 +133,7 @@ module _ {D : Type 0} (moment : D → ℕ) (may_leave : D → List ℕ → Type 
         → LeavesOnly moment left_since before.library.disk after_it.library.disk (λ image. RecoversAlone image before.library.units) → (was : BookView D) → Since before was → Since after_it was
     rewritten_since base history none leaves was since =
         written_since before after_it was [] (λ image. RecoversAlone image before.library.units) base (history ∙ sym (nothing_behind before.history)) none leaves
-        (λ n image few recovers. of_front after_it n image before.history [] before.base before.library.units base (history ∙ sym (nothing_behind before.history)) replays.units few recovers) since
+        (λ n image few recovers. of_prefix after_it n image before.history [] before.base before.library.units base (history ∙ sym (nothing_behind before.history)) replays.units few recovers) since
 
     pub compact_since : (failures : D → ℕ) (result : Result (Unit {0}) BookFault) → CompactAnswers failures before after_it result
         → (before.library.closed ≡ false → LeavesOnly moment left_since before.library.disk after_it.library.disk (λ image. RecoversAlone image before.library.units)) → (was : BookView D) → Since before was → Since after_it was

@@ -18,7 +18,7 @@ pub record IsBook {D : Type 0} (honest : Bool) (seen : D → List ℕ) (may_leav
   pub since : IsTrue honest → AreSince moment left_since b.book b.since
 
 -- What a crash leaves of a book's disk recovers, to the library of a prefix of the commands in commit order. These are some that led to
--- the base, then the changes of the history, then the one in which the device failed. The front holds each that was acknowledged: those of
+-- the base, then the changes of the history, then the one in which the device failed. The prefix holds each that was acknowledged: those of
 -- the base, and those of the history. Each unit in it is one that was found at the opening, or its image agrees with its source.
 pub record SurvivesCrash {D : Type 0} (book : BookView D) (image : List ℕ) : Type 0 where
   pub earlier : List made.Command

@@ -41,7 +41,7 @@ pub(crate) struct Left<N: Named> {
 }
 
 impl<N: Named> Left<N> {
-    // Of no client yet, with room for so many.
+    // Of no client yet, with room for this many.
     fn with_room(alloc: Global, clients: usize) -> Result<Left<N>, AllocError>
         ensures receipts { IfOk result (λ left. (left.receipts.items ≡ []) × (vec_len left.receipts ≡ 0) × (clients ≤ vec_capacity left.receipts)) }
         ensures passes { IfOk result (λ left. (vec_len left.passes ≡ 0) × (clients ≤ vec_capacity left.passes)) }
@@ -122,7 +122,7 @@ impl<N: Named, D: Disk> RecordedLibrary<N, D> {
         self.history.len() as u64
     }
 
-    // That it can be ended with these clients, so many as were made. Answers the room for what they leave, which is taken first.
+    // That it can be ended with these clients, as many as were made. Answers the room for what they leave, which is taken first.
     fn ready(&self, alloc: Global, made: u64, clients: &[Client<N>]) -> Result<Left<N>, BookFault>
         ensures receipts { IfOk result (λ left. (left.receipts.items ≡ []) × (vec_len left.receipts ≡ 0) × (length clients.now ≤ vec_capacity left.receipts)) }
         ensures passes { IfOk result (λ left. (vec_len left.passes ≡ 0) × (length clients.now ≤ vec_capacity left.passes)) }
@@ -203,7 +203,7 @@ impl<N: Named, D: Disk> RecordedLibrary<N, D> {
 }
 
 impl<N: Named, D: Disk> Book<N, D> {
-    // That it can be ended with these clients, so many as were made. Answers the room for what they leave, which is taken first.
+    // That it can be ended with these clients, as many as were made. Answers the room for what they leave, which is taken first.
     pub(crate) fn ready(
         &self,
         alloc: Global,
@@ -253,7 +253,7 @@ impl<N: Named, D: Disk> Book<N, D> {
     }
 }
 
-/// Ends a book with its clients, so many as were made, whose shares with the rest are the whole ledger. Their passes are let go.
+/// Ends a book with its clients, as many as were made, whose shares with the rest are the whole ledger. Their passes are let go.
 ///
 /// 39 for the first receipt that does not stand; 39 with the history's length and no entry where these are not all the clients that
 /// were made; 40 where memory ran out. All is handed back then.

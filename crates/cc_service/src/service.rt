@@ -35,15 +35,21 @@ use std::thread::Threads;
 ///
 /// Each call is made from the caller's own thread. A worker holds no lock, and parsing, checking, compiling and linking come before the
 /// book's lock is taken. No two locks are ever held together.
-#[derive(Drop)]
 pub struct Service<N: Named, D: Disk> {
     book: Mutex<Book<N, D>>,
     desk: Mutex<Desk<N>>,
     pool: Pool<N>,
 }
 
+// By hand, so that crates above call it and do not prove anew how each part is dropped.
+impl<N: Named, D: Disk + Drop> Drop for Service<N, D> {
+    fn drop(self) {
+        let Service { book, desk, pool } = self;
+    }
+}
+
 impl<N: Named + Send + Sync + 'static, D: Disk> Service<N, D> {
-    /// Opens the library on a disk, and starts so many workers, 1 to 8, which pass the gate before each piece.
+    /// Opens the library on a disk, and starts this many workers, 1 to 8, which pass the gate before each piece.
     ///
     /// Refusals, with the disk handed back: 35, 38, 37 and 40 as the library's opening has them; then 41 where a thread could not be
     /// started, or 40. None of the workers is left then. No refusal changes a byte.

@@ -68,12 +68,12 @@ pub asks_long : (line : List ℕ) → 128 < length line → asked_by_line line �
 asks_long line long = grind (arith, nat_tests)
 
 -- bytes of a line, and the rest of it
-pub line_behind : (before front between rest after : List ℕ) → before ≡ front ++ between → All (λ byte. byte ≢ 10) front → IsLine between rest after → IsLine before (front ++ rest) after
-line_behind before front between rest after is plain line = record {
-  plain = All-append (λ (byte : ℕ). byte ≢ 10) front rest plain line.plain;
+pub line_behind : (before prefix between rest after : List ℕ) → before ≡ prefix ++ between → All (λ byte. byte ≢ 10) prefix → IsLine between rest after → IsLine before (prefix ++ rest) after
+line_behind before prefix between rest after is plain line = record {
+  plain = All-append (λ (byte : ℕ). byte ≢ 10) prefix rest plain line.plain;
   ends = elim line.ends [
-    | inl newline ↦ inl (is ∙ (ap (λ (l : List ℕ). front ++ l) newline ∙ sym (append_assoc front rest (10 ∷ after))))
-    | inr over ↦ inr (is ∙ ap (λ (l : List ℕ). front ++ l) over.0, over.1)
+    | inl newline ↦ inl (is ∙ (ap (λ (l : List ℕ). prefix ++ l) newline ∙ sym (append_assoc prefix rest (10 ∷ after))))
+    | inr over ↦ inr (is ∙ ap (λ (l : List ℕ). prefix ++ l) over.0, over.1)
   ];
 }
 
@@ -111,11 +111,11 @@ plays_on before old (turn ∷ turns) between client after new it step = (it.0, p
 pub played : (script : List ℕ) (first : Holder) (turns : List Turn) (rest : List ℕ) (last : Holder) → Plays script first turns rest last → rest ≡ [] → IsPlayed script first last
 played script first turns rest last plays over = record { turns = turns; plays = subst (λ (l : List ℕ). Plays script first turns l last) over plays }
 
--- a front of it, and nothing of the next step
+-- a prefix of it, and nothing of the next step
 pub played_before : (script : List ℕ) (first : Holder) (turns : List Turn) (rest : List ℕ) (last : Holder) → Plays script first turns rest last → IsPlayedInPart script first last
 played_before script first turns rest last plays = record { turns = turns; rest = rest; client = last; plays = plays; then_is = inl refl }
 
--- a front of it, and perhaps the next step
+-- a prefix of it, and perhaps the next step
 pub played_up_to : (script : List ℕ) (first : Holder) (turns : List Turn) (rest : List ℕ) (client last : Holder) → Plays script first turns rest client
     → (last ≡ client) ⊎ ((after : List ℕ) × IsStep rest after client last) → IsPlayedInPart script first last
 played_up_to script first turns rest client last plays it = record { turns = turns; rest = rest; client = client; plays = plays; then_is = it }
@@ -137,7 +137,7 @@ skipped (Err e) Does x y z h P one two on = known x _ (λ b. inl refl)
 -- a source, and the end of its line behind it
 pub source_step : (b m a : List ℕ) (count : ℕ) (kept : List ℕ) → IsSource b count (Some kept) m → IsLine m [] a
     → (source : List ℕ) × (rest : List ℕ) × (b ≡ source ++ rest) × (length source ≡ count) × IsLine rest [] a × (kept ≡ take 65537 source)
-source_step b m a count kept read line = (read.source, m, read.front, read.count_is, line, read.kept_is)
+source_step b m a count kept read line = (read.source, m, read.prefix, read.count_is, line, read.kept_is)
 
 -- a script of which nothing has been read
 pub unread : (remaining : Option (List ℕ)) → rest_from [] false remaining ≡ remaining

@@ -21,7 +21,7 @@ put_step answer Asks name bytes sent same count x y z old new read rest called =
     (between_map x y (λ b a. HasSent b count (Source bytes) a) (λ b a. IsSent Asks name count b a old new) read (λ b a it. record {
       source = it.0;
       rest = it.1;
-      front = it.2;
+      prefix = it.2;
       count_is = it.3;
       called = inl (it.4, inl (subst (λ (k : List ℕ). Calls (PutAnswers (Asks name k) name k old new)) (same ∙ it.5) called));
     })))
@@ -34,7 +34,7 @@ skip_step answer Asks name count x y z h read skips =
     skipped answer (λ b a o n. IsSent Asks name count b a o n) x y z h (λ b a. HasSent b count Unended a) read skips (λ b m a it line. record {
       source = it.0;
       rest = it.1 ∷ m;
-      front = it.2;
+      prefix = it.2;
       count_is = it.3;
       called = inr (
         (it.1 ∷ []) ++ line.0,

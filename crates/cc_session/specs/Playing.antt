@@ -13,12 +13,12 @@ use Rattle.cc_service.specs.declared.fault.ServiceFault.{ServiceFault}
 abbrev pub Calls : (Answers : Result Receipt ServiceFault → Type 0) → Type 0
 Calls Answers = (answer : Result Receipt ServiceFault) × Answers answer
 
--- The source behind a line: so many bytes, then a newline or the end. The call takes them; of more than 65,536 it takes 65,537, which are
+-- The source behind a line: this many bytes, then a newline or the end. The call takes them; of more than 65,536 it takes 65,537, which are
 -- too many. Where there is no room for them, or where another byte follows, nothing is called; then the rest of that line is skipped.
 pub record IsSent (Asks : (name source : List ℕ) → Command → Type 0) (name : List ℕ) (count : ℕ) (before after : List ℕ) (old new : Holder) : Type 0 where
   pub source : List ℕ
   pub rest : List ℕ
-  pub front : before ≡ source ++ rest
+  pub prefix : before ≡ source ++ rest
   pub count_is : length source ≡ count
   pub called :
       (IsLine rest [] after × (Calls (PutAnswers (Asks name (take 65537 source)) name (take 65537 source) old new) ⊎ (new ≡ old)))

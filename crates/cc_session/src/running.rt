@@ -272,7 +272,7 @@ where
     }
 }
 
-/// Opens the library on a disk as a service with so many workers, 1 to 8, does the commands of a script by one client, and ends the
+/// Opens the library on a disk as a service with this many workers, 1 to 8, does the commands of a script by one client, and ends the
 /// service.
 ///
 /// The script comes from `reader`, each answer goes to `writer`, which is flushed behind it. A refusal writes its fault's line, and the

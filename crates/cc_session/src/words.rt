@@ -1,4 +1,4 @@
-// What a person is told of a fault besides its line.
+// What a person is told of a fault beside its line.
 
 use cc_diagnostic::{Diagnostic, of_syntax, of_typing};
 use cc_program::{of_piece, write_told};

@@ -1,25 +1,25 @@
--- A text has exactly one answer. That there is one: its tokens or its first flaw, and then the parser's own run over the
--- tokens (Verdict). That there is no other: tokens, flaw and tree are determined, and of two tokens that break the grammar
+-- A text has exactly one answer. That there is one: its tokens or its first error, and then the parser's own run over the
+-- tokens (Verdict). That there is no other: tokens, error and tree are determined, and of two tokens that break the grammar
 -- or a limit the earlier one is no later one's.
 use Rattle.std.proofs.Common.{◌≡◌, ◌<◌, ◌≤◌, ◌+◌, ◌⊎◌, inl, inr, ℕ, zero, suc, List, [], ◌∷◌, ◌++◌, length, take, drop, get_or, Option, Some, None, Result, Ok, Err, refl, sym, ap, subst, ◌∙◌, arith, append_assoc}
 use Rattle.std.proofs.lemmas.List.{map-append, take-append-drop, take_all}
 use Rattle.std.proofs.lemmas.Bool.{cases_lt, cases_order}
 use Rattle.std.proofs.Math.Seq.{take-suc}
-use Rattle.cc_tokens.specs.declared.flaw.Flaw.{Flaw}
-use Rattle.cc_tokens.specs.declared.flaw.Flaw.TheVariants.{BadByte, UnclosedComment, BadConstant, ConstantTooLarge}
+use Rattle.cc_tokens.specs.declared.lexical_error.LexicalError.{LexicalError}
+use Rattle.cc_tokens.specs.declared.lexical_error.LexicalError.TheVariants.{BadByte, UnclosedComment, BadConstant, ConstantTooLarge}
 use Rattle.cc_tokens.specs.declared.fault.SyntaxFault.{SyntaxFault}
 use Rattle.cc_tokens.specs.declared.fault.SyntaxFault.TheVariants as fault
 use Rattle.cc_tokens.specs.declared.token.TokenKind.TheVariants.{Identifier}
 use Rattle.cc_tokens.specs.Place.{place_of}
 use Rattle.cc_tokens.specs.Token.{Lexeme}
-use Rattle.cc_tokens.specs.Tokens.{IsTokens, FirstFlaw, IsFlawFault, flaw_fault}
+use Rattle.cc_tokens.specs.Tokens.{IsTokens, FirstLexicalError, IsLexicalFault, lexical_fault}
 use Rattle.cc_syntax.specs.Tree.{External}
 use Rattle.cc_syntax.specs.Grammar.{Measured, plain_tokens, Begins}
 use Rattle.cc_syntax.specs.Limits.{IsWithin, PassesLimit, SpellsWithin, UnexpectedAt, TooDeepAt, IsFineBefore}
 use Rattle.cc_syntax.specs.Parse.{place_at_token, IsParseAnswer, ParseAnswersAreOne, TextsHaveAnswers}
 use Rattle.cc_syntax.specs.internal.Parser.{State, start, step, standing, tree_of}
-use Rattle.cc_tokens.proofs.Cuts.{tokens_are_one, tokens_have_no_flaw, first_flaw_is_one}
-use Rattle.cc_tokens.proofs.Total.{tokens_or_flaw}
+use Rattle.cc_tokens.proofs.Cuts.{tokens_are_one, tokens_have_no_error, first_error_is_one}
+use Rattle.cc_tokens.proofs.Total.{tokens_or_error}
 use Rattle.cc_syntax.proofs.Verdict.{Reached, IsCutAt, at_start, reach, fine_before, unexpected, unexpected_end, too_deep, take-less, spelled_within, spelled_have_no_fault}
 use Rattle.cc_syntax.proofs.ReadsTokens.{unit_state}
 use Rattle.cc_syntax.proofs.Parsed.{same_tree}
@@ -44,14 +44,14 @@ record Broken (text : List ℕ) (f : SyntaxFault) : Type 0 where
 -- the three kinds of refusals
 data Kind (text : List ℕ) (f : SyntaxFault) : Type 0 where
   long : f ≡ fault.SourceTooLarge → 65536 < length text → Kind text f
-  flawed : IsFlawFault text f → Kind text f
+  erroneous : IsLexicalFault text f → Kind text f
   broken : Broken text f → Kind text f
 
 kind_of : (text : List ℕ) (f : SyntaxFault) → IsParseAnswer text (Err f) → Kind text f
-kind_of text (fault.BadByte p) h = flawed h
-kind_of text (fault.UnclosedComment p) h = flawed h
-kind_of text (fault.BadConstant p) h = flawed h
-kind_of text (fault.ConstantTooLarge p) h = flawed h
+kind_of text (fault.BadByte p) h = erroneous h
+kind_of text (fault.UnclosedComment p) h = erroneous h
+kind_of text (fault.BadConstant p) h = erroneous h
+kind_of text (fault.ConstantTooLarge p) h = erroneous h
 kind_of text (fault.Unexpected p) h =
     broken (record { fits = h.fits; tokens = h.tokens; are = h.are; number = h.number; before = h.before; here = inl (h.here, ap fault.Unexpected h.place) })
 kind_of text (fault.TooDeep p) h =
@@ -59,17 +59,17 @@ kind_of text (fault.TooDeep p) h =
 kind_of text fault.SourceTooLarge h = long refl h
 kind_of text fault.OutOfMemory h = absurd h
 
-flaw_one : (text : List ℕ) (e f : SyntaxFault) → IsFlawFault text e → IsFlawFault text f → e ≡ f
-flaw_one text e f h k =
-    let same = first_flaw_is_one text h.flaw k.flaw h.at k.at h.first k.first in
-    h.is ∙ ap (λ x. flaw_fault x (place_of text h.at)) same.0 ∙ ap (λ i. flaw_fault k.flaw (place_of text i)) same.1 ∙ sym k.is
+error_one : (text : List ℕ) (e f : SyntaxFault) → IsLexicalFault text e → IsLexicalFault text f → e ≡ f
+error_one text e f h k =
+    let same = first_error_is_one text h.error k.error h.at k.at h.first k.first in
+    h.is ∙ ap (λ x. lexical_fault x (place_of text h.at)) same.0 ∙ ap (λ i. lexical_fault k.error (place_of text i)) same.1 ∙ sym k.is
 
 plain_append : (a b : List Measured) → plain_tokens (a ++ b) ≡ plain_tokens a ++ plain_tokens b
 plain_append a b = map-append (λ (p : Measured). p.token) a b
 
 -- what begins with the first m tokens begins with the first n of them
-begins_front : (tokens : List Lexeme) (n m : ℕ) → n ≤ m → Begins (take m tokens) → Begins (take n tokens)
-begins_front tokens n m h b =
+begins_prefix : (tokens : List Lexeme) (n m : ℕ) → n ≤ m → Begins (take m tokens) → Begins (take n tokens)
+begins_prefix tokens n m h b =
     let cut : take m tokens ≡ take n tokens ++ drop n (take m tokens) =
     sym (take-append-drop n (take m tokens)) ∙ ap (λ (z : List Lexeme). z ++ drop n (take m tokens)) (take-less n m tokens h) in (
       drop n (take m tokens) ++ b.0,
@@ -97,7 +97,7 @@ refused_within text tokens k f (inr (d, e)) = let inside = d.4 in omega arith
 
 -- no token that is refused stands before one up to which all is fine
 not_before : (text : List ℕ) (tokens : List Lexeme) (k j : ℕ) (f : SyntaxFault) → k < j → j ≤ length tokens → RefusedAt text tokens k f → IsFineBefore tokens j → ⊥
-not_before text tokens k j f h i (inl (inl u, e)) fine = u.1 (begins_front tokens (suc k) j (omega (arith, h)) fine.0)
+not_before text tokens k j f h i (inl (inl u, e)) fine = u.1 (begins_prefix tokens (suc k) j (omega (arith, h)) fine.0)
 not_before text tokens k j f h i (inl (inr u, e)) fine = let end = u.0 in omega arith
 not_before text tokens k j f h i (inr (d, e)) fine = fine.1 k h d
 
@@ -124,19 +124,19 @@ broken_one text f g b c =
 
 kinds_one : (text : List ℕ) (f g : SyntaxFault) → Kind text f → Kind text g → f ≡ g
 kinds_one text f g (long e h) (long i k) = e ∙ sym i
-kinds_one text f g (long e h) (flawed k) = let fits = k.fits in absurd (omega arith)
+kinds_one text f g (long e h) (erroneous k) = let fits = k.fits in absurd (omega arith)
 kinds_one text f g (long e h) (broken k) = let fits = k.fits in absurd (omega arith)
-kinds_one text f g (flawed h) (long i k) = let fits = h.fits in absurd (omega arith)
-kinds_one text f g (flawed h) (flawed k) = flaw_one text f g h k
-kinds_one text f g (flawed h) (broken k) = absurd (tokens_have_no_flaw text k.tokens h.flaw h.at k.are h.first)
+kinds_one text f g (erroneous h) (long i k) = let fits = h.fits in absurd (omega arith)
+kinds_one text f g (erroneous h) (erroneous k) = error_one text f g h k
+kinds_one text f g (erroneous h) (broken k) = absurd (tokens_have_no_error text k.tokens h.error h.at k.are h.first)
 kinds_one text f g (broken h) (long i k) = let fits = h.fits in absurd (omega arith)
-kinds_one text f g (broken h) (flawed k) = absurd (tokens_have_no_flaw text h.tokens k.flaw k.at h.are k.first)
+kinds_one text f g (broken h) (erroneous k) = absurd (tokens_have_no_error text h.tokens k.error k.at h.are k.first)
 kinds_one text f g (broken h) (broken k) = broken_one text f g h k
 
 -- a text that spells a tree has no refusal
 not_refused : (text : List ℕ) (tree : List External) (f : SyntaxFault) → IsParseAnswer text (Ok tree) → Kind text f → ⊥
 not_refused text tree f s (long e h) = let fits = s.0 in omega arith
-not_refused text tree f s (flawed h) = tokens_have_no_flaw text s.1.tokens h.flaw h.at s.1.are h.first
+not_refused text tree f s (erroneous h) = tokens_have_no_error text s.1.tokens h.error h.at s.1.are h.first
 not_refused text tree f s (broken b) =
     let same = tokens_are_one text s.1.tokens b.tokens s.1.are b.are in
     let none = spelled_have_no_fault b.tokens tree b.number (subst (λ (ts : List Lexeme). SpellsWithin ts tree) same s.1.spelled) in
@@ -153,12 +153,12 @@ answers_are_one text (Err e) (Err f) h k = ap Err (kinds_one text e f (kind_of t
 Answers : List ℕ → Type 0
 Answers text = (a : Result (List External) SyntaxFault) × IsParseAnswer text a
 
-flaw_answers : (text : List ℕ) (flaw : Flaw) (at : ℕ) → length text ≤ 65536 → FirstFlaw text flaw at → Answers text
+error_answers : (text : List ℕ) (error : LexicalError) (at : ℕ) → length text ≤ 65536 → FirstLexicalError text error at → Answers text
 unfolding Answers
-flaw_answers text BadByte at fits first = (Err (fault.BadByte (place_of text at)), record { fits = fits; flaw = BadByte; at = at; first = first; is = refl })
-flaw_answers text UnclosedComment at fits first = (Err (fault.UnclosedComment (place_of text at)), record { fits = fits; flaw = UnclosedComment; at = at; first = first; is = refl })
-flaw_answers text BadConstant at fits first = (Err (fault.BadConstant (place_of text at)), record { fits = fits; flaw = BadConstant; at = at; first = first; is = refl })
-flaw_answers text ConstantTooLarge at fits first = (Err (fault.ConstantTooLarge (place_of text at)), record { fits = fits; flaw = ConstantTooLarge; at = at; first = first; is = refl })
+error_answers text BadByte at fits first = (Err (fault.BadByte (place_of text at)), record { fits = fits; error = BadByte; at = at; first = first; is = refl })
+error_answers text UnclosedComment at fits first = (Err (fault.UnclosedComment (place_of text at)), record { fits = fits; error = UnclosedComment; at = at; first = first; is = refl })
+error_answers text BadConstant at fits first = (Err (fault.BadConstant (place_of text at)), record { fits = fits; error = BadConstant; at = at; first = first; is = refl })
+error_answers text ConstantTooLarge at fits first = (Err (fault.ConstantTooLarge (place_of text at)), record { fits = fits; error = ConstantTooLarge; at = at; first = first; is = refl })
 
 module _ (text : List ℕ) (tokens : List Lexeme) (fits : length text ≤ 65536) (are : IsTokens text tokens) where
   unexpected_answers : (k : ℕ) → IsFineBefore tokens k → UnexpectedAt tokens k → Answers text
@@ -222,10 +222,10 @@ pub texts_have_answers : TextsHaveAnswers
 unfolding Answers
 texts_have_answers text = by (cases_lt 65536 (length text))
   where
-    by_tokens : length text ≤ 65536 → ((ts : List Lexeme) × IsTokens text ts) ⊎ ((flaw : Flaw) × (at : ℕ) × FirstFlaw text flaw at) → Answers text
+    by_tokens : length text ≤ 65536 → ((ts : List Lexeme) × IsTokens text ts) ⊎ ((error : LexicalError) × (at : ℕ) × FirstLexicalError text error at) → Answers text
     by_tokens fits (inl t) = from text t.0 fits t.1 (length t.0) 0 start (omega arith) at_start
-    by_tokens fits (inr f) = flaw_answers text f.0 f.1 fits f.2
+    by_tokens fits (inr f) = error_answers text f.0 f.1 fits f.2
 
     by : (65536 < length text) ⊎ (length text ≤ 65536) → Answers text
     by (inl past) = (Err fault.SourceTooLarge, past)
-    by (inr fits) = by_tokens fits (tokens_or_flaw text)
+    by (inr fits) = by_tokens fits (tokens_or_error text)

@@ -25,19 +25,19 @@ starts-more (OfObject es n p) (y ∷ ys) x h = h
 pub pushed : (c : Context) (ws us : List Waiting) (k : ℕ) (p q : Phase) (ts : List Measured) (x : Lexeme) → (h : FullSoFar c ws k p ts) → PhaseSoFar q us (h.xs ++ x ∷ []) → FullSoFar c us (suc k) q (ts ++ record { token = x; count = suc k; level = 0 } ∷ [])
 pushed c ws us k p q ts x h s =
     let y : Measured = record { token = x; count = suc k; level = 0 } in
-    let old = full (h.front ++ h.xs) in
-    let lexemes : h.front ++ (h.xs ++ x ∷ []) ≡ (h.front ++ h.xs) ++ x ∷ [] = sym (append_assoc h.front h.xs (x ∷ [])) in
-    let tokens : full (h.front ++ (h.xs ++ x ∷ [])) ≡ old ++ y ∷ [] =
-    ap (λ (z : List Lexeme). full z) lexemes ∙ full_after-append 0 (h.front ++ h.xs) (x ∷ [])
+    let old = full (h.prefix ++ h.xs) in
+    let lexemes : h.prefix ++ (h.xs ++ x ∷ []) ≡ (h.prefix ++ h.xs) ++ x ∷ [] = sym (append_assoc h.prefix h.xs (x ∷ [])) in
+    let tokens : full (h.prefix ++ (h.xs ++ x ∷ [])) ≡ old ++ y ∷ [] =
+    ap (λ (z : List Lexeme). full z) lexemes ∙ full_after-append 0 (h.prefix ++ h.xs) (x ∷ [])
     ∙ ap (λ (j : ℕ). old ++ record { token = x; count = suc j; level = 0 } ∷ []) (sym h.counted) in
     let lead : leads_of c (old ++ y ∷ []) ≡ leads_of c old ++ y ∷ [] = h.joins (y ∷ []) in
     record {
       before = h.before;
-      front = h.front;
+      prefix = h.prefix;
       xs = h.xs ++ x ∷ [];
       context = h.context;
       phase = s;
-      counted = ap (λ (j : ℕ). suc j) h.counted ∙ sym (count_after-append 0 (h.front ++ h.xs) (x ∷ [])) ∙ ap (λ (z : List Lexeme). count_after 0 z) (sym lexemes);
+      counted = ap (λ (j : ℕ). suc j) h.counted ∙ sym (count_after-append 0 (h.prefix ++ h.xs) (x ∷ [])) ∙ ap (λ (z : List Lexeme). count_after 0 z) (sym lexemes);
       starts = starts-more c h.xs x h.starts;
       joins = λ qs.
           ap (λ (z : List Measured). leads_of c (z ++ qs)) tokens ∙ ap (λ (z : List Measured). leads_of c z) (append_assoc old (y ∷ []) qs) ∙ h.joins (y ∷ qs)

@@ -59,12 +59,12 @@ kept-declared w b t ds v i initial before mine ts x behind h k n s same e =
     finish AsHeader inner start d g = (before, start ++ inner, k, d, g)
 
 -- the tokens of a full expression with one more
-pub pushed-tokens : (c : Context) (ws : List Waiting) (k : ℕ) (p : Phase) (ts : List Measured) (x : Lexeme) → (h : FullSoFar c ws k p ts) → ts ++ record { token = x; count = suc k; level = 0 } ∷ [] ≡ h.before ++ leads_of c (full (h.front ++ (h.xs ++ x ∷ [])))
+pub pushed-tokens : (c : Context) (ws : List Waiting) (k : ℕ) (p : Phase) (ts : List Measured) (x : Lexeme) → (h : FullSoFar c ws k p ts) → ts ++ record { token = x; count = suc k; level = 0 } ∷ [] ≡ h.before ++ leads_of c (full (h.prefix ++ (h.xs ++ x ∷ [])))
 pushed-tokens c ws k p ts x h =
     let y : Measured = record { token = x; count = suc k; level = 0 } in
-    let old = full (h.front ++ h.xs) in
-    let tokens : full (h.front ++ (h.xs ++ x ∷ [])) ≡ old ++ y ∷ [] =
-    ap (λ (z : List Lexeme). full z) (sym (append_assoc h.front h.xs (x ∷ []))) ∙ full_after-append 0 (h.front ++ h.xs) (x ∷ [])
+    let old = full (h.prefix ++ h.xs) in
+    let tokens : full (h.prefix ++ (h.xs ++ x ∷ [])) ≡ old ++ y ∷ [] =
+    ap (λ (z : List Lexeme). full z) (sym (append_assoc h.prefix h.xs (x ∷ []))) ∙ full_after-append 0 (h.prefix ++ h.xs) (x ∷ [])
     ∙ ap (λ (j : ℕ). old ++ record { token = x; count = suc j; level = 0 } ∷ []) (sym h.counted) in
     regrouped ts h.before (leads_of c old) (y ∷ []) h.whole ∙ ap (λ (z : List Measured). h.before ++ z) (sym (h.joins (y ∷ []))) ∙ ap (λ (z : List Measured). h.before ++ leads_of c z) (sym tokens)
 
@@ -91,9 +91,9 @@ pub kept-end : (p : Purpose) (r : Role) (b : Inside) (ws : List Waiting) (n : �
 kept-end (ToPerform s) r b ws n q e ts x h f k =
     let c = f.context in
     let u = c.3 in
-    let plain : f.front ++ f.xs ≡ f.xs = ap (λ (z : List Lexeme). z ++ f.xs) u.0 in
+    let plain : f.prefix ++ f.xs ≡ f.xs = ap (λ (z : List Lexeme). z ++ f.xs) u.0 in
     let tokens : ts ++ outside x ∷ [] ≡ c.0 ++ (c.1 ++ leads s b.opened (full f.xs ++ outside x ∷ [])) =
-    regrouped ts f.before (leads s b.opened (full (f.front ++ f.xs))) (outside x ∷ []) f.whole
+    regrouped ts f.before (leads s b.opened (full (f.prefix ++ f.xs))) (outside x ∷ []) f.whole
     ∙ ap (λ (z : List Measured). f.before ++ z) (sym (f.joins (outside x ∷ [])))
     ∙ ap (λ (z : List Lexeme). f.before ++ leads s b.opened (full z ++ outside x ∷ [])) plain
     ∙ regrouped f.before c.0 c.1 (leads s b.opened (full f.xs ++ outside x ∷ [])) c.4 in
@@ -101,7 +101,7 @@ kept-end (ToPerform s) r b ws n q e ts x h f k =
 kept-end (ToAssign op t s) r b ws n q e ts x h f k =
     let c = f.context in
     let u = c.3 in
-    let ys = f.front ++ f.xs in
+    let ys = f.prefix ++ f.xs in
     let action : ys ≡ u.0 ++ u.1 ∷ f.xs = ap (λ (z : List Lexeme). z ++ f.xs) u.5 ∙ append_assoc u.0 (u.1 ∷ []) f.xs in
     let tokens : ts ++ outside x ∷ [] ≡ c.0 ++ (c.1 ++ leads s b.opened (full ys ++ outside x ∷ [])) =
     regrouped ts f.before (leads s b.opened (full ys)) (outside x ∷ []) f.whole
@@ -111,9 +111,9 @@ kept-end (ToAssign op t s) r b ws n q e ts x h f k =
 kept-end (ToReturn at) role.Semicolon b ws n q e ts x h f k =
     let c = f.context in
     let u = c.3 in
-    let plain : f.front ++ f.xs ≡ f.xs = ap (λ (z : List Lexeme). z ++ f.xs) u.0 in
+    let plain : f.prefix ++ f.xs ≡ f.xs = ap (λ (z : List Lexeme). z ++ f.xs) u.0 in
     let tokens : ts ++ outside x ∷ [] ≡ c.0 ++ (c.1 ++ (full f.xs ++ outside x ∷ [])) =
-    regrouped ts f.before (full (f.front ++ f.xs)) (outside x ∷ []) f.whole ∙ ap (λ (z : List Lexeme). f.before ++ (full z ++ outside x ∷ [])) plain
+    regrouped ts f.before (full (f.prefix ++ f.xs)) (outside x ∷ []) f.whole ∙ ap (λ (z : List Lexeme). f.before ++ (full z ++ outside x ∷ [])) plain
     ∙ regrouped f.before c.0 c.1 (full f.xs ++ outside x ∷ []) c.4 in
     kept-settle b (Return at (Some e)) c.0 (c.1 ++ (full f.xs ++ outside x ∷ [])) ts x 0 c.2 (u.1 (full f.xs) (Some e) x (f.xs, k, refl) h) (can b.opened) tt tokens
   where
@@ -122,29 +122,29 @@ kept-end (ToReturn at) role.Semicolon b ws n q e ts x h f k =
 kept-end (ToTest t) role.CloseParenthesis b ws n q e ts x h f k =
     let c = f.context in
     let u = c.3 in
-    let plain : f.front ++ f.xs ≡ f.xs = ap (λ (z : List Lexeme). z ++ f.xs) u.0 in
+    let plain : f.prefix ++ f.xs ≡ f.xs = ap (λ (z : List Lexeme). z ++ f.xs) u.0 in
     let tokens : ts ++ outside x ∷ [] ≡ c.0 ++ (c.1 ++ (full f.xs ++ outside x ∷ [])) =
-    regrouped ts f.before (full (f.front ++ f.xs)) (outside x ∷ []) f.whole ∙ ap (λ (z : List Lexeme). f.before ++ (full z ++ outside x ∷ [])) plain
+    regrouped ts f.before (full (f.prefix ++ f.xs)) (outside x ∷ []) f.whole ∙ ap (λ (z : List Lexeme). f.before ++ (full z ++ outside x ∷ [])) plain
     ∙ regrouped f.before c.0 c.1 (full f.xs ++ outside x ∷ []) c.4 in
     kept-tested t b e c.0 (c.1 ++ (full f.xs ++ outside x ∷ [])) ts x c.2 (u.1 f.xs e x k h) tokens
 kept-end (ToGoOn a) role.Semicolon b ws n q e ts x h f k =
     let c = f.context in
     let u = c.3 in
-    let plain : f.front ++ f.xs ≡ f.xs = ap (λ (z : List Lexeme). z ++ f.xs) u.0 in
+    let plain : f.prefix ++ f.xs ≡ f.xs = ap (λ (z : List Lexeme). z ++ f.xs) u.0 in
     let tokens : ts ++ outside x ∷ [] ≡ c.0 ++ (c.1 ++ (full f.xs ++ outside x ∷ [])) =
-    regrouped ts f.before (full (f.front ++ f.xs)) (outside x ∷ []) f.whole ∙ ap (λ (z : List Lexeme). f.before ++ (full z ++ outside x ∷ [])) plain
+    regrouped ts f.before (full (f.prefix ++ f.xs)) (outside x ∷ []) f.whole ∙ ap (λ (z : List Lexeme). f.before ++ (full z ++ outside x ∷ [])) plain
     ∙ regrouped f.before c.0 c.1 (full f.xs ++ outside x ∷ []) c.4 in
     (c.0, c.1 ++ (full f.xs ++ outside x ∷ []), c.2, u.1 (full f.xs) (Some e) x (f.xs, k, refl) h, tokens)
 kept-end (ToStep op v s) role.CloseBracket b ws n q e ts x h f k =
     let c = f.context in
     let u = c.3 in
     let ys : List Lexeme = identifier v ∷ u.1 ∷ f.xs ++ x ∷ [] in
-    let lexemes : (f.front ++ f.xs) ++ x ∷ [] ≡ u.0 ∷ ys = ap (λ (z : List Lexeme). (z ++ f.xs) ++ x ∷ []) u.5 in
+    let lexemes : (f.prefix ++ f.xs) ++ x ∷ [] ≡ u.0 ∷ ys = ap (λ (z : List Lexeme). (z ++ f.xs) ++ x ∷ []) u.5 in
     let count : suc n ≡ count_after 0 (u.0 ∷ ys) =
-    ap (λ (j : ℕ). suc j) f.counted ∙ sym (count_after-append 0 (f.front ++ f.xs) (x ∷ [])) ∙ ap (λ (z : List Lexeme). count_after 0 z) lexemes in
+    ap (λ (j : ℕ). suc j) f.counted ∙ sym (count_after-append 0 (f.prefix ++ f.xs) (x ∷ [])) ∙ ap (λ (z : List Lexeme). count_after 0 z) lexemes in
     let tokens : ts ++ record { token = x; count = suc n; level = 0 } ∷ [] ≡ c.0 ++ (c.1 ++ leads s b.opened (full (u.0 ∷ ys))) =
     pushed-tokens (OfBody b (ToStep op v s)) ws n q ts x f
-    ∙ ap (λ (z : List Lexeme). f.before ++ leads s b.opened (full z)) (sym (append_assoc f.front f.xs (x ∷ [])) ∙ lexemes)
+    ∙ ap (λ (z : List Lexeme). f.before ++ leads s b.opened (full z)) (sym (append_assoc f.prefix f.xs (x ∷ [])) ∙ lexemes)
     ∙ regrouped f.before c.0 c.1 (leads s b.opened (full (u.0 ∷ ys))) c.4 in (
       c.0,
       c.1 ++ leads s b.opened (full (u.0 ∷ ys)),
@@ -155,19 +155,19 @@ kept-end (ToStep op v s) role.CloseBracket b ws n q e ts x h f k =
 kept-end (ToInitialise w t ds v) role.Comma b ws n q e ts x h f k =
     let c = f.context in
     let u = c.3 in
-    let plain : f.front ++ f.xs ≡ f.xs = ap (λ (z : List Lexeme). z ++ f.xs) u.2 in
+    let plain : f.prefix ++ f.xs ≡ f.xs = ap (λ (z : List Lexeme). z ++ f.xs) u.2 in
     let value = full f.xs in
     let tokens : ts ++ outside x ∷ [] ≡ c.0 ++ ((c.1 ++ value) ++ outside x ∷ []) =
-    regrouped ts f.before (full (f.front ++ f.xs)) (outside x ∷ []) f.whole ∙ ap (λ (z : List Lexeme). f.before ++ (full z ++ outside x ∷ [])) plain
+    regrouped ts f.before (full (f.prefix ++ f.xs)) (outside x ∷ []) f.whole ∙ ap (λ (z : List Lexeme). f.before ++ (full z ++ outside x ∷ [])) plain
     ∙ regrouped f.before c.0 c.1 (value ++ outside x ∷ []) c.4 ∙ ap (λ (z : List Measured). c.0 ++ z) (sym (append_assoc c.1 value (outside x ∷ []))) in
     (c.0, (c.1 ++ value) ++ outside x ∷ [], c.2, next-declared w t ds b.opened (c.1 ++ value) v (Some e) (outside u.0 ∷ value) x h (u.0, f.xs, u.1, k, refl) (valued w t ds b.opened c.1 v u.0 value u.3), tokens)
 kept-end (ToInitialise w t ds v) role.Semicolon b ws n q e ts x h f k =
     let c = f.context in
     let u = c.3 in
-    let plain : f.front ++ f.xs ≡ f.xs = ap (λ (z : List Lexeme). z ++ f.xs) u.2 in
+    let plain : f.prefix ++ f.xs ≡ f.xs = ap (λ (z : List Lexeme). z ++ f.xs) u.2 in
     let value = full f.xs in
     let tokens : ts ++ outside x ∷ [] ≡ c.0 ++ ((c.1 ++ value) ++ outside x ∷ []) =
-    regrouped ts f.before (full (f.front ++ f.xs)) (outside x ∷ []) f.whole ∙ ap (λ (z : List Lexeme). f.before ++ (full z ++ outside x ∷ [])) plain
+    regrouped ts f.before (full (f.prefix ++ f.xs)) (outside x ∷ []) f.whole ∙ ap (λ (z : List Lexeme). f.before ++ (full z ++ outside x ∷ [])) plain
     ∙ regrouped f.before c.0 c.1 (value ++ outside x ∷ []) c.4 ∙ ap (λ (z : List Measured). c.0 ++ z) (sym (append_assoc c.1 value (outside x ∷ []))) in
     kept-declared w b t ds v (Some e) (outside u.0 ∷ value) c.0 (c.1 ++ value) ts x (outside (identifier v) ∷ outside u.0 ∷ value) h c.2 (valued w t ds b.opened c.1 v u.0 value u.3) (u.0, f.xs, u.1, k, refl) refl tokens
 kept-end _ _ b ws n q e ts x h f k = tt

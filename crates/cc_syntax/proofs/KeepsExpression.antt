@@ -51,8 +51,8 @@ pub record Reduces (level : ℕ) (xs : List Lexeme) (r : Expr × List Waiting) :
   pub room : Room level r.1
 
 -- the tokens of what waits and of its operand are those before, and after them those of both
-regrouped : (xs front part rest more : List Lexeme) → xs ≡ front ++ part → front ≡ rest ++ more → xs ≡ rest ++ (more ++ part)
-regrouped xs front part rest more h k = h ∙ ap (λ (z : List Lexeme). z ++ part) k ∙ append_assoc rest more part
+regrouped : (xs prefix part rest more : List Lexeme) → xs ≡ prefix ++ part → prefix ≡ rest ++ more → xs ≡ rest ++ (more ++ part)
+regrouped xs prefix part rest more h k = h ∙ ap (λ (z : List Lexeme). z ++ part) k ∙ append_assoc rest more part
 
 pub reduces : (ws : List Waiting) (e : Expr) (xs : List Lexeme) (q : ℕ) → 1 ≤ q → q ≤ 12 → Holds ws e xs q → Reduces q xs (reduced q ws e)
 reduces [] e xs q low high h = record { holds = h; room = low }
@@ -67,28 +67,28 @@ reduces (Then c ∷ ws) e xs q low high h =
 reduces (Prefix op ∷ ws) e xs q low high h =
     let w = h.waits in
     let more : Holds ws (Unary op e) xs q = record {
-      front = w.0;
+      prefix = w.0;
       part = w.1 ∷ h.part;
       level = 12;
       waits = w.2;
       spelled = (w.1, h.part, w.3, spells-looser e h.level 12 h.part h.room h.spelled, refl);
       room = room-most ws;
       tight = high;
-      whole = regrouped xs h.front h.part w.0 (w.1 ∷ []) h.whole w.4;
+      whole = regrouped xs h.prefix h.part w.0 (w.1 ∷ []) h.whole w.4;
     } in
     subst (λ (r : Expr × List Waiting). Reduces q xs r) (sym (pops q 12 _ _ high)) (reduces ws (Unary op e) xs q low high more)
 reduces (Casting t ∷ ws) e xs q low high h =
     let w = h.waits in
     let grouped : (w.2 ∷ w.1 ++ w.3 ∷ []) ++ h.part ≡ w.2 ∷ (w.1 ++ w.3 ∷ h.part) = ap (λ (z : List Lexeme). w.2 ∷ z) (append_assoc w.1 (w.3 ∷ []) h.part) in
     let more : Holds ws (Cast t e) xs q = record {
-      front = w.0;
+      prefix = w.0;
       part = w.2 ∷ w.1 ++ w.3 ∷ h.part;
       level = 12;
       waits = w.4;
       spelled = (w.2, w.3, w.1, h.part, w.5, w.6, w.7, spells-looser e h.level 12 h.part h.room h.spelled, refl);
       room = room-most ws;
       tight = high;
-      whole = regrouped xs h.front h.part w.0 (w.2 ∷ w.1 ++ w.3 ∷ []) h.whole w.8 ∙ ap (λ (z : List Lexeme). w.0 ++ z) grouped;
+      whole = regrouped xs h.prefix h.part w.0 (w.2 ∷ w.1 ++ w.3 ∷ []) h.whole w.8 ∙ ap (λ (z : List Lexeme). w.0 ++ z) grouped;
     } in
     subst (λ (r : Expr × List Waiting). Reduces q xs r) (sym (pops q 12 _ _ high)) (reduces ws (Cast t e) xs q low high more)
 reduces (Infix op a ∷ ws) e xs q low high h =
@@ -97,14 +97,14 @@ reduces (Infix op a ∷ ws) e xs q low high h =
       | inl t ↦
           let grouped : (w.1 ++ w.2 ∷ []) ++ h.part ≡ w.1 ++ w.2 ∷ h.part = append_assoc w.1 (w.2 ∷ []) h.part in
           let more : Holds ws (Binary op a e) xs q = record {
-            front = w.0;
+            prefix = w.0;
             part = w.1 ++ w.2 ∷ h.part;
             level = precedence op;
             waits = w.3;
             spelled = (w.2, w.1, h.part, omega arith, w.6, w.4, spells-looser e h.level (suc (precedence op)) h.part h.room h.spelled, refl);
             room = w.5;
             tight = t.1;
-            whole = regrouped xs h.front h.part w.0 (w.1 ++ w.2 ∷ []) h.whole w.7 ∙ ap (λ (z : List Lexeme). w.0 ++ z) grouped;
+            whole = regrouped xs h.prefix h.part w.0 (w.1 ++ w.2 ∷ []) h.whole w.7 ∙ ap (λ (z : List Lexeme). w.0 ++ z) grouped;
           } in
           subst (λ (r : Expr × List Waiting). Reduces q xs r) (sym (pops q (precedence op) _ _ t.1)) (reduces ws (Binary op a e) xs q low high more)
       | inr t ↦
@@ -118,14 +118,14 @@ reduces (Otherwise c a ∷ ws) e xs q low high h =
           let grouped : (w.1 ++ (w.3 ∷ w.2 ++ w.4 ∷ [])) ++ h.part ≡ w.1 ++ (w.3 ∷ w.2 ++ w.4 ∷ h.part) =
           append_assoc w.1 (w.3 ∷ w.2 ++ w.4 ∷ []) h.part ∙ ap (λ (z : List Lexeme). w.1 ++ z) inner in
           let more : Holds ws (Conditional c a e) xs q = record {
-            front = w.0;
+            prefix = w.0;
             part = w.1 ++ (w.3 ∷ w.2 ++ w.4 ∷ h.part);
             level = 1;
             waits = w.5;
             spelled = (w.3, w.4, w.1, w.2, h.part, omega arith, w.9, w.10, w.6, w.7, spells-looser e h.level 1 h.part h.room h.spelled, refl);
             room = w.8;
             tight = t.1;
-            whole = regrouped xs h.front h.part w.0 (w.1 ++ (w.3 ∷ w.2 ++ w.4 ∷ [])) h.whole w.11 ∙ ap (λ (z : List Lexeme). w.0 ++ z) grouped;
+            whole = regrouped xs h.prefix h.part w.0 (w.1 ++ (w.3 ∷ w.2 ++ w.4 ∷ [])) h.whole w.11 ∙ ap (λ (z : List Lexeme). w.0 ++ z) grouped;
           } in
           subst (λ (r : Expr × List Waiting). Reduces q xs r) (sym (pops q 1 _ _ t.1)) (reduces ws (Conditional c a e) xs q low high more)
       | inr t ↦

@@ -36,25 +36,25 @@ has_token (Conditional c a b) l xs h = subst (λ (z : List Lexeme). HasToken z) 
 
 -- an operand of one token
 pub holds-one : (e : Expr) (ws : List Waiting) (xs : List Lexeme) (x : Lexeme) → SpellsExpression 12 (x ∷ []) e → WaitingSoFar ws xs → Holds ws e (xs ++ x ∷ []) 12
-holds-one e ws xs x h w = record { front = xs; part = x ∷ []; level = 12; waits = w; spelled = h; room = room-most ws; tight = omega arith; whole = refl }
+holds-one e ws xs x h w = record { prefix = xs; part = x ∷ []; level = 12; waits = w; spelled = h; room = room-most ws; tight = omega arith; whole = refl }
 
 pub looser : (ws : List Waiting) (e : Expr) (xs : List Lexeme) (q : ℕ) → q ≤ 12 → Holds ws e xs 12 → Holds ws e xs q
-looser ws e xs q low h = record { front = h.front; part = h.part; level = h.level; waits = h.waits; spelled = h.spelled; room = h.room; tight = omega (arith, h.tight, low); whole = h.whole }
+looser ws e xs q low h = record { prefix = h.prefix; part = h.part; level = h.level; waits = h.waits; spelled = h.spelled; room = h.room; tight = omega (arith, h.tight, low); whole = h.whole }
 
-behind : (xs front part : List Lexeme) (x : Lexeme) → xs ≡ front ++ part → xs ++ x ∷ [] ≡ front ++ (part ++ x ∷ [])
-behind xs front part x h = ap (λ (z : List Lexeme). z ++ x ∷ []) h ∙ append_assoc front part (x ∷ [])
+behind : (xs prefix part : List Lexeme) (x : Lexeme) → xs ≡ prefix ++ part → xs ++ x ∷ [] ≡ prefix ++ (part ++ x ∷ [])
+behind xs prefix part x h = ap (λ (z : List Lexeme). z ++ x ∷ []) h ∙ append_assoc prefix part (x ∷ [])
 
 -- a binary operator after its left operand
 pub kept-binary : (op : BinaryOperator) (r : Expr × List Waiting) (xs : List Lexeme) (x : Lexeme) → Marks (binary_punctuator op) x → Reduces (precedence op) xs r → WaitingSoFar (Infix op r.0 ∷ r.1) (xs ++ x ∷ [])
 kept-binary op r xs x h k =
     let l = k.holds in
-    (l.front, l.part, x, l.waits, spells-looser r.0 l.level (precedence op) l.part l.tight l.spelled, k.room, h, behind xs l.front l.part x l.whole)
+    (l.prefix, l.part, x, l.waits, spells-looser r.0 l.level (precedence op) l.part l.tight l.spelled, k.room, h, behind xs l.prefix l.part x l.whole)
 
 -- a question mark after its condition
 pub kept-question : (r : Expr × List Waiting) (xs : List Lexeme) (x : Lexeme) → Marks punctuator.Question x → Reduces 2 xs r → WaitingSoFar (Then r.0 ∷ r.1) (xs ++ x ∷ [])
 kept-question r xs x h k =
     let l = k.holds in
-    (l.front, l.part, x, l.waits, spells-looser r.0 l.level 2 l.part l.tight l.spelled, room-one r.1 k.room, h, behind xs l.front l.part x l.whole)
+    (l.prefix, l.part, x, l.waits, spells-looser r.0 l.level 2 l.part l.tight l.spelled, room-one r.1 k.room, h, behind xs l.prefix l.part x l.whole)
 
 -- a colon after what stands between it and the question mark
 pub kept-colon : (c e : Expr) (ws : List Waiting) (xs : List Lexeme) (x : Lexeme) → Marks punctuator.Colon x → Holds (Then c ∷ ws) e xs 1 → WaitingSoFar (Otherwise c e ∷ ws) (xs ++ x ∷ [])
@@ -73,33 +73,33 @@ kept-colon c e ws xs x h l =
       w.5,
       w.6,
       h,
-      behind xs l.front l.part x l.whole ∙ ap (λ (z : List Lexeme). z ++ (l.part ++ x ∷ [])) w.7 ∙ grouped,
+      behind xs l.prefix l.part x l.whole ∙ ap (λ (z : List Lexeme). z ++ (l.part ++ x ∷ [])) w.7 ∙ grouped,
     )
 
 -- an operand whose closing token has come
-closed : (e d : Expr) (ws : List Waiting) (xs front inner part ys : List Lexeme) (x : Lexeme) → WaitingSoFar ws front → xs ≡ ys ++ part → ys ≡ front ++ inner → SpellsExpression 12 (inner ++ (part ++ x ∷ [])) d → Holds ws d (xs ++ x ∷ []) 12
-closed e d ws xs front inner part ys x w h k s =
+closed : (e d : Expr) (ws : List Waiting) (xs prefix inner part ys : List Lexeme) (x : Lexeme) → WaitingSoFar ws prefix → xs ≡ ys ++ part → ys ≡ prefix ++ inner → SpellsExpression 12 (inner ++ (part ++ x ∷ [])) d → Holds ws d (xs ++ x ∷ []) 12
+closed e d ws xs prefix inner part ys x w h k s =
     record {
-      front = front;
+      prefix = prefix;
       part = inner ++ (part ++ x ∷ []);
       level = 12;
       waits = w;
       spelled = s;
       room = room-most ws;
       tight = omega arith;
-      whole = behind xs ys part x h ∙ ap (λ (z : List Lexeme). z ++ (part ++ x ∷ [])) k ∙ append_assoc front inner (part ++ x ∷ []);
+      whole = behind xs ys part x h ∙ ap (λ (z : List Lexeme). z ++ (part ++ x ∷ [])) k ∙ append_assoc prefix inner (part ++ x ∷ []);
     }
 
 pub kept-parenthesis : (e : Expr) (ws : List Waiting) (xs : List Lexeme) (x : Lexeme) → Marks punctuator.CloseParenthesis x → Holds (Parenthesis ∷ ws) e xs 1 → Holds ws (Parenthesised e) (xs ++ x ∷ []) 12
 kept-parenthesis e ws xs x h l =
     let w = l.waits in
-    closed e (Parenthesised e) ws xs w.0 (w.1 ∷ []) l.part l.front x w.2 l.whole w.4
+    closed e (Parenthesised e) ws xs w.0 (w.1 ∷ []) l.part l.prefix x w.2 l.whole w.4
     (w.1, x, l.part, w.3, h, spells-looser e l.level 1 l.part l.tight l.spelled, refl)
 
 pub kept-index : (n : Name) (e : Expr) (ws : List Waiting) (xs : List Lexeme) (x : Lexeme) → Marks punctuator.CloseBracket x → Holds (Index n ∷ ws) e xs 1 → Holds ws (Element n e) (xs ++ x ∷ []) 12
 kept-index n e ws xs x h l =
     let w = l.waits in
-    closed e (Element n e) ws xs w.0 (identifier n ∷ w.1 ∷ []) l.part l.front x w.2 l.whole w.4
+    closed e (Element n e) ws xs w.0 (identifier n ∷ w.1 ∷ []) l.part l.prefix x w.2 l.whole w.4
     (w.1, x, l.part, w.3, h, spells-looser e l.level 1 l.part l.tight l.spelled, refl)
 
 -- arguments with one more
@@ -108,17 +108,17 @@ arguments-last none e xs part h k = subst (λ (z : List Lexeme). SpellsExpressio
 arguments-last (more d es) e xs part h k =
     subst (λ (z : List Lexeme). SpellsArguments z (with_argument (more d es) e)) (sym (ap (λ (z : List Lexeme). z ++ part) h.4 ∙ append_assoc h.0 (h.1 ∷ []) part)) (row (more d es) h.0 h.2)
   where
-    goes : (c : Expr) (cs : Exprs) (front : List Lexeme) → SpellsArguments front (more c cs) → SpellsArguments (front ++ h.1 ∷ part) (with_argument (more c cs) e)
-    goes c none front s = (h.1, front, part, h.3, s, k, refl)
-    goes c (more f fs) front s =
+    goes : (c : Expr) (cs : Exprs) (prefix : List Lexeme) → SpellsArguments prefix (more c cs) → SpellsArguments (prefix ++ h.1 ∷ part) (with_argument (more c cs) e)
+    goes c none prefix s = (h.1, prefix, part, h.3, s, k, refl)
+    goes c (more f fs) prefix s =
         (s.0, s.1, s.2 ++ h.1 ∷ part, s.3, s.4, goes f fs s.2 s.5, ap (λ (z : List Lexeme). z ++ h.1 ∷ part) s.6 ∙ append_assoc s.1 (s.0 ∷ s.2) (h.1 ∷ part))
 
-    row : (cs : Exprs) (front : List Lexeme) → SpellsArguments front (more d es) → SpellsArguments (front ++ h.1 ∷ part) (with_argument (more d es) e)
-    row cs front s = goes d es front s
+    row : (cs : Exprs) (prefix : List Lexeme) → SpellsArguments prefix (more d es) → SpellsArguments (prefix ++ h.1 ∷ part) (with_argument (more d es) e)
+    row cs prefix s = goes d es prefix s
 
-arguments-some : (es : Exprs) (e : Expr) (xs front : List Lexeme) (x : Lexeme) → SpellsArguments front (with_argument es e) → Marks punctuator.Comma x → xs ≡ front ++ x ∷ [] → ArgumentsSoFar xs (with_argument es e)
-arguments-some none e xs front x h k s = (front, x, h, k, s)
-arguments-some (more d es) e xs front x h k s = (front, x, h, k, s)
+arguments-some : (es : Exprs) (e : Expr) (xs prefix : List Lexeme) (x : Lexeme) → SpellsArguments prefix (with_argument es e) → Marks punctuator.Comma x → xs ≡ prefix ++ x ∷ [] → ArgumentsSoFar xs (with_argument es e)
+arguments-some none e xs prefix x h k s = (prefix, x, h, k, s)
+arguments-some (more d es) e xs prefix x h k s = (prefix, x, h, k, s)
 
 -- a comma between arguments
 pub kept-comma : (n : Name) (es : Exprs) (e : Expr) (ws : List Waiting) (xs : List Lexeme) (x : Lexeme) → Marks punctuator.Comma x → Holds (Arguments n es ∷ ws) e xs 1 → WaitingSoFar (Arguments n (with_argument es e) ∷ ws) (xs ++ x ∷ [])
@@ -134,7 +134,7 @@ kept-comma n es e ws xs x h l =
       w.3,
       w.4,
       so_far,
-      behind xs l.front l.part x l.whole ∙ ap (λ (z : List Lexeme). z ++ (l.part ++ x ∷ [])) w.6 ∙ grouped,
+      behind xs l.prefix l.part x l.whole ∙ ap (λ (z : List Lexeme). z ++ (l.part ++ x ∷ [])) w.6 ∙ grouped,
     )
 
 -- the closing parenthesis of a call
@@ -142,14 +142,14 @@ pub kept-call : (n : Name) (es : Exprs) (e : Expr) (ws : List Waiting) (xs : Lis
 kept-call n es e ws xs x h l =
     let w = l.waits in
     let row = arguments-last es e w.1 l.part w.5 (spells-looser e l.level 1 l.part l.tight l.spelled) in
-    closed e (Call n (with_argument es e)) ws xs w.0 (identifier n ∷ w.2 ∷ w.1) l.part l.front x w.3 l.whole w.6
+    closed e (Call n (with_argument es e)) ws xs w.0 (identifier n ∷ w.2 ∷ w.1) l.part l.prefix x w.3 l.whole w.6
     (w.2, x, w.1 ++ l.part, w.4, h, row, ap (λ (z : List Lexeme). identifier n ∷ w.2 ∷ z) (sym (append_assoc w.1 l.part (x ∷ []))))
 
 pub kept-call-none : (n : Name) (ws : List Waiting) (xs : List Lexeme) (x : Lexeme) → Marks punctuator.CloseParenthesis x → WaitingSoFar (Arguments n none ∷ ws) xs → Holds ws (Call n none) (xs ++ x ∷ []) 12
 kept-call-none n ws xs x h w =
     let whole : xs ≡ w.0 ++ identifier n ∷ w.2 ∷ [] = w.6 ∙ ap (λ (z : List Lexeme). w.0 ++ identifier n ∷ w.2 ∷ z) w.5 in
     record {
-      front = w.0;
+      prefix = w.0;
       part = identifier n ∷ w.2 ∷ x ∷ [];
       level = 12;
       waits = w.3;
@@ -160,8 +160,8 @@ kept-call-none n ws xs x h w =
     }
 
 -- what opens after a name
-variable-part : (n : Name) (ws : List Waiting) (xs : List Lexeme) → Holds ws (Variable n) xs 12 → (front : List Lexeme) × WaitingSoFar ws front × (xs ≡ front ++ identifier n ∷ [])
-variable-part n ws xs l = (l.front, l.waits, l.whole ∙ ap (λ (z : List Lexeme). l.front ++ z) l.spelled)
+variable-part : (n : Name) (ws : List Waiting) (xs : List Lexeme) → Holds ws (Variable n) xs 12 → (prefix : List Lexeme) × WaitingSoFar ws prefix × (xs ≡ prefix ++ identifier n ∷ [])
+variable-part n ws xs l = (l.prefix, l.waits, l.whole ∙ ap (λ (z : List Lexeme). l.prefix ++ z) l.spelled)
 
 pub kept-open-call : (n : Name) (ws : List Waiting) (xs : List Lexeme) (x : Lexeme) → Marks punctuator.OpenParenthesis x → Holds ws (Variable n) xs 12 → WaitingSoFar (Arguments n none ∷ ws) (xs ++ x ∷ [])
 kept-open-call n ws xs x h l =

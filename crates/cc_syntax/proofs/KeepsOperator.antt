@@ -44,7 +44,7 @@ begun b p k before ts zs h c j w =
     let same : zs ≡ zs ++ [] = sym (append-nil zs) in
     record {
       before = before;
-      front = zs;
+      prefix = zs;
       xs = [];
       context = h;
       phase = refl;
@@ -63,7 +63,7 @@ kept-first (Some (InBody d t)) c ts x l h b e s = absurd s
 kept-first (Some (InFull g q)) c ts x l h b e s =
     let one : FullSoFar c g.waiting 1 q (ts ++ record { token = x; count = 1; level = l } ∷ []) = record {
       before = ts;
-      front = [];
+      prefix = [];
       xs = x ∷ [];
       context = h;
       phase = s.2;

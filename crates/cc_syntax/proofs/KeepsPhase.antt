@@ -135,12 +135,12 @@ StaysIn f ys (Some (InFull g p)) = (g.context ≡ f.context) × (g.count ≡ suc
 
 kept-cast-int : (ws : List Waiting) (f : Full) (xs : List Lexeme) (x : Lexeme) → IsKeyword keyword.Int x → WaitingSoFar ws xs → StaysIn f (xs ++ x ∷ []) (cast f (CastType scalar.Int) ws)
 kept-cast-int (Parenthesis ∷ ws) f xs x h w =
-    (refl, refl, record { front = w.0; type = x ∷ []; opening = w.1; waits = w.2; opens = w.3; word = inl (x, refl, h, refl); whole = ap (λ (z : List Lexeme). z ++ x ∷ []) w.4 ∙ append_assoc w.0 (w.1 ∷ []) (x ∷ []) })
+    (refl, refl, record { prefix = w.0; type = x ∷ []; opening = w.1; waits = w.2; opens = w.3; word = inl (x, refl, h, refl); whole = ap (λ (z : List Lexeme). z ++ x ∷ []) w.4 ∙ append_assoc w.0 (w.1 ∷ []) (x ∷ []) })
 kept-cast-int _ f xs x h w = tt
 
 kept-cast-sign : (ws : List Waiting) (f : Full) (t : Scalar) (xs : List Lexeme) (x : Lexeme) → IsKeyword (sign_word t) x → WaitingSoFar ws xs → StaysIn f (xs ++ x ∷ []) (cast f (CastSign t) ws)
 kept-cast-sign (Parenthesis ∷ ws) f t xs x h w =
-    (refl, refl, record { front = w.0; type = x ∷ []; opening = w.1; waits = w.2; opens = w.3; word = (x, h, refl); whole = ap (λ (z : List Lexeme). z ++ x ∷ []) w.4 ∙ append_assoc w.0 (w.1 ∷ []) (x ∷ []) })
+    (refl, refl, record { prefix = w.0; type = x ∷ []; opening = w.1; waits = w.2; opens = w.3; word = (x, h, refl); whole = ap (λ (z : List Lexeme). z ++ x ∷ []) w.4 ∙ append_assoc w.0 (w.1 ∷ []) (x ∷ []) })
 kept-cast-sign _ f t xs x h w = tt
 
 kept-none : (ws : List Waiting) (f : Full) (xs : List Lexeme) (x : Lexeme) → Marks punctuator.CloseParenthesis x → WaitingSoFar ws xs → StaysIn f (xs ++ x ∷ []) (call_of_none f ws)
@@ -163,11 +163,11 @@ kept-operand _ f xs x h k = tt
 -- a token after the type of a cast
 pub kept-cast : (r : Role) (f : Full) (t : Scalar) (xs : List Lexeme) (x : Lexeme) → HasRole r x → Casts f.waiting xs (λ type. SpellsType type t) → StaysIn f (xs ++ x ∷ []) (cast_step f t r)
 kept-cast role.CloseParenthesis f t xs x h k =
-    (refl, refl, (k.front, k.type, k.opening, x, k.waits, k.opens, k.word, h, ap (λ (z : List Lexeme). z ++ x ∷ []) k.whole ∙ append_assoc k.front (k.opening ∷ k.type) (x ∷ [])))
+    (refl, refl, (k.prefix, k.type, k.opening, x, k.waits, k.opens, k.word, h, ap (λ (z : List Lexeme). z ++ x ∷ []) k.whole ∙ append_assoc k.prefix (k.opening ∷ k.type) (x ∷ [])))
 kept-cast _ f t xs x h k = tt
 
 sign-type : (t : Scalar) (ws : List Waiting) (xs : List Lexeme) → Casts ws xs (IsSign t) → Casts ws xs (λ type. SpellsType type t)
-sign-type t ws xs k = record { front = k.front; type = k.type; opening = k.opening; waits = k.waits; opens = k.opens; word = inr (inl k.word); whole = k.whole }
+sign-type t ws xs k = record { prefix = k.prefix; type = k.type; opening = k.opening; waits = k.waits; opens = k.opens; word = inr (inl k.word); whole = k.whole }
 
 pub kept-cast-word : (r : Role) (f : Full) (t : Scalar) (xs : List Lexeme) (x : Lexeme) → HasRole r x → Casts f.waiting xs (IsSign t) → StaysIn f (xs ++ x ∷ []) (cast_sign_step f t r)
 kept-cast-word role.Int f t xs x h k =
@@ -175,13 +175,13 @@ kept-cast-word role.Int f t xs x h k =
       refl,
       refl,
       record {
-        front = k.front;
+        prefix = k.prefix;
         type = k.type ++ x ∷ [];
         opening = k.opening;
         waits = k.waits;
         opens = k.opens;
         word = inr (inr (w.0, x, w.1, h, ap (λ (z : List Lexeme). z ++ x ∷ []) w.2));
-        whole = ap (λ (z : List Lexeme). z ++ x ∷ []) k.whole ∙ append_assoc k.front (k.opening ∷ k.type) (x ∷ []);
+        whole = ap (λ (z : List Lexeme). z ++ x ∷ []) k.whole ∙ append_assoc k.prefix (k.opening ∷ k.type) (x ∷ []);
       },
     )
 kept-cast-word r f t xs x h k = kept-cast r f t xs x h (sign-type t f.waiting xs k)

@@ -6,16 +6,16 @@ use Rattle.cc_tokens.specs.declared.fault.SyntaxFault.TheVariants as fault
 use Rattle.cc_syntax.specs.declared.unit.Unit as unit
 use Rattle.cc_tokens.specs.Token.{Lexeme}
 use Rattle.cc_syntax.specs.Tree.{External}
-use Rattle.cc_tokens.specs.Tokens.{IsFlawFault}
+use Rattle.cc_tokens.specs.Tokens.{IsLexicalFault}
 use Rattle.cc_syntax.specs.Limits.{SpellsWithin, UnexpectedAt, TooDeepAt}
 use Rattle.cc_syntax.specs.Parse.{SpellsText, BreaksAt, IsParseRefusal}
 use Rattle.cc_syntax.specs.Source.{source, AnswersTree}
 use Rattle.cc_syntax.specs.internal.Answer.{IsParse}
-use Rattle.cc_tokens.proofs.Cuts.{tokens_are_one, tokens_have_no_flaw}
+use Rattle.cc_tokens.proofs.Cuts.{tokens_are_one, tokens_have_no_error}
 use Rattle.cc_syntax.proofs.Verdict.{trees_are_one, spelled_have_no_fault}
 
-no_flaw : (text : List ℕ) (e : SyntaxFault) (tree : List External) → IsFlawFault text e → SpellsText text tree → ⊥
-no_flaw text e tree h s = tokens_have_no_flaw text s.tokens h.flaw h.at s.are h.first
+no_error : (text : List ℕ) (e : SyntaxFault) (tree : List External) → IsLexicalFault text e → SpellsText text tree → ⊥
+no_error text e tree h s = tokens_have_no_error text s.tokens h.error h.at s.are h.first
 
 no_break : (Breaks : List Lexeme → ℕ → Type 0) (text : List ℕ) (p : Place) (tree : List External) → BreaksAt Breaks text p → SpellsText text tree → ((ts : List Lexeme) (k : ℕ) → SpellsWithin ts tree → Breaks ts k → ⊥) → ⊥
 no_break Breaks text p tree h s none =
@@ -23,10 +23,10 @@ no_break Breaks text p tree h s none =
 
 -- a text that spells a tree is refused only because memory ran out
 spelled_refused : (text : List ℕ) (e : SyntaxFault) (tree : List External) → IsParseRefusal text e → length text ≤ 65536 → SpellsText text tree → e ≡ fault.OutOfMemory
-spelled_refused text (fault.BadByte p) tree h fits s = absurd (no_flaw text _ tree h s)
-spelled_refused text (fault.UnclosedComment p) tree h fits s = absurd (no_flaw text _ tree h s)
-spelled_refused text (fault.BadConstant p) tree h fits s = absurd (no_flaw text _ tree h s)
-spelled_refused text (fault.ConstantTooLarge p) tree h fits s = absurd (no_flaw text _ tree h s)
+spelled_refused text (fault.BadByte p) tree h fits s = absurd (no_error text _ tree h s)
+spelled_refused text (fault.UnclosedComment p) tree h fits s = absurd (no_error text _ tree h s)
+spelled_refused text (fault.BadConstant p) tree h fits s = absurd (no_error text _ tree h s)
+spelled_refused text (fault.ConstantTooLarge p) tree h fits s = absurd (no_error text _ tree h s)
 spelled_refused text (fault.Unexpected p) tree h fits s = absurd (no_break UnexpectedAt text p tree h s (λ ts k w. (spelled_have_no_fault ts tree k w).0))
 spelled_refused text (fault.TooDeep p) tree h fits s = absurd (no_break TooDeepAt text p tree h s (λ ts k w. (spelled_have_no_fault ts tree k w).1))
 spelled_refused text fault.SourceTooLarge tree h fits s = absurd (omega (arith, h, fits))

@@ -194,12 +194,12 @@ read_action (Assign op t e) xs s b p level x enters h i =
     ap (λ (z : List Measured). z ++ outside x ∷ []) (full_after-append 0 h.1 (h.0 ∷ h.2)) ∙ append_assoc (full h.1) (full_after n (h.0 ∷ h.2)) (outside x ∷ []) in
     subst (λ (z : List Lexeme). Runs s (begins level (full z ++ outside x ∷ [])) m) (sym h.6)
     (subst (λ (z : List Measured). Runs s (begins level z) m) (sym grouped) (enter h.1 s b p level n [] (expression_of t) (full_after n (h.0 ∷ h.2) ++ outside x ∷ []) m enters left.runs after))
-read_action (Step op t) xs s b p level x enters (sign, target, marks, spelled, inl front) i =
+read_action (Step op t) xs s b p level x enters (sign, target, marks, spelled, inl prefix) i =
     let m = behind b p (Step op t) in
     let after = read_stepped t op target b p x spelled i in
     let goes = step-begins op b p (name_of sign) in
     let r = punctuator_role (step_punctuator op) in
-    subst (λ (z : List Lexeme). Runs s (begins level (full z ++ outside x ∷ [])) m) (sym front)
+    subst (λ (z : List Lexeme). Runs s (begins level (full z ++ outside x ∷ [])) m) (sym prefix)
     (token s (InBody b (Stepping op p)) m sign (kind.Punctuator (step_punctuator op)) 1 level (full_after 1 target ++ outside x ∷ []) marks (enters.first r (name_of sign) (InBody b (Stepping op p)) goes) refl (enters.begun r (name_of sign) (InBody b (Stepping op p)) goes) after)
 read_action (Step op t) xs s b p level x enters (sign, target, marks, spelled, inr back) i =
     let c = OfBody b (ToPerform p) in

@@ -19,57 +19,57 @@ Room l _ = 1 ≤ l
 abbrev pub ArgumentsSoFar : List Lexeme → Exprs → Type 0
 ArgumentsSoFar xs none = xs ≡ []
 ArgumentsSoFar xs (more e es) =
-    (front : List Lexeme) × (comma : Lexeme) × SpellsArguments front (more e es) × Marks punctuator.Comma comma
-    × (xs ≡ front ++ comma ∷ [])
+    (prefix : List Lexeme) × (comma : Lexeme) × SpellsArguments prefix (more e es) × Marks punctuator.Comma comma
+    × (xs ≡ prefix ++ comma ∷ [])
 
 -- what waits for an operand, or for a closing token
 abbrev pub WaitingSoFar : List Waiting → List Lexeme → Type 0
 WaitingSoFar [] xs = xs ≡ []
 WaitingSoFar (Parenthesis ∷ ws) xs =
-    (front : List Lexeme) × (opening : Lexeme) × WaitingSoFar ws front × Marks punctuator.OpenParenthesis opening
-    × (xs ≡ front ++ opening ∷ [])
+    (prefix : List Lexeme) × (opening : Lexeme) × WaitingSoFar ws prefix × Marks punctuator.OpenParenthesis opening
+    × (xs ≡ prefix ++ opening ∷ [])
 WaitingSoFar (Index n ∷ ws) xs =
-    (front : List Lexeme) × (opening : Lexeme) × WaitingSoFar ws front × Marks punctuator.OpenBracket opening
-    × (xs ≡ front ++ identifier n ∷ opening ∷ [])
+    (prefix : List Lexeme) × (opening : Lexeme) × WaitingSoFar ws prefix × Marks punctuator.OpenBracket opening
+    × (xs ≡ prefix ++ identifier n ∷ opening ∷ [])
 WaitingSoFar (Arguments n es ∷ ws) xs =
-    (front row : List Lexeme) × (opening : Lexeme) × WaitingSoFar ws front × Marks punctuator.OpenParenthesis opening
-    × ArgumentsSoFar row es × (xs ≡ front ++ identifier n ∷ opening ∷ row)
+    (prefix row : List Lexeme) × (opening : Lexeme) × WaitingSoFar ws prefix × Marks punctuator.OpenParenthesis opening
+    × ArgumentsSoFar row es × (xs ≡ prefix ++ identifier n ∷ opening ∷ row)
 WaitingSoFar (Prefix op ∷ ws) xs =
-    (front : List Lexeme) × (sign : Lexeme) × WaitingSoFar ws front × Marks (unary_punctuator op) sign × (xs ≡ front ++ sign ∷ [])
+    (prefix : List Lexeme) × (sign : Lexeme) × WaitingSoFar ws prefix × Marks (unary_punctuator op) sign × (xs ≡ prefix ++ sign ∷ [])
 WaitingSoFar (Casting t ∷ ws) xs =
-    (front type : List Lexeme) × (opening closing : Lexeme) × WaitingSoFar ws front × Marks punctuator.OpenParenthesis opening
-    × SpellsType type t × Marks punctuator.CloseParenthesis closing × (xs ≡ front ++ (opening ∷ type ++ closing ∷ []))
+    (prefix type : List Lexeme) × (opening closing : Lexeme) × WaitingSoFar ws prefix × Marks punctuator.OpenParenthesis opening
+    × SpellsType type t × Marks punctuator.CloseParenthesis closing × (xs ≡ prefix ++ (opening ∷ type ++ closing ∷ []))
 WaitingSoFar (Infix op a ∷ ws) xs =
-    (front left : List Lexeme) × (sign : Lexeme) × WaitingSoFar ws front × SpellsExpression (precedence op) left a
-    × Room (precedence op) ws × Marks (binary_punctuator op) sign × (xs ≡ front ++ (left ++ sign ∷ []))
+    (prefix left : List Lexeme) × (sign : Lexeme) × WaitingSoFar ws prefix × SpellsExpression (precedence op) left a
+    × Room (precedence op) ws × Marks (binary_punctuator op) sign × (xs ≡ prefix ++ (left ++ sign ∷ []))
 WaitingSoFar (Then c ∷ ws) xs =
-    (front test : List Lexeme) × (question : Lexeme) × WaitingSoFar ws front × SpellsExpression 2 test c × Room 1 ws
-    × Marks punctuator.Question question × (xs ≡ front ++ (test ++ question ∷ []))
+    (prefix test : List Lexeme) × (question : Lexeme) × WaitingSoFar ws prefix × SpellsExpression 2 test c × Room 1 ws
+    × Marks punctuator.Question question × (xs ≡ prefix ++ (test ++ question ∷ []))
 WaitingSoFar (Otherwise c a ∷ ws) xs =
-    (front test left : List Lexeme) × (question colon : Lexeme) × WaitingSoFar ws front × SpellsExpression 2 test c
+    (prefix test left : List Lexeme) × (question colon : Lexeme) × WaitingSoFar ws prefix × SpellsExpression 2 test c
     × SpellsExpression 1 left a × Room 1 ws × Marks punctuator.Question question × Marks punctuator.Colon colon
-    × (xs ≡ front ++ (test ++ (question ∷ left ++ colon ∷ [])))
+    × (xs ≡ prefix ++ (test ++ (question ∷ left ++ colon ∷ [])))
 
 -- an operand of some level after what waits for it
 pub record Holds (ws : List Waiting) (e : Expr) (xs : List Lexeme) (low : ℕ) : Type 0 where
-  pub front : List Lexeme
+  pub prefix : List Lexeme
   pub part : List Lexeme
   pub level : ℕ
-  pub waits : WaitingSoFar ws front
+  pub waits : WaitingSoFar ws prefix
   pub spelled : SpellsExpression level part e
   pub room : Room level ws
   pub tight : low ≤ level
-  pub whole : xs ≡ front ++ part
+  pub whole : xs ≡ prefix ++ part
 
 -- after the word `signed` or `unsigned` of a cast, or after its type
 pub record Casts (ws : List Waiting) (xs : List Lexeme) (Word : List Lexeme → Type 0) : Type 0 where
-  pub front : List Lexeme
+  pub prefix : List Lexeme
   pub type : List Lexeme
   pub opening : Lexeme
-  pub waits : WaitingSoFar ws front
+  pub waits : WaitingSoFar ws prefix
   pub opens : Marks punctuator.OpenParenthesis opening
   pub word : Word type
-  pub whole : xs ≡ front ++ opening ∷ type
+  pub whole : xs ≡ prefix ++ opening ∷ type
 
 abbrev pub IsSign : Scalar → List Lexeme → Type 0
 IsSign t xs = (word : Lexeme) × IsKeyword (sign_word t) word × (xs ≡ word ∷ [])

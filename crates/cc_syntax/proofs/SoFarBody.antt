@@ -13,7 +13,7 @@ use Rattle.cc_syntax.proofs.Forms.{count_after}
 use Rattle.cc_syntax.proofs.ReadsAction.{terminator}
 use Rattle.cc_syntax.proofs.ReadsStatement.{CanStand}
 
--- the level of what stands after so many open statements
+-- the level of what stands after this many open statements
 abbrev pub depth : List Open → ℕ
 depth os = suc (suc (length os))
 
@@ -25,7 +25,7 @@ first level n x = record { token = x; count = n; level = level }
 abbrev pub RowSoFar : {A : Type 0} → (List Measured → A → Type 0) → List Measured → List A → Type 0
 RowSoFar {A} Spells ts done =
     ((done ≡ []) × (ts ≡ []))
-    ⊎ ((front : List Measured) × (comma : Lexeme) × SpellsRow Spells front done × Marks punctuator.Comma comma × (ts ≡ front ++ outside comma ∷ []))
+    ⊎ ((prefix : List Measured) × (comma : Lexeme) × SpellsRow Spells prefix done × Marks punctuator.Comma comma × (ts ≡ prefix ++ outside comma ∷ []))
 
 -- before the semicolon of a statement
 abbrev pub EndingSoFar : Stmt → List Open → List Measured → Type 0

@@ -102,14 +102,14 @@ StartsAt (OfObject es n p) xs = BeginsAt (offset_of p) xs
 
 pub record FullSoFar (c : Context) (ws : List Waiting) (k : ℕ) (p : Phase) (ts : List Measured) : Type 0 where
   pub before : List Measured
-  pub front : List Lexeme
+  pub prefix : List Lexeme
   pub xs : List Lexeme
-  pub context : ContextSoFar c before front
+  pub context : ContextSoFar c before prefix
   pub phase : PhaseSoFar p ws xs
-  pub counted : k ≡ count_after 0 (front ++ xs)
+  pub counted : k ≡ count_after 0 (prefix ++ xs)
   pub starts : StartsAt c xs
-  pub joins : (qs : List Measured) → leads_of c (full (front ++ xs) ++ qs) ≡ leads_of c (full (front ++ xs)) ++ qs
-  pub whole : ts ≡ before ++ leads_of c (full (front ++ xs))
+  pub joins : (qs : List Measured) → leads_of c (full (prefix ++ xs) ++ qs) ≡ leads_of c (full (prefix ++ xs)) ++ qs
+  pub whole : ts ≡ before ++ leads_of c (full (prefix ++ xs))
 
 -- the tokens before a state, and the state
 abbrev pub SoFar : State → List Measured → Type 0

@@ -104,13 +104,13 @@ unexpected_end s tokens k r e h = inr (e, λ tree spelled. none tree spelled.0 s
     none (d ∷ ds) ts u t = let e : None ≡ Some (d ∷ ds) = sym h ∙ ap (λ (z : State). tree_of z) t in cc
 
 -- no token that was read within the limits is too deep in any unit
-in_run : (placed front rest : List Measured) (p : Measured) (s : State) (tree : List External) (zs : List Lexeme) → Runs start placed s → AllByRecursion IsWithin placed → SpellsUnit (front ++ p ∷ rest) tree → plain_tokens placed ≡ plain_tokens (front ++ p ∷ []) ++ zs → PassesLimit p → ⊥
-in_run placed front rest p s tree zs runs fine unit same past =
-    let whole = subst (λ (z : List Measured). Runs start z (AtFile tree Between)) (sym (append_assoc front (p ∷ []) rest)) (read_unit tree (front ++ p ∷ rest) unit) in
-    let cut = runs-split start (AtFile tree Between) (front ++ p ∷ []) rest whole in
-    let goes = follow (front ++ p ∷ []) placed start cut.0 s zs cut.1 runs same in
-    let shown : AllByRecursion IsWithin (front ++ p ∷ goes.0) = subst (λ (z : List Measured). AllByRecursion IsWithin z) (goes.1 ∙ append_assoc front (p ∷ []) goes.0) fine in
-    within-or-past p (all-middle front p goes.0 shown) past
+in_run : (placed prefix rest : List Measured) (p : Measured) (s : State) (tree : List External) (zs : List Lexeme) → Runs start placed s → AllByRecursion IsWithin placed → SpellsUnit (prefix ++ p ∷ rest) tree → plain_tokens placed ≡ plain_tokens (prefix ++ p ∷ []) ++ zs → PassesLimit p → ⊥
+in_run placed prefix rest p s tree zs runs fine unit same past =
+    let whole = subst (λ (z : List Measured). Runs start z (AtFile tree Between)) (sym (append_assoc prefix (p ∷ []) rest)) (read_unit tree (prefix ++ p ∷ rest) unit) in
+    let cut = runs-split start (AtFile tree Between) (prefix ++ p ∷ []) rest whole in
+    let goes = follow (prefix ++ p ∷ []) placed start cut.0 s zs cut.1 runs same in
+    let shown : AllByRecursion IsWithin (prefix ++ p ∷ goes.0) = subst (λ (z : List Measured). AllByRecursion IsWithin z) (goes.1 ∙ append_assoc prefix (p ∷ []) goes.0) fine in
+    within-or-past p (all-middle prefix p goes.0 shown) past
 
 pub take-less : (j k : ℕ) (xs : List Lexeme) → j ≤ k → take j (take k xs) ≡ take j xs
 take-less zero k xs h = refl

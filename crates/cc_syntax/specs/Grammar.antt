@@ -177,7 +177,7 @@ pub record Measured : Type 0 where
 abbrev pub outside : Lexeme → Measured
 outside x = record { token = x; count = 0; level = 0 }
 
--- the tokens of a full expression, of which so many came before
+-- the tokens of a full expression, of which this many came before
 abbrev pub full_after : ℕ → List Lexeme → List Measured
 full_after n [] = []
 full_after n (x ∷ xs) = record { token = x; count = suc n; level = 0 } ∷ full_after (suc n) xs
@@ -352,8 +352,8 @@ SpellsUnsignedChar ts = (sign word : Lexeme) × IsKeyword keyword.Unsigned sign 
 
 -- a declaration of objects: what stands before their names, the names, a semicolon
 abbrev pub SpellsObjects : (List Lexeme → Type 0) → (List Measured → Object → Type 0) → List Measured → List Object → Type 0
-SpellsObjects Front Each ts os =
-    (type : List Lexeme) × (row : List Measured) × (semicolon : Lexeme) × Front type × SpellsRow Each row os
+SpellsObjects Prefix Each ts os =
+    (type : List Lexeme) × (row : List Measured) × (semicolon : Lexeme) × Prefix type × SpellsRow Each row os
     × Marks punctuator.Semicolon semicolon × (ts ≡ map outside type ++ (row ++ outside semicolon ∷ []))
 
 -- the token of a name that may be left out

@@ -33,8 +33,8 @@ UnexpectedAt tokens k =
 -- in some unit that begins with the tokens up to and with number k, that token passes a limit
 abbrev pub TooDeepAt : List Lexeme → ℕ → Type 0
 TooDeepAt tokens k =
-    (front rest : List Measured) × (p : Measured) × (tree : List External) × (k < length tokens) × PassesLimit p
-    × SpellsUnit (front ++ p ∷ rest) tree × (plain_tokens (front ++ p ∷ []) ≡ take (suc k) tokens)
+    (prefix rest : List Measured) × (p : Measured) × (tree : List External) × (k < length tokens) × PassesLimit p
+    × SpellsUnit (prefix ++ p ∷ rest) tree × (plain_tokens (prefix ++ p ∷ []) ≡ take (suc k) tokens)
 
 -- some unit goes on from the tokens before number k, none of which passes a limit
 abbrev pub IsFineBefore : List Lexeme → ℕ → Type 0

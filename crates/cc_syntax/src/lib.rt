@@ -14,8 +14,8 @@ pub use ast::{
     Target, UnaryOperator,
 };
 pub use cc_tokens::{
-    Flaw, Keyword, MOST_BYTES, Next, Place, Punctuator, Scalar, SyntaxFault, Token, TokenKind,
-    next_token, place_at, tokens, tokens_are_determined,
+    Keyword, LexicalError, MOST_BYTES, Next, Place, Punctuator, Scalar, SyntaxFault, Token,
+    TokenKind, next_token, place_at, tokens, tokens_are_determined,
 };
 pub use parser::{DEEPEST_LEVEL, MOST_TOKENS, parse, parse_is_determined, trees_are_determined};
 pub use unit::Unit;

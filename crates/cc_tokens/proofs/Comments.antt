@@ -1,13 +1,13 @@
--- Comments at the front of the bytes: the scanner's two searches find the one comment that begins there, and the first
+-- Comments at the head of the bytes: the scanner's two searches find the one comment that begins there, and the first
 -- line splice in it.
 use Rattle.std.proofs.Common.{◌≡◌, ℕ, ◌+◌, ◌<◌, ◌⊎◌, true, ◌==◌, List, [], ◌∷◌, ◌++◌, length, get_or, drop, refl, sym, ap, ◌∙◌, arith, ⊎_elim, append_assoc, length-append}
 use Rattle.std.specs.Prelude.{IsTrue}
 use Rattle.std.proofs.lemmas.Bool.{cond-true, cond-false, false≢true, and_parts, eqb-true, lt-ltb, le-ltb}
 use Rattle.std.proofs.lemmas.List.{append-nil}
-use Rattle.cc_tokens.specs.declared.flaw.Flaw.TheVariants.{BadByte, UnclosedComment}
-use Rattle.cc_tokens.specs.declared.scan.Front.TheVariants as front
+use Rattle.cc_tokens.specs.declared.lexical_error.LexicalError.TheVariants.{BadByte, UnclosedComment}
+use Rattle.cc_tokens.specs.declared.scan.Head.TheVariants as head
 use Rattle.cc_tokens.specs.Tokens.{begins_close, begins_line_end, begins_splice, Nowhere, IsComment, block, line}
-use Rattle.cc_tokens.specs.internal.Scan.{offset_within, comment_of, comment_front, block_comment, spliced}
+use Rattle.cc_tokens.specs.internal.Scan.{offset_within, comment_of, comment_head, block_comment, spliced}
 use Rattle.cc_tokens.proofs.Runs.{place_is, place_none_before}
 
 -- where `*/` stands
@@ -26,7 +26,7 @@ line_end_fits [] here = absurd (false≢true here)
 line_end_fits (a ∷ xs) here = omega arith
 
 -- **what the scanner answers of a comment is by the comment's length**
-block_is_found : (body after : List ℕ) → Nowhere begins_close body (42 ∷ 47 ∷ after) → (bytes : List ℕ) → bytes ≡ (47 ∷ 42 ∷ body ++ (42 ∷ 47 ∷ [])) ++ after → comment_front bytes ≡ comment_of (length (47 ∷ 42 ∷ body ++ (42 ∷ 47 ∷ []))) bytes
+block_is_found : (body after : List ℕ) → Nowhere begins_close body (42 ∷ 47 ∷ after) → (bytes : List ℕ) → bytes ≡ (47 ∷ 42 ∷ body ++ (42 ∷ 47 ∷ [])) ++ after → comment_head bytes ≡ comment_of (length (47 ∷ 42 ∷ body ++ (42 ∷ 47 ∷ []))) bytes
 block_is_found body after none bytes whole =
     let rest : drop 2 bytes ≡ body ++ (42 ∷ 47 ∷ after) = ap (drop 2) whole ∙ append_assoc body (42 ∷ 47 ∷ []) after in
     let size = ap length rest ∙ length-append body (42 ∷ 47 ∷ after) in
@@ -39,7 +39,7 @@ block_is_found body after none bytes whole =
     ∙ cond-true _ _ _ (lt-ltb _ _ below)
     ∙ ap (λ n. comment_of n bytes) comment
 
-line_is_found : (body after : List ℕ) → Nowhere begins_line_end body after → (after ≡ []) ⊎ IsTrue (begins_line_end after) → (bytes : List ℕ) → bytes ≡ (47 ∷ 47 ∷ body) ++ after → comment_front bytes ≡ comment_of (length (47 ∷ 47 ∷ body)) bytes
+line_is_found : (body after : List ℕ) → Nowhere begins_line_end body after → (after ≡ []) ⊎ IsTrue (begins_line_end after) → (bytes : List ℕ) → bytes ≡ (47 ∷ 47 ∷ body) ++ after → comment_head bytes ≡ comment_of (length (47 ∷ 47 ∷ body)) bytes
 line_is_found body after none ends bytes whole =
     let rest : drop 2 bytes ≡ body ++ after = ap (drop 2) whole in
     let size = ap length rest ∙ length-append body after in
@@ -54,22 +54,22 @@ line_is_found body after none ends bytes whole =
     ∙ ap (λ n. comment_of (n + 2) bytes) place
     ∙ ap (λ n. comment_of n bytes) comment
 
-pub comment_is_found : (c after bytes : List ℕ) → IsComment c after → bytes ≡ c ++ after → comment_front bytes ≡ comment_of (length c) bytes
+pub comment_is_found : (c after bytes : List ℕ) → IsComment c after → bytes ≡ c ++ after → comment_head bytes ≡ comment_of (length c) bytes
 comment_is_found _ after bytes (block body none) whole = block_is_found body after none bytes whole
 comment_is_found _ after bytes (line body none ends) whole = line_is_found body after none ends bytes whole
 
 -- no comment is closed: no `*/`
-pub unclosed_is_found : (body : List ℕ) → Nowhere begins_close body [] → comment_front (47 ∷ 42 ∷ body) ≡ front.Flawed UnclosedComment 0
+pub unclosed_is_found : (body : List ℕ) → Nowhere begins_close body [] → comment_head (47 ∷ 42 ∷ body) ≡ head.Error UnclosedComment 0
 unclosed_is_found body none =
     let place : offset_within begins_close (length body) body ≡ length body = ap (offset_within begins_close (length body)) (sym (append-nil body)) ∙ place_none_before begins_close body [] none in
     ap (λ n. block_comment n (47 ∷ 42 ∷ body)) place ∙ cond-false _ _ _ (le-ltb (length body) (length body) (omega arith))
 
 -- a comment without line splice, and one with
-pub plain_is_found : (c after : List ℕ) → Nowhere begins_splice c after → comment_of (length c) (c ++ after) ≡ front.Comment (length c)
+pub plain_is_found : (c after : List ℕ) → Nowhere begins_splice c after → comment_of (length c) (c ++ after) ≡ head.Comment (length c)
 plain_is_found c after none =
     ap (spliced (length c)) (place_none_before begins_splice c after none) ∙ cond-false _ _ _ (le-ltb (length c) (length c) (omega arith))
 
-pub splice_is_found : (before back after : List ℕ) → Nowhere begins_splice before (back ++ after) → 0 < length back → begins_splice (back ++ after) ≡ true → comment_of (length (before ++ back)) ((before ++ back) ++ after) ≡ front.Flawed BadByte (length before)
+pub splice_is_found : (before back after : List ℕ) → Nowhere begins_splice before (back ++ after) → 0 < length back → begins_splice (back ++ after) ≡ true → comment_of (length (before ++ back)) ((before ++ back) ++ after) ≡ head.Error BadByte (length before)
 splice_is_found before back after none some here =
     let size = length-append before back in
     let more = length-append back after in

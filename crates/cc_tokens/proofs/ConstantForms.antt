@@ -19,11 +19,11 @@ some_same x y e = cc
 none_some : {A : Type 0} (x : A) → None ≡ Some x → ⊥
 none_some x e = cc
 
--- the digits at the front are digits
-front_digits : (p : ℕ → Bool) (bs : List ℕ) → AllByRecursion (λ b. IsTrue (p b)) (take (prefix_len p bs) bs)
-front_digits p [] = tt
-front_digits p (b ∷ bs) =
-    let ih = front_digits p bs in
+-- the digits at the head are digits
+head_digits : (p : ℕ → Bool) (bs : List ℕ) → AllByRecursion (λ b. IsTrue (p b)) (take (prefix_len p bs) bs)
+head_digits p [] = tt
+head_digits p (b ∷ bs) =
+    let ih = head_digits p bs in
     let e = one-add (prefix_len p bs) in
     cond_both (p b) (1 + prefix_len p bs) 0 (λ n. AllByRecursion (λ x. IsTrue (p x)) (take n (b ∷ bs))) (λ yes. subst (λ n. AllByRecursion (λ x. IsTrue (p x)) (take n (b ∷ bs))) (sym e) (yes, ih)) (λ no. tt)
 
@@ -100,7 +100,7 @@ spelled_behind c text prefix behind base whole parts prefixed =
       suffix = drop n behind;
       parts = whole ∙ ap (λ bs. prefix ++ bs) (sym (take-append-drop n behind) ∙ ap (λ ds. ds ++ drop n behind) (sym digits_are));
       prefixed = subst (λ ds. IsPrefix prefix c.base ds) (sym digits_are) (subst (λ b. IsPrefix prefix b (take n behind)) (sym base_is) prefixed);
-      all_digits = subst (λ ds. AllByRecursion (λ b. IsTrue (is_digit_of c.base b)) ds) (sym digits_are) (subst (λ k. AllByRecursion (λ b. IsTrue (is_digit_of k b)) (take n behind)) (sym base_is) (front_digits (is_digit_of base) behind));
+      all_digits = subst (λ ds. AllByRecursion (λ b. IsTrue (is_digit_of c.base b)) ds) (sym digits_are) (subst (λ k. AllByRecursion (λ b. IsTrue (is_digit_of k b)) (take n behind)) (sym base_is) (head_digits (is_digit_of base) behind));
       ended = parts.ended;
     }
 

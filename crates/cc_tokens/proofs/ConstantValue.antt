@@ -4,7 +4,7 @@ use Rattle.std.specs.Prelude.{nat_le}
 use Rattle.std.specs.List.{fold, prefix_len}
 use Rattle.std.specs.Char.{digit_value}
 use Rattle.std.proofs.lemmas.Bool.{cond-false, cases_lt, lt-leb, and_right}
-use Rattle.cc_tokens.specs.declared.flaw.Flaw.{Flaw}
+use Rattle.cc_tokens.specs.declared.lexical_error.LexicalError.{LexicalError}
 use Rattle.cc_tokens.specs.declared.token.TokenKind.{TokenKind}
 use Rattle.cc_tokens.specs.Constant.{is_digit_of, type_of_value}
 use Rattle.cc_tokens.specs.internal.Scan.{typed, constant_kind, constant_spelled, constant_behind, base_of, prefix_of_base, suffix_of, with_suffix}
@@ -61,7 +61,7 @@ kind_from_parts number base n suffixed base_is some n_is digits suffix_is =
     ∙ sym (ap constant_kind (ap (λ b. constant_behind b (prefix_len (is_digit_of b) (drop (prefix_of_base b) number)) (drop (prefix_of_base b) number)) (sym base_is) ∙ whole))
 
 -- the same for what the code has at hand
-pub kind_from_behind : (number behind : List ℕ) (base n v : ℕ) (suffixed : Bool) (r : Result TokenKind Flaw) → base ≡ base_of number → 1 ≤ base
+pub kind_from_behind : (number behind : List ℕ) (base n v : ℕ) (suffixed : Bool) (r : Result TokenKind LexicalError) → base ≡ base_of number → 1 ≤ base
     → behind ≡ drop (prefix_of_base base) number
     → n ≡ prefix_len (is_digit_of base) behind
     → (n == 0 && not (base == 8)) ≡ false

@@ -4,13 +4,13 @@ use Rattle.std.specs.List.{flat_map}
 use Rattle.std.specs.Char.{is_ascii_digit}
 use Rattle.std.proofs.lemmas.Bool.{false≢true}
 use Rattle.std.proofs.lemmas.List.{take_at, drop_at, append-nil}
-use Rattle.cc_tokens.specs.declared.flaw.Flaw.{Flaw}
-use Rattle.cc_tokens.specs.declared.flaw.Flaw.TheVariants.{BadByte, UnclosedComment, BadConstant, ConstantTooLarge}
-use Rattle.cc_tokens.specs.declared.scan.Front.TheVariants as front
-use Rattle.cc_tokens.specs.Tokens.{Piece, blank, comment, token, piece_bytes, StandsBefore, IsCut, tokens_of, IsFlawed, IsStray, IsSpliced, IsNumber, TokensAreOne, TokensHaveNoFlaw, FirstFlawIsOne}
-use Rattle.cc_tokens.specs.internal.Scan.{front_of, punctuator_at}
+use Rattle.cc_tokens.specs.declared.lexical_error.LexicalError.{LexicalError}
+use Rattle.cc_tokens.specs.declared.lexical_error.LexicalError.TheVariants.{BadByte, UnclosedComment, BadConstant, ConstantTooLarge}
+use Rattle.cc_tokens.specs.declared.scan.Head.TheVariants as head
+use Rattle.cc_tokens.specs.Tokens.{Piece, blank, comment, token, piece_bytes, StandsBefore, IsCut, tokens_of, IsLexicalError, IsStray, IsSpliced, IsNumber, TokensAreOne, TokensHaveNoLexicalError, FirstLexicalErrorIsOne}
+use Rattle.cc_tokens.specs.internal.Scan.{head_of, punctuator_at}
 use Rattle.cc_tokens.proofs.ConstantForms.{constant_begins}
-use Rattle.cc_tokens.proofs.Complete.{answer_of, piece_complete, flaw_complete}
+use Rattle.cc_tokens.proofs.Complete.{answer_of, piece_complete, error_complete}
 
 -- One piece more.
 pub cut_more : (ps : List Piece) (p : Piece) (text rest after : List ℕ) → IsCut ps text rest → rest ≡ piece_bytes p ++ after → StandsBefore p after → IsCut (ps ++ p ∷ []) text after
@@ -55,25 +55,25 @@ same_piece (token j c) (token k d) a b e same =
     let parts = same_bytes c d a b e size in
     (ap (λ i. token i c) kinds ∙ ap (token k) parts.0, parts.1)
 
--- two pieces at the front of one text are one
-front_piece : (p q : Piece) (text a b : List ℕ) → text ≡ piece_bytes p ++ a → StandsBefore p a → text ≡ piece_bytes q ++ b → StandsBefore q b → (p ≡ q) × (a ≡ b)
-front_piece p q text a b whole stands whole' stands' = same_piece p q a b (sym whole ∙ whole') (sym (piece_complete p a stands) ∙ ap front_of (sym whole ∙ whole') ∙ piece_complete q b stands')
+-- two pieces at the head of one text are one
+head_piece : (p q : Piece) (text a b : List ℕ) → text ≡ piece_bytes p ++ a → StandsBefore p a → text ≡ piece_bytes q ++ b → StandsBefore q b → (p ≡ q) × (a ≡ b)
+head_piece p q text a b whole stands whole' stands' = same_piece p q a b (sym whole ∙ whole') (sym (piece_complete p a stands) ∙ ap head_of (sym whole ∙ whole') ∙ piece_complete q b stands')
 
--- a piece is no flaw, and has bytes; a flaw has bytes
-piece_no_flaw : (p : Piece) (flaw : Flaw) (k : ℕ) → answer_of p ≡ front.Flawed flaw k → ⊥
-piece_no_flaw (blank b) flaw k e = let h : ⊥ = cc in h
-piece_no_flaw (comment c) flaw k e = let h : ⊥ = cc in h
-piece_no_flaw (token j c) flaw k e = let h : ⊥ = cc in h
+-- a piece is no error, and has bytes; an error has bytes
+piece_no_error : (p : Piece) (error : LexicalError) (k : ℕ) → answer_of p ≡ head.Error error k → ⊥
+piece_no_error (blank b) error k e = let h : ⊥ = cc in h
+piece_no_error (comment c) error k e = let h : ⊥ = cc in h
+piece_no_error (token j c) error k e = let h : ⊥ = cc in h
 
-front_flaw : (p : Piece) (text a : List ℕ) (flaw : Flaw) (k : ℕ) → text ≡ piece_bytes p ++ a → StandsBefore p a → IsFlawed flaw text k → ⊥
-front_flaw p text a flaw k whole stands flawed = piece_no_flaw p flaw k (sym (piece_complete p a stands) ∙ ap front_of (sym whole) ∙ flaw_complete flaw text k flawed)
+head_error : (p : Piece) (text a : List ℕ) (error : LexicalError) (k : ℕ) → text ≡ piece_bytes p ++ a → StandsBefore p a → IsLexicalError error text k → ⊥
+head_error p text a error k whole stands erroneous = piece_no_error p error k (sym (piece_complete p a stands) ∙ ap head_of (sym whole) ∙ error_complete error text k erroneous)
 
-front_of_nothing : front_of [] ≡ front.Flawed BadByte 0
-unfolding front_of punctuator_at
-front_of_nothing = refl
+head_of_nothing : head_of [] ≡ head.Error BadByte 0
+unfolding head_of punctuator_at
+head_of_nothing = refl
 
 piece_has_bytes : (p : Piece) (a : List ℕ) → [] ≡ piece_bytes p ++ a → StandsBefore p a → ⊥
-piece_has_bytes p a whole stands = piece_no_flaw p BadByte 0 (sym (piece_complete p a stands) ∙ ap front_of (sym whole) ∙ front_of_nothing)
+piece_has_bytes p a whole stands = piece_no_error p BadByte 0 (sym (piece_complete p a stands) ∙ ap head_of (sym whole) ∙ head_of_nothing)
 
 begins_nonempty : (text : List ℕ) → is_ascii_digit (get_or text 0 0) ≡ true → 0 < length text
 begins_nonempty [] digit = absurd (false≢true digit)
@@ -83,44 +83,44 @@ number_nonempty : (text : List ℕ) → IsNumber text → 0 < length text
 number_nonempty [] w = absurd w
 number_nonempty (b ∷ bs) w = omega arith
 
-front_nonempty : (text after bytes : List ℕ) → bytes ≡ text ++ after → 0 < length text → 0 < length bytes
-front_nonempty text after bytes whole some = omega (arith, ap length whole, length-append text after)
+head_nonempty : (text after bytes : List ℕ) → bytes ≡ text ++ after → 0 < length text → 0 < length bytes
+head_nonempty text after bytes whole some = omega (arith, ap length whole, length-append text after)
 
-pub flaw_has_bytes : (flaw : Flaw) (bytes : List ℕ) (k : ℕ) → IsFlawed flaw bytes k → 0 < length bytes
-flaw_has_bytes BadByte bytes k flawed = ⊎_elim
+pub error_has_bytes : (error : LexicalError) (bytes : List ℕ) (k : ℕ) → IsLexicalError error bytes k → 0 < length bytes
+error_has_bytes BadByte bytes k erroneous = ⊎_elim
     (λ (s : IsStray bytes × (k ≡ 0)). omega (arith, ap length s.0.whole))
-    (λ (s : IsSpliced bytes k). front_nonempty (s.front ++ s.back) s.after bytes s.whole (omega (arith, s.inside, length-append s.front s.back)))
-    flawed
-flaw_has_bytes UnclosedComment bytes k flawed = omega (arith, ap length flawed.0.whole)
-flaw_has_bytes BadConstant bytes k flawed = front_nonempty flawed.0.text flawed.0.after bytes flawed.0.whole (number_nonempty flawed.0.text flawed.0.number)
-flaw_has_bytes ConstantTooLarge bytes k flawed = front_nonempty flawed.0.text flawed.0.after bytes flawed.0.whole (begins_nonempty flawed.0.text (constant_begins flawed.0.constant flawed.0.text flawed.0.spelled))
+    (λ (s : IsSpliced bytes k). head_nonempty (s.prefix ++ s.back) s.after bytes s.whole (omega (arith, s.inside, length-append s.prefix s.back)))
+    erroneous
+error_has_bytes UnclosedComment bytes k erroneous = omega (arith, ap length erroneous.0.whole)
+error_has_bytes BadConstant bytes k erroneous = head_nonempty erroneous.0.text erroneous.0.after bytes erroneous.0.whole (number_nonempty erroneous.0.text erroneous.0.number)
+error_has_bytes ConstantTooLarge bytes k erroneous = head_nonempty erroneous.0.text erroneous.0.after bytes erroneous.0.whole (begins_nonempty erroneous.0.text (constant_begins erroneous.0.constant erroneous.0.text erroneous.0.spelled))
 
 cut_one : (ps qs : List Piece) (text : List ℕ) → IsCut ps text [] → IsCut qs text [] → ps ≡ qs
 cut_one [] [] text cut cut' = refl
 cut_one [] (q ∷ qs) text cut cut' = absurd (piece_has_bytes q cut'.0 (sym cut ∙ cut'.1) cut'.2)
 cut_one (p ∷ ps) [] text cut cut' = absurd (piece_has_bytes p cut.0 (sym cut' ∙ cut.1) cut.2)
 cut_one (p ∷ ps) (q ∷ qs) text cut cut' =
-    let same = front_piece p q text cut.0 cut'.0 cut.1 cut.2 cut'.1 cut'.2 in
+    let same = head_piece p q text cut.0 cut'.0 cut.1 cut.2 cut'.1 cut'.2 in
     let ih = cut_one ps qs cut.0 cut.3 (subst (λ bs. IsCut qs bs []) (sym same.1) cut'.3) in
     ap (λ x. x ∷ ps) same.0 ∙ ap (λ xs. q ∷ xs) ih
 
-cut_no_flaw : (ps qs : List Piece) (text rest : List ℕ) (flaw : Flaw) (k : ℕ) → IsCut ps text rest → IsFlawed flaw rest k → IsCut qs text [] → ⊥
-cut_no_flaw [] [] text rest flaw k cut flawed cut' = let some = flaw_has_bytes flaw rest k flawed in let size = ap length (sym cut' ∙ cut) in omega arith
-cut_no_flaw [] (q ∷ qs) text rest flaw k cut flawed cut' = front_flaw q rest cut'.0 flaw k (sym cut ∙ cut'.1) cut'.2 flawed
-cut_no_flaw (p ∷ ps) [] text rest flaw k cut flawed cut' = piece_has_bytes p cut.0 (sym cut' ∙ cut.1) cut.2
-cut_no_flaw (p ∷ ps) (q ∷ qs) text rest flaw k cut flawed cut' =
-    let same = front_piece p q text cut.0 cut'.0 cut.1 cut.2 cut'.1 cut'.2 in
-    cut_no_flaw ps qs cut.0 rest flaw k cut.3 flawed (subst (λ bs. IsCut qs bs []) (sym same.1) cut'.3)
+cut_no_error : (ps qs : List Piece) (text rest : List ℕ) (error : LexicalError) (k : ℕ) → IsCut ps text rest → IsLexicalError error rest k → IsCut qs text [] → ⊥
+cut_no_error [] [] text rest error k cut erroneous cut' = let some = error_has_bytes error rest k erroneous in let size = ap length (sym cut' ∙ cut) in omega arith
+cut_no_error [] (q ∷ qs) text rest error k cut erroneous cut' = head_error q rest cut'.0 error k (sym cut ∙ cut'.1) cut'.2 erroneous
+cut_no_error (p ∷ ps) [] text rest error k cut erroneous cut' = piece_has_bytes p cut.0 (sym cut' ∙ cut.1) cut.2
+cut_no_error (p ∷ ps) (q ∷ qs) text rest error k cut erroneous cut' =
+    let same = head_piece p q text cut.0 cut'.0 cut.1 cut.2 cut'.1 cut'.2 in
+    cut_no_error ps qs cut.0 rest error k cut.3 erroneous (subst (λ bs. IsCut qs bs []) (sym same.1) cut'.3)
 
-flaw_one : (ps qs : List Piece) (text rest rest' : List ℕ) (f g : Flaw) (i j : ℕ) → IsCut ps text rest → IsFlawed f rest i → IsCut qs text rest' → IsFlawed g rest' j → (f ≡ g) × (length (flat_map piece_bytes ps) + i ≡ length (flat_map piece_bytes qs) + j)
-flaw_one [] [] text rest rest' f g i j cut flawed cut' flawed' =
-    let same : front.Flawed f i ≡ front.Flawed g j = sym (flaw_complete f rest i flawed) ∙ ap front_of (sym cut ∙ cut') ∙ flaw_complete g rest' j flawed' in
+error_one : (ps qs : List Piece) (text rest rest' : List ℕ) (f g : LexicalError) (i j : ℕ) → IsCut ps text rest → IsLexicalError f rest i → IsCut qs text rest' → IsLexicalError g rest' j → (f ≡ g) × (length (flat_map piece_bytes ps) + i ≡ length (flat_map piece_bytes qs) + j)
+error_one [] [] text rest rest' f g i j cut erroneous cut' erroneous' =
+    let same : head.Error f i ≡ head.Error g j = sym (error_complete f rest i erroneous) ∙ ap head_of (sym cut ∙ cut') ∙ error_complete g rest' j erroneous' in
     (cc, (let places : i ≡ j = cc in ap (λ n. 0 + n) places))
-flaw_one [] (q ∷ qs) text rest rest' f g i j cut flawed cut' flawed' = absurd (front_flaw q rest cut'.0 f i (sym cut ∙ cut'.1) cut'.2 flawed)
-flaw_one (p ∷ ps) [] text rest rest' f g i j cut flawed cut' flawed' = absurd (front_flaw p rest' cut.0 g j (sym cut' ∙ cut.1) cut.2 flawed')
-flaw_one (p ∷ ps) (q ∷ qs) text rest rest' f g i j cut flawed cut' flawed' =
-    let same = front_piece p q text cut.0 cut'.0 cut.1 cut.2 cut'.1 cut'.2 in
-    let ih = flaw_one ps qs cut.0 rest rest' f g i j cut.3 flawed (subst (λ bs. IsCut qs bs rest') (sym same.1) cut'.3) flawed' in
+error_one [] (q ∷ qs) text rest rest' f g i j cut erroneous cut' erroneous' = absurd (head_error q rest cut'.0 f i (sym cut ∙ cut'.1) cut'.2 erroneous)
+error_one (p ∷ ps) [] text rest rest' f g i j cut erroneous cut' erroneous' = absurd (head_error p rest' cut.0 g j (sym cut' ∙ cut.1) cut.2 erroneous')
+error_one (p ∷ ps) (q ∷ qs) text rest rest' f g i j cut erroneous cut' erroneous' =
+    let same = head_piece p q text cut.0 cut'.0 cut.1 cut.2 cut'.1 cut'.2 in
+    let ih = error_one ps qs cut.0 rest rest' f g i j cut.3 erroneous (subst (λ bs. IsCut qs bs rest') (sym same.1) cut'.3) erroneous' in
     let sizes = ap (λ x. length (piece_bytes x)) same.0 in
     (ih.0, omega (arith, ih.1, sizes, length-append (piece_bytes p) (flat_map piece_bytes ps), length-append (piece_bytes q) (flat_map piece_bytes qs)))
 
@@ -128,10 +128,10 @@ flaw_one (p ∷ ps) (q ∷ qs) text rest rest' f g i j cut flawed cut' flawed' =
 pub tokens_are_one : TokensAreOne
 tokens_are_one text a b one other = one.tokens ∙ ap (tokens_of 0) (cut_one one.pieces other.pieces text one.cut other.cut) ∙ sym other.tokens
 
-pub tokens_have_no_flaw : TokensHaveNoFlaw
-tokens_have_no_flaw text ts flaw at one f = cut_no_flaw f.pieces one.pieces text f.rest flaw f.offset f.cut f.flawed one.cut
+pub tokens_have_no_error : TokensHaveNoLexicalError
+tokens_have_no_error text ts error at one f = cut_no_error f.pieces one.pieces text f.rest error f.offset f.cut f.erroneous one.cut
 
-pub first_flaw_is_one : FirstFlawIsOne
-first_flaw_is_one text f g i j one other =
-    let same = flaw_one one.pieces other.pieces text one.rest other.rest f g one.offset other.offset one.cut one.flawed other.cut other.flawed in
+pub first_error_is_one : FirstLexicalErrorIsOne
+first_error_is_one text f g i j one other =
+    let same = error_one one.pieces other.pieces text one.rest other.rest f g one.offset other.offset one.cut one.erroneous other.cut other.erroneous in
     (same.0, one.where_at ∙ same.1 ∙ sym other.where_at)

@@ -15,7 +15,7 @@ use Rattle.cc_tokens.specs.Spelling.{keyword_bytes, punctuator_bytes}
 use Rattle.cc_tokens.specs.internal.Scan.{keyword_named, punctuator_at, keywords_with, punctuators_with}
 use Rattle.cc_tokens.proofs.Tables.{keyword_named-bytes}
 use Rattle.cc_tokens.proofs.Words.{found_passes, missing_fails}
-use Rattle.cc_tokens.proofs.Punctuators.{is_descending, longest_first, front_test, punctuator_found, punctuator_longest, punctuator_missing, punctuator_one}
+use Rattle.cc_tokens.proofs.Punctuators.{is_descending, longest_first, head_test, punctuator_found, punctuator_longest, punctuator_missing, punctuator_one}
 
 -- the keyword of a keyword's bytes is among those that begin as they do
 keyword_among : (k : Keyword) → find (λ j. bytes_eq (keyword_bytes j) (keyword_bytes k)) (keywords_with (slice_index (keyword_bytes k) 0)) ≡ Some k
@@ -225,23 +225,23 @@ same_first bytes p rest e = ap (λ bs. slice_index bs 0) e ∙ first_is p rest
 pub punctuator_among_few : (bytes : List ℕ) → find (λ p. starts_with (λ a b. a == b) bytes (punctuator_bytes p)) (punctuators_with (slice_index bytes 0)) ≡ punctuator_at bytes
 punctuator_among_few bytes = by (find (test bytes) (punctuators_with (slice_index bytes 0))) (punctuator_at bytes) refl refl
   where
-    front_of_found : (p : Punctuator) → find (test bytes) (punctuators_with (slice_index bytes 0)) ≡ Some p → bytes ≡ punctuator_bytes p ++ drop (length (punctuator_bytes p)) bytes
-    front_of_found p f = (front_test bytes p).0 (found_passes (test bytes) (punctuators_with (slice_index bytes 0)) p f)
+    head_of_found : (p : Punctuator) → find (test bytes) (punctuators_with (slice_index bytes 0)) ≡ Some p → bytes ≡ punctuator_bytes p ++ drop (length (punctuator_bytes p)) bytes
+    head_of_found p f = (head_test bytes p).0 (found_passes (test bytes) (punctuators_with (slice_index bytes 0)) p f)
 
     by : (few all : Option Punctuator) → find (test bytes) (punctuators_with (slice_index bytes 0)) ≡ few → punctuator_at bytes ≡ all → few ≡ all
     by None None f a = refl
-    by (Some p) None f a = absurd (punctuator_missing bytes p (drop (length (punctuator_bytes p)) bytes) a (front_of_found p f))
+    by (Some p) None f a = absurd (punctuator_missing bytes p (drop (length (punctuator_bytes p)) bytes) a (head_of_found p f))
     by None (Some q) f a =
         let stands = punctuator_found bytes q a in
-        let passes : test bytes q ≡ true = (front_test bytes q).1 (drop (length (punctuator_bytes q)) bytes) stands in
+        let passes : test bytes q ≡ true = (head_test bytes q).1 (drop (length (punctuator_bytes q)) bytes) stands in
         let first = same_first bytes q (drop (length (punctuator_bytes q)) bytes) stands in
         let fails : test bytes q ≡ false = of_each_begun (λ p. test bytes p ≡ false) q (subst (λ b. AllByRecursion (λ p. test bytes p ≡ false) (punctuators_with b)) first (missing_fails (test bytes) (punctuators_with (slice_index bytes 0)) f)) in
         absurd (false≢true (sym fails ∙ passes))
     by (Some p) (Some q) f a =
         let stands = punctuator_found bytes q a in
-        let passes : test bytes q ≡ true = (front_test bytes q).1 (drop (length (punctuator_bytes q)) bytes) stands in
+        let passes : test bytes q ≡ true = (head_test bytes q).1 (drop (length (punctuator_bytes q)) bytes) stands in
         let first = same_first bytes q (drop (length (punctuator_bytes q)) bytes) stands in
         let few : find (test bytes) (punctuators_with (slice_index (punctuator_bytes q) 0)) ≡ Some p = ap (λ b. find (test bytes) (punctuators_with b)) (sym first) ∙ f in
         let below : length (punctuator_bytes q) ≤ length (punctuator_bytes p) = of_each_begun (λ r. test bytes r ≡ true → length (punctuator_bytes r) ≤ length (punctuator_bytes p)) q (longest_first (test bytes) 3 (punctuators_with (slice_index (punctuator_bytes q) 0)) p (begun_descend q) few) passes in
-        let above : length (punctuator_bytes p) ≤ length (punctuator_bytes q) = punctuator_longest bytes q p (drop (length (punctuator_bytes p)) bytes) a (front_of_found p f) in
-        ap Some (punctuator_one p q (drop (length (punctuator_bytes p)) bytes) (drop (length (punctuator_bytes q)) bytes) (sym (front_of_found p f) ∙ stands) (omega (arith, below, above)))
+        let above : length (punctuator_bytes p) ≤ length (punctuator_bytes q) = punctuator_longest bytes q p (drop (length (punctuator_bytes p)) bytes) a (head_of_found p f) in
+        ap Some (punctuator_one p q (drop (length (punctuator_bytes p)) bytes) (drop (length (punctuator_bytes q)) bytes) (sym (head_of_found p f) ∙ stands) (omega (arith, below, above)))

@@ -1,19 +1,19 @@
 -- What `tokens` has found before an offset: the text up to there is cut into pieces, and the tokens among them are those
--- found. Each answer of the scanner goes one piece on, or gives the first flaw.
+-- found. Each answer of the scanner goes one piece on, or gives the first error.
 use Rattle.std.proofs.Common.{◌≡◌, ℕ, ◌+◌, ◌-◌, ◌<◌, ◌≤◌, List, [], ◌∷◌, ◌++◌, length, take, drop, refl, sym, ap, ◌∙◌, arith, subst, length-append, length-drop}
 use Rattle.std.specs.List.{flat_map}
 use Rattle.std.proofs.lemmas.List.{take_at, drop_at, append-nil, drop-drop, take_rest, drop_all, map_push}
-use Rattle.cc_tokens.specs.declared.flaw.Flaw.{Flaw}
-use Rattle.cc_tokens.specs.declared.flaw.Flaw.TheVariants.{BadByte, UnclosedComment, BadConstant, ConstantTooLarge}
-use Rattle.cc_tokens.specs.declared.scan.Front.{Front}
+use Rattle.cc_tokens.specs.declared.lexical_error.LexicalError.{LexicalError}
+use Rattle.cc_tokens.specs.declared.lexical_error.LexicalError.TheVariants.{BadByte, UnclosedComment, BadConstant, ConstantTooLarge}
+use Rattle.cc_tokens.specs.declared.scan.Head.{Head}
 use Rattle.cc_tokens.specs.declared.token.Token.{Token}
 use Rattle.cc_tokens.specs.declared.token.TokenKind.{TokenKind}
 use Rattle.cc_tokens.specs.Place.{place_of}
 use Rattle.cc_tokens.specs.Token.{lexeme, lexemes}
-use Rattle.cc_tokens.specs.Tokens.{Piece, blank, comment, token, piece_bytes, IsCut, tokens_of, IsTokens, FirstFlaw, IsFlawed, AreInOrder, IsTokenRefusal, flaw_fault}
+use Rattle.cc_tokens.specs.Tokens.{Piece, blank, comment, token, piece_bytes, IsCut, tokens_of, IsTokens, FirstLexicalError, IsLexicalError, AreInOrder, IsTokenRefusal, lexical_fault}
 use Rattle.cc_tokens.specs.Reading.{FoundBefore}
-use Rattle.cc_tokens.specs.internal.Scan.{front_of}
-use Rattle.cc_tokens.proofs.Fronts.{StandsAt, IsFront, front_sound}
+use Rattle.cc_tokens.specs.internal.Scan.{head_of}
+use Rattle.cc_tokens.proofs.Heads.{StandsAt, IsHead, head_sound}
 use Rattle.cc_tokens.proofs.Cuts.{cut_more, bytes_more, tokens_more}
 
 pub found_none : (text : List ℕ) → FoundBefore text [] 0
@@ -63,9 +63,9 @@ module _ (text : List ℕ) (ts : List Token) (at n : ℕ) (found : FoundBefore t
       found_piece (token k bytes) (ts ++ t ∷ []) stands (map_push (lexeme text) ts t ∙ ap (λ l. lexemes text ts ++ l ∷ []) same) (order_more 0 ts at t found.ordered (omega arith) (omega arith))
 
 -- the scanner's answer over what is left stands there
-pub front_at : (text : List ℕ) (at : ℕ) (f : Front) → at < length text → f ≡ front_of (take (length text - at) (drop at text)) → IsFront (drop at text) f
-front_at text at f below e =
-    subst (IsFront (drop at text)) (sym (e ∙ ap front_of (take_rest text at))) (front_sound (drop at text) (omega (arith, length-drop at text)))
+pub head_at : (text : List ℕ) (at : ℕ) (f : Head) → at < length text → f ≡ head_of (take (length text - at) (drop at text)) → IsHead (drop at text) f
+head_at text at f below e =
+    subst (IsHead (drop at text)) (sym (e ∙ ap head_of (take_rest text at))) (head_sound (drop at text) (omega (arith, length-drop at text)))
 
 -- at the end of the text
 pub found_all : (text : List ℕ) (ts : List Token) (at : ℕ) → FoundBefore text ts at → length text ≤ at → IsTokens text (lexemes text ts)
@@ -78,22 +78,22 @@ found_all text ts at found past = record {
 pub order_all : (text : List ℕ) (ts : List Token) (at : ℕ) → FoundBefore text ts at → AreInOrder 0 ts (length text)
 order_all text ts at found = order_grows 0 ts at (length text) found.ordered found.within
 
--- at a flaw
-pub found_flaw : (text : List ℕ) (ts : List Token) (at k : ℕ) (flaw : Flaw) → FoundBefore text ts at → IsFlawed flaw (drop at text) k → FirstFlaw text flaw (at + k)
-found_flaw text ts at k flaw found flawed = record {
+-- at an error
+pub found_error : (text : List ℕ) (ts : List Token) (at k : ℕ) (error : LexicalError) → FoundBefore text ts at → IsLexicalError error (drop at text) k → FirstLexicalError text error (at + k)
+found_error text ts at k error found erroneous = record {
   pieces = found.pieces;
   rest = drop at text;
   offset = k;
   cut = found.cut;
-  flawed = flawed;
+  erroneous = erroneous;
   where_at = ap (λ i. i + k) found.consumed;
 }
 
-pub flaw_refused : (text : List ℕ) (flaw : Flaw) (at : ℕ) → length text ≤ 65536 → FirstFlaw text flaw at → IsTokenRefusal text (flaw_fault flaw (place_of text at))
-flaw_refused text BadByte at fits first = record { fits = fits; flaw = BadByte; at = at; first = first; is = refl }
-flaw_refused text UnclosedComment at fits first = record { fits = fits; flaw = UnclosedComment; at = at; first = first; is = refl }
-flaw_refused text BadConstant at fits first = record { fits = fits; flaw = BadConstant; at = at; first = first; is = refl }
-flaw_refused text ConstantTooLarge at fits first = record { fits = fits; flaw = ConstantTooLarge; at = at; first = first; is = refl }
+pub error_refused : (text : List ℕ) (error : LexicalError) (at : ℕ) → length text ≤ 65536 → FirstLexicalError text error at → IsTokenRefusal text (lexical_fault error (place_of text at))
+error_refused text BadByte at fits first = record { fits = fits; error = BadByte; at = at; first = first; is = refl }
+error_refused text UnclosedComment at fits first = record { fits = fits; error = UnclosedComment; at = at; first = first; is = refl }
+error_refused text BadConstant at fits first = record { fits = fits; error = BadConstant; at = at; first = first; is = refl }
+error_refused text ConstantTooLarge at fits first = record { fits = fits; error = ConstantTooLarge; at = at; first = first; is = refl }
 
 -- a piece is within the bytes
 pub stands_within : (text : List ℕ) (at n : ℕ) (p : Piece) → at < length text → StandsAt (drop at text) n p → at + n ≤ length text

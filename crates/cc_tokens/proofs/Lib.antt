@@ -7,7 +7,7 @@ pub mod Words
 pub mod Punctuators
 pub mod Few
 pub mod Comments
-pub mod Fronts
+pub mod Heads
 pub mod Complete
 pub mod Cuts
 pub mod Found

@@ -1,4 +1,4 @@
--- The punctuator that the scanner finds is the longest at the front: the table has the longest first.
+-- The punctuator that the scanner finds is the longest at the head: the table has the longest first.
 use Rattle.std.proofs.Common.{◌≡◌, ◌≢◌, ℕ, ◌≤◌, Bool, true, false, ◌&&◌, ◌==◌, List, [], ◌∷◌, ◌++◌, length, take, drop, refl, sym, ap, ◌∙◌, arith, subst, Some, None}
 use Rattle.std.specs.Prelude.{nat_le}
 use Rattle.std.specs.List.{find, starts_with, AllByRecursion}
@@ -38,25 +38,25 @@ longest_first test most (x ∷ ps) p descends e =
     (λ not_here e'. ((λ passes. absurd (false≢true (sym not_here ∙ passes))), ih e'))
     e
 
--- the test of the table: the punctuator stands at the front
-pub front_test : (bytes : List ℕ) (p : Punctuator) → (starts_with (λ a b. a == b) bytes (punctuator_bytes p) ≡ true → bytes ≡ punctuator_bytes p ++ drop (length (punctuator_bytes p)) bytes) × ((rest : List ℕ) → bytes ≡ punctuator_bytes p ++ rest → starts_with (λ a b. a == b) bytes (punctuator_bytes p) ≡ true)
-front_test bytes p = starts_is Decides-eqb bytes (punctuator_bytes p) (starts_with (λ a b. a == b) bytes (punctuator_bytes p)) refl
+-- the test of the table: the punctuator stands at the head
+pub head_test : (bytes : List ℕ) (p : Punctuator) → (starts_with (λ a b. a == b) bytes (punctuator_bytes p) ≡ true → bytes ≡ punctuator_bytes p ++ drop (length (punctuator_bytes p)) bytes) × ((rest : List ℕ) → bytes ≡ punctuator_bytes p ++ rest → starts_with (λ a b. a == b) bytes (punctuator_bytes p) ≡ true)
+head_test bytes p = starts_is Decides-eqb bytes (punctuator_bytes p) (starts_with (λ a b. a == b) bytes (punctuator_bytes p)) refl
 
 pub punctuator_found : (bytes : List ℕ) (p : Punctuator) → punctuator_at bytes ≡ Some p → bytes ≡ punctuator_bytes p ++ drop (length (punctuator_bytes p)) bytes
 unfolding punctuator_at
-punctuator_found bytes p e = (front_test bytes p).0 (found_passes (λ q. starts_with (λ a b. a == b) bytes (punctuator_bytes q)) PUNCTUATORS p e)
+punctuator_found bytes p e = (head_test bytes p).0 (found_passes (λ q. starts_with (λ a b. a == b) bytes (punctuator_bytes q)) PUNCTUATORS p e)
 
 pub punctuator_longest : (bytes : List ℕ) (p q : Punctuator) (rest : List ℕ) → punctuator_at bytes ≡ Some p → bytes ≡ punctuator_bytes q ++ rest → length (punctuator_bytes q) ≤ length (punctuator_bytes p)
 unfolding punctuator_at
-punctuator_longest bytes p q rest e front =
-    of_each_punctuator (λ r. starts_with (λ a b. a == b) bytes (punctuator_bytes r) ≡ true → length (punctuator_bytes r) ≤ length (punctuator_bytes p)) (longest_first (λ r. starts_with (λ a b. a == b) bytes (punctuator_bytes r)) 3 PUNCTUATORS p refl e) q ((front_test bytes q).1 rest front)
+punctuator_longest bytes p q rest e prefix =
+    of_each_punctuator (λ r. starts_with (λ a b. a == b) bytes (punctuator_bytes r) ≡ true → length (punctuator_bytes r) ≤ length (punctuator_bytes p)) (longest_first (λ r. starts_with (λ a b. a == b) bytes (punctuator_bytes r)) 3 PUNCTUATORS p refl e) q ((head_test bytes q).1 rest prefix)
 
 pub punctuator_missing : (bytes : List ℕ) (q : Punctuator) (rest : List ℕ) → punctuator_at bytes ≡ None → bytes ≢ punctuator_bytes q ++ rest
 unfolding punctuator_at
-punctuator_missing bytes q rest e front =
-    false≢true (sym (of_each_punctuator (λ r. starts_with (λ a b. a == b) bytes (punctuator_bytes r) ≡ false) (missing_fails (λ r. starts_with (λ a b. a == b) bytes (punctuator_bytes r)) PUNCTUATORS e) q) ∙ (front_test bytes q).1 rest front)
+punctuator_missing bytes q rest e prefix =
+    false≢true (sym (of_each_punctuator (λ r. starts_with (λ a b. a == b) bytes (punctuator_bytes r) ≡ false) (missing_fails (λ r. starts_with (λ a b. a == b) bytes (punctuator_bytes r)) PUNCTUATORS e) q) ∙ (head_test bytes q).1 rest prefix)
 
--- two punctuators at one front that are no longer than each other are one
+-- two punctuators at the head that are no longer than each other are one
 pub punctuator_one : (p q : Punctuator) (a b : List ℕ) → punctuator_bytes p ++ a ≡ punctuator_bytes q ++ b → length (punctuator_bytes p) ≡ length (punctuator_bytes q) → p ≡ q
 punctuator_one p q a b e sizes =
     let bytes : punctuator_bytes p ≡ punctuator_bytes q = sym (take_at (punctuator_bytes p) a (length (punctuator_bytes p)) refl) ∙ ap (take (length (punctuator_bytes p))) e ∙ take_at (punctuator_bytes q) b (length (punctuator_bytes p)) (sym sizes) in

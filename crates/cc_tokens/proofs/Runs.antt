@@ -22,12 +22,12 @@ run_continues may before (b ∷ bs) =
     cond_both (may before b) (suc (run_length may b bs)) 0 (λ n. Continues may before (take n (b ∷ bs))) (λ goes. (goes, ih)) (λ stops. tt)
 
 -- no run that goes on is longer
-pub run_longest : (may : ℕ → ℕ → Bool) (before : ℕ) (front rest : List ℕ) → Continues may before front → length front ≤ run_length may before (front ++ rest)
+pub run_longest : (may : ℕ → ℕ → Bool) (before : ℕ) (prefix rest : List ℕ) → Continues may before prefix → length prefix ≤ run_length may before (prefix ++ rest)
 unfolding run_length
 run_longest may before [] rest goes = omega arith
-run_longest may before (b ∷ front) rest goes =
-    let ih = run_longest may b front rest goes.1 in
-    let e = cond-true (may before b) (suc (run_length may b (front ++ rest))) 0 goes.0 in
+run_longest may before (b ∷ prefix) rest goes =
+    let ih = run_longest may b prefix rest goes.1 in
+    let e = cond-true (may before b) (suc (run_length may b (prefix ++ rest))) 0 goes.0 in
     omega arith
 
 -- the first bytes, before the place that a search answers, don't begin what it looks for, and the place does
@@ -57,14 +57,14 @@ place_here test (suc n) (b ∷ bs) fits below =
     cond_both (test (b ∷ bs)) 0 (suc (offset_within test n bs)) (λ k. k < suc n → test (drop k (b ∷ bs)) ≡ true) (λ here lt. here) (λ not_here lt. ih (omega arith)) below
 
 -- and a search answers no other place
-pub place_is : (test : List ℕ → Bool) (front after : List ℕ) (n : ℕ) → 0 < length after → Nowhere test front after → length front < n → test after ≡ true → offset_within test n (front ++ after) ≡ length front
+pub place_is : (test : List ℕ → Bool) (prefix after : List ℕ) (n : ℕ) → 0 < length after → Nowhere test prefix after → length prefix < n → test after ≡ true → offset_within test n (prefix ++ after) ≡ length prefix
 unfolding offset_within
-place_is test front after zero some none below here = absurd (omega arith)
+place_is test prefix after zero some none below here = absurd (omega arith)
 place_is test [] [] (suc n) some none below here = absurd (omega arith)
 place_is test [] (a ∷ after) (suc n) some none below here = cond-true _ _ _ here
-place_is test (b ∷ front) after (suc n) some none below here = cond-false _ _ _ none.0 ∙ ap suc (place_is test front after n some none.1 (omega arith) here)
+place_is test (b ∷ prefix) after (suc n) some none below here = cond-false _ _ _ none.0 ∙ ap suc (place_is test prefix after n some none.1 (omega arith) here)
 
-pub place_none_before : (test : List ℕ → Bool) (front after : List ℕ) → Nowhere test front after → offset_within test (length front) (front ++ after) ≡ length front
+pub place_none_before : (test : List ℕ → Bool) (prefix after : List ℕ) → Nowhere test prefix after → offset_within test (length prefix) (prefix ++ after) ≡ length prefix
 unfolding offset_within
 place_none_before test [] after none = refl
-place_none_before test (b ∷ front) after none = cond-false _ _ _ none.0 ∙ ap suc (place_none_before test front after none.1)
+place_none_before test (b ∷ prefix) after none = cond-false _ _ _ none.0 ∙ ap suc (place_none_before test prefix after none.1)

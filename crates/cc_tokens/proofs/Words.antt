@@ -1,4 +1,4 @@
--- Words, numbers and punctuators at the front of the bytes: what the scanner takes is the longest front that can be a
+-- Words, numbers and punctuators at the head of the bytes: what the scanner takes is the longest prefix that can be a
 -- token, by the first byte, which says which of the three it can be.
 use Rattle.std.proofs.Common.{◌≡◌, ℕ, suc, ◌<◌, ◌≤◌, Bool, true, false, List, [], ◌∷◌, ◌++◌, length, take, drop, refl, sym, ap, ◌∙◌, arith, subst, Option, Some, None}
 use Rattle.std.specs.List.{find, AllByRecursion}
@@ -43,15 +43,15 @@ marked b bs e =
     let word_or_number = and_parts _ _ both.1 in
     record { no_blank = not-true _ blank.1; no_nondigit = not-true _ word_or_number.0; no_digit = not-true _ word_or_number.1 }
 
--- the first byte of a front is that of the whole
-record IsFrontOf (b : ℕ) (bs other rest : List ℕ) : Type 0 where
+-- the first byte of a prefix is that of the whole
+record IsPrefixOf (b : ℕ) (bs other rest : List ℕ) : Type 0 where
   pub behind : List ℕ
   pub whole : other ≡ b ∷ behind
   pub others : bs ≡ behind ++ rest
 
-front_split : (b : ℕ) (bs other rest : List ℕ) → 0 < length other → b ∷ bs ≡ other ++ rest → IsFrontOf b bs other rest
-front_split b bs [] rest some e = absurd (omega arith)
-front_split b bs (c ∷ behind) rest some e = record { behind = behind; whole = cc; others = cc }
+head_split : (b : ℕ) (bs other rest : List ℕ) → 0 < length other → b ∷ bs ≡ other ++ rest → IsPrefixOf b bs other rest
+head_split b bs [] rest some e = absurd (omega arith)
+head_split b bs (c ∷ behind) rest some e = record { behind = behind; whole = cc; others = cc }
 
 pub punctuator_marks : (b : ℕ) (bs other rest : List ℕ) (p : Punctuator) → other ≡ punctuator_bytes p → b ∷ bs ≡ other ++ rest → IsMark b
 punctuator_marks b bs [] rest p is e = absurd (false≢true (ap begins_as_punctuator is ∙ punctuator_begins p))
@@ -67,34 +67,34 @@ some_bytes (b ∷ bs) e = omega arith
 pub punctuator_some : (p : Punctuator) → 0 < length (punctuator_bytes p)
 punctuator_some p = some_bytes (punctuator_bytes p) (punctuator_begins p)
 
--- a front that can be a token is a run, by the first byte
+-- a prefix that can be a token is a run, by the first byte
 record IsRunFrom (may : ℕ → ℕ → Bool) (b : ℕ) (bs other rest : List ℕ) : Type 0 where
   pub behind : List ℕ
   pub whole : other ≡ b ∷ behind
   pub others : bs ≡ behind ++ rest
   pub goes : Continues may b behind
 
-word_front : (b : ℕ) (bs other rest : List ℕ) → is_nondigit b ≡ true → CanBeToken other → b ∷ bs ≡ other ++ rest → IsRunFrom continues_word b bs other rest
-word_front b bs [] rest letter (word w) e = absurd w
-word_front b bs (c ∷ behind) rest letter (word w) e =
+word_head : (b : ℕ) (bs other rest : List ℕ) → is_nondigit b ≡ true → CanBeToken other → b ∷ bs ≡ other ++ rest → IsRunFrom continues_word b bs other rest
+word_head b bs [] rest letter (word w) e = absurd w
+word_head b bs (c ∷ behind) rest letter (word w) e =
     let same : c ≡ b = cc in
     record { behind = behind; whole = cc; others = cc; goes = subst (λ x. Continues continues_word x behind) same w.1 }
-word_front b bs [] rest letter (number w) e = absurd w
-word_front b bs (c ∷ behind) rest letter (number w) e =
+word_head b bs [] rest letter (number w) e = absurd w
+word_head b bs (c ∷ behind) rest letter (number w) e =
     let same : c ≡ b = cc in
     absurd (digit_not_nondigit b letter (subst (λ x. is_ascii_digit x ≡ true) same w.0))
-word_front b bs other rest letter (punctuator p is) e = absurd (false≢true (sym (punctuator_marks b bs other rest p is e).no_nondigit ∙ letter))
+word_head b bs other rest letter (punctuator p is) e = absurd (false≢true (sym (punctuator_marks b bs other rest p is e).no_nondigit ∙ letter))
 
-number_front : (b : ℕ) (bs other rest : List ℕ) → is_ascii_digit b ≡ true → CanBeToken other → b ∷ bs ≡ other ++ rest → IsRunFrom continues_number b bs other rest
-number_front b bs [] rest digit (word w) e = absurd w
-number_front b bs (c ∷ behind) rest digit (word w) e =
+number_head : (b : ℕ) (bs other rest : List ℕ) → is_ascii_digit b ≡ true → CanBeToken other → b ∷ bs ≡ other ++ rest → IsRunFrom continues_number b bs other rest
+number_head b bs [] rest digit (word w) e = absurd w
+number_head b bs (c ∷ behind) rest digit (word w) e =
     let same : c ≡ b = cc in
     absurd (digit_not_nondigit b (subst (λ x. is_nondigit x ≡ true) same w.0) digit)
-number_front b bs [] rest digit (number w) e = absurd w
-number_front b bs (c ∷ behind) rest digit (number w) e =
+number_head b bs [] rest digit (number w) e = absurd w
+number_head b bs (c ∷ behind) rest digit (number w) e =
     let same : c ≡ b = cc in
     record { behind = behind; whole = cc; others = cc; goes = subst (λ x. Continues continues_number x behind) same w.1 }
-number_front b bs other rest digit (punctuator p is) e = absurd (false≢true (sym (punctuator_marks b bs other rest p is e).no_digit ∙ digit))
+number_head b bs other rest digit (punctuator p is) e = absurd (false≢true (sym (punctuator_marks b bs other rest p is e).no_digit ∙ digit))
 
 -- how many bytes a run takes, its first counted
 run_bounds : (may : ℕ → ℕ → Bool) (b : ℕ) (bs other rest : List ℕ) → IsRunFrom may b bs other rest → length other ≤ suc (run_length may b bs)
@@ -107,12 +107,12 @@ run_bounds may b bs other rest run =
 taken_length : (may : ℕ → ℕ → Bool) (b : ℕ) (bs : List ℕ) → length (take (run_length may b bs) bs) ≡ run_length may b bs
 taken_length may b bs = length-take-le (run_length may b bs) bs (run_fits may b bs)
 
--- the word at the front is the longest token there, and so is the number
+-- the word at the head is the longest token there, and so is the number
 pub word_is_longest : (b : ℕ) (bs : List ℕ) → is_nondigit b ≡ true → IsLongest (b ∷ take (run_length continues_word b bs) bs) (drop (run_length continues_word b bs) bs)
 word_is_longest b bs letter = record {
   can_be = word (letter, run_continues continues_word b bs);
   longest = λ other rest can e.
-      let run = word_front b bs other rest letter can (sym (ap (λ xs. b ∷ xs) (take-append-drop (run_length continues_word b bs) bs)) ∙ e) in
+      let run = word_head b bs other rest letter can (sym (ap (λ xs. b ∷ xs) (take-append-drop (run_length continues_word b bs) bs)) ∙ e) in
       let bound = run_bounds continues_word b bs other rest run in
       let size = taken_length continues_word b bs in
       omega arith;
@@ -122,13 +122,13 @@ pub number_is_longest : (b : ℕ) (bs : List ℕ) → is_ascii_digit b ≡ true 
 number_is_longest b bs digit = record {
   can_be = number (digit, run_continues continues_number b bs);
   longest = λ other rest can e.
-      let run = number_front b bs other rest digit can (sym (ap (λ xs. b ∷ xs) (take-append-drop (run_length continues_number b bs) bs)) ∙ e) in
+      let run = number_head b bs other rest digit can (sym (ap (λ xs. b ∷ xs) (take-append-drop (run_length continues_number b bs) bs)) ∙ e) in
       let bound = run_bounds continues_number b bs other rest run in
       let size = taken_length continues_number b bs in
       omega arith;
 }
 
--- the longest word at a front is the run, and so is the number
+-- the longest word at the head is the run, and so is the number
 longest_takes : (may : ℕ → ℕ → Bool) (b : ℕ) (bs after : List ℕ) → IsLongest (b ∷ bs) after → Continues may b bs
     → CanBeToken (b ∷ take (run_length may b (bs ++ after)) (bs ++ after)) → run_length may b (bs ++ after) ≡ length bs
 longest_takes may b bs after longest goes can =

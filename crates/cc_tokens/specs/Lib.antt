@@ -8,7 +8,7 @@ pub mod Token
 pub mod Spelling
 -- integer constants: what spells them, their values and types
 pub mod Constant
--- the tokens of a text, its first flaw where it has none, and why it is refused
+-- the tokens of a text, its first error where it has none, and why it is refused
 pub mod Tokens
 -- reading a text token by token
 pub mod Reading

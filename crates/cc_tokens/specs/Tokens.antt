@@ -1,12 +1,12 @@
--- The tokens of a text, and its first flaw where it has none (C99 6.4).
+-- The tokens of a text, and its first error where it has none (C99 6.4).
 use Rattle.std.specs.Prelude.{◌≡◌, ◌≢◌, ℕ, ◌+◌, ◌<◌, ◌≤◌, ◌⊎◌, Bool, true, false, ◌||◌, ◌&&◌, ◌==◌, nat_le, slice_index, List, [], ◌∷◌, ◌++◌, length, Some, None, IsTrue}
 use Rattle.std.specs.List.{flat_map}
 use Rattle.std.specs.Char.{is_ascii_digit, is_ascii_alphabetic}
 use Rattle.cc_tokens.specs.declared.place.Place.{Place}
 use Rattle.cc_tokens.specs.declared.fault.SyntaxFault.{SyntaxFault}
 use Rattle.cc_tokens.specs.declared.fault.SyntaxFault.TheVariants as fault
-use Rattle.cc_tokens.specs.declared.flaw.Flaw.{Flaw}
-use Rattle.cc_tokens.specs.declared.flaw.Flaw.TheVariants.{BadByte, UnclosedComment, BadConstant, ConstantTooLarge}
+use Rattle.cc_tokens.specs.declared.lexical_error.LexicalError.{LexicalError}
+use Rattle.cc_tokens.specs.declared.lexical_error.LexicalError.TheVariants.{BadByte, UnclosedComment, BadConstant, ConstantTooLarge}
 use Rattle.cc_tokens.specs.declared.token.Keyword.{Keyword}
 use Rattle.cc_tokens.specs.declared.token.Punctuator.{Punctuator}
 use Rattle.cc_tokens.specs.declared.token.TokenKind.{TokenKind}
@@ -65,7 +65,7 @@ SpellsToken (kind.Keyword k) text = text ≡ keyword_bytes k
 SpellsToken (kind.Number type n) text = (c : Constant) × SpellsConstant c text × (constant_type c ≡ Some type) × (n ≡ digits_value c)
 SpellsToken (kind.Punctuator p) text = text ≡ punctuator_bytes p
 
--- of text and what follows it, text is the longest front that can be a token (6.4, paragraph 4)
+-- of text and what follows it, text is the longest prefix that can be a token (6.4, paragraph 4)
 pub record IsLongest (text after : List ℕ) : Type 0 where
   pub can_be : CanBeToken text
   pub longest : (other rest : List ℕ) → CanBeToken other → text ++ after ≡ other ++ rest → length other ≤ length text
@@ -86,10 +86,10 @@ begins_line_end bytes = slice_index bytes 0 == 10
 abbrev pub begins_splice : List ℕ → Bool
 begins_splice bytes = slice_index bytes 0 == 92 && (slice_index bytes 1 == 10 || (slice_index bytes 1 == 13 && slice_index bytes 2 == 10))
 
--- what the test looks for stands at no byte of the front, read with what follows it
+-- what the test looks for stands at no byte of the prefix, read with what follows it
 abbrev pub Nowhere : (List ℕ → Bool) → List ℕ → List ℕ → Type 0
 Nowhere test [] after = Unit {0}
-Nowhere test (b ∷ front) after = (test (b ∷ front ++ after) ≡ false) × Nowhere test front after
+Nowhere test (b ∷ prefix) after = (test (b ∷ prefix ++ after) ≡ false) × Nowhere test prefix after
 
 -- a comment, before what follows it: `/*` up to the first `*/` after it, or `//` up to the end of the line or of the
 -- text (6.4.9)
@@ -145,15 +145,15 @@ pub record IsStray (bytes : List ℕ) : Type 0 where
 
 -- the bytes begin with a comment in which the first line splice stands at an offset
 pub record IsSpliced (bytes : List ℕ) (offset : ℕ) : Type 0 where
-  pub front : List ℕ
+  pub prefix : List ℕ
   pub back : List ℕ
   pub after : List ℕ
-  pub whole : bytes ≡ (front ++ back) ++ after
-  pub commented : IsComment (front ++ back) after
-  pub none_before : Nowhere begins_splice front (back ++ after)
+  pub whole : bytes ≡ (prefix ++ back) ++ after
+  pub commented : IsComment (prefix ++ back) after
+  pub none_before : Nowhere begins_splice prefix (back ++ after)
   pub inside : 0 < length back
   pub here : begins_splice (back ++ after) ≡ true
-  pub at : offset ≡ length front
+  pub at : offset ≡ length prefix
 
 -- the bytes begin with `/*`, and no `*/` stands after it
 pub record IsUnclosed (bytes : List ℕ) : Type 0 where
@@ -161,7 +161,7 @@ pub record IsUnclosed (bytes : List ℕ) : Type 0 where
   pub whole : bytes ≡ 47 ∷ 42 ∷ body
   pub never_closed : Nowhere begins_close body []
 
--- the longest front that can be a token is a number that no constant spells
+-- the longest prefix that can be a token is a number that no constant spells
 pub record IsBadConstant (bytes : List ℕ) : Type 0 where
   pub text : List ℕ
   pub after : List ℕ
@@ -170,7 +170,7 @@ pub record IsBadConstant (bytes : List ℕ) : Type 0 where
   pub number : IsNumber text
   pub no_constant : (c : Constant) → SpellsConstant c text → ⊥
 
--- the longest front that can be a token is a constant that has no type
+-- the longest prefix that can be a token is a constant that has no type
 pub record IsTooLarge (bytes : List ℕ) : Type 0 where
   pub text : List ℕ
   pub after : List ℕ
@@ -180,28 +180,28 @@ pub record IsTooLarge (bytes : List ℕ) : Type 0 where
   pub spelled : SpellsConstant constant text
   pub no_type : constant_type constant ≡ None
 
--- no piece begins the bytes, but this flaw does, at an offset from their first
-abbrev pub IsFlawed : Flaw → List ℕ → ℕ → Type 0
-IsFlawed BadByte bytes offset = (IsStray bytes × (offset ≡ 0)) ⊎ IsSpliced bytes offset
-IsFlawed UnclosedComment bytes offset = IsUnclosed bytes × (offset ≡ 0)
-IsFlawed BadConstant bytes offset = IsBadConstant bytes × (offset ≡ 0)
-IsFlawed ConstantTooLarge bytes offset = IsTooLarge bytes × (offset ≡ 0)
+-- no piece begins the bytes, but this error does, at an offset from their first
+abbrev pub IsLexicalError : LexicalError → List ℕ → ℕ → Type 0
+IsLexicalError BadByte bytes offset = (IsStray bytes × (offset ≡ 0)) ⊎ IsSpliced bytes offset
+IsLexicalError UnclosedComment bytes offset = IsUnclosed bytes × (offset ≡ 0)
+IsLexicalError BadConstant bytes offset = IsBadConstant bytes × (offset ≡ 0)
+IsLexicalError ConstantTooLarge bytes offset = IsTooLarge bytes × (offset ≡ 0)
 
--- the first flaw of the text, and the offset where it stands: before it are pieces alone
-pub record FirstFlaw (text : List ℕ) (flaw : Flaw) (at : ℕ) : Type 0 where
+-- the first error of the text, and the offset where it stands: before it are pieces alone
+pub record FirstLexicalError (text : List ℕ) (error : LexicalError) (at : ℕ) : Type 0 where
   pub pieces : List Piece
   pub rest : List ℕ
   pub offset : ℕ
   pub cut : IsCut pieces text rest
-  pub flawed : IsFlawed flaw rest offset
+  pub erroneous : IsLexicalError error rest offset
   pub where_at : at ≡ length (flat_map piece_bytes pieces) + offset
 
--- the fault that a flaw is answered with
-abbrev pub flaw_fault : Flaw → Place → SyntaxFault
-flaw_fault BadByte p = fault.BadByte p
-flaw_fault UnclosedComment p = fault.UnclosedComment p
-flaw_fault BadConstant p = fault.BadConstant p
-flaw_fault ConstantTooLarge p = fault.ConstantTooLarge p
+-- the fault that an error is answered with
+abbrev pub lexical_fault : LexicalError → Place → SyntaxFault
+lexical_fault BadByte p = fault.BadByte p
+lexical_fault UnclosedComment p = fault.UnclosedComment p
+lexical_fault BadConstant p = fault.BadConstant p
+lexical_fault ConstantTooLarge p = fault.ConstantTooLarge p
 
 -- the tokens stand one after the other from low up to high, each of one byte at least
 abbrev pub AreInOrder : (low : ℕ) → List Token → (high : ℕ) → Type 0
@@ -212,23 +212,23 @@ AreInOrder low (t ∷ ts) high = (low ≤ t.from) × (t.from < t.to) × AreInOrd
 abbrev pub most_bytes : ℕ
 most_bytes = 65536
 
--- a text within that, and the fault of its first flaw, at that flaw's place
-pub record IsFlawFault (text : List ℕ) (fault : SyntaxFault) : Type 0 where
+-- a text within that, and the fault of its first error, at that error's place
+pub record IsLexicalFault (text : List ℕ) (fault : SyntaxFault) : Type 0 where
   pub fits : length text ≤ most_bytes
-  pub flaw : Flaw
+  pub error : LexicalError
   pub at : ℕ
-  pub first : FirstFlaw text flaw at
-  pub is : fault ≡ flaw_fault flaw (place_of text at)
+  pub first : FirstLexicalError text error at
+  pub is : fault ≡ lexical_fault error (place_of text at)
 
--- when a text has no tokens: 7 where it has more bytes; where it hasn't, the fault of its first flaw, or
+-- when a text has no tokens: 7 where it has more bytes; where it hasn't, the fault of its first error, or
 -- 40 where memory runs out
 abbrev pub IsTokenRefusal : List ℕ → SyntaxFault → Type 0
 IsTokenRefusal text fault.SourceTooLarge = most_bytes < length text
 IsTokenRefusal text fault.OutOfMemory = length text ≤ most_bytes
-IsTokenRefusal text (fault.BadByte p) = IsFlawFault text (fault.BadByte p)
-IsTokenRefusal text (fault.UnclosedComment p) = IsFlawFault text (fault.UnclosedComment p)
-IsTokenRefusal text (fault.BadConstant p) = IsFlawFault text (fault.BadConstant p)
-IsTokenRefusal text (fault.ConstantTooLarge p) = IsFlawFault text (fault.ConstantTooLarge p)
+IsTokenRefusal text (fault.BadByte p) = IsLexicalFault text (fault.BadByte p)
+IsTokenRefusal text (fault.UnclosedComment p) = IsLexicalFault text (fault.UnclosedComment p)
+IsTokenRefusal text (fault.BadConstant p) = IsLexicalFault text (fault.BadConstant p)
+IsTokenRefusal text (fault.ConstantTooLarge p) = IsLexicalFault text (fault.ConstantTooLarge p)
 IsTokenRefusal text (fault.Unexpected p) = ⊥
 IsTokenRefusal text (fault.TooDeep p) = ⊥
 
@@ -236,14 +236,14 @@ IsTokenRefusal text (fault.TooDeep p) = ⊥
 abbrev pub TokensAreOne : Type 0
 TokensAreOne = (text : List ℕ) (a b : List Lexeme) → IsTokens text a → IsTokens text b → a ≡ b
 
--- a text that has tokens has no flaw
-abbrev pub TokensHaveNoFlaw : Type 0
-TokensHaveNoFlaw = (text : List ℕ) (ts : List Lexeme) (flaw : Flaw) (at : ℕ) → IsTokens text ts → FirstFlaw text flaw at → ⊥
+-- a text that has tokens has no error
+abbrev pub TokensHaveNoLexicalError : Type 0
+TokensHaveNoLexicalError = (text : List ℕ) (ts : List Lexeme) (error : LexicalError) (at : ℕ) → IsTokens text ts → FirstLexicalError text error at → ⊥
 
--- a text has one first flaw at most
-abbrev pub FirstFlawIsOne : Type 0
-FirstFlawIsOne = (text : List ℕ) (f g : Flaw) (i j : ℕ) → FirstFlaw text f i → FirstFlaw text g j → (f ≡ g) × (i ≡ j)
+-- a text has one first error at most
+abbrev pub FirstLexicalErrorIsOne : Type 0
+FirstLexicalErrorIsOne = (text : List ℕ) (f g : LexicalError) (i j : ℕ) → FirstLexicalError text f i → FirstLexicalError text g j → (f ≡ g) × (i ≡ j)
 
--- a text has tokens or a first flaw
-abbrev pub TokensOrFlaw : Type 0
-TokensOrFlaw = (text : List ℕ) → ((ts : List Lexeme) × IsTokens text ts) ⊎ ((flaw : Flaw) × (at : ℕ) × FirstFlaw text flaw at)
+-- a text has tokens or a first error
+abbrev pub TokensOrLexicalError : Type 0
+TokensOrLexicalError = (text : List ℕ) → ((ts : List Lexeme) × IsTokens text ts) ⊎ ((error : LexicalError) × (at : ℕ) × FirstLexicalError text error at)

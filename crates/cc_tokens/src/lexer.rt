@@ -5,29 +5,29 @@ ghost use Rattle.cc_tokens.specs.Place.{place_of};
 ghost use Rattle.cc_tokens.specs.declared.token.Token as token;
 ghost use Rattle.cc_tokens.specs.Reading.{FoundBefore, FoundNext, IsBehind};
 ghost use Rattle.cc_tokens.specs.Token.{lexemes};
-ghost use Rattle.cc_tokens.specs.Tokens.{most_bytes, IsTokens, AreInOrder, IsTokenRefusal, flaw_fault, TokensAreOne, TokensHaveNoFlaw, FirstFlawIsOne, TokensOrFlaw};
+ghost use Rattle.cc_tokens.specs.Tokens.{most_bytes, IsTokens, AreInOrder, IsTokenRefusal, lexical_fault, TokensAreOne, TokensHaveNoLexicalError, FirstLexicalErrorIsOne, TokensOrLexicalError};
 
 use super::fault::SyntaxFault;
-use super::flaw::Flaw;
+use super::lexical_error::LexicalError;
 use super::place::place_at;
-use super::scan::{Front, front_of};
+use super::scan::{Head, head_of};
 use super::token::Token;
 use std::alloc::Global;
 
 /// The most bytes that a text may have.
 pub const MOST_BYTES: usize = 65536;
 
-// The fault of a flaw at an offset.
-fn fault_at(text: &[u8], flaw: Flaw, at: usize) -> SyntaxFault
+// The fault of an error at an offset.
+fn fault_at(text: &[u8], error: LexicalError, at: usize) -> SyntaxFault
     requires { at ≤ length text.now }
-    ensures { result ≡ flaw_fault flaw (place_of text.now at) }
+    ensures { result ≡ lexical_fault error (place_of text.now at) }
 {
     let place = place_at(text, at);
-    match flaw {
-        Flaw::BadByte => SyntaxFault::BadByte(place),
-        Flaw::UnclosedComment => SyntaxFault::UnclosedComment(place),
-        Flaw::BadConstant => SyntaxFault::BadConstant(place),
-        Flaw::ConstantTooLarge => SyntaxFault::ConstantTooLarge(place),
+    match error {
+        LexicalError::BadByte => SyntaxFault::BadByte(place),
+        LexicalError::UnclosedComment => SyntaxFault::UnclosedComment(place),
+        LexicalError::BadConstant => SyntaxFault::BadConstant(place),
+        LexicalError::ConstantTooLarge => SyntaxFault::ConstantTooLarge(place),
     }
 }
 
@@ -37,8 +37,8 @@ pub enum Next {
     Token(Token),
     /// No token up to the end of the text.
     End,
-    /// No token: the first flaw of the text, and its offset.
-    Flawed(Flaw, usize),
+    /// No token: the first error of the text, and its offset.
+    Error(LexicalError, usize),
 }
 
 /// The next token of a text from an offset on, behind the tokens before it, which takes no memory.
@@ -49,14 +49,14 @@ pub fn next_token(text: &[u8], at: usize) -> Next
 {
     let mut at = at;
     while at < text.len() {
-        match front_of(&text[at..]) {
-            Front::Blank => at += 1,
-            Front::Comment(n) => at += n,
-            Front::Token(kind, n) => {
+        match head_of(&text[at..]) {
+            Head::Blank => at += 1,
+            Head::Comment(n) => at += n,
+            Head::Token(kind, n) => {
                 let to = at + n;
                 return Next::Token(Token { kind, from: at, to });
             }
-            Front::Flawed(flaw, n) => return Next::Flawed(flaw, at + n),
+            Head::Error(error, n) => return Next::Error(error, at + n),
         }
     }
     Next::End
@@ -87,17 +87,17 @@ pub fn tokens(alloc: Global, text: &[u8]) -> Result<Vec<Token>, SyntaxFault>
                 at = token.to;
             }
             Next::End => at = text.len(),
-            Next::Flawed(flaw, at) => return Err(fault_at(text, flaw, at)),
+            Next::Error(error, at) => return Err(fault_at(text, error, at)),
         }
     }
     Ok(found)
 }
 
-/// A text has one list of tokens or one first flaw, and not both. So `tokens` is `Ok` exactly where a text of at most
+/// A text has one list of tokens or one first error, and not both. So `tokens` is `Ok` exactly where a text of at most
 /// 65,536 bytes has tokens, and memory for them.
 pub fn tokens_are_determined()
     ensures one { TokensAreOne }
-    ensures no_flaw { TokensHaveNoFlaw }
-    ensures one_flaw { FirstFlawIsOne }
-    ensures either { TokensOrFlaw }
+    ensures no_error { TokensHaveNoLexicalError }
+    ensures one_error { FirstLexicalErrorIsOne }
+    ensures either { TokensOrLexicalError }
 {}

@@ -1,4 +1,4 @@
-// What stands at the front of the bytes that are left: white space, a comment, a token, or a flaw.
+// What stands at the head of the bytes that are left: white space, a comment, a token, or an error.
 //
 // Each function answers what the function of its name in specs/internal/Scan.antt does; proofs/ shows that those agree with the
 // definition of the tokens of a text.
@@ -10,9 +10,9 @@ ghost use Rattle.std.specs.Char.{digit_value};
 ghost use Rattle.cc_tokens.specs.Spelling.{keyword_bytes, punctuator_bytes};
 ghost use Rattle.cc_tokens.specs.Constant.{is_digit_of, type_of_value};
 ghost use Rattle.cc_tokens.specs.Tokens.{is_blank, is_nondigit, is_exponent_letter, begins_comment};
-ghost use Rattle.cc_tokens.specs.internal.Scan.{begins, offset_within, goes_on, run_of, keywords_with, punctuators_with, keyword_named, punctuator_at, word_kind, base_of, prefix_of_base, suffix_of, constant_spelled, constant_kind, typed, number_front, comment_of, comment_front, front_of};
+ghost use Rattle.cc_tokens.specs.internal.Scan.{begins, offset_within, goes_on, run_of, keywords_with, punctuators_with, keyword_named, punctuator_at, word_kind, base_of, prefix_of_base, suffix_of, constant_spelled, constant_kind, typed, number_head, comment_of, comment_head, head_of};
 
-use super::flaw::Flaw;
+use super::lexical_error::LexicalError;
 use super::scalar::Scalar;
 use super::token::{Keyword, Punctuator, TokenKind};
 
@@ -34,17 +34,17 @@ enum Run {
     Number,
 }
 
-/// What stands at the front of the bytes that are left.
+/// What stands at the head of the bytes that are left.
 #[derive(Clone, Copy)]
-pub enum Front {
+pub enum Head {
     /// A byte of white space.
     Blank,
-    /// A comment of so many bytes.
+    /// A comment of this many bytes.
     Comment(usize),
-    /// A token of so many bytes.
+    /// A token of this many bytes.
     Token(TokenKind, usize),
-    /// A flaw, so many bytes on.
-    Flawed(Flaw, usize),
+    /// An error, this many bytes on.
+    Error(LexicalError, usize),
 }
 
 // The byte at an index, or 0 past the end.
@@ -120,7 +120,7 @@ fn offset_within(mark: Mark, bytes: &[u8], n: usize) -> usize
     n
 }
 
-// How many bytes of the run stand at the front, of which the first is one.
+// How many bytes of the run stand at the head, of which the first is one.
 fn run_len(run: Run, bytes: &[u8]) -> usize
     requires { 0 < length bytes.now }
     ensures value { result ≡ run_of (goes_on run) bytes.now }
@@ -237,7 +237,7 @@ fn punctuators_with(first: u8) -> &'static [Punctuator]
     }
 }
 
-// The first of some punctuators that stands at the front.
+// The first of some punctuators that stands at the head.
 fn punctuator_in(few: &[Punctuator], bytes: &[u8]) -> Option<Punctuator>
     ensures { result ≡ find (λ p. starts_with (λ a b. a == b) bytes.now (punctuator_bytes p)) few.now }
 {
@@ -300,7 +300,7 @@ fn prefix_of_base(base: u8) -> usize
     }
 }
 
-// How many digits of the base stand at the front.
+// How many digits of the base stand at the head.
 fn digits_len(base: u8, bytes: &[u8]) -> usize
     ensures value { result ≡ prefix_len (is_digit_of base) bytes.now }
     ensures bound { result ≤ length bytes.now }
@@ -338,7 +338,7 @@ fn value_of(base: u8, digits: &[u8]) -> u64
     value
 }
 
-fn typed(base: u8, suffixed: bool, value: u64) -> Result<TokenKind, Flaw>
+fn typed(base: u8, suffixed: bool, value: u64) -> Result<TokenKind, LexicalError>
     ensures { result ≡ typed (type_of_value base suffixed value) value }
 {
     if !suffixed && value <= 2147483647 {
@@ -346,13 +346,13 @@ fn typed(base: u8, suffixed: bool, value: u64) -> Result<TokenKind, Flaw>
     } else if (suffixed || base != 10) && value <= 4294967295 {
         Ok(TokenKind::Number(Scalar::Unsigned, value as u32))
     } else {
-        Err(Flaw::ConstantTooLarge)
+        Err(LexicalError::ConstantTooLarge)
     }
 }
 
 // What the bytes of a number are.
 #[tactic(auto, unfolding(crate::specs::internal::Scan::constant_spelled))]
-fn constant_kind(number: &[u8]) -> Result<TokenKind, Flaw>
+fn constant_kind(number: &[u8]) -> Result<TokenKind, LexicalError>
     requires { 0 < length number.now }
     ensures { result ≡ constant_kind (constant_spelled number.now) }
 {
@@ -360,29 +360,29 @@ fn constant_kind(number: &[u8]) -> Result<TokenKind, Flaw>
     let behind = &number[prefix_of_base(base)..];
     let n = digits_len(base, behind);
     if n == 0 && base != 8 {
-        return Err(Flaw::BadConstant);
+        return Err(LexicalError::BadConstant);
     }
     match suffix_of(&behind[n..]) {
-        None => Err(Flaw::BadConstant),
+        None => Err(LexicalError::BadConstant),
         Some(suffixed) => typed(base, suffixed, value_of(base, &behind[..n])),
     }
 }
 
-fn comment_of(n: usize, bytes: &[u8]) -> Front
+fn comment_of(n: usize, bytes: &[u8]) -> Head
     requires { n ≤ length bytes.now }
     ensures { result ≡ comment_of n bytes.now }
 {
     let place = offset_within(Mark::Splice, bytes, n);
     if place < n {
-        Front::Flawed(Flaw::BadByte, place)
+        Head::Error(LexicalError::BadByte, place)
     } else {
-        Front::Comment(n)
+        Head::Comment(n)
     }
 }
 
-fn comment_front(bytes: &[u8]) -> Front
+fn comment_head(bytes: &[u8]) -> Head
     requires { 2 ≤ length bytes.now }
-    ensures { result ≡ comment_front bytes.now }
+    ensures { result ≡ comment_head bytes.now }
 {
     let body = &bytes[2..];
     if bytes[1] == b'*' {
@@ -390,39 +390,39 @@ fn comment_front(bytes: &[u8]) -> Front
         if n < body.len() {
             comment_of(n + 4, bytes)
         } else {
-            Front::Flawed(Flaw::UnclosedComment, 0)
+            Head::Error(LexicalError::UnclosedComment, 0)
         }
     } else {
         comment_of(offset_within(Mark::LineEnd, body, body.len()) + 2, bytes)
     }
 }
 
-/// What stands at the front of the bytes, of which there is one at least.
-#[tactic(auto, unfolding(crate::specs::internal::Scan::front_of))]
-pub fn front_of(bytes: &[u8]) -> Front
+/// What stands at the head of the bytes, of which there is one at least.
+#[tactic(auto, unfolding(crate::specs::internal::Scan::head_of))]
+pub fn head_of(bytes: &[u8]) -> Head
     requires { 0 < length bytes.now }
-    ensures { result ≡ front_of bytes.now }
+    ensures { result ≡ head_of bytes.now }
 {
     let first = bytes[0];
     if is_blank(first) {
-        return Front::Blank;
+        return Head::Blank;
     }
     if begins_comment(bytes) {
-        return comment_front(bytes);
+        return comment_head(bytes);
     }
     if is_nondigit(first) {
         let n = run_len(Run::Word, bytes);
-        return Front::Token(word_kind(&bytes[..n]), n);
+        return Head::Token(word_kind(&bytes[..n]), n);
     }
     if first.is_ascii_digit() {
         let n = run_len(Run::Number, bytes);
         return match constant_kind(&bytes[..n]) {
-            Ok(kind) => Front::Token(kind, n),
-            Err(flaw) => Front::Flawed(flaw, 0),
+            Ok(kind) => Head::Token(kind, n),
+            Err(error) => Head::Error(error, 0),
         };
     }
     match punctuator_at(bytes) {
-        Some(p) => Front::Token(TokenKind::Punctuator(p), p.bytes().len()),
-        None => Front::Flawed(Flaw::BadByte, 0),
+        Some(p) => Head::Token(TokenKind::Punctuator(p), p.bytes().len()),
+        None => Head::Error(LexicalError::BadByte, 0),
     }
 }

@@ -1,4 +1,4 @@
--- A unit has exactly one answer, since of some offences one is the first; so has a text, since it has one tree or one fault.
+-- A unit has exactly one answer, since of some errors one is the first; so has a text, since it has one tree or one fault.
 use Rattle.std.proofs.Common.{◌≡◌, ◌<◌, ◌≤◌, ◌⊎◌, inl, inr, ℕ, zero, suc, Bool, true, false, ◌==◌, if◌then◌else◌, List, [], ◌∷◌, ◌++◌, length, get_or, Option, Some, None, Result, Ok, Err, refl, sym, ap, subst, ◌∙◌, arith}
 use Rattle.std.specs.List.{AllByRecursion}
 use Rattle.std.proofs.lemmas.Bool.{false≢true}
@@ -8,19 +8,19 @@ use Rattle.cc_tokens.specs.Place.{place_of}
 use Rattle.cc_syntax.specs.Parse.{IsParseAnswer, ParseAnswersAreOne, TextsHaveAnswers}
 use Rattle.cc_typing.specs.Fault.{fault_of, rule_number}
 use Rattle.cc_typing.specs.Limits.{excesses}
-use Rattle.cc_typing.specs.Rules.{offences, defines_main, undefined_calls}
-use Rattle.cc_typing.specs.Typed.{NotAfter, IsFirst, IsFaultOfFirst, all_offences, IsTypeAnswer, TypeAnswersAreOne, UnitsHaveTypeAnswers}
+use Rattle.cc_typing.specs.Rules.{errors, defines_main, undefined_calls}
+use Rattle.cc_typing.specs.Typed.{NotAfter, IsFirst, IsFaultOfFirst, all_errors, IsTypeAnswer, TypeAnswersAreOne, UnitsHaveTypeAnswers}
 use Rattle.cc_typing.specs.Verdict.{Verdict, NoTree, NotTyped, Program, source_with, IsVerdict, VerdictsAreOne, TextsHaveVerdicts}
 use Rattle.cc_typing.specs.internal.Findings.{noted}
 use Rattle.cc_typing.specs.declared.fault.TypeFault.{TypeFault}
 use Rattle.cc_typing.specs.declared.fault.TypeFault.TheVariants.{NoMain}
-use Rattle.cc_typing.specs.declared.rule.Offence.{Offence}
+use Rattle.cc_typing.specs.declared.rule.RuleError.{RuleError}
 use Rattle.cc_typing.specs.declared.rule.Rule.{Rule}
 use Rattle.cc_typing.specs.declared.rule.Rule.TheVariants.{Unknown, Redeclared, WrongKind, WrongCount, VoidValue, BadReturn, BadAssign, BadBreak, Undefined, TooMany}
 use Rattle.cc_typing.proofs.First.{IsFirst-noted, noted-none}
 use Rattle.cc_typing.proofs.Verdict.{both_empty}
 
--- ---- the first offence
+-- ---- the first error
 
 -- the rule with a number
 abbrev rule_with : ℕ → Rule
@@ -43,30 +43,30 @@ rule_back TooMany = refl
 same_rule : (r q : Rule) → rule_number r ≡ rule_number q → r ≡ q
 same_rule r q e = sym (rule_back r) ∙ ap (λ n. rule_with n) e ∙ rule_back q
 
--- of two offences neither of which comes after the other the tokens are one, and the numbers
+-- of two errors neither of which comes after the other the tokens are one, and the numbers
 neither_at : (a b m n : ℕ) → (a < b) ⊎ ((a ≡ b) × (m ≤ n)) → (b < a) ⊎ ((b ≡ a) × (n ≤ m)) → (a ≡ b) × (m ≡ n)
 neither_at a b m n (inl h) (inl k) = absurd (omega arith)
 neither_at a b m n (inl h) (inr k) = let same = k.0 in absurd (omega arith)
 neither_at a b m n (inr h) (inl k) = let same = h.0 in absurd (omega arith)
 neither_at a b m n (inr h) (inr k) = let low = h.1 in let high = k.1 in (h.0, omega arith)
 
-holds_at : (P : Offence → Type 0) (all : List Offence) (o d : Offence) (k : ℕ) → AllByRecursion P all → k < length all → get_or all k d ≡ o → P o
+holds_at : (P : RuleError → Type 0) (all : List RuleError) (o d : RuleError) (k : ℕ) → AllByRecursion P all → k < length all → get_or all k d ≡ o → P o
 holds_at P [] o d k h i e = absurd (omega arith)
 holds_at P (x ∷ xs) o d zero h i e = subst P e h.0
 holds_at P (x ∷ xs) o d (suc k) h i e = holds_at P xs o d k h.1 (omega arith) e
 
-not_after : (all : List Offence) (o p : Offence) → IsFirst o all → IsFirst p all → NotAfter o p
+not_after : (all : List RuleError) (o p : RuleError) → IsFirst o all → IsFirst p all → NotAfter o p
 not_after all o p first other = holds_at (NotAfter o) all p p other.0.0 first.1 other.0.1 other.0.2
 
--- the fault of the first offence is one
-first_fault_one : (text : List ℕ) (all : List Offence) (f g : TypeFault) → IsFaultOfFirst text all f → IsFaultOfFirst text all g → f ≡ g
+-- the fault of the first error is one
+first_fault_one : (text : List ℕ) (all : List RuleError) (f g : TypeFault) → IsFaultOfFirst text all f → IsFaultOfFirst text all g → f ≡ g
 first_fault_one text all f g h k =
     let o = h.0 in
     let p = k.0 in
     let same = neither_at o.at p.at (rule_number o.rule) (rule_number p.rule) (not_after all o p h.1 k.1) (not_after all p o k.1 h.1) in
     h.2 ∙ ap (λ n. fault_of o.rule (place_of text n)) same.0 ∙ ap (λ r. fault_of r (place_of text p.at)) (same_rule o.rule p.rule same.1) ∙ sym k.2
 
-none_first : (text : List ℕ) (all : List Offence) (f : TypeFault) → all ≡ [] → IsFaultOfFirst text all f → ⊥
+none_first : (text : List ℕ) (all : List RuleError) (f : TypeFault) → all ≡ [] → IsFaultOfFirst text all f → ⊥
 none_first text [] f e h = let inside = h.1.0.1 in omega arith
 none_first text (x ∷ xs) f e h = cc
 
@@ -75,22 +75,22 @@ none_first text (x ∷ xs) f e h = cc
 not_main : (s : Source) → defines_main s.externals ≡ false → defines_main s.externals ≡ true → ⊥
 not_main s e i = false≢true (sym e ∙ i)
 
-all_empty : (s : Source) → IsTypeAnswer s None → all_offences s.externals ≡ []
+all_empty : (s : Source) → IsTypeAnswer s None → all_errors s.externals ≡ []
 all_empty s h = ap (λ l. l ++ excesses s.externals) h.0.0 ∙ h.1
 
 not_refused : (s : Source) (f : TypeFault) → IsTypeAnswer s None → IsTypeAnswer s (Some f) → ⊥
-not_refused s f h (inl first) = none_first s.text (all_offences s.externals) f (all_empty s h) first
+not_refused s f h (inl first) = none_first s.text (all_errors s.externals) f (all_empty s h) first
 not_refused s f h (inr (inl main)) = not_main s main.1 h.0.1
 not_refused s f h (inr (inr call)) = none_first s.text (undefined_calls s.externals) f h.0.2 call.2
 
 refusals_one : (s : Source) (f g : TypeFault) → IsTypeAnswer s (Some f) → IsTypeAnswer s (Some g) → f ≡ g
-refusals_one s f g (inl h) (inl k) = first_fault_one s.text (all_offences s.externals) f g h k
-refusals_one s f g (inl h) (inr (inl k)) = absurd (none_first s.text (all_offences s.externals) f k.0 h)
-refusals_one s f g (inl h) (inr (inr k)) = absurd (none_first s.text (all_offences s.externals) f k.0 h)
-refusals_one s f g (inr (inl h)) (inl k) = absurd (none_first s.text (all_offences s.externals) g h.0 k)
+refusals_one s f g (inl h) (inl k) = first_fault_one s.text (all_errors s.externals) f g h k
+refusals_one s f g (inl h) (inr (inl k)) = absurd (none_first s.text (all_errors s.externals) f k.0 h)
+refusals_one s f g (inl h) (inr (inr k)) = absurd (none_first s.text (all_errors s.externals) f k.0 h)
+refusals_one s f g (inr (inl h)) (inl k) = absurd (none_first s.text (all_errors s.externals) g h.0 k)
 refusals_one s f g (inr (inl h)) (inr (inl k)) = h.2 ∙ sym k.2
 refusals_one s f g (inr (inl h)) (inr (inr k)) = absurd (not_main s h.1 k.1)
-refusals_one s f g (inr (inr h)) (inl k) = absurd (none_first s.text (all_offences s.externals) g h.0 k)
+refusals_one s f g (inr (inr h)) (inl k) = absurd (none_first s.text (all_errors s.externals) g h.0 k)
 refusals_one s f g (inr (inr h)) (inr (inl k)) = absurd (not_main s k.1 h.1)
 refusals_one s f g (inr (inr h)) (inr (inr k)) = first_fault_one s.text (undefined_calls s.externals) f g h.2 k.2
 
@@ -104,27 +104,27 @@ TypeAnswers : Source → Type 0
 TypeAnswers s = (a : Option TypeFault) × IsTypeAnswer s a
 
 module _ (s : Source) where
-  by_call : all_offences s.externals ≡ [] → defines_main s.externals ≡ true → (o : Option Offence) → noted None (undefined_calls s.externals) ≡ o → TypeAnswers s
+  by_call : all_errors s.externals ≡ [] → defines_main s.externals ≡ true → (o : Option RuleError) → noted None (undefined_calls s.externals) ≡ o → TypeAnswers s
   unfolding TypeAnswers
   by_call none main None e =
-      let empty = both_empty (offences s.externals) (excesses s.externals) none in
+      let empty = both_empty (errors s.externals) (excesses s.externals) none in
       (None, ((empty.0, main, noted-none (undefined_calls s.externals) e), empty.1))
   by_call none main (Some o) e =
       (Some (fault_of o.rule (place_of s.text o.at)), inr (inr (none, main, (o, IsFirst-noted (undefined_calls s.externals) o e, refl))))
 
-  by_main : all_offences s.externals ≡ [] → (b : Bool) → defines_main s.externals ≡ b → TypeAnswers s
+  by_main : all_errors s.externals ≡ [] → (b : Bool) → defines_main s.externals ≡ b → TypeAnswers s
   unfolding TypeAnswers
   by_main none false e = (Some (NoMain (place_of s.text (length s.text))), inr (inl (none, e, refl)))
   by_main none true e = by_call none e (noted None (undefined_calls s.externals)) refl
 
-  by_first : (o : Option Offence) → noted None (all_offences s.externals) ≡ o → TypeAnswers s
+  by_first : (o : Option RuleError) → noted None (all_errors s.externals) ≡ o → TypeAnswers s
   unfolding TypeAnswers
-  by_first (Some o) e = (Some (fault_of o.rule (place_of s.text o.at)), inl (o, IsFirst-noted (all_offences s.externals) o e, refl))
-  by_first None e = by_main (noted-none (all_offences s.externals) e) (defines_main s.externals) refl
+  by_first (Some o) e = (Some (fault_of o.rule (place_of s.text o.at)), inl (o, IsFirst-noted (all_errors s.externals) o e, refl))
+  by_first None e = by_main (noted-none (all_errors s.externals) e) (defines_main s.externals) refl
 
 pub units_have_type_answers : UnitsHaveTypeAnswers
 unfolding TypeAnswers
-units_have_type_answers s = by_first s (noted None (all_offences s.externals)) refl
+units_have_type_answers s = by_first s (noted None (all_errors s.externals)) refl
 
 -- ---- a text
 

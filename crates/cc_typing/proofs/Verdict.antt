@@ -9,35 +9,35 @@ use Rattle.cc_typing.specs.Bindings.{file_level, file_with}
 use Rattle.cc_typing.specs.internal.Findings.{Found, noted, nothing_found}
 use Rattle.cc_typing.specs.internal.Functions.{Functions}
 use Rattle.cc_typing.specs.Limits.{excesses}
-use Rattle.cc_typing.specs.Rules.{offences, defines_main, undefined_among, undefined_calls, called, externals_offences}
+use Rattle.cc_typing.specs.Rules.{errors, defines_main, undefined_among, undefined_calls, called, externals_errors}
 use Rattle.cc_typing.specs.Scope.{Visible, FileScope, first_file_scope, file_scope_behind, file_scope_behind_all}
-use Rattle.cc_typing.specs.Typed.{IsTypeRefusal, all_offences}
+use Rattle.cc_typing.specs.Typed.{IsTypeRefusal, all_errors}
 use Rattle.cc_typing.specs.declared.fault.TypeFault.{TypeFault}
 use Rattle.cc_typing.specs.declared.fault.TypeFault.TheVariants.{NoMain}
-use Rattle.cc_typing.specs.declared.rule.Offence.{Offence}
+use Rattle.cc_typing.specs.declared.rule.RuleError.{RuleError}
 use Rattle.cc_typing.proofs.First.{IsFirst-noted, noted-none}
 use Rattle.cc_typing.proofs.FileScopes.{defined-behind}
 use Rattle.cc_typing.proofs.Parts.{noted-append}
 
--- two parts without offences
+-- two parts without errors
 pub both_empty : {A : Type 0} (xs ys : List A) → xs ++ ys ≡ [] → (xs ≡ []) × (ys ≡ [])
 both_empty [] ys e = (refl, e)
 both_empty (x ∷ xs) ys e = absurd (let c : ⊥ = cc in c)
 
 module _ (s : Source) where
-  pub refused-first : (o : Offence) (fault : TypeFault) → noted None (all_offences s.externals) ≡ Some o → fault ≡ fault_of o.rule (place_of s.text o.at) → IsTypeRefusal s fault
-  refused-first o fault e at = inl (o, IsFirst-noted (all_offences s.externals) o e, at)
+  pub refused-first : (o : RuleError) (fault : TypeFault) → noted None (all_errors s.externals) ≡ Some o → fault ≡ fault_of o.rule (place_of s.text o.at) → IsTypeRefusal s fault
+  refused-first o fault e at = inl (o, IsFirst-noted (all_errors s.externals) o e, at)
 
-  pub refused-main : (fault : TypeFault) → noted None (all_offences s.externals) ≡ None → defines_main s.externals ≡ false → fault ≡ NoMain (place_of s.text (length s.text)) → IsTypeRefusal s fault
-  refused-main fault e m at = inr (inl (noted-none (all_offences s.externals) e, m, at))
+  pub refused-main : (fault : TypeFault) → noted None (all_errors s.externals) ≡ None → defines_main s.externals ≡ false → fault ≡ NoMain (place_of s.text (length s.text)) → IsTypeRefusal s fault
+  refused-main fault e m at = inr (inl (noted-none (all_errors s.externals) e, m, at))
 
-  pub refused-call : (o : Offence) (fault : TypeFault) → noted None (all_offences s.externals) ≡ None → defines_main s.externals ≡ true → noted None (undefined_calls s.externals) ≡ Some o
+  pub refused-call : (o : RuleError) (fault : TypeFault) → noted None (all_errors s.externals) ≡ None → defines_main s.externals ≡ true → noted None (undefined_calls s.externals) ≡ Some o
       → fault ≡ fault_of o.rule (place_of s.text o.at) → IsTypeRefusal s fault
-  refused-call o fault e m u at = inr (inr (noted-none (all_offences s.externals) e, m, (o, IsFirst-noted (undefined_calls s.externals) o u, at)))
+  refused-call o fault e m u at = inr (inr (noted-none (all_errors s.externals) e, m, (o, IsFirst-noted (undefined_calls s.externals) o u, at)))
 
-  pub checked : noted None (all_offences s.externals) ≡ None → defines_main s.externals ≡ true → noted None (undefined_calls s.externals) ≡ None → IsChecked s
+  pub checked : noted None (all_errors s.externals) ≡ None → defines_main s.externals ≡ true → noted None (undefined_calls s.externals) ≡ None → IsChecked s
   checked e m u =
-      let empty = both_empty (offences s.externals) (excesses s.externals) (noted-none (all_offences s.externals) e) in
+      let empty = both_empty (errors s.externals) (excesses s.externals) (noted-none (all_errors s.externals) e) in
       record { typed = (empty.0, m, noted-none (undefined_calls s.externals) u); limits = empty.1 }
 
 -- ---- the functions that are defined
@@ -50,15 +50,15 @@ all-defined-behind (e ∷ es) f = all-defined-behind es (file_scope_behind e f) 
 
 module _ (es : List External) (v : Visible) (functions : Functions) (f : Found) (start : v ≡ file_level first_file_scope.bindings) (fresh : f ≡ nothing_found functions)
     (known : functions ≡ record { defined = all_defined es first_file_scope.defined; before = first_file_scope.defined }) where
-  pub first-are : (r : Option Offence) → r ≡ noted f.first (externals_offences es (file_with v f.functions.before)) → noted r (excesses es) ≡ noted None (all_offences es)
+  pub first-are : (r : Option RuleError) → r ≡ noted f.first (externals_errors es (file_with v f.functions.before)) → noted r (excesses es) ≡ noted None (all_errors es)
   first-are r walked =
       ap (λ k. noted k (excesses es)) walked
-      ∙ ap (λ (k : Found). noted (noted k.first (externals_offences es (file_with v k.functions.before))) (excesses es)) fresh
-      ∙ ap (λ (u : Visible). noted (noted None (externals_offences es (file_with u functions.before))) (excesses es)) start
-      ∙ ap (λ (k : Functions). noted (noted None (externals_offences es (file_with (file_level first_file_scope.bindings) k.before))) (excesses es)) known
-      ∙ noted-append None (offences es) (excesses es)
+      ∙ ap (λ (k : Found). noted (noted k.first (externals_errors es (file_with v k.functions.before))) (excesses es)) fresh
+      ∙ ap (λ (u : Visible). noted (noted None (externals_errors es (file_with u functions.before))) (excesses es)) start
+      ∙ ap (λ (k : Functions). noted (noted None (externals_errors es (file_with (file_level first_file_scope.bindings) k.before))) (excesses es)) known
+      ∙ noted-append None (errors es) (excesses es)
 
-  pub undefined-are : (r : Option Offence) → r ≡ noted f.undefined (undefined_among f.functions.defined (called es)) → r ≡ noted None (undefined_calls es)
+  pub undefined-are : (r : Option RuleError) → r ≡ noted f.undefined (undefined_among f.functions.defined (called es)) → r ≡ noted None (undefined_calls es)
   undefined-are r walked =
       walked ∙ ap (λ (k : Found). noted k.undefined (undefined_among k.functions.defined (called es))) fresh
       ∙ ap (λ (k : Functions). noted None (undefined_among k.defined (called es))) known

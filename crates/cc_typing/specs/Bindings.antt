@@ -42,11 +42,11 @@ abbrev pub entity_found : Option Newest → Option scope.Entity
 entity_found None = None
 entity_found (Some n) = Some (entity_of n.entity)
 
--- the scope that some bindings make, where the innermost scope has declared so many of them
+-- the scope that some bindings make, where the innermost scope has declared this many of them
 abbrev pub scope_of : List scope.Binding → ℕ → Visible
 scope_of all inner = record { inner = take inner all; outer = drop inner all }
 
--- the scope after an inner one, in a scope that has declared so many names
+-- the scope after an inner one, in a scope that has declared this many names
 abbrev pub closed : ℕ → Visible → Visible
 closed around v = record { inner = take around v.outer; outer = drop around v.outer }
 

@@ -2,7 +2,7 @@
 use Rattle.std.specs.Prelude.{ℕ, ◌+◌, List, [], ◌∷◌, ◌++◌, length, take, drop, map, if◌then◌else◌, nat_lt}
 use Rattle.cc_syntax.specs.Tree.{Name, Declarator, Beginning, Declares, Performs, Stmt, Stmts, end, next, Block, Local, Perform, Return, Break, Continue, If, IfElse, While, DoWhile, For, Signature, Object, Single, Array, Bytes, External, Declaration, Definition, Objects}
 use Rattle.cc_typing.specs.Types.{object_words}
-use Rattle.cc_typing.specs.declared.rule.Offence.{Offence}
+use Rattle.cc_typing.specs.declared.rule.RuleError.{RuleError}
 use Rattle.cc_typing.specs.declared.rule.Rule.TheVariants.{TooMany}
 
 -- parameters of a function; locals of one function, in all its blocks together and parameters not counted; defined
@@ -20,16 +20,16 @@ abbrev pub most_words : ℕ
 most_words = 65536
 
 -- the limit passed at a name
-abbrev pub too_many : Name → Offence
+abbrev pub too_many : Name → RuleError
 too_many x = record { rule = TooMany; at = x.at }
 
--- the first name past so many
-abbrev pub past : ℕ → List Name → List Offence
+-- the first name past this many
+abbrev pub past : ℕ → List Name → List RuleError
 past most names = map too_many (take 1 (drop most names))
 
 -- ---- parameters
 
-abbrev pub parameter_excesses : Signature → List Offence
+abbrev pub parameter_excesses : Signature → List RuleError
 parameter_excesses s = if nat_lt most_parameters (length s.parameters) then too_many s.name ∷ [] else []
 
 -- ---- locals
@@ -81,22 +81,22 @@ object_name (Single x initial) = x
 object_name (Array x n values) = x
 object_name (Bytes x n values) = x
 
--- the object that passes the limit on words, where so many are taken before
-abbrev pub word_excesses : ℕ → List Object → List Offence
+-- the object that passes the limit on words, where this many are taken before
+abbrev pub word_excesses : ℕ → List Object → List RuleError
 word_excesses taken [] = []
 word_excesses taken (o ∷ rest) = if nat_lt most_words (taken + object_words o) then too_many (object_name o) ∷ [] else word_excesses (taken + object_words o) rest
 
 -- ---- a unit
 
-abbrev pub external_excesses : External → List Offence
+abbrev pub external_excesses : External → List RuleError
 external_excesses (Declaration s) = parameter_excesses s
 external_excesses (Definition s body) = parameter_excesses s ++ past most_locals (locals body)
 external_excesses (Objects t os) = []
 
-abbrev pub externals_excesses : List External → List Offence
+abbrev pub externals_excesses : List External → List RuleError
 externals_excesses [] = []
 externals_excesses (e ∷ rest) = external_excesses e ++ externals_excesses rest
 
 -- every limit that a unit passes
-abbrev pub excesses : List External → List Offence
+abbrev pub excesses : List External → List RuleError
 excesses externals = externals_excesses externals ++ (past most_functions (function_names externals) ++ word_excesses 0 (objects externals))

@@ -3,45 +3,45 @@ use Rattle.std.specs.Prelude.{ℕ, ◌≡◌, ◌⊎◌, ◌<◌, ◌≤◌, tru
 use Rattle.std.specs.List.{AllByRecursion}
 use Rattle.cc_syntax.specs.Tree.{Name, External, Declaration, Definition, Objects, Source}
 use Rattle.cc_tokens.specs.Place.{place_of}
-use Rattle.cc_typing.specs.Rules.{offences, defines_main, undefined_calls}
+use Rattle.cc_typing.specs.Rules.{errors, defines_main, undefined_calls}
 use Rattle.cc_typing.specs.Limits.{excesses, function_names}
 use Rattle.cc_typing.specs.Fault.{fault_of, rule_number}
-use Rattle.cc_typing.specs.declared.rule.Offence.{Offence}
+use Rattle.cc_typing.specs.declared.rule.RuleError.{RuleError}
 use Rattle.cc_typing.specs.declared.fault.TypeFault.{TypeFault}
 use Rattle.cc_typing.specs.declared.fault.TypeFault.TheVariants.{NoMain}
 
 -- a unit is typed where it breaks no rule, defines main, and defines each function that it calls
 abbrev pub IsTyped : List External → Type 0
-IsTyped externals = (offences externals ≡ []) × (defines_main externals ≡ true) × (undefined_calls externals ≡ [])
+IsTyped externals = (errors externals ≡ []) × (defines_main externals ≡ true) × (undefined_calls externals ≡ [])
 
 -- and it keeps the limits where it passes none
 abbrev pub IsWithinLimits : List External → Type 0
 IsWithinLimits externals = excesses externals ≡ []
 
--- one offence comes before another, or is the same: its token is earlier, or the token is the same and its number is
+-- one error comes before another, or is the same: its token is earlier, or the token is the same and its number is
 -- not greater
-abbrev pub NotAfter : Offence → Offence → Type 0
+abbrev pub NotAfter : RuleError → RuleError → Type 0
 NotAfter o p = (o.at < p.at) ⊎ ((o.at ≡ p.at) × (rule_number o.rule ≤ rule_number p.rule))
 
--- the first of some offences
-abbrev pub IsFirst : Offence → List Offence → Type 0
+-- the first of some errors
+abbrev pub IsFirst : RuleError → List RuleError → Type 0
 IsFirst o all = Contains all o × AllByRecursion (NotAfter o) all
 
--- the fault is the first of some offences, at its token
-abbrev pub IsFaultOfFirst : List ℕ → List Offence → TypeFault → Type 0
-IsFaultOfFirst text all fault = (o : Offence) × IsFirst o all × (fault ≡ fault_of o.rule (place_of text o.at))
+-- the fault is the first of some errors, at its token
+abbrev pub IsFaultOfFirst : List ℕ → List RuleError → TypeFault → Type 0
+IsFaultOfFirst text all fault = (o : RuleError) × IsFirst o all × (fault ≡ fault_of o.rule (place_of text o.at))
 
 -- every rule that a unit breaks and limit that it passes
-abbrev pub all_offences : List External → List Offence
-all_offences externals = offences externals ++ excesses externals
+abbrev pub all_errors : List External → List RuleError
+all_errors externals = errors externals ++ excesses externals
 
--- a unit is refused for the first of its offences; where there is none, for a missing main, at the end of the text; where
+-- a unit is refused for the first of its errors; where there is none, for a missing main, at the end of the text; where
 -- main is there, for the first call of a function that is not defined
 abbrev pub IsTypeRefusal : Source → TypeFault → Type 0
 IsTypeRefusal s fault =
-    IsFaultOfFirst s.text (all_offences s.externals) fault
-    ⊎ (((all_offences s.externals ≡ []) × (defines_main s.externals ≡ false) × (fault ≡ NoMain (place_of s.text (length s.text))))
-    ⊎ ((all_offences s.externals ≡ []) × (defines_main s.externals ≡ true) × IsFaultOfFirst s.text (undefined_calls s.externals) fault))
+    IsFaultOfFirst s.text (all_errors s.externals) fault
+    ⊎ (((all_errors s.externals ≡ []) × (defines_main s.externals ≡ false) × (fault ≡ NoMain (place_of s.text (length s.text))))
+    ⊎ ((all_errors s.externals ≡ []) × (defines_main s.externals ≡ true) × IsFaultOfFirst s.text (undefined_calls s.externals) fault))
 
 -- what `check` may answer for a unit, lack of memory set aside: no fault where it is typed within the limits, else why it is
 -- refused

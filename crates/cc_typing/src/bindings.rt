@@ -31,11 +31,21 @@ pub struct Binding<'a> {
 }
 
 /// The names in scope. The oldest has the number 0.
-#[derive(Drop)]
 pub struct Bindings<'a> {
     list: Vec<Binding<'a>>,
     names: Numbering<'a>,
     newest: IndexMap<usize, usize>,
+}
+
+// By hand, so that crates above call it and do not prove anew how each part is dropped.
+impl Drop for Bindings<'_> {
+    fn drop(self) {
+        let Bindings {
+            list,
+            names,
+            newest,
+        } = self;
+    }
 }
 
 impl<'a> Model for Bindings<'a> {

@@ -7,9 +7,9 @@ ghost use Rattle.cc_syntax.specs.Erase.{external_tree, external_trees};
 ghost use Rattle.cc_typing.specs.internal.Counts.{all_defined, defined_in};
 ghost use Rattle.cc_typing.specs.Fault.{fault_of};
 ghost use Rattle.cc_typing.specs.internal.Findings.{noted};
-ghost use Rattle.cc_typing.specs.Rules.{offences, is_main, defines_main, undefined_calls};
+ghost use Rattle.cc_typing.specs.Rules.{errors, is_main, defines_main, undefined_calls};
 ghost use Rattle.cc_typing.specs.Scope.{first_file_scope};
-ghost use Rattle.cc_typing.specs.Typed.{IsTyped, IsWithinLimits, IsTypeRefusal, TypeAnswersAreOne, UnitsHaveTypeAnswers, all_offences};
+ghost use Rattle.cc_typing.specs.Typed.{IsTyped, IsWithinLimits, IsTypeRefusal, TypeAnswersAreOne, UnitsHaveTypeAnswers, all_errors};
 ghost use Rattle.cc_typing.specs.Verdict.{VerdictsAreOne, TextsHaveVerdicts};
 
 use super::entity::same_result;
@@ -18,7 +18,7 @@ use super::fault::TypeFault;
 use super::findings::Findings;
 use super::functions::Functions;
 use super::limits::with_excesses;
-use super::rule::{Offence, Rule};
+use super::rule::{Rule, RuleError};
 use super::scope::{READ_WORD, Scope, WRITE_WORD};
 use super::typed::TypedUnit;
 use cc_syntax::{External, Place, Scalar, Unit, parse_is_determined, place_at};
@@ -37,31 +37,31 @@ pub fn check(alloc: Global, unit: Unit) -> Result<TypedUnit, TypeFault>
     ensures limits { OnOk result (IsWithinLimits (source unit).externals) }
     ensures refused { IfErr result (λ f. (f ≡ TypeFault.OutOfMemory) ⊎ IsTypeRefusal (source unit) f) }
 {
-    let found = first_offences(alloc, unit.externals())?;
-    if let Some(offence) = found.first {
-        let place = place_in(unit.text(), offence.at);
-        return Err(fault(offence.rule, place));
+    let found = first_errors(alloc, unit.externals())?;
+    if let Some(error) = found.first {
+        let place = place_in(unit.text(), error.at);
+        return Err(fault(error.rule, place));
     }
     if !defines_main(unit.externals()) {
         let text = unit.text();
         return Err(TypeFault::NoMain(place_at(text, text.len())));
     }
-    if let Some(offence) = found.undefined {
-        let place = place_in(unit.text(), offence.at);
-        return Err(fault(offence.rule, place));
+    if let Some(error) = found.undefined {
+        let place = place_in(unit.text(), error.at);
+        return Err(fault(error.rule, place));
     }
     Ok(TypedUnit::new(unit))
 }
 
-// The first offence, limits among them, and the first call of a function that is not defined.
+// The first error, limits among them, and the first call of a function that is not defined.
 #[derive(Clone, Copy)]
-struct FirstOffences {
-    first: Option<Offence>,
-    undefined: Option<Offence>,
+struct FirstErrors {
+    first: Option<RuleError>,
+    undefined: Option<RuleError>,
 }
 
-fn first_offences(alloc: Global, externals: &[External]) -> Result<FirstOffences, AllocError>
-    ensures first { IfOk result (λ r. r.first ≡ noted None (all_offences (external_trees externals.now))) }
+fn first_errors(alloc: Global, externals: &[External]) -> Result<FirstErrors, AllocError>
+    ensures first { IfOk result (λ r. r.first ≡ noted None (all_errors (external_trees externals.now))) }
     ensures undefined { IfOk result (λ r. r.undefined ≡ noted None (undefined_calls (external_trees externals.now))) }
 {
     let mut findings = Findings::new(definitions(alloc, externals)?);
@@ -74,7 +74,7 @@ fn first_offences(alloc: Global, externals: &[External]) -> Result<FirstOffences
     };
     let walked = all_externals(&mut scope, &mut findings, externals);
     drop(scope);
-    let found = FirstOffences {
+    let found = FirstErrors {
         first: with_excesses(findings.first(), externals),
         undefined: findings.undefined(),
     };

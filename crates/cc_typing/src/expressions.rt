@@ -1,6 +1,6 @@
 // The rules of expressions and actions (C99 6.5, 6.8.3).
 //
-// The walk goes on after an offence, since the first in the text need not be the first that is met. The recursion is as
+// The walk goes on after an error, since the first in the text need not be the first that is met. The recursion is as
 // deep as the tree: at most 512 tokens of a full expression.
 
 ghost use Rattle.std.specs.Prelude.{◌≡◌, ◌==◌, [], not, length};
@@ -10,7 +10,7 @@ ghost use Rattle.cc_typing.specs.Entities.{optional_entity};
 ghost use Rattle.cc_typing.specs.internal.Findings.{after};
 ghost use Rattle.cc_typing.specs.declared.rule.Rule.TheVariants.{WrongCount};
 ghost use Rattle.cc_typing.specs.Types.{result_type};
-ghost use Rattle.cc_typing.specs.Rules.{broken_if, variable_offences, array_offences, function_offences, void_offences, expression_offences, argument_offences, value_offences, optional_offences, target_offences, action_offences, optional_action_offences, called_in, called_in_all, called_in_optional, called_in_target, called_in_action, called_in_optional_action};
+ghost use Rattle.cc_typing.specs.Rules.{broken_if, variable_errors, array_errors, function_errors, void_errors, expression_errors, argument_errors, value_errors, optional_errors, target_errors, action_errors, optional_action_errors, called_in, called_in_all, called_in_optional, called_in_target, called_in_action, called_in_optional_action};
 ghost use Rattle.cc_typing.specs.Scope.{found, in_scope};
 
 use super::entity::Entity;
@@ -21,7 +21,7 @@ use cc_syntax::{Action, Expression, Identifier, Scalar, Target};
 
 // A name that must be a variable. An array or a function there breaks the rule that is given.
 fn variable(scope: &Scope, findings: &mut Findings, name: &Identifier, misuse: Rule)
-    ensures { findings.new ≡ after findings.old (variable_offences misuse (found (in_scope scope.now) name.now.bytes.items) name.now.at) [] }
+    ensures { findings.new ≡ after findings.old (variable_errors misuse (found (in_scope scope.now) name.now.bytes.items) name.now.at) [] }
 {
     match scope.find(name.bytes.as_slice()) {
         Some(Entity::Variable(_)) => {}
@@ -32,7 +32,7 @@ fn variable(scope: &Scope, findings: &mut Findings, name: &Identifier, misuse: R
 
 // A name that must be an array.
 fn array(scope: &Scope, findings: &mut Findings, name: &Identifier)
-    ensures { findings.new ≡ after findings.old (array_offences (found (in_scope scope.now) name.now.bytes.items) name.now.at) [] }
+    ensures { findings.new ≡ after findings.old (array_errors (found (in_scope scope.now) name.now.bytes.items) name.now.at) [] }
 {
     match scope.find(name.bytes.as_slice()) {
         Some(Entity::Elements(_)) => {}
@@ -41,16 +41,16 @@ fn array(scope: &Scope, findings: &mut Findings, name: &Identifier)
     }
 }
 
-// A call of a function of so many parameters.
+// A call of a function of this many parameters.
 fn argument_count(findings: &mut Findings, name: &Identifier, count: usize, parameters: usize)
     ensures { findings.new ≡ after findings.old (broken_if (not (count == parameters)) WrongCount name.now.at) [] }
 {
     findings.note_if(count != parameters, Rule::WrongCount, name.at);
 }
 
-// A name that must be a function of so many parameters.
+// A name that must be a function of this many parameters.
 fn function(scope: &Scope, findings: &mut Findings, name: &Identifier, count: usize)
-    ensures { findings.new ≡ after findings.old (function_offences (found (in_scope scope.now) name.now.bytes.items) count name.now.at) [] }
+    ensures { findings.new ≡ after findings.old (function_errors (found (in_scope scope.now) name.now.bytes.items) count name.now.at) [] }
 {
     match scope.find(name.bytes.as_slice()) {
         Some(Entity::Function(signature)) => {
@@ -80,7 +80,7 @@ fn result_type(scope: &Scope, name: &[u8]) -> Option<Scalar>
 
 // A void call, in parentheses too, where a value is used.
 fn void_call(scope: &Scope, findings: &mut Findings, tree: &Expression)
-    ensures { findings.new ≡ after findings.old (void_offences (in_scope scope.now) (expression_tree tree.now)) [] }
+    ensures { findings.new ≡ after findings.old (void_errors (in_scope scope.now) (expression_tree tree.now)) [] }
 {
     match tree {
         Expression::Parenthesised(inner) => void_call(scope, findings, inner),
@@ -102,7 +102,7 @@ fn void_call(scope: &Scope, findings: &mut Findings, tree: &Expression)
 /// An expression whose value is used.
 #[cycle(expressions)]
 pub fn value(scope: &Scope, findings: &mut Findings, tree: &Expression)
-    ensures { findings.new ≡ after findings.old (value_offences (in_scope scope.now) (expression_tree tree.now)) (called_in (expression_tree tree.now)) }
+    ensures { findings.new ≡ after findings.old (value_errors (in_scope scope.now) (expression_tree tree.now)) (called_in (expression_tree tree.now)) }
 {
     expression(scope, findings, tree);
     void_call(scope, findings, tree);
@@ -111,7 +111,7 @@ pub fn value(scope: &Scope, findings: &mut Findings, tree: &Expression)
 // An expression that is evaluated, whether its value is used or not.
 #[cycle(expressions)]
 fn expression(scope: &Scope, findings: &mut Findings, tree: &Expression)
-    ensures { findings.new ≡ after findings.old (expression_offences (in_scope scope.now) (expression_tree tree.now)) (called_in (expression_tree tree.now)) }
+    ensures { findings.new ≡ after findings.old (expression_errors (in_scope scope.now) (expression_tree tree.now)) (called_in (expression_tree tree.now)) }
 {
     match tree {
         Expression::Number(_, _) => {}
@@ -144,7 +144,7 @@ fn expression(scope: &Scope, findings: &mut Findings, tree: &Expression)
 
 #[cycle(expressions)]
 fn arguments(scope: &Scope, findings: &mut Findings, trees: &[Expression])
-    ensures { findings.new ≡ after findings.old (argument_offences (in_scope scope.now) (expressions_of trees.now)) (called_in_all (expressions_of trees.now)) }
+    ensures { findings.new ≡ after findings.old (argument_errors (in_scope scope.now) (expressions_of trees.now)) (called_in_all (expressions_of trees.now)) }
 {
     for tree in trees {
         value(scope, findings, tree);
@@ -153,7 +153,7 @@ fn arguments(scope: &Scope, findings: &mut Findings, trees: &[Expression])
 
 /// A value that may be left out.
 pub fn optional_value(scope: &Scope, findings: &mut Findings, tree: &Option<Box<Expression>>)
-    ensures { findings.new ≡ after findings.old (optional_offences (in_scope scope.now) (optional_tree tree.now)) (called_in_optional (optional_tree tree.now)) }
+    ensures { findings.new ≡ after findings.old (optional_errors (in_scope scope.now) (optional_tree tree.now)) (called_in_optional (optional_tree tree.now)) }
 {
     if let Some(tree) = tree {
         value(scope, findings, tree);
@@ -161,7 +161,7 @@ pub fn optional_value(scope: &Scope, findings: &mut Findings, tree: &Option<Box<
 }
 
 fn target(scope: &Scope, findings: &mut Findings, target: &Target)
-    ensures { findings.new ≡ after findings.old (target_offences (in_scope scope.now) (target_tree target.now)) (called_in_target (target_tree target.now)) }
+    ensures { findings.new ≡ after findings.old (target_errors (in_scope scope.now) (target_tree target.now)) (called_in_target (target_tree target.now)) }
 {
     match target {
         Target::Variable(name) => variable(scope, findings, name, Rule::BadAssign),
@@ -174,7 +174,7 @@ fn target(scope: &Scope, findings: &mut Findings, target: &Target)
 
 /// An assignment, an increment or decrement, or an expression whose value is not used.
 pub fn action(scope: &Scope, findings: &mut Findings, action: &Action)
-    ensures { findings.new ≡ after findings.old (action_offences (in_scope scope.now) (action_tree action.now)) (called_in_action (action_tree action.now)) }
+    ensures { findings.new ≡ after findings.old (action_errors (in_scope scope.now) (action_tree action.now)) (called_in_action (action_tree action.now)) }
 {
     match action {
         Action::Assign(_, written, right) => {
@@ -188,7 +188,7 @@ pub fn action(scope: &Scope, findings: &mut Findings, action: &Action)
 
 /// An action that may be left out.
 pub fn optional_action(scope: &Scope, findings: &mut Findings, tree: &Option<Action>)
-    ensures { findings.new ≡ after findings.old (optional_action_offences (in_scope scope.now) (optional_action tree.now)) (called_in_optional_action (optional_action tree.now)) }
+    ensures { findings.new ≡ after findings.old (optional_action_errors (in_scope scope.now) (optional_action tree.now)) (called_in_optional_action (optional_action tree.now)) }
 {
     if let Some(tree) = tree {
         action(scope, findings, tree);

@@ -5,7 +5,7 @@ ghost use Rattle.cc_syntax.specs.Erase.{name_tree, constant_tree, optional_const
 ghost use Rattle.cc_typing.specs.Bindings.{file_level, file_of, file_with};
 ghost use Rattle.cc_typing.specs.internal.Counts.{defined_in};
 ghost use Rattle.cc_typing.specs.internal.Findings.{after, noted, is_bad_length, with_before};
-ghost use Rattle.cc_typing.specs.Rules.{constant_offences, optional_constant_offences, constants_offences, named_array_offences, object_offences, objects_offences, parameter_offences, parameters_offences, signature_offences, external_offences, externals_offences, called_in_constant, called_in_optional_constant, called_in_constants, called_in_object, called_in_objects, called_in_external, called, undefined_among};
+ghost use Rattle.cc_typing.specs.Rules.{constant_errors, optional_constant_errors, constants_errors, named_array_errors, object_errors, objects_errors, parameter_errors, parameters_errors, signature_errors, external_errors, externals_errors, called_in_constant, called_in_optional_constant, called_in_constants, called_in_object, called_in_objects, called_in_external, called, undefined_among};
 ghost use Rattle.cc_typing.specs.Scope.{Elements, in_scope, has_name, with_declared, with_object, with_objects, parameter_declared, parameters_declared, body_scope, file_scope_behind};
 
 use super::around::Surroundings;
@@ -21,14 +21,14 @@ use std::alloc::AllocError;
 
 // A constant expression.
 fn constant(scope: &Scope, findings: &mut Findings, tree: &ConstantExpression)
-    ensures { findings.new ≡ after findings.old (constant_offences (in_scope scope.now) (constant_tree tree.now)) (called_in_constant (constant_tree tree.now)) }
+    ensures { findings.new ≡ after findings.old (constant_errors (in_scope scope.now) (constant_tree tree.now)) (called_in_constant (constant_tree tree.now)) }
 {
     value(scope, findings, &tree.expression);
     findings.note_if(constant_word(tree).is_none(), Rule::WrongKind, tree.at);
 }
 
 fn optional_constant(scope: &Scope, findings: &mut Findings, tree: &Option<ConstantExpression>)
-    ensures { findings.new ≡ after findings.old (optional_constant_offences (in_scope scope.now) (optional_constant tree.now)) (called_in_optional_constant (optional_constant tree.now)) }
+    ensures { findings.new ≡ after findings.old (optional_constant_errors (in_scope scope.now) (optional_constant tree.now)) (called_in_optional_constant (optional_constant tree.now)) }
 {
     if let Some(tree) = tree {
         constant(scope, findings, tree);
@@ -37,7 +37,7 @@ fn optional_constant(scope: &Scope, findings: &mut Findings, tree: &Option<Const
 
 // The values of a list.
 fn constants(scope: &Scope, findings: &mut Findings, trees: &[ConstantExpression])
-    ensures { findings.new ≡ after findings.old (constants_offences (in_scope scope.now) (constant_trees trees.now)) (called_in_constants (constant_trees trees.now)) }
+    ensures { findings.new ≡ after findings.old (constants_errors (in_scope scope.now) (constant_trees trees.now)) (called_in_constants (constant_trees trees.now)) }
 {
     for tree in trees {
         constant(scope, findings, tree);
@@ -63,7 +63,7 @@ fn object<'a>(
 ) -> Result<(), AllocError>
     requires { scope.old.inner ≡ [] }
     ensures scope { OnOk result (scope.new ≡ file_level (with_object scalar (object_tree tree.now) (file_of scope.old)).bindings) }
-    ensures found { OnOk result (findings.new ≡ after findings.old (object_offences scalar (object_tree tree.now) (file_of scope.old)) (called_in_object (object_tree tree.now))) }
+    ensures found { OnOk result (findings.new ≡ after findings.old (object_errors scalar (object_tree tree.now) (file_of scope.old)) (called_in_object (object_tree tree.now))) }
 {
     match tree {
         Object::Single(name, initial) => {
@@ -100,7 +100,7 @@ fn array<'a>(
 ) -> Result<(), AllocError>
     requires { scope.old.inner ≡ [] }
     ensures scope { OnOk result (scope.new ≡ file_level (with_declared (name_tree name.now).text (Elements scalar) (file_of scope.old)).bindings) }
-    ensures found { OnOk result (findings.new ≡ after findings.old (named_array_offences scalar (name_tree name.now) (optional_constant length.now) (constant_trees values.now) (file_of scope.old)) (called_in_optional_constant (optional_constant length.now) ++ called_in_constants (constant_trees values.now))) }
+    ensures found { OnOk result (findings.new ≡ after findings.old (named_array_errors scalar (name_tree name.now) (optional_constant length.now) (constant_trees values.now) (file_of scope.old)) (called_in_optional_constant (optional_constant length.now) ++ called_in_constants (constant_trees values.now))) }
 {
     let bytes = name.bytes.as_slice();
     findings.note_if(scope.find(bytes).is_some(), Rule::Redeclared, name.at);
@@ -121,7 +121,7 @@ fn objects<'a>(
 ) -> Result<(), AllocError>
     requires { scope.old.inner ≡ [] }
     ensures scope { OnOk result (scope.new ≡ file_level (with_objects scalar (object_trees trees.now) (file_of scope.old)).bindings) }
-    ensures found { OnOk result (findings.new ≡ after findings.old (objects_offences scalar (object_trees trees.now) (file_of scope.old)) (called_in_objects (object_trees trees.now))) }
+    ensures found { OnOk result (findings.new ≡ after findings.old (objects_errors scalar (object_trees trees.now) (file_of scope.old)) (called_in_objects (object_trees trees.now))) }
 {
     for tree in trees {
         object(scope, findings, scalar, tree)?;
@@ -135,7 +135,7 @@ fn parameter<'a>(
     tree: &'a Parameter,
 ) -> Result<(), AllocError>
     ensures scope { OnOk result (scope.new ≡ parameter_declared tree.now.scalar (parameter_tree tree.now).name scope.old) }
-    ensures found { OnOk result (findings.new ≡ after findings.old (parameter_offences (parameter_tree tree.now).name scope.old) []) }
+    ensures found { OnOk result (findings.new ≡ after findings.old (parameter_errors (parameter_tree tree.now).name scope.old) []) }
 {
     if let Some(name) = &tree.name {
         let again = scope.declare(name.bytes.as_slice(), Entity::Variable(tree.scalar))?;
@@ -150,7 +150,7 @@ fn parameters<'a>(
     trees: &'a [Parameter],
 ) -> Result<(), AllocError>
     ensures scope { OnOk result (scope.new ≡ parameters_declared (parameter_trees trees.now) scope.old) }
-    ensures found { OnOk result (findings.new ≡ after findings.old (parameters_offences (parameter_trees trees.now) scope.old) []) }
+    ensures found { OnOk result (findings.new ≡ after findings.old (parameters_errors (parameter_trees trees.now) scope.old) []) }
 {
     for tree in trees {
         parameter(scope, findings, tree)?;
@@ -166,7 +166,7 @@ fn signature<'a>(
 ) -> Result<(), AllocError>
     requires { scope.old.inner ≡ [] }
     ensures scope { OnOk result (scope.new ≡ body_scope (signature_tree tree.now) (file_of scope.old)) }
-    ensures found { OnOk result (findings.new ≡ after findings.old (signature_offences (signature_tree tree.now) (file_of scope.old)) []) }
+    ensures found { OnOk result (findings.new ≡ after findings.old (signature_errors (signature_tree tree.now) (file_of scope.old)) []) }
 {
     let name = tree.name.bytes.as_slice();
     findings.note_if(
@@ -186,7 +186,7 @@ fn external<'a>(
 ) -> Result<(), AllocError>
     requires { scope.old.inner ≡ [] }
     ensures scope { OnOk result (scope.new ≡ file_level (file_scope_behind (external_tree tree.now) (file_with scope.old findings.old.functions.before)).bindings) }
-    ensures found { OnOk result (findings.new ≡ after (with_before findings.old (defined_in (external_tree tree.now))) (external_offences (external_tree tree.now) (file_with scope.old findings.old.functions.before)) (called_in_external (external_tree tree.now))) }
+    ensures found { OnOk result (findings.new ≡ after (with_before findings.old (defined_in (external_tree tree.now))) (external_errors (external_tree tree.now) (file_with scope.old findings.old.functions.before)) (called_in_external (external_tree tree.now))) }
 {
     match tree {
         External::Declaration(declared) => {
@@ -220,7 +220,7 @@ pub fn all_externals<'a>(
     trees: &'a [External],
 ) -> Result<(), AllocError>
     requires { scope.old.inner ≡ [] }
-    ensures first { OnOk result (findings.new.first ≡ noted findings.old.first (externals_offences (external_trees trees.now) (file_with scope.old findings.old.functions.before))) }
+    ensures first { OnOk result (findings.new.first ≡ noted findings.old.first (externals_errors (external_trees trees.now) (file_with scope.old findings.old.functions.before))) }
     ensures undefined { OnOk result (findings.new.undefined ≡ noted findings.old.undefined (undefined_among findings.old.functions.defined (called (external_trees trees.now)))) }
 {
     for tree in trees {

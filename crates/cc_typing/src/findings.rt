@@ -8,7 +8,7 @@ ghost use Rattle.cc_typing.specs.Rules.{broken, broken_if};
 ghost use Rattle.cc_typing.specs.Scope.{has_name};
 
 use super::functions::Functions;
-use super::rule::{Offence, Rule};
+use super::rule::{Rule, RuleError};
 use cc_syntax::Identifier;
 use std::alloc::AllocError;
 use std::marker::Model;
@@ -30,27 +30,27 @@ fn number(rule: Rule) -> u32
     }
 }
 
-fn comes_before(offence: Offence, other: Offence) -> bool
-    ensures { result ≡ is_before offence other }
+fn comes_before(error: RuleError, other: RuleError) -> bool
+    ensures { result ≡ is_before error other }
 {
-    offence.at < other.at || (offence.at == other.at && number(offence.rule) < number(other.rule))
+    error.at < other.at || (error.at == other.at && number(error.rule) < number(other.rule))
 }
 
-/// The earlier of an offence, where there is one, and another.
-pub fn earlier(first: Option<Offence>, offence: Offence) -> Offence
-    ensures { result ≡ earlier first offence }
+/// The earlier of an error, where there is one, and another.
+pub fn earlier(first: Option<RuleError>, error: RuleError) -> RuleError
+    ensures { result ≡ earlier first error }
 {
     match first {
-        Some(first) if !comes_before(offence, first) => first,
-        _ => offence,
+        Some(first) if !comes_before(error, first) => first,
+        _ => error,
     }
 }
 
-/// The first offence so far, and the first call of a function that the unit does not define.
+/// The first error so far, and the first call of a function that the unit does not define.
 #[derive(Drop)]
 pub struct Findings<'a> {
-    first: Option<Offence>,
-    undefined: Option<Offence>,
+    first: Option<RuleError>,
+    undefined: Option<RuleError>,
     functions: Functions<'a>,
 }
 
@@ -78,7 +78,7 @@ impl<'a> Findings<'a> {
     pub fn note(&mut self, rule: Rule, at: usize)
         ensures { self.new ≡ after self.old (broken rule at) [] }
     {
-        self.first = Some(earlier(self.first, Offence { rule, at }));
+        self.first = Some(earlier(self.first, RuleError { rule, at }));
     }
 
     /// A rule is broken at the token with an offset, where this is so.
@@ -95,11 +95,11 @@ impl<'a> Findings<'a> {
         ensures { self.new ≡ after self.old [] (name_tree name.now ∷ []) }
     {
         if !self.functions.is_defined(name.bytes.as_slice()) {
-            let offence = Offence {
+            let error = RuleError {
                 rule: Rule::Undefined,
                 at: name.at,
             };
-            self.undefined = Some(earlier(self.undefined, offence));
+            self.undefined = Some(earlier(self.undefined, error));
         }
     }
 
@@ -117,15 +117,15 @@ impl<'a> Findings<'a> {
         self.functions.mark_before(name)
     }
 
-    /// The first offence.
-    pub fn first(&self) -> Option<Offence>
+    /// The first error.
+    pub fn first(&self) -> Option<RuleError>
         ensures { result ≡ self.now.first }
     {
         self.first
     }
 
     /// The first call of a function that is not defined.
-    pub fn undefined(&self) -> Option<Offence>
+    pub fn undefined(&self) -> Option<RuleError>
         ensures { result ≡ self.now.undefined }
     {
         self.undefined

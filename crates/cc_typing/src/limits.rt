@@ -9,7 +9,7 @@ ghost use Rattle.cc_typing.specs.Types.{array_elements, object_elements, object_
 
 use super::constants::array_length;
 use super::findings::earlier;
-use super::rule::{Offence, Rule};
+use super::rule::{Rule, RuleError};
 use cc_syntax::{
     Beginning, ConstantExpression, Declarator, External, Identifier, Object, Signature, Statement,
 };
@@ -59,15 +59,15 @@ impl Count {
     }
 }
 
-// The first of an offence, where there is one, and of a limit passed at a place.
-fn with_excess(first: Option<Offence>, past: Option<usize>) -> Option<Offence>
+// The first of an error, where there is one, and of a limit passed at a place.
+fn with_excess(first: Option<RuleError>, past: Option<usize>) -> Option<RuleError>
     ensures { result ≡ noted first (excess_of past) }
 {
     match past {
         None => first,
         Some(at) => Some(earlier(
             first,
-            Offence {
+            RuleError {
                 rule: Rule::TooMany,
                 at,
             },
@@ -229,7 +229,7 @@ impl Words {
 
 // ---- a unit
 
-fn with_parameters(first: Option<Offence>, signature: &Signature) -> Option<Offence>
+fn with_parameters(first: Option<RuleError>, signature: &Signature) -> Option<RuleError>
     ensures { result ≡ noted first (parameter_excesses (signature_tree signature.now)) }
 {
     if signature.parameters.as_slice().len() > MOST_PARAMETERS {
@@ -239,7 +239,7 @@ fn with_parameters(first: Option<Offence>, signature: &Signature) -> Option<Offe
     }
 }
 
-fn with_external(first: Option<Offence>, external: &External) -> Option<Offence>
+fn with_external(first: Option<RuleError>, external: &External) -> Option<RuleError>
     ensures { result ≡ noted first (external_excesses (external_tree external.now)) }
 {
     match external {
@@ -253,7 +253,7 @@ fn with_external(first: Option<Offence>, external: &External) -> Option<Offence>
     }
 }
 
-fn with_externals(mut first: Option<Offence>, externals: &[External]) -> Option<Offence>
+fn with_externals(mut first: Option<RuleError>, externals: &[External]) -> Option<RuleError>
     ensures { result ≡ noted first (externals_excesses (external_trees externals.now)) }
 {
     for external in externals {
@@ -294,8 +294,8 @@ fn past_words(externals: &[External]) -> Option<usize>
     words.past
 }
 
-/// The first of an offence, where there is one, and of each limit that a unit passes.
-pub fn with_excesses(first: Option<Offence>, externals: &[External]) -> Option<Offence>
+/// The first of an error, where there is one, and of each limit that a unit passes.
+pub fn with_excesses(first: Option<RuleError>, externals: &[External]) -> Option<RuleError>
     ensures { result ≡ noted first (excesses (external_trees externals.now)) }
 {
     let first = with_externals(first, externals);

@@ -17,7 +17,7 @@ pub enum Rule {
 
 /// A rule that is broken at the token with an offset in the text.
 #[derive(Clone, Copy)]
-pub struct Offence {
+pub struct RuleError {
     pub rule: Rule,
     pub at: usize,
 }

@@ -79,7 +79,7 @@ impl<'a> Scope<'a> {
         around
     }
 
-    /// Ends a scope, whose names go, inside one that had declared so many.
+    /// Ends a scope, whose names go, inside one that had declared this many.
     pub fn close(&mut self, around: usize)
         requires { around ≤ length self.old.outer }
         ensures { self.new ≡ closed around self.old }

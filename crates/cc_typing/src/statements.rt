@@ -5,8 +5,8 @@
 ghost use Rattle.std.specs.Prelude.{◌≡◌, OnOk};
 ghost use Rattle.cc_syntax.specs.Erase.{expression_tree, optional_tree, optional_action, declarator_tree, declarator_trees, beginning_tree, statement_tree, statements_of};
 ghost use Rattle.cc_syntax.specs.Tree as tree;
-ghost use Rattle.cc_typing.specs.internal.Findings.{after, around_of, declarator_offences, is_bad_return};
-ghost use Rattle.cc_typing.specs.Rules.{within_loop, declared_offences, beginning_offences, return_offences, statement_offences, statements_offences, called_in_optional, called_in_declared, called_in_beginning, called_in_statement, called_in_statements};
+ghost use Rattle.cc_typing.specs.internal.Findings.{after, around_of, declarator_errors, is_bad_return};
+ghost use Rattle.cc_typing.specs.Rules.{within_loop, declared_errors, beginning_errors, return_errors, statement_errors, statements_errors, called_in_optional, called_in_declared, called_in_beginning, called_in_statement, called_in_statements};
 ghost use Rattle.cc_typing.specs.Scope.{Variable, in_scope, opened, declared, all_declared, scope_behind, scope_behind_beginning};
 
 use super::around::Surroundings;
@@ -26,7 +26,7 @@ fn declarator<'a>(
     tree: &'a Declarator,
 ) -> Result<(), AllocError>
     ensures scope { OnOk result (scope.new ≡ declared tree.now.name.bytes.items (Variable scalar) scope.old) }
-    ensures found { OnOk result (findings.new ≡ after findings.old (declarator_offences scalar (declarator_tree tree.now) scope.old) (called_in_optional (optional_tree tree.now.initial))) }
+    ensures found { OnOk result (findings.new ≡ after findings.old (declarator_errors scalar (declarator_tree tree.now) scope.old) (called_in_optional (optional_tree tree.now.initial))) }
 {
     let again = scope.declare(tree.name.bytes.as_slice(), Entity::Variable(scalar))?;
     findings.note_if(again, Rule::Redeclared, tree.name.at);
@@ -42,7 +42,7 @@ fn declaration<'a>(
     trees: &'a [Declarator],
 ) -> Result<(), AllocError>
     ensures scope { OnOk result (scope.new ≡ all_declared scalar (declarator_trees trees.now) scope.old) }
-    ensures found { OnOk result (findings.new ≡ after findings.old (declared_offences scalar (declarator_trees trees.now) scope.old) (called_in_declared (declarator_trees trees.now))) }
+    ensures found { OnOk result (findings.new ≡ after findings.old (declared_errors scalar (declarator_trees trees.now) scope.old) (called_in_declared (declarator_trees trees.now))) }
 {
     for tree in trees {
         declarator(scope, findings, scalar, tree)?;
@@ -57,7 +57,7 @@ fn beginning<'a>(
     tree: &'a Beginning,
 ) -> Result<(), AllocError>
     ensures scope { OnOk result (scope.new ≡ scope_behind_beginning (beginning_tree tree.now) scope.old) }
-    ensures found { OnOk result (findings.new ≡ after findings.old (beginning_offences (beginning_tree tree.now) scope.old) (called_in_beginning (beginning_tree tree.now))) }
+    ensures found { OnOk result (findings.new ≡ after findings.old (beginning_errors (beginning_tree tree.now) scope.old) (called_in_beginning (beginning_tree tree.now))) }
 {
     match tree {
         Beginning::Declaration(scalar, names) => {
@@ -87,7 +87,7 @@ fn returned(
     at: usize,
     tree: &Option<Box<Expression>>,
 )
-    ensures { findings.new ≡ after findings.old (return_offences around.result (in_scope scope.now) at (optional_tree tree.now)) (called_in_optional (optional_tree tree.now)) }
+    ensures { findings.new ≡ after findings.old (return_errors around.result (in_scope scope.now) at (optional_tree tree.now)) (called_in_optional (optional_tree tree.now)) }
 {
     findings.note_if(is_bad_return(around.result, tree), Rule::BadReturn, at);
     optional_value(scope, findings, tree);
@@ -102,7 +102,7 @@ fn inner_statement<'a>(
     tree: &'a Statement,
 ) -> Result<(), AllocError>
     ensures scope { OnOk result (scope.new ≡ scope.old) }
-    ensures found { OnOk result (findings.new ≡ after findings.old (statement_offences (statement_tree tree.now) (around_of around) (opened scope.old)) (called_in_statement (statement_tree tree.now))) }
+    ensures found { OnOk result (findings.new ≡ after findings.old (statement_errors (statement_tree tree.now) (around_of around) (opened scope.old)) (called_in_statement (statement_tree tree.now))) }
 {
     let names = scope.open();
     statement(scope, findings, around, tree)?;
@@ -119,7 +119,7 @@ fn statement<'a>(
     tree: &'a Statement,
 ) -> Result<(), AllocError>
     ensures scope { OnOk result (scope.new ≡ scope_behind (statement_tree tree.now) scope.old) }
-    ensures found { OnOk result (findings.new ≡ after findings.old (statement_offences (statement_tree tree.now) (around_of around) scope.old) (called_in_statement (statement_tree tree.now))) }
+    ensures found { OnOk result (findings.new ≡ after findings.old (statement_errors (statement_tree tree.now) (around_of around) scope.old) (called_in_statement (statement_tree tree.now))) }
 {
     match tree {
         Statement::Block(all) => block(scope, findings, around, all),
@@ -174,7 +174,7 @@ fn for_statement<'a>(
     body: &'a Statement,
 ) -> Result<(), AllocError>
     ensures scope { OnOk result (scope.new ≡ scope.old) }
-    ensures found { OnOk result (findings.new ≡ after findings.old (statement_offences (tree.For (beginning_tree first.now) (optional_tree condition.now) (optional_action following.now) (statement_tree body.now)) (around_of around) scope.old) (called_in_statement (tree.For (beginning_tree first.now) (optional_tree condition.now) (optional_action following.now) (statement_tree body.now)))) }
+    ensures found { OnOk result (findings.new ≡ after findings.old (statement_errors (tree.For (beginning_tree first.now) (optional_tree condition.now) (optional_action following.now) (statement_tree body.now)) (around_of around) scope.old) (called_in_statement (tree.For (beginning_tree first.now) (optional_tree condition.now) (optional_action following.now) (statement_tree body.now)))) }
 {
     let names = scope.open();
     beginning(scope, findings, first)?;
@@ -194,7 +194,7 @@ fn block<'a>(
     trees: &'a [Statement],
 ) -> Result<(), AllocError>
     ensures scope { OnOk result (scope.new ≡ scope.old) }
-    ensures found { OnOk result (findings.new ≡ after findings.old (statements_offences (statements_of trees.now) (around_of around) (opened scope.old)) (called_in_statements (statements_of trees.now))) }
+    ensures found { OnOk result (findings.new ≡ after findings.old (statements_errors (statements_of trees.now) (around_of around) (opened scope.old)) (called_in_statements (statements_of trees.now))) }
 {
     let names = scope.open();
     all_statements(scope, findings, around, trees)?;
@@ -211,7 +211,7 @@ pub fn all_statements<'a>(
     trees: &'a [Statement],
 ) -> Result<(), AllocError>
     ensures outer { OnOk result (scope.new.outer ≡ scope.old.outer) }
-    ensures found { OnOk result (findings.new ≡ after findings.old (statements_offences (statements_of trees.now) (around_of around) scope.old) (called_in_statements (statements_of trees.now))) }
+    ensures found { OnOk result (findings.new ≡ after findings.old (statements_errors (statements_of trees.now) (around_of around) scope.old) (called_in_statements (statements_of trees.now))) }
 {
     for tree in trees {
         statement(scope, findings, around, tree)?;

@@ -61,19 +61,19 @@ in_order_more place (x ∷ rest) a =
 -- ---- a whole block
 
 module _ (node : rtl.Node) (block : Block) (es s1 s2 s3 s4 : List Equation) (after : AreCarried (before_moves block.after) es s1) (through : AreBefore (fate node block.operation) s1 s2)
-    (more : AreWith (operands node block.operation) s2 s3) (front : AreCarried (before_moves block.before) s3 s4) where
+    (more : AreWith (operands node block.operation) s2 s3) (before : AreCarried (before_moves block.before) s3 s4) where
   lies : (e : Equation) → Contains es e → Lies (fate node block.operation (before_moves block.after e)) block.before s4
   lies e i = go (fate node block.operation (before_moves block.after e)) (through.there (before_moves block.after e) (after.there e i))
     where
       go : (f : Fate) → Lies f [] s2 → Lies f block.before s4
-      go (Becomes x) k = front.there x (more.kept x k)
+      go (Becomes x) k = before.there x (more.kept x k)
       go Dropped k = tt
       go Contradicted k = absurd k
 
   within : (own : List Equation) → carried node block es ≡ Some own → (x : Equation) → Contains s4 x → Contains own x
   within own is x i =
       let below : Below (carried node block es) (Some own) = subst (λ f. Below f (Some own)) (sym is) (λ e k. k) in
-      let c = front.only x i in
+      let c = before.only x i in
       subst (Contains own) c.2 (elim (more.only c.0 c.1) [
         | inl operand ↦ carried_needs node block own es below c.0 operand
         | inr behind ↦
@@ -82,8 +82,8 @@ module _ (node : rtl.Node) (block : Block) (es s1 s2 s3 s4 : List Equation) (aft
             subst (λ f. Lies f block.before own) (ap (fate node block.operation) a.2 ∙ b.2) (carried_lies node block own es below a.0 a.1))
       ])
 
-  pub front_is : Equivalent Below (Some s4) (carried node block es)
-  front_is = (go (carried node block es) refl, carried_below node block s4 es lies (λ e i. front.there e (more.more_in e i)))
+  pub before_is : Equivalent Below (Some s4) (carried node block es)
+  before_is = (go (carried node block es) refl, carried_below node block s4 es lies (λ e i. before.there e (more.more_in e i)))
     where
       go : (f : Facts) → carried node block es ≡ f → Below (Some s4) f
       go None is = tt

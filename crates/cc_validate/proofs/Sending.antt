@@ -106,7 +106,7 @@ sent_more from origins old new r c h more = record { there = there; only = only 
       | inr early ↦ (let o = h.only i p early in (o.0, inl o.1, o.2))
     ]
 
--- the bits of the rows before one, and of so many columns of that one
+-- the bits of the rows before one, and of this many columns of that one
 abbrev Columns : (old : Table) (r c : ℕ) → (i j : ℕ) → Type 0
 Columns old r c i j = ((i < r) ⊎ ((i ≡ r) × (j < c))) × IsTrue (has old i j)
 

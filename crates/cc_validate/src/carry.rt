@@ -16,7 +16,7 @@ use cc_ltl::Block;
 use cc_rtl::Node;
 use std::alloc::{AllocError, Global};
 
-/// What is to hold in front of a block, of what is to hold behind it. Rows are made with room for so many words of locations.
+/// What is to hold in front of a block, of what is to hold behind it. Rows are made with room for this many words of locations.
 pub fn carry(
     alloc: Global,
     node: &Node,
@@ -26,7 +26,7 @@ pub fn carry(
 ) -> Result<EquationSet, AllocError>
     requires agrees { Agrees (node_of node.now) block.now.operation }
     requires width { width ≤ most_width }
-    ensures { IfOk result (λ front. Equivalent Below front (through (node_of node.now) block.now behind.now)) }
+    ensures { IfOk result (λ before. Equivalent Below before (through (node_of node.now) block.now behind.now)) }
 {
     match behind.equations() {
         None => Ok(EquationSet::contradiction()),
@@ -44,14 +44,14 @@ fn carry_all(
 ) -> Result<EquationSet, AllocError>
     requires agrees { Agrees (node_of node.now) block.now.operation }
     requires width { width ≤ most_width }
-    ensures { IfOk result (λ front. Equivalent Below front (through (node_of node.now) block.now (Some behind.now))) }
+    ensures { IfOk result (λ before. Equivalent Below before (through (node_of node.now) block.now (Some behind.now))) }
 {
     let behind = behind.copy(width)?.carry(alloc, block.after.moves())?;
     match operate(behind, node, &block.operation)? {
         None => Ok(EquationSet::contradiction()),
-        Some(mut front) => {
-            put_operands(&mut front, node, &block.operation)?;
-            Ok(EquationSet::of(front.carry(alloc, block.before.moves())?))
+        Some(mut before) => {
+            put_operands(&mut before, node, &block.operation)?;
+            Ok(EquationSet::of(before.carry(alloc, block.before.moves())?))
         }
     }
 }

@@ -64,7 +64,7 @@ impl Equations {
         }
     }
 
-    /// The same set once more, with room for so many words of locations.
+    /// The same set once more, with room for this many words of locations.
     pub fn copy(&self, width: usize) -> Result<Equations, AllocError>
         requires { width ≤ most_width }
         ensures { IfOk result (λ made. made ≡ self.now) }

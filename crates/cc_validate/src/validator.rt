@@ -78,7 +78,7 @@ fn decide(alloc: Global, rtl: &Rtl, ltl: &Ltl) -> Result<(), ValidateFault>
     Ok(())
 }
 
-/// How many words the bits of the registers and so many slots take.
+/// How many words the bits of the registers and this many slots take.
 fn words_for(slots: u16) -> usize
     ensures { result ≤ most_width }
 {

@@ -19,7 +19,7 @@ abbrev pub kept : Width → (word : ℕ) → ℕ
 kept Byte w = w % 2 ^ 8
 kept Word w = w
 
--- how many words so many elements take, the last one filled up
+-- how many words this many elements take, the last one filled up
 abbrev pub words_of : Width → (elements : ℕ) → ℕ
 words_of Byte n = (n + 3) / 4
 words_of Word n = n

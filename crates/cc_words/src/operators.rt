@@ -176,7 +176,7 @@ impl Width {
         }
     }
 
-    /// How many words so many elements take, the last one filled up.
+    /// How many words this many elements take, the last one filled up.
     pub fn words_of(self, elements: usize) -> usize
         ensures { result ≡ words_of self elements }
     {

@@ -10,7 +10,7 @@ use std::alloc::{AllocError, Global};
 /// How many blocks of the stack are taken, each of 4,096 bytes: more than the deepest text needs.
 const BLOCKS: usize = 256;
 
-// Whether so many blocks are free: takes them, uses them and gives them back.
+// Whether this many blocks are free: takes them, uses them and gives them back.
 #[inline(never)]
 fn is_free(alloc: Global, blocks: usize) -> bool {
     let mut room = Vec::new(alloc);
@@ -22,7 +22,7 @@ fn is_free(alloc: Global, blocks: usize) -> bool {
     room.len() == blocks
 }
 
-// Uses so many blocks of the stack below this call; the byte that is put there.
+// Uses this many blocks of the stack below this call; the byte that is put there.
 #[inline(never)]
 fn touch(blocks: usize, byte: u8) -> u8 {
     let room = [byte; 4096];

@@ -20,7 +20,7 @@ const COMMIT: [Line; 8] = [
     SyncGate,
 ];
 
-// A crash after so many events of the commit and one event more, whether the unit is there after the recovery, and how many
+// A crash after a number of events of the commit and one event more, whether the unit is there after the recovery, and how many
 // commands were acknowledged.
 type Row = (usize, Line, u8, bool, usize);
 

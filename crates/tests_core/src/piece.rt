@@ -1,3 +1,5 @@
+// The pieces of the test builds: which part of which source each is, and the unit that it has.
+
 ghost use Rattle.std.specs.Prelude.{◌≡◌, ◌↔◌, ◌∷◌, [], ◌≤◌, ◌<◌, length, IfOk, IsTrue};
 ghost use Rattle.std.specs.Arc.{arc_value};
 ghost use Rattle.tests_core.specs.Builds.{keeps};
@@ -52,7 +54,7 @@ pub fn certified(source: &[u8]) -> Option<usize> {
     }
 }
 
-// A certificate of so many bytes, or none.
+// A certificate of this many bytes, or none.
 fn certificate(alloc: Global, count: Option<usize>) -> Result<Option<Certificate>, AllocError> {
     match count {
         Some(count) => Ok(Some(Certificate::new(vec![in alloc; 7u8; count]?))),

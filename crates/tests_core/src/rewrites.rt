@@ -163,7 +163,7 @@ const ANOTHER: [Line; 9] = [
     Ack(7),
 ];
 
-// Whether the map is recovered behind so many steps of a rewrite, the failure of the next one where it is to fail, and a crash that
+// Whether the map is recovered behind this many steps of a rewrite, the failure of the next one where it is to fail, and a crash that
 // leaves this byte; and whether a commit after it is kept through another crash.
 fn survives(alloc: Global, steps: usize, fails: bool, byte: u8) -> Result<bool, Fail> {
     let mut lines = Vec::new(alloc);

@@ -1,4 +1,4 @@
-// Each public call of the front's libraries, once on its happy path.
+// Each public call of the front end's libraries, once on its happy path.
 
 use cc_meaning::{
     MeaningFault, Stop, Words, calls_are_effects, calls_go_on, calls_keep_objects,
@@ -23,7 +23,7 @@ pub fn typed_unit(alloc: Global, text: &[u8]) -> Result<TypedUnit, Fail> {
     }
 }
 
-/// A run of so many steps on these input words ends with this value, after these words of output.
+/// A run of this many steps on these input words ends with this value, after these words of output.
 fn ends(
     alloc: Global,
     typed: &TypedUnit,

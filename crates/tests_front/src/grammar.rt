@@ -30,7 +30,7 @@ fn texts_that_are_none(rt: HostRuntime) {
     }
 }
 
-/// A text of `before`, `middle` so many times, and `behind`.
+/// A text of `before`, `middle` this many times, and `behind`.
 fn repeated(
     alloc: Global,
     before: &str,

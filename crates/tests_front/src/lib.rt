@@ -1,4 +1,4 @@
-//! Tests of the front's libraries: texts and their tokens, texts that are units and texts that are none, and each public
+//! Tests of the front end's libraries: texts and their tokens, texts that are units and texts that are none, and each public
 //! call once on its happy path. Expected values are worked by hand from the standard and the language's rules.
 //!
 //! `words` has the operations on words, `diagnostic` what a person is told of a text. The program's own tests stand in

@@ -159,7 +159,7 @@ pub static REFUSED: [Refused; 84] = [
     (b"unsigned char", 5, 1, 14),
 ];
 
-/// A text of `before`, `middle` so many times, and `behind`: the three parts, how often, and the number, the line and the
+/// A text of `before`, `middle` a number of times, and `behind`: the three parts, how often, and the number, the line and the
 /// column of its fault, zeros where it is a unit.
 pub type Repeated = (
     &'static str,

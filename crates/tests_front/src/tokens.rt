@@ -41,7 +41,7 @@ fn kind_name(kind: TokenKind, bytes: &[u8]) -> &'static str {
     }
 }
 
-/// A token, as `; 0 4 Keyword`, or `; 5 7 Number(Int, 12)`.
+/// A token, for example `; 0 4 Keyword`, or `; 5 7 Number(Int, 12)`.
 fn show_token(wanted: &mut Wanted<'_>, text: &[u8], token: Token) -> fmt::Result {
     let Token { kind, from, to } = token;
     let Some(bytes) = text.get(from..to) else {
@@ -54,7 +54,7 @@ fn show_token(wanted: &mut Wanted<'_>, text: &[u8], token: Token) -> fmt::Result
     }
 }
 
-/// The tokens, as `tokens 1; 0 4 Keyword`.
+/// The tokens, for example `tokens 1; 0 4 Keyword`.
 fn show_tokens(wanted: &mut Wanted<'_>, text: &[u8], found: &[Token]) -> fmt::Result {
     write!(wanted, "tokens {}", found.len())?;
     for token in found {
@@ -63,7 +63,7 @@ fn show_tokens(wanted: &mut Wanted<'_>, text: &[u8], found: &[Token]) -> fmt::Re
     Ok(())
 }
 
-/// The fault, as `fault BadByte 1 4`.
+/// The fault, for example `fault BadByte 1 4`.
 fn show_fault(wanted: &mut Wanted<'_>, fault: &SyntaxFault) -> fmt::Result {
     match fault.place() {
         Some(Place { line, column }) => write!(wanted, "fault {fault} {line} {column}"),

@@ -100,7 +100,7 @@ fn what_was_compiled(rt: HostRuntime) -> Result<(), Fail> {
     Ok(())
 }
 
-// What an audit says of a unit with one word of code changed, for so many of them; the first that is not refused.
+// What an audit says of a unit with one word of code changed, of the words one in `stride`; the first that is not refused.
 fn first_word_confirmed(
     alloc: Global,
     unit: &StoredUnit,
@@ -330,10 +330,10 @@ fn slots_for_all(rt: HostRuntime) -> Result<(), Fail> {
 
 // A certificate is the number of functions, and of each its length and the bytes of its LTL.
 fn is_spelled(alloc: Global, unit: &StoredUnit, functions: usize) -> Result<bool, Fail> {
-    let Some((front, mut rest)) = certificate_of(unit)?.split_at_checked(4) else {
+    let Some((prefix, mut rest)) = certificate_of(unit)?.split_at_checked(4) else {
         return Ok(false);
     };
-    let mut right = front[0] as usize == functions && front[1..] == [0, 0, 0];
+    let mut right = prefix[0] as usize == functions && prefix[1..] == [0, 0, 0];
     for _ in 0..functions {
         let Some((length, behind)) = rest.split_at_checked(4) else {
             return Ok(false);

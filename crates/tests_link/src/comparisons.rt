@@ -1,4 +1,5 @@
-// Comparisons with a constant: how many instructions they take, and what they give at the edges of what an instruction can hold.
+// Comparisons with a constant: how many instructions they take, as a value and in a branch, and what they give at the edges of what an
+// instruction can hold.
 
 use super::helpers::{Run, runs, text_of};
 use cc_link::compile;
@@ -13,9 +14,12 @@ const IMMEDIATE: u32 = 0xfff0_707f;
 const FIRST: u32 = 0xfe0f_f07f;
 
 /// A condition on `a`, how many instructions it takes, and the mask and bits of one of them, by the tables of the standard: slti has opcode
-/// 0010011 and funct3 010, sltiu 011, addi 000; slt has opcode 0110011, funct3 010 and funct7 0, sltu 011, here both with x0 first. A mask
-/// of 0 where the constant is in a register.
-static FORMS: [(&str, usize, u32, u32); 19] = [
+/// 0010011 and funct3 010, sltiu 011, xori 100, addi 000; slt has opcode 0110011, funct3 010 and funct7 0, sltu 011, here both with x0
+/// first. A mask of 0 where the constant is in a register, or none is needed.
+type Form = (&'static str, usize, u32, u32);
+
+/// As a value.
+static VALUES: [Form; 19] = [
     ("a<10", 1, IMMEDIATE, 0x00a0_2013),
     ("a<=10", 1, IMMEDIATE, 0x00b0_2013),
     ("a>=10", 2, IMMEDIATE, 0x00a0_2013),
@@ -37,6 +41,25 @@ static FORMS: [(&str, usize, u32, u32); 19] = [
     ("a<=4294967295u", 3, 0, 0),
 ];
 
+/// In a branch, which goes the other way where the opposite takes fewer.
+static BRANCHES: [Form; 15] = [
+    ("a<10", 1, IMMEDIATE, 0x00a0_2013),
+    ("a<=10", 1, IMMEDIATE, 0x00b0_2013),
+    ("a>=10", 1, IMMEDIATE, 0x00a0_2013),
+    ("!(a>=10)", 1, IMMEDIATE, 0x00a0_2013),
+    ("a>0", 1, FIRST, 0x0000_2033),
+    ("!a", 0, 0, 0),
+    ("a==0", 0, 0, 0),
+    ("a!=0", 0, 0, 0),
+    ("a==7", 1, IMMEDIATE, 0x0070_4013),
+    ("a!=7", 1, IMMEDIATE, 0x0070_4013),
+    ("a>=2048", 3, 0, 0),
+    ("a<=2047", 3, 0, 0),
+    ("a==2048", 3, 0, 0),
+    ("a<=10u", 1, IMMEDIATE, 0x00b0_3013),
+    ("a>=10u", 1, IMMEDIATE, 0x00a0_3013),
+];
+
 // How many instructions a text's image has, and whether one of them has these bits under a mask.
 fn instructions(alloc: Global, text: &[u8], mask: u32, bits: u32) -> Result<(usize, bool), Fail> {
     let unit = compile(alloc, text)?;
@@ -50,28 +73,50 @@ fn instructions(alloc: Global, text: &[u8], mask: u32, bits: u32) -> Result<(usi
     Ok((count, has))
 }
 
-// The same of a program that asks for a condition.
-fn asked(alloc: Global, condition: &str, mask: u32, bits: u32) -> Result<(usize, bool), Fail> {
-    let text = text_of(
-        alloc,
-        &[
-            ("int main(void){int a=read_word();if(", 1),
-            (condition, 1),
-            (")write_word(1);}", 1),
-        ],
-    )?;
-    let found = instructions(alloc, text.as_slice(), mask, bits);
+// The same of a program that has a condition between two texts.
+fn asked(
+    alloc: Global,
+    before: &str,
+    condition: &str,
+    behind: &str,
+    mask: u32,
+    bits: u32,
+) -> Result<(usize, bool), Fail> {
+    let text = format!(in alloc; "int main(void){{int a=read_word();{before}{condition}{behind}")?;
+    let found = instructions(alloc, text.as_bytes(), mask, bits);
     drop(text);
     found
 }
 
+// Whether a condition between two texts takes as many instructions as its form says, where `a` takes `plain` there.
+fn takes(
+    alloc: Global,
+    before: &str,
+    form: Form,
+    behind: &str,
+    plain: usize,
+) -> Result<bool, Fail> {
+    let (condition, more, mask, bits) = form;
+    let (least, _) = asked(alloc, before, "a", behind, 0, 0)?;
+    let (count, has) = asked(alloc, before, condition, behind, mask, bits)?;
+    Ok(count.saturating_add(plain) == least.saturating_add(more) && has)
+}
+
+// The value of `a` itself is a copy.
 #[test]
-fn instructions_of_comparisons(rt: HostRuntime) -> Result<(), Fail> {
-    let (least, _) = asked(rt.alloc(), "a", 0, 0)?;
-    for (condition, more, mask, bits) in FORMS.iter() {
-        let (count, has) = asked(rt.alloc(), condition, *mask, *bits)?;
-        assert!(rt; count == least.saturating_add(*more), "{condition} {count}");
-        assert!(rt; has, "{condition}");
+fn instructions_of_values(rt: HostRuntime) -> Result<(), Fail> {
+    for form in VALUES.iter() {
+        let right = takes(rt.alloc(), "int c=", *form, ";if(c)write_word(1);}", 1)?;
+        assert!(rt; right, "{}", form.0);
+    }
+    Ok(())
+}
+
+#[test]
+fn instructions_of_branches(rt: HostRuntime) -> Result<(), Fail> {
+    for form in BRANCHES.iter() {
+        let right = takes(rt.alloc(), "if(", *form, ")write_word(1);}", 0)?;
+        assert!(rt; right, "{}", form.0);
     }
     Ok(())
 }

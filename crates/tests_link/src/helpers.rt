@@ -46,7 +46,7 @@ pub fn runs(alloc: Global, text: &[u8], run: Run<'_>) -> Result<bool, Fail> {
 /// A part of a text, and how often it stands there.
 pub type Part<'a> = (&'a str, usize);
 
-/// Puts a part behind a text, so many times.
+/// Puts a part behind a text, this many times.
 pub fn append(text: &mut Vec<u8>, part: &str, times: usize) -> Result<(), AllocError> {
     for _ in 0..times {
         text.extend_from_slice(part.as_bytes())?;

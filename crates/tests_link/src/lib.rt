@@ -26,5 +26,3 @@ mod refusals;
 mod registers;
 #[cfg(test)]
 mod rows;
-#[cfg(test)]
-mod texts;

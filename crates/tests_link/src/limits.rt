@@ -94,7 +94,7 @@ fn long_functions(rt: HostRuntime) -> Result<(), Fail> {
     Ok(())
 }
 
-// Whether the text of these parts writes so many zeros.
+// Whether the text of these parts writes this many zeros.
 fn writes_zeros(alloc: Global, parts: &[Part<'_>], count: usize) -> Result<bool, Fail> {
     let text = text_of(alloc, parts)?;
     let run = Run {
@@ -126,7 +126,7 @@ fn words_of(
     }
 }
 
-// The image's words with so many moves in front of the first three blocks of `main`.
+// The image's words with this many moves in front of the first three blocks of `main`.
 fn long_main(
     alloc: Global,
     unit: &Arc<TypedUnit>,

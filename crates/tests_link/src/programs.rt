@@ -1,9 +1,9 @@
 // The programs of `bench/programs` write what gcc's programs write.
 
 use super::helpers::{Run, runs};
-use super::texts::{CRC, FIB, GCD, MATMUL, NEST, REGS, SIEVE, SORT};
 use cc_rv32::outcome::MachineOutcome;
 use std::test::Fail;
+use tests_texts::programs::{CRC, FIB, GCD, MATMUL, NEST, REGS, SIEVE, SORT};
 
 /// A program, its input, and the word that it writes when gcc compiles it (`gcc -fwrapv`, at -O0 and at -O2).
 static PROGRAMS: [(&str, &str, u32, i32); 12] = [

@@ -1,3 +1,5 @@
+//! What a machine comes to: each operation on two words, loads and stores, branches, services and traps, and runs cut in two.
+
 use super::listing_tests::image_of;
 use cc_rv32::encode::encode;
 use cc_rv32::fault::MachineFault;
@@ -342,7 +344,7 @@ const PRODUCT: &[u32] = &[
     0xfff00093, 0x0210b133, 0x00010513, 0x00100893, ECALL, EXIT, ECALL,
 ];
 
-// A program, so many instructions and then so many more, what the machine has come to then, and the first word that it wrote. The
+// A program, a number of instructions and then a number more, what the machine has come to then, and the first word that it wrote. The
 // last two are a word that is no instruction, and lw x1, 0(x0).
 static PARTS: [(&[u32], u64, u64, MachineOutcome, Option<u32>); 11] = [
     (EXITS, 0, 2, MachineOutcome::Going, None),
@@ -390,7 +392,7 @@ fn machine(alloc: Global, code: &[u32], globals: &[u32], input: &[u32]) -> Optio
     made.ok()
 }
 
-// What a machine comes to after so many instructions more, and the first word that it has written.
+// What a machine comes to after this many instructions more, and the first word that it has written.
 fn shown(machine: &mut Machine, steps: u64) -> Result<(MachineOutcome, Option<u32>), MachineFault> {
     let outcome = machine.run(steps)?;
     Ok((outcome, machine.output().first().copied()))
@@ -406,7 +408,7 @@ fn shown_twice(
     shown(machine, steps)
 }
 
-// Whether a program has come to this, and has written this first, after so many instructions and so many more.
+// Whether a program has come to this, and has written this first, after this many instructions and this many more.
 fn comes_to(
     alloc: Global,
     code: &[u32],

@@ -42,7 +42,7 @@ fn ends_of_operands(rt: HostRuntime) {
     );
 }
 
-/// Whether so many words are taken as code, and given back.
+/// Whether this many words are taken as code, and given back.
 fn are_code(alloc: Global, count: usize) -> bool {
     let Ok(words) = vec![in alloc; 0u32; count] else {
         return false;
@@ -53,7 +53,7 @@ fn are_code(alloc: Global, count: usize) -> bool {
     }
 }
 
-/// Whether so many words are taken as globals, and given back.
+/// Whether this many words are taken as globals, and given back.
 fn are_globals(alloc: Global, count: usize) -> bool {
     let Ok(words) = vec![in alloc; 0u32; count] else {
         return false;

@@ -31,7 +31,7 @@ fn sixteen_fill_the_queue(rt: HostRuntime) -> Result<(), Fail> {
     Ok(())
 }
 
-// A text with so many functions, the last of which is `main`.
+// A text with this many functions, the last of which is `main`.
 fn functions(alloc: Global, count: usize) -> Result<Vec<u8>, AllocError> {
     let mut text = Vec::new(alloc);
     let mut name = Vec::new(alloc);
@@ -71,7 +71,7 @@ where
     (pass, right)
 }
 
-// How many of so many threads got the right pieces of a text's unit, and how many holds of job 0 ended before their limit: one of its
+// How many of this many threads got the right pieces of a text's unit, and how many holds of job 0 ended before their limit: one of its
 // pieces waits for all others of all jobs. The pool ends then, with all passes.
 fn crowd<N, R>(
     rt: &R,

@@ -20,7 +20,7 @@ fn a_pass_is_missing(rt: HostRuntime) -> Result<(), Fail> {
     Ok(())
 }
 
-// The number that `finish` refuses so many of two passes with, or 0; pieces are under way.
+// The number that `finish` refuses this many of two passes with, or 0; pieces are under way.
 fn missing<N, R>(rt: &R, alloc: Global, fresh: Fresh, given: u32) -> Result<u32, Fail>
 where
     N: Queued + Send + Sync + 'static,

@@ -29,7 +29,7 @@ pub fn unit(alloc: Global, text: &[u8]) -> Result<Arc<TypedUnit>, Fail> {
     Ok(Arc::new(alloc, unit)?)
 }
 
-/// A part so many times.
+/// A part this many times.
 pub fn repeat(text: &mut Vec<u8>, part: &[u8], times: usize) -> Result<(), AllocError> {
     for _ in 0..times {
         text.extend_from_slice(part)?;
@@ -56,7 +56,7 @@ pub fn two<N: Queued>(
     Ok(passes)
 }
 
-/// Whether these are so many pieces of a text, one of each function in their order.
+/// Whether these are this many pieces of a text, one of each function in their order.
 pub fn are_of(pieces: &[Piece], text: &[u8], count: usize) -> bool {
     let mut right = pieces.len() == count;
     for (at, piece) in pieces.iter().enumerate() {
@@ -65,7 +65,7 @@ pub fn are_of(pieces: &[Piece], text: &[u8], count: usize) -> bool {
     right
 }
 
-/// Holds the first piece of job 0 that comes, until so many other pieces have passed, or the turns are over, and tells whether it was let
+/// Holds the first piece of job 0 that comes, until enough other pieces have passed, or the turns are over, and tells whether it was let
 /// go before that.
 #[derive(Drop)]
 pub struct Hold {
@@ -84,7 +84,7 @@ pub struct Signs {
 }
 
 impl Hold {
-    /// A gate that holds until so many others have passed, and what it tells.
+    /// A gate that holds until this many others have passed, and what it tells.
     pub fn new(alloc: Global, least: u64) -> Result<(Hold, Signs), AllocError> {
         let others = Arc::new(alloc, AtomicU64::new(0))?;
         let met = Arc::new(alloc, AtomicU64::new(0))?;

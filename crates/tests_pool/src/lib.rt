@@ -1,7 +1,7 @@
 //! Tests of the pool: what no clause says of it.
 //!
 //! `helpers` has units, passes and a gate that holds a piece; `tickets` what comes back of jobs, `held` pieces and jobs that are held while
-//! others are made, `crowds` many threads that share a pool, `ends` how a pool ends, `same` the pool beside one thread, over `texts`.
+//! others are made, `crowds` many threads that share a pool, `ends` how a pool ends, `same` the pool beside one thread.
 #![tactic(auto)]
 
 #[cfg(test)]
@@ -14,7 +14,5 @@ mod held;
 mod helpers;
 #[cfg(test)]
 mod same;
-#[cfg(test)]
-mod texts;
 #[cfg(test)]
 mod tickets;

@@ -3,7 +3,6 @@
 ghost use Rattle.std.specs.Prelude.{◌≡◌};
 
 use super::helpers::{LONG, one, unit};
-use super::texts::{CRC, FIB, GCD, MATMUL, NEST, REGS, SIEVE, SORT};
 use cc_link::{compile, link};
 use cc_pool::{Fresh, NoGate, Pass, Pool, Queued};
 use std::alloc::Global;
@@ -11,6 +10,7 @@ use std::marker::Brand;
 use std::sync::{Arc, Wait};
 use std::test::Fail;
 use std::thread::Threads;
+use tests_texts::programs::{CRC, FIB, GCD, MATMUL, NEST, REGS, SIEVE, SORT};
 
 static PROGRAMS: [&str; 8] = [CRC, FIB, GCD, MATMUL, NEST, REGS, SIEVE, SORT];
 

@@ -1,4 +1,4 @@
-// What is explained of faults and of runs that go wrong, besides what is answered.
+// What is explained of faults and of runs that go wrong, beside what is answered.
 
 use cc_command_line::Task;
 use cc_program::perform_and_explain;

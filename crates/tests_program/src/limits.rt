@@ -56,7 +56,7 @@ fn levels_of_statements(rt: HostRuntime) {
     assert!(rt; checks_parts(&rt, &past, "fault 6 TooDeep at 1:79\n"));
 }
 
-// Whether a function that calls itself so many times, through an expression of 512 tokens in a statement of level 64, writes
+// Whether a function that calls itself this many times, through an expression of 512 tokens in a statement of level 64, writes
 // these lines.
 fn recurses<H: AllocGlobal>(rt: &H, times: &str, lines: &str) -> bool {
     let parts = [
@@ -90,7 +90,7 @@ fn push_function(text: &mut Vec<u8>, tens: u8, ones: u8) -> Result<(), AllocErro
     text.extend_from_slice(b"(){}")
 }
 
-// Functions f10, f11 and so on, so many of them, and `main`.
+// Functions f10, f11 and so on, this many of them, and `main`.
 fn functions(alloc: Global, count: u8) -> Result<Vec<u8>, AllocError> {
     let mut text = Vec::new(alloc);
     for i in 0..count {

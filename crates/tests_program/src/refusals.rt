@@ -71,7 +71,7 @@ static TEXTS: [(&str, &str); 30] = [
         "int f(void);int main(void){f();}",
         "fault 20 Undefined at 1:28\n",
     ),
-    // a fault of 1 to 4 wins wherever it stands, then 5 and 6, then the first offence
+    // a fault of 1 to 4 wins wherever it stands, then 5 and 6, then the first error
     (
         "int main(void){return 1 2;} 08 $",
         "fault 3 BadConstant at 1:29\n",

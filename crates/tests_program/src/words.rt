@@ -173,8 +173,14 @@ fn quiet_words(rt: HostRuntime) {
 static PRINTED: [(&[&str], &str); 9] = [
     (&["cclib", "interpret", "+5"], "Usage: cclib interpret"),
     (&["cclib", "run", "+5"], "Usage: cclib run"),
-    (&["cclib", "interpret", "5", "-1"], "as 4294967295 for -1"),
-    (&["cclib", "run", "5", "-1"], "as 4294967295 for -1"),
+    (
+        &["cclib", "interpret", "5", "-1"],
+        "for example 4294967295 for -1",
+    ),
+    (
+        &["cclib", "run", "5", "-1"],
+        "for example 4294967295 for -1",
+    ),
     (&["cclib", "--version"], "cclib 0.1.0"),
     (
         &["cclib", "interpret", "--help"],

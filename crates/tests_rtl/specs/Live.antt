@@ -46,21 +46,21 @@ laws = record {
 }
 
 -- a variable lives in front of a node that reads it, and of one that leaves it where it lives behind
-abbrev pub in_front : (reads writes : Bool) → Bool → Bool
-in_front reads writes behind = reads || (behind && not writes)
+abbrev pub live_before : (reads writes : Bool) → Bool → Bool
+live_before reads writes behind = reads || (behind && not writes)
 
 abbrev pub carried : List Node → ℕ → Live → Live
 carried nodes node x =
     let n = get_or nodes node (record { reads = none; writes = none }) in
-    record { a = in_front n.reads.a n.writes.a x.a; b = in_front n.reads.b n.writes.b x.b; c = in_front n.reads.c n.writes.c x.c }
+    record { a = live_before n.reads.a n.writes.a x.a; b = live_before n.reads.b n.writes.b x.b; c = live_before n.reads.c n.writes.c x.c }
 
-in_front_up : (reads writes x y : Bool) → implies x y → implies (in_front reads writes x) (in_front reads writes y)
-in_front_up true writes x y h i = refl
-in_front_up false writes true true h i = i
-in_front_up false writes true false h i = absurd (let k = h refl in cc)
-in_front_up false writes false y h i = absurd (cc)
+live_before_up : (reads writes x y : Bool) → implies x y → implies (live_before reads writes x) (live_before reads writes y)
+live_before_up true writes x y h i = refl
+live_before_up false writes true true h i = i
+live_before_up false writes true false h i = absurd (let k = h refl in cc)
+live_before_up false writes false y h i = absurd (cc)
 
 pub carried_up : (nodes : List Node) (node : ℕ) (x y : Live) → below x y → below (carried nodes node x) (carried nodes node y)
 carried_up nodes node x y h =
     let n = get_or nodes node (record { reads = none; writes = none }) in
-    (in_front_up n.reads.a n.writes.a x.a y.a h.0, in_front_up n.reads.b n.writes.b x.b y.b h.1, in_front_up n.reads.c n.writes.c x.c y.c h.2)
+    (live_before_up n.reads.a n.writes.a x.a y.a h.0, live_before_up n.reads.b n.writes.b x.b y.b h.1, live_before_up n.reads.c n.writes.c x.c y.c h.2)

@@ -58,7 +58,7 @@ pub fn first_answer(alloc: Global, text: &[u8]) -> Result<Answer, Fail> {
     Ok(answer)
 }
 
-/// Whether each function of a text goes through, and there are so many.
+/// Whether each function of a text goes through, and there are this many.
 pub fn all_go_through(alloc: Global, text: &[u8], functions: usize) -> Result<bool, Fail> {
     let unit = shared_unit(alloc, text)?;
     let mut right = unit.functions() == functions;

@@ -38,7 +38,7 @@ pub fn name_at(place: usize) -> Result<Name, Fail> {
     }
 }
 
-/// A text: its head, a part so many times, and its end.
+/// A text: its head, a part this many times, and its end.
 pub fn repeated(
     alloc: Global,
     head: &[u8],

@@ -69,7 +69,7 @@ fn a_write_that_fails(rt: HostRuntime) -> Result<(), Fail> {
     Ok(())
 }
 
-/// Takes so many answers, and refuses every write from then on.
+/// Takes a number of answers, and refuses every write from then on.
 #[derive(Drop)]
 struct Takes {
     left: u8,

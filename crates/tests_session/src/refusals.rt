@@ -113,7 +113,7 @@ fn lines_at_their_limit(rt: HostRuntime) -> Result<(), Fail> {
     Ok(())
 }
 
-/// Gives so many bytes `a`.
+/// Gives a number of bytes `a`.
 #[derive(Drop)]
 struct Letters {
     left: usize,

@@ -37,7 +37,7 @@ fn are_found(alloc: Global, lengths: &[usize]) -> Result<bool, Fail> {
 
 #[test]
 fn a_record_behind_what_was_read_ahead(rt: HostRuntime) -> Result<(), Fail> {
-    // The second record begins so many bytes before the end of what is read ahead, or behind it.
+    // The second record begins `before` bytes before the end of what is read ahead, or behind it.
     for before in 0..9usize {
         let first = AHEAD - 5 - before;
         assert!(rt;

@@ -106,7 +106,7 @@ fn a_log_written_anew(rt: HostRuntime) -> Result<(), Fail> {
     Ok(())
 }
 
-// What the disk of an opened log fails at: the call after so many. Opening makes three.
+// What the disk of an opened log fails at: the call after this many. Opening makes three.
 fn closed_after(alloc: Global, passes: u64) -> Result<Log<FuseDisk<MemoryDisk>>, Fail> {
     let fuse = FuseDisk::new(formatted(alloc)?, passes, FuseMode::Once);
     let mut log = opened(alloc, fuse, &[])?;

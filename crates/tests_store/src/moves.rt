@@ -22,7 +22,7 @@ fn with_old(alloc: Global, moved: bool) -> Result<MemoryDisk, Fail> {
     Ok(journal.into_disk())
 }
 
-// The disk after a rewrite whose device calls meet the fuse once so many have passed: whether it was done, and whether
+// The disk after a rewrite whose device calls meet the fuse once this many have passed: whether it was done, and whether
 // later calls answer 36 and make no device call.
 fn rewritten(
     alloc: Global,

@@ -116,7 +116,7 @@ fn place_answered(
     Ok(left)
 }
 
-// Each byte of a function's allocation has each value, of the bytes one in so many, from a first one on.
+// Each byte of a function's allocation has each value, of the bytes one in `one_in`, from the first one on.
 fn are_answered(
     alloc: Global,
     text: &str,

@@ -54,7 +54,7 @@ fn other_binary(operator: Binary) -> Binary {
     }
 }
 
-/// A change of a move, by its number, where it has so many: two of what it sets, two of what it reads.
+/// A change of a move, by its number, where it has that many: two of what it sets, two of what it reads.
 pub fn changed_move(each: &Move, slots: u16, number: u32) -> Option<Move> {
     if number > 3 {
         return None;
@@ -123,7 +123,7 @@ pub fn operation_changes(operation: &Operation) -> u32 {
     }
 }
 
-/// A change of an operation, by its number, in a function with so many blocks.
+/// A change of an operation, by its number, in a function with this many blocks.
 pub fn changed_operation(operation: &Operation, blocks: u32, number: u32) -> Operation {
     match *operation {
         Operation::Unary {
@@ -222,7 +222,7 @@ fn changed_plain(operation: Operation, blocks: u32, number: u32) -> Operation {
 }
 
 /// A change of a list of moves: the change of this number of the move at a place, or the move dropped or made twice. None where there
-/// are not so many.
+/// are not that many.
 pub fn changed_moves(
     alloc: Global,
     moves: &[Move],

@@ -29,7 +29,7 @@ impl Registers {
     }
 }
 
-/// The run of a function for at most so many nodes, with at most so many calls open.
+/// The run of a function for at most this many nodes, with at most this many calls open.
 #[cycle(graphs)]
 pub fn run_graph(
     alloc: Global,

@@ -127,7 +127,7 @@ fn block_at(ltl: &Ltl, label: u32) -> Option<&Block> {
     }
 }
 
-/// The run of LTL for at most so many blocks; a function that it calls runs as RTL.
+/// The run of LTL for at most this many blocks; a function that it calls runs as RTL.
 pub fn run_located(
     alloc: Global,
     program: &[RtlPair],

@@ -24,7 +24,7 @@ fn slot(number: u16) -> Result<Slot, Fail> {
     }
 }
 
-// Parameter i goes to slot i + shift, of slots 0 to 2 in a ring; then each of the three words goes to the slot below, so many times.
+// Parameter i goes to slot i + shift, of slots 0 to 2 in a ring; then each of the three words goes to the slot below, this many times.
 fn turned(alloc: Global, shift: u16, turns: u32) -> Result<Vec<Move>, Fail> {
     let mut moves = Vec::new(alloc);
     for number in 0..3u8 {

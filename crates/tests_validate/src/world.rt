@@ -36,7 +36,7 @@ fn word(seed: u32, number: u32) -> u32 {
 }
 
 impl World {
-    /// A world whose object has so many words; a seed says which words these are, and which the input has.
+    /// A world whose object has this many words; a seed says which words these are, and which the input has.
     pub fn new(alloc: Global, words: u32, seed: u32) -> Result<World, AllocError> {
         let mut object = Vec::new(alloc);
         for number in 0..words {

@@ -1,10 +1,12 @@
 -- How the body of a function becomes Cminor. A local's number is how many locals are older than it (`Rattle.cc_resolve.specs.Environment`), and
 -- values that have to wait are kept in variables above all locals in scope. Nobody has to believe this page: what a pair keeps is said
 -- without it.
-use Rattle.std.specs.Prelude.{ℕ, zero, suc, Bool, true, false, ◌&&◌, List, [], ◌∷◌, ◌++◌, length, if◌then◌else◌, Option, Some, None, unwrap_or}
+use Rattle.std.specs.Prelude.{ℕ, zero, suc, Bool, true, false, not, ◌&&◌, ◌==◌, List, [], ◌∷◌, ◌++◌, length, if◌then◌else◌, Option, Some, None, unwrap_or}
 use Rattle.cc_tokens.specs.declared.scalar.Scalar.{Scalar}
 use Rattle.cc_tokens.specs.declared.scalar.Scalar.TheVariants.{Int}
+use Rattle.cc_words.specs.declared.operators.Unary as unary
 use Rattle.cc_words.specs.declared.operators.Unary.TheVariants as one
+use Rattle.cc_words.specs.declared.operators.Binary as binary
 use Rattle.cc_words.specs.declared.operators.Binary.TheVariants as two
 use Rattle.cc_syntax.specs.declared.ast.BinaryOperator.{BinaryOperator}
 use Rattle.cc_syntax.specs.declared.ast.BinaryOperator.TheVariants as source
@@ -97,9 +99,75 @@ operation_of word.Or a b = Binary two.Or a b
 abbrev pub binary_of : BinaryOperator → Scalar → Expression → Expression → Expression
 binary_of op t a b = operation_of (operation op t) a b
 
--- 1 where the value is not 0
+-- the operators that give 0 or 1
+abbrev pub is_comparison : binary.Binary → Bool
+is_comparison two.Eq = true
+is_comparison two.Ne = true
+is_comparison two.LtS = true
+is_comparison two.LtU = true
+is_comparison two.LeS = true
+is_comparison two.LeU = true
+is_comparison op = false
+
+abbrev pub is_zero_test : unary.Unary → Bool
+is_zero_test one.IsZero = true
+is_zero_test op = false
+
+-- an expression whose value is 0 or 1, by its form
+abbrev pub is_truth : Expression → Bool
+is_truth (Unary op e) = is_zero_test op
+is_truth (Binary op a b) = is_comparison op
+is_truth e = false
+
+-- 1 where the value is not 0, else 0
 abbrev pub truth_of : Expression → Expression
-truth_of e = Unary one.IsZero (Unary one.IsZero e)
+truth_of e = if is_truth e then e else Unary one.IsZero (Unary one.IsZero e)
+
+-- ---- branches
+
+-- a constant 0
+abbrev pub is_nothing : Expression → Bool
+is_nothing (Constant w) = w == 0
+is_nothing e = false
+
+-- a word that is 0 where two words are equal: the first of them where the second is 0
+abbrev pub different : Expression → Expression → Expression
+different a b = if is_nothing b then a else Binary two.Xor a b
+
+abbrev pub is_constant : Expression → Bool
+is_constant (Constant w) = true
+is_constant e = false
+
+-- what a branch on a comparison tests: a word that is 0 exactly where the comparison is, or exactly where it is not. `<=` is the
+-- opposite of `<` of the operands exchanged; with a constant at the right it takes one instruction as it is
+abbrev pub compared : binary.Binary → Expression → Expression → Expression
+compared two.LeS a b = if is_constant b then Binary two.LeS a b else Binary two.LtS b a
+compared two.LeU a b = if is_constant b then Binary two.LeU a b else Binary two.LtU b a
+compared two.Eq a b = different a b
+compared two.Ne a b = different a b
+compared op a b = Binary op a b
+
+-- whether it is the latter
+abbrev pub is_opposite : binary.Binary → (right : Expression) → Bool
+is_opposite two.LeS b = not (is_constant b)
+is_opposite two.LeU b = not (is_constant b)
+is_opposite two.Eq b = true
+is_opposite op b = false
+
+-- the same of any expression
+abbrev pub condition : Expression → Expression
+condition (Unary op a) = if is_zero_test op then condition a else Unary op a
+condition (Binary op a b) = compared op a b
+condition e = e
+
+abbrev pub is_reversed : Expression → Bool
+is_reversed (Unary op a) = is_zero_test op && not (is_reversed a)
+is_reversed (Binary op a b) = is_opposite op b
+is_reversed e = false
+
+-- the first where the value of an expression is not 0, else the second
+abbrev pub branch : Expression → (nonzero otherwise : Statement) → Statement
+branch e a b = if is_reversed e then If (condition e) b a else If (condition e) a b
 
 -- `&&`, `||`, and the operators that take both operands
 pub data Kind : Type 0 where
@@ -182,8 +250,8 @@ called_on true es code k n f = f es
 called_on false es code k n f = Sequence code (f (locals_from k n))
 
 abbrev pub connected : Kind → BinaryOperator → Scalar → Bool → Bool → Expression → Expression → Statement → Statement → Statement → ℕ → Statement
-connected Conjunction op t p q a b left right here k = used p a left k (λ x. If x (used q b here k (λ y. Set k (truth_of y))) (Set k (Constant 0)))
-connected Disjunction op t p q a b left right here k = used p a left k (λ x. If x (Set k (Constant 1)) (used q b here k (λ y. Set k (truth_of y))))
+connected Conjunction op t p q a b left right here k = used p a left k (λ x. branch x (used q b here k (λ y. Set k (truth_of y))) (Set k (Constant 0)))
+connected Disjunction op t p q a b left right here k = used p a left k (λ x. branch x (Set k (Constant 1)) (used q b here k (λ y. Set k (truth_of y))))
 connected Strict op t p q a b left right here k =
     if p && q then Set k (binary_of op t a b) else Sequence left (used q b right (suc k) (λ y. Set k (binary_of op t (Local k) y)))
 
@@ -201,7 +269,7 @@ abbrev mutual
   put_expr g v k (tree.Binary op a b) =
       connected (kind op) op (working_type op (value_type (types_in v) a) (value_type (types_in v) b)) (is_plain a) (is_plain b) (plain g v a) (plain g v b)
       (put_expr g v k a) (put_expr g v (suc k) b) (put_expr g v k b) k
-  put_expr g v k (Conditional c a b) = used (is_plain c) (plain g v c) (put_expr g v k c) k (λ x. If x (put_expr g v k a) (put_expr g v k b))
+  put_expr g v k (Conditional c a b) = used (is_plain c) (plain g v c) (put_expr g v k c) k (λ x. branch x (put_expr g v k a) (put_expr g v k b))
 
   -- some values into the variables from k on
   pub put_all : Layout → Environment → ℕ → Exprs → List Statement
@@ -267,11 +335,11 @@ leaving false i = Return (Constant 0)
 
 -- a turn of a loop with its condition first: `continue` leaves the inner block, `break` that around the loop too
 abbrev pub looped : (test : (Expression → Statement) → Statement) → Statement → Statement → Statement
-looped test body step = test (λ x. If x (Sequence (Block body) step) (Exit 0))
+looped test body step = test (λ x. branch x (Sequence (Block body) step) (Exit 0))
 
 -- what stands behind the body of a loop with its condition last
 abbrev pub tested : ((Expression → Statement) → Statement) → Statement
-tested test = test (λ x. If x Skip (Exit 0))
+tested test = test (λ x. branch x Skip (Exit 0))
 
 abbrev mutual
   -- a statement, in a loop or not
@@ -282,8 +350,8 @@ abbrev mutual
   lowered g b v (tree.Return at e) = using_or g v (free v) 0 e (λ x. Return x)
   lowered g b v (Break at) = leaving b 1
   lowered g b v (Continue at) = leaving b 0
-  lowered g b v (tree.If c a) = using g v (free v) c (λ x. If x (lowered g b (inner v) a) Skip)
-  lowered g b v (IfElse c a e) = using g v (free v) c (λ x. If x (lowered g b (inner v) a) (lowered g b (inner v) e))
+  lowered g b v (tree.If c a) = using g v (free v) c (λ x. branch x (lowered g b (inner v) a) Skip)
+  lowered g b v (IfElse c a e) = using g v (free v) c (λ x. branch x (lowered g b (inner v) a) (lowered g b (inner v) e))
   lowered g b v (While c body) = Block (Loop (looped (using g v (free v) c) (lowered g true (inner v) body) Skip))
   lowered g b v (DoWhile body c) = Block (Loop (Sequence (Block (lowered g true (inner v) body)) (tested (using g v (free v) c))))
   lowered g b v (For first c step body) =

@@ -9,11 +9,11 @@ use Rattle.cc_typing.specs.Types.{variable_type, element_type}
 use Rattle.cc_resolve.specs.Layout.{Layout}
 use Rattle.cc_resolve.specs.Environment.{Environment, types_in}
 use Rattle.cc_words.specs.declared.operators.Binary as two
-use Rattle.cc_cminor.specs.Cminor.{Expression, Constant, Local, Binary, Load, Statement, Set, Store, Sequence, If}
+use Rattle.cc_cminor.specs.Cminor.{Expression, Constant, Local, Binary, Load, Statement, Set, Store, Sequence}
 use Rattle.cc_cminor.specs.Code.{expression_of, statement_of}
 use Rattle.cc_cminor.specs.declared.code.Expression as value
 use Rattle.cc_cminor.specs.declared.code.Statement as written
-use Rattle.cc_cminor.specs.internal.Lowering.{free, object_of, width_of, variable_of, variable_set, binary_of, truth_of, Kind, Conjunction, Disjunction, Strict, is_plain, plain, put_expr, combined}
+use Rattle.cc_cminor.specs.internal.Lowering.{free, object_of, width_of, variable_of, variable_set, binary_of, truth_of, branch, Kind, Conjunction, Disjunction, Strict, is_plain, plain, put_expr, combined}
 
 pub record Taken : Type 0 where
   pub before : Option Statement
@@ -80,8 +80,8 @@ strictly op t k (Some c) a d b = waiting k (Sequence c (behind_code d (Set k (bi
 
 -- `&&` and `||`: what is done where the left operand is not 0, and where it is
 abbrev pub decided : Kind → ℕ → Expression → (second : Statement) → Statement
-decided Conjunction k a second = If a second (Set k (Constant 0))
-decided Disjunction k a second = If a (Set k (Constant 1)) second
+decided Conjunction k a second = branch a second (Set k (Constant 0))
+decided Disjunction k a second = branch a (Set k (Constant 1)) second
 decided Strict k a second = second
 
 abbrev pub logically : Kind → ℕ → Option Statement → Expression → Option Statement → Expression → Taken
@@ -98,7 +98,7 @@ joined p op t k c a d b = logically p k c a d b
 
 -- `?:`, of what is done where the test is not 0 and where it is
 abbrev pub conditionally : ℕ → Option Statement → Expression → (nonzero otherwise : Statement) → Taken
-conditionally k c e a b = waiting k (behind_code c (If e a b))
+conditionally k c e a b = waiting k (behind_code c (branch e a b))
 
 -- ---- assignments
 

@@ -8,7 +8,7 @@ use Rattle.cc_library.specs.Recovered.{StandFor}
 use Rattle.cc_core.specs.declared.opening.Opened.{Opened}
 use Rattle.cc_core.specs.Run.{IsOrderOf}
 
--- the bytes hold these records in areas of that size; they stand for this map, and take so many bytes
+-- the bytes hold these records in areas of that size; they stand for this map, and take this many bytes
 pub record IsFound (image : List ℕ) (area : ℕ) (bodies : List (List ℕ)) (library : Units) (used : ℕ) : Type 0 where
   pub holds : HoldsRecords image area bodies
   pub stand : StandFor bodies library

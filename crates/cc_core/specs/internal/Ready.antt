@@ -37,7 +37,7 @@ HasRoom Acknowledge store command = Unit {0}
 abbrev pub IsOfOrder : Units → List Numbered → Type 0
 IsOfOrder library order =
     (library ≡ library_of (commands order))
-    ⊎ ((front : List Numbered) × (last : Numbered) × (order ≡ front ++ last ∷ []) × (library ≡ library_of (commands front)))
+    ⊎ ((prefix : List Numbered) × (last : Numbered) × (order ≡ prefix ++ last ∷ []) × (library ≡ library_of (commands prefix)))
 
 -- the disk holds records that stand for a library of the order, and every byte is settled
 pub record IsRecoverable (store : StoreState) (order : List Numbered) : Type 0 where
@@ -79,7 +79,7 @@ IsInEffect library (Replace name unit) = get library name ≡ Some unit
 IsInEffect library (Withdraw name) = get library name ≡ None
 
 -- the order is kept where its last command is in effect, or there is none; else all but that one are kept
-abbrev pub IsFrontKept : Units → List Numbered → List Numbered → Type 0
-IsFrontKept library old new =
-    ((new ≡ old) × ((front : List Numbered) (last : Numbered) → old ≡ front ++ last ∷ [] → IsInEffect library last.command))
+abbrev pub IsPrefixKept : Units → List Numbered → List Numbered → Type 0
+IsPrefixKept library old new =
+    ((new ≡ old) × ((prefix : List Numbered) (last : Numbered) → old ≡ prefix ++ last ∷ [] → IsInEffect library last.command))
     ⊎ ((last : Numbered) × (old ≡ new ++ last ∷ []) × (IsInEffect library last.command → ⊥))

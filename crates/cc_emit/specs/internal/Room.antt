@@ -1,4 +1,4 @@
--- What the instruction of a recipe has to hold besides registers.
+-- What the instruction of a recipe has to hold beside registers.
 use Rattle.std.specs.Prelude.{◌<◌}
 use Rattle.cc_rv32.specs.Fields.{IsImmediate}
 use Rattle.cc_emit.specs.declared.recipe.WordRecipe.{WordRecipe}

@@ -8,21 +8,21 @@ use Rattle.cc_journal.specs.Format.{header, records, record_bytes, open_gate}
 abbrev pub Shows : ℕ → (bytes seen : List ℕ) → Type 0
 Shows offset bytes seen = bytes ≡ take (length bytes) (drop offset seen)
 
--- a header at the front of these bytes, of an area of that size that begins at that offset
+-- a header at the start of these bytes, of an area of that size that begins at that offset
 pub record BeginsWith (bytes : List ℕ) (start area : ℕ) : Type 0 where
   pub area_byte : ℕ
   pub rest : List ℕ
   pub is : bytes ≡ header area_byte area ++ rest
   pub begins : start ≡ 16 + area_byte % 2 * area
 
--- these records at the front of these bytes, and then a closed gate
+-- these records at the start of these bytes, and then a closed gate
 pub record EndsClosed (bytes : List ℕ) (bodies : List (List ℕ)) : Type 0 where
   pub gate : ℕ
   pub behind : List ℕ
   pub is : bytes ≡ records bodies ++ gate ∷ behind
   pub closed : gate ≢ open_gate
 
--- what reading one record finds at the front of these bytes, where so many bytes of the area are left
+-- what reading one record finds at the start of these bytes, where this many bytes of the area are left
 abbrev pub FindsRecord : List ℕ → ℕ → Result (Option (List ℕ)) JournalFault → Type 0
 FindsRecord bytes left (Ok None) = (gate : ℕ) × (rest : List ℕ) × (bytes ≡ gate ∷ rest) × (gate ≢ open_gate)
 FindsRecord bytes left (Ok (Some body)) = (rest : List ℕ) × (bytes ≡ record_bytes body ++ rest)

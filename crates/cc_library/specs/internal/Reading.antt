@@ -16,7 +16,7 @@ abbrev pub byte_in : List ℕ → Option (ℕ × List ℕ)
 byte_in [] = None
 byte_in (byte ∷ rest) = Some (byte, rest)
 
--- so many bytes
+-- this many bytes
 abbrev pub taken : ℕ → List ℕ → Option (List ℕ × List ℕ)
 taken n bytes = if nat_lt (length bytes) n then None else Some (take n bytes, drop n bytes)
 
@@ -24,7 +24,7 @@ taken n bytes = if nat_lt (length bytes) n then None else Some (take n bytes, dr
 abbrev pub number_in : List ℕ → Option (ℕ × List ℕ)
 number_in bytes = if nat_lt (length bytes) 4 then None else Some (from_le_bytes w32 (take 4 bytes), drop 4 bytes)
 
--- so many words
+-- this many words
 unfoldable pub words_in : ℕ → List ℕ → Option (List ℕ × List ℕ)
 words_in zero bytes = Some ([], bytes)
 words_in (suc n) bytes = do
@@ -32,19 +32,19 @@ words_in (suc n) bytes = do
   others ← words_in n first.1
   Some (first.0 ∷ others.0, others.1)
 
--- a length of at least `least` and at most `most`, and so many words
+-- a length of at least `least` and at most `most`, and that many words
 unfoldable pub words_field_in : ℕ → ℕ → List ℕ → Option (List ℕ × List ℕ)
 words_field_in least most bytes = do
   n ← number_in bytes
   if nat_le least n.0 && nat_le n.0 most then words_in n.0 n.1 else None
 
--- a length of at most 65,536, and so many bytes
+-- a length of at most 65,536, and that many bytes
 unfoldable pub source_in : List ℕ → Option (List ℕ × List ℕ)
 source_in bytes = do
   n ← number_in bytes
   if nat_le n.0 65536 then taken n.0 n.1 else None
 
--- a length as one byte, and so many bytes, which are a name
+-- a length as one byte, and that many bytes, which are a name
 unfoldable pub name_in : List ℕ → Option (List ℕ × List ℕ)
 name_in bytes = do
   n ← byte_in bytes

@@ -9,7 +9,7 @@ use Rattle.cc_emit.specs.Contract.{IsPlace}
 abbrev pub lent : List (Bor (List Item)) → List (List Item)
 lent bodies = map (λ (b : Bor (List Item)). b.now) bodies
 
--- an item of a function of so many items leads to one of so many functions, or to an item or the end of its own
+-- an item of a function of this many items leads to one of this many functions, or to an item or the end of its own
 abbrev pub StaysIn : (functions long : ℕ) → Item → Type 0
 StaysIn functions long (Plain i) = Unit {0}
 StaysIn functions long (Call f) = f < functions

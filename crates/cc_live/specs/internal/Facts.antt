@@ -48,12 +48,12 @@ abbrev pub is_unread : (behind : List ℕ) → Option ℕ → Bool
 is_unread behind None = false
 is_unread behind (Some to) = not (holds behind to)
 
-abbrev pub in_front : (strong : Bool) → Node → (behind : List ℕ) → List ℕ
-in_front strong node behind = if strong && is_unread behind (pure_result node) then behind else with_all (reads node) (but_for (result node) behind)
+abbrev pub live_before : (strong : Bool) → Node → (behind : List ℕ) → List ℕ
+live_before strong node behind = if strong && is_unread behind (pure_result node) then behind else with_all (reads node) (but_for (result node) behind)
 
 abbrev pub carries : (strong : Bool) → List Labelled → (position : ℕ) → List ℕ → List ℕ
 carries strong [] i behind = nothing
-carries strong (n ∷ ns) zero behind = in_front strong n.node behind
+carries strong (n ∷ ns) zero behind = live_before strong n.node behind
 carries strong (n ∷ ns) (suc i) behind = carries strong ns i behind
 
 -- ---- both kinds of live sets in one

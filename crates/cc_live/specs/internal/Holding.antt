@@ -12,7 +12,7 @@ use Rattle.cc_rtl.specs.Rtl.{Node, Nop, Const, Move, Unary, Binary, Load, Store,
 use Rattle.cc_rtl.specs.Live.{reads, result, pure_result, among}
 use Rattle.cc_rows.specs.Rows.{holds}
 use Rattle.cc_rows.specs.internal.Holding.{bits_or, holds-nothing, within_row}
-use Rattle.cc_live.specs.internal.Facts.{Below, nothing, either, single, with_all, chosen, those, but_for, is_result, is_unread, in_front}
+use Rattle.cc_live.specs.internal.Facts.{Below, nothing, either, single, with_all, chosen, those, but_for, is_result, is_unread, live_before}
 
 -- ---- the bits of words
 
@@ -169,18 +169,18 @@ module _ (strong : Bool) (n : Node) (row : List ℕ) where
   drops = strong && is_unread row (pure_result n)
 
   -- what is in front was read, by a node that is not left out, or was behind
-  pub in_front_cases : (r : ℕ) → IsTrue (holds (in_front strong n row) r) → ((drops ≡ false) × Contains (reads n) r) ⊎ (IsTrue (holds row r) × (result n ≢ Some r))
-  in_front_cases r h = go drops refl h
+  pub live_before_cases : (r : ℕ) → IsTrue (holds (live_before strong n row) r) → ((drops ≡ false) × Contains (reads n) r) ⊎ (IsTrue (holds row r) × (result n ≢ Some r))
+  live_before_cases r h = go drops refl h
     where
       go : (b : Bool) → drops ≡ b → IsTrue (holds (if b then row else with_all (reads n) (but_for (result n) row)) r) → ((drops ≡ false) × Contains (reads n) r) ⊎ (IsTrue (holds row r) × (result n ≢ Some r))
       go true e i = inr (i, unread_apart n row r (and_parts strong (is_unread row (pure_result n)) e).1 i)
       go false e i = elim (in_with_all (reads n) (but_for (result n) row) r i) [ inl read ↦ inl (e, in_list (reads n) r read) | inr behind ↦ inr (in_but_for (result n) row r behind) ]
 
-  pub read_in_front : (r : ℕ) → drops ≡ false → Contains (reads n) r → IsTrue (holds (in_front strong n row) r)
-  read_in_front r e i = subst (λ b. IsTrue (holds (if b then row else with_all (reads n) (but_for (result n) row)) r)) (sym e) (with_all_first (reads n) (but_for (result n) row) r (list_in (reads n) r i))
+  pub read_live_before : (r : ℕ) → drops ≡ false → Contains (reads n) r → IsTrue (holds (live_before strong n row) r)
+  read_live_before r e i = subst (λ b. IsTrue (holds (if b then row else with_all (reads n) (but_for (result n) row)) r)) (sym e) (with_all_first (reads n) (but_for (result n) row) r (list_in (reads n) r i))
 
-  pub behind_in_front : (r : ℕ) → IsTrue (holds row r) → result n ≢ Some r → IsTrue (holds (in_front strong n row) r)
-  behind_in_front r h d = go drops
+  pub behind_live_before : (r : ℕ) → IsTrue (holds row r) → result n ≢ Some r → IsTrue (holds (live_before strong n row) r)
+  behind_live_before r h d = go drops
     where
       go : (b : Bool) → IsTrue (holds (if b then row else with_all (reads n) (but_for (result n) row)) r)
       go true = h
@@ -200,10 +200,10 @@ drops_less true x y o h e = unread_less x y o h e
 drops_less false x y o h e = refl
 
 -- more behind a node makes more in front of it
-pub in_front_up : (strong : Bool) (n : Node) (x y : List ℕ) → Below x y → Below (in_front strong n x) (in_front strong n y)
-in_front_up strong n x y h r i = elim (in_front_cases strong n x r i) [
-  | inl (e, read) ↦ read_in_front strong n y r (drops_less strong x y (pure_result n) h e) read
-  | inr (behind, d) ↦ behind_in_front strong n y r (h r behind) d
+pub live_before_up : (strong : Bool) (n : Node) (x y : List ℕ) → Below x y → Below (live_before strong n x) (live_before strong n y)
+live_before_up strong n x y h r i = elim (live_before_cases strong n x r i) [
+  | inl (e, read) ↦ read_live_before strong n y r (drops_less strong x y (pure_result n) h e) read
+  | inr (behind, d) ↦ behind_live_before strong n y r (h r behind) d
 ]
 
 -- ---- as the code makes it
@@ -219,21 +219,21 @@ apart_result : (o : Option ℕ) (r : ℕ) → o ≢ Some r → IsTrue (not (is_r
 apart_result None r d = refl
 apart_result (Some to) r d = some_apart to r d
 
-pub in_front_made : (strong : Bool) (n : Node) (row : List ℕ) (r : ℕ) (made : Bool) → (strong && is_unread row (pure_result n)) ≡ false
-    → made ≡ (among (reads n) r || (holds row r && not (is_result (result n) r))) → (IsTrue made → IsTrue (holds (in_front strong n row) r)) × (IsTrue (holds (in_front strong n row) r) → IsTrue made)
-in_front_made strong n row r made stays is = (
+pub live_before_made : (strong : Bool) (n : Node) (row : List ℕ) (r : ℕ) (made : Bool) → (strong && is_unread row (pure_result n)) ≡ false
+    → made ≡ (among (reads n) r || (holds row r && not (is_result (result n) r))) → (IsTrue made → IsTrue (holds (live_before strong n row) r)) × (IsTrue (holds (live_before strong n row) r) → IsTrue made)
+live_before_made strong n row r made stays is = (
   λ h. elim (or_cases (among (reads n) r) (holds row r && not (is_result (result n) r)) (sym is ∙ h)) [
-    | inl read ↦ read_in_front strong n row r stays (in_list (reads n) r read)
-    | inr behind ↦ (let b = and_parts (holds row r) (not (is_result (result n) r)) behind in behind_in_front strong n row r b.0 (result_apart (result n) r b.1))
+    | inl read ↦ read_live_before strong n row r stays (in_list (reads n) r read)
+    | inr behind ↦ (let b = and_parts (holds row r) (not (is_result (result n) r)) behind in behind_live_before strong n row r b.0 (result_apart (result n) r b.1))
   ],
-  λ h. elim (in_front_cases strong n row r h) [
+  λ h. elim (live_before_cases strong n row r h) [
     | inl (e, read) ↦ is ∙ or_left (among (reads n) r) (holds row r && not (is_result (result n) r)) (list_in (reads n) r read)
     | inr (held, d) ↦ is ∙ or_right (among (reads n) r) (holds row r && not (is_result (result n) r)) (and_from (holds row r) (not (is_result (result n) r)) held (apart_result (result n) r d))
   ],
 )
 
-pub in_front_stays : (strong : Bool) (n : Node) (row : List ℕ) → (strong && is_unread row (pure_result n)) ≡ true → in_front strong n row ≡ row
-in_front_stays strong n row e = ap (λ b. if b then row else with_all (reads n) (but_for (result n) row)) e
+pub live_before_stays : (strong : Bool) (n : Node) (row : List ℕ) → (strong && is_unread row (pure_result n)) ≡ true → live_before strong n row ≡ row
+live_before_stays strong n row e = ap (λ b. if b then row else with_all (reads n) (but_for (result n) row)) e
 
 -- one register more among some
 pub among-push : (rs : List ℕ) (x r : ℕ) → among (rs ++ x ∷ []) r ≡ (x == r || among rs r)

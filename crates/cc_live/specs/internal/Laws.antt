@@ -6,7 +6,7 @@ use Rattle.cc_rtl.specs.Rtl.{Labelled}
 use Rattle.cc_rows.specs.Rows.{holds}
 use Rattle.cc_live.specs.internal.Facts.{Below, nothing, either, carries}
 use Rattle.cc_rows.specs.internal.Holding.{holds-nothing}
-use Rattle.cc_live.specs.internal.Holding.{holds-either, in_front_up}
+use Rattle.cc_live.specs.internal.Holding.{holds-either, live_before_up}
 
 pub laws : IsLattice Below nothing either
 laws = record { reflexive = λ x r h. h; transitive = λ x y z h i r k. i r (h r k); least = least; first = first; second = second; within = within }
@@ -33,5 +33,5 @@ same_rows a b h = (λ r i. sym (h r) ∙ i, λ r i. h r ∙ i)
 
 pub carries_up : (strong : Bool) (nodes : List Labelled) (i : ℕ) (x y : List ℕ) → Below x y → Below (carries strong nodes i x) (carries strong nodes i y)
 carries_up strong [] i x y h = λ r k. k
-carries_up strong (n ∷ ns) zero x y h = in_front_up strong n.node x y h
+carries_up strong (n ∷ ns) zero x y h = live_before_up strong n.node x y h
 carries_up strong (n ∷ ns) (suc i) x y h = carries_up strong ns i x y h

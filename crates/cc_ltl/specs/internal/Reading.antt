@@ -40,7 +40,7 @@ both f g bytes = f bytes >>= λ a. g a.1 >>= λ b. Some ((a.0, b.0), b.1)
 abbrev pub mapped : {A B : Type 0} → (A → B) → Reader A → Reader B
 mapped make f bytes = f bytes >>= λ a. Some (make a.0, a.1)
 
--- so many
+-- the same this many times
 unfoldable pub times : {A : Type 0} → Reader A → ℕ → Reader (List A)
 times f zero bytes = Some ([], bytes)
 times f (suc n) bytes = f bytes >>= λ first. times f n first.1 >>= λ others. Some (first.0 ∷ others.0, others.1)
@@ -83,7 +83,7 @@ unary_in bytes = one_of unary_operators bytes
 unfoldable pub binary_in : Reader BinaryOperator
 binary_in bytes = one_of binary_operators bytes
 
--- the width of an element that has so many bytes
+-- the width of an element that has this many bytes
 abbrev pub width_of : ℕ → Option Width
 width_of n = if n == 1 then Some Byte else (if n == 4 then Some Word else None)
 

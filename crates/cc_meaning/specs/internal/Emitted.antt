@@ -9,7 +9,7 @@ use Rattle.cc_resolve.specs.declared.operations.BinaryOperation.{BinaryOperation
 use Rattle.cc_meaning.specs.declared.form.Instruction.{Instruction}
 use Rattle.cc_meaning.specs.declared.form.Instruction.TheVariants.{Binary, AndThen, OrElse}
 
--- what skips a right operand of so many instructions, where the operator may not need it
+-- what skips a right operand of this many instructions, where the operator may not need it
 abbrev pub short_cut : BinaryOperator → ℕ → Option Instruction
 short_cut LogicalAnd n = Some (AndThen n)
 short_cut LogicalOr n = Some (OrElse n)
@@ -20,7 +20,7 @@ abbrev pub some_code : Option Instruction → List Instruction
 some_code None = []
 some_code (Some i) = i ∷ []
 
--- the instructions with an operation in the place of the one before which so many stood, where no short cut was written
+-- the instructions with an operation in the place of the one before which this many stood, where no short cut was written
 abbrev pub operated : Option Instruction → BinaryOperation → ℕ → List Instruction → List Instruction
 operated (Some i) op behind code = code
 operated None op behind code = slice_set code (length code - (behind + 1)) (Binary op)

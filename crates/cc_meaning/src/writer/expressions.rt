@@ -33,7 +33,7 @@ fn unary(code: &mut Emitter, operator: UnaryOperator) -> Result<(), AllocError>
     }
 }
 
-// What skips a right operand of so many instructions, where the operator may not need it.
+// What skips a right operand of this many instructions, where the operator may not need it.
 fn short_cut(operator: BinaryOperator, skip: usize) -> Option<Instruction>
     ensures { result ≡ short_cut operator skip }
 {
@@ -82,7 +82,7 @@ fn call(
     Ok(names.call_type(name.bytes.as_slice()))
 }
 
-// What skips the right operand, after which so many instructions stand, where the operator may not need it.
+// What skips the right operand, after which this many instructions stand, where the operator may not need it.
 fn skip_right(code: &mut Emitter, operator: BinaryOperator, behind: usize) -> Result<(), AllocError>
     requires { behind ≤ length code.old }
     ensures { OnOk result (code.new ≡ some_code (short_cut operator (length code.old - behind)) ++ code.old) }
@@ -94,7 +94,7 @@ fn skip_right(code: &mut Emitter, operator: BinaryOperator, behind: usize) -> Re
     }
 }
 
-// The operation on two words of these types, in the place of the instruction before which so many stood; `&&` and `||` have
+// The operation on two words of these types, in the place of the instruction before which this many stood; `&&` and `||` have
 // none.
 fn operate(code: &mut Emitter, operator: BinaryOperator, behind: usize, left: Scalar, right: Scalar)
     requires { behind < length code.old }

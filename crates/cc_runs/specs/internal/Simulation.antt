@@ -4,7 +4,7 @@ use Rattle.std.specs.Prelude.{◌≡◌, ℕ, zero, suc, ◌<◌, ◌≤◌, ◌
 use Rattle.cc_runs.specs.World.{Question, Answer}
 use Rattle.cc_runs.specs.Run.{Move, Goes, Calls, Returns, Fails}
 
--- so many moves that go on lead from d to where the run does and shows what it does and shows from e (a label of Linear is no move)
+-- this many moves that go on lead from d to where the run does and shows what it does and shows from e (a label of Linear is no move)
 abbrev pub Way : {D : Type 0} → (D → Move D) → (D → List ℕ) → ℕ → D → D → Type 0
 Way {D} move output zero d e = (move d ≡ move e) × (output d ≡ output e)
 Way {D} move output (suc n) d e = (u : D) × (move d ≡ Goes u) × Way move output n u e

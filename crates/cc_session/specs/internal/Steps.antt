@@ -11,7 +11,7 @@ use Rattle.cc_session.specs.declared.end.SessionEnd.TheVariants.{Finished, Fault
 use Rattle.cc_session.specs.declared.talk.Sent.{Sent}
 use Rattle.cc_session.specs.declared.talk.Sent.TheVariants.{Source, NoRoom, Unended}
 
--- so many bytes are taken from what is left, and the line's end behind them; or a byte more, which is no line's end
+-- this many bytes are taken from what is left, and the line's end behind them; or a byte more, which is no line's end
 abbrev pub HasSent : (before : List ℕ) (count : ℕ) → Sent → (after : List ℕ) → Type 0
 HasSent before count (Source bytes) after =
     (source : List ℕ) × (rest : List ℕ) × (before ≡ source ++ rest) × (length source ≡ count) × IsLine rest [] after × (bytes.items ≡ take 65537 source)
@@ -28,7 +28,7 @@ abbrev pub IsDone : {T E : Type 0} → (Does : List ℕ → List ℕ → Holder 
 IsDone Does before after old new (Ok done) = Between before after (λ b a. Does b a old new)
 IsDone Does before after old new (Err fault) = IfSome before (λ b. (new ≡ old) ⊎ ((a : List ℕ) × Does b a old new))
 
--- the script is done by this client; or a front of it
+-- the script is done by this client; or a prefix of it
 abbrev pub IsPlayedBy : {T E : Type 0} → (script : Option (List ℕ)) (old new : Holder) → Result T E → Type 0
 IsPlayedBy script old new (Ok done) = IfSome script (λ bytes. IsPlayed bytes old new)
 IsPlayedBy script old new (Err fault) = IfSome script (λ bytes. IsPlayedInPart bytes old new)

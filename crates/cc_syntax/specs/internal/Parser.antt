@@ -294,7 +294,7 @@ end_in_object es n (ToSize at) e _ = None
 end_in_object es n (ToSingle at) e r = separated es n.kind (with_object n (Single n.name (Some (constant at e)))) r
 end_in_object es n (ToValue size vs at) e r = end_list_value es n size vs (constant at e) r
 
--- the token after a full expression, of which so many tokens came
+-- the token after a full expression, of which this many tokens came
 abbrev pub end_full : Context → ℕ → Expr → Role → Option State
 end_full (OfBody b p) k e r = end_in_body b p k e r
 end_full (OfObject es n p) k e r = end_in_object es n p e r
@@ -679,7 +679,7 @@ count_of (AtFile es o) = 0
 count_of (InBody b s) = stage_count s
 count_of (InFull f p) = f.count
 
--- the level of what begins, after so many open statements, at a token of a role; 0 where nothing begins
+-- the level of what begins, after this many open statements, at a token of a role; 0 where nothing begins
 abbrev pub item_level : ℕ → Role → ℕ
 item_level depth role.CloseBrace = 0
 item_level depth _ = suc (suc depth)

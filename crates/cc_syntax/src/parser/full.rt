@@ -60,7 +60,7 @@ fn with_waiting(full: Box<Full>, one: Waiting) -> Result<State, Stop>
     Ok(in_full(full, Phase::Operand))
 }
 
-/// A full expression that begins, after so many of its tokens.
+/// A full expression that begins, after this many of its tokens.
 pub fn begin_full(alloc: Global, context: Context, count: usize) -> Result<State, Stop>
     ensures { Gives state_view result (begins_full (context_view context) count) }
 {
@@ -177,7 +177,7 @@ fn end_initialiser(
     }
 }
 
-/// The state after an increment or decrement of so many tokens.
+/// The state after an increment or decrement of this many tokens.
 fn ended_step(
     alloc: Global,
     body: Box<Body>,

@@ -1,7 +1,7 @@
 // All tokens, one after the other.
 //
 // A text is read token by token, as they come, so that no list of them takes memory. Where that comes to no tree, the tokens
-// are put into a list, which tells the first flaw of the text, and read from there, which tells the first token that breaks
+// are put into a list, which tells the first error of the text, and read from there, which tells the first token that breaks
 // the grammar or a limit.
 
 ghost use Rattle.std.specs.Prelude.{◌≡◌, ◌<◌, ◌≤◌, length, IfOk, IfSome, MatchResult};
@@ -102,7 +102,7 @@ fn read_text_from(alloc: Global, first: State, text: &[u8]) -> Option<Vec<Extern
                 Err(_) => return None,
             },
             Next::End => at = text.len(),
-            Next::Flawed(_, _) => {
+            Next::Error(_, _) => {
                 drop(state);
                 return None;
             }

@@ -50,7 +50,7 @@ pub fn count_so_far(state: &State) -> usize
     }
 }
 
-/// The level of what begins after so many open statements, 0 where a block ends.
+/// The level of what begins after this many open statements, 0 where a block ends.
 fn level_behind(count: usize, role: Role) -> usize
     requires { count < 2 ^ 63 }
     ensures { result ≡ item_level count role }
@@ -68,11 +68,11 @@ fn rest(statements: &[Open]) -> Option<usize>
     ensures within { IfSome result (λ left. left ≤ length statements.now) }
 {
     let mut left = statements;
-    while let Some((last, front)) = left.split_last() {
+    while let Some((last, prefix)) = left.split_last() {
         match last {
             Open::Block(_) => return Some(left.len()),
             Open::Do => return None,
-            _ => left = front,
+            _ => left = prefix,
         }
     }
     Some(0)

@@ -4,14 +4,14 @@ use Rattle.std.specs.Prelude.{ℕ, zero, suc, ◌+◌, Bool, true, false, not, �
 use Rattle.std.specs.List.{find, prefix_len, starts_with}
 use Rattle.std.specs.Str.{bytes_eq}
 use Rattle.std.specs.Char.{is_ascii_digit}
-use Rattle.cc_tokens.specs.declared.flaw.Flaw.{Flaw}
-use Rattle.cc_tokens.specs.declared.flaw.Flaw.TheVariants.{BadByte, UnclosedComment, BadConstant, ConstantTooLarge}
+use Rattle.cc_tokens.specs.declared.lexical_error.LexicalError.{LexicalError}
+use Rattle.cc_tokens.specs.declared.lexical_error.LexicalError.TheVariants.{BadByte, UnclosedComment, BadConstant, ConstantTooLarge}
 use Rattle.cc_tokens.specs.declared.scan.Mark.{Mark}
 use Rattle.cc_tokens.specs.declared.scan.Mark.TheVariants.{CommentEnd, LineEnd, Splice}
 use Rattle.cc_tokens.specs.declared.scan.Run.{Run}
 use Rattle.cc_tokens.specs.declared.scan.Run.TheVariants as run
-use Rattle.cc_tokens.specs.declared.scan.Front.{Front}
-use Rattle.cc_tokens.specs.declared.scan.Front.TheVariants as front
+use Rattle.cc_tokens.specs.declared.scan.Head.{Head}
+use Rattle.cc_tokens.specs.declared.scan.Head.TheVariants as head
 use Rattle.cc_tokens.specs.declared.scalar.Scalar.{Scalar}
 use Rattle.cc_tokens.specs.declared.token.Keyword.{Keyword}
 use Rattle.cc_tokens.specs.declared.token.Keyword.TheVariants as keyword
@@ -99,7 +99,7 @@ punctuators_with b =
 unfoldable pub keyword_named : List ℕ → Option Keyword
 keyword_named word = find (λ k. bytes_eq (keyword_bytes k) word) KEYWORDS
 
--- the longest punctuator at the front
+-- the longest punctuator at the head
 unfoldable pub punctuator_at : List ℕ → Option Punctuator
 punctuator_at bytes = find (λ p. starts_with (λ a b. a == b) bytes (punctuator_bytes p)) PUNCTUATORS
 
@@ -140,49 +140,49 @@ constant_spelled bytes =
     constant_behind base (prefix_len (is_digit_of base) behind) behind
 
 -- what a constant is
-abbrev pub typed : Option Scalar → ℕ → Result TokenKind Flaw
+abbrev pub typed : Option Scalar → ℕ → Result TokenKind LexicalError
 typed None value = Err ConstantTooLarge
 typed (Some type) value = Ok (kind.Number type value)
 
-abbrev pub constant_kind : Option Constant → Result TokenKind Flaw
+abbrev pub constant_kind : Option Constant → Result TokenKind LexicalError
 constant_kind None = Err BadConstant
 constant_kind (Some c) = typed (constant_type c) (digits_value c)
 
--- a token of n bytes, or a flaw
-abbrev pub number_front : ℕ → Result TokenKind Flaw → Front
-number_front n (Ok k) = front.Token k n
-number_front n (Err flaw) = front.Flawed flaw 0
+-- a token of n bytes, or an error
+abbrev pub number_head : ℕ → Result TokenKind LexicalError → Head
+number_head n (Ok k) = head.Token k n
+number_head n (Err error) = head.Error error 0
 
-abbrev pub punctuator_front : Option Punctuator → Front
-punctuator_front None = front.Flawed BadByte 0
-punctuator_front (Some p) = front.Token (kind.Punctuator p) (length (punctuator_bytes p))
+abbrev pub punctuator_head : Option Punctuator → Head
+punctuator_head None = head.Error BadByte 0
+punctuator_head (Some p) = head.Token (kind.Punctuator p) (length (punctuator_bytes p))
 
 -- a comment of n bytes, unless a line splice stands in it
-abbrev pub spliced : ℕ → ℕ → Front
-spliced n place = if nat_lt place n then front.Flawed BadByte place else front.Comment n
+abbrev pub spliced : ℕ → ℕ → Head
+spliced n place = if nat_lt place n then head.Error BadByte place else head.Comment n
 
-abbrev pub comment_of : ℕ → List ℕ → Front
+abbrev pub comment_of : ℕ → List ℕ → Head
 comment_of n bytes = spliced n (offset_within begins_splice n bytes)
 
-abbrev pub block_comment : ℕ → List ℕ → Front
-block_comment n bytes = if nat_lt n (length (drop 2 bytes)) then comment_of (n + 4) bytes else front.Flawed UnclosedComment 0
+abbrev pub block_comment : ℕ → List ℕ → Head
+block_comment n bytes = if nat_lt n (length (drop 2 bytes)) then comment_of (n + 4) bytes else head.Error UnclosedComment 0
 
-abbrev pub comment_front : List ℕ → Front
-comment_front bytes =
+abbrev pub comment_head : List ℕ → Head
+comment_head bytes =
     let body = drop 2 bytes in
     if slice_index bytes 1 == 42 then block_comment (offset_within begins_close (length body) body) bytes
     else comment_of (offset_within begins_line_end (length body) body + 2) bytes
 
--- how many bytes of a run stand at the front, of which the first is one
+-- how many bytes of a run stand at the head, of which the first is one
 abbrev pub run_of : (ℕ → ℕ → Bool) → List ℕ → ℕ
 run_of may bytes = suc (run_length may (slice_index bytes 0) (drop 1 bytes))
 
--- what stands at the front of the bytes
-unfoldable pub front_of : List ℕ → Front
-front_of bytes =
+-- what stands at the head of the bytes
+unfoldable pub head_of : List ℕ → Head
+head_of bytes =
     let first = slice_index bytes 0 in
-    if is_blank first then front.Blank
-    else (if begins_comment bytes then comment_front bytes
-    else (if is_nondigit first then front.Token (word_kind (keyword_named (take (run_of continues_word bytes) bytes))) (run_of continues_word bytes)
-    else (if is_ascii_digit first then number_front (run_of continues_number bytes) (constant_kind (constant_spelled (take (run_of continues_number bytes) bytes)))
-    else punctuator_front (punctuator_at bytes))))
+    if is_blank first then head.Blank
+    else (if begins_comment bytes then comment_head bytes
+    else (if is_nondigit first then head.Token (word_kind (keyword_named (take (run_of continues_word bytes) bytes))) (run_of continues_word bytes)
+    else (if is_ascii_digit first then number_head (run_of continues_number bytes) (constant_kind (constant_spelled (take (run_of continues_number bytes) bytes)))
+    else punctuator_head (punctuator_at bytes))))

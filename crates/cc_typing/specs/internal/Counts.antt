@@ -3,7 +3,7 @@ use Rattle.std.specs.Prelude.{ℕ, ◌+◌, List, [], ◌∷◌, ◌++◌, Optio
 use Rattle.cc_syntax.specs.Tree.{Name, Object, External, Declaration, Definition, Objects}
 use Rattle.cc_typing.specs.Limits.{most_words, object_name}
 use Rattle.cc_typing.specs.Types.{object_words}
-use Rattle.cc_typing.specs.declared.rule.Offence.{Offence}
+use Rattle.cc_typing.specs.declared.rule.RuleError.{RuleError}
 use Rattle.cc_typing.specs.declared.rule.Rule.TheVariants.{TooMany}
 use Rattle.cc_typing.specs.declared.limits.Count.{Count}
 use Rattle.cc_typing.specs.declared.limits.Words.{Words}
@@ -23,7 +23,7 @@ abbrev pub count_after : Count → List Name → Count
 count_after c names = record { most = c.most; names = counted c.most c.names names; past = passed c.most c.names c.past names }
 
 -- the limit passed at a place, where it is
-abbrev pub excess_of : Option ℕ → List Offence
+abbrev pub excess_of : Option ℕ → List RuleError
 excess_of None = []
 excess_of (Some at) = record { rule = TooMany; at = at } ∷ []
 

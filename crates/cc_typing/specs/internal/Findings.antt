@@ -4,35 +4,35 @@ use Rattle.cc_tokens.specs.declared.scalar.Scalar.{Scalar}
 use Rattle.cc_syntax.specs.Tree.{Name, Expr, Declarator}
 use Rattle.cc_typing.specs.Fault.{rule_number}
 use Rattle.cc_typing.specs.internal.Functions.{Functions}
-use Rattle.cc_typing.specs.Rules.{undefined_among, Around, broken_if, optional_offences}
+use Rattle.cc_typing.specs.Rules.{undefined_among, Around, broken_if, optional_errors}
 use Rattle.cc_typing.specs.Scope.{Variable, Visible, in_scope, declared, is_declared}
 use Rattle.cc_typing.specs.declared.rule.Rule.TheVariants.{Redeclared}
-use Rattle.cc_typing.specs.declared.rule.Offence.{Offence}
+use Rattle.cc_typing.specs.declared.rule.RuleError.{RuleError}
 use Rattle.cc_typing.specs.declared.around.Surroundings.{Surroundings}
 
--- one offence comes before another
-abbrev pub is_before : Offence → Offence → Bool
+-- one error comes before another
+abbrev pub is_before : RuleError → RuleError → Bool
 is_before o p = nat_lt o.at p.at || (o.at == p.at && nat_lt (rule_number o.rule) (rule_number p.rule))
 
--- the first of the offence found before, where there is one, and another
-abbrev pub earlier : Option Offence → Offence → Offence
+-- the first of the error found before, where there is one, and another
+abbrev pub earlier : Option RuleError → RuleError → RuleError
 earlier None o = o
 earlier (Some p) o = if is_before o p then o else p
 
--- the first offence, after some more
-abbrev pub noted : Option Offence → List Offence → Option Offence
+-- the first error, after some more
+abbrev pub noted : Option RuleError → List RuleError → Option RuleError
 noted first [] = first
 noted first (o ∷ rest) = noted (Some (earlier first o)) rest
 
--- what is found: the first offence, the first call of a function that is not defined, and the functions that are
+-- what is found: the first error, the first call of a function that is not defined, and the functions that are
 pub record Found : Type 0 where
-  pub first : Option Offence
-  pub undefined : Option Offence
+  pub first : Option RuleError
+  pub undefined : Option RuleError
   pub functions : Functions
 
--- the same after a part with these offences and these calls
-abbrev pub after : Found → List Offence → List Name → Found
-after f offences calls = record f { first = noted f.first offences; undefined = noted f.undefined (undefined_among f.functions.defined calls) }
+-- the same after a part with these errors and these calls
+abbrev pub after : Found → List RuleError → List Name → Found
+after f errors calls = record f { first = noted f.first errors; undefined = noted f.undefined (undefined_among f.functions.defined calls) }
 
 -- nothing is found yet
 abbrev pub nothing_found : Functions → Found
@@ -47,9 +47,9 @@ abbrev pub around_of : Surroundings → Around
 around_of a = record { result = a.result; in_loop = a.in_loop }
 
 -- one name of a declaration of locals
-abbrev pub declarator_offences : Scalar → Declarator → Visible → List Offence
-declarator_offences t d v =
-    broken_if (is_declared v.inner d.name.text) Redeclared d.name.at ++ optional_offences (in_scope (declared d.name.text (Variable t) v)) d.initial
+abbrev pub declarator_errors : Scalar → Declarator → Visible → List RuleError
+declarator_errors t d v =
+    broken_if (is_declared v.inner d.name.text) Redeclared d.name.at ++ optional_errors (in_scope (declared d.name.text (Variable t) v)) d.initial
 
 -- a return with a value in a void function, or without one in another
 abbrev pub is_bad_return : Option Scalar → Option Expr → Bool

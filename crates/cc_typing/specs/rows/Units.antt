@@ -7,7 +7,7 @@ use Rattle.cc_syntax.specs.declared.ast.UnaryOperator.TheVariants.{Minus, Not}
 use Rattle.cc_syntax.specs.declared.ast.BinaryOperator.TheVariants.{Divide, Add, Less}
 use Rattle.cc_syntax.specs.declared.ast.AssignmentOperator.TheVariants as assignment
 use Rattle.cc_syntax.specs.declared.ast.StepOperator.TheVariants.{Increment}
-use Rattle.cc_typing.specs.Rules.{broken, offences, defines_main, undefined_calls}
+use Rattle.cc_typing.specs.Rules.{broken, errors, defines_main, undefined_calls}
 use Rattle.cc_typing.specs.Limits.{excesses}
 use Rattle.cc_typing.specs.declared.rule.Rule.TheVariants.{Unknown, Redeclared, WrongKind, WrongCount, VoidValue, BadReturn, BadAssign, BadBreak, Undefined, TooMany}
 
@@ -15,119 +15,119 @@ abbrev name : List ℕ → ℕ → Name
 name text at = record { text = text; at = at }
 
 -- int x;int x;int main(void){}
-redeclared : offences (tree.Objects Int (tree.Single (name (codes "x") 4) None ∷ []) ∷ tree.Objects Int (tree.Single (name (codes "x") 10) None ∷ []) ∷ tree.Definition (record { result = (Some Int); name = (name (codes "main") 16); parameters = [] }) tree.end ∷ []) ≡ broken Redeclared 10
+redeclared : errors (tree.Objects Int (tree.Single (name (codes "x") 4) None ∷ []) ∷ tree.Objects Int (tree.Single (name (codes "x") 10) None ∷ []) ∷ tree.Definition (record { result = (Some Int); name = (name (codes "main") 16); parameters = [] }) tree.end ∷ []) ≡ broken Redeclared 10
 redeclared = refl
 
 -- int a[2];int main(void){a;}
-array_as_value : offences (tree.Objects Int (tree.Array (name (codes "a") 4) (Some (record { at = 6; expr = (tree.Number Int 2) })) [] ∷ []) ∷ tree.Definition (record { result = (Some Int); name = (name (codes "main") 13); parameters = [] }) (tree.next (tree.Perform (Some (tree.Evaluate (tree.Variable (name (codes "a") 24))))) tree.end) ∷ []) ≡ broken WrongKind 24
+array_as_value : errors (tree.Objects Int (tree.Array (name (codes "a") 4) (Some (record { at = 6; expr = (tree.Number Int 2) })) [] ∷ []) ∷ tree.Definition (record { result = (Some Int); name = (name (codes "main") 13); parameters = [] }) (tree.next (tree.Perform (Some (tree.Evaluate (tree.Variable (name (codes "a") 24))))) tree.end) ∷ []) ≡ broken WrongKind 24
 array_as_value = refl
 
 -- int main(void){write_word();}
-no_argument : offences (tree.Definition (record { result = (Some Int); name = (name (codes "main") 4); parameters = [] }) (tree.next (tree.Perform (Some (tree.Evaluate (tree.Call (name (codes "write_word") 15) tree.none)))) tree.end) ∷ []) ≡ broken WrongCount 15
+no_argument : errors (tree.Definition (record { result = (Some Int); name = (name (codes "main") 4); parameters = [] }) (tree.next (tree.Perform (Some (tree.Evaluate (tree.Call (name (codes "write_word") 15) tree.none)))) tree.end) ∷ []) ≡ broken WrongCount 15
 no_argument = refl
 
 -- int a[0];int main(void){}
-no_elements : offences (tree.Objects Int (tree.Array (name (codes "a") 4) (Some (record { at = 6; expr = (tree.Number Int 0) })) [] ∷ []) ∷ tree.Definition (record { result = (Some Int); name = (name (codes "main") 13); parameters = [] }) tree.end ∷ []) ≡ broken WrongCount 4
+no_elements : errors (tree.Objects Int (tree.Array (name (codes "a") 4) (Some (record { at = 6; expr = (tree.Number Int 0) })) [] ∷ []) ∷ tree.Definition (record { result = (Some Int); name = (name (codes "main") 13); parameters = [] }) tree.end ∷ []) ≡ broken WrongCount 4
 no_elements = refl
 
 -- void f(void){}int main(void){write_word(f());}
-void_used : offences (tree.Definition (record { result = None; name = (name (codes "f") 5); parameters = [] }) tree.end ∷ tree.Definition (record { result = (Some Int); name = (name (codes "main") 18); parameters = [] }) (tree.next (tree.Perform (Some (tree.Evaluate (tree.Call (name (codes "write_word") 29) (tree.more (tree.Call (name (codes "f") 40) tree.none) tree.none))))) tree.end) ∷ []) ≡ broken VoidValue 40
+void_used : errors (tree.Definition (record { result = None; name = (name (codes "f") 5); parameters = [] }) tree.end ∷ tree.Definition (record { result = (Some Int); name = (name (codes "main") 18); parameters = [] }) (tree.next (tree.Perform (Some (tree.Evaluate (tree.Call (name (codes "write_word") 29) (tree.more (tree.Call (name (codes "f") 40) tree.none) tree.none))))) tree.end) ∷ []) ≡ broken VoidValue 40
 void_used = refl
 
 -- void f(void){return 1;}int main(void){}
-value_in_void : offences (tree.Definition (record { result = None; name = (name (codes "f") 5); parameters = [] }) (tree.next (tree.Return 13 (Some (tree.Number Int 1))) tree.end) ∷ tree.Definition (record { result = (Some Int); name = (name (codes "main") 27); parameters = [] }) tree.end ∷ []) ≡ broken BadReturn 13
+value_in_void : errors (tree.Definition (record { result = None; name = (name (codes "f") 5); parameters = [] }) (tree.next (tree.Return 13 (Some (tree.Number Int 1))) tree.end) ∷ tree.Definition (record { result = (Some Int); name = (name (codes "main") 27); parameters = [] }) tree.end ∷ []) ≡ broken BadReturn 13
 value_in_void = refl
 
 -- int a[2];int main(void){a=1;}
-array_as_target : offences (tree.Objects Int (tree.Array (name (codes "a") 4) (Some (record { at = 6; expr = (tree.Number Int 2) })) [] ∷ []) ∷ tree.Definition (record { result = (Some Int); name = (name (codes "main") 13); parameters = [] }) (tree.next (tree.Perform (Some (tree.Assign assignment.Plain (tree.AtVariable (name (codes "a") 24)) (tree.Number Int 1)))) tree.end) ∷ []) ≡ broken BadAssign 24
+array_as_target : errors (tree.Objects Int (tree.Array (name (codes "a") 4) (Some (record { at = 6; expr = (tree.Number Int 2) })) [] ∷ []) ∷ tree.Definition (record { result = (Some Int); name = (name (codes "main") 13); parameters = [] }) (tree.next (tree.Perform (Some (tree.Assign assignment.Plain (tree.AtVariable (name (codes "a") 24)) (tree.Number Int 1)))) tree.end) ∷ []) ≡ broken BadAssign 24
 array_as_target = refl
 
 -- int main(void){break;}
-break_outside : offences (tree.Definition (record { result = (Some Int); name = (name (codes "main") 4); parameters = [] }) (tree.next (tree.Break 15) tree.end) ∷ []) ≡ broken BadBreak 15
+break_outside : errors (tree.Definition (record { result = (Some Int); name = (name (codes "main") 4); parameters = [] }) (tree.next (tree.Break 15) tree.end) ∷ []) ≡ broken BadBreak 15
 break_outside = refl
 
 -- int main(void){x=1;}
-unknown : offences (tree.Definition (record { result = (Some Int); name = (name (codes "main") 4); parameters = [] }) (tree.next (tree.Perform (Some (tree.Assign assignment.Plain (tree.AtVariable (name (codes "x") 15)) (tree.Number Int 1)))) tree.end) ∷ []) ≡ broken Unknown 15
+unknown : errors (tree.Definition (record { result = (Some Int); name = (name (codes "main") 4); parameters = [] }) (tree.next (tree.Perform (Some (tree.Assign assignment.Plain (tree.AtVariable (name (codes "x") 15)) (tree.Number Int 1)))) tree.end) ∷ []) ≡ broken Unknown 15
 unknown = refl
 
 -- int a[-1];int main(void){}
-length_below_1 : offences (tree.Objects Int (tree.Array (name (codes "a") 4) (Some (record { at = 6; expr = (tree.Unary Minus (tree.Number Int 1)) })) [] ∷ []) ∷ tree.Definition (record { result = (Some Int); name = (name (codes "main") 14); parameters = [] }) tree.end ∷ []) ≡ broken WrongCount 4
+length_below_1 : errors (tree.Objects Int (tree.Array (name (codes "a") 4) (Some (record { at = 6; expr = (tree.Unary Minus (tree.Number Int 1)) })) [] ∷ []) ∷ tree.Definition (record { result = (Some Int); name = (name (codes "main") 14); parameters = [] }) tree.end ∷ []) ≡ broken WrongCount 4
 length_below_1 = refl
 
 -- int a[2]={1,2,3};int main(void){}
-too_many_values : offences (tree.Objects Int (tree.Array (name (codes "a") 4) (Some (record { at = 6; expr = (tree.Number Int 2) })) ((record { at = 10; expr = (tree.Number Int 1) }) ∷ (record { at = 12; expr = (tree.Number Int 2) }) ∷ (record { at = 14; expr = (tree.Number Int 3) }) ∷ []) ∷ []) ∷ tree.Definition (record { result = (Some Int); name = (name (codes "main") 21); parameters = [] }) tree.end ∷ []) ≡ broken WrongCount 4
+too_many_values : errors (tree.Objects Int (tree.Array (name (codes "a") 4) (Some (record { at = 6; expr = (tree.Number Int 2) })) ((record { at = 10; expr = (tree.Number Int 1) }) ∷ (record { at = 12; expr = (tree.Number Int 2) }) ∷ (record { at = 14; expr = (tree.Number Int 3) }) ∷ []) ∷ []) ∷ tree.Definition (record { result = (Some Int); name = (name (codes "main") 21); parameters = [] }) tree.end ∷ []) ≡ broken WrongCount 4
 too_many_values = refl
 
 -- int a[];int main(void){}
-no_list : offences (tree.Objects Int (tree.Array (name (codes "a") 4) None [] ∷ []) ∷ tree.Definition (record { result = (Some Int); name = (name (codes "main") 12); parameters = [] }) tree.end ∷ []) ≡ broken WrongCount 4
+no_list : errors (tree.Objects Int (tree.Array (name (codes "a") 4) None [] ∷ []) ∷ tree.Definition (record { result = (Some Int); name = (name (codes "main") 12); parameters = [] }) tree.end ∷ []) ≡ broken WrongCount 4
 no_list = refl
 
 -- int a[a];int main(void){}
-array_names_itself : offences (tree.Objects Int (tree.Array (name (codes "a") 4) (Some (record { at = 6; expr = (tree.Variable (name (codes "a") 6)) })) [] ∷ []) ∷ tree.Definition (record { result = (Some Int); name = (name (codes "main") 13); parameters = [] }) tree.end ∷ []) ≡ broken Unknown 6 ++ broken WrongKind 6
+array_names_itself : errors (tree.Objects Int (tree.Array (name (codes "a") 4) (Some (record { at = 6; expr = (tree.Variable (name (codes "a") 6)) })) [] ∷ []) ∷ tree.Definition (record { result = (Some Int); name = (name (codes "main") 13); parameters = [] }) tree.end ∷ []) ≡ broken Unknown 6 ++ broken WrongKind 6
 array_names_itself = refl
 
 -- int x=x;int main(void){}
-initialiser_names_itself : offences (tree.Objects Int (tree.Single (name (codes "x") 4) (Some (record { at = 6; expr = (tree.Variable (name (codes "x") 6)) })) ∷ []) ∷ tree.Definition (record { result = (Some Int); name = (name (codes "main") 12); parameters = [] }) tree.end ∷ []) ≡ broken WrongKind 6
+initialiser_names_itself : errors (tree.Objects Int (tree.Single (name (codes "x") 4) (Some (record { at = 6; expr = (tree.Variable (name (codes "x") 6)) })) ∷ []) ∷ tree.Definition (record { result = (Some Int); name = (name (codes "main") 12); parameters = [] }) tree.end ∷ []) ≡ broken WrongKind 6
 initialiser_names_itself = refl
 
 -- int x=1/0;int main(void){}
-constant_goes_wrong : offences (tree.Objects Int (tree.Single (name (codes "x") 4) (Some (record { at = 6; expr = (tree.Binary Divide (tree.Number Int 1) (tree.Number Int 0)) })) ∷ []) ∷ tree.Definition (record { result = (Some Int); name = (name (codes "main") 14); parameters = [] }) tree.end ∷ []) ≡ broken WrongKind 6
+constant_goes_wrong : errors (tree.Objects Int (tree.Single (name (codes "x") 4) (Some (record { at = 6; expr = (tree.Binary Divide (tree.Number Int 1) (tree.Number Int 0)) })) ∷ []) ∷ tree.Definition (record { result = (Some Int); name = (name (codes "main") 14); parameters = [] }) tree.end ∷ []) ≡ broken WrongKind 6
 constant_goes_wrong = refl
 
 -- int y;int x=(1?2:y);int main(void){}
-name_in_a_part_not_evaluated : offences (tree.Objects Int (tree.Single (name (codes "y") 4) None ∷ []) ∷ tree.Objects Int (tree.Single (name (codes "x") 10) (Some (record { at = 12; expr = (tree.Parenthesised (tree.Conditional (tree.Number Int 1) (tree.Number Int 2) (tree.Variable (name (codes "y") 17)))) })) ∷ []) ∷ tree.Definition (record { result = (Some Int); name = (name (codes "main") 24); parameters = [] }) tree.end ∷ []) ≡ broken WrongKind 12
+name_in_a_part_not_evaluated : errors (tree.Objects Int (tree.Single (name (codes "y") 4) None ∷ []) ∷ tree.Objects Int (tree.Single (name (codes "x") 10) (Some (record { at = 12; expr = (tree.Parenthesised (tree.Conditional (tree.Number Int 1) (tree.Number Int 2) (tree.Variable (name (codes "y") 17)))) })) ∷ []) ∷ tree.Definition (record { result = (Some Int); name = (name (codes "main") 24); parameters = [] }) tree.end ∷ []) ≡ broken WrongKind 12
 name_in_a_part_not_evaluated = refl
 
 -- void f(void){}int main(void){f[0]=1;}
-function_indexed : offences (tree.Definition (record { result = None; name = (name (codes "f") 5); parameters = [] }) tree.end ∷ tree.Definition (record { result = (Some Int); name = (name (codes "main") 18); parameters = [] }) (tree.next (tree.Perform (Some (tree.Assign assignment.Plain (tree.AtElement (name (codes "f") 29) (tree.Number Int 0)) (tree.Number Int 1)))) tree.end) ∷ []) ≡ broken WrongKind 29
+function_indexed : errors (tree.Definition (record { result = None; name = (name (codes "f") 5); parameters = [] }) tree.end ∷ tree.Definition (record { result = (Some Int); name = (name (codes "main") 18); parameters = [] }) (tree.next (tree.Perform (Some (tree.Assign assignment.Plain (tree.AtElement (name (codes "f") 29) (tree.Number Int 0)) (tree.Number Int 1)))) tree.end) ∷ []) ≡ broken WrongKind 29
 function_indexed = refl
 
 -- int x;int main(void){x[0]=1;}
-scalar_indexed : offences (tree.Objects Int (tree.Single (name (codes "x") 4) None ∷ []) ∷ tree.Definition (record { result = (Some Int); name = (name (codes "main") 10); parameters = [] }) (tree.next (tree.Perform (Some (tree.Assign assignment.Plain (tree.AtElement (name (codes "x") 21) (tree.Number Int 0)) (tree.Number Int 1)))) tree.end) ∷ []) ≡ broken WrongKind 21
+scalar_indexed : errors (tree.Objects Int (tree.Single (name (codes "x") 4) None ∷ []) ∷ tree.Definition (record { result = (Some Int); name = (name (codes "main") 10); parameters = [] }) (tree.next (tree.Perform (Some (tree.Assign assignment.Plain (tree.AtElement (name (codes "x") 21) (tree.Number Int 0)) (tree.Number Int 1)))) tree.end) ∷ []) ≡ broken WrongKind 21
 scalar_indexed = refl
 
 -- int a[2];int main(void){a+=1;}
-array_added_to : offences (tree.Objects Int (tree.Array (name (codes "a") 4) (Some (record { at = 6; expr = (tree.Number Int 2) })) [] ∷ []) ∷ tree.Definition (record { result = (Some Int); name = (name (codes "main") 13); parameters = [] }) (tree.next (tree.Perform (Some (tree.Assign assignment.Add (tree.AtVariable (name (codes "a") 24)) (tree.Number Int 1)))) tree.end) ∷ []) ≡ broken BadAssign 24
+array_added_to : errors (tree.Objects Int (tree.Array (name (codes "a") 4) (Some (record { at = 6; expr = (tree.Number Int 2) })) [] ∷ []) ∷ tree.Definition (record { result = (Some Int); name = (name (codes "main") 13); parameters = [] }) (tree.next (tree.Perform (Some (tree.Assign assignment.Add (tree.AtVariable (name (codes "a") 24)) (tree.Number Int 1)))) tree.end) ∷ []) ≡ broken BadAssign 24
 array_added_to = refl
 
 -- int f;void f(void){}int main(void){}
-object_and_function : offences (tree.Objects Int (tree.Single (name (codes "f") 4) None ∷ []) ∷ tree.Definition (record { result = None; name = (name (codes "f") 11); parameters = [] }) tree.end ∷ tree.Definition (record { result = (Some Int); name = (name (codes "main") 24); parameters = [] }) tree.end ∷ []) ≡ broken Redeclared 11
+object_and_function : errors (tree.Objects Int (tree.Single (name (codes "f") 4) None ∷ []) ∷ tree.Definition (record { result = None; name = (name (codes "f") 11); parameters = [] }) tree.end ∷ tree.Definition (record { result = (Some Int); name = (name (codes "main") 24); parameters = [] }) tree.end ∷ []) ≡ broken Redeclared 11
 object_and_function = refl
 
 -- int read_word;int main(void){}
-object_named_as_builtin : offences (tree.Objects Int (tree.Single (name (codes "read_word") 4) None ∷ []) ∷ tree.Definition (record { result = (Some Int); name = (name (codes "main") 18); parameters = [] }) tree.end ∷ []) ≡ broken Redeclared 4
+object_named_as_builtin : errors (tree.Objects Int (tree.Single (name (codes "read_word") 4) None ∷ []) ∷ tree.Definition (record { result = (Some Int); name = (name (codes "main") 18); parameters = [] }) tree.end ∷ []) ≡ broken Redeclared 4
 object_named_as_builtin = refl
 
 -- int read_word(void){}int main(void){}
-defined_builtin : offences (tree.Definition (record { result = (Some Int); name = (name (codes "read_word") 4); parameters = [] }) tree.end ∷ tree.Definition (record { result = (Some Int); name = (name (codes "main") 25); parameters = [] }) tree.end ∷ []) ≡ broken Redeclared 4
+defined_builtin : errors (tree.Definition (record { result = (Some Int); name = (name (codes "read_word") 4); parameters = [] }) tree.end ∷ tree.Definition (record { result = (Some Int); name = (name (codes "main") 25); parameters = [] }) tree.end ∷ []) ≡ broken Redeclared 4
 defined_builtin = refl
 
 -- int f(int);int f(unsigned);int main(void){}
-other_types : offences (tree.Declaration (record { result = (Some Int); name = (name (codes "f") 4); parameters = (record { scalar = Int; name = None } ∷ []) }) ∷ tree.Declaration (record { result = (Some Int); name = (name (codes "f") 15); parameters = (record { scalar = Unsigned; name = None } ∷ []) }) ∷ tree.Definition (record { result = (Some Int); name = (name (codes "main") 31); parameters = [] }) tree.end ∷ []) ≡ broken Redeclared 15
+other_types : errors (tree.Declaration (record { result = (Some Int); name = (name (codes "f") 4); parameters = (record { scalar = Int; name = None } ∷ []) }) ∷ tree.Declaration (record { result = (Some Int); name = (name (codes "f") 15); parameters = (record { scalar = Unsigned; name = None } ∷ []) }) ∷ tree.Definition (record { result = (Some Int); name = (name (codes "main") 31); parameters = [] }) tree.end ∷ []) ≡ broken Redeclared 15
 other_types = refl
 
 -- int f(void){}int f(void){}int main(void){}
-second_definition : offences (tree.Definition (record { result = (Some Int); name = (name (codes "f") 4); parameters = [] }) tree.end ∷ tree.Definition (record { result = (Some Int); name = (name (codes "f") 17); parameters = [] }) tree.end ∷ tree.Definition (record { result = (Some Int); name = (name (codes "main") 30); parameters = [] }) tree.end ∷ []) ≡ broken Redeclared 17
+second_definition : errors (tree.Definition (record { result = (Some Int); name = (name (codes "f") 4); parameters = [] }) tree.end ∷ tree.Definition (record { result = (Some Int); name = (name (codes "f") 17); parameters = [] }) tree.end ∷ tree.Definition (record { result = (Some Int); name = (name (codes "main") 30); parameters = [] }) tree.end ∷ []) ≡ broken Redeclared 17
 second_definition = refl
 
 -- int f(int x){int x;}int main(void){}
-parameter_and_local : offences (tree.Definition (record { result = (Some Int); name = (name (codes "f") 4); parameters = (record { scalar = Int; name = (Some (name (codes "x") 10)) } ∷ []) }) (tree.next (tree.Local Int (record { name = (name (codes "x") 17); initial = None } ∷ [])) tree.end) ∷ tree.Definition (record { result = (Some Int); name = (name (codes "main") 24); parameters = [] }) tree.end ∷ []) ≡ broken Redeclared 17
+parameter_and_local : errors (tree.Definition (record { result = (Some Int); name = (name (codes "f") 4); parameters = (record { scalar = Int; name = (Some (name (codes "x") 10)) } ∷ []) }) (tree.next (tree.Local Int (record { name = (name (codes "x") 17); initial = None } ∷ [])) tree.end) ∷ tree.Definition (record { result = (Some Int); name = (name (codes "main") 24); parameters = [] }) tree.end ∷ []) ≡ broken Redeclared 17
 parameter_and_local = refl
 
 -- int f(int x,int x);int main(void){}
-parameters_of_a_declaration : offences (tree.Declaration (record { result = (Some Int); name = (name (codes "f") 4); parameters = (record { scalar = Int; name = (Some (name (codes "x") 10)) } ∷ record { scalar = Int; name = (Some (name (codes "x") 16)) } ∷ []) }) ∷ tree.Definition (record { result = (Some Int); name = (name (codes "main") 23); parameters = [] }) tree.end ∷ []) ≡ broken Redeclared 16
+parameters_of_a_declaration : errors (tree.Declaration (record { result = (Some Int); name = (name (codes "f") 4); parameters = (record { scalar = Int; name = (Some (name (codes "x") 10)) } ∷ record { scalar = Int; name = (Some (name (codes "x") 16)) } ∷ []) }) ∷ tree.Definition (record { result = (Some Int); name = (name (codes "main") 23); parameters = [] }) tree.end ∷ []) ≡ broken Redeclared 16
 parameters_of_a_declaration = refl
 
 -- int main(void){for(int i=0;;){}i=1;}
-loop_scope_ends : offences (tree.Definition (record { result = (Some Int); name = (name (codes "main") 4); parameters = [] }) (tree.next (tree.For (tree.Declares Int (record { name = (name (codes "i") 23); initial = (Some (tree.Number Int 0)) } ∷ [])) None None (tree.Block tree.end)) (tree.next (tree.Perform (Some (tree.Assign assignment.Plain (tree.AtVariable (name (codes "i") 31)) (tree.Number Int 1)))) tree.end)) ∷ []) ≡ broken Unknown 31
+loop_scope_ends : errors (tree.Definition (record { result = (Some Int); name = (name (codes "main") 4); parameters = [] }) (tree.next (tree.For (tree.Declares Int (record { name = (name (codes "i") 23); initial = (Some (tree.Number Int 0)) } ∷ [])) None None (tree.Block tree.end)) (tree.next (tree.Perform (Some (tree.Assign assignment.Plain (tree.AtVariable (name (codes "i") 31)) (tree.Number Int 1)))) tree.end)) ∷ []) ≡ broken Unknown 31
 loop_scope_ends = refl
 
 -- void f(void){}int main(void){!f();}
-negated_void : offences (tree.Definition (record { result = None; name = (name (codes "f") 5); parameters = [] }) tree.end ∷ tree.Definition (record { result = (Some Int); name = (name (codes "main") 18); parameters = [] }) (tree.next (tree.Perform (Some (tree.Evaluate (tree.Unary Not (tree.Call (name (codes "f") 30) tree.none))))) tree.end) ∷ []) ≡ broken VoidValue 30
+negated_void : errors (tree.Definition (record { result = None; name = (name (codes "f") 5); parameters = [] }) tree.end ∷ tree.Definition (record { result = (Some Int); name = (name (codes "main") 18); parameters = [] }) (tree.next (tree.Perform (Some (tree.Evaluate (tree.Unary Not (tree.Call (name (codes "f") 30) tree.none))))) tree.end) ∷ []) ≡ broken VoidValue 30
 negated_void = refl
 
 -- int main(void){return;}
-missing_value : offences (tree.Definition (record { result = (Some Int); name = (name (codes "main") 4); parameters = [] }) (tree.next (tree.Return 15 None) tree.end) ∷ []) ≡ broken BadReturn 15
+missing_value : errors (tree.Definition (record { result = (Some Int); name = (name (codes "main") 4); parameters = [] }) (tree.next (tree.Return 15 None) tree.end) ∷ []) ≡ broken BadReturn 15
 missing_value = refl
 
 -- a unit with each kind of statement, part by part
@@ -187,19 +187,19 @@ main_defined = tree.Definition (record { result = (Some Int); name = (name (code
 abbrev each_statement : List External
 each_statement = a_listed ∷ g_declared ∷ f_declared ∷ h_defined ∷ f_defined ∷ main_defined ∷ []
 
-all_statements : offences each_statement ≡ []
+all_statements : errors each_statement ≡ []
 all_statements = refl
 
 -- void write_word(int);int read_word(void);int main(void){write_word(read_word());}
-a_builtin_declared : offences (tree.Declaration (record { result = None; name = (name (codes "write_word") 5); parameters = (record { scalar = Int; name = None } ∷ []) }) ∷ tree.Declaration (record { result = (Some Int); name = (name (codes "read_word") 25); parameters = [] }) ∷ tree.Definition (record { result = (Some Int); name = (name (codes "main") 45); parameters = [] }) (tree.next (tree.Perform (Some (tree.Evaluate (tree.Call (name (codes "write_word") 56) (tree.more (tree.Call (name (codes "read_word") 67) tree.none) tree.none))))) tree.end) ∷ []) ≡ []
+a_builtin_declared : errors (tree.Declaration (record { result = None; name = (name (codes "write_word") 5); parameters = (record { scalar = Int; name = None } ∷ []) }) ∷ tree.Declaration (record { result = (Some Int); name = (name (codes "read_word") 25); parameters = [] }) ∷ tree.Definition (record { result = (Some Int); name = (name (codes "main") 45); parameters = [] }) (tree.next (tree.Perform (Some (tree.Evaluate (tree.Call (name (codes "write_word") 56) (tree.more (tree.Call (name (codes "read_word") 67) tree.none) tree.none))))) tree.end) ∷ []) ≡ []
 a_builtin_declared = refl
 
 -- int x=1?2:1/0;int main(void){}
-wrong_part_not_evaluated : offences (tree.Objects Int (tree.Single (name (codes "x") 4) (Some (record { at = 6; expr = (tree.Conditional (tree.Number Int 1) (tree.Number Int 2) (tree.Binary Divide (tree.Number Int 1) (tree.Number Int 0))) })) ∷ []) ∷ tree.Definition (record { result = (Some Int); name = (name (codes "main") 18); parameters = [] }) tree.end ∷ []) ≡ []
+wrong_part_not_evaluated : errors (tree.Objects Int (tree.Single (name (codes "x") 4) (Some (record { at = 6; expr = (tree.Conditional (tree.Number Int 1) (tree.Number Int 2) (tree.Binary Divide (tree.Number Int 1) (tree.Number Int 0))) })) ∷ []) ∷ tree.Definition (record { result = (Some Int); name = (name (codes "main") 18); parameters = [] }) tree.end ∷ []) ≡ []
 wrong_part_not_evaluated = refl
 
 -- int a[1<2u];int main(void){}
-unsigned_and_signed : offences (tree.Objects Int (tree.Array (name (codes "a") 4) (Some (record { at = 6; expr = (tree.Binary Less (tree.Number Int 1) (tree.Number Unsigned 2)) })) [] ∷ []) ∷ tree.Definition (record { result = (Some Int); name = (name (codes "main") 16); parameters = [] }) tree.end ∷ []) ≡ []
+unsigned_and_signed : errors (tree.Objects Int (tree.Array (name (codes "a") 4) (Some (record { at = 6; expr = (tree.Binary Less (tree.Number Int 1) (tree.Number Unsigned 2)) })) [] ∷ []) ∷ tree.Definition (record { result = (Some Int); name = (name (codes "main") 16); parameters = [] }) tree.end ∷ []) ≡ []
 unsigned_and_signed = refl
 
 -- the same
@@ -246,12 +246,12 @@ one_word_more = refl
 large_length : excesses (tree.Objects Int (tree.Array (name (codes "a") 4) (Some (record { at = 6; expr = (tree.Number Unsigned 2147483648) })) [] ∷ []) ∷ tree.Definition (record { result = (Some Int); name = (name (codes "main") 22); parameters = [] }) tree.end ∷ []) ≡ broken TooMany 4
 large_length = refl
 
--- so many times {int a;} in a body, from an offset on
+-- this many times {int a;} in a body, from an offset on
 abbrev blocks : ℕ → ℕ → tree.Stmts
 blocks zero at = tree.end
 blocks (suc n) at = tree.next (tree.Block (tree.next (tree.Local Int (record { name = name (codes "a") (at + 5); initial = None } ∷ [])) tree.end)) (blocks n (at + 8))
 
--- int main(void){} with so many of them
+-- int main(void){} with this many of them
 abbrev with_blocks : ℕ → List External
 with_blocks n = tree.Definition (record { result = Some Int; name = name (codes "main") 4; parameters = [] }) (blocks n 15) ∷ []
 
@@ -261,7 +261,7 @@ locals_within = refl
 one_local_more : excesses (with_blocks 257) ≡ broken TooMany 2068
 one_local_more = refl
 
--- so many definitions int f10(){}, int f11(){}, .. from an offset on, and then int main(void){}
+-- this many definitions int f10(){}, int f11(){}, .. from an offset on, and then int main(void){}
 abbrev functions_from : ℕ → ℕ → ℕ → List External
 functions_from zero number at = tree.Definition (record { result = Some Int; name = name (codes "main") (at + 4); parameters = [] }) tree.end ∷ []
 functions_from (suc n) number at = tree.Definition (record { result = Some Int; name = name (102 ∷ (48 + number / 10) ∷ (48 + number % 10) ∷ []) (at + 4); parameters = [] }) tree.end ∷ functions_from n (number + 1) (at + 11)

@@ -56,7 +56,7 @@ fn lines(rt: HostRuntime) {
     }
 }
 
-// Whether a name of so many bytes that is not declared is shown so, in quotes.
+// Whether a name of this many bytes that is not declared is shown so, in quotes.
 fn shows_name(alloc: Global, length: usize, shown: usize, end: &str) -> Result<bool, AllocError> {
     let mut text = String::from_str(alloc, "int main(void){\n")?;
     let mut told = String::from_str(alloc, "-:2:1: '")?;
@@ -122,7 +122,7 @@ fn offsets(rt: HostRuntime) {
     );
 }
 
-// Whether what is told of the name of so many bytes at an offset is written so.
+// Whether what is told of the name of this many bytes at an offset is written so.
 fn names(alloc: Global, at: usize, length: usize, told: &str) -> Result<bool, AllocError> {
     let text = b"int f(void){}".as_slice();
     let diagnostic = of_name(alloc, text, at, length, "is too large")?;

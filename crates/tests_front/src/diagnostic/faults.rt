@@ -90,7 +90,7 @@ static SPELLING: [(&str, &str); 18] = [
     ),
     (
         "int x=1.5;",
-        "-:1:7: '1.5' is no decimal, octal or hexadecimal constant: there are no floating constants in this C; count in parts, as thousandths
+        "-:1:7: '1.5' is no decimal, octal or hexadecimal constant: there are no floating constants in this C; count in parts, for example thousandths
     1 | int x=1.5;
       |       ^
 ",

@@ -860,7 +860,7 @@ fn is_told(alloc: Global, row: &Row) -> bool {
     rest.starts_with(b": ".as_slice()) && has(told, words.as_bytes())
 }
 
-// Whether each of these texts is told as its row wants.
+// Whether each of these texts is told as its row says.
 fn are_told(alloc: Global, rows: &[Row]) -> bool {
     let mut right = true;
     for row in rows {

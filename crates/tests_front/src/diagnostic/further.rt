@@ -321,7 +321,7 @@ fn further_errors_after_which_some_are_none(rt: HostRuntime) {
     }
 }
 
-// A text with so many errors.
+// A text with this many errors.
 fn with_errors(alloc: Global, count: usize) -> Result<Vec<u8>, AllocError> {
     let mut text = Vec::from_slice(alloc, b"int main(void) {\n")?;
     for _ in 0..count {
@@ -331,7 +331,7 @@ fn with_errors(alloc: Global, count: usize) -> Result<Vec<u8>, AllocError> {
     Ok(text)
 }
 
-// Whether of a text with so many errors so many are told, and behind them this.
+// Whether of a text with `count` errors `told` are told, and behind them this.
 fn tells_at_last(alloc: Global, count: usize, told: usize, last: &[u8]) -> bool {
     let Ok(text) = with_errors(alloc, count) else {
         return false;
@@ -363,7 +363,7 @@ fn twenty_at_most(rt: HostRuntime) {
     assert!(rt; tells_at_last(rt.alloc(), 25, 21, further));
 }
 
-// A text of so many bytes with two names that are declared nowhere.
+// A text of this many bytes with two names that are declared nowhere.
 fn of_length(alloc: Global, length: usize) -> Result<Vec<u8>, AllocError> {
     let mut text = Vec::from_slice(alloc, b"int main(void){x;y;}")?;
     for _ in text.len()..length {

@@ -106,7 +106,7 @@ pub fn tells(alloc: Global, text: &[u8], told: &[u8]) -> bool {
     }
 }
 
-// How a program's run ends on these words of input, within so many steps; nothing for a text that is no program.
+// How a program's run ends on these words of input, within this many steps; nothing for a text that is no program.
 fn stop_of(alloc: Global, text: &[u8], input: &[u32], steps: u64) -> Option<Stop> {
     let unit = parse(alloc, text).ok()?;
     let typed = check(alloc, unit).ok()?;

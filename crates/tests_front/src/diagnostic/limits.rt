@@ -149,7 +149,7 @@ fn limits(rt: HostRuntime) {
     }
 }
 
-// A text with so many functions, each on a line of its own, and then `main`.
+// A text with this many functions, each on a line of its own, and then `main`.
 fn functions(alloc: Global, count: usize) -> Result<Vec<u8>, AllocError> {
     let mut text = String::new(alloc);
     for i in 0..count {

@@ -1,18 +1,11 @@
 // A text's functions, as Cminor.
 
+use crate::helpers::shared_unit;
 use cc_cminor::{CminorPair, to_cminor};
-use cc_syntax::parse;
-use cc_typing::{TypedUnit, check};
+use cc_typing::TypedUnit;
 use std::alloc::{AllocError, Global};
 use std::sync::Arc;
 use std::test::Fail;
-
-/// A text's typed unit.
-pub fn shared_unit(alloc: Global, text: &[u8]) -> Result<Arc<TypedUnit>, Fail> {
-    let unit = parse(alloc, text)?;
-    let typed = check(alloc, unit)?;
-    Ok(Arc::new(alloc, typed)?)
-}
 
 // Whether the function with this number goes through, and the pair names it.
 fn goes_through(alloc: Global, unit: &Arc<TypedUnit>, function: usize) -> bool {
@@ -29,7 +22,7 @@ fn goes_through(alloc: Global, unit: &Arc<TypedUnit>, function: usize) -> bool {
     }
 }
 
-/// Whether each function of a text goes through, and there are so many.
+/// Whether each function of a text goes through, and there are this many.
 pub fn all_go_through(alloc: Global, text: &[u8], functions: usize) -> Result<bool, Fail> {
     let unit = shared_unit(alloc, text)?;
     let mut right = unit.functions() == functions;
@@ -64,7 +57,7 @@ fn written(alloc: Global, pair: &CminorPair) -> Result<String, AllocError> {
 /// A part of a text, and how often it stands there.
 pub type Part<'a> = (&'a str, usize);
 
-/// Adds a part to a text, so many times.
+/// Adds a part to a text, this many times.
 pub fn append(text: &mut Vec<u8>, part: &str, times: usize) -> Result<(), AllocError> {
     for _ in 0..times {
         text.extend_from_slice(part.as_bytes())?;

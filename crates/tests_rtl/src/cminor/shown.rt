@@ -5,7 +5,7 @@ use std::alloc::Global;
 use std::test::Fail;
 
 /// A text, the number of a function, and the text of its Cminor.
-static SHOWN: [(&str, usize, &str); 10] = [
+static SHOWN: [(&str, usize, &str); 12] = [
     // the division of two signed words; a void call leaves 0 in a variable that nobody reads
     (
         "int main(void){write_word(-7/2);write_word(-7%2);return 0;}",
@@ -96,7 +96,8 @@ static SHOWN: [(&str, usize, &str); 10] = [
         exit 0
 ",
     ),
-    // `&&` gives 0 or 1; an operand of type unsigned makes the division unsigned, a shift has the type of its left operand
+    // `&&` gives 0 or 1, to which a right operand that may be another word is made; an operand of type unsigned makes the division
+    // unsigned, a shift has the type of its left operand
     (
         "int f(int a,unsigned b){int c=a&&read_word();return c?b/2:a>>1;}int main(void){}",
         0,
@@ -115,7 +116,7 @@ static SHOWN: [(&str, usize, &str); 10] = [
   return v3
 ",
     ),
-    // `continue` leaves the body alone, `break` the loop
+    // `continue` leaves the body alone, `break` the loop; a branch on `==` tests a word that is 0 where the words are equal
     (
         "int main(void){for(int i=0;i<9;i++){if(i==3)continue;if(i==5)break;write_word(-i);}}",
         0,
@@ -126,14 +127,14 @@ static SHOWN: [(&str, usize, &str); 10] = [
     loop
       if lt_s(v0, 9)
         block
-          if eq(v0, 3)
+          if xor(v0, 3)
+            skip
+          else
             exit 0
-          else
+          if xor(v0, 5)
             skip
-          if eq(v0, 5)
+          else
             exit 1
-          else
-            skip
           write neg(v0)
           v1 = 0
           skip
@@ -154,7 +155,49 @@ static SHOWN: [(&str, usize, &str); 10] = [
   return v0
 ",
     ),
-    // an object of one word, a condition behind the body
+    // a comparison is 0 or 1 already; what a branch tests is not made to one of them
+    (
+        "int f(int a,int b){int c=a<b||a!=9;if(!(a==0))c=2;return c;}int main(void){}",
+        0,
+        "f0
+  v2 = 0
+  if lt_s(v0, v1)
+    v3 = 1
+  else
+    v3 = ne(v0, 9)
+  v2 = v3
+  if v0
+    v2 = 2
+  else
+    skip
+  return v2
+",
+    ),
+    (
+        "int f(int a,unsigned b){int c=0;if(a<=c)c=a!=0?1:-1;else while(b>=9)b=b-2;return c;}int main(void){}",
+        0,
+        "f0
+  v2 = 0
+  v2 = 0
+  if lt_s(v2, v0)
+    block
+      loop
+        if lt_u(v1, 9)
+          exit 0
+        else
+          block
+            v1 = sub(v1, 2)
+          skip
+  else
+    if v0
+      v3 = 1
+    else
+      v3 = neg(1)
+    v2 = v3
+  return v2
+",
+    ),
+    // an object of one word, a condition behind the body; a negation and `>=` each exchange the ways of the branch
     (
         "unsigned n;int main(void){do{n=n+1;}while(!(n>=3));return n;}",
         0,
@@ -163,7 +206,7 @@ static SHOWN: [(&str, usize, &str); 10] = [
     loop
       block
         o0[0] = add(o0[0], 1)
-      if is_zero(le_u(3, o0[0]))
+      if lt_u(o0[0], 3)
         skip
       else
         exit 0

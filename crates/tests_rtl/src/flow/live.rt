@@ -106,7 +106,7 @@ pub fn set(bits: u8) -> Live {
     }
 }
 
-/// Code of so many nodes that do nothing.
+/// Code of this many nodes that do nothing.
 pub fn idle(alloc: Global, nodes: usize) -> Result<Code, AllocError> {
     let node = Node {
         reads: set(0),
@@ -128,7 +128,7 @@ pub fn put(code: &mut Code, node: usize, reads: u8, writes: u8) {
     }
 }
 
-/// A graph of so many nodes with these edges, of which those that lead out of it are left out.
+/// A graph of this many nodes with these edges, of which those that lead out of it are left out.
 pub fn graph(alloc: Global, nodes: usize, edges: &[(usize, usize)]) -> Result<Graph, AllocError> {
     let mut graph = Graph::new(alloc, nodes)?;
     for (from, to) in edges {

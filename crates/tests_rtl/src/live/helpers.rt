@@ -1,10 +1,10 @@
 // A text's functions as RTL, their live sets as a text, and what is left of them.
 
+use crate::helpers::shared_unit;
 use cc_cminor::to_cminor;
 use cc_live::{Liveness, RegisterSet, drop_dead, drop_faint, liveness};
 use cc_rtl::{Node, RtlFault, RtlPair, to_rtl};
-use cc_syntax::parse;
-use cc_typing::{TypedUnit, check};
+use cc_typing::TypedUnit;
 use std::alloc::{AllocError, Global};
 use std::fmt::Write;
 use std::sync::Arc;
@@ -21,12 +21,6 @@ pub enum Asked {
     WithoutDead,
     /// Its text without faint nodes.
     WithoutFaint,
-}
-
-fn shared_unit(alloc: Global, text: &[u8]) -> Result<Arc<TypedUnit>, Fail> {
-    let unit = parse(alloc, text)?;
-    let typed = check(alloc, unit)?;
-    Ok(Arc::new(alloc, typed)?)
 }
 
 // The RTL of the function with this number, or why there is none: 40 where there is not even Cminor.

@@ -5,7 +5,7 @@ use std::alloc::{AllocError, Global};
 use std::fmt::Write;
 use std::test::Fail;
 
-// A function that reads 200 variables and then, in a loop, moves each to the one before so many times, and returns one value.
+// A function that reads 200 variables and then, in a loop, moves each to the one before this many times, and returns one value.
 fn rotating(alloc: Global, times: usize, value: &str) -> Result<String, AllocError> {
     let mut text = String::new(alloc);
     text.push_str("int main(void){")?;

@@ -41,7 +41,7 @@ fn block(
     })
 }
 
-// Two blocks of these labels, in a function with so many slots: the first has x10 from slot 2, the second returns.
+// Two blocks of these labels, in a function with this many slots: the first has x10 from slot 2, the second returns.
 fn two_blocks(alloc: Global, slots: u16, first: u32, second: u32) -> Result<Option<Ltl>, Fail> {
     let (Some(to), Some(slot)) = (Register::new(10), Slot::new(2)) else {
         return Err(Fail::from("no register"));

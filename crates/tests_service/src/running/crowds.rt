@@ -53,7 +53,7 @@ where
     }
 }
 
-// The client after its calls, and whether each was answered by a receipt, or refused for want of room, after which the library is
+// The client after its calls, and whether each was answered by a receipt, or refused for lack of room, after which the library is
 // written anew.
 fn calls<N, R>(
     rt: &R,

@@ -29,7 +29,7 @@ struct Signs {
     ended: AtomicU64,
 }
 
-// Holds its first call until so many signs have come.
+// Holds its first call until enough signs have come.
 #[derive(Drop)]
 struct Holds {
     signs: Arc<Signs>,

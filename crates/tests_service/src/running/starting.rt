@@ -42,7 +42,7 @@ pub struct Begun {
     ghost base_is: { (units : Units) → Recovers (bytes_of device.disk.cells) units → units ≡ base },
 }
 
-/// On a formatted device, of which so many calls pass before one fails.
+/// On a formatted device, of which this many calls pass before one fails.
 pub fn prepared(alloc: Global, passes: u64) -> Result<Begun, Fail> {
     let (disk, base) = found(alloc, formatted(alloc)?)?;
     let device = FuseDisk::new(disk, passes, FuseMode::Once);

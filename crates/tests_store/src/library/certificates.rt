@@ -131,7 +131,7 @@ fn files_of_version_1_open(rt: HostRuntime) -> Result<(), Fail> {
     Ok(())
 }
 
-// The unit of one word with a certificate of so many bytes.
+// The unit of one word with a certificate of this many bytes.
 fn certified(alloc: Global, count: usize) -> Result<Arc<StoredUnit>, Fail> {
     let bytes = vec![in alloc; 7u8; count]?;
     let mut stored = unit(alloc, b"int main(void){}".as_slice(), 0)?;

@@ -128,26 +128,6 @@ pub fn formatted(alloc: Global, area: u32) -> Result<MemoryDisk, Fail> {
     Ok(disk)
 }
 
-/// A settled disk with these bytes.
-pub fn disk_of(alloc: Global, bytes: &[u8]) -> Result<MemoryDisk, Fail> {
-    let mut disk = MemoryDisk::new(alloc, bytes.len())?;
-    if bytes.len() <= disk.size() {
-        disk.write_at(0, bytes)?;
-    }
-    disk.sync()?;
-    Ok(disk)
-}
-
-/// All the bytes of a disk.
-pub fn bytes_of<D: Disk>(alloc: Global, disk: &mut D) -> Result<Vec<u8>, Fail> {
-    let size = disk.size();
-    let mut bytes = vec![in alloc; 0u8; size]?;
-    if bytes.len() <= size {
-        disk.read_at(0, &mut bytes)?;
-    }
-    Ok(bytes)
-}
-
 /// The library on a disk.
 pub fn opened<D: Disk + Drop>(alloc: Global, disk: D) -> Result<Library<D>, Fail> {
     match Library::open(alloc, disk) {

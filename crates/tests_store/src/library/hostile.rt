@@ -1,7 +1,6 @@
 // Disks that nobody formatted so.
-use crate::library::helpers::{
-    Step, bytes_of, disk_of, formatted, opened, recovers, refusal, steps_done,
-};
+use crate::helpers::{bytes_of, disk_of};
+use crate::library::helpers::{Step, formatted, opened, recovers, refusal, steps_done};
 use cc_disk::{FuseDisk, FuseMode, MemoryDisk};
 use cc_library::Library;
 use std::alloc::Global;

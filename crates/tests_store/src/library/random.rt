@@ -1,7 +1,6 @@
 // Disks with random records and random bytes.
-use crate::library::helpers::{
-    Held, bytes_of, disk_of, formatted, next_byte, opened, recovers, refusal,
-};
+use crate::helpers::{bytes_of, disk_of};
+use crate::library::helpers::{Held, formatted, next_byte, opened, recovers, refusal};
 use cc_disk::MemoryDisk;
 use cc_library::Library;
 use std::alloc::Global;

@@ -1,6 +1,7 @@
 // The worked rows of the library.
+use crate::helpers::bytes_of;
 use crate::library::helpers::{
-    Held, Step, bytes_of, does, edits, formatted, holds, opened, recovers, steps_done, word_unit,
+    Held, Step, does, edits, formatted, holds, opened, recovers, steps_done, word_unit,
 };
 use cc_disk::{Disk, FuseDisk, FuseMode, MemoryDisk};
 use cc_library::{Library, Name};
@@ -128,7 +129,7 @@ fn with_a(alloc: Global, passes: u64) -> Result<Library<FuseDisk<MemoryDisk>>, F
     )
 }
 
-// The disk after an Add of `b` whose device calls meet the fuse once so many have passed, and a crash with that choice.
+// The disk after an Add of `b` whose device calls meet the fuse once this many have passed, and a crash with that choice.
 fn torn(alloc: Global, passes: u64, choice: &[u8]) -> Result<MemoryDisk, Fail> {
     let mut library = with_a(alloc, OPENING.saturating_add(passes))?;
     if does(alloc, &mut library, Step::Add(b'b', 2))? != 35 {

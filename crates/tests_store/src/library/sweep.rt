@@ -19,7 +19,7 @@ const STEPS: [Step; 5] = [
     Step::Withdraw(b'b'),
 ];
 
-// What `a` and `b` stand for after so many of the steps.
+// What `a` and `b` stand for after this many of the steps.
 fn map_after(done: usize) -> Held {
     match done {
         0 => (None, None),

@@ -16,7 +16,7 @@ fn right(alloc: Global, text: &str) -> Result<Option<Ltl>, Fail> {
     }
 }
 
-// Whether it is accepted, and the moves between registers are so many, and none has a slot.
+// Whether it is accepted, and the moves between registers are this many, and none has a slot.
 fn has_moves(alloc: Global, text: &str, between: usize) -> Result<bool, Fail> {
     match right(alloc, text)? {
         Some(ltl) => {

@@ -45,7 +45,7 @@ fn more_values_than_registers_are_accepted(rt: HostRuntime) -> Result<(), Fail> 
     Ok(())
 }
 
-// Variables that are passed round in a loop, so many.
+// Variables that are passed round in a loop, this many.
 fn turning(alloc: Global, count: usize) -> Result<Vec<u8>, AllocError> {
     let mut text = Vec::new(alloc);
     put(&mut text, "int main(void){int t=0;")?;

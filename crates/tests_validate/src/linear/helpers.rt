@@ -39,7 +39,7 @@ pub fn linear_of(
     }
 }
 
-/// Whether each function of a text goes through, names itself and its unit, and there are so many.
+/// Whether each function of a text goes through, names itself and its unit, and there are this many.
 pub fn all_go_through(alloc: Global, text: &[u8], functions: usize) -> Result<bool, Fail> {
     let unit = shared_unit(alloc, text)?;
     let mut right = unit.functions() == functions;

@@ -1,3 +1,4 @@
+-- The events so far have led from the state at the beginning to this one.
 use Rattle.cc_core.specs.Run.{Run}
 use Rattle.cc_core.proofs.state.run_events.Given as goal
 

@@ -25,13 +25,13 @@ loop-window-preserved g c =
       fits = omega (arith, long, room);
       reads = λ h. reads_on D.seen D.may_leave D.moment D.left_since c.args.disk.now c.loop-window.disk c.read_record.new.disk (so_far.reads h) (c.read_record.ensures.reads h);
       shown = λ h. subst (λ (l : List ℕ). Shows c.read_record.new.window.offset c.read_record.new.window.bytes.items l) (so_far.reads h).same (c.in_ok-body.ensures.shown h);
-      front = λ h.
+      prefix = λ h.
           let S = D.seen c.args.disk.now in
           let offset = c.args.start + c.loop-window.used in
           let found : (rest : List ℕ) × (drop offset (D.seen c.loop-window.disk) ≡ record_bytes body ++ rest) =
           subst (λ (o : Option (List ℕ)). FindsRecord (drop offset (D.seen c.loop-window.disk)) (c.args.area - c.loop-window.used) (Ok o)) c.in-Some.is (c.in_ok-body.ensures.finds h) in
           let at : drop offset S ≡ record_bytes body ++ found.0 = ap (λ (l : List ℕ). drop offset l) (sym (so_far.reads h).same) ∙ found.1 in
-          record_on S c.args.start c.loop-window.used c.loop-window.bodies.items body found.0 (so_far.front h) at
+          record_on S c.args.start c.loop-window.used c.loop-window.bodies.items body found.0 (so_far.prefix h) at
           ∙ (λ i. records (back i) ++ drop (c.args.start + (c.loop-window.used + (size i + 5))) S);
     }
 
@@ -46,5 +46,5 @@ returns-in_err-body-clause-damaged g c = λ e h bodies ends room.
     let fault : c.in_err-body.field-0.0 ≡ Damaged = cc in
     let found = subst (λ k. FindsRecord (drop offset (D.seen c.loop-window.disk)) left (Err k)) fault (c.in_err-body.ensures.finds h) in
     let same : drop offset (D.seen c.loop-window.disk) ≡ drop offset S = ap (λ (l : List ℕ). drop offset l) (so_far.reads h).same in
-    none_ends S c.args.start c.loop-window.used c.args.area c.loop-window.bodies.items bodies c.requires.is_area.most so_far.taken so_far.fits (so_far.front h)
+    none_ends S c.args.start c.loop-window.used c.args.area c.loop-window.bodies.items bodies c.requires.is_area.most so_far.taken so_far.fits (so_far.prefix h)
     found.0.0 (sym same ∙ found.0.1) (λ body rest is. found.1 body rest (same ∙ is)) ends room

@@ -12,7 +12,7 @@ invariant-loop-window g l = record {
   fits : l.used + 1 ≤ l.area;
   reads : IsTrue g.D.Disk.honest → OnlyReads g.D.Disk.seen g.D.Disk.may_leave g.D.Disk.moment g.D.Disk.left_since l.initial.disk l.disk;
   shown : IsTrue g.D.Disk.honest → Shows l.window.offset l.window.bytes.items (g.D.Disk.seen l.initial.disk);
-  front : IsTrue g.D.Disk.honest → drop l.start (g.D.Disk.seen l.initial.disk) ≡ records l.bodies.items ++ drop (l.start + l.used) (g.D.Disk.seen l.initial.disk);
+  prefix : IsTrue g.D.Disk.honest → drop l.start (g.D.Disk.seen l.initial.disk) ≡ records l.bodies.items ++ drop (l.start + l.used) (g.D.Disk.seen l.initial.disk);
 }
 
 abbrev pub decreases-loop-window : goal.decreases-loop-window

@@ -14,7 +14,8 @@ new-requires c =
     let p = c.args.pair in
     let items = c.in_ok-code.code.items in
     let made : IsMadeOf p.ltl items = subst (λ (l : Ltl). IsMadeOf l items) c.code.ensures.code c.in_ok-code.ensures in
-    let kept : above.IsPair p = subst above.IsPair c.pair.view_is c.pair.invariant in
+    let e = c.code.ensures in
+    let kept : above.IsPair p = record { typed = e.typed; function = c.function-function.ensures.of_unit; ltl = e.ltl; graph = e.graph; calls = e.calls; keeps_up = e.keeps_up } in
     let unit = c.into_parts-unit.ensures.unit in
     let ltl = c.into_parts-unit.ensures.ltl in
     subst (λ (u : parsed.Unit). IsPair (record { unit = u; function = c.function-function.result; ltl = c.into_parts-unit.result.1; code = items })) (sym unit)

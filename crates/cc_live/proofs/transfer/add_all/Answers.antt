@@ -10,9 +10,9 @@ or_assoc : (a b c : Bool) → (a || (b || c)) ≡ ((a || b) || c)
 or_assoc true b c = refl
 or_assoc false b c = refl
 
-one_more : (front more start rs : List ℕ) (i : ℕ) → i < length rs → ((r : ℕ) → holds front r ≡ (among (take i rs) r || holds start r)) → ((r : ℕ) → holds more r ≡ (get_or rs i 0 == r || holds front r))
+one_more : (before more start rs : List ℕ) (i : ℕ) → i < length rs → ((r : ℕ) → holds before r ≡ (among (take i rs) r || holds start r)) → ((r : ℕ) → holds more r ≡ (get_or rs i 0 == r || holds before r))
     → (r : ℕ) → holds more r ≡ (among (take (i + 1) rs) r || holds start r)
-one_more front more start rs i lt so_far put r =
+one_more before more start rs i lt so_far put r =
     let x = get_or rs i 0 in
     put r
     ∙ (ap (λ b. x == r || b) (so_far r)
@@ -21,9 +21,9 @@ one_more front more start rs i lt so_far put r =
 
 pub loop-register-preserved : goal.loop-register-preserved
 loop-register-preserved c =
-    one_more c.loop-register.front c.insert.new.self c.args.front.now c.args.registers.now c.loop-register.register-index c.loop-register-test.true c.loop-register.invariant c.in_ok-insert.ensures.added
+    one_more c.loop-register.before c.insert.new.self c.args.before.now c.args.registers.now c.loop-register.register-index c.loop-register-test.true c.loop-register.invariant c.in_ok-insert.ensures.added
 
 pub returns : goal.returns
 returns c r =
     c.loop-register.invariant r
-    ∙ ap (λ ls. among ls r || holds c.args.front.now r) (take_all c.loop-register.register-index c.args.registers.now c.loop-register-test.false)
+    ∙ ap (λ ls. among ls r || holds c.args.before.now r) (take_all c.loop-register.register-index c.args.registers.now c.loop-register-test.false)

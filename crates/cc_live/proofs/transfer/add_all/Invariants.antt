@@ -5,4 +5,4 @@ use Rattle.cc_rows.specs.Rows.{holds}
 use Rattle.cc_live.proofs.transfer.add_all.Given as goal
 
 abbrev pub invariant-loop-register : goal.invariant-loop-register
-invariant-loop-register l = (r : ℕ) → holds l.front r ≡ (among (take l.register-index l.registers) r || holds l.initial.front r)
+invariant-loop-register l = (r : ℕ) → holds l.before r ≡ (among (take l.register-index l.registers) r || holds l.initial.before r)

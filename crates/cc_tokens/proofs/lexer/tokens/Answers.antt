@@ -1,7 +1,7 @@
 use Rattle.std.proofs.Common.{arith, rules, ◌++◌, ◌∷◌, [], ◌≡◌, sym, subst}
 use Rattle.cc_tokens.specs.Tokens.{IsTokenRefusal}
 use Rattle.cc_tokens.specs.Reading.{FoundBefore}
-use Rattle.cc_tokens.proofs.Found.{flaw_refused}
+use Rattle.cc_tokens.proofs.Found.{error_refused}
 use Rattle.cc_tokens.proofs.lexer.tokens.Goals as goal
 
 pub loop-at-preserved-in-Token : goal.loop-at-preserved-in-Token
@@ -13,7 +13,7 @@ loop-at-preserved-in-Token c =
 pub loop-at-preserved : goal.loop-at-preserved
 loop-at-preserved c = c.in-End.ensures.found c.loop-at.found.items c.loop-at.invariant
 
-pub returns-in-Flawed-clause-refused : goal.returns-in-Flawed-clause-refused
-returns-in-Flawed-clause-refused c =
+pub returns-in-Error-clause-refused : goal.returns-in-Error-clause-refused
+returns-in-Error-clause-refused c =
     let text = c.args.text.now in
-    subst (IsTokenRefusal text) (sym c.fault_at.ensures) (flaw_refused text c.in-Flawed.flaw c.in-Flawed.at (omega arith) (c.in-Flawed.ensures.found c.loop-at.found.items c.loop-at.invariant))
+    subst (IsTokenRefusal text) (sym c.fault_at.ensures) (error_refused text c.in-Error.error c.in-Error.at (omega arith) (c.in-Error.ensures.found c.loop-at.found.items c.loop-at.invariant))

@@ -1,12 +1,12 @@
 use Rattle.std.proofs.Common.{◌≡◌, drop}
 use Rattle.cc_syntax.specs.internal.Arguments.{expressions_of}
 use Rattle.cc_typing.specs.internal.Findings.{after}
-use Rattle.cc_typing.specs.Rules.{argument_offences, called_in_all}
+use Rattle.cc_typing.specs.Rules.{argument_errors, called_in_all}
 use Rattle.cc_typing.specs.Scope.{in_scope}
 use Rattle.cc_typing.proofs.expressions.+expressions.Given as goal
 
 -- what is found so far, and then in the arguments that are left, is what is found in all
 abbrev pub invariant-arguments-loop-tree : goal.invariant-arguments-loop-tree
 invariant-arguments-loop-tree l =
-    after l.findings (argument_offences (in_scope l.scope) (expressions_of (drop l.tree-index l.trees))) (called_in_all (expressions_of (drop l.tree-index l.trees)))
-    ≡ after l.fn.findings (argument_offences (in_scope l.scope) (expressions_of l.trees)) (called_in_all (expressions_of l.trees))
+    after l.findings (argument_errors (in_scope l.scope) (expressions_of (drop l.tree-index l.trees))) (called_in_all (expressions_of (drop l.tree-index l.trees)))
+    ≡ after l.fn.findings (argument_errors (in_scope l.scope) (expressions_of l.trees)) (called_in_all (expressions_of l.trees))

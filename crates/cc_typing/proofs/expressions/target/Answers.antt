@@ -2,7 +2,7 @@
 use Rattle.std.proofs.Common.{[], ap, sym, ◌∙◌}
 use Rattle.cc_syntax.specs.Erase.{name_tree, target_tree, expression_tree}
 use Rattle.cc_syntax.specs.Tree.{AtElement}
-use Rattle.cc_typing.specs.Rules.{array_offences, value_offences, target_offences, called_in, called_in_target}
+use Rattle.cc_typing.specs.Rules.{array_errors, value_errors, target_errors, called_in, called_in_target}
 use Rattle.cc_typing.specs.Scope.{found, in_scope}
 use Rattle.cc_typing.proofs.Parts.{two}
 use Rattle.cc_typing.proofs.expressions.target.Goals as goal
@@ -12,7 +12,7 @@ returns-in-Element c =
     let bs = in_scope c.args.scope.now in
     let x = c.in-Element.name in
     let index = expression_tree c.deref.result.now in
-    two c.args.findings.now c.array.new.findings c.value.new.findings (array_offences (found bs x.bytes.items) x.at) (value_offences bs index) (target_offences bs (target_tree c.args.target.now))
+    two c.args.findings.now c.array.new.findings c.value.new.findings (array_errors (found bs x.bytes.items) x.at) (value_errors bs index) (target_errors bs (target_tree c.args.target.now))
     [] (called_in index) (called_in_target (target_tree c.args.target.now)) c.array.ensures c.value.ensures
-    (ap (λ a. target_offences bs (target_tree a)) c.in-Element.is ∙ ap (λ e. target_offences bs (AtElement (name_tree x) (expression_tree e))) (sym c.deref.ensures))
+    (ap (λ a. target_errors bs (target_tree a)) c.in-Element.is ∙ ap (λ e. target_errors bs (AtElement (name_tree x) (expression_tree e))) (sym c.deref.ensures))
     (ap (λ a. called_in_target (target_tree a)) c.in-Element.is ∙ ap (λ e. called_in_target (AtElement (name_tree x) (expression_tree e))) (sym c.deref.ensures))

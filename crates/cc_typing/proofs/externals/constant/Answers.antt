@@ -3,7 +3,7 @@ use Rattle.std.proofs.Common.{◌≡◌, ◌∙◌, [], ap, sym}
 use Rattle.std.specs.Prelude.{not, is_some}
 use Rattle.cc_syntax.specs.Erase.{constant_tree, expression_tree}
 use Rattle.cc_typing.specs.internal.Findings.{after}
-use Rattle.cc_typing.specs.Rules.{broken_if, value_offences, called_in}
+use Rattle.cc_typing.specs.Rules.{broken_if, value_errors, called_in}
 use Rattle.cc_typing.specs.Scope.{in_scope}
 use Rattle.cc_typing.specs.Types.{constant_word}
 use Rattle.cc_typing.specs.declared.rule.Rule.TheVariants.{WrongKind}
@@ -19,5 +19,5 @@ returns c =
     let wrong : c.is_none.result ≡ not (is_some (constant_word k)) = not_not c.is_none.result ∙ ap not (sym c.is_none.ensures) ∙ ap (λ w. not (is_some w)) c.constant_word.ensures in
     c.note_if.ensures ∙ ap (λ b. after c.value.new.findings (broken_if b WrongKind k.at) []) wrong
     ∙ ap (λ g. after g (broken_if (not (is_some (constant_word k))) WrongKind k.at) [])
-    (c.value.ensures ∙ ap (λ e. after f (value_offences bs (expression_tree e)) (called_in (expression_tree e))) c.deref.ensures)
-    ∙ after_noted f (value_offences bs k.expr) (broken_if (not (is_some (constant_word k))) WrongKind k.at) (called_in k.expr)
+    (c.value.ensures ∙ ap (λ e. after f (value_errors bs (expression_tree e)) (called_in (expression_tree e))) c.deref.ensures)
+    ∙ after_noted f (value_errors bs k.expr) (broken_if (not (is_some (constant_word k))) WrongKind k.at) (called_in k.expr)

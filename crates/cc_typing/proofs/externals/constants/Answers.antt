@@ -1,7 +1,7 @@
 -- Value by value.
 use Rattle.std.proofs.Common.{◌+◌, ap, drop}
 use Rattle.cc_syntax.specs.Erase.{constant_tree, constant_trees}
-use Rattle.cc_typing.specs.Rules.{constant_offences, constants_offences, called_in_constant, called_in_constants}
+use Rattle.cc_typing.specs.Rules.{constant_errors, constants_errors, called_in_constant, called_in_constants}
 use Rattle.cc_typing.specs.Scope.{in_scope}
 use Rattle.cc_typing.proofs.Parts.{next}
 use Rattle.cc_typing.proofs.SameTypes.{drop-item}
@@ -13,5 +13,5 @@ loop-tree-preserved c =
     let left = drop-item c.args.trees.now c.loop-tree.tree-index c.tree-item.result c.loop-tree-test.true c.tree-item.is in
     let tree = constant_tree c.tree-item.result in
     let rest = constant_trees (drop (c.loop-tree.tree-index + 1) c.args.trees.now) in
-    next c.loop-tree.findings c.constant.new.findings _ (constant_offences bs tree) (constants_offences bs rest) _ (called_in_constant tree) (called_in_constants rest) _ c.loop-tree.invariant
-    (ap (λ l. constants_offences bs (constant_trees l)) left) (ap (λ l. called_in_constants (constant_trees l)) left) c.constant.ensures
+    next c.loop-tree.findings c.constant.new.findings _ (constant_errors bs tree) (constants_errors bs rest) _ (called_in_constant tree) (called_in_constants rest) _ c.loop-tree.invariant
+    (ap (λ l. constants_errors bs (constant_trees l)) left) (ap (λ l. called_in_constants (constant_trees l)) left) c.constant.ensures

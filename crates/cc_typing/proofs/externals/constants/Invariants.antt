@@ -1,12 +1,12 @@
 use Rattle.std.proofs.Common.{◌≡◌, drop}
 use Rattle.cc_syntax.specs.Erase.{constant_trees}
 use Rattle.cc_typing.specs.internal.Findings.{after}
-use Rattle.cc_typing.specs.Rules.{constants_offences, called_in_constants}
+use Rattle.cc_typing.specs.Rules.{constants_errors, called_in_constants}
 use Rattle.cc_typing.specs.Scope.{in_scope}
 use Rattle.cc_typing.proofs.externals.constants.Given as goal
 
 -- what is found so far, and then in the values that are left, is what is found in all
 abbrev pub invariant-loop-tree : goal.invariant-loop-tree
 invariant-loop-tree l =
-    after l.findings (constants_offences (in_scope l.scope) (constant_trees (drop l.tree-index l.trees))) (called_in_constants (constant_trees (drop l.tree-index l.trees)))
-    ≡ after l.fn.findings (constants_offences (in_scope l.scope) (constant_trees l.trees)) (called_in_constants (constant_trees l.trees))
+    after l.findings (constants_errors (in_scope l.scope) (constant_trees (drop l.tree-index l.trees))) (called_in_constants (constant_trees (drop l.tree-index l.trees)))
+    ≡ after l.fn.findings (constants_errors (in_scope l.scope) (constant_trees l.trees)) (called_in_constants (constant_trees l.trees))

@@ -3,7 +3,7 @@ use Rattle.std.proofs.Common.{◌≡◌, ◌∙◌, ◌∷◌, [], false, ap}
 use Rattle.cc_syntax.specs.Erase.{signature_tree, statements_of, object_trees, external_tree}
 use Rattle.cc_typing.specs.Bindings.{file_level, file_of}
 use Rattle.cc_typing.specs.internal.Findings.{Found, after, with_before}
-use Rattle.cc_typing.specs.Rules.{objects_offences, statements_offences, called_in_objects, called_in_statements}
+use Rattle.cc_typing.specs.Rules.{objects_errors, statements_errors, called_in_objects, called_in_statements}
 use Rattle.cc_typing.specs.Scope.{has_name, with_objects}
 use Rattle.cc_typing.proofs.FileScopes.{declaration-scope, declaration-found, definition-scope, definition-found, objects-scope, objects-found}
 use Rattle.cc_typing.proofs.externals.external.Goals as goal
@@ -37,7 +37,7 @@ returns-in_ok-mark_before-in-Definition-clause-found c =
     c.args.findings.now c.signature-in-Definition.new.findings c.note_if.new.self c.all_statements.new.findings c.mark_before.new.self s (statements_of c.in-Definition.body.items) c.stands_before-again.result
     (ap external_tree c.in-Definition.is) c.in_ok-signature-in-Definition.ensures.scope named c.in_ok-signature-in-Definition.ensures.found c.note_if.ensures
     (c.in_ok-all_statements-in-Definition.ensures.found
-    ∙ ap (λ l. after c.note_if.new.self (statements_offences (statements_of l) (record { result = s.result; in_loop = false }) c.signature-in-Definition.new.scope) (called_in_statements (statements_of l))) c.as_slice.ensures.value)
+    ∙ ap (λ l. after c.note_if.new.self (statements_errors (statements_of l) (record { result = s.result; in_loop = false }) c.signature-in-Definition.new.scope) (called_in_statements (statements_of l))) c.as_slice.ensures.value)
     (c.in_ok-mark_before-in-Definition.ensures ∙ ap (λ x. with_before c.all_statements.new.findings (x ∷ [])) c.as_slice-name.ensures.value)
 
 pub returns-in_ok-objects-in-Objects-clause-scope :
@@ -51,4 +51,4 @@ pub returns-in_ok-objects-in-Objects-clause-found :
 returns-in_ok-objects-in-Objects-clause-found c =
     objects-found c.args.scope.now c.args.findings.now.functions.before (external_tree c.args.tree.now) c.args.findings.now c.objects.new.findings c.in-Objects.scalar (object_trees c.in-Objects.declared.items) (ap external_tree c.in-Objects.is)
     (c.in_ok-objects-in-Objects.ensures.found
-    ∙ ap (λ l. after c.args.findings.now (objects_offences c.in-Objects.scalar (object_trees l) (file_of c.args.scope.now)) (called_in_objects (object_trees l))) c.as_slice-in-Objects.ensures.value)
+    ∙ ap (λ l. after c.args.findings.now (objects_errors c.in-Objects.scalar (object_trees l) (file_of c.args.scope.now)) (called_in_objects (object_trees l))) c.as_slice-in-Objects.ensures.value)

@@ -4,7 +4,7 @@ use Rattle.cc_syntax.specs.Erase.{expression_tree, optional_tree, optional_actio
 use Rattle.cc_syntax.specs.Tree.{If, IfElse, While, DoWhile, For}
 use Rattle.cc_typing.specs.internal.Findings.{after, around_of}
 use Rattle.cc_typing.specs.Scope.{Visible, in_scope, opened}
-use Rattle.cc_typing.specs.Rules.{value_offences, statement_offences, statements_offences, called_in, called_in_statement, called_in_statements}
+use Rattle.cc_typing.specs.Rules.{value_errors, statement_errors, statements_errors, called_in, called_in_statement, called_in_statements}
 use Rattle.cc_typing.proofs.SameTypes.{drop-item}
 use Rattle.cc_typing.proofs.Trees.{statement_tree-block, statement_tree-if, statement_tree-if_else, statement_tree-while, statement_tree-do_while, statement_tree-for}
 use Rattle.cc_typing.proofs.Walks.{on_ok, scope_behind_outer, scope_behind_beginning_outer, closes, closed-is, Walking, Walking-next, if-found, if_else-found, while-found, do_while-found, for-found}
@@ -60,8 +60,8 @@ statement-returns-in-Block-clause-found t c =
     let a = around_of c.args.around in
     let is = ap statement_tree c.in-Block.is ∙ statement_tree-block c.in-Block.all in
     on_ok c.block.result
-    (λ e. e ∙ ap (λ l. after f (statements_offences (statements_of l) a (opened v)) (called_in_statements (statements_of l))) c.deref.ensures.value
-    ∙ sym (ap (λ u. after f (statement_offences u a v) (called_in_statement u)) is))
+    (λ e. e ∙ ap (λ l. after f (statements_errors (statements_of l) a (opened v)) (called_in_statements (statements_of l))) c.deref.ensures.value
+    ∙ sym (ap (λ u. after f (statement_errors u a v) (called_in_statement u)) is))
     c.block.ensures.found
 
 pub statement-returns-in-If-clause-found : goal.statement-returns-in-If-clause-found
@@ -83,7 +83,7 @@ statement-returns-in_ok-inner_statement-in-IfElse-clause-found t c =
     (λ e. if_else-found a c.args.scope.now (statement_tree c.args.tree.now) c.args.findings.now c.value-in-IfElse.new.findings c.inner_statement-in-IfElse.new.findings c.inner_statement-in-IfElse-2.new.findings
     (expression_tree c.deref-in-IfElse.result.now) (statement_tree c.in-IfElse.held.value) (statement_tree c.in-IfElse.other.value) (statement_tree c.deref-in-IfElse-2.result.now) other is
     (ap statement_tree c.deref-in-IfElse-2.ensures) (ap statement_tree c.deref-in-IfElse-3.ensures) c.value-in-IfElse.ensures c.in_ok-inner_statement-in-IfElse.ensures.found
-    (e ∙ ap (λ v. after c.inner_statement-in-IfElse.new.findings (statement_offences other a (opened v)) (called_in_statement other)) c.in_ok-inner_statement-in-IfElse.ensures.scope))
+    (e ∙ ap (λ v. after c.inner_statement-in-IfElse.new.findings (statement_errors other a (opened v)) (called_in_statement other)) c.in_ok-inner_statement-in-IfElse.ensures.scope))
     c.inner_statement-in-IfElse-2.ensures.found
 
 pub statement-returns-in-While-clause-found : goal.statement-returns-in-While-clause-found
@@ -102,7 +102,7 @@ statement-returns-in_ok-inner_statement-in-DoWhile-clause-found t c =
     do_while-found (around_of c.args.around) c.args.scope.now (statement_tree c.args.tree.now) c.args.findings.now (around_of c.within_loop-in-DoWhile.result) c.within_loop-in-DoWhile.ensures
     c.inner_statement-in-DoWhile.new.findings c.value-in-DoWhile.new.findings
     test (statement_tree c.in-DoWhile.body.value) (statement_tree c.deref-in-DoWhile.result.now) is (ap statement_tree c.deref-in-DoWhile.ensures) c.in_ok-inner_statement-in-DoWhile.ensures.found
-    (c.value-in-DoWhile.ensures ∙ ap (λ v. after c.inner_statement-in-DoWhile.new.findings (value_offences (in_scope v) test) (called_in test)) c.in_ok-inner_statement-in-DoWhile.ensures.scope)
+    (c.value-in-DoWhile.ensures ∙ ap (λ v. after c.inner_statement-in-DoWhile.new.findings (value_errors (in_scope v) test) (called_in test)) c.in_ok-inner_statement-in-DoWhile.ensures.scope)
 
 pub statement-returns-in-For-clause-found : goal.statement-returns-in-For-clause-found
 statement-returns-in-For-clause-found t c =
@@ -115,6 +115,6 @@ statement-returns-in-For-clause-found t c =
     let is = ap statement_tree c.in-For.is ∙ statement_tree-for c.in-For.first c.in-For.condition c.in-For.following c.in-For.body
     ∙ ap (λ b. For (beginning_tree b) test next (statement_tree c.in-For.body.value)) (sym c.deref-in-For.ensures) in
     on_ok c.for_statement.result
-    (λ e. e ∙ ap (λ s. after f (statement_offences (For first test next (statement_tree s)) a v) (called_in_statement (For first test next (statement_tree s)))) c.deref-in-For-2.ensures
-    ∙ sym (ap (λ u. after f (statement_offences u a v) (called_in_statement u)) is))
+    (λ e. e ∙ ap (λ s. after f (statement_errors (For first test next (statement_tree s)) a v) (called_in_statement (For first test next (statement_tree s)))) c.deref-in-For-2.ensures
+    ∙ sym (ap (λ u. after f (statement_errors u a v) (called_in_statement u)) is))
     c.for_statement.ensures.found

@@ -9,7 +9,7 @@ use Rattle.cc_validate.proofs.Carried.{with_none, with_more, in_order_more}
 use Rattle.cc_validate.proofs.operands.put_in_order.Goals as goal
 
 pub loop-argument-init : goal.loop-argument-init
-loop-argument-init c = record { place = refl; so_far = with_none c.args.front.now }
+loop-argument-init c = record { place = refl; so_far = with_none c.args.before.now }
 
 pub loop-argument-preserved : goal.loop-argument-preserved
 loop-argument-preserved c =
@@ -23,11 +23,11 @@ loop-argument-preserved c =
     ap (in_order 10) (take_more args i 0 t) ∙ (in_order_more 10 (take i args) a ∙ ap (λ n. in_order 10 (take i args) ++ equation a (Register n) ∷ []) is) in
     record {
       place = (let p = c.loop-argument.invariant.place in omega (arith, p));
-      so_far = subst (λ (xs : List Equation). AreWith xs c.args.front.now c.put.new.front) (sym more)
-          (with_more (in_order 10 (take i args)) c.args.front.now c.loop-argument.front c.put.new.front (equation a (Register c.numbered.result)) c.loop-argument.invariant.so_far c.in_ok-put.ensures);
+      so_far = subst (λ (xs : List Equation). AreWith xs c.args.before.now c.put.new.before) (sym more)
+          (with_more (in_order 10 (take i args)) c.args.before.now c.loop-argument.before c.put.new.before (equation a (Register c.numbered.result)) c.loop-argument.invariant.so_far c.in_ok-put.ensures);
     }
 
 pub returns : goal.returns
 returns c =
-    subst (λ (xs : List ℕ). AreWith (in_order 10 xs) c.args.front.now c.loop-argument.front) (take_all c.loop-argument.argument-index c.args.arguments.now (let t = c.loop-argument-test.false in omega (arith, t)))
+    subst (λ (xs : List ℕ). AreWith (in_order 10 xs) c.args.before.now c.loop-argument.before) (take_all c.loop-argument.argument-index c.args.arguments.now (let t = c.loop-argument-test.false in omega (arith, t)))
     c.loop-argument.invariant.so_far

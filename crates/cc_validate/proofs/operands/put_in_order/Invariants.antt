@@ -7,5 +7,5 @@ use Rattle.cc_validate.proofs.operands.put_in_order.Given as goal
 abbrev pub invariant-loop-argument : goal.invariant-loop-argument
 invariant-loop-argument l = record {
   place : l.place ≡ 10 + l.argument-index;
-  so_far : AreWith (in_order 10 (take l.argument-index l.arguments)) l.initial.front l.front;
+  so_far : AreWith (in_order 10 (take l.argument-index l.arguments)) l.initial.before l.before;
 }

@@ -81,7 +81,7 @@ returns-in-Err-clause-refused g c =
     let stops = rw c.in-Err.is at c.edited-number.ensures.refused in
     let pushed : c.push.new.self.items ≡ c.loop-edit.numbers.items ++ c.edited-number.result.0 ∷ [] = rw c.unwrap.ensures at c.push.ensures.items in
     inr (record {
-      front = c.loop-edit.yielded;
+      prefix = c.loop-edit.yielded;
       edit = c.in-Some.edit;
       behind = c.next.new.self.rest.items;
       earlier = c.loop-edit.numbers.items;

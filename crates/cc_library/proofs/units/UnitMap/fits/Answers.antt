@@ -10,7 +10,7 @@ use Rattle.cc_library.specs.Body.{body_of, unit_fields}
 use Rattle.cc_library.specs.Compact.{adds, bodies_of, compacted}
 use Rattle.cc_library.proofs.Sizes.{body_long}
 use Rattle.cc_library.proofs.Tables.{entries-map}
-use Rattle.cc_library.proofs.Compacting.{room_front, room_push}
+use Rattle.cc_library.proofs.Compacting.{room_prefix, room_push}
 use Rattle.cc_library.proofs.units.UnitMap.fits.Goals as goal
 
 pub loop-name-init : goal.loop-name-init
@@ -53,5 +53,5 @@ returns-then-area-room c =
     ) in
     let all : (inv.0 ++ e ∷ []) ++ c.next.new.self ≡ map.entries c.args.self.now = append_assoc inv.0 (e ∷ []) c.next.new.self ∙ ap (λ it. inv.0 ++ it) (sym c.in-Some.ensures.steps) ∙ inv.1 in
     let more : room_of (bodies_of (adds (inv.0 ++ e ∷ []))) ≤ room_of (compacted c.args.self.now) =
-    subst (λ (es : List (List ℕ × StoredUnit)). room_of (bodies_of (adds (inv.0 ++ e ∷ []))) ≤ room_of (bodies_of (adds es))) all (room_front (inv.0 ++ e ∷ []) c.next.new.self) in
+    subst (λ (es : List (List ℕ × StoredUnit)). room_of (bodies_of (adds (inv.0 ++ e ∷ []))) ≤ room_of (bodies_of (adds es))) all (room_prefix (inv.0 ++ e ∷ []) c.next.new.self) in
     (λ yes. absurd (cc), λ le. absurd (omega (arith, le, more, long, inv.2, room_push inv.0 e, c.if-area-room.true)))

@@ -1,6 +1,6 @@
 use Rattle.std.proofs.Common.{rules, arith, sym, subst, ◌<◌, length, All}
 use Rattle.std.proofs.lemmas.List.Elements.{All-push}
-use Rattle.cc_linear.proofs.Settling.{own_ends, are_ends, ends_inside, all_front, all_last}
+use Rattle.cc_linear.proofs.Settling.{own_ends, are_ends, ends_inside, all_prefix, all_last}
 use Rattle.cc_linear.proofs.tracing.ends.chain_ends.Goals as goal
 
 pub loop-start-init : goal.loop-start-init
@@ -26,7 +26,7 @@ pub loop-label-2-preserved : goal.loop-label-2-preserved
 loop-label-2-preserved c = record {
   ends_long = c.settle.ensures.ends_long;
   known_long = c.settle.ensures.known_long;
-  path = all_front (length c.args.next.now) c.pop.new.self.items c.in-Some.label (subst (All (λ x. x < length c.args.next.now)) c.in-Some.ensures.items c.loop-label-2.invariant.path);
+  path = all_prefix (length c.args.next.now) c.pop.new.self.items c.in-Some.label (subst (All (λ x. x < length c.args.next.now)) c.in-Some.ensures.items c.loop-label-2.invariant.path);
   sound = c.settle.ensures.sound;
 }
 

@@ -2,7 +2,7 @@
 use Rattle.std.proofs.Common.{◌≡◌, sym, subst, IfOk}
 use Rattle.cc_flow.specs.Lattice.{Equivalent}
 use Rattle.cc_rtl.specs.Code.{node_of}
-use Rattle.cc_live.specs.internal.Facts.{Below, nothing, in_front, carries}
+use Rattle.cc_live.specs.internal.Facts.{Below, nothing, live_before, carries}
 use Rattle.cc_live.proofs.Nodes.{carries_at, carries_past, least_same, same_both_ways}
 use Rattle.cc_live.proofs.transfer.CodeTransferRegisterSet.apply.Goals as goal
 
@@ -15,5 +15,5 @@ pub returns-in-Some : goal.returns-in-Some
 returns-in-Some c =
     let code = c.args.self.now in
     let n = node_of c.in-Some.node.now in
-    subst (λ x. IfOk c.in_front.result (λ made. Equivalent Below made x)) (sym (carries_at code.strong code.rtl.now.nodes c.args.node (record { label = c.args.node; node = n }) c.args.facts.now c.in-Some.ensures))
-    (same_both_ways c.in_front.result (in_front code.strong n c.args.facts.now) c.in_front.ensures)
+    subst (λ x. IfOk c.live_before.result (λ made. Equivalent Below made x)) (sym (carries_at code.strong code.rtl.now.nodes c.args.node (record { label = c.args.node; node = n }) c.args.facts.now c.in-Some.ensures))
+    (same_both_ways c.live_before.result (live_before code.strong n c.args.facts.now) c.live_before.ensures)

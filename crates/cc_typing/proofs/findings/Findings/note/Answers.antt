@@ -1,4 +1,4 @@
--- One offence more.
+-- One error more.
 use Rattle.std.proofs.Common.{[], ◌∙◌, Some, ap}
 use Rattle.cc_typing.specs.internal.Findings.{Found, after}
 use Rattle.cc_typing.specs.Rules.{broken}

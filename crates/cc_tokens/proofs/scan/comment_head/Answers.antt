@@ -1,7 +1,7 @@
 use Rattle.std.proofs.Common.{arith, drop, length-drop}
 use Rattle.std.proofs.lemmas.List.{take_rest}
 use Rattle.cc_tokens.proofs.Loops.{close_fits}
-use Rattle.cc_tokens.proofs.scan.comment_front.Goals as goal
+use Rattle.cc_tokens.proofs.scan.comment_head.Goals as goal
 
 pub comment_of-requires : goal.comment_of-requires
 comment_of-requires c =

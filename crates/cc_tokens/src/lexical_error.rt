@@ -2,7 +2,7 @@
 
 /// What can stand in a text where neither white space nor a comment nor a token begins.
 #[derive(Clone, Copy)]
-pub enum Flaw {
+pub enum LexicalError {
     /// A byte that begins no token, or a line splice in a comment.
     BadByte,
     /// A comment that is never closed.

@@ -2,7 +2,7 @@
 use Rattle.std.proofs.Common.{◌∙◌}
 use Rattle.cc_syntax.specs.Erase.{external_trees}
 use Rattle.cc_typing.proofs.Verdict.{first-are, undefined-are}
-use Rattle.cc_typing.proofs.checking.first_offences.Goals as goal
+use Rattle.cc_typing.proofs.checking.first_errors.Goals as goal
 
 pub returns-clause-first : goal.returns-clause-first
 returns-clause-first c =

@@ -1,4 +1,4 @@
--- Names compare as the numbers of their fronts do, where these differ.
+-- Names compare as the numbers of their prefixes do, where these differ.
 use Rattle.std.proofs.Common.{◌≡◌, ℕ, zero, suc, ◌+◌, ◌*◌, ◌<◌, ◌≤◌, List, [], ◌∷◌, get_or, drop, length, Bool, true, false, ◌&&◌, Ordering, Less, Equal, Greater, inl, inr, refl, ap, ◌∙◌, subst, arith}
 use Rattle.std.proofs.lemmas.Bool.{leb-true, eqb-true}
 use Rattle.std.specs.Prelude.{◌⊎◌, ◌||◌, ◌==◌, nat_le, nat_lt}
@@ -8,28 +8,28 @@ use Rattle.std.specs.Cmp.{ranks, nat_cmp_is}
 use Rattle.std.specs.Cmp.Lexicographic.{slice_cmp}
 use Rattle.cc_library.specs.Name.{is_name, is_name_byte, is_small_letter}
 use Rattle.cc_library.specs.Body.{AreBelow}
-use Rattle.cc_library.specs.internal.Front.{front_number}
+use Rattle.cc_library.specs.internal.Prefix.{prefix_number}
 use Rattle.cc_library.proofs.Fields.{both_true}
 
--- ---- which number a front is
+-- ---- which number a prefix is
 
 -- one byte further
-at_byte : (a n k : ℕ) (bytes : List ℕ) → front_number a (suc n) (drop k bytes) ≡ front_number (a * 256 + get_or bytes k 0) n (drop (suc k) bytes)
-unfolding front_number
-at_byte a n zero [] = ap (λ (m : ℕ). front_number m n []) (omega arith)
+at_byte : (a n k : ℕ) (bytes : List ℕ) → prefix_number a (suc n) (drop k bytes) ≡ prefix_number (a * 256 + get_or bytes k 0) n (drop (suc k) bytes)
+unfolding prefix_number
+at_byte a n zero [] = ap (λ (m : ℕ). prefix_number m n []) (omega arith)
 at_byte a n zero (x ∷ bytes) = refl
-at_byte a n (suc k) [] = ap (λ (m : ℕ). front_number m n []) (omega arith)
+at_byte a n (suc k) [] = ap (λ (m : ℕ). prefix_number m n []) (omega arith)
 at_byte a n (suc k) (x ∷ bytes) = at_byte a n k bytes
 
-ended : (a : ℕ) (bytes : List ℕ) → front_number a 0 bytes ≡ a
-unfolding front_number
+ended : (a : ℕ) (bytes : List ℕ) → prefix_number a 0 bytes ≡ a
+unfolding prefix_number
 ended a bytes = refl
 
--- ---- how two fronts compare
+-- ---- how two prefixes compare
 
 -- a larger number so far stays larger, whatever stands behind it
-stays : (a b n : ℕ) (xs ys : List ℕ) → a < b → AreBelow 256 xs → front_number a n xs < front_number b n ys
-unfolding front_number
+stays : (a b n : ℕ) (xs ys : List ℕ) → a < b → AreBelow 256 xs → prefix_number a n xs < prefix_number b n ys
+unfolding prefix_number
 stays a b zero xs ys lt below = lt
 stays a b (suc n) [] [] lt below = stays (a * 256) (b * 256) n [] [] (omega (arith, lt)) tt
 stays a b (suc n) [] (y ∷ ys) lt below = stays (a * 256) (b * 256 + y) n [] ys (omega (arith, lt)) tt
@@ -37,46 +37,46 @@ stays a b (suc n) (x ∷ xs) [] lt below = stays (a * 256 + x) (b * 256) n xs []
 stays a b (suc n) (x ∷ xs) (y ∷ ys) lt below = stays (a * 256 + x) (b * 256 + y) n xs ys (omega (arith, lt, below.0)) below.1
 
 -- no bytes are the least
-least : (a n : ℕ) (xs : List ℕ) → front_number a n [] ≤ front_number a n xs
-unfolding front_number
+least : (a n : ℕ) (xs : List ℕ) → prefix_number a n [] ≤ prefix_number a n xs
+unfolding prefix_number
 least a zero xs = omega arith
 least a (suc n) [] = omega arith
-least a (suc n) (zero ∷ xs) = subst (λ (m : ℕ). front_number (a * 256) n [] ≤ front_number m n xs) (omega arith) (least (a * 256) n xs)
+least a (suc n) (zero ∷ xs) = subst (λ (m : ℕ). prefix_number (a * 256) n [] ≤ prefix_number m n xs) (omega arith) (least (a * 256) n xs)
 least a (suc n) (suc x ∷ xs) = omega (arith, stays (a * 256) (a * 256 + suc x) n [] xs (omega arith) tt)
 
 -- by how the first two bytes compare
 by_first : (a n x y : ℕ) (xs ys : List ℕ) (o : Ordering) → MatchOrdering o (x < y) (x ≡ y) (y < x) → x < 256 → y < 256 → AreBelow 256 xs → AreBelow 256 ys
-    → (x ≡ y → MatchOrdering (slice_cmp nat_cmp xs ys) (front_number (a * 256 + x) n xs < front_number (a * 256 + y) n ys) (front_number (a * 256 + x) n xs ≡ front_number (a * 256 + y) n ys)
-    (front_number (a * 256 + y) n ys < front_number (a * 256 + x) n xs))
-    → MatchOrdering (ordering_then o (slice_cmp nat_cmp xs ys)) (front_number (a * 256 + x) n xs < front_number (a * 256 + y) n ys) (front_number (a * 256 + x) n xs ≡ front_number (a * 256 + y) n ys)
-    (front_number (a * 256 + y) n ys < front_number (a * 256 + x) n xs)
+    → (x ≡ y → MatchOrdering (slice_cmp nat_cmp xs ys) (prefix_number (a * 256 + x) n xs < prefix_number (a * 256 + y) n ys) (prefix_number (a * 256 + x) n xs ≡ prefix_number (a * 256 + y) n ys)
+    (prefix_number (a * 256 + y) n ys < prefix_number (a * 256 + x) n xs))
+    → MatchOrdering (ordering_then o (slice_cmp nat_cmp xs ys)) (prefix_number (a * 256 + x) n xs < prefix_number (a * 256 + y) n ys) (prefix_number (a * 256 + x) n xs ≡ prefix_number (a * 256 + y) n ys)
+    (prefix_number (a * 256 + y) n ys < prefix_number (a * 256 + x) n xs)
 by_first a n x y xs ys Less m small small2 below below2 same = stays (a * 256 + x) (a * 256 + y) n xs ys (omega (arith, m)) below
 by_first a n x y xs ys Equal m small small2 below below2 same = same m
 by_first a n x y xs ys Greater m small small2 below below2 same = stays (a * 256 + y) (a * 256 + x) n ys xs (omega (arith, m)) below2
 
-fits : (a n : ℕ) (xs ys : List ℕ) → AreBelow 256 xs → AreBelow 256 ys → (front_number a n xs ≡ front_number a n ys → ⊥)
-    → MatchOrdering (slice_cmp nat_cmp xs ys) (front_number a n xs < front_number a n ys) (front_number a n xs ≡ front_number a n ys) (front_number a n ys < front_number a n xs)
-unfolding front_number
+fits : (a n : ℕ) (xs ys : List ℕ) → AreBelow 256 xs → AreBelow 256 ys → (prefix_number a n xs ≡ prefix_number a n ys → ⊥)
+    → MatchOrdering (slice_cmp nat_cmp xs ys) (prefix_number a n xs < prefix_number a n ys) (prefix_number a n xs ≡ prefix_number a n ys) (prefix_number a n ys < prefix_number a n xs)
+unfolding prefix_number
 fits a zero xs ys below below2 differ = absurd (differ refl)
 fits a (suc n) [] [] below below2 differ = absurd (differ refl)
 fits a (suc n) [] (y ∷ ys) below below2 differ = omega (arith, least a (suc n) (y ∷ ys), differ)
 fits a (suc n) (x ∷ xs) [] below below2 differ = omega (arith, least a (suc n) (x ∷ xs), differ)
 fits a (suc n) (x ∷ xs) (y ∷ ys) below below2 differ = by_first a n x y xs ys (nat_cmp x y) (ranks x y) below.0 below2.0 below.1 below2.1
-    (λ e. subst (λ (z : ℕ). (front_number (a * 256 + x) n xs ≡ front_number (a * 256 + z) n ys → ⊥)
-    → MatchOrdering (slice_cmp nat_cmp xs ys) (front_number (a * 256 + x) n xs < front_number (a * 256 + z) n ys) (front_number (a * 256 + x) n xs ≡ front_number (a * 256 + z) n ys)
-    (front_number (a * 256 + z) n ys < front_number (a * 256 + x) n xs)) e (fits (a * 256 + x) n xs ys below.1 below2.1) differ)
+    (λ e. subst (λ (z : ℕ). (prefix_number (a * 256 + x) n xs ≡ prefix_number (a * 256 + z) n ys → ⊥)
+    → MatchOrdering (slice_cmp nat_cmp xs ys) (prefix_number (a * 256 + x) n xs < prefix_number (a * 256 + z) n ys) (prefix_number (a * 256 + x) n xs ≡ prefix_number (a * 256 + z) n ys)
+    (prefix_number (a * 256 + z) n ys < prefix_number (a * 256 + x) n xs)) e (fits (a * 256 + x) n xs ys below.1 below2.1) differ)
 
--- they compare as the numbers of their fronts
-pub by_fronts : (xs ys : List ℕ) → AreBelow 256 xs → AreBelow 256 ys → (front_number 0 8 xs ≡ front_number 0 8 ys → ⊥) → slice_cmp nat_cmp xs ys ≡ nat_cmp (front_number 0 8 xs) (front_number 0 8 ys)
-by_fronts xs ys below below2 differ = nat_cmp_is (front_number 0 8 xs) (front_number 0 8 ys) (slice_cmp nat_cmp xs ys) (fits 0 8 xs ys below below2 differ)
+-- they compare as the numbers of their prefixes
+pub by_prefixes : (xs ys : List ℕ) → AreBelow 256 xs → AreBelow 256 ys → (prefix_number 0 8 xs ≡ prefix_number 0 8 ys → ⊥) → slice_cmp nat_cmp xs ys ≡ nat_cmp (prefix_number 0 8 xs) (prefix_number 0 8 ys)
+by_prefixes xs ys below below2 differ = nat_cmp_is (prefix_number 0 8 xs) (prefix_number 0 8 ys) (slice_cmp nat_cmp xs ys) (fits 0 8 xs ys below below2 differ)
 
 abbrev horner : ℕ → ℕ → ℕ
 horner so_far byte = so_far * 256 + byte
 
 -- the number of eight bytes
-pub front_is : (bytes : List ℕ) → front_number 0 8 bytes
+pub prefix_is : (bytes : List ℕ) → prefix_number 0 8 bytes
     ≡ horner (horner (horner (horner (horner (horner (horner (horner 0 (get_or bytes 0 0)) (get_or bytes 1 0)) (get_or bytes 2 0)) (get_or bytes 3 0)) (get_or bytes 4 0)) (get_or bytes 5 0)) (get_or bytes 6 0)) (get_or bytes 7 0)
-front_is bytes =
+prefix_is bytes =
     let a1 = horner 0 (get_or bytes 0 0) in
     let a2 = horner a1 (get_or bytes 1 0) in
     let a3 = horner a2 (get_or bytes 2 0) in

@@ -1,19 +1,19 @@
--- What the scanner answers at the front of the bytes agrees with the definition of a text's tokens: each answer is a
--- piece or a flaw that stands there (sound), and each piece or flaw that stands there is the answer (complete).
+-- What the scanner answers at the head of the bytes agrees with the definition of a text's tokens: each answer is a
+-- piece or an error that stands there (sound), and each piece or error that stands there is the answer (complete).
 use Rattle.std.proofs.Common.{◌≡◌, ℕ, suc, ◌+◌, ◌<◌, ◌≤◌, ◌⊎◌, Bool, true, false, ◌||◌, ◌==◌, List, [], ◌∷◌, ◌++◌, length, take, drop, refl, sym, ap, ◌∙◌, arith, subst, ⊎_elim, inl, inr, append_assoc, length-append, length-drop, Option, Some, None}
 use Rattle.std.specs.Prelude.{nat_lt, IsTrue}
 use Rattle.std.specs.Char.{is_ascii_digit}
 use Rattle.std.proofs.lemmas.Bool.{cond-true, cond-false, cond_both, false≢true, and_parts, or_cases, eqb-true, ltb-true, ltb-false, cases_Bool, cases_lt}
 use Rattle.std.proofs.lemmas.List.{take-append-drop, take_at, drop_at, length-take-le, take-append-le, drop-append-le, drop_all, take_all}
 use Rattle.cc_tokens.specs.declared.scalar.Scalar.{Scalar}
-use Rattle.cc_tokens.specs.declared.flaw.Flaw.TheVariants.{BadByte, UnclosedComment}
-use Rattle.cc_tokens.specs.declared.scan.Front.{Front}
-use Rattle.cc_tokens.specs.declared.scan.Front.TheVariants as front
+use Rattle.cc_tokens.specs.declared.lexical_error.LexicalError.TheVariants.{BadByte, UnclosedComment}
+use Rattle.cc_tokens.specs.declared.scan.Head.{Head}
+use Rattle.cc_tokens.specs.declared.scan.Head.TheVariants as head
 use Rattle.cc_tokens.specs.declared.token.Punctuator.{Punctuator}
 use Rattle.cc_tokens.specs.Spelling.{punctuator_bytes}
 use Rattle.cc_tokens.specs.Constant.{Constant, SpellsConstant, digits_value, constant_type}
-use Rattle.cc_tokens.specs.Tokens.{is_blank, is_nondigit, continues_word, continues_number, CanBeToken, word, number, punctuator, begins_comment, begins_close, begins_line_end, begins_splice, Nowhere, IsComment, block, line, Piece, blank, comment, token, piece_bytes, StandsBefore, IsFlawed}
-use Rattle.cc_tokens.specs.internal.Scan.{run_of, run_length, front_of, comment_front, comment_of, block_comment, offset_within, number_front, punctuator_front, punctuator_at, keyword_named, word_kind, constant_kind, constant_spelled, typed}
+use Rattle.cc_tokens.specs.Tokens.{is_blank, is_nondigit, continues_word, continues_number, CanBeToken, word, number, punctuator, begins_comment, begins_close, begins_line_end, begins_splice, Nowhere, IsComment, block, line, Piece, blank, comment, token, piece_bytes, StandsBefore, IsLexicalError}
+use Rattle.cc_tokens.specs.internal.Scan.{run_of, run_length, head_of, comment_head, comment_of, block_comment, offset_within, number_head, punctuator_head, punctuator_at, keyword_named, word_kind, constant_kind, constant_spelled, typed}
 use Rattle.cc_tokens.proofs.Runs.{run_fits, run_continues, place_fits, place_nowhere, place_here}
 use Rattle.cc_tokens.proofs.ConstantForms.{constant_sound, constant_complete}
 use Rattle.cc_tokens.proofs.Words.{punctuator_some, word_is_longest, number_is_longest, word_spells}
@@ -29,33 +29,33 @@ pub record StandsAt (bytes : List ℕ) (n : ℕ) (p : Piece) : Type 0 where
   pub some : 0 < n
 
 -- what an answer of the scanner says of the bytes
-abbrev pub IsFront : List ℕ → Front → Type 0
-IsFront bytes front.Blank = (b : ℕ) × StandsAt bytes 1 (blank b)
-IsFront bytes (front.Comment n) = (c : List ℕ) × StandsAt bytes n (comment c)
-IsFront bytes (front.Token k n) = (text : List ℕ) × StandsAt bytes n (token k text)
-IsFront bytes (front.Flawed flaw k) = (k < length bytes) × IsFlawed flaw bytes k
+abbrev pub IsHead : List ℕ → Head → Type 0
+IsHead bytes head.Blank = (b : ℕ) × StandsAt bytes 1 (blank b)
+IsHead bytes (head.Comment n) = (c : List ℕ) × StandsAt bytes n (comment c)
+IsHead bytes (head.Token k n) = (text : List ℕ) × StandsAt bytes n (token k text)
+IsHead bytes (head.Error error k) = (k < length bytes) × IsLexicalError error bytes k
 
 -- the five ways that the first byte may go
 module _ (b : ℕ) (bs : List ℕ) where
-  pub front_blank : is_blank b ≡ true → front_of (b ∷ bs) ≡ front.Blank
-  unfolding front_of
-  front_blank e = cond-true _ _ _ e
+  pub head_blank : is_blank b ≡ true → head_of (b ∷ bs) ≡ head.Blank
+  unfolding head_of
+  head_blank e = cond-true _ _ _ e
 
-  pub front_comment : is_blank b ≡ false → begins_comment (b ∷ bs) ≡ true → front_of (b ∷ bs) ≡ comment_front (b ∷ bs)
-  unfolding front_of
-  front_comment e c = cond-false _ _ _ e ∙ cond-true _ _ _ c
+  pub head_comment : is_blank b ≡ false → begins_comment (b ∷ bs) ≡ true → head_of (b ∷ bs) ≡ comment_head (b ∷ bs)
+  unfolding head_of
+  head_comment e c = cond-false _ _ _ e ∙ cond-true _ _ _ c
 
-  pub front_word : is_blank b ≡ false → begins_comment (b ∷ bs) ≡ false → is_nondigit b ≡ true → front_of (b ∷ bs) ≡ front.Token (word_kind (keyword_named (take (run_of continues_word (b ∷ bs)) (b ∷ bs)))) (run_of continues_word (b ∷ bs))
-  unfolding front_of
-  front_word e c w = cond-false _ _ _ e ∙ cond-false _ _ _ c ∙ cond-true _ _ _ w
+  pub head_word : is_blank b ≡ false → begins_comment (b ∷ bs) ≡ false → is_nondigit b ≡ true → head_of (b ∷ bs) ≡ head.Token (word_kind (keyword_named (take (run_of continues_word (b ∷ bs)) (b ∷ bs)))) (run_of continues_word (b ∷ bs))
+  unfolding head_of
+  head_word e c w = cond-false _ _ _ e ∙ cond-false _ _ _ c ∙ cond-true _ _ _ w
 
-  pub front_number : is_blank b ≡ false → begins_comment (b ∷ bs) ≡ false → is_nondigit b ≡ false → is_ascii_digit b ≡ true → front_of (b ∷ bs) ≡ number_front (run_of continues_number (b ∷ bs)) (constant_kind (constant_spelled (take (run_of continues_number (b ∷ bs)) (b ∷ bs))))
-  unfolding front_of
-  front_number e c w d = cond-false _ _ _ e ∙ cond-false _ _ _ c ∙ cond-false _ _ _ w ∙ cond-true _ _ _ d
+  pub head_number : is_blank b ≡ false → begins_comment (b ∷ bs) ≡ false → is_nondigit b ≡ false → is_ascii_digit b ≡ true → head_of (b ∷ bs) ≡ number_head (run_of continues_number (b ∷ bs)) (constant_kind (constant_spelled (take (run_of continues_number (b ∷ bs)) (b ∷ bs))))
+  unfolding head_of
+  head_number e c w d = cond-false _ _ _ e ∙ cond-false _ _ _ c ∙ cond-false _ _ _ w ∙ cond-true _ _ _ d
 
-  pub front_mark : is_blank b ≡ false → begins_comment (b ∷ bs) ≡ false → is_nondigit b ≡ false → is_ascii_digit b ≡ false → front_of (b ∷ bs) ≡ punctuator_front (punctuator_at (b ∷ bs))
-  unfolding front_of
-  front_mark e c w d = cond-false _ _ _ e ∙ cond-false _ _ _ c ∙ cond-false _ _ _ w ∙ cond-false _ _ _ d
+  pub head_mark : is_blank b ≡ false → begins_comment (b ∷ bs) ≡ false → is_nondigit b ≡ false → is_ascii_digit b ≡ false → head_of (b ∷ bs) ≡ punctuator_head (punctuator_at (b ∷ bs))
+  unfolding head_of
+  head_mark e c w d = cond-false _ _ _ e ∙ cond-false _ _ _ c ∙ cond-false _ _ _ w ∙ cond-false _ _ _ d
 
 -- Sound.
 
@@ -66,7 +66,7 @@ run_whole may b bs = ap (λ xs. b ∷ xs) (sym (take-append-drop (run_length may
 run_size : (may : ℕ → ℕ → Bool) (b : ℕ) (bs : List ℕ) → length (b ∷ take (run_length may b bs) bs) ≡ suc (run_length may b bs)
 run_size may b bs = ap suc (length-take-le (run_length may b bs) bs (run_fits may b bs))
 
-word_sound : (b : ℕ) (bs : List ℕ) → begins_comment (b ∷ bs) ≡ false → is_nondigit b ≡ true → IsFront (b ∷ bs) (front.Token (word_kind (keyword_named (take (run_of continues_word (b ∷ bs)) (b ∷ bs)))) (run_of continues_word (b ∷ bs)))
+word_sound : (b : ℕ) (bs : List ℕ) → begins_comment (b ∷ bs) ≡ false → is_nondigit b ≡ true → IsHead (b ∷ bs) (head.Token (word_kind (keyword_named (take (run_of continues_word (b ∷ bs)) (b ∷ bs)))) (run_of continues_word (b ∷ bs)))
 word_sound b bs no_comment letter =
     let text = b ∷ take (run_length continues_word b bs) bs in
     let longest = word_is_longest b bs letter in (
@@ -82,7 +82,7 @@ word_sound b bs no_comment letter =
 
 typed_sound : (b : ℕ) (bs : List ℕ) (c : Constant) (t : Option Scalar) → begins_comment (b ∷ bs) ≡ false → is_ascii_digit b ≡ true
     → SpellsConstant c (b ∷ take (run_length continues_number b bs) bs) → constant_type c ≡ t
-    → IsFront (b ∷ bs) (number_front (suc (run_length continues_number b bs)) (typed t (digits_value c)))
+    → IsHead (b ∷ bs) (number_head (suc (run_length continues_number b bs)) (typed t (digits_value c)))
 typed_sound b bs c None no_comment digit spelled e = (
   omega arith,
   (
@@ -111,7 +111,7 @@ typed_sound b bs c (Some type) no_comment digit spelled e = (
 
 number_sound : (b : ℕ) (bs : List ℕ) (o : Option Constant) → begins_comment (b ∷ bs) ≡ false → is_ascii_digit b ≡ true
     → constant_spelled (b ∷ take (run_length continues_number b bs) bs) ≡ o
-    → IsFront (b ∷ bs) (number_front (suc (run_length continues_number b bs)) (constant_kind o))
+    → IsHead (b ∷ bs) (number_head (suc (run_length continues_number b bs)) (constant_kind o))
 number_sound b bs None no_comment digit e = (
   omega arith,
   (
@@ -140,7 +140,7 @@ marks_punctuator b bs (c ∷ other) rest no_word no_number (number w) is =
     absurd (false≢true (sym no_number ∙ subst (λ x. is_ascii_digit x ≡ true) same w.0))
 marks_punctuator b bs other rest no_word no_number (punctuator p spelled) is = (p, spelled)
 
-mark_sound : (b : ℕ) (bs : List ℕ) (o : Option Punctuator) → is_blank b ≡ false → begins_comment (b ∷ bs) ≡ false → is_nondigit b ≡ false → is_ascii_digit b ≡ false → punctuator_at (b ∷ bs) ≡ o → IsFront (b ∷ bs) (punctuator_front o)
+mark_sound : (b : ℕ) (bs : List ℕ) (o : Option Punctuator) → is_blank b ≡ false → begins_comment (b ∷ bs) ≡ false → is_nondigit b ≡ false → is_ascii_digit b ≡ false → punctuator_at (b ∷ bs) ≡ o → IsHead (b ∷ bs) (punctuator_head o)
 mark_sound b bs None no_blank no_comment no_word no_number e = (
   omega arith,
   inl (
@@ -168,9 +168,9 @@ mark_sound b bs (Some p) no_blank no_comment no_word no_number e =
           record {
             can_be = punctuator p refl;
             longest = λ other rest can is.
-                let is_front : b ∷ bs ≡ other ++ rest = whole ∙ is in
-                let found = marks_punctuator b bs other rest no_word no_number can is_front in
-                let bound = punctuator_longest (b ∷ bs) p found.0 rest e (is_front ∙ ap (λ t. t ++ rest) found.1) in
+                let is_head : b ∷ bs ≡ other ++ rest = whole ∙ is in
+                let found = marks_punctuator b bs other rest no_word no_number can is_head in
+                let bound = punctuator_longest (b ∷ bs) p found.0 rest e (is_head ∙ ap (λ t. t ++ rest) found.1) in
                 let same = ap length found.1 in
                 omega arith;
           },
@@ -182,7 +182,7 @@ mark_sound b bs (Some p) no_blank no_comment no_word no_number e =
     )
 
 -- a comment that begins the bytes, by its splices
-splices_sound : (c after bytes : List ℕ) → IsComment c after → 0 < length c → bytes ≡ c ++ after → IsFront bytes (comment_of (length c) bytes)
+splices_sound : (c after bytes : List ℕ) → IsComment c after → 0 < length c → bytes ≡ c ++ after → IsHead bytes (comment_of (length c) bytes)
 splices_sound c after bytes commented some whole =
     let n = length c in
     let k = offset_within begins_splice n bytes in
@@ -190,21 +190,21 @@ splices_sound c after bytes commented some whole =
     let fits : n ≤ length bytes = omega arith in
     let bound = place_fits begins_splice n bytes in
     let nowhere = place_nowhere begins_splice n bytes fits in
-    cond_both (nat_lt k n) (front.Flawed BadByte k) (front.Comment n) (IsFront bytes)
+    cond_both (nat_lt k n) (head.Error BadByte k) (head.Comment n) (IsHead bytes)
     (λ inside.
     let below : k < n = ltb-true k n inside in
     let parts = take-append-drop k c in
-    let front_is : take k bytes ≡ take k c = ap (take k) whole ∙ take-append-le k c after (omega arith) in
+    let head_is : take k bytes ≡ take k c = ap (take k) whole ∙ take-append-le k c after (omega arith) in
     let back_is : drop k bytes ≡ drop k c ++ after = ap (drop k) whole ∙ drop-append-le k c after (omega arith) in
     let back_size = length-drop k c in (
       omega arith,
       inr (record {
-        front = take k c;
+        prefix = take k c;
         back = drop k c;
         after = after;
         whole = whole ∙ ap (λ xs. xs ++ after) (sym parts);
         commented = subst (λ xs. IsComment xs after) (sym parts) commented;
-        none_before = subst (λ xs. Nowhere begins_splice (take k c) xs) back_is (subst (λ xs. Nowhere begins_splice xs (drop k bytes)) front_is nowhere);
+        none_before = subst (λ xs. Nowhere begins_splice (take k c) xs) back_is (subst (λ xs. Nowhere begins_splice xs (drop k bytes)) head_is nowhere);
         inside = omega arith;
         here = sym (ap begins_splice back_is) ∙ place_here begins_splice n bytes fits below;
         at = sym (length-take-le k c (omega arith));
@@ -212,88 +212,88 @@ splices_sound c after bytes commented some whole =
     ))
     (λ outside.
     let whole_place : k ≡ n = (let past = ltb-false k n outside in omega arith) in
-    let front_is : take k bytes ≡ c = ap (λ i. take i bytes) whole_place ∙ ap (take n) whole ∙ take_at c after n refl in
+    let head_is : take k bytes ≡ c = ap (λ i. take i bytes) whole_place ∙ ap (take n) whole ∙ take_at c after n refl in
     let back_is : drop k bytes ≡ after = ap (λ i. drop i bytes) whole_place ∙ ap (drop n) whole ∙ drop_at c after n refl in (
       c,
       record {
         after = after;
         whole = whole;
-        stands = (commented, subst (λ xs. Nowhere begins_splice c xs) back_is (subst (λ xs. Nowhere begins_splice xs (drop k bytes)) front_is nowhere));
+        stands = (commented, subst (λ xs. Nowhere begins_splice c xs) back_is (subst (λ xs. Nowhere begins_splice xs (drop k bytes)) head_is nowhere));
         size = refl;
         some = some;
       },
     ))
 
-block_sound : (body : List ℕ) → IsFront (47 ∷ 42 ∷ body) (block_comment (offset_within begins_close (length body) body) (47 ∷ 42 ∷ body))
+block_sound : (body : List ℕ) → IsHead (47 ∷ 42 ∷ body) (block_comment (offset_within begins_close (length body) body) (47 ∷ 42 ∷ body))
 block_sound body =
     let n = offset_within begins_close (length body) body in
     let bound = place_fits begins_close (length body) body in
     let nowhere = place_nowhere begins_close (length body) body (omega arith) in
-    cond_both (nat_lt n (length body)) (comment_of (n + 4) (47 ∷ 42 ∷ body)) (front.Flawed UnclosedComment 0) (IsFront (47 ∷ 42 ∷ body))
+    cond_both (nat_lt n (length body)) (comment_of (n + 4) (47 ∷ 42 ∷ body)) (head.Error UnclosedComment 0) (IsHead (47 ∷ 42 ∷ body))
     (λ inside.
     let below = ltb-true n (length body) inside in
     let after = drop 2 (drop n body) in
     let close : drop n body ≡ 42 ∷ 47 ∷ after = close_shape (drop n body) (place_here begins_close (length body) body (omega arith) below) in
-    let front = take n body in
-    let c = 47 ∷ 42 ∷ front ++ (42 ∷ 47 ∷ []) in
-    let whole : 47 ∷ 42 ∷ body ≡ c ++ after = ap (λ xs. 47 ∷ 42 ∷ xs) (sym (take-append-drop n body) ∙ ap (λ xs. front ++ xs) close ∙ sym (append_assoc front (42 ∷ 47 ∷ []) after)) in
-    let front_size = length-take-le n body bound in
-    let size : length c ≡ n + 4 = omega (arith, length-append front (42 ∷ 47 ∷ [])) in
-    subst (λ i. IsFront (47 ∷ 42 ∷ body) (comment_of i (47 ∷ 42 ∷ body))) size
-    (splices_sound c after (47 ∷ 42 ∷ body) (block front (subst (λ xs. Nowhere begins_close front xs) close nowhere)) (omega arith) whole))
+    let prefix = take n body in
+    let c = 47 ∷ 42 ∷ prefix ++ (42 ∷ 47 ∷ []) in
+    let whole : 47 ∷ 42 ∷ body ≡ c ++ after = ap (λ xs. 47 ∷ 42 ∷ xs) (sym (take-append-drop n body) ∙ ap (λ xs. prefix ++ xs) close ∙ sym (append_assoc prefix (42 ∷ 47 ∷ []) after)) in
+    let head_size = length-take-le n body bound in
+    let size : length c ≡ n + 4 = omega (arith, length-append prefix (42 ∷ 47 ∷ [])) in
+    subst (λ i. IsHead (47 ∷ 42 ∷ body) (comment_of i (47 ∷ 42 ∷ body))) size
+    (splices_sound c after (47 ∷ 42 ∷ body) (block prefix (subst (λ xs. Nowhere begins_close prefix xs) close nowhere)) (omega arith) whole))
     (λ outside.
     let whole_place : n ≡ length body = (let past = ltb-false n (length body) outside in omega arith) in
-    let front_is : take n body ≡ body = ap (λ i. take i body) whole_place ∙ take_all (length body) body (omega arith) in
+    let head_is : take n body ≡ body = ap (λ i. take i body) whole_place ∙ take_all (length body) body (omega arith) in
     let back_is : drop n body ≡ [] = drop_all n body (omega arith) in (
       omega arith,
       (
         record {
           body = body;
           whole = refl;
-          never_closed = subst (λ xs. Nowhere begins_close body xs) back_is (subst (λ xs. Nowhere begins_close xs (drop n body)) front_is nowhere);
+          never_closed = subst (λ xs. Nowhere begins_close body xs) back_is (subst (λ xs. Nowhere begins_close xs (drop n body)) head_is nowhere);
         },
         refl,
       ),
     ))
 
-line_sound : (body : List ℕ) → IsFront (47 ∷ 47 ∷ body) (comment_of (offset_within begins_line_end (length body) body + 2) (47 ∷ 47 ∷ body))
+line_sound : (body : List ℕ) → IsHead (47 ∷ 47 ∷ body) (comment_of (offset_within begins_line_end (length body) body + 2) (47 ∷ 47 ∷ body))
 line_sound body =
     let n = offset_within begins_line_end (length body) body in
     let bound = place_fits begins_line_end (length body) body in
     let nowhere = place_nowhere begins_line_end (length body) body (omega arith) in
-    let front = take n body in
+    let prefix = take n body in
     let after = drop n body in
-    let front_size = length-take-le n body bound in
-    let size : length (47 ∷ 47 ∷ front) ≡ n + 2 = omega arith in
+    let head_size = length-take-le n body bound in
+    let size : length (47 ∷ 47 ∷ prefix) ≡ n + 2 = omega arith in
     let ends : (after ≡ []) ⊎ IsTrue (begins_line_end after)
     = ⊎_elim (λ (below : n < length body). inr (place_here begins_line_end (length body) body (omega arith) below)) (λ (past : length body ≤ n). inl (drop_all n body past)) (cases_lt n (length body)) in
-    subst (λ i. IsFront (47 ∷ 47 ∷ body) (comment_of i (47 ∷ 47 ∷ body))) size
-    (splices_sound (47 ∷ 47 ∷ front) after (47 ∷ 47 ∷ body) (line front nowhere ends) (omega arith) (ap (λ xs. 47 ∷ 47 ∷ xs) (sym (take-append-drop n body))))
+    subst (λ i. IsHead (47 ∷ 47 ∷ body) (comment_of i (47 ∷ 47 ∷ body))) size
+    (splices_sound (47 ∷ 47 ∷ prefix) after (47 ∷ 47 ∷ body) (line prefix nowhere ends) (omega arith) (ap (λ xs. 47 ∷ 47 ∷ xs) (sym (take-append-drop n body))))
 
-comment_sound : (bytes : List ℕ) → begins_comment bytes ≡ true → IsFront bytes (comment_front bytes)
+comment_sound : (bytes : List ℕ) → begins_comment bytes ≡ true → IsHead bytes (comment_head bytes)
 comment_sound [] e = absurd (false≢true e)
 comment_sound (a ∷ []) e = absurd (false≢true ((and_parts (a == 47) _ e).1))
 comment_sound (a ∷ s ∷ body) e =
     let both = and_parts (a == 47) (s == 42 || s == 47) e in
     let slash = eqb-true a 47 both.0 in
-    subst (λ x. IsFront (x ∷ s ∷ body) (comment_front (x ∷ s ∷ body))) (sym slash)
+    subst (λ x. IsHead (x ∷ s ∷ body) (comment_head (x ∷ s ∷ body))) (sym slash)
     (⊎_elim
-    (λ star. subst (λ x. IsFront (47 ∷ x ∷ body) (comment_front (47 ∷ x ∷ body))) (sym (eqb-true s 42 star)) (block_sound body))
-    (λ again. subst (λ x. IsFront (47 ∷ x ∷ body) (comment_front (47 ∷ x ∷ body))) (sym (eqb-true s 47 again)) (line_sound body))
+    (λ star. subst (λ x. IsHead (47 ∷ x ∷ body) (comment_head (47 ∷ x ∷ body))) (sym (eqb-true s 42 star)) (block_sound body))
+    (λ again. subst (λ x. IsHead (47 ∷ x ∷ body) (comment_head (47 ∷ x ∷ body))) (sym (eqb-true s 47 again)) (line_sound body))
     (or_cases (s == 42) (s == 47) both.1))
 
--- **the answer stands at the front**
-pub front_sound : (bytes : List ℕ) → 0 < length bytes → IsFront bytes (front_of bytes)
-front_sound [] some = absurd (omega arith)
-front_sound (b ∷ bs) some = ⊎_elim
-    (λ (e : is_blank b ≡ true). subst (IsFront (b ∷ bs)) (sym (front_blank b bs e)) (b, record { after = bs; whole = refl; stands = e; size = refl; some = omega arith }))
+-- **the answer stands at the head**
+pub head_sound : (bytes : List ℕ) → 0 < length bytes → IsHead bytes (head_of bytes)
+head_sound [] some = absurd (omega arith)
+head_sound (b ∷ bs) some = ⊎_elim
+    (λ (e : is_blank b ≡ true). subst (IsHead (b ∷ bs)) (sym (head_blank b bs e)) (b, record { after = bs; whole = refl; stands = e; size = refl; some = omega arith }))
     (λ (e : is_blank b ≡ false). ⊎_elim
-    (λ (c : begins_comment (b ∷ bs) ≡ true). subst (IsFront (b ∷ bs)) (sym (front_comment b bs e c)) (comment_sound (b ∷ bs) c))
+    (λ (c : begins_comment (b ∷ bs) ≡ true). subst (IsHead (b ∷ bs)) (sym (head_comment b bs e c)) (comment_sound (b ∷ bs) c))
     (λ (c : begins_comment (b ∷ bs) ≡ false). ⊎_elim
-    (λ (w : is_nondigit b ≡ true). subst (IsFront (b ∷ bs)) (sym (front_word b bs e c w)) (word_sound b bs c w))
+    (λ (w : is_nondigit b ≡ true). subst (IsHead (b ∷ bs)) (sym (head_word b bs e c w)) (word_sound b bs c w))
     (λ (w : is_nondigit b ≡ false). ⊎_elim
-    (λ (d : is_ascii_digit b ≡ true). subst (IsFront (b ∷ bs)) (sym (front_number b bs e c w d)) (number_sound b bs _ c d refl))
-    (λ (d : is_ascii_digit b ≡ false). subst (IsFront (b ∷ bs)) (sym (front_mark b bs e c w d)) (mark_sound b bs _ e c w d refl))
+    (λ (d : is_ascii_digit b ≡ true). subst (IsHead (b ∷ bs)) (sym (head_number b bs e c w d)) (number_sound b bs _ c d refl))
+    (λ (d : is_ascii_digit b ≡ false). subst (IsHead (b ∷ bs)) (sym (head_mark b bs e c w d)) (mark_sound b bs _ e c w d refl))
     (cases_Bool (is_ascii_digit b)))
     (cases_Bool (is_nondigit b)))
     (cases_Bool (begins_comment (b ∷ bs))))

@@ -1,11 +1,11 @@
 use Rattle.std.proofs.Common.{arith}
-use Rattle.cc_library.proofs.Front.{front_is}
-use Rattle.cc_library.proofs.name.front_of.Goals as goal
+use Rattle.cc_library.proofs.Prefix.{prefix_is}
+use Rattle.cc_library.proofs.name.prefix_of.Goals as goal
 
 pub returns : goal.returns
 returns c = omega (
   arith,
-  front_is c.args.bytes.now,
+  prefix_is c.args.bytes.now,
   c.from_be_bytes.ensures,
   c.byte_or_zero.ensures,
   c.byte_or_zero-2.ensures,
