@@ -3,6 +3,7 @@ use crate::library::helpers::{name, unit};
 use cc_library::{
     Command, Kind, Name, ReadFault, body_length, body_of_command, command_body, read_command,
 };
+use cc_unit::StoredUnit;
 use std::alloc::Global;
 use std::test::Fail;
 
@@ -64,13 +65,19 @@ fn spelled_again(alloc: Global, bytes: &[u8]) -> Result<Vec<u8>, Fail> {
     Ok(body_of_command(alloc, &command)?)
 }
 
+// The bytes of a unit's certificate, where it has one.
+fn certificate_of(alloc: Global, unit: &StoredUnit) -> Result<Option<Vec<u8>>, Fail> {
+    match &unit.certificate {
+        Some(certificate) => Ok(Some(Vec::from_slice(alloc, certificate.bytes())?)),
+        None => Ok(None),
+    }
+}
+
 // The certificate of the unit of an Add or a Replace that the bytes are, where it has one.
 fn certificate_read(alloc: Global, bytes: &[u8]) -> Result<Option<Vec<u8>>, Fail> {
-    match read_command(alloc, bytes)? {
-        Command::Add(_, unit) | Command::Replace(_, unit) => match &unit.stored().certificate {
-            Some(certificate) => Ok(Some(Vec::from_slice(alloc, certificate.bytes())?)),
-            None => Ok(None),
-        },
+    let command = read_command(alloc, bytes)?;
+    match &command {
+        Command::Add(_, unit) | Command::Replace(_, unit) => certificate_of(alloc, unit.stored()),
         Command::Withdraw(_) => Err(Fail::from("a Withdraw has no unit")),
     }
 }
