@@ -16,7 +16,7 @@ use crate::spill::spill_all;
 use crate::webs::{Cuts, Webs};
 use cc_live::Liveness;
 use cc_ltl::{Block, Ltl};
-use cc_rtl::Rtl;
+use cc_rtl_language::Rtl;
 use std::alloc::{AllocError, Global};
 
 /// How often webs are cut anew.

@@ -13,7 +13,7 @@ use crate::registers::{
 };
 use crate::webs::{Crossing, Crossings};
 use cc_ltl::{Block, Move, Moves, Operation, Register};
-use cc_rtl::Node;
+use cc_rtl_language::Node;
 use std::alloc::{AllocError, Global};
 
 /// What blocks are made of.

@@ -8,7 +8,7 @@ use crate::bits::Matrix;
 use crate::nodes::{Shape, beside_constant, operands};
 use crate::registers::{DESTROYED, RESULT, Registers, SERVICE, argument_register, only};
 use crate::webs::{Crossing, Crossings, Webs};
-use cc_rtl::Node;
+use cc_rtl_language::Node;
 use std::alloc::{AllocError, Global};
 
 /// What a web would share a register with.

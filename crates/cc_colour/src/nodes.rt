@@ -3,7 +3,7 @@
 //! Nodes are known by their places in the list of a function's nodes, from 0 on.
 
 use crate::live::Live;
-use cc_rtl::{Node, Rtl};
+use cc_rtl_language::{Node, Rtl};
 use cc_words::Binary;
 use std::alloc::{AllocError, Global};
 

@@ -2,7 +2,7 @@
 
 use crate::registers::numbered;
 use cc_ltl::{Operation, Register};
-use cc_rtl::Node;
+use cc_rtl_language::Node;
 
 /// The registers of an operation: of its operands in their order, and of its result. Of what it has not, any.
 #[derive(Clone, Copy)]

@@ -4,7 +4,7 @@ ghost use Rattle.std.specs.Prelude.{◌≡◌, ◌+◌, ◌<◌, ◌≤◌};
 ghost use Rattle.cc_ltl.specs.Registers.{most_slots};
 
 use cc_ltl::{MOST_SLOTS, Slot};
-use cc_rtl::{Node, Rtl};
+use cc_rtl_language::{Node, Rtl};
 use std::marker::Model;
 
 /// A slot for each pseudo-register of a function: slot i for pseudo-register i, as far as there are slots, and the last one for all that

@@ -8,7 +8,7 @@ ghost use Rattle.std.specs.Prelude.{◌≡◌, ◌<◌, ◌≤◌, ◌^◌, [], 
 use crate::operation::{Used, operation_of};
 use crate::slots::Slots;
 use cc_ltl::{Block, Ltl, Move, Moves, Register};
-use cc_rtl::{Node, Rtl};
+use cc_rtl_language::{Node, Rtl};
 use std::alloc::{AllocError, Global};
 
 // Arguments and parameters stand in x10 and up, 22 at most: the last register is x31.

@@ -10,7 +10,7 @@
 use crate::forest::Forest;
 use crate::nodes::{Shape, result};
 use crate::points::Points;
-use cc_rtl::Node;
+use cc_rtl_language::Node;
 use std::alloc::{AllocError, Global};
 
 /// The most points, and the most webs, that are looked at.

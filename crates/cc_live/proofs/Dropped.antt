@@ -5,11 +5,11 @@ use Rattle.std.specs.Prelude.{Some, None, IsSome}
 use Rattle.std.proofs.lemmas.Bool.{or_cases, or_right, not-true, and_parts, and_from, ne_eqb, eq-eqb}
 use Rattle.std.proofs.lemmas.List.Elements.{All-weaker, All-contains_itself}
 use Rattle.std.proofs.lemmas.Option.{slice_get_within, get_or_from_slice_get}
-use Rattle.cc_rtl.specs.Rtl.{Rtl, Labelled, Node, Nop, Const, Move, Unary, Binary, Load, Store, Call, Read, Write, Branch, Return, Ascend, IsBelowFirst, node_at, successors}
-use Rattle.cc_rtl.specs.Live.{Sets, in_some, live_behind, Carries, AreLive, is_dead, result, is_nop, as_nop, with_nops, MayBecomeNops, among}
-use Rattle.cc_rtl.specs.Positions.{position_of}
-use Rattle.cc_rtl.proofs.Nops.{Which, turned, these, node_turned, turned_from, successors_turned, same_turned}
-use Rattle.cc_rtl.proofs.Places.{placed}
+use Rattle.cc_rtl_language.specs.Rtl.{Rtl, Labelled, Node, Nop, Const, Move, Unary, Binary, Load, Store, Call, Read, Write, Branch, Return, Ascend, IsBelowFirst, node_at, successors}
+use Rattle.cc_rtl_language.specs.Live.{Sets, in_some, live_behind, Carries, AreLive, is_dead, result, is_nop, as_nop, with_nops, MayBecomeNops, among}
+use Rattle.cc_rtl_language.specs.Positions.{position_of}
+use Rattle.cc_rtl_language.proofs.Nops.{Which, turned, these, node_turned, turned_from, successors_turned, same_turned}
+use Rattle.cc_rtl_language.proofs.Places.{placed}
 use Rattle.cc_live.specs.Liveness.{LieWithin, AreLeastLive, CarriesStrongly, AreStronglyLive, AreLeastStronglyLive, without_dead, IsWithoutFaint, NothingIsDead}
 use Rattle.cc_live.specs.internal.Dead.{dead_labels}
 use Rattle.cc_live.specs.internal.Facts.{AreLeastAs}

@@ -3,9 +3,9 @@ use Rattle.std.proofs.Common.{◌≡◌, ℕ, ◌+◌, ◌<◌, List, [], ◌∷
 use Rattle.std.specs.Prelude.{Some, IsSome, slice_get}
 use Rattle.std.proofs.lemmas.Option.{slice_get_within, get_or_from_slice_get}
 use Rattle.std.proofs.lemmas.List.{take_more}
-use Rattle.cc_rtl.specs.Rtl.{Rtl, Labelled, IsRtl, node_at, successors}
-use Rattle.cc_rtl.specs.Live.{Sets, is_dead}
-use Rattle.cc_rtl.proofs.Places.{lead_inside}
+use Rattle.cc_rtl_language.specs.Rtl.{Rtl, Labelled, IsRtl, node_at, successors}
+use Rattle.cc_rtl_language.specs.Live.{Sets, is_dead}
+use Rattle.cc_rtl_language.proofs.Places.{lead_inside}
 use Rattle.cc_live.specs.internal.Dead.{dead_labels}
 
 -- ---- one node more behind others

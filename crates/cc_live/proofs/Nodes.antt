@@ -4,10 +4,10 @@ use Rattle.std.specs.Prelude.{Some, IsSome, slice_get}
 use Rattle.std.proofs.lemmas.Option.{same_Some, slice_get_within, get_or_from_slice_get}
 use Rattle.std.proofs.lemmas.List.{get_or-map}
 use Rattle.std.proofs.lemmas.List.Elements.{Contains-append_left, Contains-append_right}
-use Rattle.cc_rtl.specs.Rtl.{Labelled, Nop, node_at, successors}
-use Rattle.cc_rtl.specs.Live.{reads}
-use Rattle.cc_rtl.specs.Positions.{position_of, graph_of}
-use Rattle.cc_rtl.proofs.Places.{position_is}
+use Rattle.cc_rtl_language.specs.Rtl.{Labelled, Nop, node_at, successors}
+use Rattle.cc_rtl_language.specs.Live.{reads}
+use Rattle.cc_rtl_language.specs.Positions.{position_of, graph_of}
+use Rattle.cc_rtl_language.proofs.Places.{position_is}
 use Rattle.cc_flow.specs.Lattice.{Equivalent}
 use Rattle.cc_rows.specs.Rows.{holds}
 use Rattle.cc_live.specs.internal.Facts.{Below, nothing, live_before, carries}

@@ -5,10 +5,10 @@ use Rattle.std.specs.Prelude.{Option, Some, None, IsSome, slice_get}
 use Rattle.std.proofs.lemmas.Option.{slice_get_within, slice_get-get_or}
 use Rattle.std.proofs.lemmas.List.{length-map, get_or_past}
 use Rattle.cc_flow.specs.Flow.{joined, facts_at, successors_of, Solves, LiesUnder}
-use Rattle.cc_rtl.specs.Rtl.{Rtl, Labelled, Node, IsRtl, node_at, successors}
-use Rattle.cc_rtl.specs.Live.{Sets, in_some, live_behind, AreLive}
-use Rattle.cc_rtl.specs.Positions.{position_of, graph_of}
-use Rattle.cc_rtl.proofs.Places.{placed, past, node_of_position}
+use Rattle.cc_rtl_language.specs.Rtl.{Rtl, Labelled, Node, IsRtl, node_at, successors}
+use Rattle.cc_rtl_language.specs.Live.{Sets, in_some, live_behind, AreLive}
+use Rattle.cc_rtl_language.specs.Positions.{position_of, graph_of}
+use Rattle.cc_rtl_language.proofs.Places.{placed, past, node_of_position}
 use Rattle.cc_rows.specs.Rows.{holds}
 use Rattle.cc_live.specs.Rows.{rows_at}
 use Rattle.cc_live.specs.Liveness.{LieWithin, AreStronglyLive}

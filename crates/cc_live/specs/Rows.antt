@@ -1,8 +1,8 @@
 -- Sets of registers as rows of bits, and one for each node.
 use Rattle.std.specs.Prelude.{ℕ, List, [], get_or}
-use Rattle.cc_rtl.specs.Rtl.{Labelled}
-use Rattle.cc_rtl.specs.Positions.{position_of}
-use Rattle.cc_rtl.specs.Live.{Sets}
+use Rattle.cc_rtl_language.specs.Rtl.{Labelled}
+use Rattle.cc_rtl_language.specs.Positions.{position_of}
+use Rattle.cc_rtl_language.specs.Live.{Sets}
 use Rattle.cc_rows.specs.Rows.{holds}
 
 -- rows beside the nodes of a function, as a set for each label; none is live at a label without a node

@@ -1,9 +1,9 @@
 //! A function without its dead nodes.
 
 ghost use Rattle.std.specs.Prelude.{◌≡◌, [], get_or, All, IsSome, IfOk, IfErr};
-ghost use Rattle.cc_rtl.specs.Rtl.{node_at, successors};
-ghost use Rattle.cc_rtl.specs.Code.{node_of};
-ghost use Rattle.cc_rtl.specs.Live.{AreLive, is_dead as is_dead_by};
+ghost use Rattle.cc_rtl_language.specs.Rtl.{node_at, successors};
+ghost use Rattle.cc_rtl_language.specs.Code.{node_of};
+ghost use Rattle.cc_rtl_language.specs.Live.{AreLive, is_dead as is_dead_by};
 ghost use Rattle.cc_rows.specs.Rows.{holds};
 ghost use Rattle.cc_live.specs.Rows.{rows_at};
 ghost use Rattle.cc_live.specs.Liveness.{AreStronglyLive, without_dead, IsWithoutFaint, NothingIsDead};
@@ -11,7 +11,7 @@ ghost use Rattle.cc_live.specs.internal.Dead.{dead_labels as dead_labels_of};
 
 use crate::set::{Liveness, RegisterSet};
 use crate::transfer::solve;
-use cc_rtl::{Node, Rtl, RtlPair};
+use cc_rtl_language::{Node, Rtl, RtlPair};
 use std::alloc::{AllocError, Global};
 
 /// Makes nops of the pure nodes whose result none of their successors' sets hold, whatever live sets of the code are handed in. All else

@@ -1,13 +1,13 @@
 //! The least live sets.
 
 ghost use Rattle.std.specs.Prelude.{◌≡◌, length, IfOk};
-ghost use Rattle.cc_rtl.specs.Live.{Sets, AreLive};
+ghost use Rattle.cc_rtl_language.specs.Live.{Sets, AreLive};
 ghost use Rattle.cc_live.specs.Rows.{rows_at};
 ghost use Rattle.cc_live.specs.Liveness.{LieWithin};
 
 use crate::set::Liveness;
 use crate::transfer::solve;
-use cc_rtl::Rtl;
+use cc_rtl_language::Rtl;
 use std::alloc::{AllocError, Global};
 
 /// The least live sets: for each node the registers that are live in front of it. A node's set holds what it reads and, but for its

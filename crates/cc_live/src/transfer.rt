@@ -1,8 +1,8 @@
 //! What a node makes of the registers that are live behind it, and what the solver makes of that.
 
 ghost use Rattle.std.specs.Prelude.{◌≡◌, ℕ, ◌||◌, ◌&&◌, ◌↔◌, not, length, IsTrue, IfOk};
-ghost use Rattle.cc_rtl.specs.Code.{node_of};
-ghost use Rattle.cc_rtl.specs.Live.{reads, result as result_of, pure_result as pure_result_of, among};
+ghost use Rattle.cc_rtl_language.specs.Code.{node_of};
+ghost use Rattle.cc_rtl_language.specs.Live.{reads, result as result_of, pure_result as pure_result_of, among};
 ghost use Rattle.cc_rows.specs.Rows.{holds};
 ghost use Rattle.cc_live.specs.Rows.{rows_at};
 ghost use Rattle.cc_live.specs.internal.Facts.{live_before as made_live_before, is_unread, is_result, carries, AreLeastAs};
@@ -10,7 +10,7 @@ ghost use Rattle.cc_live.specs.internal.Laws.{carries_up};
 
 use crate::set::RegisterSet;
 use cc_flow::{Facts, Transfer, solve_backward};
-use cc_rtl::{Node, Rtl};
+use cc_rtl_language::{Node, Rtl};
 use std::alloc::{AllocError, Global};
 
 /// The nodes of a function, of which dead ones need nothing where that is asked (`strong`).

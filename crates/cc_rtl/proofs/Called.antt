@@ -3,8 +3,8 @@ use Rattle.std.proofs.Common.{◌≡◌, ℕ, zero, suc, List, [], ◌∷◌, �
 use Rattle.cc_syntax.specs.Tree.{External}
 use Rattle.cc_cminor.specs.Cminor.{Expression, Constant, Local, Unary, Binary, Load, Statement, Skip, Set, Store, Call, Read, Write, Sequence, If, Loop, Block, Exit, Return}
 use Rattle.cc_cminor.specs.Pair as cminor
-use Rattle.cc_rtl.specs.Rtl as rtl
-use Rattle.cc_rtl.specs.Pair.{IsCallOf, AreCalls}
+use Rattle.cc_rtl_language.specs.Rtl as rtl
+use Rattle.cc_rtl_language.specs.Pair.{IsCallOf, AreCalls}
 use Rattle.cc_rtl.specs.Size.{variable_of}
 use Rattle.cc_rtl.specs.internal.Generate.{Places, place_at, Made, pushed, held_in, operand_by, register, taken, made_into, operand, registers, operands, made, IsFormed, renamed, generated_rtl}
 use Rattle.cc_rtl.proofs.Function.{places, last, filled}

@@ -7,9 +7,10 @@ use Rattle.cc_runs.specs.Run.{Goes, tried}
 use Rattle.cc_runs.specs.internal.Simulation as ways
 use Rattle.cc_runs.proofs.Simulating as simulating
 use Rattle.cc_cminor.specs.Cminor.{Expression, Constant, Local, Unary, Binary, Load, then_value, value, values}
-use Rattle.cc_rtl.specs.Rtl as rtl
-use Rattle.cc_rtl.specs.Rtl.{Registers, Configuration, at, put, node_move, rtl_output}
-use Rattle.cc_rtl.specs.internal.Translates.{Graph, graph_move, Held, Into, Operand, Operands}
+use Rattle.cc_rtl_language.specs.Rtl as rtl
+use Rattle.cc_rtl_language.specs.Rtl.{Registers, Configuration, at, put, node_move, rtl_output}
+use Rattle.cc_rtl_language.specs.internal.Moves.{Graph, graph_move}
+use Rattle.cc_rtl.specs.internal.Translates.{Held, Into, Operand, Operands}
 
 -- what is put is there, and nothing else is written
 cond_by : {X : Type 0} (b c : Bool) (x y : X) → b ≡ c → cond b x y ≡ cond c x y

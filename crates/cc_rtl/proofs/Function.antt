@@ -5,8 +5,8 @@ use Rattle.cc_runs.specs.Meaning.{Meaning}
 use Rattle.cc_runs.specs.Tracks.{Tracks}
 use Rattle.cc_runs.proofs.Simulating.{coarser}
 use Rattle.cc_cminor.specs.Cminor.{Statement, cminor_move, cminor_output, cminor_start}
-use Rattle.cc_rtl.specs.Rtl as rtl
-use Rattle.cc_rtl.specs.Rtl.{rtl_move, rtl_output, rtl_start}
+use Rattle.cc_rtl_language.specs.Rtl as rtl
+use Rattle.cc_rtl_language.specs.Rtl.{rtl_move, rtl_output, rtl_start}
 use Rattle.cc_rtl.specs.internal.Translates.{IsCodeOf}
 use Rattle.cc_rtl.specs.internal.Generate.{Places, place_at, made, made_function, IsFormed, generated_rtl}
 use Rattle.cc_rtl.proofs.Statements.{size}

@@ -2,8 +2,9 @@
 use Rattle.std.proofs.Common.{◌≡◌, ℕ, zero, suc, ◌+◌, ◌<◌, ◌≤◌, List, [], ◌∷◌, ◌++◌, length, get_or, set, refl, sym, ap, ◌∙◌, subst, inl, inr, arith, append_assoc, length-append, Option, Some, None}
 use Rattle.std.proofs.Math.Seq.{get_or-append_seam}
 use Rattle.cc_cminor.specs.Cminor.{Expression, Constant, Local, Unary, Binary, Load, Statement, Skip, Set, Store, Call, Read, Write, Sequence, If, Loop, Block, Exit, Return}
-use Rattle.cc_rtl.specs.Rtl as rtl
-use Rattle.cc_rtl.specs.internal.Translates.{Graph, Held, Into, Operand, Operands, Leads, Takes, Translates, IsCodeOf}
+use Rattle.cc_rtl_language.specs.Rtl as rtl
+use Rattle.cc_rtl_language.specs.internal.Moves.{Graph}
+use Rattle.cc_rtl.specs.internal.Translates.{Held, Into, Operand, Operands, Leads, Takes, Translates, IsCodeOf}
 use Rattle.cc_rtl.specs.internal.Generate.{Places, place_at, Made, pushed, held_in, taken_by, operand_by, register, taken, made_into, operand, registers, operands, closed, made, made_function, Uses, AllUse, IsFormed}
 use Rattle.cc_rtl.specs.Size.{variable_of, kept_by, into_nodes, operand_nodes, operands_nodes, statement_nodes, function_nodes}
 use Rattle.cc_rtl.proofs.Growing.{Extends, held_grows, into_grows, operands_grow, translates_grows, finishes_grows}

@@ -1,8 +1,9 @@
 -- What is translated stays so while nodes are added.
 use Rattle.std.proofs.Common.{◌≡◌, ℕ, suc, List, [], ◌∷◌, inl, inr, Option, Some, None}
 use Rattle.cc_cminor.specs.Cminor.{Expression, Constant, Local, Unary, Binary, Load, Statement, Skip, Set, Store, Call, Read, Write, Sequence, If, Loop, Block, Exit, Return}
-use Rattle.cc_rtl.specs.Rtl as rtl
-use Rattle.cc_rtl.specs.internal.Translates.{Graph, Held, Into, Operand, Operands, Takes, Translates, Finishes}
+use Rattle.cc_rtl_language.specs.Rtl as rtl
+use Rattle.cc_rtl_language.specs.internal.Moves.{Graph}
+use Rattle.cc_rtl.specs.internal.Translates.{Held, Into, Operand, Operands, Takes, Translates, Finishes}
 
 abbrev pub Extends : (Graph) → (Graph) → Type 0
 Extends f g = (l : ℕ) (n : rtl.Node) → f l ≡ Some n → g l ≡ Some n

@@ -2,7 +2,7 @@
 use Rattle.std.proofs.Common.{◌≡◌, ℕ, zero, suc, ◌+◌, ◌-◌, ◌<◌, List, [], ◌∷◌, ◌++◌, length, cond, refl, sym, ap, ◌∙◌, inl, inr, ◌⊎◌, arith, Option, Some, None, true, false, ◌==◌, length-append}
 use Rattle.std.proofs.lemmas.Bool.{cases_eq}
 use Rattle.std.proofs.lemmas.Bool.Decides.{nat_tests}
-use Rattle.cc_rtl.specs.Rtl as rtl
+use Rattle.cc_rtl_language.specs.Rtl as rtl
 use Rattle.cc_rtl.specs.internal.Generate.{Places, place_at, renamed, labelled_from, nodes_back}
 
 -- a node among some, by its place

@@ -6,7 +6,6 @@ pub mod Growing
 pub mod Generated
 pub mod Inside
 pub mod Turning
-pub mod Layer
 pub mod Labels
 pub mod Function
 pub mod Kept
@@ -15,6 +14,3 @@ pub mod Sizes
 pub mod Parameters
 pub mod Making
 pub mod Pairs
-pub mod Places
-pub mod Nops
-pub mod Dropping

@@ -12,16 +12,16 @@ use Rattle.cc_cminor.specs.Numbers.{ExpressionFits, ExpressionsFit, StatementFit
 use Rattle.cc_cminor.specs.declared.code.Expression.{Expression}
 use Rattle.cc_cminor.specs.declared.code.Statement as written
 use Rattle.cc_cminor.specs.declared.code.Statement.{Statement, Row_of-Statement, end_of-Statement, more_of-Statement, items-the_row-Statement}
-use Rattle.cc_rtl.specs.Rtl as rtl
-use Rattle.cc_rtl.specs.Rtl.{most_nodes}
-use Rattle.cc_rtl.specs.Code.{node_of, labelled_of}
+use Rattle.cc_rtl_language.specs.Rtl as rtl
+use Rattle.cc_rtl_language.specs.Rtl.{most_nodes}
+use Rattle.cc_rtl_language.specs.Code.{node_of, labelled_of}
 use Rattle.cc_rtl.specs.Size.{operand_nodes, operands_nodes, statement_nodes}
-use Rattle.cc_rtl.specs.declared.node.Node.{Node}
+use Rattle.cc_rtl_language.specs.declared.node.Node.{Node}
 use Rattle.cc_rtl.specs.internal.Generate.{Places, Made, made, renamed, labelled_from, nodes_back}
-use Rattle.cc_rtl.specs.Positions.{AreNumbered}
+use Rattle.cc_rtl_language.specs.Positions.{AreNumbered}
 use Rattle.cc_rtl.specs.internal.Generating.{places_of, made_at, AreCountedDown}
 use Rattle.cc_instr_list.specs.List.{Entry, Listed, entry, listed, item_at, first_label, with_before, with_item, without}
-use Rattle.cc_rtl.proofs.Places.{same_test}
+use Rattle.cc_rtl_language.proofs.Places.{same_test}
 
 -- ---- arguments
 

@@ -8,8 +8,8 @@ use Rattle.cc_runs.proofs.Simulating.{coarser}
 use Rattle.cc_cminor.specs.Code.{statement_of}
 use Rattle.cc_cminor.specs.Pair as cminor
 use Rattle.cc_cminor.specs.declared.code.Statement as written
-use Rattle.cc_rtl.specs.Rtl as rtl
-use Rattle.cc_rtl.specs.Pair.{IsPair, AreCalls, KeepsUp}
+use Rattle.cc_rtl_language.specs.Rtl as rtl
+use Rattle.cc_rtl_language.specs.Pair.{IsPair, AreCalls, KeepsUp}
 use Rattle.cc_rtl.specs.Size.{function_nodes}
 use Rattle.cc_rtl.specs.internal.Generate.{IsFormed, generated_rtl}
 use Rattle.cc_rtl.specs.internal.Generating.{generated_nodes}

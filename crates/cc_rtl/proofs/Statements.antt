@@ -5,9 +5,10 @@ use Rattle.cc_runs.specs.World.{World, next_word, stored, after_read, after_writ
 use Rattle.cc_runs.specs.Run.{Goes, Calls, Returns, tried}
 use Rattle.cc_runs.specs.internal.Simulation.{Advances, Simulation}
 use Rattle.cc_cminor.specs.Cminor.{Statement, Skip, Set, Store, Call, Read, Write, Sequence, If, Loop, Block, Exit, Return, value, values, Continuation, Ends, Then, Again, Leaving, Config, config, put, put_result, chosen, moves, cminor_move, cminor_output}
-use Rattle.cc_rtl.specs.Rtl as rtl
-use Rattle.cc_rtl.specs.Rtl.{Registers, Configuration, at, answered, branched, node_move, rtl_output}
-use Rattle.cc_rtl.specs.internal.Translates.{Graph, graph_move, Leads, Takes, Translates, Finishes}
+use Rattle.cc_rtl_language.specs.Rtl as rtl
+use Rattle.cc_rtl_language.specs.Rtl.{Registers, Configuration, at, answered, branched, node_move, rtl_output}
+use Rattle.cc_rtl_language.specs.internal.Moves.{Graph, graph_move}
+use Rattle.cc_rtl.specs.internal.Translates.{Leads, Takes, Translates, Finishes}
 use Rattle.cc_rtl.proofs.Owing.{Owes, simulation_of, owes_tried}
 use Rattle.cc_rtl.proofs.Expressions.{cost, costs, put_there, put_elsewhere, put_alike, Way, way_then, node_goes, Holds, into_runs, operand_runs, operands_run}
 

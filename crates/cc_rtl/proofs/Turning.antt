@@ -1,8 +1,9 @@
 -- What is translated stays so when its labels are exchanged for others.
 use Rattle.std.proofs.Common.{◌≡◌, ℕ, zero, suc, List, [], ◌∷◌, map, ap, inl, inr, Option, Some, None}
 use Rattle.cc_cminor.specs.Cminor.{Expression, Constant, Local, Unary, Binary, Load, Statement, Skip, Set, Store, Call, Read, Write, Sequence, If, Loop, Block, Exit, Return}
-use Rattle.cc_rtl.specs.Rtl as rtl
-use Rattle.cc_rtl.specs.internal.Translates.{Graph, Held, Into, Operand, Operands, Leads, Takes, Translates, Finishes, IsCodeOf}
+use Rattle.cc_rtl_language.specs.Rtl as rtl
+use Rattle.cc_rtl_language.specs.internal.Moves.{Graph}
+use Rattle.cc_rtl.specs.internal.Translates.{Held, Into, Operand, Operands, Leads, Takes, Translates, Finishes, IsCodeOf}
 use Rattle.cc_rtl.specs.internal.Generate.{renamed}
 
 leads_turns : (t : ℕ → ℕ) (xs : List ℕ) (k l : ℕ) → Leads xs k l → Leads (map t xs) k (t l)

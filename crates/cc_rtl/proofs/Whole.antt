@@ -8,8 +8,9 @@ use Rattle.cc_runs.specs.Meaning.{Meaning, call_effect}
 use Rattle.cc_runs.specs.Tracks.{Keeps, Tracks}
 use Rattle.cc_runs.proofs.Simulating.{tracks_on, coarser}
 use Rattle.cc_cminor.specs.Cminor.{Statement, cminor_move, cminor_output, cminor_start}
-use Rattle.cc_rtl.specs.Rtl.{at, node_move, rtl_output}
-use Rattle.cc_rtl.specs.internal.Translates.{Graph, graph_move, IsCodeOf}
+use Rattle.cc_rtl_language.specs.Rtl.{at, node_move, rtl_output}
+use Rattle.cc_rtl_language.specs.internal.Moves.{Graph, graph_move}
+use Rattle.cc_rtl.specs.internal.Translates.{IsCodeOf}
 use Rattle.cc_rtl.proofs.Statements.{size, measure, Related, generated}
 
 -- one move more, and the rest as before

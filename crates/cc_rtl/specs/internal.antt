@@ -6,5 +6,3 @@ pub mod Generate
 pub mod Generating
 -- How many registers the variables take.
 pub mod Variables
--- Each node leads to nodes, said of lists.
-pub mod Leading

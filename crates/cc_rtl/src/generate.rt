@@ -6,8 +6,8 @@
 ghost use Rattle.std.specs.Prelude.{◌≡◌, ◌≤◌, IfOk};
 ghost use Rattle.cc_cminor.specs.Code.{statement_of};
 ghost use Rattle.cc_cminor.specs.Numbers.{most_variables, StatementFits};
-ghost use Rattle.cc_rtl.specs.Rtl.{most_nodes};
-ghost use Rattle.cc_rtl.specs.Code.{labelled_of};
+ghost use Rattle.cc_rtl_language.specs.Rtl.{most_nodes};
+ghost use Rattle.cc_rtl_language.specs.Code.{labelled_of};
 ghost use Rattle.cc_rtl.specs.Size.{function_nodes};
 ghost use Rattle.cc_rtl.specs.internal.Generating.{generated_nodes};
 
@@ -15,9 +15,9 @@ mod expressions;
 mod graph;
 mod statements;
 
-use crate::node::Node;
 use cc_cminor::Statement;
 use cc_instr_list::InstrList;
+use cc_rtl_language::Node;
 use graph::Graph;
 use statements::statement;
 use std::alloc::{AllocError, Global};

@@ -1,26 +1,15 @@
-//! RTL: the code of a function as a graph of labelled nodes over pseudo-registers.
+//! From Cminor to RTL, the code of a function as a graph of labelled nodes over pseudo-registers.
 //!
-//! `node` has the syntax, `rtl` the type of a function, `display` its text, `pair` the type that keeps that a function's RTL does what
-//! the function does. A function's nodes stand in an instruction list (`cc_instr_list`). `generate` makes them from the function's Cminor;
-//! `dead` makes nops of nodes that nobody needs, and `positions` shows a function as the graph that dataflow takes.
+//! The language is that of `cc_rtl_language`, and handed out here too. `translate` has the call; `size` counts the nodes that a function
+//! takes, `variables` the registers of its variables, `generate` makes the nodes from the function's Cminor.
 #![tactic(auto)]
 
-mod dead;
-mod display;
 mod fault;
 mod generate;
-mod laws;
-mod node;
-mod pair;
-mod positions;
-mod rtl;
 mod size;
 mod translate;
 mod variables;
 
+pub use cc_rtl_language::{Node, Rtl, RtlPair, rtl_is_a_layer};
 pub use fault::RtlFault;
-pub use laws::rtl_is_a_layer;
-pub use node::Node;
-pub use pair::RtlPair;
-pub use rtl::Rtl;
 pub use translate::to_rtl;

@@ -4,18 +4,17 @@ ghost use Rattle.std.specs.Prelude.{◌≡◌, ◌≤◌, ◌<◌, length, Some,
 ghost use Rattle.cc_meaning.specs.Resolved.{arities};
 ghost use Rattle.cc_cminor.specs.Pair.{tree_of as cminor_tree, code_of};
 ghost use Rattle.cc_cminor.specs.Size.{statement_size};
-ghost use Rattle.cc_rtl.specs.Rtl.{most_nodes};
+ghost use Rattle.cc_rtl_language.specs.Rtl.{most_nodes};
 ghost use Rattle.cc_rtl.specs.Size.{function_nodes};
 ghost use Rattle.cc_rtl.specs.declared.fault.RtlFault.TheVariants.{FunctionTooLarge};
 
 use crate::fault::RtlFault;
 use crate::generate::generate;
-use crate::pair::RtlPair;
-use crate::rtl::Rtl;
 use crate::size::fits;
 use crate::variables::with_statement;
 use cc_cminor::CminorPair;
 use cc_meaning::functions_are_resolved;
+use cc_rtl_language::{Rtl, RtlPair};
 use cc_typing::TypedUnit;
 use std::alloc::Global;
 

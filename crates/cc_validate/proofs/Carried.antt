@@ -4,10 +4,10 @@ use Rattle.std.specs.Prelude.{Option, Some, None}
 use Rattle.std.proofs.lemmas.Bool.{or_cases, or_left, or_right, and_parts, and_from, cases_eq, eq-eqb, ne_eqb, eqb-true, not-true}
 use Rattle.std.proofs.lemmas.List.Elements.{Contains-append_left, Contains-push, Contains-push_cases}
 use Rattle.cc_flow.specs.Lattice.{Equivalent}
-use Rattle.cc_rtl.specs.Rtl as rtl
-use Rattle.cc_rtl.specs.Code.{node_of}
-use Rattle.cc_rtl.specs.declared.node.Node.{Node}
-use Rattle.cc_rtl.specs.declared.node.Node.TheVariants as code
+use Rattle.cc_rtl_language.specs.Rtl as rtl
+use Rattle.cc_rtl_language.specs.Code.{node_of}
+use Rattle.cc_rtl_language.specs.declared.node.Node.{Node}
+use Rattle.cc_rtl_language.specs.declared.node.Node.TheVariants as code
 use Rattle.cc_ltl.specs.Ltl.{same_location, target, source}
 use Rattle.cc_ltl.specs.declared.location.Location.{Location}
 use Rattle.cc_ltl.specs.declared.location.Location.TheVariants.{Register, Slot}

@@ -4,7 +4,7 @@
 ghost use Rattle.std.specs.Prelude.{◌≡◌, ◌≤◌, Some, IfOk};
 ghost use Rattle.cc_flow.specs.Lattice.{Equivalent};
 ghost use Rattle.cc_rows.specs.Rows.{most_width};
-ghost use Rattle.cc_rtl.specs.Code.{node_of};
+ghost use Rattle.cc_rtl_language.specs.Code.{node_of};
 ghost use Rattle.cc_validate.specs.Equations.{Agrees};
 ghost use Rattle.cc_validate.specs.internal.Facts.{Below, through};
 
@@ -13,7 +13,7 @@ use crate::operands::put_operands;
 use crate::operation::operate;
 use crate::set::EquationSet;
 use cc_ltl::Block;
-use cc_rtl::Node;
+use cc_rtl_language::Node;
 use std::alloc::{AllocError, Global};
 
 /// What is to hold in front of a block, of what is to hold behind it. Rows are made with room for this many words of locations.

@@ -9,7 +9,7 @@ use crate::carry::carry;
 use crate::set::EquationSet;
 use cc_flow::{Facts, Transfer};
 use cc_ltl::Block;
-use cc_rtl::Rtl;
+use cc_rtl_language::Rtl;
 use std::alloc::{AllocError, Global};
 use std::marker::Model;
 
@@ -23,7 +23,7 @@ pub struct Code<'a> {
 
 impl<'a> Model for Code<'a> {
     ghost use Rattle.std.specs.Prelude.{List};
-    ghost use Rattle.cc_rtl.specs.Rtl as rtl;
+    ghost use Rattle.cc_rtl_language.specs.Rtl as rtl;
     ghost use Rattle.cc_ltl.specs.declared.block.Block as ltl;
     ghost use Rattle.cc_validate.specs.internal.Positions.{IsCode, Sides};
 

@@ -2,7 +2,7 @@
 
 ghost use Rattle.std.specs.Prelude.{◌≡◌, ◌↔◌, ◌≤◌, length, All, IfOk, IfErr, IfSome, IfNone, IsTrue, IsSome};
 ghost use Rattle.cc_rows.specs.Rows.{most_width};
-ghost use Rattle.cc_rtl.specs.Rtl.{node_at};
+ghost use Rattle.cc_rtl_language.specs.Rtl.{node_at};
 ghost use Rattle.cc_ltl.specs.Ltl.{IsLtl};
 ghost use Rattle.cc_validate.specs.Solution.{IsAtEntry, HasSolution};
 ghost use Rattle.cc_validate.specs.Fault.{IsRefusal};
@@ -16,7 +16,7 @@ use crate::pair::LtlPair;
 use crate::set::EquationSet;
 use cc_flow::solve_backward;
 use cc_ltl::Ltl;
-use cc_rtl::{Rtl, RtlPair};
+use cc_rtl_language::{Rtl, RtlPair};
 use std::alloc::Global;
 
 /// Why LTL was refused, and the pair that it was to stand for.

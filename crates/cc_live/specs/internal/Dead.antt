@@ -1,7 +1,7 @@
 -- The labels of dead nodes.
 use Rattle.std.specs.Prelude.{ℕ, List, [], ◌∷◌, if◌then◌else◌}
-use Rattle.cc_rtl.specs.Rtl.{Labelled}
-use Rattle.cc_rtl.specs.Live.{Sets, is_dead}
+use Rattle.cc_rtl_language.specs.Rtl.{Labelled}
+use Rattle.cc_rtl_language.specs.Live.{Sets, is_dead}
 
 abbrev pub dead_labels : Sets → List Labelled → List ℕ
 dead_labels live [] = []

@@ -1,8 +1,8 @@
 -- Rows of registers ordered by what they hold, and what a node makes of one, backward.
 use Rattle.std.specs.Prelude.{◌≡◌, ℕ, zero, suc, ◌*◌, ◌/◌, ◌%◌, ◌^◌, List, [], ◌∷◌, ◌++◌, length, replicate, Contains, Bool, false, IsTrue, ◌==◌, ◌&&◌, ◌≢◌, not, if◌then◌else◌, Option, Some, None}
 use Rattle.std.specs.Int.RustNames.{bit_or}
-use Rattle.cc_rtl.specs.Rtl.{Labelled, Node, node_at}
-use Rattle.cc_rtl.specs.Live.{Sets, reads, result, pure_result, live_behind, is_dead}
+use Rattle.cc_rtl_language.specs.Rtl.{Labelled, Node, node_at}
+use Rattle.cc_rtl_language.specs.Live.{Sets, reads, result, pure_result, live_behind, is_dead}
 use Rattle.cc_rows.specs.Rows.{holds}
 
 -- the second holds all that the first holds

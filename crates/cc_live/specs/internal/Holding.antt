@@ -8,8 +8,8 @@ use Rattle.std.proofs.lemmas.Nat.Bits.{bit_at-zero, bit_at_or, bit_at-lt, bit_at
 use Rattle.std.proofs.lemmas.Bool.{cases_eq, cases_lt, or_cases, or_left, or_right, and_parts, and_from, not-true}
 use Rattle.std.proofs.lemmas.Bool.Decides.{Decides-eqb, nat_tests}
 use Rattle.std.proofs.lemmas.List.{get_or_past}
-use Rattle.cc_rtl.specs.Rtl.{Node, Nop, Const, Move, Unary, Binary, Load, Store, Call, Read, Write, Branch, Return}
-use Rattle.cc_rtl.specs.Live.{reads, result, pure_result, among}
+use Rattle.cc_rtl_language.specs.Rtl.{Node, Nop, Const, Move, Unary, Binary, Load, Store, Call, Read, Write, Branch, Return}
+use Rattle.cc_rtl_language.specs.Live.{reads, result, pure_result, among}
 use Rattle.cc_rows.specs.Rows.{holds}
 use Rattle.cc_rows.specs.internal.Holding.{bits_or, holds-nothing, within_row}
 use Rattle.cc_live.specs.internal.Facts.{Below, nothing, either, single, with_all, chosen, those, but_for, is_result, is_unread, live_before}

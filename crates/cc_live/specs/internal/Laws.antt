@@ -2,7 +2,7 @@
 use Rattle.std.proofs.Common.{◌≡◌, ℕ, zero, suc, List, [], ◌∷◌, sym, ◌∙◌, Bool, true, false, ◌||◌, IsTrue}
 use Rattle.std.proofs.lemmas.Bool.{or_left, or_right}
 use Rattle.cc_flow.specs.Lattice.{IsLattice, Equivalent}
-use Rattle.cc_rtl.specs.Rtl.{Labelled}
+use Rattle.cc_rtl_language.specs.Rtl.{Labelled}
 use Rattle.cc_rows.specs.Rows.{holds}
 use Rattle.cc_live.specs.internal.Facts.{Below, nothing, either, carries}
 use Rattle.cc_rows.specs.internal.Holding.{holds-nothing}

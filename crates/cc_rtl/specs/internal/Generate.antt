@@ -2,7 +2,7 @@
 -- place in the list is its label until the whole is turned round (`turned`): then labels ascend along the code.
 use Rattle.std.specs.Prelude.{ℕ, suc, ◌-◌, ◌<◌, List, [], ◌∷◌, ◌++◌, length, get_or, set, Option, Some, None}
 use Rattle.cc_cminor.specs.Cminor.{Expression, Constant, Local, Unary, Binary, Load, Statement, Skip, Set, Store, Call, Read, Write, Sequence, If, Loop, Block, Exit, Return}
-use Rattle.cc_rtl.specs.Rtl as rtl
+use Rattle.cc_rtl_language.specs.Rtl as rtl
 use Rattle.cc_rtl.specs.Size.{variable_of}
 
 -- a label that is kept for a loop's head has no node yet

@@ -2,9 +2,9 @@
 use Rattle.std.specs.Prelude.{◌≡◌, ℕ, List, [], ◌∷◌, ◌++◌, length, Option, option_map}
 use Rattle.cc_instr_list.specs.List.{Entry}
 use Rattle.cc_cminor.specs.Cminor.{Expression, Constant, Local, Unary, Binary, Load, Statement}
-use Rattle.cc_rtl.specs.Rtl as rtl
-use Rattle.cc_rtl.specs.Code.{node_of}
-use Rattle.cc_rtl.specs.declared.node.Node as declared
+use Rattle.cc_rtl_language.specs.Rtl as rtl
+use Rattle.cc_rtl_language.specs.Code.{node_of}
+use Rattle.cc_rtl_language.specs.declared.node.Node as declared
 use Rattle.cc_rtl.specs.internal.Generate.{Places, Made, register, taken, made_function, nodes_back, labelled_from}
 
 -- the places, the last of which comes first in the list that has them

@@ -1,15 +1,8 @@
 -- Which nodes stand where, for an expression and for a statement: what a generator of RTL may make.
 use Rattle.std.specs.Prelude.{◌≡◌, ℕ, zero, suc, ◌<◌, ◌≤◌, ◌⊎◌, List, [], ◌∷◌, Option, Some, None}
-use Rattle.cc_runs.specs.Run.{Move, tried}
 use Rattle.cc_cminor.specs.Cminor.{Expression, Constant, Local, Unary, Binary, Load, Statement, Skip, Set, Store, Call, Read, Write, Sequence, If, Loop, Block, Exit, Return}
-use Rattle.cc_rtl.specs.Rtl as rtl
-
--- a graph, as the node of each label, and its moves
-abbrev pub Graph : Type 0
-Graph = ℕ → Option rtl.Node
-
-abbrev pub graph_move : Graph → rtl.Configuration → Move rtl.Configuration
-graph_move nodes c = tried (nodes c.label) (λ node. rtl.node_move node c.registers c.world)
+use Rattle.cc_rtl_language.specs.Rtl as rtl
+use Rattle.cc_rtl_language.specs.internal.Moves.{Graph}
 
 -- The label behind the block that `Exit k` leaves. With no such block the run goes wrong, so any label will do.
 abbrev pub Leads : List ℕ → (k label : ℕ) → Type 0

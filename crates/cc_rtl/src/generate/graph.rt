@@ -4,14 +4,14 @@
 // while places ascend in the order of making. At last they go over, in the code's order, to a list whose labels ascend along it.
 
 ghost use Rattle.std.specs.Prelude.{◌≡◌, ◌+◌, ◌-◌, ◌<◌, ◌≤◌, [], ◌∷◌, ◌++◌, length, set, Some, None, IfOk, OnOk, option_map};
-ghost use Rattle.cc_rtl.specs.Rtl as rtl;
-ghost use Rattle.cc_rtl.specs.Rtl.{most_nodes};
-ghost use Rattle.cc_rtl.specs.Code.{node_of, labelled_of};
+ghost use Rattle.cc_rtl_language.specs.Rtl as rtl;
+ghost use Rattle.cc_rtl_language.specs.Rtl.{most_nodes};
+ghost use Rattle.cc_rtl_language.specs.Code.{node_of, labelled_of};
 ghost use Rattle.cc_rtl.specs.internal.Generate.{pushed, renamed, labelled_from, nodes_back};
 ghost use Rattle.cc_rtl.specs.internal.Generating.{made_at};
 
-use crate::node::Node;
 use cc_instr_list::InstrList;
+use cc_rtl_language::Node;
 use std::alloc::{AllocError, Global};
 use std::marker::Model;
 

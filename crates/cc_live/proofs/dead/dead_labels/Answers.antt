@@ -1,8 +1,8 @@
 -- One node more.
 use Rattle.std.proofs.Common.{◌∙◌, ap, sym, refl, arith}
 use Rattle.std.proofs.lemmas.List.{take_all}
-use Rattle.cc_rtl.specs.Rtl.{Labelled}
-use Rattle.cc_rtl.specs.Code.{node_of}
+use Rattle.cc_rtl_language.specs.Rtl.{Labelled}
+use Rattle.cc_rtl_language.specs.Code.{node_of}
 use Rattle.cc_live.specs.Rows.{rows_at}
 use Rattle.cc_live.specs.internal.Dead.{dead_labels}
 use Rattle.cc_live.proofs.Listing.{leads_on, dead_more, alive_more}

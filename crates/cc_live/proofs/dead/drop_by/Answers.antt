@@ -1,10 +1,10 @@
 -- The dead nodes may go, and their labels name them.
 use Rattle.std.proofs.Common.{◌≡◌, ◌∙◌, ap, sym, subst, List, All}
 use Rattle.std.specs.Prelude.{IsSome}
-use Rattle.cc_rtl.specs.Rtl.{Rtl, Labelled, node_at}
-use Rattle.cc_rtl.specs.Live.{MayBecomeNops, with_nops}
-use Rattle.cc_rtl.specs.Pair.{Pair}
-use Rattle.cc_rtl.proofs.Nops.{these}
+use Rattle.cc_rtl_language.specs.Rtl.{Rtl, Labelled, node_at}
+use Rattle.cc_rtl_language.specs.Live.{MayBecomeNops, with_nops}
+use Rattle.cc_rtl_language.specs.Pair.{Pair}
+use Rattle.cc_rtl_language.proofs.Nops.{these}
 use Rattle.cc_live.specs.Rows.{rows_at}
 use Rattle.cc_live.specs.internal.Dead.{dead_labels}
 use Rattle.cc_live.proofs.Dropped.{may_go, dead_there, without_labels}

@@ -1,7 +1,7 @@
 -- By the least strongly live sets what is dropped is all that nobody needs.
 use Rattle.std.proofs.Common.{◌≡◌, true, ap, sym, subst, List, ℕ}
-use Rattle.cc_rtl.specs.Rtl.{Rtl}
-use Rattle.cc_rtl.specs.Pair.{Pair}
+use Rattle.cc_rtl_language.specs.Rtl.{Rtl}
+use Rattle.cc_rtl_language.specs.Pair.{Pair}
 use Rattle.cc_live.specs.Rows.{rows_at}
 use Rattle.cc_live.specs.internal.Facts.{AreLeastAs}
 use Rattle.cc_live.proofs.Solved.{strongly}

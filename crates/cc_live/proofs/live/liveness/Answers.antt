@@ -1,6 +1,6 @@
 -- What the solver answers, of plain live sets.
 use Rattle.std.proofs.Common.{sym, subst, ℕ, List}
-use Rattle.cc_rtl.specs.Live.{AreLive}
+use Rattle.cc_rtl_language.specs.Live.{AreLive}
 use Rattle.cc_live.specs.Rows.{rows_at}
 use Rattle.cc_live.specs.Liveness.{LieWithin}
 use Rattle.cc_live.proofs.Solved.{plainly, as_plain}

@@ -1,6 +1,6 @@
 -- The registers before are in.
 use Rattle.std.proofs.Common.{◌≡◌, ◌||◌, ℕ, take}
-use Rattle.cc_rtl.specs.Live.{among}
+use Rattle.cc_rtl_language.specs.Live.{among}
 use Rattle.cc_rows.specs.Rows.{holds}
 use Rattle.cc_live.proofs.transfer.add_all.Given as goal
 

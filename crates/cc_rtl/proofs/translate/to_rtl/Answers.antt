@@ -5,12 +5,12 @@ use Rattle.cc_cminor.specs.Code.{statement_of}
 use Rattle.cc_cminor.specs.Numbers.{StatementFits}
 use Rattle.cc_cminor.specs.Pair.{code_of}
 use Rattle.cc_cminor.specs.declared.code.Statement as written
-use Rattle.cc_rtl.specs.Code.{labelled_of}
-use Rattle.cc_rtl.specs.Pair.{Pair, IsPair}
-use Rattle.cc_rtl.specs.Rtl.{Rtl}
+use Rattle.cc_rtl_language.specs.Code.{labelled_of}
+use Rattle.cc_rtl_language.specs.Pair.{Pair, IsPair}
+use Rattle.cc_rtl_language.specs.Rtl.{Rtl}
 use Rattle.cc_rtl.specs.Size.{function_nodes}
 use Rattle.cc_rtl.proofs.Pairs.{rtl_made, as_many_nodes, pair_made}
-use Rattle.cc_rtl.specs.Positions.{AreNumbered}
+use Rattle.cc_rtl_language.specs.Positions.{AreNumbered}
 use Rattle.cc_rtl.specs.internal.Generate.{made_function, nodes_back}
 use Rattle.cc_rtl.proofs.Making.{numbered_from}
 use Rattle.cc_rtl.proofs.Sizes.{nodes_few}

@@ -1,7 +1,7 @@
 -- Through the moves behind, the operation, and with the operands through the moves before.
 use Rattle.std.proofs.Common.{List, subst, sym}
 use Rattle.cc_flow.specs.Lattice.{Equivalent}
-use Rattle.cc_rtl.specs.Code.{node_of}
+use Rattle.cc_rtl_language.specs.Code.{node_of}
 use Rattle.cc_validate.specs.declared.equation.Equation.{Equation}
 use Rattle.cc_validate.specs.Equations.{before_moves, fate, operands}
 use Rattle.cc_validate.specs.internal.Facts.{Facts, Below, carried}

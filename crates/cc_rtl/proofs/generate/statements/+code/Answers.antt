@@ -8,7 +8,7 @@ use Rattle.cc_cminor.specs.Code.{statement_of, in_sequence}
 use Rattle.cc_cminor.specs.internal.Statements.{statements_of}
 use Rattle.cc_cminor.proofs.code.Statement.TheLaws.{the_size}
 use Rattle.cc_cminor.specs.declared.code.Statement as written
-use Rattle.cc_rtl.specs.Rtl.{most_nodes}
+use Rattle.cc_rtl_language.specs.Rtl.{most_nodes}
 use Rattle.cc_rtl.specs.Size.{statement_nodes}
 use Rattle.cc_rtl.specs.internal.Generate.{made}
 use Rattle.cc_rtl.specs.internal.Generating.{made_at}

@@ -2,8 +2,8 @@
 use Rattle.std.proofs.Common.{◌≡◌, get_or, sym, ap, ◌∙◌, subst, arith, IfOk}
 use Rattle.std.proofs.lemmas.Option.{slice_get_within, get_or_from_slice_get}
 use Rattle.cc_flow.specs.Lattice.{Equivalent}
-use Rattle.cc_rtl.specs.Rtl.{Labelled}
-use Rattle.cc_rtl.specs.Code.{node_of}
+use Rattle.cc_rtl_language.specs.Rtl.{Labelled}
+use Rattle.cc_rtl_language.specs.Code.{node_of}
 use Rattle.cc_validate.specs.Equations.{Agrees}
 use Rattle.cc_validate.specs.internal.Facts.{Below, nothing, through}
 use Rattle.cc_validate.specs.internal.Positions.{carries, Sides}

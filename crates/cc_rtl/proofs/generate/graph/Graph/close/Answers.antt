@@ -1,7 +1,7 @@
 -- The place is there, and gets its node.
 use Rattle.std.proofs.Common.{◌≡◌, ◌∙◌, ap, sym, subst, length, set, Some, arith}
-use Rattle.cc_rtl.specs.Rtl as rtl
-use Rattle.cc_rtl.specs.declared.node.Node.TheVariants.{Nop}
+use Rattle.cc_rtl_language.specs.Rtl as rtl
+use Rattle.cc_rtl_language.specs.declared.node.Node.TheVariants.{Nop}
 use Rattle.cc_rtl.specs.internal.Generate.{Places}
 use Rattle.cc_rtl.specs.internal.Generating.{places_of, AreCountedDown}
 use Rattle.cc_rtl.proofs.Making.{length_places, place_there, place_set, counted_with_item, length_with_item}

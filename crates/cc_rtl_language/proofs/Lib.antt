@@ -1,0 +1,4 @@
+pub mod Layer
+pub mod Places
+pub mod Nops
+pub mod Dropping

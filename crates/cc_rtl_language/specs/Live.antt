@@ -1,0 +1,107 @@
+-- Live sets, and nodes that nobody needs. A register is live at a label where the word that it holds there may still be read. A node that
+-- does nothing but put a word into a register that is live behind none of its ways may as well do nothing.
+use Rattle.std.specs.Prelude.{◌≡◌, ◌≢◌, ℕ, List, [], ◌∷◌, Contains, Bool, true, false, IsTrue, ◌==◌, ◌||◌, not, if◌then◌else◌, Option, Some, None}
+use Rattle.cc_rtl_language.specs.Rtl.{Rtl, Labelled, Node, Nop, Const, Move, Unary, Binary, Load, Store, Call, Read, Write, Branch, Return, node_at, successors}
+
+-- ---- what a node reads and what it sets
+
+-- the registers that it reads
+abbrev pub reads : Node → List ℕ
+reads (Nop next) = []
+reads (Const to word next) = []
+reads (Move to from next) = from ∷ []
+reads (Unary operator to from next) = from ∷ []
+reads (Binary operator to left right next) = left ∷ right ∷ []
+reads (Load width object to index next) = index ∷ []
+reads (Store width object index from next) = index ∷ from ∷ []
+reads (Call function arguments to next) = arguments
+reads (Read to next) = []
+reads (Write from next) = from ∷ []
+reads (Branch from _ _) = from ∷ []
+reads (Return from) = from ∷ []
+
+-- the register of a pure node, which does nothing but put a word into it, where it does not go wrong
+abbrev pub pure_result : Node → Option ℕ
+pure_result (Const to word next) = Some to
+pure_result (Move to from next) = Some to
+pure_result (Unary operator to from next) = Some to
+pure_result (Binary operator to left right next) = Some to
+pure_result (Load width object to index next) = Some to
+pure_result node = None
+
+-- the register that gets its result
+abbrev pub result : Node → Option ℕ
+result (Call function arguments to next) = to
+result (Read to next) = Some to
+result node = pure_result node
+
+-- ---- live sets
+
+-- a set of registers for each label: whether it holds a register
+abbrev pub Sets : Type 0
+Sets = (label register : ℕ) → Bool
+
+-- whether a successor's set holds it
+abbrev pub in_some : Sets → (labels : List ℕ) → (register : ℕ) → Bool
+in_some live [] r = false
+in_some live (s ∷ ss) r = live s r || in_some live ss r
+
+abbrev pub live_behind : Sets → Node → (register : ℕ) → Bool
+live_behind live node r = in_some live (successors node) r
+
+-- a node's own set holds what the node reads and, but for its result, what its successors' sets hold
+pub record Carries (live : Sets) (node : Node) (own : ℕ → Bool) : Type 0 where
+  pub needed : (r : ℕ) → Contains (reads node) r → IsTrue (own r)
+  pub inherited : (r : ℕ) → IsTrue (live_behind live node r) → result node ≢ Some r → IsTrue (own r)
+
+-- so does each node's
+abbrev pub AreLive : List Labelled → Sets → Type 0
+AreLive nodes live = (label : ℕ) (node : Node) → node_at nodes label ≡ Some node → Carries live node (live label)
+
+-- whether a node is pure and no successor's set holds its result
+abbrev pub is_unread : Sets → Node → (result : Option ℕ) → Bool
+is_unread live node None = false
+is_unread live node (Some to) = not (live_behind live node to)
+
+abbrev pub is_dead : Sets → Node → Bool
+is_dead live node = is_unread live node (pure_result node)
+
+-- ---- nodes that become nops
+
+-- a pure node as a nop
+abbrev pub as_nop : Node → Node
+as_nop (Const to word next) = Nop next
+as_nop (Move to from next) = Nop next
+as_nop (Unary operator to from next) = Nop next
+as_nop (Binary operator to left right next) = Nop next
+as_nop (Load width object to index next) = Nop next
+as_nop node = node
+
+-- A nop is pure too, and has no result.
+abbrev pub is_nop : Node → Bool
+is_nop (Nop next) = true
+is_nop node = false
+
+-- some of the nodes as nops
+abbrev pub with_nops : (which : (label : ℕ) → Node → Bool) → List Labelled → List Labelled
+with_nops which [] = []
+with_nops which (n ∷ ns) = record { label = n.label; node = if which n.label n.node then as_nop n.node else n.node } ∷ with_nops which ns
+
+-- They may become nops: some live sets of the code with the nops show each of them dead. All together are asked at once, so that
+-- nodes may go which only one another read. Live sets of the code as it is serve too, since a nop needs no more than the node did.
+pub record MayBecomeNops (nodes : List Labelled) (which : (label : ℕ) → Node → Bool) : Type 0 where
+  pub live : Sets
+  pub are_live : AreLive (with_nops which nodes) live
+  pub dead : (label : ℕ) (node : Node) → node_at nodes label ≡ Some node → IsTrue (which label node) → IsTrue (is_nop node || is_dead live node)
+
+-- whether a label is among some
+abbrev pub among : List ℕ → (label : ℕ) → Bool
+among [] label = false
+among (l ∷ ls) label = l == label || among ls label
+
+-- the function with the nodes of these labels as nops
+abbrev pub without : (labels : List ℕ) → Rtl → Rtl
+without labels rtl = record rtl { nodes = with_nops (λ label node. among labels label) rtl.nodes }
+
+abbrev pub MayGo : (labels : List ℕ) → Rtl → Type 0
+MayGo labels rtl = MayBecomeNops rtl.nodes (λ label node. among labels label)
