@@ -11,8 +11,8 @@ use Rattle.cc_syntax.specs.Tree.{Source}
 use Rattle.cc_syntax.specs.Source.{source}
 use Rattle.cc_syntax.specs.Limits.{TreesAreOne}
 use Rattle.cc_syntax.specs.Parse.{SpellsText}
-use Rattle.cc_meaning.specs.Meaning.{functions}
-use Rattle.cc_meaning.specs.Calls.{TypedUnitsHaveMain}
+use Rattle.cc_semantics.specs.Meaning.{functions}
+use Rattle.cc_semantics.specs.Calls.{TypedUnitsHaveMain}
 use Rattle.cc_unit.specs.declared.unit.StoredUnit.{StoredUnit}
 use Rattle.cc_unit.specs.contracts.unit.StoredUnit as stored
 use Rattle.cc_emit.specs.Piece.{Piece}

@@ -2,7 +2,7 @@
 ghost use Rattle.cc_build.specs.Built.{MadeUnitsAreBuilt};
 
 use cc_link::linked_units_agree;
-use cc_meaning::programs_call_main;
+use cc_semantics::programs_call_main;
 use cc_syntax::trees_are_determined;
 use cc_tokens::tokens_are_determined;
 

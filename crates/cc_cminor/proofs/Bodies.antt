@@ -7,14 +7,14 @@ use Rattle.cc_resolve.specs.Layout.{Layout, LaidObject, layout_of, callee}
 use Rattle.cc_resolve.specs.Environment.{Environment, parameter_names}
 use Rattle.cc_resolve.specs.declared.layout.Callee.{Callee}
 use Rattle.cc_resolve.specs.declared.layout.Callee.TheVariants.{WriteWord, ReadWord, Defined}
-use Rattle.cc_meaning.specs.Meaning as meaning
-use Rattle.cc_meaning.specs.Meaning.{Global, State, Run, Gives, Flow, Falls, Breaks, Continues, Returns, then_do, execute_all, Function, functions, calls, bound, result_of, run_optional, initial_globals, text_of}
-use Rattle.cc_meaning.specs.Function.{Shared, effect_of, state_within, call_function}
-use Rattle.cc_meaning.specs.Resolved as resolved
-use Rattle.cc_meaning.specs.Resolved.{arities, IsResolved}
-use Rattle.cc_meaning.specs.Calls.{Size, size, sizes, laid_size, laid_sizes, shared_of, called, CallsAreEffects, CallsKeepObjects, FunctionsAreNumbered, ObjectsAreNumbered, ObjectsAreSized}
-use Rattle.cc_meaning.specs.Numbered as by_number
-use Rattle.cc_meaning.specs.Numbered.{objects_of, world_of, named, shared_in, numbered, call_in, body_in, arity_in, IsMeaningOf, CallsAreNumbered}
+use Rattle.cc_semantics.specs.Meaning as meaning
+use Rattle.cc_semantics.specs.Meaning.{Global, State, Run, Gives, Flow, Falls, Breaks, Continues, Returns, then_do, execute_all, Function, functions, calls, bound, result_of, run_optional, initial_globals, text_of}
+use Rattle.cc_semantics.specs.Function.{Shared, effect_of, state_within, call_function}
+use Rattle.cc_semantics.specs.Resolved as resolved
+use Rattle.cc_semantics.specs.Resolved.{arities, IsResolved}
+use Rattle.cc_semantics.specs.Calls.{Size, size, sizes, laid_size, laid_sizes, shared_of, called, CallsAreEffects, CallsKeepObjects, FunctionsAreNumbered, ObjectsAreNumbered, ObjectsAreSized}
+use Rattle.cc_semantics.specs.Numbered as by_number
+use Rattle.cc_semantics.specs.Numbered.{objects_of, world_of, named, shared_in, numbered, call_in, body_in, arity_in, IsMeaningOf, CallsAreNumbered}
 use Rattle.cc_typing.specs.Typed.{IsTyped}
 use Rattle.cc_runs.specs.Behavior.{Ended}
 use Rattle.cc_runs.specs.World as world

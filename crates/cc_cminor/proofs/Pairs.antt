@@ -8,10 +8,10 @@ use Rattle.cc_syntax.specs.Parse.{SpellsText}
 use Rattle.cc_typing.specs.Limits.{locals, function_names}
 use Rattle.cc_typing.specs.Typed.{IsTyped, IsWithinLimits, defined_names}
 use Rattle.cc_resolve.specs.Layout.{layout_of}
-use Rattle.cc_meaning.specs.Meaning.{Function, functions}
-use Rattle.cc_meaning.specs.Calls.{CallsAreEffects, CallsKeepObjects, FunctionsAreNumbered, ObjectsAreNumbered, ObjectsAreSized}
-use Rattle.cc_meaning.specs.Numbered.{CallsAreNumbered}
-use Rattle.cc_meaning.specs.Resolved.{arities, FunctionsAreResolved}
+use Rattle.cc_semantics.specs.Meaning.{Function, functions}
+use Rattle.cc_semantics.specs.Calls.{CallsAreEffects, CallsKeepObjects, FunctionsAreNumbered, ObjectsAreNumbered, ObjectsAreSized}
+use Rattle.cc_semantics.specs.Numbered.{CallsAreNumbered}
+use Rattle.cc_semantics.specs.Resolved.{arities, FunctionsAreResolved}
 use Rattle.cc_cminor.specs.Cminor.{Statement}
 use Rattle.cc_cminor.specs.Pair.{Pair, tree_of, code_of, AreCalls, KeepsUp, IsPair}
 use Rattle.cc_cminor.specs.Numbers.{StatementFits}

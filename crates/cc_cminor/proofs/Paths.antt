@@ -1,8 +1,8 @@
 -- Paths of a Cminor run, and what the code at a configuration owes a part of the source's run.
 use Rattle.std.proofs.Common.{◌≡◌, ℕ, suc, ◌+◌, ◌-◌, ◌≤◌, List, [], ◌∷◌, refl, ap, ◌∙◌, arith, add_assoc}
-use Rattle.cc_meaning.specs.Meaning as meaning
-use Rattle.cc_meaning.specs.Meaning.{State, Run, Gives, then_do}
-use Rattle.cc_meaning.specs.Numbered.{objects_of}
+use Rattle.cc_semantics.specs.Meaning as meaning
+use Rattle.cc_semantics.specs.Meaning.{State, Run, Gives, then_do}
+use Rattle.cc_semantics.specs.Numbered.{objects_of}
 use Rattle.cc_runs.specs.Behavior.{Going, Outcome}
 use Rattle.cc_runs.specs.World as world
 use Rattle.cc_runs.specs.World.{Question, Answer, Effect}

@@ -8,10 +8,10 @@ use Rattle.cc_typing.specs.Limits.{objects, object_name, too_many, most_words, w
 use Rattle.cc_typing.specs.Typed.{IsTyped, IsWithinLimits}
 use Rattle.cc_typing.specs.declared.rule.RuleError.{RuleError}
 use Rattle.cc_resolve.specs.Layout.{laid_from}
-use Rattle.cc_meaning.specs.Meaning.{Global, initial_globals}
-use Rattle.cc_meaning.specs.Numbered.{objects_in, objects_of}
-use Rattle.cc_meaning.specs.Calls as calls
-use Rattle.cc_meaning.specs.Calls.{sizes, laid_sizes, ObjectsAreSized}
+use Rattle.cc_semantics.specs.Meaning.{Global, initial_globals}
+use Rattle.cc_semantics.specs.Numbered.{objects_in, objects_of}
+use Rattle.cc_semantics.specs.Calls as calls
+use Rattle.cc_semantics.specs.Calls.{sizes, laid_sizes, ObjectsAreSized}
 use Rattle.cc_rv32.specs.Machine.{globals_from, globals_to}
 use Rattle.cc_runs.specs.World.{Size, size_of}
 use Rattle.cc_emit.specs.Contract.{size_words}

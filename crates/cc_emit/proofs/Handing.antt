@@ -3,7 +3,7 @@ use Rattle.std.proofs.Common.{◌≡◌, ℕ, List, sym, ap, ◌∙◌, subst}
 use Rattle.std.specs.List.{AllByRecursion}
 use Rattle.cc_syntax.specs.Tree.{External}
 use Rattle.cc_syntax.specs.declared.unit.Unit as parsed
-use Rattle.cc_meaning.specs.Numbered.{objects_in}
+use Rattle.cc_semantics.specs.Numbered.{objects_in}
 use Rattle.cc_ltl.specs.Ltl.{Ltl}
 use Rattle.cc_linear.specs.declared.item.Item as linear
 use Rattle.cc_linear.specs.Linear.{labels, IsItem, IsLinear}

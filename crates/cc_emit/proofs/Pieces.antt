@@ -7,8 +7,8 @@ use Rattle.cc_typing.specs.Limits.{too_many, most_parameters, parameter_excesses
 use Rattle.cc_typing.specs.Typed.{IsTyped, IsWithinLimits}
 use Rattle.cc_typing.specs.Scope.{FileScope, file_scope_behind, first_file_scope}
 use Rattle.cc_typing.specs.declared.rule.RuleError.{RuleError}
-use Rattle.cc_meaning.specs.Meaning.{Function, functions, functions_from, text_of}
-use Rattle.cc_meaning.specs.Numbered.{arity_in, objects_in}
+use Rattle.cc_semantics.specs.Meaning.{Function, functions, functions_from, text_of}
+use Rattle.cc_semantics.specs.Numbered.{arity_in, objects_in}
 use Rattle.cc_runs.specs.World.{Size}
 use Rattle.cc_runs.specs.Tracks.{TracksForAll}
 use Rattle.cc_linear.specs.Linear.{labels, IsItem, IsLinear, linear_move, linear_output, linear_start}

@@ -4,8 +4,8 @@ use Rattle.cc_syntax.specs.Tree.{External}
 use Rattle.cc_syntax.specs.Source.{source}
 use Rattle.cc_syntax.specs.declared.unit.Unit as parsed
 use Rattle.cc_typing.specs.Typed.{IsTyped}
-use Rattle.cc_meaning.specs.Meaning.{functions}
-use Rattle.cc_meaning.specs.Numbered.{IsMeaningOf}
+use Rattle.cc_semantics.specs.Meaning.{functions}
+use Rattle.cc_semantics.specs.Numbered.{IsMeaningOf}
 use Rattle.cc_runs.specs.Meaning.{Meaning}
 use Rattle.cc_ltl.specs.Ltl.{Ltl, IsLtl}
 use Rattle.cc_linear.specs.Pair.{most_blocks}

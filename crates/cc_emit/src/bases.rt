@@ -5,13 +5,13 @@ ghost use Rattle.cc_syntax.specs.Erase.{object_trees, external_tree, external_tr
 ghost use Rattle.cc_syntax.specs.Tree.{External as Tree};
 ghost use Rattle.cc_typing.specs.Limits.{objects};
 ghost use Rattle.cc_typing.specs.Typed.{IsTyped, IsWithinLimits};
-ghost use Rattle.cc_meaning.specs.Numbered.{objects_in};
+ghost use Rattle.cc_semantics.specs.Numbered.{objects_in};
 ghost use Rattle.cc_rv32.specs.Machine.{globals_to};
 ghost use Rattle.cc_emit.specs.Objects.{object_address};
 ghost use Rattle.cc_emit.specs.internal.Bases.{base_in, bases_from, address_behind};
 
-use cc_meaning::names_have_numbers;
 use cc_rv32::map::GLOBALS_FROM;
+use cc_semantics::names_have_numbers;
 use cc_syntax::{External, Object};
 use cc_typing::object_words;
 use std::alloc::{AllocError, Global};

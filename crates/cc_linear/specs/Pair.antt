@@ -4,8 +4,8 @@ use Rattle.cc_syntax.specs.Tree.{External}
 use Rattle.cc_syntax.specs.Source.{source}
 use Rattle.cc_syntax.specs.declared.unit.Unit as parsed
 use Rattle.cc_typing.specs.Typed.{IsTyped}
-use Rattle.cc_meaning.specs.Meaning.{functions}
-use Rattle.cc_meaning.specs.Numbered.{IsMeaningOf}
+use Rattle.cc_semantics.specs.Meaning.{functions}
+use Rattle.cc_semantics.specs.Numbered.{IsMeaningOf}
 use Rattle.cc_runs.specs.Behavior.{FollowsForAll}
 use Rattle.cc_runs.specs.World.{World}
 use Rattle.cc_runs.specs.Run.{run}

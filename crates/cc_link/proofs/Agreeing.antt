@@ -4,9 +4,9 @@ use Rattle.cc_syntax.specs.Tree.{External}
 use Rattle.cc_typing.specs.Typed.{IsTyped, IsWithinLimits}
 use Rattle.cc_typing.specs.Limits.{objects}
 use Rattle.cc_typing.specs.Verdict.{source_with}
-use Rattle.cc_meaning.specs.Meaning.{functions, initial_globals}
-use Rattle.cc_meaning.specs.Calls.{HasMain, main_of, first_shared, TypedUnitsHaveMain, ObjectsAreSized}
-use Rattle.cc_meaning.specs.Numbered.{IsMeaningOf, objects_of, world_of, outcome_by_number, TypedUnitsHaveMeanings, ProgramsAreNumbered}
+use Rattle.cc_semantics.specs.Meaning.{functions, initial_globals}
+use Rattle.cc_semantics.specs.Calls.{HasMain, main_of, first_shared, TypedUnitsHaveMain, ObjectsAreSized}
+use Rattle.cc_semantics.specs.Numbered.{IsMeaningOf, objects_of, world_of, outcome_by_number, TypedUnitsHaveMeanings, ProgramsAreNumbered}
 use Rattle.cc_runs.specs.Behavior.{Outcome, AreWords, Follows}
 use Rattle.cc_runs.specs.Meaning.{Meaning}
 use Rattle.cc_runs.specs.World.{Size}

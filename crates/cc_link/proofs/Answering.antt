@@ -10,9 +10,9 @@ use Rattle.cc_syntax.specs.Limits.{TreesAreOne}
 use Rattle.cc_syntax.specs.Parse.{SpellsText}
 use Rattle.cc_typing.specs.Typed.{IsTyped, IsWithinLimits, defined_names}
 use Rattle.cc_typing.specs.Checked.{IsChecked}
-use Rattle.cc_meaning.specs.Meaning.{functions}
-use Rattle.cc_meaning.specs.Calls.{ObjectsAreSized}
-use Rattle.cc_meaning.specs.Numbered.{TypedUnitsHaveMeanings}
+use Rattle.cc_semantics.specs.Meaning.{functions}
+use Rattle.cc_semantics.specs.Calls.{ObjectsAreSized}
+use Rattle.cc_semantics.specs.Numbered.{TypedUnitsHaveMeanings}
 use Rattle.cc_unit.specs.declared.unit.StoredUnit.{StoredUnit}
 use Rattle.cc_emit.specs.declared.item.Item.{Item}
 use Rattle.cc_emit.specs.Piece.{Piece, IsPieceOfUnit}

@@ -13,9 +13,9 @@ use Rattle.cc_syntax.specs.Parse.{SpellsText}
 use Rattle.cc_typing.specs.Scope.{FileScope, first_file_scope, file_scope_behind}
 use Rattle.cc_typing.specs.Limits.{function_names}
 use Rattle.cc_typing.specs.Typed.{IsTyped, IsWithinLimits, defined_names}
-use Rattle.cc_meaning.specs.Meaning.{functions, functions_from}
-use Rattle.cc_meaning.specs.Calls.{ObjectsAreSized}
-use Rattle.cc_meaning.specs.Numbered.{TypedUnitsHaveMeanings}
+use Rattle.cc_semantics.specs.Meaning.{functions, functions_from}
+use Rattle.cc_semantics.specs.Calls.{ObjectsAreSized}
+use Rattle.cc_semantics.specs.Numbered.{TypedUnitsHaveMeanings}
 use Rattle.cc_runs.specs.World.{Size}
 use Rattle.cc_emit.specs.declared.item.Item.{Item}
 use Rattle.cc_emit.specs.declared.item.Item.TheVariants.{Plain, Call, Go}

@@ -1,4 +1,4 @@
--- A text of before has its unit, its program does what it did, and an image agrees with it that agreed: the laws of `cc_meaning` on its
+-- A text of before has its unit, its program does what it did, and an image agrees with it that agreed: the laws of `cc_semantics` on its
 -- tree, and `EarlierRuns` on its run.
 use Rattle.std.proofs.Common.{◌≡◌, ℕ, List, sym, ap, ◌∙◌, subst}
 use Rattle.std.proofs.Math.Logic.{∥∥₁_map}
@@ -6,8 +6,8 @@ use Rattle.cc_rv32.specs.declared.image.Image.{Image}
 use Rattle.cc_tokens.specs.Tokens.{TokensAreOne}
 use Rattle.cc_syntax.specs.Tree.{External}
 use Rattle.cc_typing.specs.Verdict.{source_with}
-use Rattle.cc_meaning.specs.Numbered.{without_cause}
-use Rattle.cc_meaning.specs.Earlier.{HasNoChar, ArePlain, EarlierText, EarlierTreesStay, NoTreeIsNew, EarlierRulesStay, EarlierMeaningStays}
+use Rattle.cc_semantics.specs.Numbered.{without_cause}
+use Rattle.cc_semantics.specs.Earlier.{HasNoChar, ArePlain, EarlierText, EarlierTreesStay, NoTreeIsNew, EarlierRulesStay, EarlierMeaningStays}
 use Rattle.cc_runs.specs.Behavior.{Outcome, Follows}
 use Rattle.cc_link.specs.Agree.{image_behavior, program_behavior, Agreement}
 use Rattle.cc_link.specs.Earlier.{earlier_program_behavior, EarlierAgreement, EarlierUnitsStay, EarlierProgramsStay, EarlierImagesAgree, NoAgreementIsNew}

@@ -10,7 +10,7 @@ use Rattle.cc_runs.specs.World.{Object, size_of as object_size, World, Answer, E
 use Rattle.cc_runs.specs.Meaning.{Meaning}
 use Rattle.cc_emit.specs.declared.item.Item.{Item}
 use Rattle.cc_emit.specs.Contract.{Layout, Path, Placed, Enters, ComesBack, Meets, IsPiece}
-use Rattle.cc_meaning.specs.Numbered.{outcome_by_number}
+use Rattle.cc_semantics.specs.Numbered.{outcome_by_number}
 use Rattle.cc_link.specs.Agree.{shown, image_behavior}
 use Rattle.cc_link.specs.Link.{size_of, head, place_of, linked_code, encoded}
 use Rattle.cc_link.proofs.Counting.{Matched, follows}

@@ -5,7 +5,7 @@ use Rattle.std.specs.Option.{option_or}
 use Rattle.std.specs.Cmp.Lexicographic.{other_text}
 use Rattle.cc_syntax.specs.Tree.{Source}
 use Rattle.cc_syntax.specs.Source.{source}
-use Rattle.cc_meaning.specs.Meaning.{functions}
+use Rattle.cc_semantics.specs.Meaning.{functions}
 use Rattle.cc_unit.specs.declared.unit.StoredUnit.{StoredUnit}
 use Rattle.cc_emit.specs.Piece.{Piece}
 use Rattle.cc_link.specs.declared.fault.LinkFault.{LinkFault}

@@ -9,8 +9,8 @@ use Rattle.cc_syntax.specs.Tree.{External, Source}
 use Rattle.cc_syntax.specs.Parse.{SpellsText}
 use Rattle.cc_typing.specs.Typed.{IsTyped}
 use Rattle.cc_typing.specs.Verdict.{source_with}
-use Rattle.cc_meaning.specs.Meaning.{source_behavior}
-use Rattle.cc_meaning.specs.Numbered.{without_cause}
+use Rattle.cc_semantics.specs.Meaning.{source_behavior}
+use Rattle.cc_semantics.specs.Numbered.{without_cause}
 use Rattle.cc_runs.specs.Behavior.{AreWords, Stop, Going, Ended, Wrong, Outcome, Follows}
 
 -- how a run of the machine stands: an exit ends it with a word, and a trap is a run that went wrong

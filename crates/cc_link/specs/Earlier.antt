@@ -1,6 +1,6 @@
 -- A text that had a typed unit before there were arrays of `unsigned char` has the same unit and the same behavior, and an image that agreed
 -- with it agrees. What was is said by clauses as they stood: of the grammar, the rules and the limits by those of
--- `cc_meaning/specs/Earlier`, of a run by `EarlierMeaning`. What is left to reading is that each other clause that they lead to has its
+-- `cc_semantics/specs/Earlier`, of a run by `EarlierMeaning`. What is left to reading is that each other clause that they lead to has its
 -- text, as those pages say, and that the machine and `Follows` have theirs.
 use Rattle.std.specs.Prelude.{◌≡◌, ℕ, true, List, []}
 use Rattle.cc_rv32.specs.declared.image.Image.{Image}
@@ -12,9 +12,9 @@ use Rattle.cc_typing.specs.Scope.{first_file_scope}
 use Rattle.cc_typing.specs.Rules.{defines_main, undefined_calls}
 use Rattle.cc_typing.specs.Checked.{IsChecked}
 use Rattle.cc_typing.specs.Verdict.{source_with}
-use Rattle.cc_meaning.specs.Meaning.{source_behavior}
-use Rattle.cc_meaning.specs.Numbered.{without_cause}
-use Rattle.cc_meaning.specs.Earlier.{HasNoChar, EarlierText, earlier_externals_errors, earlier_excesses}
+use Rattle.cc_semantics.specs.Meaning.{source_behavior}
+use Rattle.cc_semantics.specs.Numbered.{without_cause}
+use Rattle.cc_semantics.specs.Earlier.{HasNoChar, EarlierText, earlier_externals_errors, earlier_excesses}
 use Rattle.cc_runs.specs.Behavior.{AreWords, Outcome, Follows}
 use Rattle.cc_link.specs.Agree.{image_behavior, Agree}
 use Rattle.cc_link.specs.EarlierMeaning as earlier

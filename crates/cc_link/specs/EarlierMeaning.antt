@@ -1,5 +1,5 @@
--- What a program did before there were arrays of `unsigned char`: each clause of `cc_meaning/specs/Meaning` that has the state of a run, as
--- it stood then, over objects of words alone (`EarlierGlobal` of `cc_meaning/specs/Earlier`). Clauses without a state are not repeated: but
+-- What a program did before there were arrays of `unsigned char`: each clause of `cc_semantics/specs/Meaning` that has the state of a run, as
+-- it stood then, over objects of words alone (`EarlierGlobal` of `cc_semantics/specs/Earlier`). Clauses without a state are not repeated: but
 -- for those of an array of `unsigned char` itself, none has another text. The numbers in parentheses are clauses of ISO/IEC 9899:1999.
 use Rattle.std.specs.Prelude.{ℕ, zero, suc, ◌+◌, ◌-◌, true, false, List, [], ◌∷◌, ◌++◌, length, drop, nat_lt, if◌then◌else◌, Option, Some, None, is_some, unwrap_or, slice_get, codes}
 use Rattle.cc_tokens.specs.declared.scalar.Scalar.{Scalar}
@@ -12,12 +12,12 @@ use Rattle.cc_typing.specs.Operators.{working_type, unary_word, binary_word, dec
 use Rattle.cc_typing.specs.Scope as scope
 use Rattle.cc_typing.specs.Scope.{Binding, Visible, in_scope, opened, declared, scope_behind, scope_behind_beginning}
 use Rattle.cc_typing.specs.Types.{value_type, target_type}
-use Rattle.cc_meaning.specs.Outcome as outcome
-use Rattle.cc_meaning.specs.Outcome.{Outcome}
-use Rattle.cc_meaning.specs.Meaning.{Local, Flow, Falls, Breaks, Continues, Returns, local_word, with_local_word, cause_of, Destination, ToVariable, ToElement, Function, functions, function_named, bound, result_of, most_open}
-use Rattle.cc_meaning.specs.Earlier.{EarlierGlobal, earlier_words_of, earlier_with_element, earlier_initial_globals}
-use Rattle.cc_meaning.specs.declared.outcome.Cause.{Cause}
-use Rattle.cc_meaning.specs.declared.outcome.Cause.TheVariants.{Index, Depth}
+use Rattle.cc_semantics.specs.Outcome as outcome
+use Rattle.cc_semantics.specs.Outcome.{Outcome}
+use Rattle.cc_semantics.specs.Meaning.{Local, Flow, Falls, Breaks, Continues, Returns, local_word, with_local_word, cause_of, Destination, ToVariable, ToElement, Function, functions, function_named, bound, result_of, most_open}
+use Rattle.cc_semantics.specs.Earlier.{EarlierGlobal, earlier_words_of, earlier_with_element, earlier_initial_globals}
+use Rattle.cc_semantics.specs.declared.cause.Cause.{Cause}
+use Rattle.cc_semantics.specs.declared.cause.Cause.TheVariants.{Index, Depth}
 
 -- ---- what a run had, and what a part of it came to
 

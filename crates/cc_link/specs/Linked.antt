@@ -7,8 +7,8 @@ use Rattle.cc_syntax.specs.Tree.{External, Source}
 use Rattle.cc_syntax.specs.Source.{source}
 use Rattle.cc_typing.specs.Limits.{objects}
 use Rattle.cc_link.specs.Packed.{image_words}
-use Rattle.cc_meaning.specs.Meaning.{functions}
-use Rattle.cc_meaning.specs.Calls.{main_of}
+use Rattle.cc_semantics.specs.Meaning.{functions}
+use Rattle.cc_semantics.specs.Calls.{main_of}
 use Rattle.cc_rv32.specs.declared.image.Image.{Image}
 use Rattle.cc_unit.specs.declared.unit.StoredUnit.{StoredUnit}
 use Rattle.cc_emit.specs.declared.item.Item.{Item}

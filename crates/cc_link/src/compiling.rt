@@ -5,7 +5,7 @@ ghost use Rattle.std.specs.Arc.{arc_value};
 ghost use Rattle.cc_syntax.specs.Source.{source};
 ghost use Rattle.cc_syntax.specs.Tree.{External};
 ghost use Rattle.cc_syntax.specs.Parse.{SpellsText};
-ghost use Rattle.cc_meaning.specs.Meaning.{functions};
+ghost use Rattle.cc_semantics.specs.Meaning.{functions};
 ghost use Rattle.cc_link.specs.Agree.{Agree};
 ghost use Rattle.cc_link.specs.Compile.{IsProgramText, IsPieceRefusal, IsBuildRefusal, HasPiece};
 ghost use Rattle.cc_link.specs.Pieces.{AreFrom};

@@ -2,12 +2,14 @@
 
 ghost use Rattle.cc_tokens.specs.Tokens.{TokensAreOne};
 ghost use Rattle.cc_syntax.specs.Limits.{TreesAreOne};
-ghost use Rattle.cc_meaning.specs.Calls.{ObjectsAreSized, TypedUnitsHaveMain};
-ghost use Rattle.cc_meaning.specs.Numbered.{ProgramsAreNumbered, TypedUnitsHaveMeanings};
+ghost use Rattle.cc_semantics.specs.Calls.{ObjectsAreSized, TypedUnitsHaveMain};
+ghost use Rattle.cc_semantics.specs.Numbered.{ProgramsAreNumbered, TypedUnitsHaveMeanings};
 ghost use Rattle.cc_link.specs.Earlier.{EarlierImagesAgree, EarlierProgramsStay, EarlierUnitsStay, NoAgreementIsNew};
 ghost use Rattle.cc_link.specs.Laws.{LinkedUnitsAgree, MadeUnitsAreCertified};
 
-use cc_meaning::{earlier_texts_stay, names_have_numbers, programs_call_main, units_have_meanings};
+use cc_semantics::{
+    earlier_texts_stay, names_have_numbers, programs_call_main, units_have_meanings,
+};
 use cc_syntax::trees_are_determined;
 use cc_tokens::tokens_are_determined;
 

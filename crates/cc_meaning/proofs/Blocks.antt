@@ -1,93 +1,21 @@
 -- How a statement is left, in the resolved form; scopes and lists of locals.
 use Rattle.std.proofs.Common.{◌≡◌, ℕ, zero, suc, ◌+◌, ◌-◌, ◌≤◌, List, [], ◌∷◌, ◌++◌, length, reverse, take, drop, Some, slice_get, refl, sym, ap, ◌∙◌, subst, arith, length-append, append_assoc, take-append-drop}
 use Rattle.std.proofs.lemmas.List.{length-map, reverse-append, map-append, drop_at}
-use Rattle.cc_tokens.specs.declared.scalar.Scalar.{Scalar}
-use Rattle.cc_syntax.specs.Tree as tree
-use Rattle.cc_syntax.specs.Tree.{Declarator, Beginning, Declares, Performs, Stmt, Stmts, end, next, Block, Perform, Return, Break, Continue, If, IfElse, While, DoWhile, For}
-use Rattle.cc_typing.specs.Scope.{all_declared, scope_behind}
-use Rattle.cc_typing.specs.Limits.{locals_of}
 use Rattle.cc_meaning.specs.declared.form.Instruction.TheVariants as instruction
 use Rattle.cc_meaning.specs.internal.Form.{FormTree}
-use Rattle.cc_resolve.specs.Environment.{Environment, with_local, with_locals, behind}
+use Rattle.cc_resolve.specs.Environment.{Environment}
 use Rattle.cc_resolve.specs.Layout.{Layout}
-use Rattle.cc_meaning.specs.Meaning.{Local, State, Run, Gives, Flow, Falls, Breaks, Continues, Returns, left_scope, in_block}
+use Rattle.cc_semantics.specs.Meaning.{Local, State, Run, Gives, Flow, Falls, Breaks, Continues, Returns, left_scope, in_block}
 use Rattle.cc_meaning.specs.internal.FormMeaning.{Activation, Configuration}
-use Rattle.cc_meaning.proofs.Held.{names_of, words_in, layout_from}
+use Rattle.cc_semantics.proofs.Held.{names_of, words_in, layout_from}
 use Rattle.cc_meaning.proofs.Moves.{Leads, leads_then, conf, Meets, meets_after, meets_then}
-use Rattle.cc_meaning.proofs.Fits.{Fits, Scoped, scoped_local}
+use Rattle.cc_meaning.proofs.Fits.{Fits}
 
 -- ---- environments
 
 -- the same with further locals before the others
 abbrev pub over : List (List ℕ) → Environment → Environment
 over extra v = record v { locals = extra ++ v.locals }
-
-pub with_locals_visible : (t : Scalar) (ds : List Declarator) (v : Environment) → (with_locals t ds v).visible ≡ all_declared t ds v.visible
-with_locals_visible t [] v = refl
-with_locals_visible t (d ∷ rest) v = with_locals_visible t rest (with_local t d.name.text v)
-
-pub with_locals_layout : (t : Scalar) (ds : List Declarator) (v : Environment) → (with_locals t ds v).layout ≡ v.layout
-with_locals_layout t [] v = refl
-with_locals_layout t (d ∷ rest) v = with_locals_layout t rest (with_local t d.name.text v)
-
-pub with_locals_length : (t : Scalar) (ds : List Declarator) (v : Environment) → length (with_locals t ds v).locals ≡ length v.locals + length ds
-with_locals_length t [] v = omega arith
-with_locals_length t (d ∷ rest) v = let e = with_locals_length t rest (with_local t d.name.text v) in omega arith
-
-pub with_locals_over : (t : Scalar) (ds : List Declarator) (v : Environment) → (extra : List (List ℕ)) × ((with_locals t ds v).locals ≡ extra ++ v.locals)
-with_locals_over t [] v = ([], refl)
-with_locals_over t (d ∷ rest) v =
-    let e = with_locals_over t rest (with_local t d.name.text v) in (e.0 ++ d.name.text ∷ [], e.1 ∙ sym (append_assoc e.0 (d.name.text ∷ []) v.locals))
-
-pub scoped_locals : (layout : Layout) (defined : List (List ℕ)) (Takes : List ℕ → ℕ → Type 0) (t : Scalar) (ds : List Declarator) (v : Environment)
-    → Scoped layout defined Takes v → Scoped layout defined Takes (with_locals t ds v)
-scoped_locals layout defined Takes t [] v h = h
-scoped_locals layout defined Takes t (d ∷ rest) v h = scoped_locals layout defined Takes t rest (with_local t d.name.text v) (scoped_local layout defined Takes t d.name.text v h)
-
--- after a statement
-pub record Behind (layout : Layout) (defined : List (List ℕ)) (Takes : List ℕ → ℕ → Type 0) (s : Stmt) (v : Environment) : Type 0 where
-  pub visible : (behind s v).visible ≡ scope_behind s v.visible
-  pub laid : (behind s v).layout ≡ v.layout
-  pub extra : List (List ℕ)
-  pub locals : (behind s v).locals ≡ extra ++ v.locals
-  pub room : length (behind s v).locals ≤ length v.locals + length (locals_of s)
-  pub scoped : Scoped layout defined Takes (behind s v)
-
-stays : (layout : Layout) (defined : List (List ℕ)) (Takes : List ℕ → ℕ → Type 0) (s : Stmt) (v : Environment) → behind s v ≡ v → scope_behind s v.visible ≡ v.visible → Scoped layout defined Takes v → Behind layout defined Takes s v
-stays layout defined Takes s v e f h =
-    let l : length (behind s v).locals ≡ length v.locals = ap (λ (w : Environment). length w.locals) e in
-    record {
-      visible = ap (λ (w : Environment). w.visible) e ∙ sym f;
-      laid = ap (λ (w : Environment). w.layout) e;
-      extra = [];
-      locals = ap (λ (w : Environment). w.locals) e;
-      room = omega arith;
-      scoped = subst (Scoped layout defined Takes) (sym e) h;
-    }
-
-pub behind_is : (layout : Layout) (defined : List (List ℕ)) (Takes : List ℕ → ℕ → Type 0) (s : Stmt) (v : Environment) → Scoped layout defined Takes v → Behind layout defined Takes s v
-behind_is layout defined Takes (tree.Local t ds) v h =
-    let e = with_locals_over t ds v in
-    let l = with_locals_length t ds v in
-    let m = length-map ds (λ (d : Declarator). d.name) in
-    record {
-      visible = with_locals_visible t ds v;
-      laid = with_locals_layout t ds v;
-      extra = e.0;
-      locals = e.1;
-      room = omega arith;
-      scoped = scoped_locals layout defined Takes t ds v h;
-    }
-behind_is layout defined Takes (Block all) v h = stays layout defined Takes (Block all) v refl refl h
-behind_is layout defined Takes (Perform a) v h = stays layout defined Takes (Perform a) v refl refl h
-behind_is layout defined Takes (Return at e) v h = stays layout defined Takes (Return at e) v refl refl h
-behind_is layout defined Takes (Break at) v h = stays layout defined Takes (Break at) v refl refl h
-behind_is layout defined Takes (Continue at) v h = stays layout defined Takes (Continue at) v refl refl h
-behind_is layout defined Takes (If c a) v h = stays layout defined Takes (If c a) v refl refl h
-behind_is layout defined Takes (IfElse c a b) v h = stays layout defined Takes (IfElse c a b) v refl refl h
-behind_is layout defined Takes (While c a) v h = stays layout defined Takes (While c a) v refl refl h
-behind_is layout defined Takes (DoWhile a c) v h = stays layout defined Takes (DoWhile a c) v refl refl h
-behind_is layout defined Takes (For f c b a) v h = stays layout defined Takes (For f c b a) v refl refl h
 
 -- ---- configurations
 

@@ -14,18 +14,20 @@ use Rattle.cc_meaning.specs.internal.Form.{FormTree, call_to, call_of, statement
 use Rattle.cc_resolve.specs.declared.layout.Callee.TheVariants as leads
 use Rattle.cc_resolve.specs.Environment.{Environment, parameter_names}
 use Rattle.cc_resolve.specs.Layout.{Layout, names_before}
-use Rattle.cc_meaning.specs.Outcome as outcome
-use Rattle.cc_meaning.specs.declared.outcome.Cause.TheVariants.{Depth}
-use Rattle.cc_meaning.specs.Meaning.{Local, State, Gives, Wrong, Flow, Falls, Breaks, Continues, Returns, Calls, spend_of, Function, text_of, function_named, bound, result_of, run_body, run_optional, read_input, most_open, calls, execute_all}
+use Rattle.cc_semantics.specs.Outcome as outcome
+use Rattle.cc_semantics.specs.declared.cause.Cause.TheVariants.{Depth}
+use Rattle.cc_semantics.specs.Meaning.{Local, State, Gives, Wrong, Flow, Falls, Breaks, Continues, Returns, Calls, spend_of, Function, text_of, function_named, bound, result_of, run_body, run_optional, read_input, most_open, calls, execute_all}
 use Rattle.cc_meaning.specs.internal.FormMeaning.{Activation, Configuration, Move, Goes, Stops, instruction_move, call_move, stepped, entered, only_if, read_move}
-use Rattle.cc_meaning.proofs.Named.{same_name_symm, call_begins}
-use Rattle.cc_meaning.proofs.Steps.{begun, body_part}
-use Rattle.cc_meaning.proofs.Held.{names_of, words_in, newest_last, layout_from}
+use Rattle.cc_semantics.proofs.Named.{same_name_symm, call_begins}
+use Rattle.cc_semantics.proofs.Steps.{begun, body_part}
+use Rattle.cc_semantics.proofs.Held.{names_of, words_in, newest_last, layout_from}
 use Rattle.cc_meaning.proofs.Moves.{Halts, Leads, leads_refl, leads_then, conf, Meets, meets_then, meets_after, meets_same, Stands, stands_end, stands_left, stands_right, instructed, instructed_last}
-use Rattle.cc_meaning.proofs.Fits.{Fits, Scoped}
+use Rattle.cc_meaning.proofs.Fits.{Fits}
 use Rattle.cc_meaning.proofs.Expressions.{Value, CallsMeet}
 use Rattle.cc_meaning.proofs.Blocks.{Leaves, Done}
 use Rattle.cc_meaning.proofs.Executes.{execute_all_meets}
+use Rattle.cc_semantics.proofs.Scoped.{Scoped}
+use Rattle.cc_semantics.proofs.Bodies.{Takes, Writes, Reads, Enters}
 
 -- ---- parameters
 
@@ -49,13 +51,6 @@ pub bound_variables : (xs : List (List ℕ)) (ws : List ℕ) → length ws ≡ l
 bound_variables xs ws e = ap (λ (l : List ℕ). reverse l) (bound_words xs ws [] e ∙ append-nil (reverse ws)) ∙ reverse-reverse ws
 
 -- ---- functions
-
--- what a name takes: a builtin none or one word, a function that is defined as many as it has parameters
-pub data Takes (names : List (List ℕ)) (fs : List Function) (x : List ℕ) (count : ℕ) : Type 0 where
-  Writes : same_name x (codes "write_word") ≡ true → count ≡ 1 → Takes names fs x count
-  Reads : same_name x (codes "write_word") ≡ false → same_name x (codes "read_word") ≡ true → count ≡ 0 → Takes names fs x count
-  Enters : same_name x (codes "write_word") ≡ false → same_name x (codes "read_word") ≡ false → has_name names x ≡ true
-      → ((g : Function) → function_named fs x ≡ Some g → length g.parameters ≡ count) → Takes names fs x count
 
 -- a function in the source and its instructions, in the environment where its body begins
 pub record Defined (layout : Layout) (defined : List (List ℕ)) (fs : List Function) (g : Function) (fc : FunctionCode) : Type 0 where

@@ -3,7 +3,7 @@ use Rattle.std.proofs.Common.{◌≡◌, ℕ, zero, suc, ◌+◌, ◌<◌, ◌�
 use Rattle.std.proofs.lemmas.List.{length-map}
 use Rattle.cc_tokens.specs.declared.scalar.Scalar.{Scalar}
 use Rattle.cc_syntax.specs.Tree as tree
-use Rattle.cc_syntax.specs.Tree.{Expr, Action, Declarator, Beginning, Declares, Performs, Stmt, Stmts, end, next, Block, Perform, Return, Break, Continue, If, IfElse, While, DoWhile, For}
+use Rattle.cc_syntax.specs.Tree.{Expr, Declarator, Beginning, Declares, Performs, Stmt, Stmts, end, next, Block, Perform, Return, Break, Continue, If, IfElse, While, DoWhile, For}
 use Rattle.cc_typing.specs.Scope.{Binding, Visible, in_scope, opened, scope_behind, scope_behind_beginning}
 use Rattle.cc_typing.specs.Rules.{broken, void_errors, expression_errors, value_errors, optional_errors, optional_action_errors, beginning_errors, return_errors, Around, within_loop, statement_errors, statements_errors, undefined_among, called_in, called_in_optional, called_in_optional_action, called_in_beginning, called_in_statement, called_in_statements}
 use Rattle.cc_typing.specs.declared.rule.Rule.TheVariants.{BadReturn}
@@ -13,17 +13,18 @@ use Rattle.cc_meaning.specs.declared.form.Instruction.TheVariants as instruction
 use Rattle.cc_meaning.specs.internal.Form.{FormTree, expression_code, optional_action_code, Exits, further, declared_code, beginning_code, value_code, condition_code, turns_code, loop_code, exits_of_body, statement_code, statements_code}
 use Rattle.cc_resolve.specs.Environment.{Environment, types_in, inner, with_locals, behind, behind_beginning}
 use Rattle.cc_resolve.specs.Layout.{Layout}
-use Rattle.cc_meaning.specs.Meaning.{State, Run, Gives, Flow, Falls, Breaks, Continues, Returns, then_do, choose, Calls, behind_flow, begin_body, turns, evaluate, evaluate_or, perform_optional, declare, start, in_block, return, execute, execute_all}
+use Rattle.cc_semantics.specs.Meaning.{State, Run, Gives, Flow, Falls, Breaks, Continues, Returns, then_do, choose, Calls, behind_flow, begin_body, turns, evaluate, evaluate_or, perform_optional, declare, start, in_block, return, execute, execute_all}
 use Rattle.cc_meaning.specs.internal.FormMeaning.{Activation, Configuration}
-use Rattle.cc_meaning.proofs.Errors.{nil_left, nil_right, defined_left, defined_right}
+use Rattle.cc_semantics.proofs.Errors.{nil_left, nil_right, defined_left, defined_right}
 use Rattle.cc_meaning.proofs.Moves.{Leads, leads_refl, leads_then, conf, Meets, meets_then, meets_after, Stands, stands_end, stands_left, stands_right, jumps}
-use Rattle.cc_meaning.proofs.Fits.{Fits, Scoped, scoped_inner}
+use Rattle.cc_meaning.proofs.Fits.{Fits}
 use Rattle.cc_meaning.proofs.Expressions.{Value, CallsMeet, Part, pushes, branches, passes}
 use Rattle.cc_meaning.proofs.Evaluates.{expression_meets}
 use Rattle.cc_meaning.proofs.Actions.{Acted}
 use Rattle.cc_meaning.proofs.Performs.{optional_meets, declare_meets}
-use Rattle.cc_meaning.proofs.Blocks.{over, with_locals_visible, with_locals_layout, with_locals_length, with_locals_over, scoped_locals, behind_is, fits_env, Reaches, Leaves, Done, done_after, reaches_after, leaves_after, reaches_leaves, block_meets}
+use Rattle.cc_meaning.proofs.Blocks.{over, fits_env, Reaches, Leaves, Done, done_after, reaches_after, leaves_after, reaches_leaves, block_meets}
 use Rattle.cc_meaning.proofs.Loops.{Loop, turns_length, loop_stands, turns_meet, begins_meet}
+use Rattle.cc_semantics.proofs.Scoped.{Scoped, scoped_inner, with_locals_visible, with_locals_layout, with_locals_length, with_locals_over, scoped_locals, behind_is}
 
 -- after the first part of a `for` header
 record BehindBeginning (layout : Layout) (defined : List (List ℕ)) (Takes : List ℕ → ℕ → Type 0) (s : Beginning) (v : Environment) : Type 0 where

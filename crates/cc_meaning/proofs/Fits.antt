@@ -1,22 +1,18 @@
 -- When a configuration of the form stands for a state of the source, and how variables and elements are read and written in
 -- it.
-use Rattle.std.proofs.Common.{◌≡◌, ℕ, ◌+◌, ◌<◌, ◌≤◌, Bool, true, false, if◌then◌else◌, List, [], ◌∷◌, ◌++◌, length, reverse, nat_lt, ◌⊎◌, inl, inr, Option, Some, None, is_some, slice_get, slice_set, unwrap_or, refl, sym, ap, ◌∙◌, subst, arith}
+use Rattle.std.proofs.Common.{◌≡◌, ℕ, ◌+◌, ◌<◌, ◌≤◌, true, if◌then◌else◌, List, [], ◌∷◌, ◌++◌, length, reverse, nat_lt, inl, inr, Option, Some, None, is_some, slice_get, slice_set, unwrap_or, refl, sym, ap, ◌∙◌, subst, arith}
 use Rattle.std.proofs.lemmas.Bool.{lt-ltb}
 use Rattle.cc_words.specs.Widths.{kept}
-use Rattle.cc_tokens.specs.declared.scalar.Scalar.{Scalar}
-use Rattle.cc_typing.specs.Names.{same_name}
-use Rattle.cc_typing.specs.Scope as scope
-use Rattle.cc_typing.specs.Scope.{Binding, found, declared}
 use Rattle.cc_meaning.specs.declared.form.Instruction.TheVariants as instruction
 use Rattle.cc_meaning.specs.internal.Form.{FormTree, load}
-use Rattle.cc_resolve.specs.Environment.{Environment, types_in, inner, with_local, number_in}
-use Rattle.cc_resolve.specs.Layout.{Layout, extent_of}
-use Rattle.cc_meaning.specs.Meaning.{State, local_word, words_of, with_local_word, with_element, variable_word, stored}
-use Rattle.cc_meaning.specs.Resolved.{IsObject, IsOneWord}
+use Rattle.cc_resolve.specs.Environment.{Environment, number_in}
+use Rattle.cc_resolve.specs.Layout.{extent_of}
+use Rattle.cc_semantics.specs.Meaning.{State, local_word, words_of, with_local_word, with_element, variable_word, stored}
 use Rattle.cc_meaning.specs.internal.FormMeaning.{Activation, Goes, instruction_move, with_word}
-use Rattle.cc_meaning.proofs.Named.{there}
-use Rattle.cc_meaning.proofs.Held.{names_of, words_in, reads_local, no_local, writes_local, all_of, layout_from, Finds, finds, layout_keep, length_slice_set, get_below}
+use Rattle.cc_semantics.proofs.Named.{there}
+use Rattle.cc_semantics.proofs.Held.{names_of, words_in, reads_local, no_local, writes_local, all_of, layout_from, Finds, finds, layout_keep, length_slice_set, get_below}
 use Rattle.cc_meaning.proofs.Moves.{conf}
+use Rattle.cc_semantics.proofs.Scoped.{Readable}
 
 -- the variables are the words of the locals, the oldest first, with others after them that no name has; the objects stand
 -- where they are placed; at most this many steps are left
@@ -27,46 +23,6 @@ pub record Fits (v : Environment) (total most : ℕ) (vs : List ℕ) (s : State)
   pub holds : vs ≡ reverse (words_in s.locals) ++ junk
   pub room : length vs ≡ total
   pub steps : s.steps ≤ most
-
--- a variable in scope is a local, or an object of one word
-abbrev pub Readable : Environment → List ℕ → Type 0
-Readable v x = ((i : ℕ) × (number_in v.locals x ≡ Some i)) ⊎ ((number_in v.locals x ≡ None) × IsOneWord (extent_of v.layout.objects x))
-
--- what names in scope lead to; `Takes f n` says that f is called with n words
-pub record Scoped (layout : Layout) (defined : List (List ℕ)) (Takes : List ℕ → ℕ → Type 0) (v : Environment) : Type 0 where
-  pub laid : v.layout ≡ layout
-  pub variable : (x : List ℕ) (t : Scalar) → found (types_in v) x ≡ Some (scope.Variable t) → Readable v x
-  pub element : (x : List ℕ) (t : Scalar) → found (types_in v) x ≡ Some (scope.Elements t) → IsObject v x
-  pub function : (f : List ℕ) (r : Option Scalar) (ts : List Scalar) → found (types_in v) f ≡ Some (scope.Function r ts) → scope.has_name defined f ≡ true → Takes f (length ts)
-
-pub scoped_inner : (layout : Layout) (defined : List (List ℕ)) (Takes : List ℕ → ℕ → Type 0) (v : Environment) → Scoped layout defined Takes v → Scoped layout defined Takes (inner v)
-scoped_inner layout defined Takes v h = record { laid = h.laid; variable = h.variable; element = h.element; function = h.function }
-
-local_readable : (v : Environment) (t u : Scalar) (x y : List ℕ) (b : Bool) → same_name x y ≡ b
-    → (if b then Some (scope.Variable t) else found (types_in v) y) ≡ Some (scope.Variable u) → (found (types_in v) y ≡ Some (scope.Variable u) → Readable v y) → Readable (with_local t x v) y
-local_readable v t u x y true eq e h = inl (length v.locals, ap (λ c. if c then Some (length v.locals) else number_in v.locals y) eq)
-local_readable v t u x y false eq e h =
-    let same : number_in (x ∷ v.locals) y ≡ number_in v.locals y = ap (λ c. if c then Some (length v.locals) else number_in v.locals y) eq in
-    elim (h e) [ inl p ↦ inl (p.0, same ∙ p.1) | inr p ↦ inr (same ∙ p.0, p.1) ]
-
-local_called : (v : Environment) (t : Scalar) (x f : List ℕ) (r : Option Scalar) (ts : List Scalar) (b : Bool)
-    → (if b then Some (scope.Variable t) else found (types_in v) f) ≡ Some (scope.Function r ts) → found (types_in v) f ≡ Some (scope.Function r ts)
-local_called v t x f r ts true e = absurd (let g : Some (scope.Variable t) ≡ Some (scope.Function r ts) = e in cc)
-local_called v t x f r ts false e = e
-
-local_indexed : (v : Environment) (t u : Scalar) (x y : List ℕ) (b : Bool)
-    → (if b then Some (scope.Variable t) else found (types_in v) y) ≡ Some (scope.Elements u) → found (types_in v) y ≡ Some (scope.Elements u)
-local_indexed v t u x y true e = absurd (let g : Some (scope.Variable t) ≡ Some (scope.Elements u) = e in cc)
-local_indexed v t u x y false e = e
-
-pub scoped_local : (layout : Layout) (defined : List (List ℕ)) (Takes : List ℕ → ℕ → Type 0) (t : Scalar) (x : List ℕ) (v : Environment)
-    → Scoped layout defined Takes v → Scoped layout defined Takes (with_local t x v)
-scoped_local layout defined Takes t x v h = record {
-  laid = h.laid;
-  variable = λ y u e. local_readable v t u x y (same_name x y) refl e (h.variable y u);
-  element = λ y u e. h.element y u (local_indexed v t u x y (same_name x y) e);
-  function = λ f r ts e d. h.function f r ts (local_called v t x f r ts (same_name x f) e) d;
-}
 
 -- ---- objects
 

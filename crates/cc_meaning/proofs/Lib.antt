@@ -1,9 +1,3 @@
-pub mod Lasting
-pub mod Steps
-pub mod Exact
-pub mod Errors
-pub mod Named
-pub mod Held
 pub mod Moves
 pub mod Plain
 pub mod Fits
@@ -14,16 +8,8 @@ pub mod Performs
 pub mod Blocks
 pub mod Loops
 pub mod Executes
-pub mod Scopes
 pub mod Called
-pub mod Arrays
 pub mod Units
-pub mod Numbers
-pub mod Effects
-pub mod Kept
-pub mod Mains
-pub mod Resolving
-pub mod ByNumber
 pub mod Looped
 pub mod Ending
 pub mod Laying
@@ -39,4 +25,3 @@ pub mod WritingExpressions
 pub mod WritingActions
 pub mod WritingStatements
 pub mod WritingUnits
-pub mod Earlier

@@ -1,3 +1,2 @@
 -- Worked examples.
-pub mod Programs
 pub mod Forms

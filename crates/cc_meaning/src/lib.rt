@@ -1,9 +1,9 @@
-// What a C program does: its behavior on an input within a number of steps.
+// The interpreter of C, which is exactly the meaning of C: a program's behavior on an input within a number of steps.
 //
 // `form` has the instructions that a typed unit becomes, and `writer` writes them, on `emitter`; `operation` has what
-// operations give on words, `interpreter` runs a form over one stack, `run` runs a typed unit; `laws` has what holds of every
-// program, `outcome` how a run comes out, `fault` the refusal 40. The crate hands out `interpret` and these types, and in
-// `specs/Meaning.antt` the meaning of C, which `interpret` is proved to give.
+// operations give on words, `interpreter` runs a form over one stack, `run` runs a typed unit; `outcome` has how a run comes out,
+// `fault` the refusal 40. The crate hands out `interpret` and these types, and what `cc_semantics` hands out: the meaning of C
+// stands in that crate's `specs/Meaning.antt`, and `interpret` is proved to give it.
 #![tactic(auto)]
 
 mod emitter;
@@ -11,18 +11,17 @@ mod fault;
 mod form;
 mod fused;
 mod interpreter;
-mod laws;
 mod operation;
 mod outcome;
 mod run;
 mod writer;
 
+pub use cc_semantics::{
+    Cause, calls_are_effects, calls_go_on, calls_keep_objects, earlier_texts_stay,
+    functions_are_resolved, functions_have_meaning, names_have_numbers, programs_call_main,
+    runs_go_on, units_have_meanings,
+};
 pub use fault::MeaningFault;
 pub use interpreter::MOST_OPEN;
-pub use laws::{
-    calls_are_effects, calls_go_on, calls_keep_objects, earlier_texts_stay, functions_are_resolved,
-    functions_have_meaning, names_have_numbers, programs_call_main, runs_go_on,
-    units_have_meanings,
-};
-pub use outcome::{Cause, Outcome, Stop, Words};
+pub use outcome::{Outcome, Stop, Words};
 pub use run::interpret;

@@ -2,20 +2,8 @@
 
 ghost use Rattle.std.specs.Prelude.{◌≡◌};
 
+use cc_semantics::Cause;
 use std::marker::Model;
-
-/// Why a program goes wrong.
-#[derive(Clone, Copy, PartialEq, Eq, Debug)]
-pub enum Cause {
-    /// A division or remainder by zero, or of -2147483648 by -1 (C99 6.5.5).
-    Division,
-    /// A shift by a count below 0 or above 31 (C99 6.5.7).
-    Shift,
-    /// An index outside its array (C99 6.5.6).
-    Index,
-    /// A call that would make 1,025 open calls.
-    Depth,
-}
 
 /// How a run stops.
 #[derive(Clone, Copy, PartialEq, Eq, Debug)]

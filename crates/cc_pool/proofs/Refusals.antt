@@ -12,7 +12,7 @@ use Rattle.cc_syntax.specs.Parse.{SpellsText}
 use Rattle.cc_typing.specs.Scope.{FileScope, first_file_scope, file_scope_behind}
 use Rattle.cc_typing.specs.Limits.{function_names}
 use Rattle.cc_typing.specs.Typed.{IsTyped, IsWithinLimits, defined_names}
-use Rattle.cc_meaning.specs.Meaning.{functions, functions_from}
+use Rattle.cc_semantics.specs.Meaning.{functions, functions_from}
 use Rattle.cc_link.specs.Compile.{HasNoPiece, IsPieceRefusal}
 use Rattle.cc_link.specs.declared.piece_fault.PieceFault.{PieceFault}
 use Rattle.cc_emit.specs.Piece.{Piece}

@@ -5,7 +5,7 @@ use Rattle.cc_syntax.specs.Parse.{SpellsText, IsParseRefusal}
 use Rattle.cc_typing.specs.Typed.{IsTyped, IsWithinLimits, IsTypeRefusal}
 use Rattle.cc_typing.specs.declared.fault.TypeFault.{TypeFault}
 use Rattle.cc_typing.specs.declared.fault.TypeFault.TheVariants as type_fault
-use Rattle.cc_meaning.specs.Meaning.{source_behavior}
+use Rattle.cc_semantics.specs.Meaning.{source_behavior}
 use Rattle.cc_meaning.specs.Erase.{outcome_tree}
 use Rattle.cc_rv32.specs.declared.image.Image.{Image}
 use Rattle.cc_rv32.specs.Machine.{machine_behavior}

@@ -2,8 +2,8 @@
 use Rattle.std.proofs.Common.{◌≡◌, ℕ, suc, ◌<◌, ◌≤◌, List, length, Some, slice_get, sym, ap, ◌∙◌, subst}
 use Rattle.cc_syntax.specs.declared.unit.Unit as parsed
 use Rattle.cc_typing.specs.Typed.{IsTyped}
-use Rattle.cc_meaning.specs.Meaning.{functions}
-use Rattle.cc_meaning.specs.Resolved.{arities}
+use Rattle.cc_semantics.specs.Meaning.{functions}
+use Rattle.cc_semantics.specs.Resolved.{arities}
 use Rattle.cc_runs.proofs.Simulating.{coarser}
 use Rattle.cc_cminor.specs.Code.{statement_of}
 use Rattle.cc_cminor.specs.Pair as cminor

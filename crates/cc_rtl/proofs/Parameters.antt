@@ -6,8 +6,8 @@ use Rattle.cc_syntax.specs.Tree.{Name, Stmts, Parameter, Signature, External, De
 use Rattle.cc_typing.specs.Limits.{too_many, most_parameters, parameter_excesses, external_excesses, externals_excesses, function_names}
 use Rattle.cc_typing.specs.Typed.{IsTyped, IsWithinLimits, definitions, defined_names}
 use Rattle.cc_typing.specs.declared.rule.RuleError.{RuleError}
-use Rattle.cc_meaning.specs.Meaning.{Function, functions, text_of}
-use Rattle.cc_meaning.specs.Resolved.{arities, IsResolved, FunctionsAreResolved}
+use Rattle.cc_semantics.specs.Meaning.{Function, functions, text_of}
+use Rattle.cc_semantics.specs.Resolved.{arities, IsResolved, FunctionsAreResolved}
 use Rattle.cc_syntax.specs.Erase.{parameter_tree, signature_tree, statements_of}
 use Rattle.cc_syntax.specs.Source.{source}
 use Rattle.cc_syntax.specs.declared.unit.Unit as parsed

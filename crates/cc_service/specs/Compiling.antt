@@ -4,7 +4,7 @@ use Rattle.cc_syntax.specs.Tree.{External}
 use Rattle.cc_syntax.specs.Parse.{IsParseRefusal}
 use Rattle.cc_typing.specs.declared.fault.TypeFault.TheVariants as typing
 use Rattle.cc_typing.specs.Verdict.{source_with}
-use Rattle.cc_meaning.specs.Meaning.{functions}
+use Rattle.cc_semantics.specs.Meaning.{functions}
 use Rattle.cc_emit.specs.Piece as emit
 use Rattle.cc_link.specs.Compile.{IsProgramText, IsRefusedTree}
 use Rattle.cc_link.specs.Linked.{linked}

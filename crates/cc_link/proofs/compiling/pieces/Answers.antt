@@ -6,7 +6,7 @@ use Rattle.cc_syntax.specs.declared.unit.Unit.{Unit}
 use Rattle.cc_syntax.specs.Parse.{SpellsText}
 use Rattle.cc_typing.specs.Checked.{IsChecked}
 use Rattle.cc_typing.specs.Typed.{defined_names}
-use Rattle.cc_meaning.specs.Meaning.{functions}
+use Rattle.cc_semantics.specs.Meaning.{functions}
 use Rattle.cc_emit.specs.Piece.{Piece}
 use Rattle.cc_link.specs.Pieces.{AreFrom}
 use Rattle.cc_link.proofs.Deciding.{defined_long}

@@ -3,7 +3,7 @@ use Rattle.std.proofs.Common.{◌≡◌, ◌⊎◌, inl, inr, length, List, Resu
 use Rattle.std.specs.Arc.{arc_value}
 use Rattle.cc_syntax.specs.Source.{source}
 use Rattle.cc_syntax.specs.Tree.{Source}
-use Rattle.cc_meaning.specs.Meaning.{functions}
+use Rattle.cc_semantics.specs.Meaning.{functions}
 use Rattle.cc_unit.specs.declared.unit.StoredUnit.{StoredUnit}
 use Rattle.cc_emit.specs.Piece.{Piece}
 use Rattle.cc_link.specs.Linked.{linked}

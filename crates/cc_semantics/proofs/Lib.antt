@@ -1,0 +1,17 @@
+pub mod Lasting
+pub mod Steps
+pub mod Exact
+pub mod Errors
+pub mod Named
+pub mod Held
+pub mod Scopes
+pub mod Arrays
+pub mod Scoped
+pub mod Bodies
+pub mod Numbers
+pub mod Effects
+pub mod Kept
+pub mod Mains
+pub mod Resolving
+pub mod ByNumber
+pub mod Earlier

@@ -1,0 +1,15 @@
+-- how a run comes out
+pub mod Outcome
+-- what a program does: the meaning of C
+pub mod Meaning
+-- the meaning of one function
+pub mod Function
+-- what the names in a function's body lead to
+pub mod Resolved
+-- what holds of every call
+pub mod Calls
+-- the same by number, as the passes speak of it
+pub mod Numbered
+-- what stays of texts without arrays of `unsigned char`
+pub mod Earlier
+pub mod rows

@@ -1,0 +1,16 @@
+//! The meaning of C: what a typed unit does on an input within a number of steps. It stands in `specs/`, and nothing here runs a
+//! program: `cc_meaning` has the interpreter, which is exactly it, and the passes follow it.
+//!
+//! `cause` has why a program goes wrong; `laws` has what holds of every program: the functions there do nothing, and the contract of
+//! each is a law of these definitions.
+#![tactic(auto)]
+
+mod cause;
+mod laws;
+
+pub use cause::Cause;
+pub use laws::{
+    calls_are_effects, calls_go_on, calls_keep_objects, earlier_texts_stay, functions_are_resolved,
+    functions_have_meaning, names_have_numbers, programs_call_main, runs_go_on,
+    units_have_meanings,
+};
