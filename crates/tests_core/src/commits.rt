@@ -3,7 +3,7 @@ use crate::script::Line::{
     Ack, Add, Begin, Crash, Done, Recover, Refuse, Replace, RewriteAll, SyncAll, SyncArea,
     SyncBody, SyncGate, Take, Withdraw, WriteArea, WriteBody, WriteGate,
 };
-use crate::script::{Line, ONE, TWO, fresh, leaves, run};
+use crate::script::{Line, ONE, TWO, begins, goes_on};
 use cc_core::fault::{BuildFault, CoreFault};
 use cc_core::sequence::Sequence;
 use std::test::Fail;
@@ -41,13 +41,13 @@ const ONE_OF_TWO: [(Line, u32); 8] = [
 #[test]
 fn two_clients_add_one_name(rt: HostRuntime) -> Result<(), Fail> {
     let alloc = rt.alloc();
-    assert!(rt; leaves(alloc, run(alloc, &TWO_CLIENTS)?, &[], (None, None, None, 0))?);
+    assert!(rt; goes_on(alloc, &TWO_CLIENTS, &[], &(None, None, None, 0))?);
     assert!(rt;
-        leaves(
+        goes_on(
             alloc,
-            run(alloc, &TWO_CLIENTS)?,
+            &TWO_CLIENTS,
             &ONE_OF_TWO,
-            (Some(TWO), None, None, 1)
+            &(Some(TWO), None, None, 1)
         )?
     );
     Ok(())
@@ -102,8 +102,7 @@ const CHANGED: [(Line, u32); 42] = [
 
 #[test]
 fn refused_and_changed(rt: HostRuntime) -> Result<(), Fail> {
-    let alloc = rt.alloc();
-    assert!(rt; leaves(alloc, fresh(alloc, 200)?, &CHANGED, (None, None, None, 3))?);
+    assert!(rt; begins(rt.alloc(), 200, &CHANGED, &(None, None, None, 3))?);
     Ok(())
 }
 
@@ -132,8 +131,7 @@ const NOT_NOW: [(Line, u32); 19] = [
 
 #[test]
 fn not_now(rt: HostRuntime) -> Result<(), Fail> {
-    let alloc = rt.alloc();
-    assert!(rt; leaves(alloc, fresh(alloc, 200)?, &NOT_NOW, (None, None, None, 0))?);
+    assert!(rt; begins(rt.alloc(), 200, &NOT_NOW, &(None, None, None, 0))?);
     Ok(())
 }
 
@@ -168,15 +166,7 @@ const TWO_PIECES: [(Line, u32); 25] = [
 
 #[test]
 fn two_pieces(rt: HostRuntime) -> Result<(), Fail> {
-    let alloc = rt.alloc();
-    assert!(rt;
-        leaves(
-            alloc,
-            fresh(alloc, 200)?,
-            &TWO_PIECES,
-            (Some(LONG), None, None, 1)
-        )?
-    );
+    assert!(rt; begins(rt.alloc(), 200, &TWO_PIECES, &(Some(LONG), None, None, 1))?);
     Ok(())
 }
 
@@ -209,15 +199,7 @@ const FULL: [(Line, u32); 22] = [
 
 #[test]
 fn full_area(rt: HostRuntime) -> Result<(), Fail> {
-    let alloc = rt.alloc();
-    assert!(rt;
-        leaves(
-            alloc,
-            fresh(alloc, 64)?,
-            &FULL,
-            (Some(ONE), Some(TWO), None, 2)
-        )?
-    );
+    assert!(rt; begins(rt.alloc(), 64, &FULL, &(Some(ONE), Some(TWO), None, 2))?);
     Ok(())
 }
 
@@ -251,15 +233,7 @@ const CERTIFIED: [(Line, u32); 19] = [
 
 #[test]
 fn a_certificate_that_has_no_room(rt: HostRuntime) -> Result<(), Fail> {
-    let alloc = rt.alloc();
-    assert!(rt;
-        leaves(
-            alloc,
-            fresh(alloc, 64)?,
-            &CERTIFIED,
-            (Some(ROOM), None, None, 1)
-        )?
-    );
+    assert!(rt; begins(rt.alloc(), 64, &CERTIFIED, &(Some(ROOM), None, None, 1))?);
     Ok(())
 }
 

@@ -3,7 +3,7 @@ use crate::builds::FewPieces;
 use crate::script::Line::{
     Ack, Add, Begin, Crash, Done, Fails, Recover, SyncBody, SyncGate, Take, WriteBody, WriteGate,
 };
-use crate::script::{Line, ONE, TWO, fresh, leaves, run};
+use crate::script::{Line, ONE, TWO, begins, goes_on};
 use cc_core::laws::{crash_law, survival_law, turn_law};
 use std::alloc::Global;
 use std::test::Fail;
@@ -24,21 +24,22 @@ const COMMIT: [Line; 8] = [
 // commands were acknowledged.
 type Row = (usize, Line, u8, bool, usize);
 
-// Whether what is recovered is that.
-fn recovers(alloc: Global, row: Row) -> Result<bool, Fail> {
-    let (done, last, byte, there, acknowledged) = row;
-    let mut lines = Vec::new(alloc);
+// Adds the lines of a row.
+fn add_lines(lines: &mut Vec<Line>, done: usize, last: Line, byte: u8) -> Result<(), Fail> {
     for line in COMMIT.iter().take(done) {
         lines.push(*line)?;
     }
     lines.extend_from_slice(&[last, Crash(byte), Recover])?;
+    Ok(())
+}
+
+// Whether what is recovered is that.
+fn recovers(alloc: Global, row: Row) -> Result<bool, Fail> {
+    let (done, last, byte, there, acknowledged) = row;
+    let mut lines = Vec::new(alloc);
+    add_lines(&mut lines, done, last, byte)?;
     let wanted = if there { Some(ONE) } else { None };
-    leaves(
-        alloc,
-        run(alloc, &lines)?,
-        &[],
-        (wanted, None, None, acknowledged),
-    )
+    goes_on(alloc, &lines, &[], &(wanted, None, None, acknowledged))
 }
 
 const CRASHES: [Row; 12] = [
@@ -108,24 +109,16 @@ const FAILED: [(Line, u32); 32] = [
 
 #[test]
 fn until_the_recovery(rt: HostRuntime) -> Result<(), Fail> {
-    let alloc = rt.alloc();
-    assert!(rt;
-        leaves(
-            alloc,
-            run(alloc, &COMMIT[..7])?,
-            &FAILED,
-            (Some(ONE), Some(ONE), None, 1)
-        )?
-    );
+    let first = &COMMIT[..7];
+    assert!(rt; goes_on(rt.alloc(), first, &FAILED, &(Some(ONE), Some(ONE), None, 1))?);
     Ok(())
 }
 
 // No record is recovered from a new disk.
 #[test]
 fn an_empty_recovery(rt: HostRuntime) -> Result<(), Fail> {
-    let alloc = rt.alloc();
-    let lines = [(Crash(0xa5), 0), (Recover, 0)];
-    assert!(rt; leaves(alloc, fresh(alloc, 200)?, &lines, (None, None, None, 0))?);
+    let wanted = (None, None, None, 0);
+    assert!(rt; begins(rt.alloc(), 200, &[(Crash(0xa5), 0), (Recover, 0)], &wanted)?);
     Ok(())
 }
 

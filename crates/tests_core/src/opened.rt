@@ -11,7 +11,7 @@ use crate::piece::compiled;
 use crate::script::Line::{
     Ack, Add, Begin, Crash, Done, Recover, SyncBody, SyncGate, Take, Withdraw, WriteBody, WriteGate,
 };
-use crate::script::{Line, ONE, TWO, event, leaves, name_of, number_of};
+use crate::script::{Held, Line, ONE, TWO, event, leaves, name_of, number_of};
 use cc_core::laws::units_law;
 use cc_core::state::State;
 use cc_disk::{Disk, MemoryDisk};
@@ -122,34 +122,19 @@ const LOST: [(Line, u32); 13] = [
     (Recover, 0),
 ];
 
+// Whether these events from that state on answer so, and leave these.
+fn goes_on(alloc: Global, lines: &[(Line, u32)], wanted: &Held) -> Result<bool, Fail> {
+    leaves(alloc, opened(alloc)?, lines, wanted)
+}
+
 #[test]
 fn a_third_unit(rt: HostRuntime) -> Result<(), Fail> {
     let alloc = rt.alloc();
-    assert!(rt; leaves(alloc, opened(alloc)?, &[], (Some(ONE), Some(TWO), None, 2))?);
-    assert!(rt;
-        leaves(
-            alloc,
-            opened(alloc)?,
-            &ACKNOWLEDGED,
-            (Some(ONE), Some(TWO), Some(ONE), 3)
-        )?
-    );
-    assert!(rt;
-        leaves(
-            alloc,
-            opened(alloc)?,
-            &TORN,
-            (Some(ONE), Some(TWO), Some(ONE), 2)
-        )?
-    );
-    assert!(rt;
-        leaves(
-            alloc,
-            opened(alloc)?,
-            &LOST,
-            (Some(ONE), Some(TWO), None, 2)
-        )?
-    );
+    let two: Held = (Some(ONE), Some(TWO), None, 2);
+    assert!(rt; goes_on(alloc, &[], &two)?);
+    assert!(rt; goes_on(alloc, &ACKNOWLEDGED, &(Some(ONE), Some(TWO), Some(ONE), 3))?);
+    assert!(rt; goes_on(alloc, &TORN, &(Some(ONE), Some(TWO), Some(ONE), 2))?);
+    assert!(rt; goes_on(alloc, &LOST, &two)?);
     Ok(())
 }
 

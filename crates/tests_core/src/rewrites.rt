@@ -3,7 +3,7 @@ use crate::script::Line::{
     Ack, Add, Begin, Crash, Done, Fails, Recover, Replace, RewriteAll, SyncAll, SyncArea, SyncBody,
     SyncGate, Take, Withdraw, WriteArea, WriteBody, WriteGate,
 };
-use crate::script::{Line, ONE, TWO, fresh, leaves, run};
+use crate::script::{Line, ONE, TWO, begins, goes_on};
 use std::alloc::Global;
 use std::test::Fail;
 
@@ -81,31 +81,29 @@ const MAKES_ROOM: [(Line, u32); 46] = [
     (Fails, 29),
 ];
 
-#[test]
-fn a_rewrite_makes_room(rt: HostRuntime) -> Result<(), Fail> {
-    let alloc = rt.alloc();
-    let mut lines = Vec::new(alloc);
-    for line in &TWICE {
-        lines.push((*line, expected(*line)))?;
-    }
-    lines.extend_from_slice(&MAKES_ROOM)?;
-    assert!(rt;
-        leaves(
-            alloc,
-            fresh(alloc, 64)?,
-            &lines,
-            (Some(TWO), Some(ONE), None, 3)
-        )?
-    );
-    Ok(())
-}
-
 // What the events of those two records answer.
 fn expected(line: Line) -> u32 {
     match line {
         Ack(_) => 1,
         _ => 0,
     }
+}
+
+// Adds the two records, and what comes after them.
+fn add_all(lines: &mut Vec<(Line, u32)>) -> Result<(), Fail> {
+    for line in &TWICE {
+        lines.push((*line, expected(*line)))?;
+    }
+    lines.extend_from_slice(&MAKES_ROOM)?;
+    Ok(())
+}
+
+#[test]
+fn a_rewrite_makes_room(rt: HostRuntime) -> Result<(), Fail> {
+    let mut lines = Vec::new(rt.alloc());
+    add_all(&mut lines)?;
+    assert!(rt; begins(rt.alloc(), 64, &lines, &(Some(TWO), Some(ONE), None, 3))?);
+    Ok(())
 }
 
 // A failure in a rewrite answers nothing, and closes the journal: no rewrite and no commit begins until the disk is opened
@@ -141,17 +139,15 @@ const CLOSED: [(Line, u32); 26] = [
 
 #[test]
 fn a_failure_closes(rt: HostRuntime) -> Result<(), Fail> {
-    let alloc = rt.alloc();
-    let state = run(alloc, &TWICE)?;
-    assert!(rt; leaves(alloc, state, &CLOSED, (None, None, None, 3))?);
+    assert!(rt; goes_on(rt.alloc(), &TWICE, &CLOSED, &(None, None, None, 3))?);
     Ok(())
 }
 
 // The four device steps of a rewrite.
 const STEPS: [Line; 4] = [RewriteAll, SyncAll, WriteArea, SyncArea];
 
-// One commit more, in whichever area is in use then.
-const ANOTHER: [Line; 9] = [
+// One commit more, in whichever area is in use then, and a crash.
+const ANOTHER: [Line; 11] = [
     Add(7, b'b', ONE),
     Take(3, 7, 0),
     Done(3, ONE, 0),
@@ -161,12 +157,13 @@ const ANOTHER: [Line; 9] = [
     WriteGate,
     SyncGate,
     Ack(7),
+    Crash(0xa5),
+    Recover,
 ];
 
-// Whether the map is recovered behind this many steps of a rewrite, the failure of the next one where it is to fail, and a crash that
-// leaves this byte; and whether a commit after it is kept through another crash.
-fn survives(alloc: Global, steps: usize, fails: bool, byte: u8) -> Result<bool, Fail> {
-    let mut lines = Vec::new(alloc);
+// Adds the two records, this many steps of a rewrite, the failure of the next one where it is to fail, and a crash that leaves this
+// byte.
+fn add_crash(lines: &mut Vec<Line>, steps: usize, fails: bool, byte: u8) -> Result<(), Fail> {
     lines.extend_from_slice(&TWICE)?;
     for line in STEPS.iter().take(steps) {
         lines.push(*line)?;
@@ -175,15 +172,16 @@ fn survives(alloc: Global, steps: usize, fails: bool, byte: u8) -> Result<bool, 
         lines.push(Fails)?;
     }
     lines.extend_from_slice(&[Crash(byte), Recover])?;
-    let recovered = leaves(alloc, run(alloc, &lines)?, &[], (Some(TWO), None, None, 2))?;
+    Ok(())
+}
+
+// Whether the map is recovered behind that crash, and whether a commit after it is kept through another.
+fn survives(alloc: Global, steps: usize, fails: bool, byte: u8) -> Result<bool, Fail> {
+    let mut lines = Vec::new(alloc);
+    add_crash(&mut lines, steps, fails, byte)?;
+    let recovered = goes_on(alloc, &lines, &[], &(Some(TWO), None, None, 2))?;
     lines.extend_from_slice(&ANOTHER)?;
-    lines.extend_from_slice(&[Crash(0xa5), Recover])?;
-    let kept = leaves(
-        alloc,
-        run(alloc, &lines)?,
-        &[],
-        (Some(TWO), Some(ONE), None, 3),
-    )?;
+    let kept = goes_on(alloc, &lines, &[], &(Some(TWO), Some(ONE), None, 3))?;
     Ok(recovered && kept)
 }
 

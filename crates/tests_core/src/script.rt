@@ -52,6 +52,12 @@ fn text(alloc: Global, source: [u8; 3]) -> Result<Sequence<u8>, AllocError> {
     Ok(Sequence::new(Vec::from_slice(alloc, &source)?))
 }
 
+// The name of one letter, and a source.
+fn named_text(alloc: Global, name: u8, source: [u8; 3]) -> Result<(Name, Sequence<u8>), Fail> {
+    let text = text(alloc, source)?;
+    Ok((name_of(name)?, text))
+}
+
 fn submit(client: u64, request: Request) -> Event<Piece> {
     Event::Submit(ClientId { number: client }, CallId { number: 1 }, request)
 }
@@ -64,12 +70,12 @@ fn worker(number: u64) -> WorkerId {
 pub fn event(alloc: Global, line: Line) -> Result<Event<Piece>, Fail> {
     match line {
         Line::Add(client, name, source) => {
-            let name = name_of(name)?;
-            Ok(submit(client, Request::Add(name, text(alloc, source)?)))
+            let (name, text) = named_text(alloc, name, source)?;
+            Ok(submit(client, Request::Add(name, text)))
         }
         Line::Replace(client, name, source) => {
-            let name = name_of(name)?;
-            Ok(submit(client, Request::Replace(name, text(alloc, source)?)))
+            let (name, text) = named_text(alloc, name, source)?;
+            Ok(submit(client, Request::Replace(name, text)))
         }
         Line::Withdraw(client, name) => Ok(submit(client, Request::Withdraw(name_of(name)?))),
         Line::Take(number, client, index) => Ok(Event::Take(
@@ -97,14 +103,21 @@ pub fn event(alloc: Global, line: Line) -> Result<Event<Piece>, Fail> {
     }
 }
 
-/// What an event answers, as a number: 0 for no reply, 1 for done, else the refusal's or the fault's number.
-pub fn number_of(answer: Result<Option<Reply>, CoreFault>) -> u32 {
+// The number of an answer: 0 for no reply, 1 for done, else the refusal's or the fault's number.
+fn number_in(answer: &Result<Option<Reply>, CoreFault>) -> u32 {
     match answer {
         Ok(None) => 0,
         Ok(Some(Reply::Done)) => 1,
         Ok(Some(Reply::Refused(refusal))) => refusal.number(),
         Err(fault) => fault.number(),
     }
+}
+
+/// What an event answers, as a number: 0 for no reply, 1 for done, else the refusal's or the fault's number.
+pub fn number_of(answer: Result<Option<Reply>, CoreFault>) -> u32 {
+    let number = number_in(&answer);
+    drop(answer);
+    number
 }
 
 /// What a state is to have: the sources of `a`, `b` and `c`, and how many commands were acknowledged.
@@ -131,8 +144,8 @@ fn has(library: &UnitMap, letter: u8, wanted: Option<[u8; 3]>) -> Result<bool, F
 }
 
 // Whether the state has these.
-fn holds(state: &State<FewPieces>, wanted: Held) -> Result<bool, Fail> {
-    let (a, b, c, acknowledged) = wanted;
+fn holds(state: &State<FewPieces>, wanted: &Held) -> Result<bool, Fail> {
+    let (a, b, c, acknowledged) = *wanted;
     let library = state.library();
     Ok(
         has(library, b'a', a)?
@@ -147,7 +160,7 @@ fn answers(
     alloc: Global,
     state: &mut State<FewPieces>,
     lines: &[(Line, u32)],
-    wanted: Held,
+    wanted: &Held,
 ) -> Result<bool, Fail> {
     for (line, number) in lines {
         let event = event(alloc, *line)?;
@@ -163,11 +176,29 @@ pub fn leaves(
     alloc: Global,
     mut state: State<FewPieces>,
     lines: &[(Line, u32)],
-    wanted: Held,
+    wanted: &Held,
 ) -> Result<bool, Fail> {
     let answer = answers(alloc, &mut state, lines, wanted);
     drop(state);
     answer
+}
+
+/// Whether these events from a new state on, with areas of that many bytes, answer so, and leave these.
+pub fn begins(alloc: Global, area: u32, lines: &[(Line, u32)], wanted: &Held) -> Result<bool, Fail>
+    requires least { 64 ≤ area }
+    requires most { area ≤ 2 ^ 30 }
+{
+    leaves(alloc, fresh(alloc, area)?, lines, wanted)
+}
+
+/// Whether the events of the first lines, whatever they answer, leave a state from which the others answer so, and leave these.
+pub fn goes_on(
+    alloc: Global,
+    first: &[Line],
+    lines: &[(Line, u32)],
+    wanted: &Held,
+) -> Result<bool, Fail> {
+    leaves(alloc, run(alloc, first)?, lines, wanted)
 }
 
 // The events of these lines.
@@ -179,15 +210,15 @@ fn events(alloc: Global, lines: &[Line]) -> Result<Vec<Event<Piece>>, Fail> {
     Ok(events)
 }
 
-/// The state after a run of these events from a new one.
-pub fn run(alloc: Global, lines: &[Line]) -> Result<State<FewPieces>, Fail> {
+// The state after a run of these events from a new one.
+fn run(alloc: Global, lines: &[Line]) -> Result<State<FewPieces>, Fail> {
     let events = events(alloc, lines)?;
     let state = fresh(alloc, 200)?;
     Ok(run_events(alloc, state, events)?)
 }
 
-/// A new state on a disk with areas of that many bytes.
-pub fn fresh(alloc: Global, area: u32) -> Result<State<FewPieces>, Fail>
+// A new state on a disk with areas of that many bytes.
+fn fresh(alloc: Global, area: u32) -> Result<State<FewPieces>, Fail>
     requires least { 64 ≤ area }
     requires most { area ≤ 2 ^ 30 }
 {

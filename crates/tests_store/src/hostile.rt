@@ -3,6 +3,7 @@ use crate::helpers::{BODY, bytes_of, holds, opened, part, refusal, row_disk};
 use cc_disk::{Disk, FuseDisk, FuseMode, MemoryDisk};
 use cc_journal::Journal;
 use std::alloc::Global;
+use std::process::Abort;
 use std::test::Fail;
 
 // Changes of the row, and with which number the disk is refused then.
@@ -88,12 +89,11 @@ fn each_value_of_the_area_byte(rt: HostRuntime) -> Result<(), Fail> {
 }
 
 // The row's disk, with its bytes written once more and not settled.
-fn unsettled(alloc: Global) -> Result<MemoryDisk, Fail> {
+fn unsettled(rt: &impl Abort, alloc: Global) -> Result<MemoryDisk, Fail> {
     let mut disk = row_disk(alloc, &[])?;
     let bytes = bytes_of(alloc, &mut disk)?;
-    if bytes.len() <= disk.size() {
-        disk.write_at(0, &bytes)?;
-    }
+    assert!(rt; bytes.len() <= disk.size());
+    disk.write_at(0, &bytes)?;
     Ok(disk)
 }
 
@@ -101,7 +101,7 @@ fn unsettled(alloc: Global) -> Result<MemoryDisk, Fail> {
 #[test]
 fn opening_settles_what_was_written(rt: HostRuntime) -> Result<(), Fail> {
     let alloc = rt.alloc();
-    let disk = opened(alloc, unsettled(alloc)?)?.into_disk();
+    let disk = opened(alloc, unsettled(&rt, alloc)?)?.into_disk();
     assert!(rt; holds(alloc, disk.crash(alloc, &[])?, &[&BODY]));
     Ok(())
 }
