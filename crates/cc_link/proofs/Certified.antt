@@ -6,7 +6,7 @@ use Rattle.std.specs.Borrow.{Bor}
 use Rattle.std.specs.Prelude.{All, if◌then◌else◌}
 use Rattle.std.specs.Result.{OnOk, is_ok}
 use Rattle.std.specs.List.{AllByRecursion, flat_map}
-use Rattle.cc_syntax.specs.Parse.{SpellsText}
+use Rattle.cc_ast.specs.Parse.{SpellsText}
 use Rattle.cc_semantics.specs.Meaning.{functions}
 use Rattle.cc_unit.specs.declared.unit.StoredUnit.{StoredUnit}
 use Rattle.cc_ltl.specs.Bytes.{word_bytes, ltl_bytes}

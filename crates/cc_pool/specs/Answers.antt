@@ -1,6 +1,6 @@
 -- What workers' answers tell of a job.
 use Rattle.std.specs.Prelude.{◌≡◌, ℕ, ◌<◌, ◌≤◌, List, All, Contains}
-use Rattle.cc_syntax.specs.Source.{source}
+use Rattle.cc_ast.specs.Source.{source}
 use Rattle.cc_emit.specs.Piece as emit
 use Rattle.cc_link.specs.declared.piece_fault.PieceFault.{PieceFault}
 use Rattle.cc_pool.specs.declared.fault.PoolFault.{PoolFault}

@@ -1,6 +1,6 @@
 -- How a job's answers are found.
 use Rattle.std.specs.Prelude.{◌≡◌, ℕ, List, All, Contains, Option, Some, None}
-use Rattle.cc_syntax.specs.Source.{source}
+use Rattle.cc_ast.specs.Source.{source}
 use Rattle.cc_emit.specs.Piece.{Piece}
 use Rattle.cc_link.specs.declared.piece_fault.PieceFault.{PieceFault}
 use Rattle.cc_pool.specs.Answers.{NoPiece, IsOfAnother, IsNotBefore}

@@ -1,6 +1,6 @@
 use Rattle.std.proofs.Common.{ap, ◌∙◌, subst}
-use Rattle.cc_syntax.specs.Source.{source}
-use Rattle.cc_syntax.specs.declared.unit.Unit as parsed
+use Rattle.cc_ast.specs.Source.{source}
+use Rattle.cc_ast.specs.declared.unit.Unit as parsed
 use Rattle.cc_typing.specs.Typed.{IsWithinLimits}
 use Rattle.cc_linear.specs.Pair.{IsPair}
 use Rattle.cc_emit.specs.Piece.{Piece}

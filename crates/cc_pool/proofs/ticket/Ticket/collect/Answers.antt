@@ -1,7 +1,7 @@
 use Rattle.std.proofs.Common.{◌≡◌, ◌∙◌, ℕ, List, length, ap, subst}
 use Rattle.std.specs.Prelude.{IfErr}
-use Rattle.cc_syntax.specs.Source.{source}
-use Rattle.cc_syntax.specs.declared.unit.Unit as parsed
+use Rattle.cc_ast.specs.Source.{source}
+use Rattle.cc_ast.specs.declared.unit.Unit as parsed
 use Rattle.cc_typing.specs.Typed.{defined_names}
 use Rattle.cc_pool.specs.Answers.{IsTold}
 use Rattle.cc_pool.specs.Job.{Job}
