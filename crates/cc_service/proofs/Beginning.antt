@@ -20,7 +20,7 @@ use Rattle.cc_core.specs.StoreState.{StoreState}
 use Rattle.cc_core.specs.Step.{Step, commands}
 use Rattle.cc_core.specs.Run.{AreRising, IsOpened}
 use Rattle.cc_history.specs.History.{changes}
-use Rattle.cc_service.specs.Book.{BookView}
+use Rattle.cc_recorded.specs.Book.{BookView}
 use Rattle.cc_service.proofs.Cores.{nothing_behind}
 use Rattle.cc_service.specs.Core.{IsBeside, IsPhase, Shows, ShowsDisk, ShowsOrder}
 

@@ -43,11 +43,11 @@ use Rattle.cc_history.specs.declared.reply.Reply.TheVariants as reply
 use Rattle.cc_history.specs.Calls.{change_of, changes_of, done_by, reply_of_change}
 use Rattle.cc_history.specs.History.{Holder, changes}
 use Rattle.cc_history.proofs.Histories.{changes-push}
-use Rattle.cc_service.specs.declared.fault.BookFault.{BookFault}
-use Rattle.cc_service.specs.declared.fault.BookFault.TheVariants.{Exists, Absent, Full, DiskFault, Closed, Estranged, OutOfMemory}
-use Rattle.cc_service.specs.Book.{BookView}
-use Rattle.cc_service.specs.Answers.{CommitAnswers, IsDone, IsRefused, failed_in}
-use Rattle.cc_service.specs.Disk.{ChangesDisk}
+use Rattle.cc_recorded.specs.declared.fault.BookFault.{BookFault}
+use Rattle.cc_recorded.specs.declared.fault.BookFault.TheVariants.{Exists, Absent, Full, DiskFault, Closed, Estranged, OutOfMemory}
+use Rattle.cc_recorded.specs.Book.{BookView}
+use Rattle.cc_recorded.specs.Answers.{CommitAnswers, IsDone, IsRefused, failed_in}
+use Rattle.cc_recorded.specs.Disk.{ChangesDisk}
 use Rattle.cc_service.specs.Core.{Shows, ShowsDisk, ShowsOrder, Has, IsPhase, Steps, IsCommitOf, done_steps, refused_steps, failed_first, failed_last}
 use Rattle.cc_service.proofs.Disks.{begin_most, begin_least, within_is_image, within_is_written, written_same, committed_same, first_byte_kept}
 

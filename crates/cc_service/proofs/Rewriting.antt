@@ -19,11 +19,11 @@ use Rattle.cc_core.specs.declared.event.Event.TheVariants as event
 use Rattle.cc_core.specs.Rules.{Rules}
 use Rattle.cc_core.specs.Store.{first_written, rewrite_of, rewrite_stepped, settled_all, with_cells}
 use Rattle.cc_core.specs.StoreState.{StoreState}
-use Rattle.cc_service.specs.declared.fault.BookFault.{BookFault}
-use Rattle.cc_service.specs.declared.fault.BookFault.TheVariants.{Exists, Absent, Full, DiskFault, Closed, Estranged, OutOfMemory}
-use Rattle.cc_service.specs.Book.{BookView}
-use Rattle.cc_service.specs.Answers.{CompactAnswers}
-use Rattle.cc_service.specs.Disk.{CompactsDisk}
+use Rattle.cc_recorded.specs.declared.fault.BookFault.{BookFault}
+use Rattle.cc_recorded.specs.declared.fault.BookFault.TheVariants.{Exists, Absent, Full, DiskFault, Closed, Estranged, OutOfMemory}
+use Rattle.cc_recorded.specs.Book.{BookView}
+use Rattle.cc_recorded.specs.Answers.{CompactAnswers}
+use Rattle.cc_recorded.specs.Disk.{CompactsDisk}
 use Rattle.cc_service.specs.Core.{IsPhase, IsRewriteOf, Shows, Steps, rewritten_steps, rewrite_failed_first, rewrite_failed_last}
 use Rattle.cc_service.proofs.Cores.{has_byte, length-cells, length-written, order_same, phase_at}
 use Rattle.cc_service.proofs.Disks.{begin_most, committed_same, within_is_image, written_same}

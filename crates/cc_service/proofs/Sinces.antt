@@ -12,10 +12,10 @@ use Rattle.cc_history.specs.declared.entry.Receipt.{Receipt}
 use Rattle.cc_history.specs.Calls.{change_of}
 use Rattle.cc_history.specs.History.{Holder, Replays, units_after}
 use Rattle.cc_history.proofs.Histories.{snoc_cases}
-use Rattle.cc_service.specs.declared.fault.BookFault.{BookFault}
-use Rattle.cc_service.specs.declared.fault.BookFault.TheVariants.{Exists, Absent, Full, DiskFault, Closed, Estranged, OutOfMemory}
-use Rattle.cc_service.specs.Book.{BookView, RecoversTo, chronicle_of}
-use Rattle.cc_service.specs.Answers.{CommitAnswers, CompactAnswers, LookAnswers}
+use Rattle.cc_recorded.specs.declared.fault.BookFault.{BookFault}
+use Rattle.cc_recorded.specs.declared.fault.BookFault.TheVariants.{Exists, Absent, Full, DiskFault, Closed, Estranged, OutOfMemory}
+use Rattle.cc_recorded.specs.Book.{BookView, RecoversTo, chronicle_of}
+use Rattle.cc_recorded.specs.Answers.{CommitAnswers, CompactAnswers, LookAnswers}
 use Rattle.cc_service.specs.Since.{AreSince, HoldsFrom, IsSince}
 use Rattle.cc_service.proofs.Cores.{nothing_behind}
 

@@ -15,7 +15,7 @@ use Rattle.cc_library.specs.Recovered.{Recovers}
 use Rattle.cc_history.specs.declared.entry.Entry.{Entry}
 use Rattle.cc_history.specs.History.{EachAgrees, HaveAgreed, Replays, units_after}
 use Rattle.cc_history.specs.History.{changes}
-use Rattle.cc_service.specs.Book.{AllAgreed, BookView, HasAgreedUnit, chronicle_of}
+use Rattle.cc_recorded.specs.Book.{AllAgreed, BookView, HasAgreedUnit, chronicle_of}
 use Rattle.cc_build.specs.Compiling.{is_right}
 use Rattle.cc_service.specs.Promise.{SurvivesCrash}
 use Rattle.cc_service.specs.Since.{HoldsFrom}

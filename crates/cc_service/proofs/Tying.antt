@@ -31,17 +31,17 @@ use Rattle.cc_history.specs.declared.command.Asked.{Asked}
 use Rattle.cc_history.specs.declared.entry.Entry.{Entry}
 use Rattle.cc_history.specs.History.{Holder, changes}
 use Rattle.cc_history.proofs.Histories.{changes-push}
-use Rattle.cc_service.specs.declared.fault.BookFault.{BookFault}
-use Rattle.cc_service.specs.declared.fault.BookFault.TheVariants.{Exists, Absent, Full, DiskFault, Closed, Estranged, OutOfMemory}
-use Rattle.cc_service.specs.Book.{BookView}
-use Rattle.cc_service.specs.Answers.{CommitAnswers, CompactAnswers, IsLook, LookAnswers}
-use Rattle.cc_service.specs.Disk.{ChangesDisk, CompactsDisk}
+use Rattle.cc_recorded.specs.declared.fault.BookFault.{BookFault}
+use Rattle.cc_recorded.specs.declared.fault.BookFault.TheVariants.{Exists, Absent, Full, DiskFault, Closed, Estranged, OutOfMemory}
+use Rattle.cc_recorded.specs.Book.{BookView}
+use Rattle.cc_recorded.specs.Answers.{CommitAnswers, CompactAnswers, IsLook, LookAnswers}
+use Rattle.cc_recorded.specs.Disk.{ChangesDisk, CompactsDisk}
 use Rattle.cc_service.specs.Core.{Has, IsPhase, Shows, ShowsDisk, IsCommitOf, IsRewriteOf, Steps, rewritten_steps, rewrite_failed_first, rewrite_failed_last}
 use Rattle.cc_service.specs.Tie.{IsTied}
 use Rattle.cc_service.proofs.Cores.{commits, nothing_behind, order_same}
 use Rattle.cc_service.proofs.Rewriting.{compacts}
 use Rattle.cc_service.proofs.Beginning.{begins, same_core}
-use Rattle.cc_service.proofs.Committing.{look_changes_nothing}
+use Rattle.cc_recorded.proofs.Committing.{look_changes_nothing}
 
 -- ---- how a run goes on
 

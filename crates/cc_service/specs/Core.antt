@@ -25,10 +25,10 @@ use Rattle.cc_core.specs.Rules.{Rules}
 use Rattle.cc_core.specs.StoreState.{StoreState}
 use Rattle.cc_core.specs.Step.{Step, commands}
 use Rattle.cc_history.specs.History.{changes}
-use Rattle.cc_service.specs.Book.{BookView}
+use Rattle.cc_recorded.specs.Book.{BookView}
 use Rattle.cc_history.specs.declared.entry.Receipt.{Receipt}
-use Rattle.cc_service.specs.declared.fault.BookFault.{BookFault}
-use Rattle.cc_service.specs.declared.fault.BookFault.TheVariants.{Exists, Absent, Full, DiskFault, Closed, Estranged, OutOfMemory}
+use Rattle.cc_recorded.specs.declared.fault.BookFault.{BookFault}
+use Rattle.cc_recorded.specs.declared.fault.BookFault.TheVariants.{Exists, Absent, Full, DiskFault, Closed, Estranged, OutOfMemory}
 
 -- Acknowledged are some commands that lead to the base, all that were there at the opening, and then the changes of the history, each of
 -- which was answered Ok. The order has these, and behind them the change that failed, where one did.

@@ -3,14 +3,8 @@
 pub mod Fault
 -- what a service begins with
 pub mod Named
--- what contracts see of a client, and what its type keeps
+-- what contracts see of a client
 pub mod Client
--- what contracts see of a book, and what the type of a library with its history keeps
-pub mod Book
--- when a call has which answer, and what it leaves
-pub mod Answers
--- what a call does to the bytes of the disk
-pub mod Disk
 -- how a book shows a state of the protocol core, and what a call is on it
 pub mod Core
 -- what a crash at any moment since an earlier call has left

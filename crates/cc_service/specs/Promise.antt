@@ -8,7 +8,7 @@ use Rattle.cc_core.specs.Run.{EachUnit, IsRightOr, Survives}
 use Rattle.cc_core.specs.Step.{commands}
 use Rattle.cc_build.specs.Compiling.{compiling, Keeps, is_right}
 use Rattle.cc_history.specs.History.{changes}
-use Rattle.cc_service.specs.Book.{BookView}
+use Rattle.cc_recorded.specs.Book.{BookView}
 use Rattle.cc_service.specs.Since.{AreSince, BookSince}
 use Rattle.cc_service.specs.Tie.{IsTied}
 

@@ -16,8 +16,8 @@ use Rattle.cc_history.specs.declared.reply.Reply.{Reply}
 use Rattle.cc_history.specs.declared.reply.Reply.TheVariants as reply
 use Rattle.cc_history.specs.History.{Holder, IsAnswered}
 use Rattle.cc_service.specs.Compiling.{IsCompileRefusal, IsProgram}
-use Rattle.cc_service.specs.declared.fault.BookFault.{BookFault}
-use Rattle.cc_service.specs.declared.fault.BookFault.TheVariants as book
+use Rattle.cc_recorded.specs.declared.fault.BookFault.{BookFault}
+use Rattle.cc_recorded.specs.declared.fault.BookFault.TheVariants as book
 use Rattle.cc_service.specs.declared.fault.ServiceFault.{ServiceFault}
 use Rattle.cc_service.specs.declared.fault.ServiceFault.TheVariants.{Opening, TooManyClients, BadName, Syntax, Typing, Piece, WorkersGone, ImageTooLarge, Book, OutOfMemory}
 

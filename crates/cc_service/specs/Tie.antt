@@ -6,7 +6,7 @@ use Rattle.cc_core.specs.declared.contents.Contents.{Contents}
 use Rattle.cc_core.specs.declared.event.Event.{Event}
 use Rattle.cc_core.specs.Rules.{Rules}
 use Rattle.cc_core.specs.Run.{IsOpened, Run}
-use Rattle.cc_service.specs.Book.{BookView}
+use Rattle.cc_recorded.specs.Book.{BookView}
 use Rattle.cc_service.specs.Core.{Shows}
 
 -- The core's state `first` is what opening a disk finds that stands for the base. From there these events lead to a state that the

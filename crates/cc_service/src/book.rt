@@ -10,22 +10,21 @@ ghost use Rattle.cc_library.specs.Recovered.{Recovers, RecoversAlone, RecoversOn
 ghost use Rattle.cc_build.specs.Compiling.{compiling, Keeps, is_right};
 ghost use Rattle.cc_history.specs.Calls.{change_of};
 ghost use Rattle.cc_history.specs.History.{IsLegal, units_after};
-ghost use Rattle.cc_service.specs.Book.{BookView, RecoversTo};
-ghost use Rattle.cc_service.specs.Answers.{CommitAnswers, CompactAnswers, IsBegun, IsLook, LookAnswers};
-ghost use Rattle.cc_service.specs.Disk.{ChangesDisk, CompactsDisk};
+ghost use Rattle.cc_recorded.specs.Book.{BookView, RecoversTo};
+ghost use Rattle.cc_recorded.specs.Answers.{CommitAnswers, CompactAnswers, IsBegun, IsLook, LookAnswers};
+ghost use Rattle.cc_recorded.specs.Disk.{ChangesDisk, CompactsDisk};
 ghost use Rattle.cc_service.specs.Promise.{SurvivesCrash};
 ghost use Rattle.cc_service.specs.Since.{HoldsFrom};
 ghost use Rattle.cc_service.specs.Tie.{IsTied};
 
 use crate::client::Client;
-use crate::fault::BookFault;
 use crate::named::Named;
-use crate::recorded::RecordedLibrary;
 use cc_build::{CcBuild, made_units_are_built};
 use cc_core::laws::{crash_law, turn_law, units_law};
 use cc_disk::{Disk, History};
 use cc_history::{Asked, Command, Receipt, units_agree};
 use cc_library::{Library, LibraryFault, UnitMap};
+use cc_recorded::{BookFault, RecordedLibrary};
 use std::alloc::Global;
 use std::marker::Model;
 use std::sync::ledger;
@@ -43,10 +42,10 @@ pub struct Book<N: Named, D: Disk> {
 }
 
 impl<N: Named, D: Disk> Model for Book<N, D> {
-    ghost use Rattle.cc_service.specs.contracts.recorded.RecordedLibrary as recorded;
+    ghost use Rattle.cc_recorded.specs.contracts.recorded.RecordedLibrary as recorded;
     ghost use Rattle.cc_service.specs.Since.{BookSince, since_code};
     ghost use Rattle.cc_service.specs.Promise.{IsBook};
-    ghost use Rattle.cc_service.specs.Book.{BookView, book_code};
+    ghost use Rattle.cc_recorded.specs.Book.{BookView, book_code};
     ghost use Rattle.cc_library.specs.contracts.units.UnitMap as units;
     ghost use Rattle.cc_library.specs.contracts.command.Command as change;
     ghost use Rattle.cc_history.specs.contracts.entry.Entry as entry;

@@ -5,56 +5,10 @@ ghost use Rattle.std.specs.Option.{option_map};
 use crate::named::Named;
 use cc_history::Receipt;
 use cc_pool::Pass;
+use cc_recorded::{HasReceipts, Member};
 use std::alloc::Global;
 use std::marker::Model;
 use std::sync::ledger::Share;
-
-/// What the book knows of a client: its number, the receipts of its calls, and its share of the ledger, which counts them. A clause
-/// sees its number and its receipts.
-#[derive(Drop)]
-pub(crate) struct Member<N: Named> {
-    pub(crate) number: u64,
-    pub(crate) receipts: Vec<Receipt>,
-    pub(crate) share: Share<N>,
-}
-
-impl<N: Named> Model for Member<N> {
-    ghost use Rattle.cc_history.specs.History.{Holder};
-    ghost use Rattle.cc_service.specs.Client.{IsClient};
-
-    ghost Value = { Holder };
-
-    ghost view = { λ c. record { number = c.number; receipts = c.receipts.items } };
-
-    ghost invariant = { λ c. IsClient (record { number = c.number; receipts = c.receipts.items }) c.share.parts c.share.amount };
-}
-
-impl<N: Named> Member<N> {
-    /// A member that has made no call, with one part of the ledger.
-    pub(crate) fn new(alloc: Global, number: u64, share: Share<N>) -> Member<N>
-        requires part { share.parts ≡ 1 }
-        requires none { share.amount ≡ 0 }
-        ensures { result ≡ record { number = number; receipts = [] } }
-    {
-        Member {
-            number,
-            receipts: Vec::new(alloc),
-            share,
-        }
-    }
-
-    fn number(&self) -> u64
-        ensures { result ≡ self.now.number }
-    {
-        self.number
-    }
-
-    fn receipts(&self) -> &[Receipt]
-        ensures { result.now ≡ self.now.receipts }
-    {
-        self.receipts.as_slice()
-    }
-}
 
 /// Who calls. It keeps the receipts of its calls, its share of the ledger counts them, and its pass hands its jobs to the workers. A
 /// clause sees its number and its receipts, and what its pass has sent.
@@ -105,5 +59,17 @@ impl<N: Named> Client<N> {
         ensures { option_map (λ r. r.now) result ≡ slice_get self.now.holder.receipts (length self.now.holder.receipts - 1) }
     {
         self.receipts().last()
+    }
+}
+
+impl<N: Named> HasReceipts for Client<N> {
+    ghost holder = { λ c. c.holder };
+
+    fn number(&self) -> u64 {
+        self.member.number()
+    }
+
+    fn receipts(&self) -> &[Receipt] {
+        self.member.receipts()
     }
 }

@@ -3,21 +3,19 @@ ghost use Rattle.std.specs.Prelude.{◌≡◌, ℕ, ◌+◌, ◌≤◌, ◌↔�
 ghost use Rattle.std.specs.Vec.{vec_capacity};
 ghost use Rattle.cc_history.specs.Closing.{AreApart, AreOwn, IsClosed, ReceiptsStand, receipts_of};
 ghost use Rattle.cc_history.specs.History.{EachAgrees, IsLegal, units_after};
-ghost use Rattle.cc_service.specs.Book.{AllAgreed, BookView, RecoversTo};
+ghost use Rattle.cc_recorded.specs.Book.{AllAgreed, BookView, RecoversTo};
 ghost use Rattle.cc_service.specs.Client.{holders};
 ghost use Rattle.cc_service.specs.Promise.{SurvivesCrash};
-ghost use Rattle.cc_service.specs.Answers.{IsNotClosed};
-ghost use Rattle.cc_service.specs.internal.Apart.{HaveOwnNumbers};
+ghost use Rattle.cc_recorded.specs.Answers.{IsNotClosed};
 
 use crate::book::Book;
-use crate::client::{Client, Member};
-use crate::fault::BookFault;
+use crate::client::Client;
 use crate::named::Named;
-use crate::recorded::RecordedLibrary;
 use cc_disk::{Disk, History};
-use cc_history::{Receipt, SharedEntry, all_stand, receipts_count_up, units_agree};
+use cc_history::{Receipt, SharedEntry, receipts_count_up};
 use cc_library::{Command as Change, Library, UnitMap};
 use cc_pool::Pass;
+use cc_recorded::{BookFault, Ended, RecordedLibrary};
 use std::alloc::{AllocError, Global};
 use std::sync::ledger::Share;
 
@@ -52,34 +50,6 @@ impl<N: Named> Left<N> {
     }
 }
 
-// Whether no two clients have one number.
-fn are_apart<N: Named>(clients: &[Client<N>]) -> bool
-    ensures { IsTrue result ↔ HaveOwnNumbers clients.now }
-{
-    for i in 0..clients.len() {
-        for j in 0..i {
-            if clients[i].number() == clients[j].number() {
-                return false;
-            }
-        }
-    }
-    true
-}
-
-// That all receipts of all these clients stand.
-fn stand_in<N: Named>(history: &[SharedEntry], clients: &[Client<N>]) -> Result<(), BookFault>
-    ensures stand { OnOk result (ReceiptsStand history.now (holders clients.now)) }
-    ensures err { IfErr result (λ f. (made : ℕ) → IsNotClosed history.now made (holders clients.now) f) }
-{
-    for client in clients {
-        match all_stand(history, client.receipts()) {
-            Ok(()) => {}
-            Err(fault) => return Err(BookFault::from(fault)),
-        }
-    }
-    Ok(())
-}
-
 // Takes the shares of all clients, and puts down what they leave.
 fn gather<N: Named>(rest: &mut Share<N>, clients: Vec<Client<N>>, left: &mut Left<N>)
     requires receipts { (left.old.receipts.items ≡ []) × (vec_len left.old.receipts ≡ 0) × (length clients.items ≤ vec_capacity left.old.receipts) }
@@ -95,111 +65,56 @@ fn gather<N: Named>(rest: &mut Share<N>, clients: Vec<Client<N>>, left: &mut Lef
     } = left;
     for client in clients {
         let Client { member, pass } = client;
-        let Member {
-            number: _,
-            receipts,
-            share,
-        } = member;
-        rest.merge(share);
-        all.push_reserved(receipts);
+        all.push_reserved(member.leave(rest));
         passes.push_reserved(pass);
     }
 }
 
-impl<N: Named, D: Disk> RecordedLibrary<N, D> {
-    // That all receipts of all these clients stand.
-    fn stands(&self, clients: &[Client<N>]) -> Result<(), BookFault>
-        ensures stand { OnOk result (ReceiptsStand self.now.history (holders clients.now)) }
-        ensures err { IfErr result (λ f. (made : ℕ) → IsNotClosed self.now.history made (holders clients.now) f) }
-    {
-        stand_in(self.history.as_slice(), clients)
-    }
-
-    // How many entries its history has.
-    fn entries(&self) -> u64
-        ensures { result ≡ length self.now.history }
-    {
-        self.history.len() as u64
-    }
-
-    // That it can be ended with these clients, as many as were made. Answers the room for what they leave, which is taken first.
-    fn ready(&self, alloc: Global, made: u64, clients: &[Client<N>]) -> Result<Left<N>, BookFault>
-        ensures receipts { IfOk result (λ left. (left.receipts.items ≡ []) × (vec_len left.receipts ≡ 0) × (length clients.now ≤ vec_capacity left.receipts)) }
-        ensures passes { IfOk result (λ left. (vec_len left.passes ≡ 0) × (length clients.now ≤ vec_capacity left.passes)) }
-        ensures many { OnOk result (length clients.now ≡ made) }
-        ensures apart { OnOk result (AreApart (holders clients.now)) }
-        ensures stand { OnOk result (ReceiptsStand self.now.history (holders clients.now)) }
-        ensures err { IfErr result (λ f. IsNotClosed self.now.history made (holders clients.now) f) }
-    {
-        let Ok(left) = Left::with_room(alloc, clients.len()) else {
-            return Err(BookFault::OutOfMemory);
-        };
-        match self.stands(clients) {
-            Ok(()) => {}
-            Err(fault) => {
-                drop(left);
-                return Err(fault);
-            }
-        }
-        if clients.len() as u64 != made || !are_apart(clients) {
-            drop(left);
-            return Err(BookFault::Estranged {
-                number: self.entries(),
-                found: None,
-            });
-        }
-        Ok(left)
-    }
-
-    // Ends it. At the end the shares of all clients and the rest are the whole ledger.
-    fn end(
-        self,
-        mut rest: Share<N>,
-        clients: Vec<Client<N>>,
-        mut left: Left<N>,
-    ) -> (Closed<D>, Vec<Pass<N>>)
-        requires receipts { (left.receipts.items ≡ []) × (vec_len left.receipts ≡ 0) × (length clients.items ≤ vec_capacity left.receipts) }
-        requires passes { (vec_len left.passes ≡ 0) × (length clients.items ≤ vec_capacity left.passes) }
-        requires parts { rest.parts + length clients.items ≡ N.parts }
-        requires amount { rest.amount ≡ 0 }
-        requires apart { AreApart (holders clients.items) }
-        requires stand { ReceiptsStand self.history (holders clients.items) }
-        ensures base { IsTrue D.honest → result.0.base ≡ N.base }
-        ensures legal { IsLegal result.0.base result.0.history.items }
-        ensures library { result.0.library.units ≡ units_after result.0.base result.0.history.items }
-        ensures closed { IsClosed result.0.history.items (holders clients.items) }
-        ensures receipts { map (λ v. v.items) result.0.receipts.items ≡ map (λ c. c.receipts) (holders clients.items) }
-        // It is the book's library, with what was known of it.
-        ensures of_book { ◌≡◌ {A = BookView D} (record { base = result.0.base; library = result.0.library; history = result.0.history.items; failed = result.0.failed.items }) self }
-        ensures images { IsTrue D.honest → (image : List ℕ) → D.may_leave result.0.library.disk image → RecoversTo result.0.library.units result.0.failed.items image }
-        ensures idle { result.0.library.closed ≡ false → result.0.failed.items ≡ [] }
-        // Each unit of the map is the base's of that name, or was compiled; so was that of the change that failed.
-        ensures agrees { EachAgrees result.0.base result.0.library.units }
-        ensures agrees_failed { AllAgreed result.0.failed.items }
-        // The receipts of each client are of its own calls.
-        ensures own { AreOwn (holders clients.items) }
-    {
-        receipts_count_up();
-        units_agree();
-        let RecordedLibrary {
-            base,
-            library,
-            history,
-            mut calls,
-            failed,
-        } = self;
-        gather(&mut rest, clients, &mut left);
-        calls.audit(&mut rest);
-        let Left { receipts, passes } = left;
-        let closed = Closed {
-            base,
-            library,
-            history,
-            failed,
-            receipts,
-        };
-        (closed, passes)
-    }
+// Ends it with its clients. At the end the shares of all clients and the rest are the whole ledger.
+fn end_with<N: Named, D: Disk>(
+    recorded: RecordedLibrary<N, D>,
+    mut rest: Share<N>,
+    clients: Vec<Client<N>>,
+    mut left: Left<N>,
+) -> (Closed<D>, Vec<Pass<N>>)
+    requires receipts { (left.receipts.items ≡ []) × (vec_len left.receipts ≡ 0) × (length clients.items ≤ vec_capacity left.receipts) }
+    requires passes { (vec_len left.passes ≡ 0) × (length clients.items ≤ vec_capacity left.passes) }
+    requires parts { rest.parts + length clients.items ≡ N.parts }
+    requires amount { rest.amount ≡ 0 }
+    requires apart { AreApart (holders clients.items) }
+    requires stand { ReceiptsStand recorded.history (holders clients.items) }
+    ensures base { IsTrue D.honest → result.0.base ≡ N.base }
+    ensures legal { IsLegal result.0.base result.0.history.items }
+    ensures library { result.0.library.units ≡ units_after result.0.base result.0.history.items }
+    ensures closed { IsClosed result.0.history.items (holders clients.items) }
+    ensures receipts { map (λ v. v.items) result.0.receipts.items ≡ map (λ c. c.receipts) (holders clients.items) }
+    // It is the book's library, with what was known of it.
+    ensures of_book { ◌≡◌ {A = BookView D} (record { base = result.0.base; library = result.0.library; history = result.0.history.items; failed = result.0.failed.items }) recorded }
+    ensures images { IsTrue D.honest → (image : List ℕ) → D.may_leave result.0.library.disk image → RecoversTo result.0.library.units result.0.failed.items image }
+    ensures idle { result.0.library.closed ≡ false → result.0.failed.items ≡ [] }
+    // Each unit of the map is the base's of that name, or was compiled; so was that of the change that failed.
+    ensures agrees { EachAgrees result.0.base result.0.library.units }
+    ensures agrees_failed { AllAgreed result.0.failed.items }
+    // The receipts of each client are of its own calls.
+    ensures own { AreOwn (holders clients.items) }
+{
+    receipts_count_up();
+    gather(&mut rest, clients, &mut left);
+    let Ended {
+        base,
+        library,
+        history,
+        failed,
+    } = recorded.end(rest);
+    let Left { receipts, passes } = left;
+    let closed = Closed {
+        base,
+        library,
+        history,
+        failed,
+        receipts,
+    };
+    (closed, passes)
 }
 
 impl<N: Named, D: Disk> Book<N, D> {
@@ -217,7 +132,16 @@ impl<N: Named, D: Disk> Book<N, D> {
         ensures stand { OnOk result (ReceiptsStand self.now.book.history (holders clients.now)) }
         ensures err { IfErr result (λ f. IsNotClosed self.now.book.history made (holders clients.now) f) }
     {
-        self.recorded.ready(alloc, made, clients)
+        let Ok(left) = Left::with_room(alloc, clients.len()) else {
+            return Err(BookFault::OutOfMemory);
+        };
+        match self.recorded.ready(made, clients) {
+            Ok(()) => Ok(left),
+            Err(fault) => {
+                drop(left);
+                Err(fault)
+            }
+        }
     }
 
     // Ends it. At the end the shares of all clients and the rest are the whole ledger.
@@ -249,7 +173,7 @@ impl<N: Named, D: Disk> Book<N, D> {
     {
         self.survives();
         let Book { recorded, since: _ } = self;
-        recorded.end(rest, clients, left)
+        end_with(recorded, rest, clients, left)
     }
 }
 

@@ -13,7 +13,7 @@ use Rattle.cc_history.specs.declared.entry.Entry.{Entry}
 use Rattle.cc_history.specs.Closing.{AreOwn, IsClosed, receipts_of}
 use Rattle.cc_history.specs.History.{EachAgrees, Holder, IsLegal, units_after}
 use Rattle.cc_service.specs.Client.{ClientView, holders}
-use Rattle.cc_service.specs.Book.{BookView, RecoversTo}
+use Rattle.cc_recorded.specs.Book.{BookView, RecoversTo}
 use Rattle.cc_service.specs.Promise.{SurvivesCrash}
 use Rattle.cc_service.specs.Serving.{IsNotOpened}
 use Rattle.cc_service.specs.declared.fault.ServiceFault.{ServiceFault}

@@ -6,7 +6,7 @@ use Rattle.cc_library.specs.Recovered.{Recovers}
 use Rattle.cc_history.specs.declared.entry.Entry.{Entry}
 use Rattle.cc_history.specs.Closing.{IsClosed}
 use Rattle.cc_history.specs.History.{EachAgrees, Holder, IsLegal, IsOwn, units_after}
-use Rattle.cc_service.specs.Book.{BookView, RecoversTo}
+use Rattle.cc_recorded.specs.Book.{BookView, RecoversTo}
 use Rattle.cc_service.specs.Fault.{fault_number}
 use Rattle.cc_service.specs.Promise.{SurvivesCrash}
 use Rattle.cc_service.specs.Serving.{IsNotOpened}

@@ -7,5 +7,5 @@ ghosts-serve-N-Ledger g a = record { name = a.begun.fresh.ledger; parts = 1025 }
 abbrev pub ghosts-serve-N-Queued : goal.ghosts-serve-N-Queued
 ghosts-serve-N-Queued g a = record { queue = a.begun.fresh.queue }
 
-abbrev pub ghosts-serve-N-Named : goal.ghosts-serve-N-Named
-ghosts-serve-N-Named g a = record { base = a.begun.base.value }
+abbrev pub ghosts-serve-N-Based : goal.ghosts-serve-N-Based
+ghosts-serve-N-Based g a = record { base = a.begun.base.value }

@@ -1,7 +1,7 @@
 use Rattle.std.proofs.Common.{◌≡◌, List, [], Some, None, refl, sym, ap, subst, ◌∙◌}
 use Rattle.std.specs.Prelude.{slice_get}
 use Rattle.cc_build.specs.Compiling.{compiling, Keeps}
-use Rattle.cc_service.specs.Book.{BookView}
+use Rattle.cc_recorded.specs.Book.{BookView}
 use Rattle.cc_service.specs.Since.{AreSince}
 use Rattle.cc_service.specs.Tie.{IsTied}
 use Rattle.cc_service.proofs.Tying.{opening_tied}

@@ -1,8 +1,8 @@
 -- The calls of the library with its history say what the core and a crash see of them; the type keeps the rest from that alone.
 use Rattle.std.proofs.Common.{IsTrue, List, sym, subst}
 use Rattle.cc_build.specs.Compiling.{compiling, Keeps}
-use Rattle.cc_service.specs.Book.{BookView}
-use Rattle.cc_service.specs.Disk.{ChangesDisk}
+use Rattle.cc_recorded.specs.Book.{BookView}
+use Rattle.cc_recorded.specs.Disk.{ChangesDisk}
 use Rattle.cc_service.specs.Since.{AreSince, BookSince}
 use Rattle.cc_core.specs.Rules.{HasBuilt}
 use Rattle.cc_history.specs.Calls.{change_of}

@@ -1,7 +1,7 @@
 use Rattle.std.proofs.Common.{IsTrue, List, sym, subst}
 use Rattle.cc_build.specs.Compiling.{compiling, Keeps}
-use Rattle.cc_service.specs.Book.{BookView}
-use Rattle.cc_service.specs.Disk.{CompactsDisk}
+use Rattle.cc_recorded.specs.Book.{BookView}
+use Rattle.cc_recorded.specs.Disk.{CompactsDisk}
 use Rattle.cc_service.specs.Since.{AreSince, BookSince}
 use Rattle.cc_service.proofs.Tying.{TurnLaw, compact_tied}
 use Rattle.cc_service.proofs.Sinces.{compact_since, one_more}

@@ -1,6 +1,6 @@
 use Rattle.std.proofs.Common.{List, sym, subst}
 use Rattle.cc_build.specs.Compiling.{compiling, Keeps}
-use Rattle.cc_service.specs.Book.{BookView}
+use Rattle.cc_recorded.specs.Book.{BookView}
 use Rattle.cc_service.specs.Since.{AreSince}
 use Rattle.cc_service.proofs.Tying.{look_tied}
 use Rattle.cc_service.proofs.Sinces.{look_since, one_more}

@@ -1,7 +1,7 @@
 -- What the library's opening says of the disk handed in, said of the one handed out, whose bytes are the same.
 use Rattle.std.proofs.Common.{◌∙◌, List, ℕ, ap, sym, subst}
 use Rattle.cc_journal.specs.Format.{HoldsRecords}
-use Rattle.cc_service.specs.Book.{BookView}
+use Rattle.cc_recorded.specs.Book.{BookView}
 use Rattle.cc_service.proofs.book.Book.open.Goals as goal
 
 pub begin-requires-clause-records : goal.begin-requires-clause-records

@@ -1,7 +1,7 @@
 use Rattle.std.proofs.Common.{◌≡◌, ℕ, List, IsTrue, Some, length, subst}
 use Rattle.std.specs.Prelude.{slice_get}
 use Rattle.cc_build.specs.Compiling.{compiling, Keeps, is_right}
-use Rattle.cc_service.specs.Book.{BookView}
+use Rattle.cc_recorded.specs.Book.{BookView}
 use Rattle.cc_service.specs.Promise.{SurvivesCrash}
 use Rattle.cc_service.specs.Since.{BookSince, HoldsFrom}
 use Rattle.cc_service.specs.Tie.{IsTied}

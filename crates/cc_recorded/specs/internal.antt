@@ -1,0 +1,5 @@
+-- What serves private contracts.
+-- the reply that an answer to a change is
+pub mod Decide
+-- what is looked for in clients
+pub mod Apart

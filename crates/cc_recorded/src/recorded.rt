@@ -1,0 +1,359 @@
+// The library with the history of its calls.
+ghost use Rattle.std.specs.Prelude.{◌≡◌, ◌≤◌, ℕ, List, [], false, IsTrue, IfOk, length};
+ghost use Rattle.cc_disk.specs.Images.{LeavesOnly};
+ghost use Rattle.cc_library.specs.Apply.{apply, after};
+ghost use Rattle.cc_library.specs.Recovered.{RecoversAlone, RecoversOneOf};
+ghost use Rattle.cc_history.specs.Calls.{change_of, reply_of, reply_of_change};
+ghost use Rattle.cc_history.specs.History.{EachAgrees, HaveAgreed, IsLegal, Replays, units_after};
+ghost use Rattle.cc_recorded.specs.Book.{AllAgreed, BookView, RecoversTo, chronicle_of};
+ghost use Rattle.cc_recorded.specs.Answers.{CommitAnswers, CompactAnswers, IsLook, LookAnswers};
+ghost use Rattle.cc_recorded.specs.Disk.{ChangesDisk, CompactsDisk};
+ghost use Rattle.cc_recorded.specs.internal.Decide.{answer_reply};
+
+use crate::entering::{enter, prepare};
+use crate::fault::BookFault;
+use crate::member::Member;
+use crate::named::Based;
+use cc_disk::{Disk, History};
+use cc_history::{
+    Asked, Command, Entry, NameList, Receipt, Reply, SharedEntry, calls_are_recorded, last_stands,
+    units_agree,
+};
+use cc_library::{Command as Change, Library, LibraryFault, SharedUnit, UnitMap};
+use std::alloc::{AllocError, Global};
+use std::marker::Model;
+use std::sync::Arc;
+use std::sync::ledger::{self, Share};
+
+/// What lies under a service's lock: the library, and the history of the calls. A clause sees the map that the service began
+/// with, the library, the history, and the change in whose call the device failed, where one did.
+pub struct RecordedLibrary<N: Based, D: Disk> {
+    pub(crate) base: UnitMap,
+    pub(crate) library: Library<D>,
+    pub(crate) history: Vec<SharedEntry>,
+    pub(crate) calls: ledger::Book<N>,
+    // For contracts alone.
+    pub(crate) failed: History<Change>,
+}
+
+// By hand, so that crates above call it and do not prove anew how each part is dropped.
+impl<N: Based, D: Disk + Drop> Drop for RecordedLibrary<N, D> {
+    fn drop(self) {
+        let RecordedLibrary {
+            base,
+            library,
+            history,
+            calls,
+            failed,
+        } = self;
+    }
+}
+
+impl<N: Based, D: Disk> Model for RecordedLibrary<N, D> {
+    ghost use Rattle.std.specs.Coded.{codes};
+    ghost use Rattle.cc_library.specs.contracts.units.UnitMap as units;
+    ghost use Rattle.cc_library.specs.contracts.command.Command as change;
+    ghost use Rattle.cc_history.specs.contracts.entry.Entry as entry;
+    ghost use Rattle.cc_recorded.specs.Book.{BookView, IsRecordedLibrary, book_code};
+
+    ghost Value = { BookView D };
+
+    ghost coded = { book_code D.code units.the_row.coded entry.the_row.coded change.the_row.coded };
+
+    ghost view = { λ b. record { base = b.base; library = b.library; history = b.history.items; failed = b.failed.items } };
+
+    ghost invariant = { λ b. IsRecordedLibrary D.honest D.may_leave N.base b.calls.total (record { base = b.base; library = b.library; history = b.history.items; failed = b.failed.items }) };
+}
+
+/// What is left of a library with its history: the map that it began with, the library, and the history.
+#[derive(Drop)]
+pub struct Ended<D: Disk> {
+    pub base: UnitMap,
+    pub library: Library<D>,
+    pub history: Vec<SharedEntry>,
+    /// The change in whose call the device failed, where one did. For contracts alone.
+    pub failed: History<Change>,
+}
+
+impl<N: Based, D: Disk> RecordedLibrary<N, D> {
+    /// The book of a service that begins: over a library that was opened, whose map is the base.
+    pub fn new(
+        alloc: Global,
+        base: UnitMap,
+        library: Library<D>,
+        calls: ledger::Book<N>,
+    ) -> RecordedLibrary<N, D>
+        requires same { base ≡ library.units }
+        requires usable { library.closed ≡ false }
+        requires named { IsTrue D.honest → base ≡ N.base }
+        requires images { IsTrue D.honest → (image : List ℕ) → D.may_leave library.disk image → RecoversAlone image library.units }
+        requires counted { calls.total ≡ 0 }
+        ensures { result ≡ record { base = base; library = library; history = []; failed = [] } }
+    {
+        RecordedLibrary {
+            base,
+            library,
+            history: Vec::new(alloc),
+            calls,
+            failed: History::new(),
+        }
+    }
+
+    /// The disk, which no call reaches any more.
+    pub fn into_disk(self) -> D
+        ensures { result ≡ self.library.disk }
+    {
+        let RecordedLibrary {
+            base,
+            library,
+            history,
+            calls,
+            failed,
+        } = self;
+        library.into_disk()
+    }
+
+    /// What its type keeps. It does nothing.
+    pub fn kept(&self)
+        ensures replays { Replays (chronicle_of self.now) }
+        ensures idle { self.now.library.closed ≡ false → self.now.failed ≡ [] }
+        ensures one { length self.now.failed ≤ 1 }
+        ensures agreed { HaveAgreed self.now.history }
+        ensures agreed_failed { AllAgreed self.now.failed }
+        ensures images { IsTrue D.honest → (image : List ℕ) → D.may_leave self.now.library.disk image → RecoversTo self.now.library.units self.now.failed image }
+    {
+        let _ = &self.base;
+    }
+
+    /// Makes a change, and puts the call into the history with its answer. At Ok it is kept: every crash from then on leaves it.
+    ///
+    /// Refusals, in this order: 36 where the device has failed before; 39 where the client's last receipt does not stand; 31
+    /// where the name to be added has a unit, 32 where the one to be replaced or withdrawn has none, both of them in the history
+    /// with a receipt; 34 where the record does not fit; 35 where the device failed. 40 where memory ran out, before the first
+    /// device call. After 34, 36, 39 and 40 all is as before; after 35 history and map are, and the disk has the map with or
+    /// without the change.
+    pub fn commit(
+        &mut self,
+        alloc: Global,
+        client: &mut Member<N>,
+        command: Command,
+    ) -> Result<Receipt, BookFault>
+        ensures answers { CommitAnswers D.failures self.old client.old command self.new client.new result }
+
+        // A crash at any moment of the call leaves the map before it or the map after it.
+        ensures moments { IsTrue D.honest → self.old.library.closed ≡ false
+            → LeavesOnly D.moment D.left_since self.old.library.disk self.new.library.disk
+            (RecoversOneOf self.old.library.units (after self.old.library.units (change_of command))) }
+
+        // What becomes of the disk's bytes.
+        ensures disk { IsTrue D.honest → ChangesDisk D.seen D.may_leave (change_of command) self.old.library self.new.library result }
+
+        // From then on, too: at Ok the map after it, alone.
+        ensures images { IsTrue D.honest → (image : List ℕ) → D.may_leave self.new.library.disk image → RecoversTo self.new.library.units self.new.failed image }
+    {
+        calls_are_recorded();
+        let RecordedLibrary {
+            library,
+            history,
+            calls,
+            failed,
+            ..
+        } = self;
+        let Member {
+            number,
+            receipts,
+            share,
+        } = client;
+        if library.is_closed() {
+            return Err(BookFault::Closed);
+        }
+        match last_stands(history.as_slice(), receipts.as_slice()) {
+            Ok(()) => {}
+            Err(fault) => return Err(BookFault::from(fault)),
+        }
+        let answer = decide(library, &command);
+        let Ok(change) = command.change() else {
+            return Err(BookFault::OutOfMemory);
+        };
+        let entry = Entry {
+            client: *number,
+            call: receipts.len() as u64 + 1,
+            asked: Asked::Change(command),
+            reply: answer.reply(),
+        };
+        let Ok(owners) = prepare(alloc, history, receipts, entry) else {
+            return Err(BookFault::OutOfMemory);
+        };
+        match answer {
+            Answer::Exists => Err(BookFault::Exists(enter(
+                history, calls, receipts, share, owners,
+            ))),
+            Answer::Absent => Err(BookFault::Absent(enter(
+                history, calls, receipts, share, owners,
+            ))),
+            Answer::Done => {
+                let failing = failed.and(&change);
+                match library.change(alloc, change) {
+                    Ok(()) => Ok(enter(history, calls, receipts, share, owners)),
+                    Err(LibraryFault::DiskFault) => {
+                        *failed = failing;
+                        Err(BookFault::DiskFault)
+                    }
+                    Err(LibraryFault::Full) => Err(BookFault::Full),
+                    Err(_) => Err(BookFault::OutOfMemory),
+                }
+            }
+        }
+    }
+
+    /// Looks at a name or at all names, and puts the call into the history with its answer, which is in the receipt's entry.
+    ///
+    /// 39 where the client's last receipt does not stand; 40 where memory ran out. After both all is as before. Whether the
+    /// device has failed does not matter.
+    pub fn look(
+        &mut self,
+        alloc: Global,
+        client: &mut Member<N>,
+        asked: Asked,
+    ) -> Result<Receipt, BookFault>
+        requires { IsLook asked }
+        ensures { LookAnswers self.old client.old asked self.new client.new result }
+    {
+        calls_are_recorded();
+        let RecordedLibrary {
+            library,
+            history,
+            calls,
+            ..
+        } = self;
+        let Member {
+            number,
+            receipts,
+            share,
+        } = client;
+        match last_stands(history.as_slice(), receipts.as_slice()) {
+            Ok(()) => {}
+            Err(fault) => return Err(BookFault::from(fault)),
+        }
+        let Ok(reply) = looked(alloc, library, &asked) else {
+            return Err(BookFault::OutOfMemory);
+        };
+        let entry = Entry {
+            client: *number,
+            call: receipts.len() as u64 + 1,
+            asked,
+            reply,
+        };
+        let Ok(owners) = prepare(alloc, history, receipts, entry) else {
+            return Err(BookFault::OutOfMemory);
+        };
+        Ok(enter(history, calls, receipts, share, owners))
+    }
+
+    /// Writes the library's records anew, one Add per name. It makes no entry in the history, and the map stays, at every moment.
+    ///
+    /// Refusals, in this order: 36 where the device has failed before, 34 where the new records do not fit, 35 where the device
+    /// failed. 40 where memory ran out, before the first device call. After 34, 36 and 40 all is as before.
+    pub fn compact(&mut self, alloc: Global) -> Result<(), BookFault>
+        ensures answers { CompactAnswers D.failures self.old self.new result }
+        ensures moments { IsTrue D.honest → self.old.library.closed ≡ false
+            → LeavesOnly D.moment D.left_since self.old.library.disk self.new.library.disk (λ image. RecoversAlone image self.old.library.units) }
+        ensures disk { IsTrue D.honest → CompactsDisk D.seen D.may_leave self.old.library self.new.library result }
+        ensures images { IsTrue D.honest → (image : List ℕ) → D.may_leave self.new.library.disk image → RecoversTo self.new.library.units self.new.failed image }
+    {
+        match self.library.compact(alloc) {
+            Ok(()) => {}
+            Err(LibraryFault::DiskFault) => return Err(BookFault::DiskFault),
+            Err(LibraryFault::Closed) => return Err(BookFault::Closed),
+            Err(LibraryFault::Full) => return Err(BookFault::Full),
+            Err(_) => return Err(BookFault::OutOfMemory),
+        }
+        Ok(())
+    }
+
+    /// Ends it, with a share that is the whole ledger: what that share counts is then all of the history.
+    pub fn end(self, mut whole: Share<N>) -> Ended<D>
+        requires parts { whole.parts ≡ N.parts }
+        ensures base { IsTrue D.honest → result.base ≡ N.base }
+        ensures legal { IsLegal result.base result.history.items }
+        ensures library { result.library.units ≡ units_after result.base result.history.items }
+        ensures counted { length result.history.items ≡ whole.amount }
+        // It is the book's library, with what was known of it.
+        ensures of_book { ◌≡◌ {A = BookView D} (record { base = result.base; library = result.library; history = result.history.items; failed = result.failed.items }) self }
+        ensures images { IsTrue D.honest → (image : List ℕ) → D.may_leave result.library.disk image → RecoversTo result.library.units result.failed.items image }
+        ensures idle { result.library.closed ≡ false → result.failed.items ≡ [] }
+        // Each unit of the map is the base's of that name, or was compiled; so was that of the change that failed.
+        ensures agrees { EachAgrees result.base result.library.units }
+        ensures agrees_failed { AllAgreed result.failed.items }
+    {
+        units_agree();
+        let RecordedLibrary {
+            base,
+            library,
+            history,
+            mut calls,
+            failed,
+        } = self;
+        calls.audit(&mut whole);
+        Ended {
+            base,
+            library,
+            history,
+            failed,
+        }
+    }
+}
+
+// The reply to a look.
+fn looked<D: Disk>(alloc: Global, library: &Library<D>, asked: &Asked) -> Result<Reply, AllocError>
+    requires { IsLook asked.now }
+    ensures { IfOk result (λ reply. reply ≡ reply_of library.now.units asked.now) }
+{
+    match asked {
+        // It is none.
+        Asked::Change(_) => Err(AllocError),
+        Asked::Fetch(name) => match library.get(name) {
+            Some(unit) => Ok(Reply::Unit(SharedUnit::new(Arc::try_clone(unit)?))),
+            None => Ok(Reply::Absent),
+        },
+        Asked::Names => Ok(Reply::Names(NameList::new(library.list(alloc)?))),
+    }
+}
+
+// The answer to a change.
+#[derive(Clone, Copy)]
+pub(crate) enum Answer {
+    Done,
+    Exists,
+    Absent,
+}
+
+impl Answer {
+    fn reply(self) -> Reply
+        ensures { result ≡ answer_reply self }
+    {
+        match self {
+            Answer::Done => Reply::Done,
+            Answer::Exists => Reply::Exists,
+            Answer::Absent => Reply::Absent,
+        }
+    }
+}
+
+// The answer to a change on a library that is not closed.
+fn decide<D: Disk>(library: &Library<D>, command: &Command) -> Answer
+    ensures { answer_reply result ≡ reply_of_change (apply library.now.units (change_of command.now)) }
+{
+    match command {
+        Command::Add(name, _) => if library.get(name).is_some() {
+            Answer::Exists
+        } else {
+            Answer::Done
+        },
+        Command::Replace(name, _) | Command::Withdraw(name) => if library.get(name).is_some() {
+            Answer::Done
+        } else {
+            Answer::Absent
+        },
+    }
+}
