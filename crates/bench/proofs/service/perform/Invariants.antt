@@ -8,5 +8,5 @@ ghosts-by_clients-N-Ledger g a = record { name = a.fresh.ledger; parts = 1025 }
 abbrev pub ghosts-by_clients-N-Queued : goal.ghosts-by_clients-N-Queued
 ghosts-by_clients-N-Queued g a = record { queue = a.fresh.queue }
 
-abbrev pub ghosts-by_clients-N-Named : goal.ghosts-by_clients-N-Named
-ghosts-by_clients-N-Named g a = record { base = empty }
+abbrev pub ghosts-by_clients-N-Based : goal.ghosts-by_clients-N-Based
+ghosts-by_clients-N-Based g a = record { base = empty }
