@@ -1,10 +1,11 @@
 //! The library with the history of its calls: what lies under the lock of a service, without any lock or thread.
 //!
 //! `named` is what its parameter names, `member` who calls, `fault` why a call is refused. `recorded` is the library with its history,
-//! `entering` puts an entry into it, `closing` looks whether it can be ended with its clients.
+//! `changing` makes a change of the library, `entering` puts an entry into the history, `closing` looks whether it can be ended with its clients.
 //! It hands out `RecordedLibrary`, `Ended`, `Member`, `HasReceipts`, `BookFault` and `Based`.
 #![tactic(auto)]
 
+mod changing;
 mod closing;
 mod entering;
 mod fault;

@@ -1,15 +1,15 @@
 // The library with the history of its calls.
 ghost use Rattle.std.specs.Prelude.{◌≡◌, ◌≤◌, ℕ, List, [], false, IsTrue, IfOk, length};
 ghost use Rattle.cc_disk.specs.Images.{LeavesOnly};
-ghost use Rattle.cc_library.specs.Apply.{apply, after};
+ghost use Rattle.cc_library.specs.Apply.{after};
 ghost use Rattle.cc_library.specs.Recovered.{RecoversAlone, RecoversOneOf};
-ghost use Rattle.cc_history.specs.Calls.{change_of, reply_of, reply_of_change};
+ghost use Rattle.cc_history.specs.Calls.{change_of, reply_of};
 ghost use Rattle.cc_history.specs.History.{EachAgrees, HaveAgreed, IsLegal, Replays, units_after};
 ghost use Rattle.cc_recorded.specs.Book.{AllAgreed, BookView, RecoversTo, chronicle_of};
 ghost use Rattle.cc_recorded.specs.Answers.{CommitAnswers, CompactAnswers, IsLook, LookAnswers};
 ghost use Rattle.cc_recorded.specs.Disk.{ChangesDisk, CompactsDisk};
-ghost use Rattle.cc_recorded.specs.internal.Decide.{answer_reply};
 
+use crate::changing::{Ready, make, make_ready};
 use crate::entering::{enter, prepare};
 use crate::fault::BookFault;
 use crate::member::Member;
@@ -164,46 +164,23 @@ impl<N: Based, D: Disk> RecordedLibrary<N, D> {
             receipts,
             share,
         } = client;
-        if library.is_closed() {
-            return Err(BookFault::Closed);
-        }
-        match last_stands(history.as_slice(), receipts.as_slice()) {
+        let ready = match make_ready(alloc, library, history, receipts, *number, command) {
+            Ok(ready) => ready,
+            Err(fault) => return Err(fault),
+        };
+        let Ready {
+            answer,
+            change,
+            owners,
+        } = ready;
+        match make(alloc, library, failed, answer, change) {
             Ok(()) => {}
-            Err(fault) => return Err(BookFault::from(fault)),
-        }
-        let answer = decide(library, &command);
-        let Ok(change) = command.change() else {
-            return Err(BookFault::OutOfMemory);
-        };
-        let entry = Entry {
-            client: *number,
-            call: receipts.len() as u64 + 1,
-            asked: Asked::Change(command),
-            reply: answer.reply(),
-        };
-        let Ok(owners) = prepare(alloc, history, receipts, entry) else {
-            return Err(BookFault::OutOfMemory);
-        };
-        match answer {
-            Answer::Exists => Err(BookFault::Exists(enter(
-                history, calls, receipts, share, owners,
-            ))),
-            Answer::Absent => Err(BookFault::Absent(enter(
-                history, calls, receipts, share, owners,
-            ))),
-            Answer::Done => {
-                let failing = failed.and(&change);
-                match library.change(alloc, change) {
-                    Ok(()) => Ok(enter(history, calls, receipts, share, owners)),
-                    Err(LibraryFault::DiskFault) => {
-                        *failed = failing;
-                        Err(BookFault::DiskFault)
-                    }
-                    Err(LibraryFault::Full) => Err(BookFault::Full),
-                    Err(_) => Err(BookFault::OutOfMemory),
-                }
+            Err(fault) => {
+                drop(owners);
+                return Err(fault);
             }
         }
+        answer.told(enter(history, calls, receipts, share, owners))
     }
 
     /// Looks at a name or at all names, and puts the call into the history with its answer, which is in the receipt's entry.
@@ -317,43 +294,5 @@ fn looked<D: Disk>(alloc: Global, library: &Library<D>, asked: &Asked) -> Result
             None => Ok(Reply::Absent),
         },
         Asked::Names => Ok(Reply::Names(NameList::new(library.list(alloc)?))),
-    }
-}
-
-// The answer to a change.
-#[derive(Clone, Copy)]
-pub(crate) enum Answer {
-    Done,
-    Exists,
-    Absent,
-}
-
-impl Answer {
-    fn reply(self) -> Reply
-        ensures { result ≡ answer_reply self }
-    {
-        match self {
-            Answer::Done => Reply::Done,
-            Answer::Exists => Reply::Exists,
-            Answer::Absent => Reply::Absent,
-        }
-    }
-}
-
-// The answer to a change on a library that is not closed.
-fn decide<D: Disk>(library: &Library<D>, command: &Command) -> Answer
-    ensures { answer_reply result ≡ reply_of_change (apply library.now.units (change_of command.now)) }
-{
-    match command {
-        Command::Add(name, _) => if library.get(name).is_some() {
-            Answer::Exists
-        } else {
-            Answer::Done
-        },
-        Command::Replace(name, _) | Command::Withdraw(name) => if library.get(name).is_some() {
-            Answer::Done
-        } else {
-            Answer::Absent
-        },
     }
 }

@@ -1,169 +1,144 @@
--- Three exits put an entry: those with a receipt. At each the types of book and client keep what they keep, and the call is
--- recorded, all by `entering`. After the device has failed the book keeps the change that failed.
-use Rattle.std.proofs.Common.{◌≡◌, ◌+◌, ◌≤◌, false, IsTrue, List, [], ◌∷◌, ◌++◌, length, refl, sym, ap, ◌∙◌, subst}
+-- One exit puts an entry, whatever the answer; one is after the library has refused the change; one is before it is reached.
+use Rattle.std.proofs.Common.{◌≡◌, ◌+◌, false, IsTrue, List, [], ◌∷◌, ◌++◌, length, Result, Err, sym, ap, ◌∙◌, subst}
+use Rattle.cc_disk.specs.Images.{LeavesOnly}
 use Rattle.cc_library.specs.declared.command.Command as made
-use Rattle.cc_library.specs.Body.{body_of}
-use Rattle.cc_library.specs.Answers.{room_with}
 use Rattle.cc_library.specs.Apply.{apply, after}
-use Rattle.cc_library.specs.Recovered.{View}
+use Rattle.cc_library.specs.Recovered.{RecoversOneOf, View}
 use Rattle.cc_history.specs.declared.command.Asked.TheVariants.{Change}
 use Rattle.cc_history.specs.declared.entry.Entry.{Entry}
 use Rattle.cc_history.specs.declared.entry.Receipt.{Receipt}
-use Rattle.cc_history.specs.declared.reply.Reply.TheVariants as reply
-use Rattle.cc_history.specs.Calls.{change_of, reply_of_change}
-use Rattle.cc_history.specs.History.{Holder, IsRecorded, LastStands, entry_of}
+use Rattle.cc_history.specs.Calls.{change_of}
+use Rattle.cc_history.specs.History.{Holder}
+use Rattle.cc_recorded.specs.Answers.{CommitAnswers}
 use Rattle.cc_recorded.specs.Book.{BookView, IsRecordedLibrary, RecoversTo}
 use Rattle.cc_recorded.specs.Client.{IsClient}
-use Rattle.cc_recorded.specs.Answers.{IsDone, IsRefused}
 use Rattle.cc_recorded.specs.Disk.{ChangesDisk}
 use Rattle.cc_recorded.specs.declared.fault.BookFault.{BookFault}
-use Rattle.cc_recorded.specs.declared.fault.BookFault.TheVariants.{DiskFault}
-use Rattle.std.proofs.Common.{Result, Ok, Err}
-use Rattle.cc_recorded.specs.internal.Decide.{answer_reply}
-use Rattle.cc_recorded.proofs.Committing.{entering, receipt_is, keeps_failed, done_is_ok}
+use Rattle.cc_recorded.specs.internal.Decide.{answer_reply, told}
+use Rattle.cc_recorded.proofs.Committing.{done_is_ok, entering, receipt_is}
+use Rattle.cc_recorded.proofs.Exits.{made_units, made_idle, not_made, not_ready, not_ready_disk, told_answers}
 use Rattle.cc_recorded.proofs.recorded.RecordedLibrary.commit.Given.{Over}
 use Rattle.cc_recorded.proofs.recorded.RecordedLibrary.commit.Goals as goal
 
-exists_facts : (g : Over) (c : goal.Joined-change-3 g)
-    → IsRecordedLibrary g.D.Disk.honest g.D.Disk.may_leave g.N.Based.base c.enter.new.calls.total (record { base = c.self.inside.base; library = c.self.inside.library; history = c.enter.new.history.items; failed = c.self.inside.failed.items })
+-- ---- the exit with an entry
+
+facts : (g : Over) (c : goal.After-told g)
+    → IsRecordedLibrary g.D.Disk.honest g.D.Disk.may_leave g.N.Based.base c.enter.new.calls.total (record { base = c.self.inside.base; library = c.make.new.library; history = c.enter.new.history.items; failed = c.make.new.failed.items })
     × IsClient (record { number = c.client.inside.number; receipts = c.enter.new.receipts.items }) c.enter.new.share.parts c.enter.new.share.amount
-    × IsRecorded (record { base = c.self.inside.base; units = c.self.inside.library.units; history = c.self.inside.history.items }) (record { number = c.client.inside.number; receipts = c.client.inside.receipts.items }) (Change c.args.command) reply.Exists
-    (record { base = c.self.inside.base; units = c.self.inside.library.units; history = c.enter.new.history.items }) (record { number = c.client.inside.number; receipts = c.enter.new.receipts.items }) c.enter.result
-exists_facts g c =
+    × CommitAnswers g.D.Disk.failures (record { base = c.self.inside.base; library = c.self.inside.library; history = c.self.inside.history.items; failed = c.self.inside.failed.items }) (record { number = c.client.inside.number; receipts = c.client.inside.receipts.items }) c.args.command
+    (record { base = c.self.inside.base; library = c.make.new.library; history = c.enter.new.history.items; failed = c.make.new.failed.items }) (record { number = c.client.inside.number; receipts = c.enter.new.receipts.items }) (told c.in-Ok.ready.answer c.enter.result)
+facts g c =
+    let D = g.D.Disk in
     let before : BookView g.row.D.Denot = record { base = c.self.inside.base; library = c.self.inside.library; history = c.self.inside.history.items; failed = c.self.inside.failed.items } in
     let old : Holder = record { number = c.client.inside.number; receipts = c.client.inside.receipts.items } in
-    let o = c.in-Ok-prepare.owners in
-    let stood : LastStands before.history old.receipts = subst (λ (r : List Receipt). LastStands before.history r) c.as_slice-2.ensures.value (subst (λ (h : List Entry). LastStands h c.as_slice-2.result.now) c.as_slice.ensures.value c.in-Ok.ensures.ok) in
-    let count : c.len.result ≡ length old.receipts = c.len.ensures ∙ sym c.as_slice-2.ensures.len ∙ ap length c.as_slice-2.ensures.value in
-    let answered : c.reply.result ≡ reply.Exists = c.reply.ensures ∙ ap answer_reply c.in-Exists.is in
-    let replied : reply.Exists ≡ reply_of_change (apply before.library.units (change_of c.args.command)) = sym (ap answer_reply c.in-Exists.is) ∙ c.decide-answer.ensures in
-    let entry : o.history ≡ entry_of old (Change c.args.command) reply.Exists = c.in-Ok-prepare.ensures.owners.0 ∙ (λ i. record { client = old.number; call = count i + 1; asked = Change c.args.command; reply = answered i }) in
-    let r = receipt_is c.enter.result (length c.prepare.new.history.items + 1) o.history c.enter.ensures.receipt in
-    entering c.calls_are_recorded.ensures g.D.Disk.honest g.D.Disk.may_leave g.N.Based.base c.self.inside.calls.total c.enter.new.calls.total before c.self.inside.library old c.client.inside.share.parts c.client.inside.share.amount c.enter.new.share.parts c.enter.new.share.amount
-    (Change c.args.command) reply.Exists c.enter.new.history.items c.enter.new.receipts.items c.enter.result c.self.invariant c.client.invariant stood replied c.in-Ok-change.ensures.agrees
-    (r.0 ∙ ap (λ (h : List Entry). length h + 1) c.in-Ok-prepare.ensures.history) (r.1 ∙ entry)
-    (c.enter.ensures.history ∙ (λ i. c.in-Ok-prepare.ensures.history i ++ sym r.1 i ∷ [])) (c.enter.ensures.receipts ∙ ap (λ (l : List Receipt). l ++ c.enter.result ∷ []) c.in-Ok-prepare.ensures.receipts)
-    c.enter.ensures.total c.enter.ensures.parts c.enter.ensures.amount refl refl c.self.invariant.images
+    let r = c.in-Ok.ready in
+    let e = c.in-Ok.ensures in
+    let m = c.in-Ok-make.ensures in
+    let failed : c.make.new.failed.items ≡ before.failed = m.kept in
+    let is = receipt_is c.enter.result (length c.make_ready.new.history.items + 1) r.owners.history c.enter.ensures.receipt in
+    let both = entering c.calls_are_recorded.ensures D.honest D.may_leave g.N.Based.base c.self.inside.calls.total c.enter.new.calls.total before c.make.new.library old c.client.inside.share.parts c.client.inside.share.amount c.enter.new.share.parts c.enter.new.share.amount
+    (Change c.args.command) (answer_reply r.answer) c.enter.new.history.items c.enter.new.receipts.items c.enter.result c.self.invariant c.client.invariant e.stands e.answer e.agrees
+    (is.0 ∙ ap (λ (h : List Entry). length h + 1) e.history) (is.1 ∙ e.entry)
+    (c.enter.ensures.history ∙ (λ i. e.history i ++ sym is.1 i ∷ [])) (c.enter.ensures.receipts ∙ ap (λ (l : List Receipt). l ++ c.enter.result ∷ []) e.receipts)
+    c.enter.ensures.total c.enter.ensures.parts c.enter.ensures.amount
+    (made_units D.failures r.change c.args.command before.library c.make.new.library r.answer e.change m.made) (made_idle D.failures r.change before.library c.make.new.library r.answer e.idle m.made)
+    (λ h image left. subst (λ (l : List made.Command). RecoversTo c.make.new.library.units l image) failed (m.images h image left)) in (
+      subst (λ (l : List made.Command). IsRecordedLibrary D.honest D.may_leave g.N.Based.base c.enter.new.calls.total (record { base = c.self.inside.base; library = c.make.new.library; history = c.enter.new.history.items; failed = l })) (sym failed) both.0,
+      both.1,
+      told_answers D.failures before old (record { number = c.client.inside.number; receipts = c.enter.new.receipts.items }) c.args.command r.change c.make.new.library c.enter.new.history.items c.make.new.failed.items r.answer c.enter.result e.change e.idle e.answer m.made failed both.2,
+    )
 
-pub invariant_of-self-in-Exists : goal.invariant_of-self-in-Exists
-invariant_of-self-in-Exists g c = (exists_facts g c).0
+pub invariant_of-self-2 : goal.invariant_of-self-2
+invariant_of-self-2 g c = (facts g c).0
 
-pub invariant_of-client-in-Exists : goal.invariant_of-client-in-Exists
-invariant_of-client-in-Exists g c = (exists_facts g c).1
+pub invariant_of-client-2 : goal.invariant_of-client-2
+invariant_of-client-2 g c = (facts g c).1
 
-pub returns-in-Exists-clause-answers : goal.returns-in-Exists-clause-answers
-returns-in-Exists-clause-answers g c =
+pub returns-clause-answers : goal.returns-clause-answers
+returns-clause-answers g c =
     let before : BookView g.row.D.Denot = record { base = c.self.inside.base; library = c.self.inside.library; history = c.self.inside.history.items; failed = c.self.inside.failed.items } in
-    let after_it : BookView g.row.D.Denot = record { base = c.self.inside.base; library = c.self.inside.library; history = c.enter.new.history.items; failed = c.self.inside.failed.items } in
+    let after_it : BookView g.row.D.Denot = record { base = c.self.inside.base; library = c.make.new.library; history = c.enter.new.history.items; failed = c.make.new.failed.items } in
     let new : Holder = record { number = c.client.inside.number; receipts = c.enter.new.receipts.items } in
-    subst (λ (b : BookView g.row.D.Denot). IsRefused b c.args.client.now c.args.command reply.Exists after_it new c.enter.result) c.self.view_is
-    (subst (λ (h : Holder). IsRefused before h c.args.command reply.Exists after_it new c.enter.result) c.client.view_is
-    (record { idle = sym c.is_closed.ensures ∙ c.if-is_closed.false; recorded = (exists_facts g c).2; library = refl; failed = refl }))
+    let at = λ (b : BookView g.row.D.Denot) (h : Holder). CommitAnswers g.D.Disk.failures b h c.args.command after_it new c.told.result in
+    subst (λ (b : BookView g.row.D.Denot). at b c.args.client.now) c.self.view_is
+    (subst (λ (h : Holder). at before h) c.client.view_is
+    (subst (λ (r : Result Receipt BookFault). CommitAnswers g.D.Disk.failures before (record { number = c.client.inside.number; receipts = c.client.inside.receipts.items }) c.args.command after_it new r) (sym c.told.ensures) (facts g c).2))
 
-absent_facts : (g : Over) (c : goal.Joined-change-4 g)
-    → IsRecordedLibrary g.D.Disk.honest g.D.Disk.may_leave g.N.Based.base c.enter-in-Absent.new.calls.total (record { base = c.self.inside.base; library = c.self.inside.library; history = c.enter-in-Absent.new.history.items; failed = c.self.inside.failed.items })
-    × IsClient (record { number = c.client.inside.number; receipts = c.enter-in-Absent.new.receipts.items }) c.enter-in-Absent.new.share.parts c.enter-in-Absent.new.share.amount
-    × IsRecorded (record { base = c.self.inside.base; units = c.self.inside.library.units; history = c.self.inside.history.items }) (record { number = c.client.inside.number; receipts = c.client.inside.receipts.items }) (Change c.args.command) reply.Absent
-    (record { base = c.self.inside.base; units = c.self.inside.library.units; history = c.enter-in-Absent.new.history.items }) (record { number = c.client.inside.number; receipts = c.enter-in-Absent.new.receipts.items }) c.enter-in-Absent.result
-absent_facts g c =
+pub returns-clause-moments : goal.returns-clause-moments
+returns-clause-moments g c =
+    let D = g.D.Disk in
+    subst (λ (b : BookView g.row.D.Denot). IsTrue D.honest → b.library.closed ≡ false → LeavesOnly D.moment D.left_since b.library.disk c.make.new.library.disk (RecoversOneOf b.library.units (after b.library.units (change_of c.args.command)))) c.self.view_is
+    (λ h _. subst (λ (k : made.Command). LeavesOnly D.moment D.left_since c.self.inside.library.disk c.make.new.library.disk (RecoversOneOf c.self.inside.library.units (after c.self.inside.library.units k))) c.in-Ok.ensures.change (c.in-Ok-make.ensures.moments h))
+
+pub returns-clause-disk : goal.returns-clause-disk
+returns-clause-disk g c =
+    let D = g.D.Disk in
+    let at = λ (k : made.Command) (b : View g.row.D.Denot) (r : Result Receipt BookFault). ChangesDisk D.seen D.may_leave k b c.make.new.library r in
+    subst (λ (b : BookView g.row.D.Denot). IsTrue D.honest → at (change_of c.args.command) b.library c.told.result) c.self.view_is
+    (λ h. subst (λ (k : made.Command). at k c.self.inside.library c.told.result) c.in-Ok.ensures.change
+    (subst (λ (r : Result Receipt BookFault). at c.in-Ok.ready.change c.self.inside.library r) (sym c.told.ensures) (c.in-Ok-make.ensures.disk h c.enter.result)))
+
+-- ---- the library has refused the change
+
+refused_facts : (g : Over) (c : goal.After-drop g)
+    → IsRecordedLibrary g.D.Disk.honest g.D.Disk.may_leave g.N.Based.base c.self.inside.calls.total (record { base = c.self.inside.base; library = c.make.new.library; history = c.make_ready.new.history.items; failed = c.make.new.failed.items })
+    × CommitAnswers g.D.Disk.failures (record { base = c.self.inside.base; library = c.self.inside.library; history = c.self.inside.history.items; failed = c.self.inside.failed.items }) (record { number = c.client.inside.number; receipts = c.client.inside.receipts.items }) c.args.command
+    (record { base = c.self.inside.base; library = c.make.new.library; history = c.make_ready.new.history.items; failed = c.make.new.failed.items }) (record { number = c.client.inside.number; receipts = c.make_ready.new.receipts.items }) (Err c.in-Err-make.fault)
+refused_facts g c =
+    let D = g.D.Disk in
     let before : BookView g.row.D.Denot = record { base = c.self.inside.base; library = c.self.inside.library; history = c.self.inside.history.items; failed = c.self.inside.failed.items } in
     let old : Holder = record { number = c.client.inside.number; receipts = c.client.inside.receipts.items } in
-    let o = c.in-Ok-prepare.owners in
-    let stood : LastStands before.history old.receipts = subst (λ (r : List Receipt). LastStands before.history r) c.as_slice-2.ensures.value (subst (λ (h : List Entry). LastStands h c.as_slice-2.result.now) c.as_slice.ensures.value c.in-Ok.ensures.ok) in
-    let count : c.len.result ≡ length old.receipts = c.len.ensures ∙ sym c.as_slice-2.ensures.len ∙ ap length c.as_slice-2.ensures.value in
-    let answered : c.reply.result ≡ reply.Absent = c.reply.ensures ∙ ap answer_reply c.in-Absent.is in
-    let replied : reply.Absent ≡ reply_of_change (apply before.library.units (change_of c.args.command)) = sym (ap answer_reply c.in-Absent.is) ∙ c.decide-answer.ensures in
-    let entry : o.history ≡ entry_of old (Change c.args.command) reply.Absent = c.in-Ok-prepare.ensures.owners.0 ∙ (λ i. record { client = old.number; call = count i + 1; asked = Change c.args.command; reply = answered i }) in
-    let r = receipt_is c.enter-in-Absent.result (length c.prepare.new.history.items + 1) o.history c.enter-in-Absent.ensures.receipt in
-    entering c.calls_are_recorded.ensures g.D.Disk.honest g.D.Disk.may_leave g.N.Based.base c.self.inside.calls.total c.enter-in-Absent.new.calls.total before c.self.inside.library old c.client.inside.share.parts c.client.inside.share.amount c.enter-in-Absent.new.share.parts c.enter-in-Absent.new.share.amount
-    (Change c.args.command) reply.Absent c.enter-in-Absent.new.history.items c.enter-in-Absent.new.receipts.items c.enter-in-Absent.result c.self.invariant c.client.invariant stood replied c.in-Ok-change.ensures.agrees
-    (r.0 ∙ ap (λ (h : List Entry). length h + 1) c.in-Ok-prepare.ensures.history) (r.1 ∙ entry)
-    (c.enter-in-Absent.ensures.history ∙ (λ i. c.in-Ok-prepare.ensures.history i ++ sym r.1 i ∷ [])) (c.enter-in-Absent.ensures.receipts ∙ ap (λ (l : List Receipt). l ++ c.enter-in-Absent.result ∷ []) c.in-Ok-prepare.ensures.receipts)
-    c.enter-in-Absent.ensures.total c.enter-in-Absent.ensures.parts c.enter-in-Absent.ensures.amount refl refl c.self.invariant.images
+    let r = c.in-Ok.ready in
+    let e = c.in-Ok.ensures in
+    let m = c.in-Err-make.ensures in
+    not_made D.failures D.honest D.may_leave g.N.Based.base c.self.inside.calls.total before old (record { number = c.client.inside.number; receipts = c.make_ready.new.receipts.items }) c.args.command r.change c.make.new.library c.make_ready.new.history.items c.make.new.failed.items c.in-Err-make.fault
+    c.self.invariant e.agrees e.change e.idle e.stands (done_is_ok (apply before.library.units (change_of c.args.command)) (sym e.answer ∙ ap answer_reply m.accepted))
+    e.history (λ i. record { number = c.client.inside.number; receipts = e.receipts i }) m.refused m.images
 
-pub invariant_of-self-in-Absent : goal.invariant_of-self-in-Absent
-invariant_of-self-in-Absent g c = (absent_facts g c).0
+pub invariant_of-self-in-Err-make : goal.invariant_of-self-in-Err-make
+invariant_of-self-in-Err-make g c = (refused_facts g c).0
 
-pub invariant_of-client-in-Absent : goal.invariant_of-client-in-Absent
-invariant_of-client-in-Absent g c = (absent_facts g c).1
-
-pub returns-in-Absent-clause-answers : goal.returns-in-Absent-clause-answers
-returns-in-Absent-clause-answers g c =
+pub returns-in-Err-make-clause-answers : goal.returns-in-Err-make-clause-answers
+returns-in-Err-make-clause-answers g c =
     let before : BookView g.row.D.Denot = record { base = c.self.inside.base; library = c.self.inside.library; history = c.self.inside.history.items; failed = c.self.inside.failed.items } in
-    let after_it : BookView g.row.D.Denot = record { base = c.self.inside.base; library = c.self.inside.library; history = c.enter-in-Absent.new.history.items; failed = c.self.inside.failed.items } in
-    let new : Holder = record { number = c.client.inside.number; receipts = c.enter-in-Absent.new.receipts.items } in
-    subst (λ (b : BookView g.row.D.Denot). IsRefused b c.args.client.now c.args.command reply.Absent after_it new c.enter-in-Absent.result) c.self.view_is
-    (subst (λ (h : Holder). IsRefused before h c.args.command reply.Absent after_it new c.enter-in-Absent.result) c.client.view_is
-    (record { idle = sym c.is_closed.ensures ∙ c.if-is_closed.false; recorded = (absent_facts g c).2; library = refl; failed = refl }))
+    let after_it : BookView g.row.D.Denot = record { base = c.self.inside.base; library = c.make.new.library; history = c.make_ready.new.history.items; failed = c.make.new.failed.items } in
+    let new : Holder = record { number = c.client.inside.number; receipts = c.make_ready.new.receipts.items } in
+    let at = λ (b : BookView g.row.D.Denot) (h : Holder). CommitAnswers g.D.Disk.failures b h c.args.command after_it new (Err c.in-Err-make.fault) in
+    subst (λ (b : BookView g.row.D.Denot). at b c.args.client.now) c.self.view_is (subst (λ (h : Holder). at before h) c.client.view_is (refused_facts g c).1)
 
-done_facts : (g : Over) (c : goal.After-enter-in-Ok-change-2 g)
-    → IsRecordedLibrary g.D.Disk.honest g.D.Disk.may_leave g.N.Based.base c.enter-in-Ok-change-2.new.calls.total (record { base = c.self.inside.base; library = c.change-in-Done.new.self; history = c.enter-in-Ok-change-2.new.history.items; failed = c.self.inside.failed.items })
-    × IsClient (record { number = c.client.inside.number; receipts = c.enter-in-Ok-change-2.new.receipts.items }) c.enter-in-Ok-change-2.new.share.parts c.enter-in-Ok-change-2.new.share.amount
-    × IsRecorded (record { base = c.self.inside.base; units = c.self.inside.library.units; history = c.self.inside.history.items }) (record { number = c.client.inside.number; receipts = c.client.inside.receipts.items }) (Change c.args.command) reply.Done
-    (record { base = c.self.inside.base; units = c.change-in-Done.new.self.units; history = c.enter-in-Ok-change-2.new.history.items }) (record { number = c.client.inside.number; receipts = c.enter-in-Ok-change-2.new.receipts.items }) c.enter-in-Ok-change-2.result
-done_facts g c =
+pub returns-in-Err-make-clause-moments : goal.returns-in-Err-make-clause-moments
+returns-in-Err-make-clause-moments g c =
+    let D = g.D.Disk in
+    subst (λ (b : BookView g.row.D.Denot). IsTrue D.honest → b.library.closed ≡ false → LeavesOnly D.moment D.left_since b.library.disk c.make.new.library.disk (RecoversOneOf b.library.units (after b.library.units (change_of c.args.command)))) c.self.view_is
+    (λ h _. subst (λ (k : made.Command). LeavesOnly D.moment D.left_since c.self.inside.library.disk c.make.new.library.disk (RecoversOneOf c.self.inside.library.units (after c.self.inside.library.units k))) c.in-Ok.ensures.change (c.in-Err-make.ensures.moments h))
+
+pub returns-in-Err-make-clause-disk : goal.returns-in-Err-make-clause-disk
+returns-in-Err-make-clause-disk g c =
+    let D = g.D.Disk in
+    subst (λ (b : BookView g.row.D.Denot). IsTrue D.honest → ChangesDisk {T = Receipt} D.seen D.may_leave (change_of c.args.command) b.library c.make.new.library (Err c.in-Err-make.fault)) c.self.view_is
+    (λ h. subst (λ (k : made.Command). ChangesDisk {T = Receipt} D.seen D.may_leave k c.self.inside.library c.make.new.library (Err c.in-Err-make.fault)) c.in-Ok.ensures.change (c.in-Err-make.ensures.left h))
+
+-- ---- the library was not reached
+
+pub invariant_of-self : goal.invariant_of-self
+invariant_of-self g c =
+    subst (λ (h : List Entry). IsRecordedLibrary g.D.Disk.honest g.D.Disk.may_leave g.N.Based.base c.self.inside.calls.total (record { base = c.self.inside.base; library = c.self.inside.library; history = h; failed = c.self.inside.failed.items })) (sym c.in-Err.ensures.history) c.self.invariant
+
+pub invariant_of-client : goal.invariant_of-client
+invariant_of-client g c =
+    subst (λ (l : List Receipt). IsClient (record { number = c.client.inside.number; receipts = l }) c.client.inside.share.parts c.client.inside.share.amount) (sym c.in-Err.ensures.receipts) c.client.invariant
+
+pub returns-in-Err-clause-answers : goal.returns-in-Err-clause-answers
+returns-in-Err-clause-answers g c =
     let before : BookView g.row.D.Denot = record { base = c.self.inside.base; library = c.self.inside.library; history = c.self.inside.history.items; failed = c.self.inside.failed.items } in
+    let after_it : BookView g.row.D.Denot = record { base = c.self.inside.base; library = c.self.inside.library; history = c.make_ready.new.history.items; failed = c.self.inside.failed.items } in
     let old : Holder = record { number = c.client.inside.number; receipts = c.client.inside.receipts.items } in
-    let o = c.in-Ok-prepare.owners in
-    let stood : LastStands before.history old.receipts = subst (λ (r : List Receipt). LastStands before.history r) c.as_slice-2.ensures.value (subst (λ (h : List Entry). LastStands h c.as_slice-2.result.now) c.as_slice.ensures.value c.in-Ok.ensures.ok) in
-    let count : c.len.result ≡ length old.receipts = c.len.ensures ∙ sym c.as_slice-2.ensures.len ∙ ap length c.as_slice-2.ensures.value in
-    let answered : c.reply.result ≡ reply.Done = c.reply.ensures ∙ ap answer_reply c.in-Done.is in
-    let replied : reply.Done ≡ reply_of_change (apply before.library.units (change_of c.args.command)) = sym (ap answer_reply c.in-Done.is) ∙ c.decide-answer.ensures in
-    let entry : o.history ≡ entry_of old (Change c.args.command) reply.Done = c.in-Ok-prepare.ensures.owners.0 ∙ (λ i. record { client = old.number; call = count i + 1; asked = Change c.args.command; reply = answered i }) in
-    let r = receipt_is c.enter-in-Ok-change-2.result (length c.prepare.new.history.items + 1) o.history c.enter-in-Ok-change-2.ensures.receipt in
-    entering c.calls_are_recorded.ensures g.D.Disk.honest g.D.Disk.may_leave g.N.Based.base c.self.inside.calls.total c.enter-in-Ok-change-2.new.calls.total before c.change-in-Done.new.self old c.client.inside.share.parts c.client.inside.share.amount c.enter-in-Ok-change-2.new.share.parts c.enter-in-Ok-change-2.new.share.amount
-    (Change c.args.command) reply.Done c.enter-in-Ok-change-2.new.history.items c.enter-in-Ok-change-2.new.receipts.items c.enter-in-Ok-change-2.result c.self.invariant c.client.invariant stood replied c.in-Ok-change.ensures.agrees
-    (r.0 ∙ ap (λ (h : List Entry). length h + 1) c.in-Ok-prepare.ensures.history) (r.1 ∙ entry)
-    (c.enter-in-Ok-change-2.ensures.history ∙ (λ i. c.in-Ok-prepare.ensures.history i ++ sym r.1 i ∷ [])) (c.enter-in-Ok-change-2.ensures.receipts ∙ ap (λ (l : List Receipt). l ++ c.enter-in-Ok-change-2.result ∷ []) c.in-Ok-prepare.ensures.receipts)
-    c.enter-in-Ok-change-2.ensures.total c.enter-in-Ok-change-2.ensures.parts c.enter-in-Ok-change-2.ensures.amount (ap (λ (v : View g.row.D.Denot). v.units) c.in-Ok-change-2.ensures.leaves ∙ ap (λ (k : made.Command). after c.self.inside.library.units k) c.in-Ok-change.ensures.change) (ap (λ (v : View g.row.D.Denot). v.closed) c.in-Ok-change-2.ensures.leaves ∙ sym (sym c.is_closed.ensures ∙ c.if-is_closed.false)) (λ h image left. subst (λ (l : List made.Command). RecoversTo c.change-in-Done.new.self.units l image) (sym (c.self.invariant.idle (sym c.is_closed.ensures ∙ c.if-is_closed.false))) (c.in-Ok-change-2.ensures.kept h image left))
+    let new : Holder = record { number = c.client.inside.number; receipts = c.make_ready.new.receipts.items } in
+    let at = λ (b : BookView g.row.D.Denot) (h : Holder). CommitAnswers g.D.Disk.failures b h c.args.command after_it new (Err c.in-Err.fault) in
+    subst (λ (b : BookView g.row.D.Denot). at b c.args.client.now) c.self.view_is (subst (λ (h : Holder). at before h) c.client.view_is
+    (not_ready g.D.Disk.failures before after_it old new c.args.command c.in-Err.fault
+    (λ i. record { base = c.self.inside.base; library = c.self.inside.library; history = c.in-Err.ensures.history i; failed = c.self.inside.failed.items }) (λ i. record { number = c.client.inside.number; receipts = c.in-Err.ensures.receipts i }) c.in-Err.ensures.refused))
 
-pub invariant_of-self-in-Ok-change-2 : goal.invariant_of-self-in-Ok-change-2
-invariant_of-self-in-Ok-change-2 g c = (done_facts g c).0
-
-pub invariant_of-client-in-Ok-change-2 : goal.invariant_of-client-in-Ok-change-2
-invariant_of-client-in-Ok-change-2 g c = (done_facts g c).1
-
-pub returns-in-Ok-change-2-clause-answers : goal.returns-in-Ok-change-2-clause-answers
-returns-in-Ok-change-2-clause-answers g c =
-    let before : BookView g.row.D.Denot = record { base = c.self.inside.base; library = c.self.inside.library; history = c.self.inside.history.items; failed = c.self.inside.failed.items } in
-    let old : Holder = record { number = c.client.inside.number; receipts = c.client.inside.receipts.items } in
-    let after_it : BookView g.row.D.Denot = record { base = c.self.inside.base; library = c.change-in-Done.new.self; history = c.enter-in-Ok-change-2.new.history.items; failed = c.self.inside.failed.items } in
-    let new : Holder = record { number = c.client.inside.number; receipts = c.enter-in-Ok-change-2.new.receipts.items } in
-    let idle : before.library.closed ≡ false = sym c.is_closed.ensures ∙ c.if-is_closed.false in
-    let is : c.in-Ok-change.change ≡ change_of c.args.command = c.in-Ok-change.ensures.change in
-    let replied : reply.Done ≡ reply_of_change (apply before.library.units (change_of c.args.command)) = sym (ap answer_reply c.in-Done.is) ∙ c.decide-answer.ensures in
-    let answers = c.in-Ok-change-2.ensures.answers in
-    let recorded = (done_facts g c).2 in
-    let done : IsDone before old c.args.command after_it new c.enter-in-Ok-change-2.result = record {
-      asked = record { idle = idle; stands = recorded.stood; accepted = done_is_ok (apply before.library.units (change_of c.args.command)) (sym replied) };
-      fits = subst (λ (k : made.Command). room_with before.library k ≤ before.library.area) is answers.1;
-      recorded = recorded;
-      library = c.in-Ok-change-2.ensures.leaves ∙ (λ i. record { disk = c.change-in-Done.new.self.disk; area = before.library.area; bodies = before.library.bodies ++ body_of (is i) ∷ []; units = after before.library.units (is i); closed = false });
-      failed = refl;
-    } in
-    subst (λ (b : BookView g.row.D.Denot). IsDone b c.args.client.now c.args.command after_it new c.enter-in-Ok-change-2.result × (g.D.Disk.failures c.change-in-Done.new.self.disk ≡ g.D.Disk.failures b.library.disk)) c.self.view_is
-    (subst (λ (h : Holder). IsDone before h c.args.command after_it new c.enter-in-Ok-change-2.result × (g.D.Disk.failures c.change-in-Done.new.self.disk ≡ g.D.Disk.failures before.library.disk)) c.client.view_is
-    (done, answers.2))
-
-pub invariant_of-self-in-Err-DiskFault : goal.invariant_of-self-in-Err-DiskFault
-invariant_of-self-in-Err-DiskFault g c =
-    let before : BookView g.row.D.Denot = record { base = c.self.inside.base; library = c.self.inside.library; history = c.self.inside.history.items; failed = c.self.inside.failed.items } in
-    let idle : before.library.closed ≡ false = sym c.is_closed.ensures ∙ c.if-is_closed.false in
-    (keeps_failed g.D.Disk.honest g.D.Disk.may_leave g.N.Based.base c.self.inside.calls.total before c.change-in-Done.new.self c.prepare.new.history.items c.and-failing.result.items c.args.command c.in-Ok-change.change
-    c.self.invariant c.in-Ok-change.ensures.agrees c.in-Ok-prepare.ensures.history c.and-failing.ensures idle (rw c.in-Err-DiskFault.field-0-is at c.in-Err-DiskFault.ensures.leaves) c.in-Ok-change.ensures.change (λ h image left. c.change-in-Done.ensures.images h idle image left)).1
-
--- ---- what became of the disk's bytes
-
-pub returns-in-Ok-change-2-clause-disk : goal.returns-in-Ok-change-2-clause-disk
-returns-in-Ok-change-2-clause-disk g c =
-    let before : BookView g.row.D.Denot = record { base = c.self.inside.base; library = c.self.inside.library; history = c.self.inside.history.items; failed = c.self.inside.failed.items } in
-    let answered : Result Receipt BookFault = Ok c.enter-in-Ok-change-2.result in
-    subst (λ (b : BookView g.row.D.Denot). IsTrue g.D.Disk.honest → ChangesDisk g.D.Disk.seen g.D.Disk.may_leave (change_of c.args.command) b.library c.change-in-Done.new.self answered) c.self.view_is
-    (λ h. subst (λ (k : made.Command). ChangesDisk g.D.Disk.seen g.D.Disk.may_leave k before.library c.change-in-Done.new.self answered) c.in-Ok-change.ensures.change (c.in-Ok-change-2.ensures.disk h))
-
-pub returns-in-Err-DiskFault-clause-disk : goal.returns-in-Err-DiskFault-clause-disk
-returns-in-Err-DiskFault-clause-disk g c =
-    let before : BookView g.row.D.Denot = record { base = c.self.inside.base; library = c.self.inside.library; history = c.self.inside.history.items; failed = c.self.inside.failed.items } in
-    let fails = rw c.in-Err-DiskFault.field-0-is at c.in-Err-DiskFault.ensures.disk in
-    subst (λ (b : BookView g.row.D.Denot). IsTrue g.D.Disk.honest → ChangesDisk {T = Receipt} g.D.Disk.seen g.D.Disk.may_leave (change_of c.args.command) b.library c.change-in-Done.new.self (Err DiskFault)) c.self.view_is
-    (λ h. subst (λ (k : made.Command). ChangesDisk {T = Receipt} g.D.Disk.seen g.D.Disk.may_leave k before.library c.change-in-Done.new.self (Err DiskFault)) c.in-Ok-change.ensures.change (fails h))
+pub returns-in-Err-clause-disk : goal.returns-in-Err-clause-disk
+returns-in-Err-clause-disk g c = λ _.
+    not_ready_disk g.D.Disk.seen g.D.Disk.may_leave (change_of c.args.command) c.args.self.now.library c.self.inside.library c.self.inside.library.closed c.self.inside.history.items c.client.inside.receipts.items c.in-Err.fault c.in-Err.ensures.refused
