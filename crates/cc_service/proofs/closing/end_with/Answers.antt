@@ -8,8 +8,8 @@ use Rattle.cc_service.proofs.closing.end_with.Goals as goal
 
 pub returns-clause-closed : goal.returns-clause-closed
 returns-clause-closed g c =
-    let history = c.end.result.history.items in
+    let history = c.end-base.result.history.items in
     let clients = holders c.args.clients.items in
-    let stand = subst (λ (h : List Entry). ReceiptsStand h clients) (sym (ap (λ (b : BookView g.row.D.Denot). b.history) c.end.ensures.of_book)) c.requires.stand in
-    let total : receipts_of clients ≡ length history = omega (arith, c.end.ensures.counted, c.gather.ensures.amount, c.requires.amount) in
+    let stand = subst (λ (h : List Entry). ReceiptsStand h clients) (sym (ap (λ (b : BookView g.row.D.Denot). b.history) c.end-base.ensures.of_book)) c.requires.stand in
+    let total : receipts_of clients ≡ length history = omega (arith, c.end-base.ensures.counted, c.gather.ensures.amount, c.requires.amount) in
     c.receipts_count_up.ensures history clients c.gather.ensures.own c.requires.apart stand total
