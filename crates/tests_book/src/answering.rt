@@ -56,7 +56,7 @@ fn receipt_of(answer: &Result<Receipt, BookFault>) -> Option<&Receipt> {
     }
 }
 
-fn recorded(receipt: &Receipt, model: &Model, call: Call, number: u32) -> Recorded {
+fn read_receipt(receipt: &Receipt, model: &Model, call: Call, number: u32) -> Recorded {
     let entry = receipt.entry.entry();
     Recorded {
         number: receipt.number,
@@ -69,7 +69,7 @@ fn recorded(receipt: &Receipt, model: &Model, call: Call, number: u32) -> Record
 fn read(answer: Result<Receipt, BookFault>, model: &Model, call: Call) -> Answer {
     let number = number(&answer);
     let recorded = match receipt_of(&answer) {
-        Some(receipt) => Some(recorded(receipt, model, call, number)),
+        Some(receipt) => Some(read_receipt(receipt, model, call, number)),
         None => None,
     };
     drop(answer);

@@ -4,7 +4,7 @@ ghost use Rattle.cc_library.specs.Apply.{Units};
 ghost use Rattle.cc_library.specs.Recovered.{Recovers};
 
 use super::ending::{Ending, Left, ended_so};
-use super::starting::{Begun, Device, not_opened, opened, seated};
+use super::starting::{Begun, Device, opened, opened_with};
 use super::work::{Work, is_done};
 use cc_disk::Disk;
 use cc_library::UnitMap;
@@ -60,24 +60,19 @@ where
     requires few { workers ≤ 8 }
 {
     drop(base);
-    match opened::<N, D, R, G>(rt, alloc, fresh, disk, workers, gate) {
-        Ok(service) => match seated(rt, alloc, &service, plan.clients) {
-            Ok(mut clients) => {
-                let right = is_done(rt, alloc, &service, &mut clients, plan.work);
-                match ended_so(rt, alloc, service, clients, plan.ending) {
-                    Ok(end) => Ok((right, end)),
-                    Err(fail) => Err(fail),
-                }
-            }
-            Err(fail) => {
-                drop(service);
-                Err(fail)
-            }
-        },
-        Err((number, disk)) => {
-            drop(disk);
-            Err(not_opened(number))
-        }
+    let (service, mut clients) = opened_with::<N, D, R, G>(
+        rt,
+        alloc,
+        fresh,
+        disk,
+        workers,
+        gate,
+        plan.clients,
+    )?;
+    let right = is_done(rt, alloc, &service, &mut clients, plan.work);
+    match ended_so(rt, alloc, service, clients, plan.ending) {
+        Ok(end) => Ok((right, end)),
+        Err(fail) => Err(fail),
     }
 }
 

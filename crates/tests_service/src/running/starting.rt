@@ -85,8 +85,8 @@ where
     }
 }
 
-/// What a test says where a service is not opened.
-pub fn not_opened(number: u32) -> Fail {
+// What a test says where a service is not opened.
+fn not_opened(number: u32) -> Fail {
     Fail::from(if number == 41 {
         "no workers"
     } else {
@@ -94,8 +94,8 @@ pub fn not_opened(number: u32) -> Fail {
     })
 }
 
-/// This many clients of a service.
-pub fn seated<N, D, R>(
+// This many clients of a service.
+fn seated<N, D, R>(
     rt: &R,
     alloc: Global,
     service: &Service<N, D>,
@@ -111,4 +111,39 @@ where
         clients.push(service.client(rt, alloc)?)?;
     }
     Ok(clients)
+}
+
+/// The service, open, with this many clients.
+pub fn opened_with<N, D, R, G>(
+    rt: &R,
+    alloc: Global,
+    fresh: Fresh,
+    disk: D,
+    workers: usize,
+    gate: G,
+    count: u64,
+) -> Result<(Service<N, D>, Vec<Client<N>>), Fail>
+where
+    N: Named + Send + Sync + 'static,
+    D: Disk + Drop,
+    R: Threads + Wait + Copy + Send + 'static,
+    G: Gate + Drop + Send + Sync + 'static,
+    requires names { (fresh.ledger ≡ N.name) × (N.parts ≡ 1025) × (fresh.queue ≡ N.queue) }
+    requires base { IsTrue D.honest → (units : Units) → Recovers (D.seen disk) units → units ≡ N.base }
+    requires some { 1 ≤ workers }
+    requires few { workers ≤ 8 }
+{
+    match opened::<N, D, R, G>(rt, alloc, fresh, disk, workers, gate) {
+        Ok(service) => match seated(rt, alloc, &service, count) {
+            Ok(clients) => Ok((service, clients)),
+            Err(fail) => {
+                drop(service);
+                Err(fail)
+            }
+        },
+        Err((number, disk)) => {
+            drop(disk);
+            Err(not_opened(number))
+        }
+    }
 }

@@ -5,7 +5,7 @@ use super::asking::{Call, ask};
 use super::crowds::makes_calls;
 use super::ending::{Left, ended};
 use super::gates::{Signs, adds_meanwhile};
-use super::starting::{Begun, Device, SMALL, not_opened, opened, seated};
+use super::starting::{Begun, Device, SMALL, opened_with};
 use cc_pool::Gate;
 use cc_service::{Client, Named, Service};
 use std::alloc::{AllocError, Global};
@@ -165,21 +165,10 @@ where
         fresh,
     } = begun;
     drop(base);
-    let service = match opened::<N, Device, R, G>(rt, alloc, fresh, device, workers, gate) {
-        Ok(service) => service,
-        Err((number, device)) => {
-            drop(device);
-            return Err(not_opened(number));
-        }
-    };
-    let back = match seated(rt, alloc, &service, clients) {
-        Ok(clients) => all_played(rt, alloc, &service, clients, part, tally),
-        Err(fail) => {
-            drop(service);
-            return Err(fail);
-        }
-    };
-    match back {
+    let (service, clients) = opened_with::<N, Device, R, G>(
+        rt, alloc, fresh, device, workers, gate, clients,
+    )?;
+    match all_played(rt, alloc, &service, clients, part, tally) {
         Ok(clients) => ended(rt, alloc, service, clients, None),
         Err(error) => {
             drop(service);

@@ -2,5 +2,5 @@
 use Rattle.std.proofs.Common.{◌∙◌}
 use Rattle.tests_service.proofs.running.serving.run.Goals as goal
 
-pub opened-requires-base : goal.opened-requires-base
-opened-requires-base g c = λ h units recovers. c.requires.base h units recovers ∙ c.requires.named
+pub opened_with-requires-base : goal.opened_with-requires-base
+opened_with-requires-base g c = λ h units recovers. c.requires.base h units recovers ∙ c.requires.named
