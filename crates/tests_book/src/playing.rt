@@ -189,8 +189,7 @@ where
     requires name { blank.name ≡ N.name }
     requires parts { (blank.parts ≡ N.parts) × (N.parts ≡ 3) }
     requires queue { queue ≡ N.queue }
-    requires base { IsTrue D.honest → (units : Units) → Recovers (D.seen disk) units → units ≡ base }
-    requires named { base ≡ N.base }
+    requires base { IsTrue D.honest → (units : Units) → Recovers (D.seen disk) units → units ≡ N.base }
 {
     drop(base);
     let (ledger, rest) = blank.open::<N>();

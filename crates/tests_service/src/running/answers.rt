@@ -2,7 +2,7 @@
 use super::asking::Call;
 use super::ending::Ending;
 use super::serving::{Outcome, Plan, served};
-use super::starting::{ALL, prepared};
+use super::starting::{ALL, new_device};
 use super::work::{Row, Work};
 use cc_pool::NoGate;
 use std::alloc::{AllocError, Global};
@@ -62,12 +62,12 @@ fn repeated(
 
 // Runs a service whose client makes the calls, between them with texts with an unclosed comment, another token than is expected, and an
 // unknown name; one that is too long for a text, one with too many nodes for a function, and one that is too long for the area.
-fn each_call<R>(
+fn each_call<'a, R>(
     rt: &R,
     alloc: Global,
-    long: &[u8],
-    nodes: &[u8],
-    full: &[u8],
+    long: &'a [u8],
+    nodes: &'a [u8],
+    full: &'a [u8],
 ) -> Result<Outcome, Fail>
 where
     R: Threads + Wait + Copy + Send + 'static,
@@ -85,7 +85,7 @@ where
         work: Work::Rows(&[&ANSWERED, &texts, &REFUSED]),
         ending: Ending::Once,
     };
-    served(rt, alloc, prepared(alloc, ALL)?, 2, NoGate, plan)
+    served(rt, alloc, new_device(alloc, ALL)?, 2, NoGate, plan)
 }
 
 // What the end hands out: the base without a name, the library with the map, and a history and receipts that the model makes too.

@@ -2,8 +2,8 @@
 use super::asking::{Answer, Call};
 use super::ending::{Ending, Left};
 use super::serving::{Plan, served};
-use super::starting::{ALL, SMALL, prepared};
-use super::threads::{Part, Tally, served as served_in_threads};
+use super::starting::{ALL, SMALL, new_device};
+use super::threads::{Crowd, Part, Tally, served as served_in_threads};
 use super::work::{Row, Work};
 use cc_pool::NoGate;
 use cc_service::MOST_CLIENTS;
@@ -33,7 +33,14 @@ fn one_client(rt: HostRuntime) -> Result<(), Fail> {
         work: Work::Rows(&[&CALLS]),
         ending: Ending::WithoutFirst,
     };
-    let outcome = served(&rt, rt.alloc(), prepared(rt.alloc(), ALL)?, 1, NoGate, plan)?;
+    let outcome = served(
+        &rt,
+        rt.alloc(),
+        new_device(rt.alloc(), ALL)?,
+        1,
+        NoGate,
+        plan,
+    )?;
     assert!(rt; outcome.right);
     assert!(rt; is_estranged(outcome.left.refused));
     assert_eq!(rt; outcome.left.entries, 4);
@@ -51,8 +58,12 @@ fn is_one_each(left: Left) -> bool {
 fn two_clients_add_one_name(rt: HostRuntime) -> Result<(), Fail> {
     let alloc = rt.alloc();
     let tally = Tally::new();
-    let begun = prepared(alloc, ALL)?;
-    let left = served_in_threads(&rt, alloc, begun, 2, NoGate, 2, Part::Adds, &tally)?;
+    let crowd = Crowd {
+        clients: 2,
+        part: Part::Adds,
+        tally: &tally,
+    };
+    let left = served_in_threads(&rt, alloc, 2, NoGate, crowd)?;
     assert!(rt; tally.is(1, 1));
     assert!(rt; is_one_each(left));
     Ok(())
@@ -66,7 +77,14 @@ fn the_last_client(rt: HostRuntime) -> Result<(), Fail> {
         work: Work::Full,
         ending: Ending::Once,
     };
-    let outcome = served(&rt, rt.alloc(), prepared(rt.alloc(), ALL)?, 1, NoGate, plan)?;
+    let outcome = served(
+        &rt,
+        rt.alloc(),
+        new_device(rt.alloc(), ALL)?,
+        1,
+        NoGate,
+        plan,
+    )?;
     assert!(rt; outcome.right);
     Ok(())
 }

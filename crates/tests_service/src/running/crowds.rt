@@ -1,7 +1,6 @@
 // Sixteen clients in threads of their own, whose history is replayed against the model.
 use super::asking::{Call, ask};
-use super::starting::{ALL, prepared};
-use super::threads::{Part, Tally, served};
+use super::threads::{Crowd, Part, Tally, served};
 use cc_disk::Disk;
 use cc_pool::NoGate;
 use cc_service::{Client, Named, Service};
@@ -21,17 +20,12 @@ const CALLS: u64 = 500;
 fn sixteen_clients(rt: HostRuntime) -> Result<(), Fail> {
     let alloc = rt.alloc();
     let tally = Tally::new();
-    let begun = prepared(alloc, ALL)?;
-    let left = served(
-        &rt,
-        alloc,
-        begun,
-        4,
-        NoGate,
-        CLIENTS,
-        Part::MakesCalls,
-        &tally,
-    )?;
+    let crowd = Crowd {
+        clients: CLIENTS,
+        part: Part::MakesCalls,
+        tally: &tally,
+    };
+    let left = served(&rt, alloc, 4, NoGate, crowd)?;
     assert!(rt; tally.is(CLIENTS, 0));
     assert!(rt; left.replayed.is_some() && left.replayed == left.shown);
     Ok(())

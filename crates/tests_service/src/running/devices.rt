@@ -2,7 +2,7 @@
 use super::asking::Call;
 use super::ending::Ending;
 use super::serving::{Plan, maps_on, refused, served};
-use super::starting::{OPENING, SMALL, prepared};
+use super::starting::{OPENINGS, SMALL, new_device};
 use super::work::{Row, Work};
 use cc_pool::NoGate;
 use std::alloc::Global;
@@ -24,13 +24,13 @@ const FAILS_AT_FIRST: [Row<'static>; 3] = [
 // The disk has nothing then.
 #[test]
 fn a_failed_add(rt: HostRuntime) -> Result<(), Fail> {
-    let begun = prepared(rt.alloc(), OPENING + 2)?;
+    let device = new_device(rt.alloc(), OPENINGS + 2)?;
     let plan = Plan {
         clients: 1,
         work: Work::Rows(&[&FAILS_AT_FIRST]),
         ending: Ending::Once,
     };
-    let outcome = served(&rt, rt.alloc(), begun, 1, NoGate, plan)?;
+    let outcome = served(&rt, rt.alloc(), device, 1, NoGate, plan)?;
     assert!(rt; outcome.right);
     assert!(rt; are_either(&outcome.maps, &EMPTY, &EMPTY));
     Ok(())
@@ -85,7 +85,7 @@ where
         work: Work::Rows(&[&rows(failed)]),
         ending: Ending::Once,
     };
-    let outcome = served(rt, alloc, prepared(alloc, passes)?, 1, NoGate, plan)?;
+    let outcome = served(rt, alloc, new_device(alloc, passes)?, 1, NoGate, plan)?;
     let later = map_at(failed.saturating_add(1));
     Ok(outcome.right && are_either(&outcome.maps, &map_at(failed), &later))
 }
@@ -93,7 +93,7 @@ where
 #[test]
 fn a_device_that_fails_once(rt: HostRuntime) -> Result<(), Fail> {
     for passes in 0..21u64 {
-        let right = fails_at(&rt, rt.alloc(), passes as usize / 4, OPENING + passes)?;
+        let right = fails_at(&rt, rt.alloc(), passes as usize / 4, OPENINGS + passes)?;
         assert!(rt; right, "{passes}");
     }
     Ok(())
@@ -101,8 +101,8 @@ fn a_device_that_fails_once(rt: HostRuntime) -> Result<(), Fail> {
 
 #[test]
 fn an_opening_that_fails(rt: HostRuntime) -> Result<(), Fail> {
-    for passes in 0..OPENING {
-        let (number, device) = refused(&rt, rt.alloc(), prepared(rt.alloc(), passes)?)?;
+    for passes in OPENINGS / 2..OPENINGS {
+        let (number, device) = refused(&rt, rt.alloc(), new_device(rt.alloc(), passes)?)?;
         let maps = maps_on(rt.alloc(), device)?;
         assert_eq!(rt; number, 35);
         assert!(rt; are_either(&maps, &EMPTY, &EMPTY));

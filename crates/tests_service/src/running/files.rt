@@ -1,7 +1,7 @@
 // A service on a file: one that is let go without an end, and what the next one finds.
 use super::asking::Call;
 use super::ending::{Ending, Left};
-use super::serving::{Plan, run, turned_away};
+use super::serving::{Plan, over, turned_away_over};
 use super::work::{Row, Work};
 use cc_disk::FileDisk;
 use cc_journal::format;
@@ -10,7 +10,6 @@ use cc_pool::NoGate;
 use cc_service::Fresh;
 use std::alloc::Global;
 use std::fs;
-use std::marker::Brand;
 use std::sync::Wait;
 use std::test::Fail;
 use std::thread::Threads;
@@ -105,7 +104,7 @@ fn refused_over<R>(
 where
     R: Threads + Wait + Copy + Send + 'static,
 {
-    turned_away::<Brand, FileDisk, R>(rt, alloc, fresh, disk, UnitMap::new(alloc))
+    turned_away_over(rt, alloc, fresh, disk, UnitMap::new(alloc))
 }
 
 // Runs a service on a file, whose client makes the calls: whether they are answered as the rows say, and what is left of a service that is
@@ -138,8 +137,7 @@ fn served_over<R>(
 where
     R: Threads + Wait + Copy + Send + 'static,
 {
-    let base = UnitMap::new(alloc);
-    match run::<Brand, FileDisk, R, NoGate>(rt, alloc, fresh, disk, base, 1, NoGate, plan) {
+    match over(rt, alloc, fresh, disk, UnitMap::new(alloc), 1, NoGate, plan) {
         Ok((right, Some((left, disk)))) => {
             drop(disk);
             Ok((right, Some(left)))

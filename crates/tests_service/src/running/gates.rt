@@ -2,8 +2,8 @@
 use super::asking::{Call, ask};
 use super::ending::Ending;
 use super::serving::{Plan, served};
-use super::starting::{ALL, SMALL, TWO_FUNCTIONS, prepared};
-use super::threads::{Part, Tally, served as served_in_threads};
+use super::starting::{ALL, SMALL, TWO_FUNCTIONS, new_device};
+use super::threads::{Crowd, Part, Tally, served as served_in_threads};
 use super::work::{Row, Work};
 use cc_disk::Disk;
 use cc_pool::Gate;
@@ -86,7 +86,7 @@ const ADDS: [Row<'static>; 1] = [(Call::Add(b"a", TWO_FUNCTIONS), 0, 1, 0)];
 // The first piece of an `add` is held until the other one is begun.
 #[test]
 fn two_pieces_at_once(rt: HostRuntime) -> Result<(), Fail> {
-    let begun = prepared(rt.alloc(), ALL)?;
+    let device = new_device(rt.alloc(), ALL)?;
     let (mine, theirs) = two_signs(rt.alloc(), 2)?;
     let gate = Holds {
         signs: theirs,
@@ -97,7 +97,7 @@ fn two_pieces_at_once(rt: HostRuntime) -> Result<(), Fail> {
         work: Work::Rows(&[&ADDS]),
         ending: Ending::Once,
     };
-    let outcome = served(&rt, rt.alloc(), begun, 2, gate, plan)?;
+    let outcome = served(&rt, rt.alloc(), device, 2, gate, plan)?;
     assert!(rt; outcome.right);
     assert_eq!(rt; mine.ended.load(Ordering::SeqCst), 1);
     Ok(())
@@ -107,14 +107,17 @@ fn two_pieces_at_once(rt: HostRuntime) -> Result<(), Fail> {
 #[test]
 fn another_client_is_answered(rt: HostRuntime) -> Result<(), Fail> {
     let tally = Tally::new();
-    let begun = prepared(rt.alloc(), ALL)?;
     let (mine, theirs) = two_signs(rt.alloc(), 1)?;
     let gate = Holds {
         signs: theirs,
         calls_count: false,
     };
-    let part = Part::AddsMeanwhile(&mine);
-    served_in_threads(&rt, rt.alloc(), begun, 2, gate, 2, part, &tally)?;
+    let crowd = Crowd {
+        clients: 2,
+        part: Part::AddsMeanwhile(&mine),
+        tally: &tally,
+    };
+    served_in_threads(&rt, rt.alloc(), 2, gate, crowd)?;
     assert!(rt; tally.is(2, 0));
     assert_eq!(rt; mine.ended.load(Ordering::SeqCst), 1);
     Ok(())

@@ -4,7 +4,7 @@ ghost use Rattle.cc_library.specs.Apply.{Units};
 ghost use Rattle.cc_library.specs.Recovered.{Recovers};
 
 use super::ending::{Ending, Left, ended_so};
-use super::starting::{Begun, Device, opened, opened_with};
+use super::starting::{Device, opened, opened_with};
 use super::work::{Work, is_done};
 use cc_disk::Disk;
 use cc_library::UnitMap;
@@ -16,6 +16,7 @@ use std::sync::Wait;
 use std::test::Fail;
 use std::thread::Threads;
 use tests_model::crashes::left;
+use tests_model::disks::found;
 use tests_model::map::Model;
 
 /// How many clients a service has, what the first one does, and how the service ends.
@@ -36,9 +37,9 @@ pub struct Outcome {
     pub maps: [Option<Model>; 3],
 }
 
-/// Runs a service with these names on a disk with this map: whether the work was answered as it should be, and what is left of a service
-/// that is ended, with the disk.
-pub fn run<N, D, R, G>(
+// Runs a service with these names on a disk with this map, which is let go: whether the work was answered as it should be, and what is left of a service
+// that is ended, with the disk.
+fn run<N, D, R, G>(
     rt: &R,
     alloc: Global,
     fresh: Fresh,
@@ -54,8 +55,7 @@ where
     R: Threads + Wait + Copy + Send + 'static,
     G: Gate + Drop + Send + Sync + 'static,
     requires names { (fresh.ledger ≡ N.name) × (N.parts ≡ 1025) × (fresh.queue ≡ N.queue) }
-    requires base { IsTrue D.honest → (units : Units) → Recovers (D.seen disk) units → units ≡ base }
-    requires named { base ≡ N.base }
+    requires base { IsTrue D.honest → (units : Units) → Recovers (D.seen disk) units → units ≡ N.base }
     requires some { 1 ≤ workers }
     requires few { workers ≤ 8 }
 {
@@ -76,11 +76,33 @@ where
     }
 }
 
+/// Runs a service on a disk with this map, as `run` does.
+pub fn over<D, R, G>(
+    rt: &R,
+    alloc: Global,
+    fresh: Fresh,
+    disk: D,
+    base: UnitMap,
+    workers: usize,
+    gate: G,
+    plan: Plan<'_>,
+) -> Result<(bool, Option<(Left, D)>), Fail>
+where
+    D: Disk + Drop,
+    R: Threads + Wait + Copy + Send + 'static,
+    G: Gate + Drop + Send + Sync + 'static,
+    requires base { IsTrue D.honest → (units : Units) → Recovers (D.seen disk) units → units ≡ base }
+    requires some { 1 ≤ workers }
+    requires few { workers ≤ 8 }
+{
+    run::<Brand, D, R, G>(rt, alloc, fresh, disk, base, workers, gate, plan)
+}
+
 /// Runs a service on a device to its end.
 pub fn served<R, G>(
     rt: &R,
     alloc: Global,
-    begun: Begun,
+    device: Device,
     workers: usize,
     gate: G,
     plan: Plan<'_>,
@@ -91,12 +113,9 @@ where
     requires some { 1 ≤ workers }
     requires few { workers ≤ 8 }
 {
-    let Begun {
-        device,
-        base,
-        fresh,
-    } = begun;
-    match run::<Brand, Device, R, G>(rt, alloc, fresh, device, base, workers, gate, plan) {
+    let fresh = Fresh::new(alloc)?;
+    let (device, base) = found(alloc, device)?;
+    match over(rt, alloc, fresh, device, base, workers, gate, plan) {
         Ok((right, Some((left, device)))) => Ok(Outcome {
             right,
             left,
@@ -115,8 +134,8 @@ pub fn maps_on(alloc: Global, device: Device) -> Result<[Option<Model>; 3], Fail
     maps
 }
 
-/// Asks for the opening of a service with these names on a disk with this map, which is refused: the number, and the disk.
-pub fn turned_away<N, D, R>(
+// Asks for the opening of a service with these names on a disk with this map, which is refused: the number, and the disk.
+fn turned_away<N, D, R>(
     rt: &R,
     alloc: Global,
     fresh: Fresh,
@@ -128,8 +147,7 @@ where
     D: Disk + Drop,
     R: Threads + Wait + Copy + Send + 'static,
     requires names { (fresh.ledger ≡ N.name) × (N.parts ≡ 1025) × (fresh.queue ≡ N.queue) }
-    requires base { IsTrue D.honest → (units : Units) → Recovers (D.seen disk) units → units ≡ base }
-    requires named { base ≡ N.base }
+    requires base { IsTrue D.honest → (units : Units) → Recovers (D.seen disk) units → units ≡ N.base }
 {
     drop(base);
     match opened::<N, D, R, NoGate>(rt, alloc, fresh, disk, 1, NoGate) {
@@ -141,15 +159,28 @@ where
     }
 }
 
+/// Asks for the opening of a service on a disk with this map, as `turned_away` does.
+pub fn turned_away_over<D, R>(
+    rt: &R,
+    alloc: Global,
+    fresh: Fresh,
+    disk: D,
+    base: UnitMap,
+) -> Result<(u32, D), Fail>
+where
+    D: Disk + Drop,
+    R: Threads + Wait + Copy + Send + 'static,
+    requires base { IsTrue D.honest → (units : Units) → Recovers (D.seen disk) units → units ≡ base }
+{
+    turned_away::<Brand, D, R>(rt, alloc, fresh, disk, base)
+}
+
 /// Asks for the opening of a service on a device, which is refused: the number, and the device.
-pub fn refused<R>(rt: &R, alloc: Global, begun: Begun) -> Result<(u32, Device), Fail>
+pub fn refused<R>(rt: &R, alloc: Global, device: Device) -> Result<(u32, Device), Fail>
 where
     R: Threads + Wait + Copy + Send + 'static,
 {
-    let Begun {
-        device,
-        base,
-        fresh,
-    } = begun;
-    turned_away::<Brand, Device, R>(rt, alloc, fresh, device, base)
+    let fresh = Fresh::new(alloc)?;
+    let (device, base) = found(alloc, device)?;
+    turned_away_over(rt, alloc, fresh, device, base)
 }

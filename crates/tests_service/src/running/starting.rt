@@ -1,18 +1,16 @@
 // Services that begin on a device.
 ghost use Rattle.std.specs.Prelude.{◌≡◌, ◌≤◌, IsTrue};
-ghost use Rattle.cc_disk.specs.Model.{bytes_of};
 ghost use Rattle.cc_library.specs.Apply.{Units};
 ghost use Rattle.cc_library.specs.Recovered.{Recovers};
 
 use cc_disk::{Disk, FuseDisk, FuseMode, MemoryDisk};
-use cc_library::UnitMap;
 use cc_pool::Gate;
 use cc_service::{Client, Fresh, Named, Service};
 use std::alloc::Global;
 use std::sync::Wait;
 use std::test::Fail;
 use std::thread::Threads;
-use tests_model::disks::{formatted, found};
+use tests_model::disks::formatted;
 
 /// The device of most tests here.
 pub type Device = FuseDisk<MemoryDisk>;
@@ -20,8 +18,8 @@ pub type Device = FuseDisk<MemoryDisk>;
 /// How many calls of a device pass where none is to fail.
 pub const ALL: u64 = 1 << 40;
 
-/// How many calls of its device an opening makes.
-pub const OPENING: u64 = 3;
+/// How many calls of its device two openings make: one that learns the map, which a service's type names, and the service's.
+pub const OPENINGS: u64 = 6;
 
 /// A text with one function, and one with two.
 pub const SMALL: &[u8] = b"int main(void){return 1;}";
@@ -29,31 +27,9 @@ pub const SMALL: &[u8] = b"int main(void){return 1;}";
 pub const TWO_FUNCTIONS: &[u8] =
     b"int f(int x){return x;}int main(void){int v1=read_word();int v2=read_word();int v3=read_word();int v4=read_word();int v5=read_word();int v6=read_word();int v7=read_word();int v8=read_word();int v9=read_word();int v10=read_word();int v11=read_word();int v12=read_word();int v13=read_word();int v14=read_word();int v15=read_word();int v16=read_word();int v17=read_word();int v18=read_word();int v19=read_word();int v20=read_word();int v21=read_word();int v22=read_word();int v23=read_word();int v24=read_word();write_word(f(0));write_word(v1+v2+v3+v4+v5+v6+v7+v8+v9+v10+v11+v12+v13+v14+v15+v16+v17+v18+v19+v20+v21+v22+v23+v24);}";
 
-/// What a service begins with: a formatted device, its map, and what no type names yet.
-#[derive(Drop)]
-pub struct Begun {
-    pub device: Device,
-    pub base: UnitMap,
-    pub fresh: Fresh,
-    ghost base_is: { (units : Units) → Recovers (bytes_of device.disk.cells) units → units ≡ base },
-}
-
-/// On a formatted device, of which this many calls pass before one fails.
-pub fn prepared(alloc: Global, passes: u64) -> Result<Begun, Fail> {
-    let (disk, base) = found(alloc, formatted(alloc)?)?;
-    let device = FuseDisk::new(disk, passes, FuseMode::Once);
-    match Fresh::new(alloc) {
-        Ok(fresh) => Ok(Begun {
-            device,
-            base,
-            fresh,
-        }),
-        Err(error) => {
-            drop(device);
-            drop(base);
-            Err(Fail::from(error))
-        }
-    }
+/// A formatted device, of which this many calls pass before one fails.
+pub fn new_device(alloc: Global, passes: u64) -> Result<Device, Fail> {
+    Ok(FuseDisk::new(formatted(alloc)?, passes, FuseMode::Once))
 }
 
 /// The service, open; or the number of its refusal, and the disk.

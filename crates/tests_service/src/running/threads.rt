@@ -1,13 +1,17 @@
 // Clients that work side by side, each on a thread of its own.
-ghost use Rattle.std.specs.Prelude.{◌≡◌, ◌≤◌};
+ghost use Rattle.std.specs.Prelude.{◌≡◌, ◌≤◌, IsTrue};
+ghost use Rattle.cc_library.specs.Apply.{Units};
+ghost use Rattle.cc_library.specs.Recovered.{Recovers};
 
 use super::asking::{Call, ask};
 use super::crowds::makes_calls;
 use super::ending::{Left, ended};
 use super::gates::{Signs, adds_meanwhile};
-use super::starting::{Begun, Device, SMALL, opened_with};
+use super::starting::{ALL, SMALL, new_device, opened_with};
+use cc_disk::Disk;
+use cc_library::UnitMap;
 use cc_pool::Gate;
-use cc_service::{Client, Named, Service};
+use cc_service::{Client, Fresh, Named, Service};
 use std::alloc::{AllocError, Global};
 use std::marker::Brand;
 use std::sync::Wait;
@@ -15,6 +19,7 @@ use std::sync::atomic::{AtomicU64, Ordering};
 use std::test::Fail;
 use std::thread;
 use std::thread::Threads;
+use tests_model::disks::found;
 
 /// What each client does on its thread.
 #[derive(Clone, Copy)]
@@ -25,6 +30,14 @@ pub enum Part<'a> {
     AddsMeanwhile(&'a Signs),
     /// Makes many calls.
     MakesCalls,
+}
+
+/// How many clients a service has, what each does, and where that is counted.
+#[derive(Clone, Copy)]
+pub struct Crowd<'a> {
+    pub clients: u64,
+    pub part: Part<'a>,
+    pub tally: &'a Tally,
 }
 
 // How a client's part ended: with its answer Ok, or 31, or otherwise.
@@ -81,15 +94,16 @@ fn end_of(number: u32) -> Ended {
 }
 
 // How a client's part ends.
-fn end<N, R>(
+fn end<N, D, R>(
     rt: &R,
     alloc: Global,
-    service: &Service<N, Device>,
+    service: &Service<N, D>,
     client: &mut Client<N>,
     part: Part<'_>,
 ) -> Ended
 where
     N: Named + Send + Sync + 'static,
+    D: Disk,
     R: Wait,
 {
     match part {
@@ -104,16 +118,17 @@ where
 }
 
 // The client after its part, whose answer is counted.
-fn played<N, R>(
+fn played<N, D, R>(
     rt: &R,
     alloc: Global,
-    service: &Service<N, Device>,
+    service: &Service<N, D>,
     mut client: Client<N>,
     part: Part<'_>,
     tally: &Tally,
 ) -> Client<N>
 where
     N: Named + Send + Sync + 'static,
+    D: Disk,
     R: Wait,
 {
     tally.count(end(rt, alloc, service, &mut client, part));
@@ -121,16 +136,17 @@ where
 }
 
 // All clients after their parts.
-fn all_played<N, R>(
+fn all_played<N, D, R>(
     rt: &R,
     alloc: Global,
-    service: &Service<N, Device>,
+    service: &Service<N, D>,
     clients: Vec<Client<N>>,
     part: Part<'_>,
     tally: &Tally,
 ) -> Result<Vec<Client<N>>, AllocError>
 where
     N: Named + Send + Sync + 'static,
+    D: Disk + Send + 'static,
     R: Threads + Wait + Copy + Send + Sync + 'static,
 {
     thread::map_vec(
@@ -140,35 +156,38 @@ where
     )
 }
 
-// Runs a service with these names and this many clients: what is left, and the device.
-fn run<N, R, G>(
+// Runs a service with these names on a disk with this map, which is let go: what is left, and the disk.
+fn run<N, D, R, G>(
     rt: &R,
     alloc: Global,
-    begun: Begun,
+    fresh: Fresh,
+    disk: D,
+    base: UnitMap,
     workers: usize,
     gate: G,
-    clients: u64,
-    part: Part<'_>,
-    tally: &Tally,
-) -> Result<(Left, Device), Fail>
+    crowd: Crowd<'_>,
+) -> Result<(Left, D), Fail>
 where
     N: Named + Send + Sync + 'static,
+    D: Disk + Drop + Send + 'static,
     R: Threads + Wait + Copy + Send + Sync + 'static,
     G: Gate + Drop + Send + Sync + 'static,
-    requires names { (begun.fresh.ledger ≡ N.name) × (N.parts ≡ 1025) × (begun.fresh.queue ≡ N.queue) × (begun.base ≡ N.base) }
+    requires names { (fresh.ledger ≡ N.name) × (N.parts ≡ 1025) × (fresh.queue ≡ N.queue) }
+    requires base { IsTrue D.honest → (units : Units) → Recovers (D.seen disk) units → units ≡ N.base }
     requires some { 1 ≤ workers }
     requires few { workers ≤ 8 }
 {
-    let Begun {
-        device,
-        base,
-        fresh,
-    } = begun;
     drop(base);
-    let (service, clients) = opened_with::<N, Device, R, G>(
-        rt, alloc, fresh, device, workers, gate, clients,
+    let (service, clients) = opened_with::<N, D, R, G>(
+        rt,
+        alloc,
+        fresh,
+        disk,
+        workers,
+        gate,
+        crowd.clients,
     )?;
-    match all_played(rt, alloc, &service, clients, part, tally) {
+    match all_played(rt, alloc, &service, clients, crowd.part, crowd.tally) {
         Ok(clients) => ended(rt, alloc, service, clients, None),
         Err(error) => {
             drop(service);
@@ -177,16 +196,35 @@ where
     }
 }
 
-/// Runs a service with this many clients.
+// Runs a service on a disk with this map, as `run` does.
+fn over<D, R, G>(
+    rt: &R,
+    alloc: Global,
+    fresh: Fresh,
+    disk: D,
+    base: UnitMap,
+    workers: usize,
+    gate: G,
+    crowd: Crowd<'_>,
+) -> Result<(Left, D), Fail>
+where
+    D: Disk + Drop + Send + 'static,
+    R: Threads + Wait + Copy + Send + Sync + 'static,
+    G: Gate + Drop + Send + Sync + 'static,
+    requires base { IsTrue D.honest → (units : Units) → Recovers (D.seen disk) units → units ≡ base }
+    requires some { 1 ≤ workers }
+    requires few { workers ≤ 8 }
+{
+    run::<Brand, D, R, G>(rt, alloc, fresh, disk, base, workers, gate, crowd)
+}
+
+/// Runs a service on a device that does not fail.
 pub fn served<R, G>(
     rt: &R,
     alloc: Global,
-    begun: Begun,
     workers: usize,
     gate: G,
-    clients: u64,
-    part: Part<'_>,
-    tally: &Tally,
+    crowd: Crowd<'_>,
 ) -> Result<Left, Fail>
 where
     R: Threads + Wait + Copy + Send + Sync + 'static,
@@ -194,7 +232,9 @@ where
     requires some { 1 ≤ workers }
     requires few { workers ≤ 8 }
 {
-    let (left, device) = run::<Brand, R, G>(rt, alloc, begun, workers, gate, clients, part, tally)?;
+    let fresh = Fresh::new(alloc)?;
+    let (device, base) = found(alloc, new_device(alloc, ALL)?)?;
+    let (left, device) = over(rt, alloc, fresh, device, base, workers, gate, crowd)?;
     drop(device);
     Ok(left)
 }

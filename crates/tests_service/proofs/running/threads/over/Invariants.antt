@@ -1,5 +1,5 @@
--- What the parameter names: the ledger and the queue, and the map that is handed in. A file is no honest disk, so that is any.
-use Rattle.tests_service.proofs.running.files.served_over.Given as goal
+-- What the parameter names: the ledger and the queue, and the map that is handed in.
+use Rattle.tests_service.proofs.running.threads.over.Given as goal
 
 abbrev pub ghosts-run-N-Ledger : goal.ghosts-run-N-Ledger
 ghosts-run-N-Ledger g a = record { name = a.fresh.ledger; parts = 1025 }
