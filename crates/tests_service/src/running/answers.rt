@@ -1,159 +1,109 @@
 // What one client is answered: each call on its happy path, and each refusal of names, texts and the map.
-ghost use Rattle.std.specs.Prelude.{◌≡◌};
-
-use super::reading::{done_at, is_found, is_listed, number};
-use super::starting::{ALL, Begun, Fused, alone, ended, opened, prepared};
-use crate::helpers::{TEXTS, repeated};
-use crate::model::{EMPTY, replayed, shows};
-use cc_disk::Disk;
-use cc_history::Receipt;
+use super::asking::Call;
+use super::ending::Ending;
+use super::serving::{Outcome, Plan, served};
+use super::starting::{ALL, new_device};
+use super::work::{Row, Work};
 use cc_pool::NoGate;
-use cc_service::{Client, Closed, Named, ServiceFault};
-use std::alloc::Global;
-use std::marker::Brand;
+use std::alloc::{AllocError, Global};
 use std::sync::Wait;
 use std::test::Fail;
 use std::thread::Threads;
+use tests_model::disks::{CALLS_THREE, ONE, TWENTY_TWO};
+use tests_model::map::{EMPTY, Model};
 
 // The map after the changes.
-const AFTER: [Option<usize>; 3] = [Some(2), Some(0), None];
+const AFTER: Model = [Some(2), Some(0), None];
 
-#[test]
-fn one_client_makes_each_call(rt: HostRuntime) -> Result<(), Fail> {
-    let begun = prepared(rt.alloc(), ALL)?;
-    assert!(rt; each_call::<Brand, HostRuntime>(&rt, rt.alloc(), begun)?);
-    Ok(())
+// A name that is too long.
+const LONG: &[u8] = b"aaaaaaaaaaaaaaaaaaaaaaaaaaaaaaaaa";
+
+// Looks at no names, adds two, the later one first, puts another unit in place of the other; looks at one name and at all, before and
+// after a compaction, which is no entry; then names that are none.
+const ANSWERED: [Row<'static>; 12] = [
+    (Call::List(EMPTY), 0, 1, 0),
+    (Call::Add(b"b", ONE), 0, 2, 0),
+    (Call::Add(b"a", TWENTY_TWO), 0, 3, 0),
+    (Call::Replace(b"a", CALLS_THREE), 0, 4, 0),
+    (Call::List(AFTER), 0, 5, 0),
+    (Call::Compact, 0, 0, 0),
+    (Call::Get(b"a", CALLS_THREE), 0, 6, 0),
+    (Call::List(AFTER), 0, 7, 0),
+    (Call::Withdraw(b"A"), 33, 0, 0),
+    (Call::Add(b"", ONE), 33, 0, 0),
+    (Call::Replace(b"A", b"/*"), 33, 0, 0),
+    (Call::Get(LONG, ONE), 33, 0, 0),
+];
+
+// Names that have a unit or none.
+const REFUSED: [Row<'static>; 4] = [
+    (Call::Add(b"b", TWENTY_TWO), 31, 8, 0),
+    (Call::Replace(b"c", TWENTY_TWO), 32, 9, 0),
+    (Call::Withdraw(b"c"), 32, 10, 0),
+    (Call::Get(b"c", ONE), 32, 11, 0),
+];
+
+// A text: its head, a part this many times, and its end.
+fn repeated(
+    alloc: Global,
+    head: &[u8],
+    part: &[u8],
+    times: usize,
+    end: &[u8],
+) -> Result<Vec<u8>, AllocError> {
+    let mut text = Vec::new(alloc);
+    text.extend_from_slice(head)?;
+    for _ in 0..times {
+        text.extend_from_slice(part)?;
+    }
+    text.extend_from_slice(end)?;
+    Ok(text)
 }
 
-fn each_call<N, R>(rt: &R, alloc: Global, begun: Begun) -> Result<bool, Fail>
+// Runs a service whose client makes the calls, between them with texts with an unclosed comment, another token than is expected, and an
+// unknown name; one that is too long for a text, one with too many nodes for a function, and one that is too long for the area.
+fn each_call<'a, R>(
+    rt: &R,
+    alloc: Global,
+    long: &'a [u8],
+    nodes: &'a [u8],
+    full: &'a [u8],
+) -> Result<Outcome, Fail>
 where
-    N: Named + Send + Sync + 'static,
     R: Threads + Wait + Copy + Send + 'static,
-    requires { (begun.fresh.ledger ≡ N.name) × (N.parts ≡ 1025) × (begun.fresh.queue ≡ N.queue) × (begun.base ≡ N.base) }
 {
-    let service = opened::<N, R, NoGate>(rt, alloc, begun, 2, NoGate)?;
-    let mut client = service.client(rt, alloc)?;
-    let changed = are_changed(rt, alloc, &service, &mut client);
-    let seen = are_seen(rt, alloc, &service, &mut client);
-    let refused = are_refused(rt, alloc, &service, &mut client)?;
-    let last = match client.last() {
-        Some(receipt) => receipt.number,
-        None => 0,
-    };
-    let right = changed && seen && refused && last == 11 && client.receipts().len() == 11;
-    let closed = ended(rt, alloc, service, alone(alloc, client)?)?;
-    Ok(right && is_whole(alloc, &closed)?)
-}
-
-// Looks at no names, adds two, the later one first, puts another unit in place of the other: entries 1 to 4.
-fn are_changed<N, R>(rt: &R, alloc: Global, service: &Fused<N>, client: &mut Client<N>) -> bool
-where
-    N: Named + Send + Sync + 'static,
-    R: Wait,
-{
-    is_listed(service.list(rt, alloc, client), 1, &EMPTY)
-        && done_at(service.add(rt, alloc, client, b"b", TEXTS[0])) == 2
-        && done_at(service.add(rt, alloc, client, b"a", TEXTS[1])) == 3
-        && done_at(service.replace(rt, alloc, client, b"a", TEXTS[2])) == 4
-}
-
-// Looks at one name and at all, before and after a compaction, which is no entry: entries 5 to 7.
-fn are_seen<N, R>(rt: &R, alloc: Global, service: &Fused<N>, client: &mut Client<N>) -> bool
-where
-    N: Named + Send + Sync + 'static,
-    R: Wait,
-{
-    is_listed(service.list(rt, alloc, client), 5, &AFTER)
-        && number(service.compact(rt, alloc)) == 0
-        && is_found(service.get(rt, alloc, client, b"a"), 6, TEXTS[2])
-        && is_listed(service.list(rt, alloc, client), 7, &AFTER)
-}
-
-// Names that are none, texts that are none, and names that have a unit or none: the last four are entries 8 to 11.
-fn are_refused<N, R>(
-    rt: &R,
-    alloc: Global,
-    service: &Fused<N>,
-    client: &mut Client<N>,
-) -> Result<bool, Fail>
-where
-    N: Named + Send + Sync + 'static,
-    R: Wait,
-{
-    let long = [b'a'; 33];
-    let names = number(service.withdraw(rt, alloc, client, b"A")) == 33
-        && number(service.add(rt, alloc, client, b"", TEXTS[0])) == 33
-        && number(service.replace(rt, alloc, client, b"A", b"/*")) == 33
-        && number(service.get(rt, alloc, client, &long)) == 33;
-    let texts = are_texts_refused(rt, alloc, service, client)?;
-    let counted = client.receipts().len() == 7;
-    let map = number(service.add(rt, alloc, client, b"b", TEXTS[1])) == 31
-        && number(service.replace(rt, alloc, client, b"c", TEXTS[1])) == 32
-        && number(service.withdraw(rt, alloc, client, b"c")) == 32
-        && number(service.get(rt, alloc, client, b"c")) == 32;
-    Ok(names && texts && counted && map)
-}
-
-// Whether an answer is the fault with this number, at this column of the first line, or nowhere where that is 0.
-fn is_refused_at(answer: Result<Receipt, ServiceFault>, number: u32, column: usize) -> bool {
-    match answer {
-        Ok(receipt) => {
-            drop(receipt);
-            false
-        }
-        Err(fault) => {
-            let right = fault.number() == number
-                && match fault.place() {
-                    Some(place) => place.line == 1 && place.column == column,
-                    None => column == 0,
-                };
-            drop(fault);
-            right
-        }
-    }
-}
-
-// Texts with an unclosed comment, another token than is expected, and an unknown name; one that is too long for a text, one with too many
-// nodes for a function, and one that is too long for the area.
-fn are_texts_refused<N, R>(
-    rt: &R,
-    alloc: Global,
-    service: &Fused<N>,
-    client: &mut Client<N>,
-) -> Result<bool, Fail>
-where
-    N: Named + Send + Sync + 'static,
-    R: Wait,
-{
-    let long = repeated(alloc, b"", b" ", 65537, b"")?;
-    let nodes = repeated(alloc, b"int main(void){", b"write_word(0);", 4097, b"}")?;
-    let full = repeated(alloc, b"", b" ", 5000, TEXTS[0])?;
-    let texts: [(&[u8], u32, usize); 6] = [
-        (b"/*", 2, 1),
-        (b"int main(void){return 1 2;}", 5, 25),
-        (b"int main(void){x=1;}", 11, 16),
-        (long.as_slice(), 7, 0),
-        (nodes.as_slice(), 22, 0),
-        (full.as_slice(), 34, 0),
+    let texts = [
+        (Call::Add(b"c", b"/*"), 2, 0, 1),
+        (Call::Add(b"c", b"int main(void){return 1 2;}"), 5, 0, 25),
+        (Call::Add(b"c", b"int main(void){x=1;}"), 11, 0, 16),
+        (Call::Add(b"c", long), 7, 0, 0),
+        (Call::Add(b"c", nodes), 22, 0, 0),
+        (Call::Add(b"c", full), 34, 0, 0),
     ];
-    let mut right = true;
-    for (text, number, column) in texts.iter() {
-        let answer = service.add(rt, alloc, client, b"c", *text);
-        right = right && is_refused_at(answer, *number, *column);
-    }
-    Ok(right)
+    let plan = Plan {
+        clients: 1,
+        work: Work::Rows(&[&ANSWERED, &texts, &REFUSED]),
+        ending: Ending::Once,
+    };
+    served(rt, alloc, new_device(alloc, ALL)?, 2, NoGate, plan)
 }
 
 // What the end hands out: the base without a name, the library with the map, and a history and receipts that the model makes too.
-fn is_whole<D: Disk>(alloc: Global, closed: &Closed<D>) -> Result<bool, Fail> {
-    let replays = match replayed(closed.history.as_slice(), closed.receipts.as_slice()) {
-        Some(model) => model == AFTER,
-        None => false,
-    };
-    Ok(
-        replays
-            && closed.history.len() == 11
-            && closed.base.names(alloc)?.len() == 0
-            && shows(alloc, &closed.library, &AFTER)?,
-    )
+fn is_whole(outcome: Outcome) -> bool {
+    let left = outcome.left;
+    outcome.right
+        && left.entries == 11
+        && left.base == 0
+        && left.replayed == Some(AFTER)
+        && left.shown == Some(AFTER)
+}
+
+#[test]
+fn one_client_makes_each_call(rt: HostRuntime) -> Result<(), Fail> {
+    let alloc = rt.alloc();
+    let long = repeated(alloc, b"", b" ", 65537, b"")?;
+    let nodes = repeated(alloc, b"int main(void){", b"write_word(0);", 4097, b"}")?;
+    let full = repeated(alloc, b"", b" ", 5000, ONE)?;
+    assert!(rt; is_whole(each_call(&rt, alloc, &long, &nodes, &full)?));
+    Ok(())
 }

@@ -1,151 +1,90 @@
-// Calls of one client, and of two in threads.
-ghost use Rattle.std.specs.Prelude.{◌≡◌};
-
-use super::reading::{absent_at, done_at, is_found, number};
-use super::starting::{ALL, Begun, Fused, SMALL, alone, both, ended, opened, prepared};
+// Calls of one client, of two in threads, and as many clients as there can be.
+use super::asking::{Answer, Call};
+use super::ending::{Ending, Left};
+use super::serving::{Plan, served};
+use super::starting::{ALL, SMALL, new_device};
+use super::threads::{Crowd, Part, Tally, served as served_in_threads};
+use super::work::{Row, Work};
 use cc_pool::NoGate;
-use cc_service::{BookFault, Client, MOST_CLIENTS, Named, ServiceFault};
-use std::alloc::Global;
-use std::cmp::{max, min};
-use std::marker::Brand;
-use std::sync::Wait;
+use cc_service::MOST_CLIENTS;
 use std::test::Fail;
-use std::thread;
-use std::thread::Threads;
 
+// Adds, gets, withdraws and gets again.
+const CALLS: [Row<'static>; 4] = [
+    (Call::Add(b"a", SMALL), 0, 1, 0),
+    (Call::Get(b"a", SMALL), 0, 2, 0),
+    (Call::Withdraw(b"a"), 0, 3, 0),
+    (Call::Get(b"a", SMALL), 32, 4, 0),
+];
+
+// Whether it is 39 with the number of the last entry, for which the history has no other.
+fn is_estranged(refused: Option<Answer>) -> bool {
+    match refused {
+        Some(answer) => answer.number == 39 && answer.entry == 4 && answer.right,
+        None => false,
+    }
+}
+
+// It ends without its client, which is refused, then with it.
 #[test]
 fn one_client(rt: HostRuntime) -> Result<(), Fail> {
-    let begun = prepared(rt.alloc(), ALL)?;
-    assert!(rt; four_calls::<Brand, HostRuntime>(&rt, rt.alloc(), begun)?);
+    let plan = Plan {
+        clients: 1,
+        work: Work::Rows(&[&CALLS]),
+        ending: Ending::WithoutFirst,
+    };
+    let outcome = served(
+        &rt,
+        rt.alloc(),
+        new_device(rt.alloc(), ALL)?,
+        1,
+        NoGate,
+        plan,
+    )?;
+    assert!(rt; outcome.right);
+    assert!(rt; is_estranged(outcome.left.refused));
+    assert_eq!(rt; outcome.left.entries, 4);
+    assert_eq!(rt; outcome.left.clients, 1);
+    assert_eq!(rt; outcome.left.receipts, 4);
     Ok(())
 }
 
-// Adds, gets, withdraws and gets again; ends without the client, then with it.
-fn four_calls<N, R>(rt: &R, alloc: Global, begun: Begun) -> Result<bool, Fail>
-where
-    N: Named + Send + Sync + 'static,
-    R: Threads + Wait + Copy + Send + 'static,
-    requires { (begun.fresh.ledger ≡ N.name) × (N.parts ≡ 1025) × (begun.fresh.queue ≡ N.queue) × (begun.base ≡ N.base) }
-{
-    let service = opened::<N, R, NoGate>(rt, alloc, begun, 1, NoGate)?;
-    let mut client = service.client(rt, alloc)?;
-    let right = are_answered(rt, alloc, &service, &mut client);
-    let (service, refused) = ended_without(rt, alloc, service)?;
-    let closed = ended(rt, alloc, service, alone(alloc, client)?)?;
-    Ok(
-        right
-            && refused
-            && closed.history.len() == 4
-            && closed.receipts.len() == 1
-            && closed.receipts[0].len() == 4,
-    )
-}
-
-fn are_answered<N, R>(rt: &R, alloc: Global, service: &Fused<N>, client: &mut Client<N>) -> bool
-where
-    N: Named + Send + Sync + 'static,
-    R: Wait,
-{
-    done_at(service.add(rt, alloc, client, b"a", SMALL)) == 1
-        && is_found(service.get(rt, alloc, client, b"a"), 2, SMALL)
-        && done_at(service.withdraw(rt, alloc, client, b"a")) == 3
-        && absent_at(service.get(rt, alloc, client, b"a")) == 4
-}
-
-// The service, whose end is refused without its client, and whether it is as it has to be.
-fn ended_without<N, R>(rt: &R, alloc: Global, service: Fused<N>) -> Result<(Fused<N>, bool), Fail>
-where
-    N: Named + Send + Sync + 'static,
-    R: Wait,
-{
-    match service.finish(rt, alloc, Vec::new(alloc)) {
-        Ok(closed) => {
-            drop(closed);
-            Err(Fail::from("ended without its client"))
-        }
-        Err((fault, service, clients)) => {
-            drop(clients);
-            let right = is_estranged(&fault, 4);
-            drop(fault);
-            Ok((service, right))
-        }
-    }
-}
-
-// Whether it is 39 with this number and no entry.
-fn is_estranged(fault: &ServiceFault, at: u64) -> bool {
-    match fault {
-        ServiceFault::Book(BookFault::Estranged { number, found }) => {
-            *number == at && found.is_none()
-        }
-        _ => false,
-    }
+// Whether each of two clients has made one call.
+fn is_one_each(left: Left) -> bool {
+    left.entries == 2 && left.clients == 2 && left.receipts == 2 && left.most == 1
 }
 
 #[test]
 fn two_clients_add_one_name(rt: HostRuntime) -> Result<(), Fail> {
-    let begun = prepared(rt.alloc(), ALL)?;
-    let numbers = two_threads::<Brand, HostRuntime>(&rt, rt.alloc(), begun)?;
-    assert_eq!(rt; numbers, (0, 31));
+    let alloc = rt.alloc();
+    let tally = Tally::new();
+    let crowd = Crowd {
+        clients: 2,
+        part: Part::Adds,
+        tally: &tally,
+    };
+    let left = served_in_threads(&rt, alloc, 2, NoGate, crowd)?;
+    assert!(rt; tally.is(1, 1));
+    assert!(rt; is_one_each(left));
     Ok(())
 }
 
-// The numbers of both answers, the lesser one first, 0 for Ok.
-fn two_threads<N, R>(rt: &R, alloc: Global, begun: Begun) -> Result<(u32, u32), Fail>
-where
-    N: Named + Send + Sync + 'static,
-    R: Threads + Wait + Copy + Send + Sync + 'static,
-    requires { (begun.fresh.ledger ≡ N.name) × (N.parts ≡ 1025) × (begun.fresh.queue ≡ N.queue) × (begun.base ≡ N.base) }
-{
-    let service = opened::<N, R, NoGate>(rt, alloc, begun, 2, NoGate)?;
-    let one = service.client(rt, alloc)?;
-    let other = service.client(rt, alloc)?;
-    let shared = &service;
-    let (a, b) = thread::join(
-        rt,
-        move || adds(rt, alloc, shared, one),
-        move || adds(rt, alloc, shared, other),
-    );
-    let (one, first) = a;
-    let (other, second) = b;
-    let closed = ended(rt, alloc, service, both(alloc, one, other)?)?;
-    let once = closed.receipts.iter().all(|own| own.len() == 1);
-    if closed.history.len() == 2 && closed.receipts.len() == 2 && once {
-        Ok((min(first, second), max(first, second)))
-    } else {
-        Err(Fail::from("another history"))
-    }
-}
-
-fn adds<N, R>(rt: &R, alloc: Global, service: &Fused<N>, mut client: Client<N>) -> (Client<N>, u32)
-where
-    N: Named + Send + Sync + 'static,
-    R: Wait,
-{
-    let answer = service.add(rt, alloc, &mut client, b"a", SMALL);
-    (client, number(answer))
-}
-
+// 1,024 clients are made and no more, and the service ends with all.
 #[test]
 fn the_last_client(rt: HostRuntime) -> Result<(), Fail> {
-    let begun = prepared(rt.alloc(), ALL)?;
-    assert!(rt; many_clients::<Brand, HostRuntime>(&rt, rt.alloc(), begun)?);
+    let plan = Plan {
+        clients: MOST_CLIENTS,
+        work: Work::Full,
+        ending: Ending::Once,
+    };
+    let outcome = served(
+        &rt,
+        rt.alloc(),
+        new_device(rt.alloc(), ALL)?,
+        1,
+        NoGate,
+        plan,
+    )?;
+    assert!(rt; outcome.right);
     Ok(())
-}
-
-// Whether 1,024 clients are made and no more, and the service ends with all.
-fn many_clients<N, R>(rt: &R, alloc: Global, begun: Begun) -> Result<bool, Fail>
-where
-    N: Named + Send + Sync + 'static,
-    R: Threads + Wait + Copy + Send + 'static,
-    requires { (begun.fresh.ledger ≡ N.name) × (N.parts ≡ 1025) × (begun.fresh.queue ≡ N.queue) × (begun.base ≡ N.base) }
-{
-    let service = opened::<N, R, NoGate>(rt, alloc, begun, 1, NoGate)?;
-    let mut clients = Vec::new(alloc);
-    for _ in 0..MOST_CLIENTS {
-        clients.push(service.client(rt, alloc)?)?;
-    }
-    let refused = number(service.client(rt, alloc));
-    drop(ended(rt, alloc, service, clients)?);
-    Ok(refused == 30)
 }

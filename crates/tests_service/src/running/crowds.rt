@@ -1,99 +1,79 @@
 // Sixteen clients in threads of their own, whose history is replayed against the model.
-ghost use Rattle.std.specs.Prelude.{◌≡◌};
-
-use super::reading::number;
-use super::starting::{ALL, Begun, Fused, ended, opened, prepared};
-use crate::helpers::{NAMES, TEXTS, bytes_at};
-use crate::model::{replayed, shows};
+use super::asking::{Call, ask};
+use super::threads::{Crowd, Part, Tally, served};
+use cc_disk::Disk;
 use cc_pool::NoGate;
-use cc_service::{Client, Named};
+use cc_service::{Client, Named, Service};
 use std::alloc::Global;
-use std::marker::Brand;
 use std::sync::Wait;
 use std::test::Fail;
-use std::thread;
-use std::thread::Threads;
+use tests_model::disks::{NAMES, TEXTS, bytes_at};
+use tests_model::map::EMPTY;
 
-const CLIENTS: usize = 16;
+const CLIENTS: u64 = 16;
 
 /// How many calls each client makes.
 const CALLS: u64 = 500;
 
+// The calls of all clients stand in one history, which the model makes too, and the library is the model's at its end.
 #[test]
 fn sixteen_clients(rt: HostRuntime) -> Result<(), Fail> {
-    let begun = prepared(rt.alloc(), ALL)?;
-    assert!(rt; are_replayed::<Brand, HostRuntime>(&rt, rt.alloc(), begun)?);
+    let alloc = rt.alloc();
+    let tally = Tally::new();
+    let crowd = Crowd {
+        clients: CLIENTS,
+        part: Part::MakesCalls,
+        tally: &tally,
+    };
+    let left = served(&rt, alloc, 4, NoGate, crowd)?;
+    assert!(rt; tally.is(CLIENTS, 0));
+    assert!(rt; left.replayed.is_some() && left.replayed == left.shown);
     Ok(())
 }
 
-// Whether the calls of all clients stand in one history, which the model makes too, and the library is the model's at its end.
-fn are_replayed<N, R>(rt: &R, alloc: Global, begun: Begun) -> Result<bool, Fail>
-where
-    N: Named + Send + Sync + 'static,
-    R: Threads + Wait + Copy + Send + Sync + 'static,
-    requires { (begun.fresh.ledger ≡ N.name) × (N.parts ≡ 1025) × (begun.fresh.queue ≡ N.queue) × (begun.base ≡ N.base) }
-{
-    let service = opened::<N, R, NoGate>(rt, alloc, begun, 4, NoGate)?;
-    let mut clients = Vec::new(alloc);
-    for _ in 0..CLIENTS {
-        clients.push(service.client(rt, alloc)?)?;
-    }
-    let shared = &service;
-    let done = thread::map_vec(rt, clients, &|client| calls(rt, alloc, shared, client))?;
-    let mut back = Vec::new(alloc);
-    let mut right = true;
-    for (client, expected) in done {
-        right = right && expected;
-        back.push(client)?;
-    }
-    let closed = ended(rt, alloc, service, back)?;
-    match replayed(closed.history.as_slice(), closed.receipts.as_slice()) {
-        Some(model) => Ok(right && shows(alloc, &closed.library, &model)?),
-        None => Ok(false),
+// One of the calls of a client.
+fn call_of(client: u64, turn: u64) -> Call<'static> {
+    let mixed = client.wrapping_mul(7).wrapping_add(turn);
+    let name = bytes_at(&NAMES, (mixed % 3) as usize);
+    let text = bytes_at(&TEXTS, (mixed / 15 % 3) as usize);
+    match mixed % 5 {
+        0 => Call::Add(name, text),
+        1 => Call::Replace(name, text),
+        2 => Call::Withdraw(name),
+        3 => Call::Get(name, text),
+        _ => Call::List(EMPTY),
     }
 }
 
-// The client after its calls, and whether each was answered by a receipt, or refused for lack of room, after which the library is
-// written anew.
-fn calls<N, R>(
+// Whether a client's call is answered by a receipt.
+fn is_receipt(number: u32) -> bool {
+    number == 0 || number == 31 || number == 32
+}
+
+/// Makes a client's calls: whether each was answered by a receipt, or refused for lack of room, after which the library is written anew.
+pub fn makes_calls<N, D, R>(
     rt: &R,
     alloc: Global,
-    service: &Fused<N>,
-    mut client: Client<N>,
-) -> (Client<N>, bool)
+    service: &Service<N, D>,
+    client: &mut Client<N>,
+) -> bool
 where
     N: Named + Send + Sync + 'static,
+    D: Disk,
     R: Wait,
 {
     let mut full = 0usize;
     let mut right = true;
     for turn in 0..CALLS {
-        let answer = call(rt, alloc, service, &mut client, turn);
+        let call = call_of(client.number(), turn);
+        let answer = ask(rt, alloc, service, client, call).number;
         if answer == 34 {
             full = full.saturating_add(1);
-            right = right && number(service.compact(rt, alloc)) == 0;
+            let compacted = ask(rt, alloc, service, client, Call::Compact).number;
+            right = right && compacted == 0;
         } else {
-            right = right && (answer == 0 || answer == 31 || answer == 32);
+            right = right && is_receipt(answer);
         }
     }
-    let counted = client.receipts().len().saturating_add(full) == CALLS as usize;
-    (client, right && counted)
-}
-
-// The number of the answer to one of the client's calls.
-fn call<N, R>(rt: &R, alloc: Global, service: &Fused<N>, client: &mut Client<N>, turn: u64) -> u32
-where
-    N: Named + Send + Sync + 'static,
-    R: Wait,
-{
-    let mixed = client.number().wrapping_mul(7).wrapping_add(turn);
-    let name = bytes_at(&NAMES, (mixed % 3) as usize);
-    let text = bytes_at(&TEXTS, (mixed / 15 % 3) as usize);
-    match mixed % 5 {
-        0 => number(service.add(rt, alloc, client, name, text)),
-        1 => number(service.replace(rt, alloc, client, name, text)),
-        2 => number(service.withdraw(rt, alloc, client, name)),
-        3 => number(service.get(rt, alloc, client, name)),
-        _ => number(service.list(rt, alloc, client)),
-    }
+    right && client.receipts().len().saturating_add(full) == CALLS as usize
 }

@@ -1,41 +1,39 @@
 // A device that fails once.
-ghost use Rattle.std.specs.Prelude.{◌≡◌};
-
-use super::reading::{absent_at, is_listed, number};
-use super::starting::{
-    Begun, Device, Fused, OPENING, SMALL, alone, ended, holds, opened, prepared,
-};
-use crate::helpers::TEXTS;
-use crate::model::{EMPTY, Model};
+use super::asking::Call;
+use super::ending::Ending;
+use super::serving::{Plan, maps_on, refused, served};
+use super::starting::{OPENINGS, SMALL, new_device};
+use super::work::{Row, Work};
 use cc_pool::NoGate;
-use cc_service::{Client, Named, Service};
 use std::alloc::Global;
-use std::marker::Brand;
+use std::cmp::min;
 use std::sync::Wait;
 use std::test::Fail;
 use std::thread::Threads;
+use tests_model::crashes::are_either;
+use tests_model::disks::{ONE, TWENTY_TWO};
+use tests_model::map::{EMPTY, Model};
 
+// The first change fails, the next is refused, a look is answered.
+const FAILS_AT_FIRST: [Row<'static>; 3] = [
+    (Call::Add(b"a", SMALL), 35, 0, 0),
+    (Call::Add(b"b", SMALL), 36, 0, 0),
+    (Call::Get(b"a", SMALL), 32, 1, 0),
+];
+
+// The disk has nothing then.
 #[test]
 fn a_failed_add(rt: HostRuntime) -> Result<(), Fail> {
-    let begun = prepared(rt.alloc(), OPENING + 2)?;
-    assert!(rt; fails_at_first::<Brand, HostRuntime>(&rt, rt.alloc(), begun)?);
+    let device = new_device(rt.alloc(), OPENINGS + 2)?;
+    let plan = Plan {
+        clients: 1,
+        work: Work::Rows(&[&FAILS_AT_FIRST]),
+        ending: Ending::Once,
+    };
+    let outcome = served(&rt, rt.alloc(), device, 1, NoGate, plan)?;
+    assert!(rt; outcome.right);
+    assert!(rt; are_either(&outcome.maps, &EMPTY, &EMPTY));
     Ok(())
-}
-
-// The first change fails, the next is refused, a look is answered; the disk has nothing.
-fn fails_at_first<N, R>(rt: &R, alloc: Global, begun: Begun) -> Result<bool, Fail>
-where
-    N: Named + Send + Sync + 'static,
-    R: Threads + Wait + Copy + Send + 'static,
-    requires { (begun.fresh.ledger ≡ N.name) × (N.parts ≡ 1025) × (begun.fresh.queue ≡ N.queue) × (begun.base ≡ N.base) }
-{
-    let service = opened::<N, R, NoGate>(rt, alloc, begun, 1, NoGate)?;
-    let mut client = service.client(rt, alloc)?;
-    let right = number(service.add(rt, alloc, &mut client, b"a", SMALL)) == 35
-        && number(service.add(rt, alloc, &mut client, b"b", SMALL)) == 36
-        && absent_at(service.get(rt, alloc, &mut client, b"a")) == 1;
-    let closed = ended(rt, alloc, service, alone(alloc, client)?)?;
-    Ok(right && holds(alloc, closed.library.into_disk(), &EMPTY, &EMPTY)?)
 }
 
 // The maps before and after each of the five calls.
@@ -48,128 +46,66 @@ const MAPS: [Model; 6] = [
     [Some(1), None, None],
 ];
 
-// The five calls, by their places.
-fn call<N, R>(
-    rt: &R,
-    alloc: Global,
-    service: &Fused<N>,
-    client: &mut Client<N>,
-    place: usize,
-) -> u32
-where
-    N: Named + Send + Sync + 'static,
-    R: Wait,
-{
-    match place {
-        0 => number(service.add(rt, alloc, client, b"a", TEXTS[0])),
-        1 => number(service.add(rt, alloc, client, b"b", TEXTS[0])),
-        2 => number(service.replace(rt, alloc, client, b"a", TEXTS[1])),
-        3 => number(service.compact(rt, alloc)),
-        _ => number(service.withdraw(rt, alloc, client, b"b")),
-    }
-}
-
-// The map at a place.
+// The map at a place, the last one from there on.
 fn map_at(place: usize) -> Model {
-    if place < 6 { MAPS[place] } else { EMPTY }
+    MAPS[min(place, 5)]
 }
 
-// The place of the call that was answered 35, or 5; an error where one before it was not Ok, or one behind it not answered 36.
-fn failed_at<N, R>(
-    rt: &R,
-    alloc: Global,
-    service: &Fused<N>,
-    client: &mut Client<N>,
-) -> Result<usize, Fail>
-where
-    N: Named + Send + Sync + 'static,
-    R: Wait,
-{
-    let mut failed = 5usize;
-    for place in 0..5 {
-        let answer = call(rt, alloc, service, client, place);
-        if answer == 35 && failed == 5 {
-            failed = place;
-        } else if answer != if failed < 5 { 36 } else { 0 } {
-            return Err(Fail::from("another answer"));
-        }
-    }
-    Ok(failed)
-}
-
-// Makes the five calls, looks, and ends: the place of the one that failed, and whether the look, the end, and the disk after crashes are
-// as they should be.
-fn five_calls<N, R>(rt: &R, alloc: Global, begun: Begun) -> Result<(usize, bool), Fail>
-where
-    N: Named + Send + Sync + 'static,
-    R: Threads + Wait + Copy + Send + 'static,
-    requires { (begun.fresh.ledger ≡ N.name) × (N.parts ≡ 1025) × (begun.fresh.queue ≡ N.queue) × (begun.base ≡ N.base) }
-{
-    let service = opened::<N, R, NoGate>(rt, alloc, begun, 1, NoGate)?;
-    let mut client = service.client(rt, alloc)?;
-    let failed = failed_at(rt, alloc, &service, &mut client)?;
-    let before = map_at(failed);
-    let later = if failed < 5 {
-        map_at(failed + 1)
+// A call at a place, where the one at the place `failed` is answered 35: one before it is Ok, as this entry, one behind it is refused by 36.
+fn row(call: Call<'static>, place: usize, failed: usize, entry: u64) -> Row<'static> {
+    if place < failed {
+        (call, 0, entry, 0)
     } else {
-        before
+        (call, if place == failed { 35 } else { 36 }, 0, 0)
+    }
+}
+
+// Five calls, of which one is answered 35, or none where its place is 5; then a look, which is answered by the map before that call. A
+// compaction is no entry.
+fn rows(failed: usize) -> [Row<'static>; 6] {
+    let next = if failed < 4 { failed + 1 } else { failed };
+    [
+        row(Call::Add(b"a", ONE), 0, failed, 1),
+        row(Call::Add(b"b", ONE), 1, failed, 2),
+        row(Call::Replace(b"a", TWENTY_TWO), 2, failed, 3),
+        row(Call::Compact, 3, failed, 0),
+        row(Call::Withdraw(b"b"), 4, failed, 4),
+        (Call::List(map_at(failed)), 0, next as u64, 0),
+    ]
+}
+
+// Whether the call at this place fails on a device that passes this many of its calls, and the look, the end, and the disk after crashes
+// are as they should be.
+fn fails_at<R>(rt: &R, alloc: Global, failed: usize, passes: u64) -> Result<bool, Fail>
+where
+    R: Threads + Wait + Copy + Send + 'static,
+{
+    let plan = Plan {
+        clients: 1,
+        work: Work::Rows(&[&rows(failed)]),
+        ending: Ending::Once,
     };
-    let next = (client.receipts().len() as u64).saturating_add(1);
-    let listed = is_listed(service.list(rt, alloc, &mut client), next, &before);
-    let closed = ended(rt, alloc, service, alone(alloc, client)?)?;
-    let right = holds(alloc, closed.library.into_disk(), &before, &later)?;
-    Ok((failed, listed && right))
+    let outcome = served(rt, alloc, new_device(alloc, passes)?, 1, NoGate, plan)?;
+    let later = map_at(failed.saturating_add(1));
+    Ok(outcome.right && are_either(&outcome.maps, &map_at(failed), &later))
 }
 
 #[test]
 fn a_device_that_fails_once(rt: HostRuntime) -> Result<(), Fail> {
-    for passes in 0..21 {
-        let begun = prepared(rt.alloc(), OPENING + passes)?;
-        let (failed, right) = five_calls::<Brand, HostRuntime>(&rt, rt.alloc(), begun)?;
-        assert!(rt;
-            right && failed == passes as usize / 4,
-            "{passes}: {failed}"
-        );
+    for passes in 0..21u64 {
+        let right = fails_at(&rt, rt.alloc(), passes as usize / 4, OPENINGS + passes)?;
+        assert!(rt; right, "{passes}");
     }
     Ok(())
 }
 
-// The device that a service does not open, with 35.
-fn not_opened<N, R>(rt: &R, alloc: Global, begun: Begun) -> Result<Device, Fail>
-where
-    N: Named + Send + Sync + 'static,
-    R: Threads + Wait + Copy + Send + 'static,
-    requires { (begun.fresh.ledger ≡ N.name) × (N.parts ≡ 1025) × (begun.fresh.queue ≡ N.queue) × (begun.base ≡ N.base) }
-{
-    let Begun {
-        device,
-        base,
-        fresh,
-    } = begun;
-    drop(base);
-    match Service::<N, Device>::open(rt, alloc, fresh, device, 1, NoGate) {
-        Ok(service) => {
-            drop(service);
-            Err(Fail::from("opened"))
-        }
-        Err((fault, device)) => {
-            let number = fault.number();
-            drop(fault);
-            if number != 35 {
-                drop(device);
-                return Err(Fail::from("another fault"));
-            }
-            Ok(device)
-        }
-    }
-}
-
 #[test]
 fn an_opening_that_fails(rt: HostRuntime) -> Result<(), Fail> {
-    for passes in 0..OPENING {
-        let begun = prepared(rt.alloc(), passes)?;
-        let device = not_opened::<Brand, HostRuntime>(&rt, rt.alloc(), begun)?;
-        assert!(rt; holds(rt.alloc(), device, &EMPTY, &EMPTY)?);
+    for passes in OPENINGS / 2..OPENINGS {
+        let (number, device) = refused(&rt, rt.alloc(), new_device(rt.alloc(), passes)?)?;
+        let maps = maps_on(rt.alloc(), device)?;
+        assert_eq!(rt; number, 35);
+        assert!(rt; are_either(&maps, &EMPTY, &EMPTY));
     }
     Ok(())
 }

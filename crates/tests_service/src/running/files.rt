@@ -1,117 +1,148 @@
 // A service on a file: one that is let go without an end, and what the next one finds.
-ghost use Rattle.std.specs.Prelude.{◌≡◌};
-
-use super::reading::{done_at, is_found};
-use super::starting::alone;
-use crate::helpers::{AREA, SIZE, TEXTS};
-use crate::model::shows;
+use super::asking::Call;
+use super::ending::{Ending, Left};
+use super::serving::{Plan, over, turned_away_over};
+use super::work::{Row, Work};
 use cc_disk::FileDisk;
 use cc_journal::format;
+use cc_library::UnitMap;
 use cc_pool::NoGate;
-use cc_service::{Fresh, Named, Service};
+use cc_service::Fresh;
 use std::alloc::Global;
 use std::fs;
-use std::marker::Brand;
 use std::sync::Wait;
 use std::test::Fail;
 use std::thread::Threads;
+use tests_model::disks::{AREA, CALLS_THREE, SIZE};
+
+// What the first service's client does, and the second one's: it finds what the other one added, in the base.
+const ADDS: [Row<'static>; 1] = [(Call::Add(b"a", CALLS_THREE), 0, 1, 0)];
+
+const FINDS: [Row<'static>; 1] = [(Call::Get(b"a", CALLS_THREE), 0, 1, 0)];
+
+// Whether the first service adds, and is let go once the receipt is there.
+fn adds<R>(rt: &R, alloc: Global, disk: FileDisk) -> Result<bool, Fail>
+where
+    R: Threads + Wait + Copy + Send + 'static,
+{
+    let plan = Plan {
+        clients: 1,
+        work: Work::Rows(&[&ADDS]),
+        ending: Ending::LetGo,
+    };
+    let (right, _) = served(rt, alloc, disk, plan)?;
+    Ok(right)
+}
+
+// Whether the second one finds what the first one added: it is in the base, and in no entry of the new history.
+fn finds<R>(rt: &R, alloc: Global, disk: FileDisk) -> Result<bool, Fail>
+where
+    R: Threads + Wait + Copy + Send + 'static,
+{
+    let plan = Plan {
+        clients: 1,
+        work: Work::Rows(&[&FINDS]),
+        ending: Ending::Once,
+    };
+    match served(rt, alloc, disk, plan)? {
+        (right, Some(left)) => Ok(
+            right
+                && left.entries == 1
+                && left.base == 1
+                && left.shown == Some([Some(2), None, None]),
+        ),
+        (_, None) => Ok(false),
+    }
+}
+
+// The file, on which no service is opened, with 38, and which then has a library.
+fn formatted<R>(rt: &R, alloc: Global, disk: FileDisk) -> Result<FileDisk, Fail>
+where
+    R: Threads + Wait + Copy + Send + 'static,
+{
+    let (number, mut disk) = refused(rt, alloc, disk)?;
+    if number == 38 && format(&mut disk, AREA).is_ok() {
+        Ok(disk)
+    } else {
+        drop(disk);
+        Err(Fail::from("another fault"))
+    }
+}
 
 #[test]
 fn a_service_that_is_let_go(rt: HostRuntime) -> Result<(), Fail> {
     let alloc = rt.alloc();
     let path = "a_service_that_is_let_go.disk";
-    let disk = FileDisk::create(&rt, path, SIZE)?;
-    let mut disk = not_a_library::<Brand, HostRuntime>(&rt, alloc, Fresh::new(alloc)?, disk)?;
-    format(&mut disk, AREA)?;
-    assert!(rt; adds::<Brand, HostRuntime>(&rt, alloc, Fresh::new(alloc)?, disk)?);
-    let disk = FileDisk::open(&rt, path)?;
-    assert!(rt; finds::<Brand, HostRuntime>(&rt, alloc, Fresh::new(alloc)?, disk)?);
+    let disk = formatted(&rt, alloc, FileDisk::create(&rt, path, SIZE)?)?;
+    assert!(rt; adds(&rt, alloc, disk)?);
+    assert!(rt; finds(&rt, alloc, FileDisk::open(&rt, path)?)?);
     fs::remove_file(&rt, path)?;
     Ok(())
 }
 
-// The disk that no service opens, with 38.
-fn not_a_library<N, R>(
-    rt: &R,
-    alloc: Global,
-    fresh: Fresh,
-    disk: FileDisk,
-) -> Result<FileDisk, Fail>
+// Asks for a service on a file that has no library: the number of the refusal, and the file.
+fn refused<R>(rt: &R, alloc: Global, disk: FileDisk) -> Result<(u32, FileDisk), Fail>
 where
-    N: Named + Send + Sync + 'static,
     R: Threads + Wait + Copy + Send + 'static,
-    requires { (fresh.ledger ≡ N.name) × (N.parts ≡ 1025) × (fresh.queue ≡ N.queue) }
 {
-    match Service::<N, FileDisk>::open(rt, alloc, fresh, disk, 1, NoGate) {
-        Ok(service) => {
-            drop(service);
-            Err(Fail::from("opened"))
-        }
-        Err((fault, disk)) => {
-            let number = fault.number();
-            drop(fault);
-            if number != 38 {
-                drop(disk);
-                return Err(Fail::from("another fault"));
-            }
-            Ok(disk)
+    match Fresh::new(alloc) {
+        Ok(fresh) => refused_over(rt, alloc, fresh, disk),
+        Err(error) => {
+            drop(disk);
+            Err(Fail::from(error))
         }
     }
 }
 
-// The service on a file, with one worker.
-fn opened<N, R>(
+// A file is no honest disk, so the map is any.
+fn refused_over<R>(
     rt: &R,
     alloc: Global,
     fresh: Fresh,
     disk: FileDisk,
-) -> Result<Service<N, FileDisk>, Fail>
+) -> Result<(u32, FileDisk), Fail>
 where
-    N: Named + Send + Sync + 'static,
     R: Threads + Wait + Copy + Send + 'static,
-    requires { (fresh.ledger ≡ N.name) × (N.parts ≡ 1025) × (fresh.queue ≡ N.queue) }
 {
-    match Service::open(rt, alloc, fresh, disk, 1, NoGate) {
-        Ok(service) => Ok(service),
-        Err(back) => {
-            drop(back);
-            Err(Fail::from("not opened"))
+    turned_away_over(rt, alloc, fresh, disk, UnitMap::new(alloc))
+}
+
+// Runs a service on a file, whose client makes the calls: whether they are answered as the rows say, and what is left of a service that is
+// ended.
+fn served<R>(
+    rt: &R,
+    alloc: Global,
+    disk: FileDisk,
+    plan: Plan<'_>,
+) -> Result<(bool, Option<Left>), Fail>
+where
+    R: Threads + Wait + Copy + Send + 'static,
+{
+    match Fresh::new(alloc) {
+        Ok(fresh) => served_over(rt, alloc, fresh, disk, plan),
+        Err(error) => {
+            drop(disk);
+            Err(Fail::from(error))
         }
     }
 }
 
-// Adds, and lets the service go once the receipt is there.
-fn adds<N, R>(rt: &R, alloc: Global, fresh: Fresh, disk: FileDisk) -> Result<bool, Fail>
+fn served_over<R>(
+    rt: &R,
+    alloc: Global,
+    fresh: Fresh,
+    disk: FileDisk,
+    plan: Plan<'_>,
+) -> Result<(bool, Option<Left>), Fail>
 where
-    N: Named + Send + Sync + 'static,
     R: Threads + Wait + Copy + Send + 'static,
-    requires { (fresh.ledger ≡ N.name) × (N.parts ≡ 1025) × (fresh.queue ≡ N.queue) }
 {
-    let service = opened::<N, R>(rt, alloc, fresh, disk)?;
-    let mut client = service.client(rt, alloc)?;
-    Ok(done_at(service.add(rt, alloc, &mut client, b"a", TEXTS[2])) == 1)
-}
-
-// Finds what the other one added: it is in the base, and in no entry of the new history.
-fn finds<N, R>(rt: &R, alloc: Global, fresh: Fresh, disk: FileDisk) -> Result<bool, Fail>
-where
-    N: Named + Send + Sync + 'static,
-    R: Threads + Wait + Copy + Send + 'static,
-    requires { (fresh.ledger ≡ N.name) × (N.parts ≡ 1025) × (fresh.queue ≡ N.queue) }
-{
-    let service = opened::<N, R>(rt, alloc, fresh, disk)?;
-    let mut client = service.client(rt, alloc)?;
-    let found = is_found(service.get(rt, alloc, &mut client, b"a"), 1, TEXTS[2]);
-    match service.finish(rt, alloc, alone(alloc, client)?) {
-        Ok(closed) => Ok(
-            found
-                && closed.history.len() == 1
-                && closed.base.names(alloc)?.len() == 1
-                && shows(alloc, &closed.library, &[Some(2), None, None])?,
-        ),
-        Err(back) => {
-            drop(back);
-            Err(Fail::from("not finished"))
+    match over(rt, alloc, fresh, disk, UnitMap::new(alloc), 1, NoGate, plan) {
+        Ok((right, Some((left, disk)))) => {
+            drop(disk);
+            Ok((right, Some(left)))
         }
+        Ok((right, None)) => Ok((right, None)),
+        Err(fail) => Err(fail),
     }
 }

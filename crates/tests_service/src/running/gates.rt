@@ -1,25 +1,24 @@
 // A worker that a gate holds: the other one works, and other clients are answered.
-ghost use Rattle.std.specs.Prelude.{◌≡◌};
-
-use super::reading::number;
-use super::starting::{
-    ALL, Begun, Fused, SMALL, TWO_FUNCTIONS, alone, both, ended, opened, prepared,
-};
+use super::asking::{Call, ask};
+use super::ending::Ending;
+use super::serving::{Plan, served};
+use super::starting::{ALL, SMALL, TWO_FUNCTIONS, new_device};
+use super::threads::{Crowd, Part, Tally, served as served_in_threads};
+use super::work::{Row, Work};
+use cc_disk::Disk;
 use cc_pool::Gate;
-use cc_service::{Client, Named};
+use cc_service::{Client, Named, Service};
 use std::alloc::Global;
-use std::marker::Brand;
 use std::sync::atomic::{AtomicU64, Ordering};
 use std::sync::{Arc, Wait};
 use std::test::Fail;
 use std::thread;
-use std::thread::Threads;
 
 // How often a gate that holds lets others go on, at most.
 const TURNS: u64 = 20_000_000;
 
-// What a gate and its test tell each other.
-struct Signs {
+/// What a gate and its test tell each other.
+pub struct Signs {
     // How many calls the gate has had.
     calls: AtomicU64,
     // At how many of these, or of other signs, the first call is let go.
@@ -81,110 +80,77 @@ fn two_signs(alloc: Global, wanted: u64) -> Result<(Arc<Signs>, Arc<Signs>), Fai
     Ok((signs, theirs))
 }
 
+// An `add` of two functions.
+const ADDS: [Row<'static>; 1] = [(Call::Add(b"a", TWO_FUNCTIONS), 0, 1, 0)];
+
+// The first piece of an `add` is held until the other one is begun.
 #[test]
 fn two_pieces_at_once(rt: HostRuntime) -> Result<(), Fail> {
-    let begun = prepared(rt.alloc(), ALL)?;
+    let device = new_device(rt.alloc(), ALL)?;
     let (mine, theirs) = two_signs(rt.alloc(), 2)?;
     let gate = Holds {
         signs: theirs,
         calls_count: true,
     };
-    let number = held_by_a_piece::<Brand, HostRuntime>(&rt, rt.alloc(), begun, gate)?;
-    assert_eq!(rt; number, 0);
+    let plan = Plan {
+        clients: 1,
+        work: Work::Rows(&[&ADDS]),
+        ending: Ending::Once,
+    };
+    let outcome = served(&rt, rt.alloc(), device, 2, gate, plan)?;
+    assert!(rt; outcome.right);
     assert_eq!(rt; mine.ended.load(Ordering::SeqCst), 1);
     Ok(())
 }
 
-// The answer to an `add` whose first piece is held until the other one is begun.
-fn held_by_a_piece<N, R>(rt: &R, alloc: Global, begun: Begun, gate: Holds) -> Result<u32, Fail>
-where
-    N: Named + Send + Sync + 'static,
-    R: Threads + Wait + Copy + Send + 'static,
-    requires { (begun.fresh.ledger ≡ N.name) × (N.parts ≡ 1025) × (begun.fresh.queue ≡ N.queue) × (begun.base ≡ N.base) }
-{
-    let service = opened::<N, R, Holds>(rt, alloc, begun, 2, gate)?;
-    let mut client = service.client(rt, alloc)?;
-    let answer = number(service.add(rt, alloc, &mut client, b"a", TWO_FUNCTIONS));
-    drop(ended(rt, alloc, service, alone(alloc, client)?)?);
-    Ok(answer)
-}
-
+// An `add` is held, and another one begun and answered during the hold.
 #[test]
 fn another_client_is_answered(rt: HostRuntime) -> Result<(), Fail> {
-    let begun = prepared(rt.alloc(), ALL)?;
+    let tally = Tally::new();
     let (mine, theirs) = two_signs(rt.alloc(), 1)?;
     let gate = Holds {
         signs: theirs,
         calls_count: false,
     };
-    let numbers = held_by_a_client::<Brand, HostRuntime>(&rt, rt.alloc(), begun, gate, &mine)?;
-    assert_eq!(rt; numbers, (0, 0));
+    let crowd = Crowd {
+        clients: 2,
+        part: Part::AddsMeanwhile(&mine),
+        tally: &tally,
+    };
+    served_in_threads(&rt, rt.alloc(), 2, gate, crowd)?;
+    assert!(rt; tally.is(2, 0));
     assert_eq!(rt; mine.ended.load(Ordering::SeqCst), 1);
     Ok(())
 }
 
-// The numbers of two answers: of an `add` that is held, and of one that is begun and answered during the hold.
-fn held_by_a_client<N, R>(
-    rt: &R,
-    alloc: Global,
-    begun: Begun,
-    gate: Holds,
-    signs: &Signs,
-) -> Result<(u32, u32), Fail>
-where
-    N: Named + Send + Sync + 'static,
-    R: Threads + Wait + Copy + Send + Sync + 'static,
-    requires { (begun.fresh.ledger ≡ N.name) × (N.parts ≡ 1025) × (begun.fresh.queue ≡ N.queue) × (begun.base ≡ N.base) }
-{
-    let service = opened::<N, R, Holds>(rt, alloc, begun, 2, gate)?;
-    let one = service.client(rt, alloc)?;
-    let other = service.client(rt, alloc)?;
-    let shared = &service;
-    let (a, b) = thread::join(
-        rt,
-        move || adds(rt, alloc, shared, one, b"a"),
-        move || adds_meanwhile(rt, alloc, shared, other, signs),
-    );
-    let (one, first) = a;
-    let (other, second) = b;
-    drop(ended(rt, alloc, service, both(alloc, one, other)?)?);
-    Ok((first, second))
-}
-
-fn adds<N, R>(
-    rt: &R,
-    alloc: Global,
-    service: &Fused<N>,
-    mut client: Client<N>,
-    name: &[u8],
-) -> (Client<N>, u32)
-where
-    N: Named + Send + Sync + 'static,
-    R: Wait,
-{
-    let answer = number(service.add(rt, alloc, &mut client, name, SMALL));
-    (client, answer)
-}
-
-// Adds once the gate holds, and then gives the sign.
-fn adds_meanwhile<N, R>(
-    rt: &R,
-    alloc: Global,
-    service: &Fused<N>,
-    client: Client<N>,
-    signs: &Signs,
-) -> (Client<N>, u32)
-where
-    N: Named + Send + Sync + 'static,
-    R: Wait,
-{
+// Waits until the gate has had a call.
+fn wait_for_call(signs: &Signs) {
     for _ in 0..TURNS {
         if signs.calls.load(Ordering::SeqCst) > 0 {
             break;
         }
         thread::yield_now();
     }
-    let (client, answer) = adds(rt, alloc, service, client, b"b");
+}
+
+/// Adds: the first client at once, the other one once the gate holds, and it then gives the sign. The number of the answer.
+pub fn adds_meanwhile<N, D, R>(
+    rt: &R,
+    alloc: Global,
+    service: &Service<N, D>,
+    client: &mut Client<N>,
+    signs: &Signs,
+) -> u32
+where
+    N: Named + Send + Sync + 'static,
+    D: Disk,
+    R: Wait,
+{
+    if client.number() == 0 {
+        return ask(rt, alloc, service, client, Call::Add(b"a", SMALL)).number;
+    }
+    wait_for_call(signs);
+    let answer = ask(rt, alloc, service, client, Call::Add(b"b", SMALL)).number;
     signs.signs.fetch_add(1, Ordering::SeqCst);
-    (client, answer)
+    answer
 }

@@ -1,94 +1,23 @@
 // An `add` of which a growth is refused. bench/memory_service.sh refuses each allocation of this test in turn, so one in all.
-ghost use Rattle.std.specs.Prelude.{◌≡◌};
-
-use super::reading::number;
-use super::starting::{ALL, Begun, Device, Fused, TWO_FUNCTIONS, alone, ended, opened, prepared};
+use super::ending::Ending;
+use super::serving::{Plan, served};
+use super::starting::{ALL, new_device};
+use super::work::Work;
 use cc_pool::NoGate;
-use cc_service::{Client, Closed, Named};
-use std::alloc::Global;
-use std::marker::Brand;
-use std::sync::Wait;
 use std::test::Fail;
-use std::thread::Threads;
 
+// The unit is there at the end, and the calls that were answered are all that is in the history.
 #[test]
 fn every_growth_of_an_add(rt: HostRuntime) -> Result<(), Fail> {
-    let begun = prepared(rt.alloc(), ALL)?;
-    assert!(rt; is_added::<Brand, HostRuntime>(&rt, rt.alloc(), begun)?);
+    let device = new_device(rt.alloc(), ALL)?;
+    let plan = Plan {
+        clients: 1,
+        work: Work::Twice,
+        ending: Ending::Again,
+    };
+    let outcome = served(&rt, rt.alloc(), device, 1, NoGate, plan)?;
+    assert!(rt; outcome.right);
+    assert_eq!(rt; outcome.left.entries, outcome.left.receipts);
+    assert_eq!(rt; outcome.left.names, 1);
     Ok(())
-}
-
-// Whether memory ran out.
-fn is_out(number: u32) -> bool {
-    number == 40 || number == 41
-}
-
-// Adds one unit twice, where the first call was refused by 40 or 41 as if it had not been made: how many entries there are, or none
-// where it was not so.
-fn adds_twice<N, R>(
-    rt: &R,
-    alloc: Global,
-    service: &Fused<N>,
-    client: &mut Client<N>,
-) -> Option<usize>
-where
-    N: Named + Send + Sync + 'static,
-    R: Wait,
-{
-    let first = number(service.add(rt, alloc, client, b"a", TWO_FUNCTIONS));
-    if first != 0 && (!is_out(first) || client.receipts().len() != 0) {
-        return None;
-    }
-    let second = number(service.add(rt, alloc, client, b"a", TWO_FUNCTIONS));
-    let entries = client.receipts().len();
-    let right = if first != 0 {
-        second == 0 && entries == 1
-    } else if second == 31 {
-        entries == 2
-    } else {
-        is_out(second) && entries == 1
-    };
-    if right { Some(entries) } else { None }
-}
-
-// Whether the unit is there at the end, and the calls that were answered are all that is in the history.
-fn is_added<N, R>(rt: &R, alloc: Global, begun: Begun) -> Result<bool, Fail>
-where
-    N: Named + Send + Sync + 'static,
-    R: Threads + Wait + Copy + Send + 'static,
-    requires { (begun.fresh.ledger ≡ N.name) × (N.parts ≡ 1025) × (begun.fresh.queue ≡ N.queue) × (begun.base ≡ N.base) }
-{
-    let service = opened::<N, R, NoGate>(rt, alloc, begun, 1, NoGate)?;
-    let mut client = service.client(rt, alloc)?;
-    let Some(entries) = adds_twice(rt, alloc, &service, &mut client) else {
-        return Ok(false);
-    };
-    let closed = ended_at_last(rt, alloc, service, alone(alloc, client)?)?;
-    Ok(closed.history.len() == entries && closed.library.list(alloc)?.len() == 1)
-}
-
-// What is left of a service, whose end is asked for again where memory ran out at it.
-fn ended_at_last<N, R>(
-    rt: &R,
-    alloc: Global,
-    service: Fused<N>,
-    clients: Vec<Client<N>>,
-) -> Result<Closed<Device>, Fail>
-where
-    N: Named + Send + Sync + 'static,
-    R: Wait,
-{
-    match service.finish(rt, alloc, clients) {
-        Ok(closed) => Ok(closed),
-        Err((fault, service, clients)) => {
-            let number = fault.number();
-            drop(fault);
-            if number != 40 {
-                drop(service);
-                drop(clients);
-                return Err(Fail::from("another fault"));
-            }
-            ended(rt, alloc, service, clients)
-        }
-    }
 }

@@ -1,0 +1,11 @@
+-- What the parameter names: the ledger, the queue, and the map that was found.
+use Rattle.tests_book.proofs.playing.over.Given as goal
+
+abbrev pub ghosts-run-N-Ledger : goal.ghosts-run-N-Ledger
+ghosts-run-N-Ledger g a = record { name = a.blank.name; parts = a.blank.parts }
+
+abbrev pub ghosts-run-N-Queued : goal.ghosts-run-N-Queued
+ghosts-run-N-Queued g a = record { queue = a.queue }
+
+abbrev pub ghosts-run-N-Named : goal.ghosts-run-N-Named
+ghosts-run-N-Named g a = record { base = a.base }

@@ -1,0 +1,65 @@
+// A device that fails at each call of a script: what is answered then and later, and what a crash leaves.
+use crate::playing::play;
+use cc_disk::{FuseDisk, FuseMode};
+use std::alloc::Global;
+use std::sync::Wait;
+use std::test::Fail;
+use std::thread::Threads;
+use tests_model::calls::{Call, Change};
+use tests_model::crashes::{are_either, left};
+use tests_model::disks::formatted;
+
+const A: usize = 0;
+
+const B: usize = 1;
+
+// Five calls that change the disk, each by four device calls; then looks, which are answered by the map as it was.
+const CALLS: [(bool, Call); 8] = [
+    (true, Call::Make(Change::Add(A, 0))),
+    (false, Call::Make(Change::Add(B, 1))),
+    (true, Call::Make(Change::Replace(A, 2))),
+    (true, Call::Compact),
+    (false, Call::Make(Change::Withdraw(B))),
+    (true, Call::Get(A)),
+    (false, Call::Get(B)),
+    (true, Call::List),
+];
+
+// The device calls of the two openings before the first call.
+const OPENING: u64 = 6;
+
+// Plays the calls on a device that passes this many of its calls: the place of the one answered 35. An error where a crash leaves another
+// map than what was acknowledged, with or without the change that failed.
+fn failed_at<R: Threads + Wait + Copy + Send + 'static>(
+    rt: &R,
+    alloc: Global,
+    passes: u64,
+    mode: FuseMode,
+) -> Result<Option<usize>, Fail> {
+    let device = FuseDisk::new(formatted(alloc)?, passes, mode);
+    let (device, state) = play(rt, alloc, device, &CALLS)?;
+    let disk = device.into_disk();
+    let maps = left(alloc, &disk);
+    drop(disk);
+    if are_either(&maps?, &state.model, &state.with) {
+        Ok(state.failed)
+    } else {
+        Err(Fail::from("another map after a crash"))
+    }
+}
+
+#[test]
+fn a_device_that_fails_at_each_call(rt: HostRuntime) -> Result<(), Fail> {
+    for mode in [FuseMode::Once, FuseMode::Before, FuseMode::Within] {
+        for call in 0..21u64 {
+            let wanted = if call < 20 {
+                Some(call as usize / 4)
+            } else {
+                None
+            };
+            let found = failed_at(&rt, rt.alloc(), OPENING + call, mode)?;
+            assert!(rt; found == wanted, "device call {call}, {mode:?}: {found:?}");
+        }
+    }
+    Ok(())
+}
