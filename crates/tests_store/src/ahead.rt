@@ -1,8 +1,8 @@
 // Records that reading ahead cuts in two: what is read at once ends within a gate's record, at each of its first bytes, and
 // within a body.
-use crate::helpers::{append_all, holds, opened};
+use crate::helpers::{holds, opened};
 use cc_disk::MemoryDisk;
-use cc_journal::{Journal, format};
+use cc_journal::format;
 use std::alloc::Global;
 use std::test::Fail;
 
@@ -18,31 +18,20 @@ fn counted(alloc: Global, length: usize) -> Result<Vec<u8>, Fail> {
     Ok(bytes)
 }
 
-// The first bytes of the longest body, so many for each.
-fn cut<'a>(alloc: Global, longest: &'a [u8], lengths: &[usize]) -> Result<Vec<&'a [u8]>, Fail> {
-    let mut bodies = Vec::new(alloc);
-    for length in lengths {
-        let Some(body) = longest.get(..*length) else {
-            return Err(Fail::from("no body is that long"));
-        };
-        bodies.push(body)?;
-    }
-    Ok(bodies)
-}
-
-// A journal without records, with areas of 300,000 bytes.
-fn empty(alloc: Global) -> Result<Journal<MemoryDisk>, Fail> {
-    let mut disk = MemoryDisk::new(alloc, 16 + 2 * 300_000)?;
-    format(&mut disk, 300_000)?;
-    opened(alloc, disk)
-}
-
 // Whether records with bodies of these lengths are found again, in that order.
 fn are_found(alloc: Global, lengths: &[usize]) -> Result<bool, Fail> {
     let longest = counted(alloc, 200_000)?;
-    let bodies = cut(alloc, &longest, lengths)?;
-    let mut journal = empty(alloc)?;
-    append_all(alloc, &mut journal, &bodies)?;
+    let mut disk = MemoryDisk::new(alloc, 16 + 2 * 300_000)?;
+    format(&mut disk, 300_000)?;
+    let mut journal = opened(alloc, disk)?;
+    let mut bodies: Vec<&[u8]> = Vec::new(alloc);
+    for length in lengths {
+        let Some(body) = longest.get(..*length) else {
+            return Ok(false);
+        };
+        journal.append(alloc, body)?;
+        bodies.push(body)?;
+    }
     Ok(holds(alloc, journal.into_disk(), &bodies))
 }
 

@@ -15,18 +15,12 @@ fn crash_leaves(
     has_bytes(alloc, &mut disk.crash(alloc, choice)?, wanted)
 }
 
-// A settled disk of the bytes 1 to 5, of which 7 and 8 were written over 2 and 3.
-fn written(rt: &impl Abort, alloc: Global) -> Result<MemoryDisk, Fail> {
-    let mut disk = disk_of(alloc, &[1, 2, 3, 4, 5])?;
-    assert!(rt; disk.size() == 5);
-    disk.write_at(1, &[7, 8])?;
-    Ok(disk)
-}
-
 #[test]
 fn a_crash_chooses_the_unsettled_bytes(rt: HostRuntime) -> Result<(), Fail> {
     let alloc = rt.alloc();
-    let mut disk = written(&rt, alloc)?;
+    let mut disk = disk_of(alloc, &[1, 2, 3, 4, 5])?;
+    assert!(rt; disk.size() == 5);
+    disk.write_at(1, &[7, 8])?;
     assert!(rt; has_bytes(alloc, &mut disk, &[1, 7, 8, 4, 5])?);
     // What was written is unsettled, and 0 past the choice's end.
     assert!(rt; crash_leaves(alloc, &disk, &[9, 10], &[1, 10, 0, 4, 5])?);
@@ -54,16 +48,14 @@ fn over_a_fuse(
     Ok(([first, second, third], bytes, failures))
 }
 
-static MODES: [(FuseMode, ([bool; 3], [u8; 2], u64)); 3] = [
-    (FuseMode::Once, ([true, false, true], [1, 0], 1)),
-    (FuseMode::Before, ([true, false, false], [1, 0], 2)),
-    (FuseMode::Within, ([true, false, false], [1, 2], 2)),
-];
-
 #[test]
 fn the_modes_of_a_fuse(rt: HostRuntime) -> Result<(), Fail> {
-    for (mode, wanted) in MODES.iter() {
-        assert!(rt; over_a_fuse(&rt, rt.alloc(), *mode)? == *wanted, "{mode:?}");
+    for (mode, wanted) in [
+        (FuseMode::Once, ([true, false, true], [1, 0], 1)),
+        (FuseMode::Before, ([true, false, false], [1, 0], 2)),
+        (FuseMode::Within, ([true, false, false], [1, 2], 2)),
+    ] {
+        assert!(rt; over_a_fuse(&rt, rt.alloc(), mode)? == wanted, "{mode:?}");
     }
     Ok(())
 }

@@ -1,8 +1,7 @@
 // The disk on a file.
-use crate::helpers::{BODY, bytes_of, holds, opened};
+use crate::helpers::{are_bodies, bytes_of, opened};
 use cc_disk::{Disk, FileDisk};
-use cc_journal::{Journal, format};
-use std::alloc::Global;
+use cc_journal::format;
 use std::fs::{self, OpenOptions};
 use std::test::Fail;
 
@@ -12,25 +11,23 @@ fn removed(rt: &HostRuntime, path: &str) -> Result<(), Fail> {
     Ok(())
 }
 
-// A journal on the disk, which is formatted, with the row's record.
-fn with_row(alloc: Global, mut disk: FileDisk) -> Result<Journal<FileDisk>, Fail> {
-    format(&mut disk, 64)?;
-    let mut journal = opened(alloc, disk)?;
-    journal.append(alloc, &BODY)?;
-    Ok(journal)
-}
-
 #[test]
 fn a_journal_in_a_file(rt: HostRuntime) -> Result<(), Fail> {
+    let alloc = rt.alloc();
     let path = "a_journal_in_a_file.disk";
-    let disk = FileDisk::create(&rt, path, 144)?;
+    let mut disk = FileDisk::create(&rt, path, 144)?;
     assert!(rt; disk.size() == 144);
-    let journal = with_row(rt.alloc(), disk)?;
+    format(&mut disk, 64)?;
+    let mut journal = opened(alloc, disk)?;
+    journal.append(alloc, &[1, 3, 1, 0x61])?;
     // While the journal has it, nobody else does.
     assert!(rt; FileDisk::open(&rt, path).is_err() && FileDisk::create(&rt, path, 9).is_err());
     drop(journal);
     let disk = FileDisk::open(&rt, path)?;
-    assert!(rt; disk.size() == 144 && holds(rt.alloc(), disk, &[&BODY]));
+    assert!(rt; disk.size() == 144);
+    let journal = opened(alloc, disk)?;
+    assert!(rt; are_bodies(journal.records(), &[&[1, 3, 1, 0x61]]));
+    drop(journal);
     removed(&rt, path)
 }
 
@@ -40,20 +37,15 @@ fn is_read(disk: &mut FileDisk, offset: usize) -> bool {
     offset <= 80 && disk.size() == 100 && disk.read_at(offset, &mut buffer).is_ok()
 }
 
-// Somebody cuts the file to 50 bytes: a read past its end gives fewer bytes.
-fn cut(rt: &HostRuntime, path: &str) -> Result<(), Fail> {
-    let file = OpenOptions::new().write(true).open(rt, path)?;
-    file.set_len(50)?;
-    Ok(())
-}
-
 #[test]
 fn a_read_that_is_short_fails(rt: HostRuntime) -> Result<(), Fail> {
     let alloc = rt.alloc();
     let path = "a_read_that_is_short_fails.disk";
     let mut disk = FileDisk::create(&rt, path, 100)?;
     assert!(rt; bytes_of(alloc, &mut disk)?.as_slice() == [0u8; 100].as_slice());
-    cut(&rt, path)?;
+    // Somebody cuts the file: a read past its end gives fewer bytes.
+    let file = OpenOptions::new().write(true).open(&rt, path)?;
+    file.set_len(50)?;
     assert!(rt; !is_read(&mut disk, 40) && disk.failures() == 1);
     assert!(rt; is_read(&mut disk, 30) && disk.failures() == 1);
     drop(disk);

@@ -36,9 +36,6 @@ pub fn formatted(alloc: Global) -> Result<MemoryDisk, Fail> {
     Ok(disk)
 }
 
-/// The body of the worked row.
-pub const BODY: [u8; 4] = [1, 3, 1, 0x61];
-
 /// The 26 bytes of the worked row: header, one open record with the body 01 03 01 61, the closed gate.
 pub const ROW: [u8; 26] = [
     0x00, 0x43, 0x43, 0x4c, 0x49, 0x42, 0x30, 0x31, 0x40, 0x00, 0x00, 0x00, 0x00, 0x00, 0x00, 0x00,
@@ -75,26 +72,6 @@ pub fn has_bytes<D: Disk>(alloc: Global, disk: &mut D, wanted: &[u8]) -> Result<
     Ok(bytes_of(alloc, disk)?.as_slice() == wanted)
 }
 
-/// Whether the disk of 144 bytes begins with the worked row.
-pub fn has_row(alloc: Global, disk: &mut MemoryDisk) -> Result<bool, Fail> {
-    let bytes = bytes_of(alloc, disk)?;
-    Ok(bytes.len() == SIZE && part(&bytes, 0, 26) == ROW.as_slice())
-}
-
-/// Whether each of these bytes stands at its offset of the disk.
-pub fn has_parts(
-    alloc: Global,
-    disk: &mut MemoryDisk,
-    parts: &[(usize, &[u8])],
-) -> Result<bool, Fail> {
-    let bytes = bytes_of(alloc, disk)?;
-    let mut right = true;
-    for (offset, wanted) in parts {
-        right = right && part(&bytes, *offset, offset.saturating_add(wanted.len())) == *wanted;
-    }
-    Ok(right)
-}
-
 /// Whether these are those bodies, in order.
 pub fn are_bodies(records: &[Body], wanted: &[&[u8]]) -> bool {
     if records.len() != wanted.len() {
@@ -114,18 +91,6 @@ pub fn opened<D: Disk + Drop>(alloc: Global, disk: D) -> Result<Journal<D>, Fail
         Ok(journal) => Ok(journal),
         Err(_) => Err(Fail::from("not opened")),
     }
-}
-
-/// Adds records with these bodies.
-pub fn append_all(
-    alloc: Global,
-    journal: &mut Journal<MemoryDisk>,
-    bodies: &[&[u8]],
-) -> Result<(), Fail> {
-    for body in bodies {
-        journal.append(alloc, body)?;
-    }
-    Ok(())
 }
 
 /// Whether the disk is opened and has records with these bodies, in order.
@@ -150,14 +115,6 @@ pub fn number(answer: Result<(), JournalFault>) -> u32 {
         Ok(()) => 0,
         Err(fault) => fault.number(),
     }
-}
-
-/// The next byte of numbers that look random, the same in each run.
-pub fn next_byte(state: &mut u64) -> u8 {
-    *state = state
-        .wrapping_mul(6_364_136_223_846_793_005)
-        .wrapping_add(1_442_695_040_888_963_407);
-    state.to_be_bytes()[0]
 }
 
 /// One record with this body.

@@ -1,35 +1,32 @@
 // Disks that nobody formatted so.
-use crate::helpers::{BODY, bytes_of, holds, opened, part, refusal, row_disk};
-use cc_disk::{Disk, FuseDisk, FuseMode, MemoryDisk};
+use crate::helpers::{bytes_of, holds, opened, part, refusal, row_disk};
+use cc_disk::{Disk, FuseDisk, FuseMode};
 use cc_journal::Journal;
 use std::alloc::Global;
-use std::process::Abort;
 use std::test::Fail;
-
-// Changes of the row, and with which number the disk is refused then.
-static CHANGES: [(&[(usize, u8)], u32); 13] = [
-    (&[], 0),
-    // The name, the reserved bytes, an area below 64, an area that does not fit.
-    (&[(1, 0x44)], 38),
-    (&[(7, 0x30)], 38),
-    (&[(12, 1)], 38),
-    (&[(15, 1)], 38),
-    (&[(8, 0x3f)], 38),
-    (&[(8, 0x41)], 38),
-    (&[(10, 1)], 38),
-    (&[(11, 0x80)], 38),
-    // A body of 58 bytes fits, and one of 59 does not.
-    (&[(17, 0x3a)], 0),
-    (&[(17, 0x3b)], 37),
-    (&[(17, 0xff), (18, 0xff), (19, 0xff), (20, 0xff)], 37),
-    // An open gate with too few bytes after it for a length.
-    (&[(17, 0x36), (75, 0xa5)], 37),
-];
 
 #[test]
 fn each_change_of_the_row(rt: HostRuntime) -> Result<(), Fail> {
     let alloc = rt.alloc();
-    for (i, (changes, number)) in CHANGES.iter().enumerate() {
+    let table: [(&[(usize, u8)], u32); 13] = [
+        (&[], 0),
+        // The name, the reserved bytes, an area below 64, an area that does not fit.
+        (&[(1, 0x44)], 38),
+        (&[(7, 0x30)], 38),
+        (&[(12, 1)], 38),
+        (&[(15, 1)], 38),
+        (&[(8, 0x3f)], 38),
+        (&[(8, 0x41)], 38),
+        (&[(10, 1)], 38),
+        (&[(11, 0x80)], 38),
+        // A body of 58 bytes fits, and one of 59 does not.
+        (&[(17, 0x3a)], 0),
+        (&[(17, 0x3b)], 37),
+        (&[(17, 0xff), (18, 0xff), (19, 0xff), (20, 0xff)], 37),
+        // An open gate with too few bytes after it for a length.
+        (&[(17, 0x36), (75, 0xa5)], 37),
+    ];
+    for (i, (changes, number)) in table.iter().enumerate() {
         assert!(rt;
             refusal(alloc, row_disk(alloc, changes)?) == *number,
             "row {i}"
@@ -55,7 +52,7 @@ fn each_value_of_the_first_gate(rt: HostRuntime) -> Result<(), Fail> {
     for gate in 0..=255u8 {
         let disk = row_disk(alloc, &[(16, gate)])?;
         let right = if gate == 0xa5 {
-            holds(alloc, disk, &[&BODY])
+            holds(alloc, disk, &[&[1, 3, 1, 0x61]])
         } else {
             holds(alloc, disk, &[])
         };
@@ -88,21 +85,16 @@ fn each_value_of_the_area_byte(rt: HostRuntime) -> Result<(), Fail> {
     Ok(())
 }
 
-// The row's disk, with its bytes written once more and not settled.
-fn unsettled(rt: &impl Abort, alloc: Global) -> Result<MemoryDisk, Fail> {
-    let mut disk = row_disk(alloc, &[])?;
-    let bytes = bytes_of(alloc, &mut disk)?;
-    assert!(rt; bytes.len() <= disk.size());
-    disk.write_at(0, &bytes)?;
-    Ok(disk)
-}
-
 // Opening settles what was written before, as it is, without a sync.
 #[test]
 fn opening_settles_what_was_written(rt: HostRuntime) -> Result<(), Fail> {
     let alloc = rt.alloc();
-    let disk = opened(alloc, unsettled(&rt, alloc)?)?.into_disk();
-    assert!(rt; holds(alloc, disk.crash(alloc, &[])?, &[&BODY]));
+    let mut disk = row_disk(alloc, &[])?;
+    let bytes = bytes_of(alloc, &mut disk)?;
+    assert!(rt; bytes.len() <= disk.size());
+    disk.write_at(0, &bytes)?;
+    let disk = opened(alloc, disk)?.into_disk();
+    assert!(rt; holds(alloc, disk.crash(alloc, &[])?, &[&[1, 3, 1, 0x61]]));
     Ok(())
 }
 
@@ -113,6 +105,6 @@ fn a_failure_hands_the_disk_back(rt: HostRuntime) -> Result<(), Fail> {
     let Err((fault, fuse)) = Journal::open(alloc, fuse) else {
         panic!(rt; "opened");
     };
-    assert!(rt; fault.number() == 35 && holds(alloc, fuse, &[&BODY]));
+    assert!(rt; fault.number() == 35 && holds(alloc, fuse, &[&[1, 3, 1, 0x61]]));
     Ok(())
 }

@@ -14,18 +14,12 @@ const HEADER: [u8; 16] = [
     0, 0x43, 0x43, 0x4c, 0x49, 0x42, 0x30, 0x31, 0, 0, 0, 0x40, 0, 0, 0, 0,
 ];
 
-// Keeps these bytes too, from that offset on.
-fn keep(kept: &mut Vec<(usize, u8)>, offset: usize, bytes: &[u8]) -> Result<(), Fail> {
-    for (i, byte) in bytes.iter().enumerate() {
-        kept.push((offset.saturating_add(i), *byte))?;
-    }
-    Ok(())
-}
-
 // A disk with these bytes from offset 0 on.
 fn beginning(alloc: Global, bytes: &[u8], size: usize) -> Result<SparseDisk, Fail> {
     let mut kept = Vec::new(alloc);
-    keep(&mut kept, 0, bytes)?;
+    for (i, byte) in bytes.iter().enumerate() {
+        kept.push((i, *byte))?;
+    }
     Ok(SparseDisk::new(kept, size))
 }
 
@@ -37,21 +31,19 @@ fn format_number(alloc: Global, size: usize, area: u32) -> Result<u32, Fail> {
     }
 }
 
-static LIMITS: [(usize, u32, u32); 7] = [
-    (144, 63, 34),
-    (144, 64, 0),
-    (144, 65, 34),
-    (143, 64, 34),
-    (SIZE, 1_073_741_824, 0),
-    (SIZE - 1, 1_073_741_824, 34),
-    (8_589_934_592, 1_073_741_825, 34),
-];
-
 #[test]
 fn the_limits_of_an_area(rt: HostRuntime) -> Result<(), Fail> {
-    for (size, area, number) in LIMITS.iter() {
+    for (size, area, number) in [
+        (144usize, 63u32, 34),
+        (144, 64, 0),
+        (144, 65, 34),
+        (143, 64, 34),
+        (SIZE, 1_073_741_824, 0),
+        (SIZE - 1, 1_073_741_824, 34),
+        (8_589_934_592, 1_073_741_825, 34),
+    ] {
         assert!(rt;
-            format_number(rt.alloc(), *size, *area)? == *number,
+            format_number(rt.alloc(), size, area)? == number,
             "{size} bytes, areas of {area}"
         );
     }
@@ -73,27 +65,29 @@ fn number_of(alloc: Global, area_byte: u8, length: u32) -> Result<u32, Fail> {
     let start = if area_byte == 0 { 16 } else { 16 + AREA };
     let [a, b, c, d] = length.to_le_bytes();
     let mut kept = Vec::new(alloc);
-    keep(&mut kept, 0, &HEADER)?;
-    keep(&mut kept, 0, &[area_byte])?;
-    keep(&mut kept, start, &[0xa5, a, b, c, d])?;
+    for (i, byte) in HEADER.iter().enumerate() {
+        kept.push((i, *byte))?;
+    }
+    kept.push((0, area_byte))?;
+    for (i, byte) in [0xa5, a, b, c, d].iter().enumerate() {
+        kept.push((start.saturating_add(i), *byte))?;
+    }
     Ok(refusal(alloc, SparseDisk::new(kept, SIZE)))
 }
 
-static EDGES: [(u8, u32, u32); 6] = [
-    (0, 1_073_741_819, 37),
-    (0, u32::MAX, 37),
-    // The record and the closed gate fit: a body of a gigabyte, in memory too. One byte more does not.
-    (1, 1_073_741_818, 0),
-    (1, 1_073_741_819, 37),
-    (1, 1_073_741_824, 37),
-    (1, u32::MAX, 37),
-];
-
 #[test]
 fn the_edges_of_its_records(rt: HostRuntime) -> Result<(), Fail> {
-    for (area_byte, length, number) in EDGES.iter() {
+    for (area_byte, length, number) in [
+        (0u8, 1_073_741_819u32, 37),
+        (0, u32::MAX, 37),
+        // The record and the closed gate fit: a body of a gigabyte, in memory too. One byte more does not.
+        (1, 1_073_741_818, 0),
+        (1, 1_073_741_819, 37),
+        (1, 1_073_741_824, 37),
+        (1, u32::MAX, 37),
+    ] {
         assert!(rt;
-            number_of(rt.alloc(), *area_byte, *length)? == *number,
+            number_of(rt.alloc(), area_byte, length)? == number,
             "{length} bytes, area byte {area_byte}"
         );
     }

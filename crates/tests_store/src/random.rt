@@ -1,8 +1,16 @@
 // Disks of random bytes: each is read as the format says.
-use crate::helpers::{ROW, SIZE, are_bodies, disk_of, next_byte, part};
+use crate::helpers::{ROW, SIZE, are_bodies, disk_of, part};
 use cc_journal::Journal;
 use std::alloc::Global;
 use std::test::Fail;
+
+// The next byte of numbers that look random, the same in each run.
+fn next_byte(state: &mut u64) -> u8 {
+    *state = state
+        .wrapping_mul(6_364_136_223_846_793_005)
+        .wrapping_add(1_442_695_040_888_963_407);
+    state.to_be_bytes()[0]
+}
 
 // The bytes of a disk: mostly the right header with any area byte, a first gate that is open, and after it many zeros.
 fn random_disk(alloc: Global, state: &mut u64) -> Result<Vec<u8>, Fail> {

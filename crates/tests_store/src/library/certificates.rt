@@ -1,7 +1,7 @@
 // Bodies of both versions on a disk: files that were written before certificates came, and units with one.
-use crate::helpers::{self, append_all, holds};
-use crate::library::helpers::{formatted, is_certified, name, number, opened, refusal, unit};
+use crate::library::helpers::{formatted, name, opened, refusal, unit};
 use cc_disk::MemoryDisk;
+use cc_journal::Journal;
 use cc_library::Library;
 use cc_unit::{Certificate, StoredUnit};
 use std::alloc::Global;
@@ -22,43 +22,60 @@ static TWO: [u8; 42] =
 // A Withdraw of `a` of version 1.
 static WITHDRAW: [u8; 4] = *b"\x01\x03\x01a";
 
+// The journal on a disk.
+fn journal_of(alloc: Global, disk: MemoryDisk) -> Result<Journal<MemoryDisk>, Fail> {
+    match Journal::open(alloc, disk) {
+        Ok(journal) => Ok(journal),
+        Err(_) => Err(Fail::from("no journal")),
+    }
+}
+
 // A disk with areas of 256 bytes and these records.
 fn disk_with(alloc: Global, bodies: &[&[u8]]) -> Result<MemoryDisk, Fail> {
-    let mut journal = helpers::opened(alloc, formatted(alloc, 256)?)?;
-    append_all(alloc, &mut journal, bodies)?;
+    let mut journal = journal_of(alloc, formatted(alloc, 256)?)?;
+    for body in bodies {
+        journal.append(alloc, body)?;
+    }
     Ok(journal.into_disk())
 }
 
-// The library of these records.
-fn library_of(alloc: Global, bodies: &[&[u8]]) -> Result<Library<MemoryDisk>, Fail> {
-    opened(alloc, disk_with(alloc, bodies)?)
+// Whether the disk has these records.
+fn has_records(alloc: Global, disk: MemoryDisk, bodies: &[&[u8]]) -> Result<bool, Fail> {
+    let journal = journal_of(alloc, disk)?;
+    let records = journal.records();
+    Ok(
+        records.len() == bodies.len()
+            && records
+                .iter()
+                .zip(bodies)
+                .all(|(record, body)| record.as_slice() == *body),
+    )
 }
 
-// Whether `a` has a unit with that certificate, or with none.
+// Whether `a` is the one unit, with that certificate.
 fn has_certificate(library: &Library<MemoryDisk>, wanted: Option<&[u8]>) -> Result<bool, Fail> {
-    let name = name(b'a')?;
-    Ok(match library.get(&name) {
-        Some(unit) => is_certified(unit, wanted),
-        None => false,
+    let Some(unit) = library.get(&name(b'a')?) else {
+        return Ok(false);
+    };
+    Ok(match (&unit.certificate, wanted) {
+        (None, None) => true,
+        (Some(certificate), Some(bytes)) => certificate.bytes() == bytes,
+        _ => false,
     })
-}
-
-// The disk of this record after `compact`, where `a` had that certificate.
-fn compacted(alloc: Global, body: &[u8], wanted: Option<&[u8]>) -> Result<MemoryDisk, Fail> {
-    let mut library = library_of(alloc, &[body])?;
-    let right = has_certificate(&library, wanted)?;
-    library.compact(alloc)?;
-    if right {
-        return Ok(library.into_disk());
-    }
-    Err(Fail::from("another certificate"))
 }
 
 // Whether a disk with this record has `a` with that certificate, and `compact` writes the same record.
 fn is_kept(alloc: Global, body: &[u8], wanted: Option<&[u8]>) -> Result<bool, Fail> {
-    let library = opened(alloc, compacted(alloc, body, wanted)?)?;
-    let right = has_certificate(&library, wanted)?;
-    Ok(right && holds(alloc, library.into_disk(), &[body]))
+    let mut library = opened(alloc, disk_with(alloc, &[body])?)?;
+    if !has_certificate(&library, wanted)? {
+        return Ok(false);
+    }
+    library.compact(alloc)?;
+    let library = opened(alloc, library.into_disk())?;
+    if !has_certificate(&library, wanted)? {
+        return Ok(false);
+    }
+    has_records(alloc, library.into_disk(), &[body])
 }
 
 #[test]
@@ -79,45 +96,38 @@ fn of_version(alloc: Global, version: u8, body: &[u8]) -> Result<Vec<u8>, Fail> 
     Ok(bytes)
 }
 
-// Whether a disk with this record, of that version, is refused as damaged.
-fn is_damaged(alloc: Global, version: u8, body: &[u8]) -> Result<bool, Fail> {
-    let body = of_version(alloc, version, body)?;
-    Ok(refusal(alloc, disk_with(alloc, &[&body])?) == 37)
-}
-
 #[test]
 fn records_that_are_no_commands(rt: HostRuntime) -> Result<(), Fail> {
     let alloc = rt.alloc();
     // Version 2 without its last field, and with a certificate that ends early; version 1 with a certificate; no version.
-    assert!(rt; is_damaged(alloc, 2, &NONE)?);
-    assert!(rt; is_damaged(alloc, 2, &TWO[..41])?);
-    assert!(rt; is_damaged(alloc, 1, &EMPTY)?);
-    assert!(rt; is_damaged(alloc, 3, &TWO)?);
+    let table: [(u8, &[u8]); 4] = [(2, &NONE), (2, &TWO[..41]), (1, &EMPTY), (3, &TWO)];
+    for (i, (version, body)) in table.iter().enumerate() {
+        let body = of_version(alloc, *version, body)?;
+        assert!(rt;
+            refusal(alloc, disk_with(alloc, &[&body])?) == 37,
+            "row {i}"
+        );
+    }
     Ok(())
-}
-
-// Whether `a` is absent.
-fn is_absent(library: &Library<MemoryDisk>) -> Result<bool, Fail> {
-    let name = name(b'a')?;
-    Ok(library.get(&name).is_none())
-}
-
-// The disk of these records once `a` was withdrawn.
-fn withdrawn(alloc: Global, bodies: &[&[u8]]) -> Result<MemoryDisk, Fail> {
-    let name = name(b'a')?;
-    let mut library = library_of(alloc, bodies)?;
-    library.withdraw(alloc, name)?;
-    Ok(library.into_disk())
 }
 
 #[test]
 fn files_of_version_1_open(rt: HostRuntime) -> Result<(), Fail> {
     let alloc = rt.alloc();
-    assert!(rt; has_certificate(&library_of(alloc, &[&NONE, &WITHDRAW, &NONE])?, None)?);
-    assert!(rt; is_absent(&library_of(alloc, &[&NONE, &WITHDRAW])?)?);
+    let library = opened(alloc, disk_with(alloc, &[&NONE, &WITHDRAW, &NONE])?)?;
+    assert!(rt; has_certificate(&library, None)?);
+    let library = opened(alloc, disk_with(alloc, &[&NONE, &WITHDRAW])?)?;
+    assert!(rt; library.get(&name(b'a')?).is_none());
     // What is written to them goes on in version 2.
-    let disk = withdrawn(alloc, &[&NONE])?;
-    assert!(rt; holds(alloc, disk, &[&NONE, b"\x02\x03\x01a".as_slice()]));
+    let mut library = opened(alloc, disk_with(alloc, &[&NONE])?)?;
+    library.withdraw(alloc, name(b'a')?)?;
+    assert!(rt;
+        has_records(
+            alloc,
+            library.into_disk(),
+            &[&NONE, b"\x02\x03\x01a".as_slice()]
+        )?
+    );
     Ok(())
 }
 
@@ -129,18 +139,17 @@ fn certified(alloc: Global, count: usize) -> Result<Arc<StoredUnit>, Fail> {
     Ok(Arc::new(alloc, stored)?)
 }
 
-// The number of an Add of a unit whose certificate has this many bytes, in an area of 64.
-fn add_number(alloc: Global, count: usize) -> Result<u32, Fail> {
-    let unit = certified(alloc, count)?;
-    let mut library = opened(alloc, formatted(alloc, 64)?)?;
-    Ok(number(library.add(alloc, name(b'a')?, unit)))
-}
-
 #[test]
 fn a_certificate_that_has_no_room(rt: HostRuntime) -> Result<(), Fail> {
+    let alloc = rt.alloc();
     // A record of 45 bytes and its certificate, and the closed gate: 18 bytes are left in an area of 64.
-    for (count, wanted) in [(18usize, 0u32), (19, 34), (1000, 34)] {
-        assert!(rt; add_number(rt.alloc(), count)? == wanted, "{count} bytes");
+    for (count, number) in [(18usize, 0u32), (19, 34), (1000, 34)] {
+        let mut library = opened(alloc, formatted(alloc, 64)?)?;
+        let answer = match library.add(alloc, name(b'a')?, certified(alloc, count)?) {
+            Ok(()) => 0,
+            Err(fault) => fault.number(),
+        };
+        assert!(rt; answer == number, "{count} bytes");
     }
     Ok(())
 }

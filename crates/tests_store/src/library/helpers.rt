@@ -1,7 +1,7 @@
 // Units, names and disks, and what a library holds.
 ghost use Rattle.std.specs.Prelude.{◌≡◌, None, IfOk};
 
-use cc_disk::{Disk, FuseDisk, FuseMode, MemoryDisk};
+use cc_disk::{Disk, MemoryDisk};
 use cc_journal::format;
 use cc_library::{Command, Edit, Library, LibraryFault, Name, SharedUnit};
 use cc_rv32::image::{Code, Globals, Image};
@@ -26,8 +26,12 @@ pub fn unit(alloc: Global, source: &[u8], word: u32) -> Result<StoredUnit, Fail>
     let Ok(source) = Source::new(Vec::from_slice(alloc, source)?) else {
         return Err(Fail::from("the bytes are no source"));
     };
-    let code = Code::new(vec![in alloc; word; 1]?).unwrap();
-    let globals = Globals::new(Vec::new(alloc)).unwrap();
+    let Ok(code) = Code::new(vec![in alloc; word; 1]?) else {
+        return Err(Fail::from("one word is code"));
+    };
+    let Ok(globals) = Globals::new(Vec::new(alloc)) else {
+        return Err(Fail::from("no words are globals"));
+    };
     Ok(StoredUnit {
         source,
         image: Image { code, globals },
@@ -45,26 +49,29 @@ pub fn name(letter: u8) -> Result<Name, Fail> {
     Ok(Name::new(&[letter])?)
 }
 
-// The name with that letter, and the unit of that word.
-fn named_unit(alloc: Global, letter: u8, word: u32) -> Result<(Name, Arc<StoredUnit>), Fail> {
-    let unit = word_unit(alloc, word)?;
-    Ok((name(letter)?, unit))
+/// The next byte of numbers that look random, the same in each run.
+pub fn next_byte(state: &mut u64) -> u8 {
+    *state = state
+        .wrapping_mul(6_364_136_223_846_793_005)
+        .wrapping_add(1_442_695_040_888_963_407);
+    state.to_be_bytes()[0]
 }
 
 // The edit of a step.
 fn edit(alloc: Global, step: Step) -> Result<Edit, Fail> {
-    match step {
-        Step::Add(letter, word) => {
-            let (name, unit) = named_unit(alloc, letter, word)?;
-            Ok(Edit::Change(Command::Add(name, SharedUnit::new(unit))))
-        }
-        Step::Replace(letter, word) => {
-            let (name, unit) = named_unit(alloc, letter, word)?;
-            Ok(Edit::Change(Command::Replace(name, SharedUnit::new(unit))))
-        }
-        Step::Withdraw(letter) => Ok(Edit::Change(Command::Withdraw(name(letter)?))),
-        Step::Compact => Ok(Edit::Compact),
-    }
+    let command = match step {
+        Step::Add(letter, word) => Command::Add(
+            name(letter)?,
+            SharedUnit::new(word_unit(alloc, word)?),
+        ),
+        Step::Replace(letter, word) => Command::Replace(
+            name(letter)?,
+            SharedUnit::new(word_unit(alloc, word)?),
+        ),
+        Step::Withdraw(letter) => Command::Withdraw(name(letter)?),
+        Step::Compact => return Ok(Edit::Compact),
+    };
+    Ok(Edit::Change(command))
 }
 
 /// The edits of these steps.
@@ -76,8 +83,8 @@ pub fn edits(alloc: Global, steps: &[Step]) -> Result<Vec<Edit>, Fail> {
     Ok(edits)
 }
 
-/// The number of an answer, 0 for Ok.
-pub fn number(answer: Result<(), LibraryFault>) -> u32 {
+// The number of an answer, 0 for Ok.
+fn number(answer: Result<(), LibraryFault>) -> u32 {
     match answer {
         Ok(()) => 0,
         Err(fault) => fault.number(),
@@ -88,12 +95,12 @@ pub fn number(answer: Result<(), LibraryFault>) -> u32 {
 pub fn does<D: Disk>(alloc: Global, library: &mut Library<D>, step: Step) -> Result<u32, Fail> {
     match step {
         Step::Add(letter, word) => {
-            let (name, unit) = named_unit(alloc, letter, word)?;
-            Ok(number(library.add(alloc, name, unit)))
+            let unit = word_unit(alloc, word)?;
+            Ok(number(library.add(alloc, name(letter)?, unit)))
         }
         Step::Replace(letter, word) => {
-            let (name, unit) = named_unit(alloc, letter, word)?;
-            Ok(number(library.replace(alloc, name, unit)))
+            let unit = word_unit(alloc, word)?;
+            Ok(number(library.replace(alloc, name(letter)?, unit)))
         }
         Step::Withdraw(letter) => Ok(number(library.withdraw(alloc, name(letter)?))),
         Step::Compact => Ok(number(library.compact(alloc))),
@@ -129,35 +136,13 @@ pub fn opened<D: Disk + Drop>(alloc: Global, disk: D) -> Result<Library<D>, Fail
     }
 }
 
-/// A library with `a` added, on a disk of 144 bytes whose next calls meet a fuse.
-pub fn with_a(
-    alloc: Global,
-    passes: u64,
-    mode: FuseMode,
-) -> Result<Library<FuseDisk<MemoryDisk>>, Fail> {
-    let mut library = opened(alloc, formatted(alloc, 64)?)?;
-    if does(alloc, &mut library, Step::Add(b'a', 1))? != 0 {
-        return Err(Fail::from("not added"));
-    }
-    opened(alloc, FuseDisk::new(library.into_disk(), passes, mode))
-}
-
-/// Whether the unit has that certificate, or none.
-pub fn is_certified(unit: &StoredUnit, wanted: Option<&[u8]>) -> bool {
-    match (&unit.certificate, wanted) {
-        (None, None) => true,
-        (Some(certificate), Some(bytes)) => certificate.bytes() == bytes,
-        _ => false,
-    }
-}
-
 /// The first code word of the unit of that name, where it has one.
 fn word_of<D: Disk>(library: &Library<D>, letter: u8) -> Result<Option<u32>, Fail> {
-    let name = name(letter)?;
-    Ok(match library.get(&name) {
-        Some(unit) => unit.image.code.words().first().copied(),
-        None => None,
-    })
+    Ok(
+        library
+            .get(&name(letter)?)
+            .and_then(|unit| unit.image.code.words().first().copied()),
+    )
 }
 
 /// What a library holds under `a` and under `b`: the words of the units, where there are some.

@@ -1,36 +1,58 @@
 // Disks that nobody formatted so.
-use crate::helpers::{SIZE, bytes_of, disk_of, row_disk};
+use crate::helpers::{bytes_of, disk_of};
 use crate::library::helpers::{Step, formatted, opened, recovers, refusal, steps_done};
-use cc_disk::{FuseDisk, FuseMode};
+use cc_disk::{FuseDisk, FuseMode, MemoryDisk};
 use cc_library::Library;
 use std::alloc::Global;
 use std::test::Fail;
 
-// Changes of the row, whose body is that of Withdraw of `a`, and with which number the disk is refused then.
-static CHANGES: [(&[(usize, u8)], u32); 13] = [
-    // Withdraw of an absent name, in both versions.
-    (&[], 37),
-    (&[(21, 2)], 37),
-    // A body of 58 bytes that is no command; another version, another kind, a bad name.
-    (&[(17, 0x3a)], 37),
-    (&[(21, 3)], 37),
-    (&[(21, 0)], 37),
-    (&[(22, 4)], 37),
-    (&[(23, 0)], 37),
-    (&[(24, 0x41)], 37),
-    // Lengths past the area.
-    (&[(17, 0x3b)], 37),
-    (&[(17, 0xff), (18, 0xff), (19, 0xff), (20, 0xff)], 37),
-    // Wrong headers.
-    (&[(1, 0x44)], 38),
-    (&[(12, 1)], 38),
-    (&[(8, 0x3f)], 38),
+const SIZE: usize = 144;
+
+// A header with areas of 64 bytes, one open record with the body of Withdraw of `a`, and the closed gate.
+const ROW: [u8; 26] = [
+    0x00, 0x43, 0x43, 0x4c, 0x49, 0x42, 0x30, 0x31, 0x40, 0x00, 0x00, 0x00, 0x00, 0x00, 0x00, 0x00,
+    0xa5, 0x04, 0x00, 0x00, 0x00, 0x01, 0x03, 0x01, 0x61, 0x00,
 ];
+
+// That disk of 144 bytes, with some of its bytes changed.
+fn row_disk(alloc: Global, changes: &[(usize, u8)]) -> Result<MemoryDisk, Fail> {
+    let mut bytes = vec![in alloc; 0u8; SIZE]?;
+    for (i, byte) in ROW.iter().enumerate() {
+        if i < bytes.len() {
+            bytes[i] = *byte;
+        }
+    }
+    for (offset, byte) in changes {
+        if *offset < bytes.len() {
+            bytes[*offset] = *byte;
+        }
+    }
+    disk_of(alloc, &bytes)
+}
 
 #[test]
 fn each_change_of_the_row(rt: HostRuntime) -> Result<(), Fail> {
     let alloc = rt.alloc();
-    for (i, (changes, number)) in CHANGES.iter().enumerate() {
+    let table: [(&[(usize, u8)], u32); 13] = [
+        // Withdraw of an absent name, in both versions.
+        (&[], 37),
+        (&[(21, 2)], 37),
+        // A body of 58 bytes that is no command; another version, another kind, a bad name.
+        (&[(17, 0x3a)], 37),
+        (&[(21, 3)], 37),
+        (&[(21, 0)], 37),
+        (&[(22, 4)], 37),
+        (&[(23, 0)], 37),
+        (&[(24, 0x41)], 37),
+        // Lengths past the area.
+        (&[(17, 0x3b)], 37),
+        (&[(17, 0xff), (18, 0xff), (19, 0xff), (20, 0xff)], 37),
+        // Wrong headers.
+        (&[(1, 0x44)], 38),
+        (&[(12, 1)], 38),
+        (&[(8, 0x3f)], 38),
+    ];
+    for (i, (changes, number)) in table.iter().enumerate() {
         assert!(rt;
             refusal(alloc, row_disk(alloc, changes)?) == *number,
             "row {i}"
@@ -53,17 +75,16 @@ fn each_closed_gate_is_an_empty_library(rt: HostRuntime) -> Result<(), Fail> {
     Ok(())
 }
 
-const STEPS: [Step; 4] = [
-    Step::Compact,
-    Step::Add(b'a', 1),
-    Step::Add(b'b', 2),
-    Step::Withdraw(b'b'),
-];
-
 // The bytes of a disk with three records, in area B where the empty library was compacted first.
 fn three_records(alloc: Global, moved: bool) -> Result<Vec<u8>, Fail> {
-    let mut library = opened(alloc, formatted(alloc, 64)?)?;
-    let steps = if moved { &STEPS } else { &STEPS[1..] };
+    let mut library: Library<MemoryDisk> = opened(alloc, formatted(alloc, 64)?)?;
+    let steps = [
+        Step::Compact,
+        Step::Add(b'a', 1),
+        Step::Add(b'b', 2),
+        Step::Withdraw(b'b'),
+    ];
+    let steps = if moved { &steps } else { &steps[1..] };
     if steps_done(alloc, &mut library, steps)? != steps.len() {
         return Err(Fail::from("not done"));
     }
@@ -73,8 +94,11 @@ fn three_records(alloc: Global, moved: bool) -> Result<Vec<u8>, Fail> {
 #[test]
 fn a_failure_hands_the_disk_back(rt: HostRuntime) -> Result<(), Fail> {
     let alloc = rt.alloc();
-    let disk = disk_of(alloc, &three_records(alloc, false)?)?;
-    let fuse = FuseDisk::new(disk, 0, FuseMode::Once);
+    let fuse = FuseDisk::new(
+        disk_of(alloc, &three_records(alloc, false)?)?,
+        0,
+        FuseMode::Once,
+    );
     let Err((fault, fuse)) = Library::open(alloc, fuse) else {
         panic!(rt; "opened");
     };

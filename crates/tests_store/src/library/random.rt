@@ -1,6 +1,6 @@
 // Disks with random records and random bytes.
-use crate::helpers::{bytes_of, disk_of, next_byte};
-use crate::library::helpers::{Held, formatted, opened, recovers, refusal};
+use crate::helpers::{bytes_of, disk_of};
+use crate::library::helpers::{Held, formatted, next_byte, opened, recovers, refusal};
 use cc_disk::MemoryDisk;
 use cc_library::Library;
 use std::alloc::Global;
@@ -65,10 +65,7 @@ fn random_records(alloc: Global, state: &mut u64) -> Result<(Vec<u8>, Option<Hel
     let mut held = Some((None, None));
     for _ in 0..next_byte(state) % 8 {
         let command = next_command(state);
-        let next = match held {
-            Some(held) => after(held, command),
-            None => None,
-        };
+        let next = held.and_then(|held| after(held, command));
         // Most of those that are refused are left out.
         if next.is_some() || next_byte(state) < 16 {
             put_record(&mut bytes, command)?;

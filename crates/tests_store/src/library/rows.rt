@@ -1,8 +1,7 @@
 // The worked rows of the library.
 use crate::helpers::bytes_of;
 use crate::library::helpers::{
-    Held, Step, crash_leaves, does, edits, formatted, holds, opened, recovers, steps_done, with_a,
-    word_unit,
+    Held, Step, does, edits, formatted, holds, opened, recovers, steps_done, word_unit,
 };
 use cc_disk::{Disk, FuseDisk, FuseMode, MemoryDisk};
 use cc_library::{Library, Name};
@@ -20,86 +19,78 @@ fn are_answered(
     wanted: Held,
 ) -> Result<bool, Fail> {
     let mut library = opened(alloc, formatted(alloc, area)?)?;
-    let right = have_numbers(alloc, &mut library, steps)?;
-    Ok(right && recovers(alloc, library.into_disk(), wanted)?)
-}
-
-// Whether these steps have these numbers.
-fn have_numbers<D: Disk>(
-    alloc: Global,
-    library: &mut Library<D>,
-    steps: &[(Step, u32)],
-) -> Result<bool, Fail> {
     for (step, number) in steps {
-        if does(alloc, library, *step)? != *number {
+        if does(alloc, &mut library, *step)? != *number {
             return Ok(false);
         }
     }
-    Ok(true)
+    recovers(alloc, library.into_disk(), wanted)
 }
-
-const CHANGES: [(Step, u32); 4] = [
-    (Step::Add(b'a', 1), 0),
-    (Step::Add(b'a', 2), 31),
-    (Step::Withdraw(b'b'), 32),
-    (Step::Replace(b'a', 3), 0),
-];
 
 #[test]
 fn changes(rt: HostRuntime) -> Result<(), Fail> {
-    assert!(rt; are_answered(rt.alloc(), 128, &CHANGES, (Some(3), None))?);
+    let steps = [
+        (Step::Add(b'a', 1), 0),
+        (Step::Add(b'a', 2), 31),
+        (Step::Withdraw(b'b'), 32),
+        (Step::Replace(b'a', 3), 0),
+    ];
+    assert!(rt; are_answered(rt.alloc(), 128, &steps, (Some(3), None))?);
     Ok(())
 }
 
-// Two records of 25 bytes and the closed gate leave 13 bytes: one Withdraw of 9 fits, a third unit does not.
-const FULL: [(Step, u32); 6] = [
-    (Step::Add(b'a', 1), 0),
-    (Step::Add(b'b', 2), 0),
-    (Step::Add(b'c', 3), 34),
-    (Step::Replace(b'a', 3), 34),
-    (Step::Withdraw(b'a'), 0),
-    (Step::Withdraw(b'b'), 34),
-];
-
 #[test]
 fn a_full_area(rt: HostRuntime) -> Result<(), Fail> {
-    assert!(rt; are_answered(rt.alloc(), 64, &FULL, (None, Some(2)))?);
+    // Two records of 25 bytes and the closed gate leave 13 bytes: one Withdraw of 9 fits, a third unit does not.
+    let steps = [
+        (Step::Add(b'a', 1), 0),
+        (Step::Add(b'b', 2), 0),
+        (Step::Add(b'c', 3), 34),
+        (Step::Replace(b'a', 3), 34),
+        (Step::Withdraw(b'a'), 0),
+        (Step::Withdraw(b'b'), 34),
+    ];
+    assert!(rt; are_answered(rt.alloc(), 64, &steps, (None, Some(2)))?);
     Ok(())
 }
 
 // The numbers of a run of steps on a new library, where it went to its end.
 fn run_numbers(alloc: Global, steps: &[Step]) -> Result<Vec<u32>, Fail> {
+    let edits = edits(alloc, steps)?;
     let library = opened(alloc, formatted(alloc, 128)?)?;
-    let (left, numbers) = library.run(alloc, edits(alloc, steps)?);
-    let to_its_end = left.is_ok();
-    drop(left);
-    if to_its_end {
-        return Ok(numbers);
+    let (left, numbers) = library.run(alloc, edits);
+    match left {
+        Ok(library) => {
+            drop(library);
+            Ok(numbers)
+        }
+        Err(refused) => {
+            drop(refused);
+            Err(Fail::from("the run stopped"))
+        }
     }
-    Err(Fail::from("the run stopped"))
 }
-
-const RUN: [Step; 5] = [
-    Step::Add(b'a', 1),
-    Step::Add(b'a', 2),
-    Step::Withdraw(b'b'),
-    Step::Replace(b'a', 3),
-    Step::Compact,
-];
 
 #[test]
 fn the_same_through_run(rt: HostRuntime) -> Result<(), Fail> {
-    assert!(rt; run_numbers(rt.alloc(), &RUN)?.as_slice() == [0, 31, 32, 0, 0].as_slice());
+    let steps = [
+        Step::Add(b'a', 1),
+        Step::Add(b'a', 2),
+        Step::Withdraw(b'b'),
+        Step::Replace(b'a', 3),
+        Step::Compact,
+    ];
+    assert!(rt; run_numbers(rt.alloc(), &steps)?.as_slice() == [0, 31, 32, 0, 0].as_slice());
     Ok(())
 }
 
 // Whether these are those names, in order.
 fn are_names(names: &[Name], wanted: &[&[u8]]) -> bool {
-    let mut right = names.len() == wanted.len();
-    for (name, bytes) in names.iter().zip(wanted) {
-        right = right && name.bytes() == *bytes;
-    }
-    right
+    names.len() == wanted.len()
+        && names
+            .iter()
+            .zip(wanted)
+            .all(|(name, bytes)| name.bytes() == *bytes)
 }
 
 // Adds a unit under that name: whether the answer is Ok.
@@ -126,37 +117,38 @@ fn names_come_in_the_order_of_their_bytes(rt: HostRuntime) -> Result<(), Fail> {
     Ok(())
 }
 
-// A library with `a` added, whose next calls meet a fuse once this many have passed.
-fn fused(alloc: Global, passes: u64) -> Result<Library<FuseDisk<MemoryDisk>>, Fail> {
-    with_a(alloc, OPENING.saturating_add(passes), FuseMode::Within)
-}
-
-// The disk after an Add of `b` whose device calls meet the fuse once this many have passed.
-fn torn(alloc: Global, passes: u64) -> Result<MemoryDisk, Fail> {
-    let mut library = fused(alloc, passes)?;
-    let number = does(alloc, &mut library, Step::Add(b'b', 2))?;
-    let disk = library.into_disk().into_disk();
-    if number == 35 {
-        return Ok(disk);
+// A library with `a` added, on a disk of 144 bytes whose next calls meet a fuse.
+fn with_a(alloc: Global, passes: u64) -> Result<Library<FuseDisk<MemoryDisk>>, Fail> {
+    let mut library = opened(alloc, formatted(alloc, 64)?)?;
+    if steps_done(alloc, &mut library, &[Step::Add(b'a', 1)])? != 1 {
+        return Err(Fail::from("not added"));
     }
-    Err(Fail::from("the fuse was not met"))
+    opened(
+        alloc,
+        FuseDisk::new(library.into_disk(), passes, FuseMode::Within),
+    )
 }
 
-// Whether a crash with that choice then leaves a library that holds these units.
-fn torn_leaves(alloc: Global, passes: u64, choice: &[u8], wanted: Held) -> Result<bool, Fail> {
-    crash_leaves(alloc, &torn(alloc, passes)?, choice, wanted)
+// The disk after an Add of `b` whose device calls meet the fuse once this many have passed, and a crash with that choice.
+fn torn(alloc: Global, passes: u64, choice: &[u8]) -> Result<MemoryDisk, Fail> {
+    let mut library = with_a(alloc, OPENING.saturating_add(passes))?;
+    if does(alloc, &mut library, Step::Add(b'b', 2))? != 35 {
+        return Err(Fail::from("the fuse was not met"));
+    }
+    Ok(library.into_disk().into_disk().crash(alloc, choice)?)
 }
 
 #[test]
 fn the_gate_decides(rt: HostRuntime) -> Result<(), Fail> {
     let alloc = rt.alloc();
-    assert!(rt; torn_leaves(alloc, 2, &[0xa5; 144], (Some(1), Some(2)))?);
-    assert!(rt; torn_leaves(alloc, 2, &[0; 144], (Some(1), None))?);
+    assert!(rt; recovers(alloc, torn(alloc, 2, &[0xa5; 144])?, (Some(1), Some(2)))?);
+    assert!(rt; recovers(alloc, torn(alloc, 2, &[0; 144])?, (Some(1), None))?);
     Ok(())
 }
 
 #[test]
 fn a_torn_body_counts_for_nothing(rt: HostRuntime) -> Result<(), Fail> {
+    let alloc = rt.alloc();
     // The record of `a` ends with byte 40, the gate of the next is byte 41. After it the crash leaves a whole record, Withdraw
     // of `a`, and an open gate.
     let mut choice = [0xa5u8; 144];
@@ -165,7 +157,7 @@ fn a_torn_body_counts_for_nothing(rt: HostRuntime) -> Result<(), Fail> {
             choice[42 + i] = *byte;
         }
     }
-    assert!(rt; torn_leaves(rt.alloc(), 0, &choice, (Some(1), None))?);
+    assert!(rt; recovers(alloc, torn(alloc, 0, &choice)?, (Some(1), None))?);
     Ok(())
 }
 
@@ -173,67 +165,64 @@ fn a_torn_body_counts_for_nothing(rt: HostRuntime) -> Result<(), Fail> {
 #[test]
 fn a_torn_area_byte_keeps_the_map(rt: HostRuntime) -> Result<(), Fail> {
     let alloc = rt.alloc();
-    let mut library = fused(alloc, 2)?;
+    let mut library = with_a(alloc, OPENING.saturating_add(2))?;
     assert!(rt; does(alloc, &mut library, Step::Compact)? == 35);
     let disk = library.into_disk().into_disk();
     for byte in 0..=255u8 {
+        let crashed = disk.crash(alloc, &[byte])?;
         assert!(rt;
-            crash_leaves(alloc, &disk, &[byte], (Some(1), None))?,
+            recovers(alloc, crashed, (Some(1), None))?,
             "area byte {byte}"
         );
     }
     Ok(())
 }
 
-// The `compact` that meets the fuse, and steps after it.
-const CLOSED: [(Step, u32); 5] = [
-    (Step::Compact, 35),
-    (Step::Compact, 36),
-    (Step::Add(b'b', 2), 36),
-    (Step::Replace(b'a', 2), 36),
-    (Step::Withdraw(b'a'), 36),
-];
-
 #[test]
 fn a_closed_library_still_answers_from_its_map(rt: HostRuntime) -> Result<(), Fail> {
     let alloc = rt.alloc();
-    let mut library = fused(alloc, 2)?;
-    assert!(rt; have_numbers(alloc, &mut library, &CLOSED)?);
+    let mut library = with_a(alloc, OPENING.saturating_add(2))?;
+    assert!(rt; does(alloc, &mut library, Step::Compact)? == 35);
+    for step in [
+        Step::Compact,
+        Step::Add(b'b', 2),
+        Step::Replace(b'a', 2),
+        Step::Withdraw(b'a'),
+    ] {
+        assert!(rt; does(alloc, &mut library, step)? == 36);
+    }
     assert!(rt; holds(alloc, &library, (Some(1), None))?);
     // No call but the one that met the fuse reached the device.
     assert!(rt; library.into_disk().failures() == 1);
     Ok(())
 }
 
-const COMPACTED: [Step; 5] = [
-    Step::Add(b'b', 2),
-    Step::Add(b'a', 1),
-    Step::Withdraw(b'b'),
-    Step::Add(b'b', 4),
-    Step::Compact,
-];
-
-// Offsets and bytes. Area B begins at 144: an Add of `a` and one of `b`, each of 25 bytes, and a closed gate.
-static TWO_ADDS: [(usize, u8); 9] = [
-    (0, 1),
-    (144, 0xa5),
-    (149, 1),
-    (150, 1),
-    (152, b'a'),
-    (169, 0xa5),
-    (175, 1),
-    (177, b'b'),
-    (194, 0),
-];
-
 #[test]
 fn compact_writes_one_add_per_name(rt: HostRuntime) -> Result<(), Fail> {
     let alloc = rt.alloc();
     let mut library = opened(alloc, formatted(alloc, 128)?)?;
-    assert!(rt; steps_done(alloc, &mut library, &COMPACTED)? == 5);
+    let steps = [
+        Step::Add(b'b', 2),
+        Step::Add(b'a', 1),
+        Step::Withdraw(b'b'),
+        Step::Add(b'b', 4),
+        Step::Compact,
+    ];
+    assert!(rt; steps_done(alloc, &mut library, &steps)? == 5);
     let bytes = bytes_of(alloc, &mut library.into_disk())?;
-    for (offset, byte) in TWO_ADDS.iter() {
-        assert!(rt; bytes.get(*offset).copied() == Some(*byte), "byte {offset}");
+    // Area B begins at 144: an Add of `a` and one of `b`, each of 25 bytes, and a closed gate.
+    for (offset, byte) in [
+        (0usize, 1u8),
+        (144, 0xa5),
+        (149, 1),
+        (150, 1),
+        (152, b'a'),
+        (169, 0xa5),
+        (175, 1),
+        (177, b'b'),
+        (194, 0),
+    ] {
+        assert!(rt; bytes.get(offset).copied() == Some(byte), "byte {offset}");
     }
     Ok(())
 }

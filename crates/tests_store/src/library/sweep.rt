@@ -1,8 +1,7 @@
 // Every point of failure of add, add, replace, compact, withdraw, in each mode, and a crash after it; and the same through
 // `run`.
-use crate::helpers::next_byte;
 use crate::library::helpers::{
-    Held, Step, crash_leaves, edits, formatted, opened, refusal, steps_done,
+    Held, Step, crash_leaves, edits, formatted, next_byte, opened, refusal, steps_done,
 };
 use cc_disk::{FuseDisk, FuseMode, MemoryDisk};
 use cc_library::Library;
@@ -101,8 +100,9 @@ struct Ran {
 }
 
 fn run_over(alloc: Global, passes: u64, mode: FuseMode) -> Result<Ran, Fail> {
+    let edits = edits(alloc, &STEPS)?;
     let library = opened(alloc, fused(alloc, passes, mode)?)?;
-    let (left, numbers) = library.run(alloc, edits(alloc, &STEPS)?);
+    let (left, numbers) = library.run(alloc, edits);
     let count = numbers.len();
     let failed = numbers.iter().filter(|number| **number == 35).count();
     drop(numbers);
