@@ -33,15 +33,21 @@ pub fn run(rt: &HostRuntime, arguments: &mut Args) -> Result<()> {
     let start = Instant::now(rt)?;
     let outcome = machine.run(steps)?;
     let seconds = start.elapsed(rt)?.as_secs_f64();
-    for word in machine.output() {
+    tell(rt, machine.output(), outcome)?;
+    if outcome == MachineOutcome::Going {
+        eprintln!(rt; "{steps} {seconds}")?;
+    }
+    Ok(())
+}
+
+// Prints what a run has written, and how it stands.
+fn tell(rt: &HostRuntime, output: &[u32], outcome: MachineOutcome) -> Result<()> {
+    for word in output {
         let value = word.cast_signed();
         println!(rt; "{value}")?;
     }
     match outcome {
-        MachineOutcome::Going => {
-            println!(rt; "going")?;
-            eprintln!(rt; "{steps} {seconds}")?;
-        }
+        MachineOutcome::Going => println!(rt; "going")?,
         MachineOutcome::Exited(word) => {
             let value = word.cast_signed();
             println!(rt; "exited {value}")?;
