@@ -141,19 +141,8 @@ fn hostile(rt: &HostRuntime, arguments: &mut Args) -> Result<()> {
     if writes > MOST_WRITES {
         bail!("too many bytes");
     }
-    let turning = Shape::Turning {
-        writes,
-        pairs: PAIRS,
-    };
-    let (text, shape) = match shape.as_str() {
-        "straight" => (straight(alloc, writes)?, Shape::Equal { pairs: PAIRS }),
-        "loop" => (turned(alloc, 1, writes)?, turning),
-        "loops" => (turned(alloc, 64, writes)?, turning),
-        _ => bail!("no such shape"),
-    };
-    let (ltl, accepted) = attacked(alloc, text.as_slice(), shape)?;
-    let certificate = certificate_of(alloc, &ltl)?;
-    drop(ltl);
+    let (text, shape) = written(alloc, shape.as_str(), writes)?;
+    let (certificate, accepted) = certified(alloc, text.as_slice(), shape)?;
     let length = certificate.len();
     let unit = made(
         alloc,
@@ -165,6 +154,28 @@ fn hostile(rt: &HostRuntime, arguments: &mut Args) -> Result<()> {
     let (answer, nanoseconds) = audited(rt, &unit, times)?;
     println!(rt; "{length} {accepted} {answer} {nanoseconds}")?;
     Ok(())
+}
+
+// The text of a shape, and what is changed in its LTL.
+fn written(alloc: Global, shape: &str, writes: u32) -> Result<(Vec<u8>, Shape)> {
+    let turning = Shape::Turning {
+        writes,
+        pairs: PAIRS,
+    };
+    match shape {
+        "straight" => Ok((straight(alloc, writes)?, Shape::Equal { pairs: PAIRS })),
+        "loop" => Ok((turned(alloc, 1, writes)?, turning)),
+        "loops" => Ok((turned(alloc, 64, writes)?, turning)),
+        _ => bail!("no such shape"),
+    }
+}
+
+// The certificate of a text's LTL so changed, and whether the validator accepts that.
+fn certified(alloc: Global, text: &[u8], shape: Shape) -> Result<(Vec<u8>, bool)> {
+    let (ltl, accepted) = attacked(alloc, text, shape)?;
+    let certificate = certificate_of(alloc, &ltl);
+    drop(ltl);
+    Ok((certificate?, accepted))
 }
 
 // A text that writes the word that it reads so many times.

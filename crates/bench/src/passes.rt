@@ -26,18 +26,23 @@ pub fn perform(rt: &HostRuntime, arguments: &mut Args) -> Result<()> {
     let file = next_argument(arguments)?;
     let times = next_number(arguments)?;
     let unit = checked(rt, file.as_str())?;
-    let nodes = match task.as_str() {
-        "rtl" => rtl(rt.alloc(), &unit, times)?,
-        "spill" => spill(rt.alloc(), &unit, times)?,
-        "validate" => validated(rt.alloc(), &unit, times)?,
-        "live" => live(rt.alloc(), &unit, times)?,
-        "colour" => coloured(rt.alloc(), &unit, times)?,
-        "check" => checked_colours(rt.alloc(), &unit, times)?,
-        "refused" => refused(rt.alloc(), &unit)?,
-        _ => bail!("no such task"),
-    };
+    let nodes = nodes_of(rt.alloc(), task.as_str(), &unit, times)?;
     println!(rt; "{nodes}")?;
     Ok(())
+}
+
+// Does the task `times` times, and counts what its last answer has.
+fn nodes_of(alloc: Global, task: &str, unit: &Arc<TypedUnit>, times: u32) -> Result<usize> {
+    match task {
+        "rtl" => rtl(alloc, unit, times),
+        "spill" => spill(alloc, unit, times),
+        "validate" => validated(alloc, unit, times),
+        "live" => live(alloc, unit, times),
+        "colour" => coloured(alloc, unit, times),
+        "check" => checked_colours(alloc, unit, times),
+        "refused" => refused(alloc, unit),
+        _ => bail!("no such task"),
+    }
 }
 
 /// The unit of that file.
