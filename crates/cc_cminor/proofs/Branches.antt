@@ -1,5 +1,6 @@
 -- What a branch tests goes the way that the value of its expression goes: where the one is 0 the other is, or, exchanged, is not.
 use Rattle.std.proofs.Common.{◌≡◌, ◌⊎◌, inl, inr, ℕ, zero, suc, ◌-◌, ◌==◌, not, Bool, true, false, if◌then◌else◌, Option, Some, None, bit_xor, refl, sym, ap, ◌∙◌, subst, arith}
+use Rattle.std.proofs.Math.Bool.{not-not}
 use Rattle.std.proofs.lemmas.Bool.{ne_eqb}
 use Rattle.std.proofs.lemmas.Bool.Decides.{nat_tests}
 use Rattle.std.specs.Int.Bits.{xor_self, xor_zero_l, xor_zero_r, xor_assoc}
@@ -28,15 +29,11 @@ record Tests (e : Expression) (reversed : Bool) (l : ℕ → ℕ) (h : World) (w
 itself : (e : Expression) (l : ℕ → ℕ) (h : World) (w : ℕ) → value e l h ≡ Some w → Tests e false l h w
 itself e l h w is = record { word = w; is = is; same = refl }
 
-not_twice : (b : Bool) → b ≡ not (not b)
-not_twice true = refl
-not_twice false = refl
-
 flipped_twice : (r b : Bool) → flipped r (not b) ≡ flipped (not r) b
-flipped_twice true b = sym (not_twice b)
+flipped_twice true b = not-not b
 flipped_twice false b = refl
 
-truth_holds : (b : Bool) → is_true (truth_value b) ≡ b
+pub truth_holds : (b : Bool) → is_true (truth_value b) ≡ b
 truth_holds true = refl
 truth_holds false = refl
 

@@ -36,6 +36,7 @@ use Rattle.cc_cminor.specs.Cminor.{Expression, Constant, Local, Unary, Binary, L
 use Rattle.cc_cminor.specs.internal.Lowering.{object_of, width_of, read_of, variable_of, unary_of, binary_of, is_zero_test, is_comparison, is_truth, truth_of, Kind, Strict, Conjunction, Disjunction, kind, is_strict, is_plain, are_plain, plain, all_plain}
 use Rattle.cc_cminor.proofs.Known.{IsObject, IsPlaced, IsVariable, Known, AllKnown}
 use Rattle.cc_cminor.proofs.Paths.{world_at}
+use Rattle.cc_cminor.proofs.Branches.{truth_holds}
 
 pub name_is_itself : (x : List ℕ) → same_name x x ≡ true
 name_is_itself x = nat_list_eq_equiv.refl x
@@ -262,12 +263,8 @@ truth_twice : (a : ℕ) → is_zero (is_zero a) ≡ truth_value (is_true a)
 truth_twice a = truth_by (a == 0)
 
 -- 0 and 1 are their own truth
-truth_same : (b : Bool) → truth_value b ≡ truth_value (is_true (truth_value b))
-truth_same true = refl
-truth_same false = refl
-
 kept_truth : (b : Bool) (w : ℕ) → Some (truth_value b) ≡ Some w → Some w ≡ Some (truth_value (is_true w))
-kept_truth b w is = let e : truth_value b ≡ w = cc in subst (λ x. Some x ≡ Some (truth_value (is_true x))) e (ap (λ x. Some x) (truth_same b))
+kept_truth b w is = let e : truth_value b ≡ w = cc in subst (λ x. Some x ≡ Some (truth_value (is_true x))) e (ap (λ c. Some (truth_value c)) (sym (truth_holds b)))
 
 test_kept : (op : unary.Unary) (o : Option ℕ) (w : ℕ) → is_zero_test op ≡ true → then_value o (λ a. Some (apply_unary op a)) ≡ Some w → Some w ≡ Some (truth_value (is_true w))
 test_kept one.IsZero None w t is = absurd (cc)

@@ -48,7 +48,7 @@ impl Model for RtlPair {
 }
 
 impl RtlPair {
-    // The one place where a pair is made.
+    /// The pair of a function whose RTL is proved to keep up with it: what the type keeps is asked for here. It takes no memory.
     pub fn new(unit: Arc<TypedUnit>, function: usize, code: Rtl) -> RtlPair
         requires { IsPair (record { unit = arc_value unit; function = function; rtl = code }) }
         ensures { result ≡ record { unit = arc_value unit; function = function; rtl = code } }

@@ -50,7 +50,7 @@ impl Model for Rtl {
 }
 
 impl Rtl {
-    // The one place where a function is made.
+    /// The function of these nodes, labelled from 0 on, whose entry and edges lead to nodes. It takes no memory.
     pub fn new(parameters: u32, entry: u32, nodes: InstrList<Node>) -> Rtl
         requires rtl { IsRtl (record { parameters = parameters; entry = entry; nodes = labelled_of nodes.entries }) }
         requires numbered { AreNumbered 0 (labelled_of nodes.entries) }
