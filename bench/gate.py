@@ -5,7 +5,8 @@
 
 The gate is `rt ci`, as `.ci/run` has it; it should be the only thing that the machine does. While it runs, this script looks
 four times a second at the toolchain's processes and adds up the processor seconds of each. Then it prints a row for each
-crate, in seconds of processor, and writes the same to docs/GATE.md where the run passed (of the repository that the script stands in):
+crate, in seconds of processor, and where the run passed it writes the same under the head "The table" of docs/GATE.md (of the
+repository that the script stands in), whose text above stays:
 
     lines   of src/, proofs left out
     P       a whole proof from scratch
@@ -30,15 +31,24 @@ from datetime import date
 TOP = os.path.dirname(os.path.dirname(os.path.abspath(__file__)))
 TICK = os.sysconf("SC_CLK_TCK")
 
-# What docs/GATE.md says above the table.
-HEAD = """# What each crate costs the gate
-
+# The head of docs/GATE.md under which the table stands, to the end, and what is said between the two.
+HEAD = "## The table\n"
+WORDS = """
 Written by `bench/gate.py` on {day}: one whole run of the gate in a fresh clone, from scratch. Seconds of processor: P a
 whole proof from scratch, `tests` the proof of the crate's tests, `first` the first must-fail edit, e each further one
 on average, n a check that changes nothing, `sum` all of these; `proof` is the wall clock's seconds of the proof beside
 others.
 
 """
+
+
+def write(said):
+    """Puts the table in place of the one in docs/GATE.md."""
+    page = f"{TOP}/docs/GATE.md"
+    with open(page, encoding="utf-8") as file:
+        above = file.read().partition(HEAD)[0]
+    with open(page, "w", encoding="utf-8") as file:
+        file.write(above + HEAD + WORDS.format(day=date.today().isoformat()) + "\n".join(said) + "\n")
 
 
 class Process:
@@ -158,8 +168,7 @@ def main(folder):
     ]
     print("\n".join(said))
     if passed:
-        with open(f"{TOP}/docs/GATE.md", "w", encoding="utf-8") as file:
-            file.write(HEAD.format(day=date.today().isoformat()) + "\n".join(said) + "\n")
+        write(said)
     print("passed" if passed else "NOT PASSED")
     if room:
         shutil.rmtree(room, ignore_errors=True)

@@ -5,18 +5,18 @@
 
 `rt ci` proves each crate once what it names is proved, a crate with two must-fail edits or more once again to try them over, and
 then the edits. This script does the same work on PROCESSORS (4) side by side, one job each, as `.ci/run` has it, over the seconds
-of docs/GATE.md's table, or those given here in place of them, and prints the sum of all, the wall clock's seconds, and the longest
-chain of crates that wait for one another. It knows nothing of memory, nor of how fast the machine is that the gate runs on: a
-crate without figures counts by its lines. What it is for: whether a cut of a crate would shorten the gate, before it is made."""
+of docs/GATE.md's table, or those of a crate's proof that are given here in place of them, and prints the sum of all, the wall
+clock's seconds, and the longest chain of crates that wait for one another. It knows nothing of memory, nor of how fast the machine
+is that the gate runs on: a crate without figures counts by its lines. What it is for: whether a cut of a crate would shorten the
+gate, before it is made."""
 import glob
 import heapq
 import os
 import sys
 
 TOP = os.path.dirname(os.path.dirname(os.path.abspath(__file__)))
-# Seconds: what a line takes where the table has nothing, an edit over what its crate's second proof kept, the check behind the
-# edits, and the check of a test crate without its tests.
-OF_A_LINE, OF_AN_EDIT, BEHIND_EDITS, WITHOUT_TESTS = 0.25, 13, 12, 15
+# Seconds that a line takes, an edit over what its crate's second proof kept, and the check behind the edits, where the table has nothing.
+OF_A_LINE, OF_AN_EDIT, BEHIND_EDITS = 0.2, 10, 8
 
 
 def crates():
@@ -30,14 +30,22 @@ def crates():
     return {name: [it for it in names if it in found] for name, names in found.items()}
 
 
+class Cost:
+    """The seconds of a crate: of its proof, of that of its tests, of a must-fail edit, and of the check behind the edits."""
+
+    def __init__(self, proof, tests=0.0, edit=OF_AN_EDIT, behind=BEHIND_EDITS):
+        self.proof, self.tests, self.edit, self.behind = proof, tests, edit, behind
+
+
 def costs():
-    """Returns the seconds of a whole proof, with its tests, of each crate that the table has them for."""
+    """Returns what each crate costs by docs/GATE.md's table: | crate | lines | P | tests | edits | first | e | n | sum | proof |."""
     found = {}
     with open(f"{TOP}/docs/GATE.md", encoding="utf-8") as file:
         for line in file:
             cells = [it.strip() for it in line.strip().strip("|").split("|")]
-            if line.startswith("| ") and len(cells) == 4 and cells[3].isdigit():
-                found[cells[0]] = int(cells[3])
+            if line.startswith("| ") and len(cells) == 10 and cells[1].isdigit():
+                proof, tests, edit, behind = (float(cells[it]) for it in (2, 3, 6, 7))
+                found[cells[0]] = Cost(proof, tests, edit, behind)
     return found
 
 
@@ -65,18 +73,18 @@ def work(named, known):
     tasks = {}
     for name in sorted(named, key=lambda it: len(all_below(it, named))):
         below, lines = [(it, "proof") for it in all_below(name, named)], lines_of(name)
-        whole, is_tests = known.get(name, lines * OF_A_LINE), name.startswith("tests_") and name != "tests_texts"
-        tasks[name, "proof"] = below, lines, WITHOUT_TESTS if is_tests else whole
-        tasks[name, "tests"] = below, lines * is_tests, whole * is_tests
+        cost = known.get(name) or Cost(lines * OF_A_LINE)
+        tasks[name, "proof"] = below, lines, cost.proof
+        tasks[name, "tests"] = below, lines * (cost.tests > 0), cost.tests
         edits = len(glob.glob(f"{TOP}/crates/{name}/must-fail/*.edit"))
         keys = [(name, "edit", number) for number in range(edits)]
         if edits > 1:
-            tasks[name, "again"] = below, 0, whole
+            tasks[name, "again"] = below, 0, cost.proof
         for key in keys:
             waits = [(name, "proof"), (name, "tests")] + [(name, "again")] * (edits > 1)
-            tasks[key] = waits, lines, OF_AN_EDIT if edits > 1 else whole
+            tasks[key] = waits, lines, cost.edit if edits > 1 else cost.proof
         if edits > 1:
-            tasks[name, "behind"] = keys, 0, BEHIND_EDITS
+            tasks[name, "behind"] = keys, 0, cost.behind
     return tasks
 
 
@@ -121,7 +129,7 @@ def main():
     known = costs()
     for word in sys.argv[2:]:
         name, _, seconds = word.partition("=")
-        known[name] = float(seconds)
+        known[name] = Cost(float(seconds), *([known[name].tests] if name in known else []))
     tasks = work(crates(), known)
     whole = sum(it[2] for it in tasks.values())
     seconds, chain = longest(tasks)
