@@ -34,10 +34,10 @@ TICK = os.sysconf("SC_CLK_TCK")
 # The head of docs/GATE.md under which the table stands, to the end, and what is said between the two.
 HEAD = "## The table\n"
 WORDS = """
-Written by `bench/gate.py` on {day}: one whole run of the gate in a fresh clone, from scratch. Seconds of processor: P a
-whole proof from scratch, `tests` the proof of the crate's tests, `first` the first must-fail edit, e each further one
-on average, n a check that changes nothing, `sum` all of these; `proof` is the wall clock's seconds of the proof beside
-others.
+Written by `bench/gate.py` on {day}: one whole run of the gate in a fresh clone, from scratch. Seconds of
+processor: P a whole proof from scratch, `tests` the proof of the crate's tests, `first` the first must-fail edit, e
+each further one on average, n a check that changes nothing, `sum` all of these; `proof` is the wall clock's seconds of
+the proof beside others.
 
 """
 
