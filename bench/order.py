@@ -5,10 +5,10 @@
 
 `rt ci` proves each crate once what it names is proved, a crate with two must-fail edits or more once again to try them over, and
 then the edits. This script does the same work on PROCESSORS (4) side by side, one job each, as `.ci/run` has it, over the seconds
-of docs/GATE.md's table, or those of a crate's proof that are given here in place of them, and prints the sum of all, the wall
-clock's seconds, and the longest chain of crates that wait for one another. It knows nothing of memory, nor of how fast the machine
-is that the gate runs on: a crate without figures counts by its lines. What it is for: whether a cut of a crate would shorten the
-gate, before it is made."""
+of docs/GATE.md's table, or those given here in place of a crate's proof (of a test crate: of its tests), and prints the sum of all,
+the wall clock's seconds, and the longest chain of crates that wait for one another. It knows nothing of memory, nor of how fast the
+machine is that the gate runs on: a crate without figures counts by its lines. What it is for: whether a cut of a crate would
+shorten the gate, before it is made."""
 import glob
 import heapq
 import os
@@ -129,7 +129,11 @@ def main():
     known = costs()
     for word in sys.argv[2:]:
         name, _, seconds = word.partition("=")
-        known[name] = Cost(float(seconds), *([known[name].tests] if name in known else []))
+        cost = known.setdefault(name, Cost(0.0))
+        if cost.tests:
+            cost.tests = float(seconds)
+        else:
+            cost.proof = float(seconds)
     tasks = work(crates(), known)
     whole = sum(it[2] for it in tasks.values())
     seconds, chain = longest(tasks)
