@@ -5,11 +5,17 @@ ghost use Rattle.std.proofs.lemmas.Bool.{false≢true};
 use crate::count::FailureCount;
 use crate::disk::{Disk, DiskFault};
 use std::fs::{self, OpenOptions};
-use std::io;
-use std::os::unix::fs::FileExt;
+use std::io::{self, Seek, SeekFrom};
+use std::os::unix::fs::{FileExt, FileTypeExt};
 use std::path::Path;
 
-/// A disk on a file of the operating system, whose length is the disk's size.
+/// Where the name begins by which a journal on a disk is known.
+const NAME: usize = 1;
+
+/// How many bytes a journal has up to the one that tells whether a record follows, with it.
+const BEGINNING: usize = 17;
+
+/// A disk on a file of the operating system, whose length is the disk's size, or on a block device.
 ///
 /// Its kind is not honest: no contract can say what a file holds. That it keeps the rules of a disk rests on premises
 /// about the system, which `docs/DISK.md` names. Each call of the disk makes one system call at most, and answers 35 where
@@ -38,9 +44,13 @@ impl Drop for FileDisk {
 }
 
 impl FileDisk {
-    /// A new file of `size` zeros, in the place of an old one. Its room is taken, and it and its name are synced.
+    /// A new file of `size` zeros, in the place of an old one. Its room is taken, and it and its name are synced. Before the
+    /// old one is cut, what it is known by is spoilt and synced: a crash leaves all of it or nothing that is known.
     ///
-    /// 35 where the system refuses, or another process has the file open as a disk, which is as before then.
+    /// A block device is not cut: the disk is its first `size` bytes, as they were but for the first ones, which are zeros.
+    ///
+    /// 35 where the system refuses, the device has fewer bytes, or another process has the file open as a disk, which is as
+    /// before in the last two cases.
     pub fn create(rt: &HostRuntime, path: &str, size: usize) -> Result<FileDisk, DiskFault>
         ensures size { IfOk result (λ disk. disk.size ≡ size) }
         ensures failed { IfOk result (λ disk. disk.failed ≡ 0) }
@@ -53,15 +63,25 @@ impl FileDisk {
             .open(rt, path)?;
         // The lock comes first: a file that is in use is not changed.
         lock(&file)?;
-        file.set_len(0)?;
-        put_zeros(&file, size)?;
-        // The zeros are on the medium, so that no later write needs room.
-        file.sync_all()?;
-        sync_folder(rt, path)?;
+        let device = device_size(&file)?;
+        if let Some(bytes) = device
+            && bytes < size
+        {
+            return Err(DiskFault::DeviceFailed);
+        }
+        spoil(&file)?;
+        if device.is_none() {
+            file.set_len(0)?;
+            put_zeros(&file, size)?;
+            // The zeros are on the medium, so that no later write needs room.
+            file.sync_all()?;
+            sync_folder(rt, path)?;
+        }
         Ok(FileDisk::over(file, size))
     }
 
-    /// The disk on an old file, whose length is its size. What earlier processes left in the system's memory is synced first.
+    /// The disk on an old file, whose length is its size, or on a block device. What earlier processes left in the system's
+    /// memory is synced first.
     ///
     /// 35 where the system refuses, or another process has the file open as a disk.
     pub fn open(rt: &HostRuntime, path: &str) -> Result<FileDisk, DiskFault>
@@ -71,7 +91,10 @@ impl FileDisk {
         let file = OpenOptions::new().read(true).write(true).open(rt, path)?;
         lock(&file)?;
         file.sync_all()?;
-        let size = file.metadata()?.len() as usize;
+        let size = match device_size(&file)? {
+            Some(bytes) => bytes,
+            None => file.metadata()?.len() as usize,
+        };
         Ok(FileDisk::over(file, size))
     }
 
@@ -123,6 +146,16 @@ fn lock(file: &fs::File) -> Result<(), DiskFault> {
     Ok(())
 }
 
+// How many bytes a block device has; `None` of a file that is none. The system gives a device the length 0, and tells its
+// bytes by a seek to their end.
+fn device_size(file: &fs::File) -> Result<Option<usize>, DiskFault> {
+    if !file.metadata()?.file_type().is_block_device() {
+        return Ok(None);
+    }
+    let mut device = file;
+    Ok(Some(device.seek(SeekFrom::End(0))? as usize))
+}
+
 // Whether a system call moved as many bytes as were asked for: fewer are a failure too.
 fn is_whole(answer: io::Result<usize>, wanted: usize) -> bool
     ensures { IsTrue result ↔ IsOkAnd answer (λ count. count ≡ wanted) }
@@ -142,6 +175,23 @@ fn is_written(file: &fs::File, offset: usize, bytes: &[u8]) -> bool {
 fn is_read(file: &fs::File, offset: usize, buffer: &mut [u8]) -> bool {
     let answer = file.read_at(buffer, offset as u64);
     is_whole(answer, buffer.len())
+}
+
+// Spoils what a journal on the file is known by, and then its beginning, each on the medium before the next call. Else a file
+// system that fills a cut file with zeros in place could keep a journal's beginning, with zeros anywhere behind it. One byte
+// comes first: torn or not, it leaves the old journal whole or none. What the file's length is does not matter, since that may
+// not have reached the medium either.
+fn spoil(file: &fs::File) -> Result<(), DiskFault> {
+    let zeros = [0u8; BEGINNING];
+    if !is_written(file, NAME, &zeros[..1]) {
+        return Err(DiskFault::DeviceFailed);
+    }
+    file.sync_all()?;
+    if !is_written(file, 0, &zeros) {
+        return Err(DiskFault::DeviceFailed);
+    }
+    file.sync_all()?;
+    Ok(())
 }
 
 // Writes this many zeros from the file's start on.

@@ -2,6 +2,7 @@
 
 ghost use Rattle.std.specs.Prelude.{◌≤◌};
 
+use crate::device::{NoDisk, may_overwrite};
 use cc_disk::FileDisk;
 use cc_journal::format;
 use cc_library::LibraryFault;
@@ -52,43 +53,62 @@ impl<R: Eprint> Gate for Progress<R> {
 const NO_FILE: &str =
     "cclib: the file could not be opened, or another process has it open; where it is not there yet, `--format AREA` makes it\n";
 
+/// The same for a block device that is in use.
+const IN_USE: &str =
+    "cclib: the device is mounted or swapped on, or another device stands on it: lsblk, findmnt and swapon --show tell which\n";
+
+/// The same for one that is too small.
+const SMALL: &str = "cclib: the device has fewer than 16 + 2 * AREA bytes\n";
+
 // The disk on the file, made anew where an area is given.
-fn disk_of(files: &HostRuntime, path: &str, area: Option<u32>) -> Result<FileDisk, LibraryFault> {
+fn disk_of(files: &HostRuntime, path: &str, area: Option<u32>) -> Result<FileDisk, NoDisk> {
     let Some(area) = area else {
         return match FileDisk::open(files, path) {
             Ok(disk) => Ok(disk),
-            Err(_) => Err(LibraryFault::DiskFault),
+            Err(_) => Err(NoDisk::Refused(LibraryFault::DiskFault)),
         };
     };
-    let Ok(mut disk) = FileDisk::create(files, path, 16 + 2 * area as usize) else {
-        return Err(LibraryFault::DiskFault);
+    let size = 16 + 2 * area as usize;
+    may_overwrite(files, path, size)?;
+    let Ok(mut disk) = FileDisk::create(files, path, size) else {
+        return Err(NoDisk::Refused(LibraryFault::DiskFault));
     };
     match format(&mut disk, area) {
         Ok(()) => Ok(disk),
         Err(fault) => {
             drop(disk);
-            Err(LibraryFault::from(fault))
+            Err(NoDisk::Refused(LibraryFault::from(fault)))
         }
     }
 }
 
+// Tells a person why there is no disk.
+fn explain<E: Write>(reason: NoDisk, path: &str, errors: &mut E) -> io::Result<()> {
+    match reason {
+        NoDisk::Refused(LibraryFault::DiskFault) => errors.write_all(NO_FILE.as_bytes())?,
+        NoDisk::Refused(fault) => explain_words(fault.number(), errors)?,
+        NoDisk::SmallDevice => errors.write_all(SMALL.as_bytes())?,
+        NoDisk::DeviceInUse => errors.write_all(IN_USE.as_bytes())?,
+        NoDisk::OtherContent => writeln!(
+            errors,
+            "cclib: the device has something that is no library; if it may be lost: dd if=/dev/zero of={path} bs=128K count=1"
+        )?,
+    }
+    errors.flush()
+}
+
 // Writes why there is no disk; the status.
 fn no_disk<W: Write, E: Write>(
-    fault: LibraryFault,
+    reason: NoDisk,
+    asked: Asked<'_>,
     writer: &mut W,
     errors: &mut E,
-    is_quiet: bool,
 ) -> u8 {
+    let fault = reason.fault();
     let _ = writeln!(writer, "fault {} {fault}", fault.number());
     let _ = writer.flush();
-    if is_quiet {
-        return 1;
-    }
-    if fault.number() == 35 {
-        let _ = errors.write_all(NO_FILE.as_bytes());
-        let _ = errors.flush();
-    } else {
-        let _ = explain_words(fault.number(), errors);
+    if !asked.is_quiet {
+        let _ = explain(reason, asked.path, errors);
     }
     1
 }
@@ -120,7 +140,7 @@ where
     };
     let disk = match disk_of(files, asked.path, asked.area) {
         Ok(disk) => disk,
-        Err(fault) => return Ok(no_disk(fault, &mut writer, &mut errors, asked.is_quiet)),
+        Err(reason) => return Ok(no_disk(reason, asked, &mut writer, &mut errors)),
     };
     let mut reader = rt.reader();
     let (disk, end) = if asked.is_quiet {

@@ -1,8 +1,9 @@
 // The program `cclib`: reads a C program from standard input, and checks, interprets, runs or lists it, or does a script over a library.
 // How a command line is read is the matter of `cc_command_line`, how a task is done that of `cc_program`, a script that of `cc_session`, the
-// file of a library that of `filing`, what the stack needs that of `stack`.
+// file of a library that of `filing`, a device in its place that of `device`, what the stack needs that of `stack`.
 #![tactic(auto)]
 
+mod device;
 mod filing;
 mod stack;
 

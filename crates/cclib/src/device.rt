@@ -1,0 +1,133 @@
+// A block device that a library is to be put on: whether it may be overwritten. What is looked at is a help and no promise, since the
+// system may begin to use a device at any moment.
+
+use cc_disk::{Disk, FileDisk};
+use cc_library::LibraryFault;
+use std::fs;
+use std::os::unix::fs::{FileTypeExt, MetadataExt};
+
+/// Why there is no disk on the file.
+#[derive(Clone, Copy, Drop)]
+pub enum NoDisk {
+    /// The disk or the library refused.
+    Refused(LibraryFault),
+    /// 34: the device has fewer bytes than the library takes.
+    SmallDevice,
+    /// 35: the device is mounted or swapped on, or another device stands on it.
+    DeviceInUse,
+    /// 35: the device has something that is no library.
+    OtherContent,
+}
+
+impl NoDisk {
+    /// The fault that is answered.
+    pub fn fault(&self) -> LibraryFault {
+        match self {
+            NoDisk::Refused(fault) => *fault,
+            NoDisk::SmallDevice => LibraryFault::Full,
+            NoDisk::DeviceInUse | NoDisk::OtherContent => LibraryFault::DiskFault,
+        }
+    }
+}
+
+/// The name in a library's header, at byte 1.
+const LIBRARY: &[u8] = b"CCLIB01";
+
+/// By what others are known whose first 16 bytes may be zeros: tables of partitions, and the volumes and file systems of Linux.
+const OTHERS: [(usize, &[u8]); 7] = [
+    (510, b"\x55\xaa"),
+    (512, b"EFI PART"),
+    (512, b"LABELONE"),
+    (1080, b"\x53\xef"),
+    (4086, b"SWAPSPACE2"),
+    (4096, b"\xfc\x4e\x2b\xa9"),
+    (65600, b"_BHRfS_M"),
+];
+
+// Whether these bytes, 16 at most, stand there on the disk.
+fn has(disk: &mut FileDisk, offset: usize, wanted: &[u8]) -> bool {
+    let mut found = [0u8; 16];
+    let size = disk.size();
+    if size < 16 || size - 16 < offset {
+        return false;
+    }
+    disk.read_at(offset, &mut found).is_ok() && found.starts_with(wanted)
+}
+
+// Whether the disk has nothing but a library, or 16 zeros and none of the others.
+fn is_free(disk: &mut FileDisk) -> bool {
+    if has(disk, 1, LIBRARY) {
+        return true;
+    }
+    if !has(disk, 0, &[0; 16]) {
+        return false;
+    }
+    for (offset, known) in OTHERS {
+        if has(disk, offset, known) {
+            return false;
+        }
+    }
+    true
+}
+
+// The number of the block device at that path, if there is one.
+fn device_at(files: &HostRuntime, path: &str) -> Option<u64> {
+    match fs::metadata(files, path) {
+        Ok(found) if found.file_type().is_block_device() => Some(found.rdev()),
+        _ => None,
+    }
+}
+
+// Whether the first word of a line of that list is a path of the device: under whichever of its names.
+fn is_listed(files: &HostRuntime, list: &str, device: u64) -> bool {
+    let Ok(text) = fs::read_to_string(files, list) else {
+        return false;
+    };
+    for line in text.as_str().lines() {
+        let path = line.split_whitespace().next().unwrap_or("");
+        if path.starts_with('/') && device_at(files, path) == Some(device) {
+            return true;
+        }
+    }
+    false
+}
+
+// Whether another device stands on this one, by the folder that the system keeps of each.
+fn has_holders(files: &HostRuntime, device: u64) -> bool {
+    let major = (device >> 8 & 0xfff) | (device >> 32 & 0xffff_f000);
+    let minor = (device & 0xff) | (device >> 12 & 0xffff_ff00);
+    let Ok(folder) = format!(in files.alloc(); "/sys/dev/block/{major}:{minor}/holders") else {
+        return false;
+    };
+    match fs::read_dir(files, folder.as_str()) {
+        Ok(mut entries) => entries.next().is_some(),
+        Err(_) => false,
+    }
+}
+
+/// Whether a library of that size may be put on the file: `Ok` of each that is no block device.
+pub fn may_overwrite(files: &HostRuntime, path: &str, size: usize) -> Result<(), NoDisk> {
+    let Some(device) = device_at(files, path) else {
+        return Ok(());
+    };
+    if is_listed(files, "/proc/mounts", device)
+        || is_listed(files, "/proc/swaps", device)
+        || has_holders(files, device)
+    {
+        return Err(NoDisk::DeviceInUse);
+    }
+    let Ok(mut disk) = FileDisk::open(files, path) else {
+        return Err(NoDisk::Refused(LibraryFault::DiskFault));
+    };
+    let is_free = is_free(&mut disk);
+    if disk.failures() > 0 {
+        return Err(NoDisk::Refused(LibraryFault::DiskFault));
+    }
+    if !is_free {
+        return Err(NoDisk::OtherContent);
+    }
+    if disk.size() < size {
+        return Err(NoDisk::SmallDevice);
+    }
+    Ok(())
+}
