@@ -13,7 +13,7 @@ use crate::passes::checked;
 use anyhow::{Result, bail};
 use cc_emit::Piece;
 use cc_link::compile_function;
-use cc_pool::{Fresh, NoGate, Pass, Pool, PoolFault, Queued};
+use cc_pool::{Drained, Fresh, NoGate, Pass, Pool, PoolFault, Queued};
 use cc_typing::TypedUnit;
 use std::alloc::{AllocError, Global};
 use std::env::Args;
@@ -149,7 +149,7 @@ where
     let mean = start.elapsed(rt)?.as_nanos() / u128::from(times.max(1));
     let mut passes = Vec::with_capacity(alloc, 1)?;
     passes.push(pass)?;
-    pool.finish(rt, passes)?;
+    drop(pool.finish(rt, passes)?);
     Ok(mean)
 }
 
@@ -298,9 +298,12 @@ where
     }
 }
 
-fn ended(end: Result<(), PoolFault>) -> u32 {
+fn ended<N: Queued>(end: Result<Drained<N>, PoolFault>) -> u32 {
     match end {
-        Ok(()) => 0,
+        Ok(left) => {
+            drop(left);
+            0
+        }
         Err(fault) => fault.number(),
     }
 }

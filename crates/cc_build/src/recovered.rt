@@ -17,7 +17,7 @@ use cc_link::linked_units_agree;
 use std::alloc::Global;
 
 /// For every interleaving of clients, workers and committer, with crashes and failures of the disk anywhere in it, from a fresh disk on or
-/// from one that was opened with a library on it.
+/// from one that was opened with a library on it. Each command that goes into the order has a spelling, as the types of names and units keep.
 pub fn headline<B: Build>()
     // Whatever a crash leaves of the disk recovers: to the library of a prefix of the commands in the order of their commits, which holds
     // every acknowledged command and lacks at most the last. This holds of any build, so of the one that compiles, whatever pieces workers

@@ -25,7 +25,7 @@ use Rattle.cc_core.specs.declared.contents.Phase.TheVariants.{Idle, Committing, 
 use Rattle.cc_core.specs.StoreState.{StoreState}
 use Rattle.cc_core.specs.Store.{rewrite_stepped}
 use Rattle.cc_core.specs.Step.{IsLongest, commands, phase_after}
-use Rattle.cc_core.specs.Run.{EachUnit, Survives}
+use Rattle.cc_core.specs.Run.{AreRising, EachUnit, Survives}
 use Rattle.cc_core.specs.internal.Ready.{HasRoom}
 use Rattle.cc_core.proofs.Orders.{library-push}
 use Rattle.cc_core.proofs.Held.{HoldsInOneOf, IsAtRest, InCommit, commit_images}
@@ -151,11 +151,14 @@ rewrite_kept commit SyncArea store order acknowledged h = record {
 }
 
 -- so it survives
-pub ends_survives : (area : ℕ) (order acknowledged : List Numbered) (image : List ℕ) → All (Contains order) acknowledged → Ends area order acknowledged image → Survives image order acknowledged
-ends_survives area order acknowledged image acked e = at e.known
+pub ends_survives : (area : ℕ) (order acknowledged : List Numbered) (image : List ℕ) → AreRising order → AreRising acknowledged → All (Contains order) acknowledged → Ends area order acknowledged image
+    → Survives image order acknowledged
+ends_survives area order acknowledged image rising rising_acked acked e = at e.known
   where
     at : StandFor e.bodies (library_of (commands order)) ⊎ LacksLast e.bodies order acknowledged → Survives image order acknowledged
     at (inl stand) = record {
+      rising = rising;
+      rising_acked = rising_acked;
       kept = order;
       lost = [];
       in_order = sym (append-nil order);
@@ -164,6 +167,8 @@ ends_survives area order acknowledged image acked e = at e.known
       recovers = holds_recovers image area e.bodies (library_of (commands order)) (holds_alone image area e.bodies e.held) stand;
     }
     at (inr lacks) = record {
+      rising = rising;
+      rising_acked = rising_acked;
       kept = lacks.prefix;
       lost = lacks.last ∷ [];
       in_order = lacks.is;

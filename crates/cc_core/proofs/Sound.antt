@@ -698,7 +698,7 @@ module _ {P : Type 0} (rules : Rules P) (keeps : P → Type 0) where
     -- ---- what follows
 
     pub sound_survives : (s : Core) → IsSoundCore is_right s → EachImageSurvives s
-    sound_survives s sound image now = ends_survives s.store.area s.order s.acknowledged image sound.acked (each_ends s.phase s.store s.order s.acknowledged sound.disk image now)
+    sound_survives s sound image now = ends_survives s.store.area s.order s.acknowledged image sound.rising sound.rising_acked sound.acked (each_ends s.phase s.store s.order s.acknowledged sound.disk image now)
 
     -- in a rewrite both writes lie on the disk
     rewrite_ready : (commit : Commit) (due : RewriteDue) (store : StoreState) (order acknowledged : List Numbered) → HoldsRewrite commit due store order → IsRewrite commit store

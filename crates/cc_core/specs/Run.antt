@@ -58,8 +58,11 @@ live (Failed None) order = library_of (commands order)
 live Crashed order = empty
 
 -- The image recovers, to the library of a prefix of the order and to no other. The prefix holds every acknowledged command, and
--- lacks at most the last of the order.
+-- lacks at most the last of the order. The sequence numbers of both lists rise: so a command that was acknowledged twice stands
+-- twice in the prefix.
 pub record Survives (image : List ℕ) (order acknowledged : List Numbered) : Type 0 where
+  pub rising : AreRising order
+  pub rising_acked : AreRising acknowledged
   pub kept : List Numbered
   pub lost : List Numbered
   pub in_order : order ≡ kept ++ lost
@@ -133,7 +136,8 @@ module _ {P : Type 0} where
   abbrev pub HandsIn : (P → Type 0) → Event P → Type 0
   HandsIn keeps event = (worker : WorkerId) (piece : P) → event ≡ events.Done worker piece → keeps piece
 
-  -- one turn of a run: an event that has a step takes it, and at each other the state stays
+  -- one turn of a run: an event that has a step takes it, and a command that it puts into the order has a spelling, as the types of names
+  -- and units keep; at each other event the state stays
   abbrev pub Turn : Rules P → (P → Type 0) → Contents P → Event P → Contents P → Type 0
   Turn rules keeps old event new =
       ((reply : Option Reply) × Step rules old event reply new × PutsCommand old.core new.core × HandsIn keeps event) ⊎ (IsImpossible rules old event × (new ≡ old))

@@ -19,8 +19,8 @@ ghost use Rattle.cc_core.specs.Turns.{BeginsSpelled, IsNoSubmit, IsNoTake, CanBe
 use crate::build::Build;
 
 /// Whatever the rules by which units are made, and whatever pieces workers hand in; and whatever the events, from a fresh disk or an opened
-/// one, with any units on it: whatever a crash leaves of the disk survives so, and the live map is what the order gives. In a crashed
-/// state the recovery is possible, and nothing else but another crash; and a commit leaves exactly the bytes of its record. Between two
+/// one, with any units on it, where each command that goes into the order has a spelling, as the types of names and units keep: whatever a
+/// crash leaves of the disk survives so, and the live map is what the order gives. In a crashed state the recovery is possible, and nothing else but another crash; and a commit leaves exactly the bytes of its record. Between two
 /// commits a rewrite is always possible, since it never takes more room than the records do, and it leaves one Add per name.
 pub fn survival_law<B: Build>()
     ensures survives { (first new : Contents B.Piece) (events : List (Event B.Piece))

@@ -13,6 +13,7 @@ use Rattle.cc_runs.specs.World.{Size}
 use Rattle.cc_runs.specs.Tracks.{TracksForAll}
 use Rattle.cc_linear.specs.Linear.{labels, IsItem, IsLinear, linear_move, linear_output, linear_start}
 use Rattle.cc_ltl.specs.Ltl.{IsLtl}
+use Rattle.cc_validate.specs.Pair as validated
 use Rattle.cc_linear.specs.Pair as above
 use Rattle.cc_linear.specs.Pair.{most_blocks}
 use Rattle.cc_emit.specs.Contract.{IsPiece}
@@ -80,6 +81,6 @@ items_do p limits linear keeps meaning is layout in_order =
     subst (λ (b : ℕ → ℕ). IsPiece meaning layout p.function (framed_items b frame ss)) base piece
 
 -- with what `LinearPair::code` and `ltl` say of a pair, and the limits of its unit
-pub piece_of : (p : above.Pair) → IsLtl p.ltl → length p.ltl.blocks ≤ most_blocks → IsTyped (above.tree_of p) → IsWithinLimits (above.tree_of p) → p.function < length (functions (above.tree_of p)) → IsLinear p.ltl.slots (length (functions (above.tree_of p))) p.code → above.KeepsUp (above.tree_of p) p.function p.ltl.slots p.code
+pub piece_of : (p : above.Pair) → IsLtl p.ltl → length p.ltl.blocks ≤ most_blocks → validated.KeepsUp (above.tree_of p) p.function p.ltl → IsTyped (above.tree_of p) → IsWithinLimits (above.tree_of p) → p.function < length (functions (above.tree_of p)) → IsLinear p.ltl.slots (length (functions (above.tree_of p))) p.code → above.KeepsUp (above.tree_of p) p.function p.ltl.slots p.code
     → IsPieceOfUnit (record { unit = p.unit; function = p.function; ltl = p.ltl; items = pair_items p })
-piece_of p is_ltl few typed limits lt linear keeps = record { typed = typed; function = lt; ltl = is_ltl; few = few; items = items_do p limits linear keeps }
+piece_of p is_ltl few ltl_keeps typed limits lt linear keeps = record { typed = typed; function = lt; ltl = is_ltl; few = few; ltl_keeps_up = ltl_keeps; items = items_do p limits linear keeps }

@@ -4,6 +4,7 @@ ghost use Rattle.std.specs.Prelude.{◌≡◌, ◌<◌, ◌≤◌, length};
 ghost use Rattle.std.specs.Arc.{arc_value};
 ghost use Rattle.cc_semantics.specs.Meaning.{functions};
 ghost use Rattle.cc_ltl.specs.Ltl.{IsLtl};
+ghost use Rattle.cc_validate.specs.Pair as validated;
 ghost use Rattle.cc_linear.specs.Pair.{most_blocks};
 ghost use Rattle.cc_emit.specs.Piece.{Piece as Shown, tree_of, IsPieceOfUnit};
 
@@ -79,11 +80,12 @@ impl Piece {
         self.function
     }
 
-    /// The LTL that its code was made of: at most 4,096 blocks.
+    /// The LTL that its code was made of: at most 4,096 blocks, whose run keeps up with the function.
     pub fn ltl(&self) -> &Ltl
         ensures ltl { result.now ≡ self.now.ltl }
         ensures is_ltl { IsLtl self.now.ltl }
         ensures few { length self.now.ltl.blocks ≤ most_blocks }
+        ensures keeps_up { validated.KeepsUp (tree_of self.now) self.now.function self.now.ltl }
     {
         &self.ltl
     }

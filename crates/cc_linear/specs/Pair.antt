@@ -12,6 +12,7 @@ use Rattle.cc_runs.specs.Run.{run}
 use Rattle.cc_runs.specs.Meaning.{Meaning, most_open, IsCall, call_effect, answered}
 use Rattle.cc_runs.specs.Tracks.{TracksForAll}
 use Rattle.cc_ltl.specs.Ltl.{Ltl, IsLtl}
+use Rattle.cc_validate.specs.Pair as validated
 use Rattle.cc_linear.specs.declared.item.Item.{Item}
 use Rattle.cc_linear.specs.Linear.{IsLinear, linear_move, linear_output, linear_start}
 
@@ -47,5 +48,6 @@ pub record IsPair (p : Pair) : Type 0 where
   pub function : p.function < length (functions (tree_of p))
   pub ltl : IsLtl p.ltl
   pub few : length p.ltl.blocks ≤ most_blocks
+  pub ltl_keeps_up : validated.KeepsUp (tree_of p) p.function p.ltl
   pub linear : IsLinear p.ltl.slots (length (functions (tree_of p))) p.code
   pub keeps_up : KeepsUp (tree_of p) p.function p.ltl.slots p.code

@@ -6,6 +6,7 @@ ghost use Rattle.cc_semantics.specs.Meaning.{functions};
 ghost use Rattle.cc_typing.specs.Typed.{IsTyped};
 ghost use Rattle.cc_linear.specs.Linear.{IsLinear};
 ghost use Rattle.cc_ltl.specs.Ltl.{IsLtl};
+ghost use Rattle.cc_validate.specs.Pair as validated;
 ghost use Rattle.cc_linear.specs.Pair.{Pair, tree_of, most_blocks, KeepsUp, FollowsFunction, IsPair};
 
 use crate::item::Item;
@@ -81,11 +82,12 @@ impl LinearPair {
         self.ltl.slots()
     }
 
-    /// The LTL that was laid out: at most 4,096 blocks.
+    /// The LTL that was laid out: at most 4,096 blocks, whose run keeps up with the function.
     pub fn ltl(&self) -> &Ltl
         ensures ltl { result.now ≡ self.now.ltl }
         ensures is_ltl { IsLtl self.now.ltl }
         ensures few { length self.now.ltl.blocks ≤ most_blocks }
+        ensures keeps_up { validated.KeepsUp (tree_of self.now) self.now.function self.now.ltl }
     {
         &self.ltl
     }

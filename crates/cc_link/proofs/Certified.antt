@@ -1,25 +1,31 @@
--- The certificate of a unit that was made spells the LTL of each function.
-use Rattle.std.proofs.Common.{◌≡◌, ℕ, suc, ◌+◌, ◌<◌, ◌≤◌, List, [], ◌∷◌, ◌++◌, length, get_or, drop, Result, Ok, Err, refl, sym, ap, ◌∙◌, subst, arith, append_assoc}
+-- The certificate of a unit that was made spells the LTL of each function, whose run keeps up with it: a piece's type keeps so of its own
+-- unit, and all pieces are of one text, which has one tree.
+use Rattle.std.proofs.Common.{◌≡◌, ℕ, zero, suc, ◌+◌, ◌<◌, ◌≤◌, List, [], ◌∷◌, ◌++◌, length, get_or, slice_get, drop, Option, Some, None, Result, Ok, Err, refl, sym, ap, ◌∙◌, subst, arith, append_assoc}
+use Rattle.std.proofs.Math.Logic.{∥∥₁_elim, ∥∥₁_map, ∥∥₁_prop}
 use Rattle.std.proofs.lemmas.List.{drop_more, length-map}
 use Rattle.std.proofs.lemmas.List.Elements.{All-head, All-tail}
 use Rattle.std.specs.Borrow.{Bor}
 use Rattle.std.specs.Prelude.{All, if◌then◌else◌}
 use Rattle.std.specs.Result.{OnOk, is_ok}
 use Rattle.std.specs.List.{AllByRecursion, flat_map}
+use Rattle.cc_tokens.specs.Tokens.{TokensAreOne}
+use Rattle.cc_syntax.specs.Tree.{External}
+use Rattle.cc_syntax.specs.Limits.{TreesAreOne}
 use Rattle.cc_syntax.specs.Parse.{SpellsText}
 use Rattle.cc_semantics.specs.Meaning.{functions}
 use Rattle.cc_unit.specs.declared.unit.StoredUnit.{StoredUnit}
 use Rattle.cc_ltl.specs.Bytes.{word_bytes, ltl_bytes}
 use Rattle.cc_ltl.specs.Ltl.{Ltl, IsLtl}
+use Rattle.cc_validate.specs.Pair.{KeepsUp}
 use Rattle.cc_linear.specs.Pair.{most_blocks}
-use Rattle.cc_emit.specs.Piece.{Piece}
-use Rattle.cc_link.specs.Certificate.{IsToldLtl, ltl_field}
+use Rattle.cc_emit.specs.Piece.{Piece, tree_of}
+use Rattle.cc_link.specs.Certificate.{IsToldLtl, EachKeepsUp, ltl_field}
 use Rattle.cc_link.specs.Laws.{MadeUnitsAreCertified}
-use Rattle.cc_link.specs.Linked.{stranger, doubled, missing, ordered, all_ltl, certified, link_refusal, lent_pieces, unit_of}
+use Rattle.cc_link.specs.Linked.{stranger, doubled, missing, in_order, ordered, all_ltl, certified, link_refusal, lent_pieces, unit_of}
 use Rattle.cc_link.specs.Made.{IsCompiled}
 use Rattle.cc_link.proofs.Deciding.{defined_long}
 use Rattle.cc_link.proofs.Few.{few_functions}
-use Rattle.cc_link.proofs.Linked.{EachFrom, none_or, not_refused, order_long, ordered_each}
+use Rattle.cc_link.proofs.Linked.{AreOfTree, EachFrom, none_or, not_refused, one_text, one_tree, order_long, ordered_each}
 use Rattle.cc_link.proofs.Short.{ltl_short}
 
 -- what a piece's type keeps of its LTL
@@ -34,8 +40,32 @@ all_told : (from : ℕ) (ps : List Piece) → EachFrom HasLtl from ps → AllByR
 all_told from [] h = tt
 all_told from (p ∷ ps) h = ((h.1.0, ltl_short p.ltl h.1.0 h.1.1), all_told (suc from) ps h.2)
 
-pub made_certified : MadeUnitsAreCertified
-made_certified u m =
+-- what a piece of a unit with this tree keeps of its LTL's run
+abbrev Keeps : List External → Piece → Type 0
+Keeps tree p = (tree_of p ≡ tree) × KeepsUp (tree_of p) p.function p.ltl
+
+each_keeps : (tree : List External) (ps : List Piece) → AreOfTree tree ps → All IsCompiled ps → AllByRecursion (Keeps tree) ps
+each_keeps tree [] t k = tt
+each_keeps tree (p ∷ ps) t k = ((t.0, (All-head IsCompiled p ps k).of_unit.ltl_keeps_up), each_keeps tree ps t.1 (All-tail IsCompiled p ps k))
+
+keeps_at : (tree : List External) (from : ℕ) (ps : List Piece) → EachFrom (Keeps tree) from ps → (f : ℕ) (l : Ltl) → slice_get (all_ltl ps) f ≡ Some l → KeepsUp tree (from + f) l
+keeps_at tree from [] h f l e = absurd (let d : ◌≡◌ {A = Option Ltl} None (Some l) = e in cc)
+keeps_at tree from (p ∷ ps) h zero l e =
+    let same : p.ltl ≡ l = let d : ◌≡◌ {A = Option Ltl} (Some p.ltl) (Some l) = e in cc in
+    let here : p.function ≡ from + 0 = h.0 ∙ omega arith in
+    subst (λ (m : Ltl). KeepsUp tree (from + 0) m) same (subst (λ g. KeepsUp tree g p.ltl) here (subst (λ (u : List External). KeepsUp u p.function p.ltl) h.1.0 h.1.1))
+keeps_at tree from (p ∷ ps) h (suc f) l e =
+    let here : suc from + f ≡ from + suc f = omega arith in
+    subst (λ g. KeepsUp tree g l) here (keeps_at tree (suc from) ps h.2 f l e)
+
+-- those of the first pieces of all functions
+all_keep : (tree : List External) (ps : List Piece) → AreOfTree tree ps → All IsCompiled ps → (n : ℕ) → missing ps 0 n ≡ None → EachKeepsUp tree (all_ltl (in_order ps 0 n))
+all_keep tree ps t k n e f l at =
+    let here : 0 + f ≡ f = omega arith in
+    subst (λ g. KeepsUp tree g l) here (keeps_at tree 0 (in_order ps 0 n) (ordered_each (Keeps tree) ps (each_keeps tree ps t k) 0 n e) f l at)
+
+pub made_certified : TokensAreOne → TreesAreOne → MadeUnitsAreCertified
+made_certified tokens trees u m =
     let s = m.of in
     let ps = m.pieces in
     let n = length (functions s.externals) in
@@ -56,6 +86,8 @@ made_certified u m =
         told = all_told 0 (ordered s.externals ps) (ordered_each HasLtl ps (have_ltl ps m.compiled) 0 n c.0);
         spelled = refl;
       };
+      keep_up = ∥∥₁_elim m.spelled ∥∥₁_prop (λ (h : SpellsText s.text s.externals).
+          ∥∥₁_map (one_tree tokens trees s.text s.externals h ps (one_text s.text 0 ps a.0)) (λ (t : AreOfTree s.externals ps). all_keep s.externals ps t m.compiled n c.0));
     }
 
 -- ---- the code

@@ -1,12 +1,10 @@
 -- What is confirmed of a unit that was made again, and is the stored one.
-use Rattle.std.proofs.Common.{◌≡◌, ℕ, List, length, Option, Some, sym, ap, ◌∙◌, subst}
+use Rattle.std.proofs.Common.{◌≡◌, ℕ, List, Option, Some, sym, ap, ◌∙◌, subst}
 use Rattle.cc_syntax.specs.Parse.{SpellsText}
-use Rattle.cc_semantics.specs.Meaning.{functions}
 use Rattle.cc_rv32.specs.declared.image.Image.{Image}
 use Rattle.cc_unit.specs.declared.unit.StoredUnit.{StoredUnit}
 use Rattle.cc_link.specs.Agree.{Agree}
 use Rattle.cc_link.specs.Audit.{IsConfirmed}
-use Rattle.cc_link.specs.Certificate.{SpellsAll}
 use Rattle.cc_link.specs.Laws.{MadeUnitsAreCertified}
 use Rattle.cc_link.specs.Made.{IsMade}
 
@@ -21,6 +19,13 @@ confirmed law u text bytes image e agrees made =
       tree = it.tree;
       spelled = subst (λ (t : List ℕ). ∥ SpellsText t it.tree ∥₁) (ap (λ (v : StoredUnit). v.source) e) it.spelled;
       agrees = subst (λ (v : StoredUnit). Agree v.source v.image) e agrees;
-      spells = subst (λ (b : List ℕ). SpellsAll b (length (functions it.tree))) own it.spells;
+      spells = record {
+        ltls = it.spells.ltls;
+        count = it.spells.count;
+        few = it.spells.few;
+        told = it.spells.told;
+        spelled = sym own ∙ it.spells.spelled;
+      };
+      keep_up = it.keep_up;
       made = subst IsMade e made;
     }

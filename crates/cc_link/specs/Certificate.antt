@@ -1,9 +1,11 @@
 -- The certificate of a unit: how many functions it has, and the LTL of each, in the order of definitions, behind its length. Numbers are
 -- four bytes, the lowest first.
-use Rattle.std.specs.Prelude.{ℕ, ◌≡◌, ◌<◌, ◌^◌, List, ◌++◌, length}
+use Rattle.std.specs.Prelude.{ℕ, ◌≡◌, ◌<◌, ◌^◌, List, ◌++◌, length, slice_get, Some}
 use Rattle.std.specs.List.{AllByRecursion, flat_map}
 use Rattle.cc_ltl.specs.Ltl.{Ltl, IsLtl}
 use Rattle.cc_ltl.specs.Bytes.{word_bytes, ltl_bytes}
+use Rattle.cc_syntax.specs.Tree.{External}
+use Rattle.cc_validate.specs.Pair.{KeepsUp}
 
 -- how many bytes the LTL of a function takes, and these
 abbrev pub ltl_field : Ltl → List ℕ
@@ -24,3 +26,7 @@ pub record SpellsAll (bytes : List ℕ) (functions : ℕ) : Type 0 where
   pub few : functions < 2 ^ 32
   pub told : AllByRecursion IsToldLtl ltls
   pub spelled : bytes ≡ certificate_of ltls
+
+-- the run of each of these functions of LTL keeps up with the function of the unit that has its number
+abbrev pub EachKeepsUp : List External → List Ltl → Type 0
+EachKeepsUp unit ltls = (f : ℕ) (ltl : Ltl) → slice_get ltls f ≡ Some ltl → KeepsUp unit f ltl

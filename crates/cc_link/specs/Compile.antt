@@ -1,5 +1,5 @@
 -- Why a function has no piece, and why a text has no image.
-use Rattle.std.specs.Prelude.{◌≡◌, ℕ, ◌<◌, ◌⊎◌, List, length, slice_get, Option, Some, None}
+use Rattle.std.specs.Prelude.{◌≡◌, ℕ, ◌<◌, ◌⊎◌, List, length, slice_get, All, Option, Some, None, Err}
 use Rattle.cc_tokens.specs.declared.place.Place.{Place}
 use Rattle.cc_tokens.specs.Fault as tokens
 use Rattle.cc_syntax.specs.Tree.{Name, External}
@@ -15,7 +15,9 @@ use Rattle.cc_typing.specs.Verdict.{source_with}
 use Rattle.cc_semantics.specs.Meaning.{functions}
 use Rattle.cc_emit.specs.Piece as emit
 use Rattle.cc_link.specs.Fault.{link_fault_number}
+use Rattle.cc_link.specs.Linked.{linked}
 use Rattle.cc_link.specs.Made.{IsCompiled}
+use Rattle.cc_link.specs.Pieces.{AreFrom}
 use Rattle.cc_link.specs.declared.fault.LinkFault.TheVariants as link
 use Rattle.cc_link.specs.declared.piece_fault.PieceFault.{PieceFault}
 use Rattle.cc_link.specs.declared.piece_fault.PieceFault.TheVariants as piece
@@ -70,8 +72,9 @@ pub record IsRefusedTree (text : List ℕ) (fault : TypeFault) : Type 0 where
   pub spelled : SpellsText text tree
   pub refused : IsTypeRefusal (source_with text tree) fault
 
--- the text is a program's, and this function of it has no piece, for this reason
-pub record HasNoPiece (text : List ℕ) (function : ℕ) (fault : PieceFault) : Type 0 where
+-- the text is a program's, and the fault names this function of it: one of more than 256 tokens for 22, any for 24, where nothing says that
+-- it has no piece
+pub record IsBlamed (text : List ℕ) (function : ℕ) (fault : PieceFault) : Type 0 where
   pub tree : List External
   pub is : IsProgramText text tree
   pub defined : function < length (functions tree)
@@ -84,16 +87,26 @@ pub record HasPiece (text : List ℕ) (function : ℕ) : Type 0 where
   pub text_is : (source piece.unit).text ≡ text
   pub function_is : piece.function ≡ function
 
--- the text is a program's; one of its functions has no piece, and each function before it, in the order of their definitions, has one
+-- the text is a program's; the fault names one of its functions, and each function before it, in the order of their definitions, has a piece
 pub record IsFirstWithout (text : List ℕ) (fault : PieceFault) : Type 0 where
   pub function : ℕ
-  pub none : HasNoPiece text function fault
+  pub none : IsBlamed text function fault
   pub earlier : (f : ℕ) → f < function → HasPiece text f
 
+-- one piece of each function of a program, in their order, with what their types keep; together they make an image that is too large
+pub record IsTooLarge (text : List ℕ) : Type 0 where
+  pub tree : List External
+  pub is : IsProgramText text tree
+  pub pieces : List emit.Piece
+  pub compiled : All IsCompiled pieces
+  pub own : AreFrom text 0 pieces
+  pub count : length pieces ≡ length (functions tree)
+  pub refused : linked (source_with text tree) pieces ≡ Err link.ImageTooLarge
+
 -- 1 to 7 and 11 to 21 exactly as `parse` and `check` have them, 40 set aside. Only a program has another fault: that of the first function
--- without a piece; or that its pieces make no image. Of linking's refusals this is 25 alone, and `link` says of which pieces.
+-- without a piece; or, of linking's refusals, 25 alone, where pieces of all functions are refused so.
 abbrev pub IsBuildRefusal : List ℕ → BuildFault → Type 0
 IsBuildRefusal text (Syntax f) = IsParseRefusal text f
 IsBuildRefusal text (Typing f) = (f ≡ typing.OutOfMemory) ⊎ IsRefusedTree text f
 IsBuildRefusal text (Piece f) = IsFirstWithout text f
-IsBuildRefusal text (Link f) = (f ≡ link.OutOfMemory) ⊎ ((f ≡ link.ImageTooLarge) × ((tree : List External) × IsProgramText text tree))
+IsBuildRefusal text (Link f) = (f ≡ link.OutOfMemory) ⊎ ((f ≡ link.ImageTooLarge) × IsTooLarge text)

@@ -1,6 +1,6 @@
 //! From a text to a compiled unit, on one thread.
 
-ghost use Rattle.std.specs.Prelude.{◌≡◌, ◌<◌, ℕ, List, length, IfOk, IfErr};
+ghost use Rattle.std.specs.Prelude.{◌≡◌, ◌<◌, ℕ, List, length, All, IfOk, IfErr};
 ghost use Rattle.std.specs.Arc.{arc_value};
 ghost use Rattle.cc_syntax.specs.Source.{source};
 ghost use Rattle.cc_syntax.specs.Tree.{External};
@@ -8,6 +8,7 @@ ghost use Rattle.cc_syntax.specs.Parse.{SpellsText};
 ghost use Rattle.cc_semantics.specs.Meaning.{functions};
 ghost use Rattle.cc_link.specs.Agree.{Agree};
 ghost use Rattle.cc_link.specs.Compile.{IsProgramText, IsPieceRefusal, IsBuildRefusal, HasPiece};
+ghost use Rattle.cc_link.specs.Made.{IsCompiled};
 ghost use Rattle.cc_link.specs.Pieces.{AreFrom};
 
 use crate::build_fault::BuildFault;
@@ -26,6 +27,7 @@ use std::sync::Arc;
 fn pieces(alloc: Global, unit: &Arc<TypedUnit>) -> Result<Vec<Piece>, PieceFault>
     ensures count { IfOk result (λ pieces. length pieces.items ≡ length (functions (source (arc_value unit.now)).externals)) }
     ensures own { IfOk result (λ pieces. AreFrom (source (arc_value unit.now)).text 0 pieces.items) }
+    ensures compiled { IfOk result (λ pieces. All IsCompiled pieces.items) }
     // The fault is that of the first function without a piece.
     ensures refused { IfErr result (λ fault. (f : ℕ) × (f < length (functions (source (arc_value unit.now)).externals)) × IsPieceRefusal (source (arc_value unit.now)).externals f fault
         × ((g : ℕ) → g < f → HasPiece (source (arc_value unit.now)).text g)) }

@@ -36,10 +36,13 @@ pub fn linked_units_agree()
     unit_laws();
 }
 
-/// A unit that pieces link to has a certificate, which spells one function of LTL for each function of its source.
+/// A unit that pieces link to has a certificate, which spells one function of LTL for each function of its source, whose run keeps up
+/// with that function.
 pub fn made_units_are_certified()
     ensures { MadeUnitsAreCertified }
-{}
+{
+    unit_laws();
+}
 
 /// A text that had a typed unit before there were arrays of `unsigned char` has it now, and its program does what it did; an image that
 /// agreed with the text agrees with it, and none agrees with a text without the word `char` that did not.

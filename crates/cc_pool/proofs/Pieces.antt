@@ -1,19 +1,35 @@
 -- Pieces of a text, from one function on.
-use Rattle.std.proofs.Common.{◌≡◌, ℕ, suc, ◌+◌, ◌≤◌, List, [], ◌∷◌, ◌++◌, length, arith}
+use Rattle.std.proofs.Common.{◌≡◌, ℕ, suc, ◌+◌, ◌<◌, ◌≤◌, inl, inr, List, [], ◌∷◌, ◌++◌, length, sym, subst, ◌∙◌, arith}
 use Rattle.std.specs.Prelude.{All}
-use Rattle.std.proofs.lemmas.List.Elements.{All-nil, All-cons}
+use Rattle.std.proofs.lemmas.Bool.{cases_lt}
+use Rattle.std.proofs.lemmas.List.Elements.{All-head, All-tail}
 use Rattle.cc_syntax.specs.Source.{source}
 use Rattle.cc_emit.specs.Piece.{Piece}
 use Rattle.cc_link.specs.Pieces.{AreFrom}
-use Rattle.cc_pool.specs.Answers.{IsNotOf}
+use Rattle.cc_link.specs.Compile.{HasPiece}
+use Rattle.cc_link.specs.Made.{IsCompiled}
+use Rattle.cc_pool.specs.Fault.{IsJobRefusal, IsRefusedAt}
+use Rattle.cc_pool.specs.internal.Reason.{IsReason}
+use Rattle.cc_pool.specs.declared.fault.PoolFault.{PoolFault}
+use Rattle.cc_pool.specs.declared.fault.PoolFault.TheVariants as fault
 
 -- one piece more
 pub one_from : (text : List ℕ) (from : ℕ) (ps : List Piece) (p : Piece) → AreFrom text from ps → (source p.unit).text ≡ text → p.function ≡ from + length ps → AreFrom text from (ps ++ p ∷ [])
 one_from text from [] p own whose which = (whose, omega (arith, which), tt)
 one_from text from (q ∷ ps) p own whose which = (own.0, own.1, one_from text (suc from) ps p own.2 whose (omega (arith, which)))
 
--- none is of the function behind them
-pub none_behind : (text : List ℕ) (from function : ℕ) (ps : List Piece) → AreFrom text from ps → from + length ps ≤ function → All (IsNotOf text function) ps
-none_behind text from function [] own le = All-nil (IsNotOf text function)
-none_behind text from function (p ∷ ps) own le =
-    All-cons (IsNotOf text function) p ps (λ whose which. let w = which in let o = own.1 in absurd (omega (arith, w, o, le))) (none_behind text (suc from) function ps own.2 (omega (arith, le)))
+-- so there is one of each function before the end
+has_piece : (text : List ℕ) (from g : ℕ) (ps : List Piece) → AreFrom text from ps → All IsCompiled ps → from ≤ g → g < from + length ps → HasPiece text g
+has_piece text from g [] own all low high = absurd (omega arith)
+has_piece text from g (p ∷ ps) own all low high =
+    elim (cases_lt from g) [
+      | inl lt ↦ has_piece text (suc from) g ps own.2 (All-tail IsCompiled p ps all) lt (omega (arith, high))
+      | inr le ↦ record { piece = p; compiled = All-head IsCompiled p ps all; text_is = own.0; function_is = own.1 ∙ omega (arith, low, le) }
+    ]
+
+-- the reason of the function behind them is that of the first function that has none
+pub refusal_of : (text : List ℕ) (function : ℕ) (ps : List Piece) (fault : PoolFault) → AreFrom text 0 ps → All IsCompiled ps → length ps ≡ function → IsReason text function fault → IsJobRefusal text fault
+refusal_of text function ps (fault.Piece f why) own compiled count reason =
+    (subst (λ (n : ℕ). IsRefusedAt text n why) (sym reason.0) reason.1, λ g less. has_piece text 0 g ps own compiled (omega arith) (omega (arith, less, reason.0, count)))
+refusal_of text function ps fault.WorkersGone own compiled count reason = tt
+refusal_of text function ps fault.OutOfMemory own compiled count reason = tt

@@ -4,7 +4,7 @@ pub mod Job
 pub mod Shared
 -- why a job has no pieces
 pub mod Fault
--- what workers answer, and what that tells
+-- what contracts see of a worker's refusal
 pub mod Answers
 -- which queue it is
 pub mod Queue

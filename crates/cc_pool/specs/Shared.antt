@@ -30,12 +30,12 @@ abbrev pub sent_by : List Lists → List Item
 sent_by [] = []
 sent_by (p ∷ ps) = p.sent ++ sent_by ps
 
--- the pass's list grew by the first functions of some job, this many at most
-pub record HasSentSome (before after : Lists) (most : ℕ) : Type 0 where
+-- the list grew by the first functions of one job, each once and in the order of their definitions, this many at most, and by nothing else
+pub record HasSentSome (before after : List Item) (most : ℕ) : Type 0 where
   pub job : ℕ
   pub count : ℕ
   pub within : count ≤ most
-  pub sent : after.sent ≡ before.sent ++ pieces_of job count
+  pub sent : after ≡ before ++ pieces_of job count
 
 -- What was sent in all is a word to stop for each worker and what the passes have sent. It is what was taken in all: each item once
 pub record IsDrained (workers : ℕ) (passes : List Lists) (all : Lists) : Type 0 where

@@ -22,7 +22,7 @@ pub enum Answer {
     Refused(Refusal),
 }
 
-/// A function that has no piece, for another reason than lack of memory. Contracts see its text, its number and the reason.
+/// A function that a worker refused, for another reason than lack of memory. Contracts see its text, its number and the reason.
 pub struct Refusal {
     unit: Arc<TypedUnit>,
     function: usize,
@@ -44,9 +44,9 @@ impl Model for Refusal {
     ghost use Rattle.std.specs.Arc.{arc_value};
     ghost use Rattle.cc_syntax.specs.Source.{source};
     ghost use Rattle.cc_pool.specs.Fault.{IsRefusedAt};
-    ghost use Rattle.cc_pool.specs.Answers.{NoPiece};
+    ghost use Rattle.cc_pool.specs.Answers.{FunctionRefusal};
 
-    ghost Value = { NoPiece };
+    ghost Value = { FunctionRefusal };
 
     ghost view = { λ r. record { text = (source (arc_value r.unit)).text; function = r.function; fault = r.fault } };
 

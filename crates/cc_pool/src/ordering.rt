@@ -3,16 +3,16 @@
 //! A plain channel says nothing of which job a message is from. So an answer is told by its text, compared when it runs, and its
 //! function's number: what another text's answer may be stays out.
 
-ghost use Rattle.std.specs.Prelude.{◌≡◌, ◌<◌, List, [], ◌∷◌, ◌++◌, length, All, HoldsAt, IsPermutation, IfOk, IfErr, IfSome, IfNone};
+ghost use Rattle.std.specs.Prelude.{◌≡◌, ◌<◌, length, All, HoldsAt, IfOk, IfErr, IfSome};
+ghost use Rattle.cc_link.specs.Made.{IsCompiled};
 ghost use Rattle.cc_link.specs.Pieces.{AreFrom};
-ghost use Rattle.cc_pool.specs.Answers.{NoPiece, IsToldBy, IsNotOf};
 ghost use Rattle.cc_pool.specs.Fault.{IsJobRefusal};
-ghost use Rattle.cc_pool.specs.internal.Least.{IsLeastOf, IsOf};
+ghost use Rattle.cc_pool.specs.internal.Reason.{IsOf, IsReason};
 
 use crate::answer::{Answer, Refusal};
 use crate::fault::PoolFault;
 use cc_emit::Piece;
-use cc_link::PieceFault;
+use cc_typing::TypedUnit;
 use crossbeam_channel::Receiver;
 use std::alloc::{AllocError, Global};
 use std::sync::Wait;
@@ -43,45 +43,25 @@ pub(crate) fn gather<R: Wait>(
     Ok(Came { pieces, refusals })
 }
 
-// The least function of a text that was refused, with the reason, once one more refusal is looked at.
-fn with_one(
-    text: &[u8],
-    least: Option<(usize, PieceFault)>,
-    refusal: &Refusal,
-) -> Option<(usize, PieceFault)>
-    ensures { (rs : List NoPiece) → IsLeastOf text.now rs least → IsLeastOf text.now (rs ++ refusal.now ∷ []) result }
+// What is told of a function of which no piece came: the reason that came for it, else 41.
+fn reason(text: &[u8], function: usize, refusals: &[Refusal]) -> PoolFault
+    ensures { IsReason text.now function result }
 {
-    let (at, why) = (refusal.function(), refusal.fault());
-    if refusal.text() != text {
-        return least;
-    }
-    match least {
-        None => Some((at, why)),
-        Some((function, fault)) => {
-            if function <= at {
-                return Some((function, fault));
-            }
-            Some((at, why))
+    for refusal in refusals {
+        if refusal.function() == function && refusal.text() == text {
+            return PoolFault::Piece {
+                function,
+                fault: refusal.fault(),
+            };
         }
     }
-}
-
-// The least function of a text that was refused, with the reason.
-fn least_refused(text: &[u8], refusals: &[Refusal]) -> Option<(usize, PieceFault)>
-    ensures { IsLeastOf text.now refusals.now result }
-{
-    let mut least: Option<(usize, PieceFault)> = None;
-    for refusal in refusals {
-        least = with_one(text, least, refusal);
-    }
-    least
+    PoolFault::WorkersGone
 }
 
 // Where the piece of a function of a text stands.
 fn place_of(pieces: &[Piece], text: &[u8], function: usize) -> Option<usize>
     ensures within { IfSome result (λ at. at < length pieces.now) }
     ensures some { IfSome result (λ at. HoldsAt (IsOf text.now function) pieces.now at) }
-    ensures none { IfNone result (All (IsNotOf text.now function) pieces.now) }
 {
     for at in 0..pieces.len() {
         if pieces[at].function() == function && pieces[at].unit().text() == text {
@@ -93,16 +73,13 @@ fn place_of(pieces: &[Piece], text: &[u8], function: usize) -> Option<usize>
 
 // The piece of a function of a text, taken out.
 fn piece_of(pieces: &mut Vec<Piece>, text: &[u8], function: usize) -> Option<Piece>
-    ensures answer { IfSome result (IsOf text.now function) }
-    ensures left { IfSome result (λ piece. IsPermutation pieces.old.items (piece ∷ pieces.new.items)) }
-    ensures none { IfNone result ((pieces.new.items ≡ pieces.old.items) × All (IsNotOf text.now function) pieces.old.items) }
+    ensures { IfSome result (IsOf text.now function) }
 {
     let at = place_of(pieces.as_slice(), text, function)?;
     Some(pieces.swap_remove(at))
 }
 
-// The pieces of this many functions of a text, in their order; or the fault of the least that was refused; or 41, where an answer is
-// missing and none is a refusal.
+// The pieces of this many functions of a text, in their order. Else what is told of the first function of which none came.
 pub(crate) fn in_order(
     alloc: Global,
     text: &[u8],
@@ -111,24 +88,24 @@ pub(crate) fn in_order(
 ) -> Result<Vec<Piece>, PoolFault>
     ensures count { IfOk result (λ pieces. length pieces.items ≡ functions) }
     ensures own { IfOk result (λ pieces. AreFrom text.now 0 pieces.items) }
+    ensures compiled { IfOk result (λ pieces. All IsCompiled pieces.items) }
     ensures refused { IfErr result (λ fault. IsJobRefusal text.now fault) }
-    ensures told { IfErr result (λ fault. IsToldBy text.now functions came.pieces.items came.refusals.items fault) }
 {
     let Came {
         pieces: mut made,
         refusals,
     } = came;
-    if let Some((function, fault)) = least_refused(text, refusals.as_slice()) {
-        return Err(PoolFault::Piece { function, fault });
-    }
     let mut pieces = Vec::new(alloc);
     for function in 0..functions {
-        if pieces.reserve(1).is_err() {
+        let Some(piece) = piece_of(&mut made, text, function) else {
+            return Err(reason(text, function, refusals.as_slice()));
+        };
+        // What its type and that of its unit keep.
+        let _kept = piece.items();
+        let other: &TypedUnit = piece.unit();
+        let _externals = other.externals();
+        if pieces.push(piece).is_err() {
             return Err(PoolFault::OutOfMemory);
-        }
-        match piece_of(&mut made, text, function) {
-            Some(piece) => pieces.push_reserved(piece),
-            None => return Err(PoolFault::WorkersGone),
         }
     }
     Ok(pieces)

@@ -1,13 +1,13 @@
 //! The pool.
 
-ghost use Rattle.std.specs.Prelude.{◌≡◌, ◌≤◌, ◌++◌, [], length, IfOk, IfErr, OnOk, OnErr};
+ghost use Rattle.std.specs.Prelude.{◌≡◌, ◌≤◌, ◌++◌, [], length, All, IfOk, IfErr, OnOk};
 ghost use Rattle.std.specs.Arc.{arc_value};
 ghost use Rattle.cc_syntax.specs.Source.{source};
 ghost use Rattle.cc_typing.specs.Typed.{defined_names};
+ghost use Rattle.cc_link.specs.Made.{IsCompiled};
 ghost use Rattle.cc_link.specs.Pieces.{AreFrom};
-ghost use Rattle.cc_pool.specs.Answers.{IsTold};
 ghost use Rattle.cc_pool.specs.Fault.{IsJobRefusal};
-ghost use Rattle.cc_pool.specs.Shared.{Lists, pieces_of, HasSentSome, IsDrained};
+ghost use Rattle.cc_pool.specs.Shared.{pieces_of, HasSentSome, IsDrained};
 
 use crate::answer::Answer;
 use crate::ends::{Ends, Fresh};
@@ -27,7 +27,7 @@ use std::sync::atomic::{AtomicU64, Ordering};
 use std::sync::{Arc, Mutex, Wait};
 use std::thread::Threads;
 
-/// Workers that compile the functions of units. Contracts see how many there are.
+/// Workers that compile the functions of units. Contracts see the pool's own number of workers, by which `finish` counts.
 pub struct Pool<N: Queued> {
     ends: Ends<N>,
     own: Mutex<Own<N>>,
@@ -58,9 +58,10 @@ impl<N: Queued> Model for Pool<N> {
 }
 
 impl<N: Queued + Send + Sync + 'static> Pool<N> {
-    /// Starts this many workers, which pass the gate before each piece. Each has a stack of 8 MiB.
+    /// Starts this many workers, which pass the gate before each piece. Each has a stack of 8 MiB. Promised is the pool's own number of
+    /// workers, by which `finish` counts.
     ///
-    /// Refusals: 40; 41 where a thread could not be started. None of the workers is left then.
+    /// Refusals: 40; 41 where a thread could not be started. The workers that were started have been told to stop then.
     pub fn start<R, G>(
         rt: &R,
         alloc: Global,
@@ -108,7 +109,8 @@ impl<N: Queued + Send + Sync + 'static> Pool<N> {
     /// Hands in a unit: an item for each of its functions, in the order of their definitions and with the job's number, goes behind what
     /// the pass has sent. It waits while the queue is full.
     ///
-    /// Refusals: 40; 41 where the queue is closed or 2^64 - 1 jobs were handed in. Some of the items may have gone then, the first ones.
+    /// Refusals: 40; 41 where the queue is closed or 2^64 - 1 jobs were handed in. Some of the items may have gone then: the first ones,
+    /// of one job, and nothing else.
     pub fn submit<R: Wait>(
         &self,
         rt: &R,
@@ -119,7 +121,7 @@ impl<N: Queued + Send + Sync + 'static> Pool<N> {
         ensures text { IfOk result (λ t. t.text ≡ (source (arc_value unit)).text) }
         ensures functions { IfOk result (λ t. t.functions ≡ length (defined_names (source (arc_value unit)))) }
         ensures sent { IfOk result (λ t. pass.new.sent ≡ pass.old.sent ++ pieces_of t.number t.functions) }
-        ensures leaves { OnErr result (HasSentSome pass.old pass.new (length (defined_names (source (arc_value unit))))) }
+        ensures some { HasSentSome pass.old.sent pass.new.sent (length (defined_names (source (arc_value unit)))) }
         ensures taken { pass.new.taken ≡ pass.old.taken }
     {
         let Some(job) = self.next_number() else {
@@ -150,7 +152,7 @@ impl<N: Queued + Send + Sync + 'static> Pool<N> {
         answer: &Sender<Answer>,
     ) -> Result<(), PoolFault>
         ensures ok { OnOk result (pass.new.sent ≡ pass.old.sent ++ pieces_of job (length (defined_names (source (arc_value unit.now))))) }
-        ensures err { OnErr result (HasSentSome pass.old pass.new (length (defined_names (source (arc_value unit.now))))) }
+        ensures some { HasSentSome pass.old.sent pass.new.sent (length (defined_names (source (arc_value unit.now)))) }
         ensures taken { pass.new.taken ≡ pass.old.taken }
     {
         let _externals = unit.externals();
@@ -166,10 +168,11 @@ impl<N: Queued + Send + Sync + 'static> Pool<N> {
         Ok(())
     }
 
-    /// Waits for the pieces of a job: one of each function, in the order of their definitions. While memory is short the pieces that came
-    /// are let go.
+    /// Waits for the pieces of a job: one compiled piece of its text for each function, in the order of their definitions. While memory
+    /// is short the pieces that came are let go.
     ///
-    /// Refusals: 22 or 24 of the least function that was refused; 41 where none was and a piece is missing; 40.
+    /// Refusals, of the first function of which no piece came: 22 or 24 where a worker refused it, else 41; 40. Each function before that
+    /// of a 22 or 24 has a piece. For 22 its definition is too long; no clause says that a function of 24 has no piece.
     pub fn collect<R: Wait>(
         &self,
         rt: &R,
@@ -178,17 +181,18 @@ impl<N: Queued + Send + Sync + 'static> Pool<N> {
     ) -> Result<Vec<Piece>, PoolFault>
         ensures count { IfOk result (λ pieces. length pieces.items ≡ ticket.functions) }
         ensures own { IfOk result (λ pieces. AreFrom ticket.text 0 pieces.items) }
+        ensures compiled { IfOk result (λ pieces. All IsCompiled pieces.items) }
         ensures refused { IfErr result (λ fault. IsJobRefusal ticket.text fault) }
-        ensures told { IfErr result (λ fault. IsTold ticket.text ticket.functions fault) }
     {
         ticket.collect(rt, alloc)
     }
 
-    /// Ends the workers, once they have made all pieces that stand on the queue, and takes in all passes: what was sent is what was taken,
-    /// each item once, and the queue is empty.
+    /// Ends the pool: sends each worker the word to stop, behind all that was sent, waits until the workers have handed their passes back,
+    /// and takes in these and the passes given. All that was sent, by these passes and to stop the workers, was taken, each item once, so
+    /// none is left on the queue.
     ///
-    /// Refusals: 41 where the passes are not all that were made, or the workers ended with pieces left.
-    pub fn drain<R: Wait>(self, rt: &R, passes: Vec<Pass<N>>) -> Result<Drained<N>, PoolFault>
+    /// Refusals: 41 where the passes are not all that were made, or an item is left.
+    pub fn finish<R: Wait>(self, rt: &R, passes: Vec<Pass<N>>) -> Result<Drained<N>, PoolFault>
         ensures { IfOk result (λ all. IsDrained self passes.items all) }
     {
         let Pool {
@@ -209,16 +213,6 @@ impl<N: Queued + Send + Sync + 'static> Pool<N> {
         match ends.try_take(rt, &mut seat) {
             Some(_) => Err(PoolFault::WorkersGone),
             None => Ok(Drained::new(seat)),
-        }
-    }
-
-    /// Ends the pool, as `drain` does.
-    pub fn finish<R: Wait>(self, rt: &R, passes: Vec<Pass<N>>) -> Result<(), PoolFault>
-        ensures { IfOk result (λ _. (all : Lists) × IsDrained self passes.items all) }
-    {
-        match self.drain(rt, passes) {
-            Ok(_) => Ok(()),
-            Err(fault) => Err(fault),
         }
     }
 }

@@ -1,11 +1,11 @@
 //! A job that was handed in.
 
-ghost use Rattle.std.specs.Prelude.{◌≡◌, length, IfOk, IfErr};
+ghost use Rattle.std.specs.Prelude.{◌≡◌, length, All, IfOk, IfErr};
 ghost use Rattle.std.specs.Arc.{arc_value};
 ghost use Rattle.cc_syntax.specs.Source.{source};
 ghost use Rattle.cc_typing.specs.Typed.{defined_names};
+ghost use Rattle.cc_link.specs.Made.{IsCompiled};
 ghost use Rattle.cc_link.specs.Pieces.{AreFrom};
-ghost use Rattle.cc_pool.specs.Answers.{IsTold};
 ghost use Rattle.cc_pool.specs.Fault.{IsJobRefusal};
 
 use crate::answer::Answer;
@@ -61,7 +61,7 @@ impl Ticket {
         }
     }
 
-    /// The job's number: from 0 in the order in which a pool was handed its jobs.
+    /// The job's number, which its items on the queue have. A pool counts its jobs from 0 as they are handed in; no clause says so.
     pub fn number(&self) -> u64
         ensures { result ≡ self.now.number }
     {
@@ -72,8 +72,8 @@ impl Ticket {
     pub(crate) fn collect<R: Wait>(self, rt: &R, alloc: Global) -> Result<Vec<Piece>, PoolFault>
         ensures count { IfOk result (λ pieces. length pieces.items ≡ self.functions) }
         ensures own { IfOk result (λ pieces. AreFrom self.text 0 pieces.items) }
+        ensures compiled { IfOk result (λ pieces. All IsCompiled pieces.items) }
         ensures refused { IfErr result (λ fault. IsJobRefusal self.text fault) }
-        ensures told { IfErr result (λ fault. IsTold self.text self.functions fault) }
     {
         let Ticket {
             number: _,

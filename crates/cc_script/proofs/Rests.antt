@@ -4,11 +4,14 @@ use Rattle.std.proofs.lemmas.List.{drop_more, take-append-le}
 use Rattle.std.proofs.lemmas.Grind.{common_steps}
 use Rattle.std.specs.Prelude.{All, slice_index, slice_range}
 use Rattle.std.specs.Io.KnownBytes.{Consumes, IsAtEnd, Keeps}
+use Rattle.std.proofs.KnownBytes.{Consumes-kept}
 use Rattle.std.specs.Prelude.{IfSome, if◌then◌else◌, set}
 use Rattle.std.proofs.lemmas.Bool.{false≢true}
 use Rattle.std.proofs.lemmas.List.{length-append, length-take, length-take-le, take_more_set}
 use Rattle.std.proofs.lemmas.List.Elements.{All-push}
-use Rattle.cc_script.specs.Reading.{Between, HasFewer, IsLine, IsNext, IsSource, rest_from}
+use Rattle.cc_script.specs.Reading.{Ahead, HasFewer, IsLine, IsLineEnd, IsNext, IsNoSource, IsNotRead, IsRead, IsSource, Known, rest_from}
+use Rattle.cc_script.specs.declared.fault.ScriptFault.{ScriptFault}
+use Rattle.cc_script.specs.declared.fault.ScriptFault.TheVariants.{BadLine, EndOfScript, ScriptTooLong, ReadFault, WriteFault}
 use Rattle.cc_script.specs.declared.script.Next.TheVariants.{TooLong}
 
 -- a range begins with its first byte
@@ -44,23 +47,95 @@ pub consumed_none : (before : Option (List ℕ)) → Consumes before before []
 consumed_none None = tt
 consumed_none (Some bytes) = refl
 
+-- bytes at the end
+pub consumed_last : (before between after : Option (List ℕ)) (bytes : List ℕ) → Consumes before between bytes → Keeps between after → Consumes before after bytes
+consumed_last before between after bytes one two = Consumes-kept before between after bytes one two
+
+-- ---- what was read
+
+some_bytes : (before bytes after : List ℕ) → before ≡ bytes ++ after → 0 < length bytes → before ≢ []
+some_bytes before bytes after is some = λ none.
+    let n = length-append bytes after in
+    let m = ap (λ (l : List ℕ). length l) is in
+    let o = ap (λ (l : List ℕ). length l) none in
+    omega (arith, n, m, o, some)
+
+-- these bytes were handed out
+pub read_of : (before after : Option (List ℕ)) (n m : ℕ) (bytes : List ℕ) (Holds : List ℕ → List ℕ → Type 0) → Consumes before after bytes → m + length bytes ≡ n
+    → ((b a : List ℕ) → b ≡ bytes ++ a → Holds b a) → Known before after (IsRead n m Holds)
+read_of None after n m bytes Holds one count holds = tt
+read_of (Some b) None n m bytes Holds one count holds = one
+read_of (Some b) (Some a) n m bytes Holds one count holds = record { taken = bytes; prefix = one; counted = count; holds = holds b a one }
+
+-- and there are no more
+pub read_all : (before after : Option (List ℕ)) (n m : ℕ) (bytes : List ℕ) (Holds : List ℕ → List ℕ → Type 0) → Consumes before after bytes → IsAtEnd after → m + length bytes ≡ n
+    → ((b a : List ℕ) → b ≡ bytes → a ≡ [] → Holds b a) → Known before after (IsRead n m Holds)
+read_all None after n m bytes Holds one over count holds = tt
+read_all (Some b) None n m bytes Holds one over count holds = one
+read_all (Some b) (Some a) n m bytes Holds one over count holds =
+    record { taken = bytes; prefix = one; counted = count; holds = holds b a (one ∙ (ap (λ (l : List ℕ). bytes ++ l) over ∙ append-nil bytes)) over }
+
 -- a line, and its newline
-pub line_with_newline : (before between after : Option (List ℕ)) (line : List ℕ) → All (λ byte. byte ≢ 10) line
-    → Consumes before between line → Consumes between after (10 ∷ []) → Between before after (λ b a. IsLine b line a)
-line_with_newline None between after line plain one two = tt
-line_with_newline (Some bytes) None after line plain one two = absurd one
-line_with_newline (Some bytes) (Some rest) None line plain one two = absurd two
-line_with_newline (Some bytes) (Some rest) (Some later) line plain one two =
-    record { plain = plain; ends = inl (one ∙ ap (λ (l : List ℕ). line ++ l) two) }
+pub line_with_newline : (before between after : Option (List ℕ)) (n k m : ℕ) (line : List ℕ) (Holds : List ℕ → List ℕ → Type 0) → All (λ byte. byte ≢ 10) line
+    → Consumes before between line → k + length line ≡ n → Consumes between after (10 ∷ []) → m + 1 ≡ k
+    → ((b a : List ℕ) → b ≢ [] → IsLine b line a → Holds b a) → Known before after (IsRead n m Holds)
+line_with_newline before between after n k m line Holds plain one count two next holds =
+    let whole = length-append line (10 ∷ []) in
+    read_of before after n m (line ++ 10 ∷ []) Holds (consumed_on before between after line (10 ∷ []) one two) (omega (arith, count, next, whole))
+    (λ b a is. holds b a (some_bytes b (line ++ 10 ∷ []) a is (omega (arith, whole))) (record { plain = plain; ends = inl (is ∙ append_assoc line (10 ∷ []) a) }))
 
 -- a line, and the end
-pub line_at_end : (before between after : Option (List ℕ)) (line : List ℕ) → All (λ byte. byte ≢ 10) line
-    → Consumes before between line → Keeps between after → IsAtEnd after → Between before after (λ b a. IsLine b line a)
-line_at_end None between after line plain one two over = tt
-line_at_end (Some bytes) None after line plain one two over = absurd one
-line_at_end (Some bytes) (Some rest) None line plain one two over = absurd two
-line_at_end (Some bytes) (Some rest) (Some later) line plain one two over =
-    record { plain = plain; ends = inr (one ∙ (ap (λ (l : List ℕ). line ++ l) (sym two ∙ over) ∙ append-nil line), over) }
+pub line_at_end : (before between after : Option (List ℕ)) (n k m : ℕ) (line : List ℕ) (Holds : List ℕ → List ℕ → Type 0) → All (λ byte. byte ≢ 10) line
+    → Consumes before between line → k + length line ≡ n → Keeps between after × IsAtEnd after × (m ≡ k)
+    → ((b a : List ℕ) → (0 < length line → b ≢ []) → IsLine b line a → Holds b a) → Known before after (IsRead n m Holds)
+line_at_end before between after n k m line Holds plain one count over holds =
+    read_all before after n m line Holds (consumed_last before between after line one over.0) over.1 (omega (arith, count, over.2))
+    (λ b a is none. holds b a (some_bytes b line [] (is ∙ sym (append-nil line))) (record { plain = plain; ends = inr (is, none) }))
+
+-- the end
+pub at_end : (before after : Option (List ℕ)) (n m : ℕ) (Holds : List ℕ → List ℕ → Type 0) → Keeps before after × IsAtEnd after × (m ≡ n)
+    → ((b a : List ℕ) → b ≡ [] → a ≡ [] → Holds b a) → Known before after (IsRead n m Holds)
+at_end before after n m Holds over holds =
+    read_all before after n m [] Holds (consumed_last before before after [] (consumed_none before) over.0) over.1 (omega (arith, over.2)) holds
+
+-- ---- why nothing more was read
+
+-- a byte is there, of which no more may be handed out
+pub more_there : (before : Option (List ℕ)) (held : List ℕ) (is_over : Bool) (remaining : Option (List ℕ)) (left : ℕ) → left ≡ 0 → 0 < length held
+    → Keeps before (rest_from held is_over remaining) → IfSome before (λ bytes. left < length bytes)
+more_there None held is_over remaining left none some kept = tt
+more_there (Some b) held true remaining left none some kept = let n = ap (λ (l : List ℕ). length l) kept in omega (arith, n, none, some)
+more_there (Some b) held false None left none some kept = absurd kept
+more_there (Some b) held false (Some later) left none some kept =
+    let n = ap (λ (l : List ℕ). length l) kept in
+    let m = length-append held later in
+    omega (arith, n, m, none, some)
+
+-- and so it was before bytes were handed out
+more_before : (before between : Option (List ℕ)) (n k : ℕ) (bytes : List ℕ) → Consumes before between bytes → k + length bytes ≡ n
+    → IfSome between (λ rest. k < length rest) → IfSome before (λ all. n < length all)
+more_before None between n k bytes one count more = tt
+more_before (Some b) None n k bytes one count more = absurd one
+more_before (Some b) (Some a) n k bytes one count more =
+    let l = ap (λ (l : List ℕ). length l) one in
+    let m = length-append bytes a in
+    omega (arith, l, m, count, more)
+
+pub not_read : (before between : Ahead) (bytes : List ℕ) (left : ℕ) (fault : ScriptFault) → Consumes before.rest between.rest bytes → between.left + length bytes ≡ before.left
+    → IsNotRead between left fault → IsNotRead before left fault
+not_read before between bytes left BadLine one count why = absurd why
+not_read before between bytes left EndOfScript one count why = absurd why
+not_read before between bytes left ScriptTooLong one count why = (why.0, more_before before.rest between.rest before.left between.left bytes one count why.1)
+not_read before between bytes left ReadFault one count why = tt
+not_read before between bytes left WriteFault one count why = absurd why
+
+pub no_source : (before between : Ahead) (bytes : List ℕ) (wanted left : ℕ) (fault : ScriptFault) → Consumes before.rest between.rest bytes → between.left + length bytes ≡ before.left
+    → IsNotRead between left fault → IsNoSource before wanted left fault
+no_source before between bytes wanted left BadLine one count why = absurd why
+no_source before between bytes wanted left EndOfScript one count why = absurd why
+no_source before between bytes wanted left ScriptTooLong one count why = not_read before between bytes left ScriptTooLong one count why
+no_source before between bytes wanted left ReadFault one count why = tt
+no_source before between bytes wanted left WriteFault one count why = absurd why
 
 -- at the end no more than these were left
 pub fewer_left : (before between after : Option (List ℕ)) (bytes : List ℕ) (count : ℕ) → Consumes before between bytes → Keeps between after → IsAtEnd after
@@ -91,17 +166,13 @@ pub length_one_more : (prefix : List ℕ) (byte n : ℕ) → length prefix ≡ n
 length_one_more prefix byte n same = length-append prefix (byte ∷ []) ∙ ap (λ (k : ℕ). k + 1) same
 
 -- one byte more than a line may have
-pub too_long : (before between after : Option (List ℕ)) (line : List ℕ) (byte : ℕ) → length line ≡ 128 → All (λ b. b ≢ 10) (take 128 line) → byte ≢ 10
-    → Consumes before between (take 128 line) → Consumes between after (byte ∷ []) → (other : List ℕ) → Between before after (λ b a. IsNext b TooLong other a)
-too_long None between after line byte whole plain different one two other = tt
-too_long (Some bytes) None after line byte whole plain different one two other = absurd one
-too_long (Some bytes) (Some rest) None line byte whole plain different one two other = absurd two
-too_long (Some bytes) (Some rest) (Some later) line byte whole plain different one two other = (
-  take 128 line ++ byte ∷ [],
-  consumed_on (Some bytes) (Some rest) (Some later) (take 128 line) (byte ∷ []) one two,
-  length_one_more (take 128 line) byte 128 (length-take-le 128 line (omega (arith, whole))),
-  All-push (λ b. b ≢ 10) (take 128 line) byte plain different,
-)
+pub too_long : (before between after : Option (List ℕ)) (n k m : ℕ) (line : List ℕ) (byte : ℕ) → length line ≡ 128 → All (λ b. b ≢ 10) (take 128 line) → byte ≢ 10
+    → Consumes before between (take 128 line) → k + 128 ≡ n → Consumes between after (byte ∷ []) → m + 1 ≡ k → (other : List ℕ)
+    → Known before after (IsRead n m (λ b a. IsNext b TooLong other a))
+too_long before between after n k m line byte whole plain different one count two next other =
+    let long = length_one_more (take 128 line) byte 128 (length-take-le 128 line (omega (arith, whole))) in
+    read_of before after n m (take 128 line ++ byte ∷ []) (λ b a. IsNext b TooLong other a) (consumed_on before between after (take 128 line) (byte ∷ []) one two)
+    (omega (arith, count, next, long)) (λ b a is. (take 128 line ++ byte ∷ [], is, long, All-push (λ b. b ≢ 10) (take 128 line) byte plain different))
 
 -- what is kept of a source with one byte more: the byte too, as long as there was room for it and there are fewer than it may have
 pub kept_next : (pushed : Bool) (now items bytes : List ℕ) (byte : ℕ) → pushed ≡ true → now ≡ (if pushed then items ++ byte ∷ [] else items) → items ≡ take 65537 bytes
@@ -111,8 +182,12 @@ kept_next true now items bytes byte done is same few =
     is ∙ (ap (λ (l : List ℕ). l ++ byte ∷ []) (same ∙ take_all 65537 bytes (omega (arith, few))) ∙ sym (kept_more bytes byte few))
 
 -- a source that was read
-pub source_read : (before after : Option (List ℕ)) (source : List ℕ) (count : ℕ) (kept : Option (List ℕ)) → Consumes before after source → length source ≡ count
-    → IfSome kept (λ bytes. bytes ≡ take 65537 source) → Between before after (λ b a. IsSource b count kept a)
-source_read None after source count kept one same it = tt
-source_read (Some bytes) None source count kept one same it = one
-source_read (Some bytes) (Some rest) source count kept one same it = record { source = source; prefix = one; count_is = same; kept_is = it }
+pub source_read : (before after : Option (List ℕ)) (n m : ℕ) (source : List ℕ) (count : ℕ) (kept : Option (List ℕ)) → Consumes before after source → m + count ≡ n → length source ≡ count
+    → IfSome kept (λ bytes. bytes ≡ take 65537 source) → Known before after (IsRead n m (λ b a. IsSource b count kept a))
+source_read before after n m source count kept one left same it =
+    read_of before after n m source (λ b a. IsSource b count kept a) one (omega (arith, left, same)) (λ b a is. record { source = source; prefix = is; count_is = same; kept_is = it })
+
+-- a byte that ends no line
+pub other_byte : (before after : Option (List ℕ)) (n m byte : ℕ) → byte ≢ 10 → Consumes before after (byte ∷ []) → m + 1 ≡ n → Known before after (IsRead n m (λ b a. IsLineEnd b false a))
+other_byte before after n m byte other one count =
+    read_of before after n m (byte ∷ []) (λ b a. IsLineEnd b false a) one count (λ b a is. (byte, other, is))

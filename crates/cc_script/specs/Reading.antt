@@ -1,5 +1,5 @@
 -- What comes next in a script.
-use Rattle.std.specs.Prelude.{ℕ, ◌≡◌, ◌≤◌, ◌≢◌, ◌⊎◌, ◌<◌, Bool, true, false, List, [], ◌∷◌, ◌++◌, Option, Some, None, IfSome, All, length, take}
+use Rattle.std.specs.Prelude.{ℕ, ◌+◌, ◌≡◌, ◌≤◌, ◌≢◌, ◌⊎◌, ◌<◌, Bool, true, false, List, [], ◌∷◌, ◌++◌, Option, Some, None, IfSome, All, length, take}
 use Rattle.std.specs.Io.KnownBytes.{prepend_known}
 use Rattle.cc_script.specs.declared.script.Next.{Next}
 use Rattle.cc_script.specs.declared.script.Next.TheVariants.{Line, TooLong, End}
@@ -18,22 +18,6 @@ IsWithinLine (Line length) = length ≤ 128
 IsWithinLine TooLong = Unit {0}
 IsWithinLine End = Unit {0}
 
--- why nothing comes: 52 where the script has had all the bytes that it may have, 53
-abbrev pub IsNotRead : (left : ℕ) → ScriptFault → Type 0
-IsNotRead left ScriptTooLong = left ≡ 0
-IsNotRead left ReadFault = Unit {0}
-IsNotRead left BadLine = ⊥
-IsNotRead left EndOfScript = ⊥
-IsNotRead left WriteFault = ⊥
-
--- so for a source, and 51
-abbrev pub IsNoSource : (left : ℕ) → ScriptFault → Type 0
-IsNoSource left EndOfScript = Unit {0}
-IsNoSource left ScriptTooLong = IsNotRead left ScriptTooLong
-IsNoSource left ReadFault = IsNotRead left ReadFault
-IsNoSource left BadLine = ⊥
-IsNoSource left WriteFault = ⊥
-
 -- ---- the bytes, where it is known which the reader gives
 
 -- What is left of a script: what was read and not handed out, then what the reader will give, as long as that was not at its end.
@@ -41,23 +25,40 @@ abbrev pub rest_from : (held : List ℕ) (is_over : Bool) (remaining : Option (L
 rest_from held true remaining = Some held
 rest_from held false remaining = prepend_known held remaining
 
-abbrev pub rest_of : ScriptView → (remaining : Option (List ℕ)) → Option (List ℕ)
-rest_of script remaining = rest_from script.held script.is_over remaining
+-- What is ahead in a script: what is left of it, where that is known, and how many bytes more it may have.
+pub record Ahead : Type 0 where
+  pub rest : Option (List ℕ)
+  pub left : ℕ
+
+abbrev pub ahead_of : ScriptView → (remaining : Option (List ℕ)) → Ahead
+ahead_of script remaining = record { rest = rest_from script.held script.is_over remaining; left = script.left }
 
 -- this holds of what is left before and after, where that is known
-abbrev pub Between : (before after : Option (List ℕ)) → (Holds : List ℕ → List ℕ → Type 0) → Type 0
-Between None after Holds = Unit {0}
-Between (Some before) None Holds = ⊥
-Between (Some before) (Some after) Holds = Holds before after
+abbrev pub Known : (before after : Option (List ℕ)) → (Holds : List ℕ → List ℕ → Type 0) → Type 0
+Known None after Holds = Unit {0}
+Known (Some before) None Holds = ⊥
+Known (Some before) (Some after) Holds = Holds before after
+
+-- The bytes that were handed out stood before the rest, the script may have as many fewer, and this holds of what was left before and is left
+-- after.
+pub record IsRead (may_have may_still : ℕ) (Holds : List ℕ → List ℕ → Type 0) (before after : List ℕ) : Type 0 where
+  pub taken : List ℕ
+  pub prefix : before ≡ taken ++ after
+  pub counted : may_still + length taken ≡ may_have
+  pub holds : Holds before after
+
+-- so of what is ahead before and after
+abbrev pub Between : (before after : Ahead) → (Holds : List ℕ → List ℕ → Type 0) → Type 0
+Between before after Holds = Known before.rest after.rest (IsRead before.left after.left Holds)
 
 -- a line without a newline, which is followed by one, or by the end
 pub record IsLine (before line after : List ℕ) : Type 0 where
   pub plain : All (λ byte. byte ≢ 10) line
   pub ends : (before ≡ line ++ 10 ∷ after) ⊎ ((before ≡ line) × (after ≡ []))
 
--- what comes next: a line; the first 129 bytes of a longer one; the end
+-- what comes next: a line, where a byte is left; the first 129 bytes of a longer one; the end
 abbrev pub IsNext : (before : List ℕ) → Next → (line after : List ℕ) → Type 0
-IsNext before (Line length) line after = IsLine before (take length line) after
+IsNext before (Line length) line after = (before ≢ []) × IsLine before (take length line) after
 IsNext before TooLong line after = (prefix : List ℕ) × (before ≡ prefix ++ after) × (length prefix ≡ 129) × All (λ byte. byte ≢ 10) prefix
 IsNext before End line after = before ≡ []
 
@@ -73,7 +74,28 @@ abbrev pub IsLineEnd : (before : List ℕ) → Bool → (after : List ℕ) → T
 IsLineEnd before true after = IsLine before [] after
 IsLineEnd before false after = (byte : ℕ) × (byte ≢ 10) × (before ≡ byte ∷ after)
 
+-- ---- why nothing comes
+
 -- fewer bytes than this many are left
-abbrev pub HasFewer : (before : Option (List ℕ)) → (count : ℕ) → Type 0
-HasFewer None count = Unit {0}
-HasFewer (Some before) count = length before < count
+abbrev pub HasFewer : (rest : Option (List ℕ)) → (count : ℕ) → Type 0
+HasFewer rest count = IfSome rest (λ bytes. length bytes < count)
+
+-- more bytes are left than the script may have
+abbrev pub HasMore : Ahead → Type 0
+HasMore ahead = IfSome ahead.rest (λ bytes. ahead.left < length bytes)
+
+-- 52, where the script has had all the bytes that it may have, and has more; 53
+abbrev pub IsNotRead : (before : Ahead) → (left : ℕ) → ScriptFault → Type 0
+IsNotRead before left ScriptTooLong = (left ≡ 0) × HasMore before
+IsNotRead before left ReadFault = Unit {0}
+IsNotRead before left BadLine = ⊥
+IsNotRead before left EndOfScript = ⊥
+IsNotRead before left WriteFault = ⊥
+
+-- so for a source of this many bytes; and 51, where fewer are left
+abbrev pub IsNoSource : (before : Ahead) → (count left : ℕ) → ScriptFault → Type 0
+IsNoSource before count left EndOfScript = HasFewer before.rest count
+IsNoSource before count left ScriptTooLong = IsNotRead before left ScriptTooLong
+IsNoSource before count left ReadFault = IsNotRead before left ReadFault
+IsNoSource before count left BadLine = ⊥
+IsNoSource before count left WriteFault = ⊥

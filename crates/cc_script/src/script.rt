@@ -2,8 +2,8 @@
 
 ghost use Rattle.std.specs.Prelude.{◌≡◌, ◌≤◌, ◌<◌, ◌+◌, ℕ, List, [], length, true, false, IfErr, IfOk, IfSome, OnOk, min, vec_len};
 ghost use Rattle.std.specs.Option.{option_map};
-ghost use Rattle.cc_script.specs.declared.fault.ScriptFault.TheVariants.{EndOfScript, ReadFault};
-ghost use Rattle.cc_script.specs.Reading.{Between, HasFewer, IsLine, IsLineEnd, IsNext, IsNotRead, IsNoSource, IsSource, IsWithinLine, rest_of};
+ghost use Rattle.cc_script.specs.declared.fault.ScriptFault.TheVariants.{ReadFault};
+ghost use Rattle.cc_script.specs.Reading.{Between, IsLine, IsLineEnd, IsNext, IsNotRead, IsNoSource, IsSource, IsWithinLine, ahead_of};
 ghost use Rattle.cc_script.specs.internal.Bytes.{IsNextByte};
 ghost use Rattle.std.specs.Io.KnownBytes.{IsAtEnd, Keeps};
 
@@ -75,9 +75,9 @@ impl Script {
         ensures filled { IfOk result (λ is_more. is_more ≡ true → 0 < length self.new.held) }
         ensures left { self.new.left ≡ self.old.left }
         ensures refused { IfErr result (λ fault. fault ≡ ReadFault) }
-        ensures bytes { OnOk result (Keeps (rest_of self.old (R.remaining reader.old))
-            (rest_of self.new (R.remaining reader.new))) }
-        ensures over { IfOk result (λ is_more. is_more ≡ false → IsAtEnd (rest_of self.new (R.remaining reader.new))) }
+        ensures bytes { OnOk result (Keeps (ahead_of self.old (R.remaining reader.old)).rest
+            (ahead_of self.new (R.remaining reader.new)).rest) }
+        ensures over { IfOk result (λ is_more. is_more ≡ false → IsAtEnd (ahead_of self.new (R.remaining reader.new)).rest) }
     {
         if self.next < self.end {
             return Ok(true);
@@ -96,10 +96,9 @@ impl Script {
 
     // The next byte, or none at the end.
     fn byte<R: Read>(&mut self, reader: &mut R) -> Result<Option<u8>, ScriptFault>
-        ensures counted { IfOk result (λ next. IfSome next (λ byte. self.new.left + 1 ≡ self.old.left)) }
-        ensures bytes { IfOk result (λ next. IsNextByte (rest_of self.old (R.remaining reader.old)) next
-            (rest_of self.new (R.remaining reader.new))) }
-        ensures refused { IfErr result (λ fault. IsNotRead self.new.left fault) }
+        ensures bytes { IfOk result (λ next. IsNextByte (ahead_of self.old (R.remaining reader.old)) next
+            (ahead_of self.new (R.remaining reader.new))) }
+        ensures refused { IfErr result (IsNotRead (ahead_of self.old (R.remaining reader.old)) self.new.left) }
     {
         if !self.fill(reader)? {
             return Ok(None);
@@ -122,9 +121,9 @@ impl Script {
         line: &mut [u8; LINE_BYTES],
     ) -> Result<Next, ScriptFault>
         ensures within { IfOk result IsWithinLine }
-        ensures bytes { IfOk result (λ next. Between (rest_of self.old (R.remaining reader.old))
-            (rest_of self.new (R.remaining reader.new)) (λ before after. IsNext before next line.new after)) }
-        ensures refused { IfErr result (λ fault. IsNotRead self.new.left fault) }
+        ensures bytes { IfOk result (λ next. Between (ahead_of self.old (R.remaining reader.old))
+            (ahead_of self.new (R.remaining reader.new)) (λ before after. IsNext before next line.new after)) }
+        ensures refused { IfErr result (IsNotRead (ahead_of self.old (R.remaining reader.old)) self.new.left) }
     {
         for length in 0..LINE_BYTES {
             match self.byte(reader)? {
@@ -143,9 +142,9 @@ impl Script {
     ///
     /// 52 and 53 as for a line.
     pub fn skip_line<R: Read>(&mut self, reader: &mut R) -> Result<(), ScriptFault>
-        ensures bytes { OnOk result (Between (rest_of self.old (R.remaining reader.old))
-            (rest_of self.new (R.remaining reader.new)) (λ before after. (rest : List ℕ) × IsLine before rest after)) }
-        ensures refused { IfErr result (λ fault. IsNotRead self.new.left fault) }
+        ensures bytes { OnOk result (Between (ahead_of self.old (R.remaining reader.old))
+            (ahead_of self.new (R.remaining reader.new)) (λ before after. (rest : List ℕ) × IsLine before rest after)) }
+        ensures refused { IfErr result (IsNotRead (ahead_of self.old (R.remaining reader.old)) self.new.left) }
     {
         while let Some(byte) = self.byte(reader)? {
             if byte == b'\n' {
@@ -167,10 +166,9 @@ impl Script {
     ) -> Result<Option<Vec<u8>>, ScriptFault>
         ensures kept { IfOk result (λ source. IfSome source (λ bytes. vec_len bytes ≡ min length 65537)) }
         ensures counted { OnOk result (self.new.left + length ≡ self.old.left) }
-        ensures bytes { IfOk result (λ source. Between (rest_of self.old (R.remaining reader.old))
-            (rest_of self.new (R.remaining reader.new)) (λ before after. IsSource before length (option_map (λ bytes. bytes.items) source) after)) }
-        ensures ended { IfErr result (λ fault. fault ≡ EndOfScript → HasFewer (rest_of self.old (R.remaining reader.old)) length) }
-        ensures refused { IfErr result (λ fault. IsNoSource self.new.left fault) }
+        ensures bytes { IfOk result (λ source. Between (ahead_of self.old (R.remaining reader.old))
+            (ahead_of self.new (R.remaining reader.new)) (λ before after. IsSource before length (option_map (λ bytes. bytes.items) source) after)) }
+        ensures refused { IfErr result (IsNoSource (ahead_of self.old (R.remaining reader.old)) length self.new.left) }
     {
         let mut source = Vec::new(alloc);
         let mut is_kept = true;
@@ -189,9 +187,9 @@ impl Script {
     ///
     /// 52 and 53 as for a line.
     pub fn is_at_line_end<R: Read>(&mut self, reader: &mut R) -> Result<bool, ScriptFault>
-        ensures bytes { IfOk result (λ is_ended. Between (rest_of self.old (R.remaining reader.old))
-            (rest_of self.new (R.remaining reader.new)) (λ before after. IsLineEnd before is_ended after)) }
-        ensures refused { IfErr result (λ fault. IsNotRead self.new.left fault) }
+        ensures bytes { IfOk result (λ is_ended. Between (ahead_of self.old (R.remaining reader.old))
+            (ahead_of self.new (R.remaining reader.new)) (λ before after. IsLineEnd before is_ended after)) }
+        ensures refused { IfErr result (IsNotRead (ahead_of self.old (R.remaining reader.old)) self.new.left) }
     {
         match self.byte(reader)? {
             None | Some(b'\n') => Ok(true),

@@ -1,12 +1,14 @@
 -- Clients and who they are, place by place.
-use Rattle.std.proofs.Common.{◌≡◌, ◌≢◌, ◌⊎◌, inl, inr, ◌==◌, ℕ, Bool, true, false, List, length, Option, Some, None, refl, sym, ap, ◌∙◌}
+use Rattle.std.proofs.Common.{◌≡◌, ◌≢◌, ◌⊎◌, inl, inr, ◌==◌, ℕ, ◌<◌, Bool, true, false, List, length, Option, Some, None, refl, sym, ap, ◌∙◌, arith}
 use Rattle.std.proofs.lemmas.Bool.{eq-eqb, eqb-true}
 use Rattle.std.proofs.lemmas.List.{length-map}
 use Rattle.std.specs.Prelude.{slice_get}
 use Rattle.std.specs.Option.{option_map}
 use Rattle.std.proofs.lemmas.Option.{slice_get-map}
-use Rattle.cc_history.specs.Closing.{AreApart}
+use Rattle.cc_history.specs.declared.entry.Entry.{Entry}
+use Rattle.cc_history.specs.Closing.{AreApart, AreOwn, ReceiptsStand, receipts_of}
 use Rattle.cc_history.specs.History.{Holder}
+use Rattle.cc_history.proofs.Closings.{at_most}
 use Rattle.cc_service.specs.Client.{ClientView, holders}
 use Rattle.cc_service.specs.internal.Apart.{HaveOwnNumbers}
 
@@ -34,6 +36,15 @@ apart clients own i j one other at at' same =
 
 pub own_numbers : (clients : List ClientView) → AreApart (holders clients) → HaveOwnNumbers clients
 own_numbers clients apart i j one other at at' same = apart i j one.holder other.holder (holder_at clients i one at) (holder_at clients j other at') same
+
+-- clients of which two have one number are not apart
+pub not_apart : (clients : List ClientView) → (HaveOwnNumbers clients → ⊥) → ¬ AreApart (holders clients)
+not_apart clients none apart = none (own_numbers clients apart)
+
+-- all receipts stand, and are not as many as the entries: so the history has more
+pub more_entries : (history : List Entry) (clients : List Holder) → AreOwn clients → AreApart clients → ReceiptsStand history clients → receipts_of clients ≢ length history
+    → receipts_of clients < length history
+more_entries history clients own apart stand differ = omega (arith, at_most history clients own apart stand, differ)
 
 -- these are not all: not as many, or not apart
 pub not_all : (clients : List ClientView) (made : ℕ) → (length clients ≡ made → HaveOwnNumbers clients → ⊥) → (length (holders clients) ≢ made) ⊎ (¬ AreApart (holders clients))

@@ -1,5 +1,5 @@
 -- The core's theorem, at the state that a book shows.
-use Rattle.std.proofs.Common.{◌≡◌, ℕ, zero, suc, inl, inr, List, [], ◌∷◌, ◌++◌, take, Some, None, refl, sym, ap, subst, ◌∙◌, append_assoc}
+use Rattle.std.proofs.Common.{◌≡◌, ◌⊎◌, ℕ, zero, suc, inl, inr, List, [], ◌∷◌, ◌++◌, take, Some, None, refl, sym, ap, subst, ◌∙◌, append_assoc}
 use Rattle.std.specs.Prelude.{slice_get}
 use Rattle.std.proofs.lemmas.List.{map-append}
 use Rattle.cc_library.specs.declared.command.Command as made
@@ -17,7 +17,7 @@ use Rattle.cc_history.specs.History.{EachAgrees, HaveAgreed, Replays, units_afte
 use Rattle.cc_history.specs.History.{changes}
 use Rattle.cc_service.specs.Book.{AllAgreed, BookView, HasAgreedUnit, chronicle_of}
 use Rattle.cc_build.specs.Compiling.{is_right}
-use Rattle.cc_service.specs.Promise.{SurvivesCrash}
+use Rattle.cc_service.specs.Promise.{HoldsPrefix, SurvivesCrash}
 use Rattle.cc_service.specs.Since.{HoldsFrom}
 use Rattle.cc_service.specs.Tie.{IsTied}
 
@@ -72,3 +72,14 @@ held_agrees law stays book replays agreed failed entries image library (inr (c, 
     subst (λ (u : Units). EachUnit (IsRightOr is_right book.base) u) (sym replays.units) (each_right book.base (units_after book.base book.history) (law book.base book.history agreed)) in
     subst (λ (u : Units). EachUnit (IsRightOr is_right book.base) u) (sym (alone.alone library recovers))
     (stays book.base book.library.units c map (right_change book.base c one))
+
+-- each unit of the map is the base's, or was compiled
+pub map_agrees : {D : Type 0} → ((base : Units) (history : List Entry) → HaveAgreed history → EachAgrees base (units_after base history)) → (book : BookView D) → Replays (chronicle_of book) → HaveAgreed book.history
+    → EachAgrees book.base book.library.units
+map_agrees law book replays agreed = subst (λ (u : Units). EachAgrees book.base u) (sym replays.units) (law book.base book.history agreed)
+
+-- what holds a prefix of the calls, with its units
+pub or_prefix : {D : Type 0} (book : BookView D) (left : List ℕ → Type 0) (image : List ℕ)
+    → ((library : Units) → HoldsFrom book 0 image → Recovers image library → EachUnit (IsRightOr is_right book.base) library) → left image ⊎ HoldsFrom book 0 image → left image ⊎ HoldsPrefix book image
+or_prefix book left image right (inl early) = inl early
+or_prefix book left image right (inr held) = inr (record { holds = held; right = λ library recovers. right library held recovers })

@@ -14,7 +14,8 @@ use Rattle.cc_history.specs.declared.entry.Entry.{Entry}
 use Rattle.cc_history.specs.declared.entry.Receipt.{Receipt}
 use Rattle.cc_history.specs.declared.reply.Reply.{Reply}
 use Rattle.cc_history.specs.declared.reply.Reply.TheVariants as reply
-use Rattle.cc_history.specs.History.{Holder, IsAnswered}
+use Rattle.cc_history.specs.History.{Holder, IsAnswered, IsLegal}
+use Rattle.cc_service.specs.Answers.{IsNotClosed}
 use Rattle.cc_service.specs.Compiling.{IsCompileRefusal, IsProgram}
 use Rattle.cc_service.specs.declared.fault.BookFault.{BookFault}
 use Rattle.cc_service.specs.declared.fault.BookFault.TheVariants as book
@@ -186,6 +187,14 @@ IsNotOpened honest seen base before after (Piece function f) = ⊥
 IsNotOpened honest seen base before after ImageTooLarge = ⊥
 IsNotOpened honest seen base before after (Book f) = ⊥
 
--- why a service is not ended: 39 or 40
-abbrev pub IsNotEnded : ServiceFault → Type 0
-IsNotEnded fault = (fault ≡ Book book.OutOfMemory) ⊎ ((number : ℕ) × (found : Option Entry) × (fault ≡ Book (book.Estranged number found)))
+-- Why a service is not ended: 40; or 39, and there is a history, legal from the map that the service began with, by which a receipt of these
+-- clients does not stand, the first, with what stands there in place of it; or they are not all that were made.
+pub record IsNotEnded (honest : Bool) (base : Units) (clients : List Holder) (fault : ServiceFault) : Type 0 where
+  pub found : Units
+  pub found_is : IsTrue honest → found ≡ base
+  pub history : List Entry
+  pub legal : IsLegal found history
+  pub made : ℕ
+  pub refusal : BookFault
+  pub fault_is : fault ≡ Book refusal
+  pub why : IsNotClosed history made clients refusal

@@ -9,12 +9,11 @@ ghost use Rattle.cc_library.specs.Apply.{Units, after};
 ghost use Rattle.cc_library.specs.Recovered.{Recovers, RecoversAlone, RecoversOneOf, StandFor};
 ghost use Rattle.cc_build.specs.Compiling.{compiling, Keeps, is_right};
 ghost use Rattle.cc_history.specs.Calls.{change_of};
-ghost use Rattle.cc_history.specs.History.{IsLegal, units_after};
 ghost use Rattle.cc_service.specs.Book.{BookView, RecoversTo};
 ghost use Rattle.cc_service.specs.Answers.{CommitAnswers, CompactAnswers, IsBegun, IsLook, LookAnswers};
 ghost use Rattle.cc_service.specs.Disk.{ChangesDisk, CompactsDisk};
-ghost use Rattle.cc_service.specs.Promise.{SurvivesCrash};
-ghost use Rattle.cc_service.specs.Since.{HoldsFrom};
+ghost use Rattle.cc_service.specs.Promise.{IsSound};
+ghost use Rattle.cc_service.specs.Since.{HoldsFrom, IsPast};
 ghost use Rattle.cc_service.specs.Tie.{IsTied};
 
 use crate::client::Client;
@@ -57,7 +56,7 @@ impl<N: Named, D: Disk> Model for Book<N, D> {
 
     ghost view = { λ b. record { book = b.recorded; since = b.since.items } };
 
-    ghost invariant = { λ b. IsBook D.honest D.seen D.may_leave D.moment D.left_since (record { book = b.recorded; since = b.since.items }) };
+    ghost invariant = { λ b. IsBook D.honest D.seen D.may_leave D.moment D.left_since N.from N.left (record { book = b.recorded; since = b.since.items }) };
 }
 
 impl<N: Named, D: Disk> Book<N, D> {
@@ -73,6 +72,8 @@ impl<N: Named, D: Disk> Book<N, D> {
     ) -> Result<Book<N, D>, (LibraryFault, D)>
         // The base that the service's parameter names, where an honest disk's bytes recover to one.
         requires named { IsTrue D.honest → (units : Units) → Recovers (D.seen disk) units → units ≡ N.base }
+        // The moment that it names, and what a crash has left since then.
+        requires past { IsTrue D.honest → IsPast D.moment D.left_since N.from N.left disk }
         requires counted { calls.total ≡ 0 }
 
         // No call has been made yet, and the base is what was recovered.
@@ -122,6 +123,7 @@ impl<N: Named, D: Disk> Book<N, D> {
         requires stand { StandFor library.bodies library.units }
         requires records { IsTrue D.honest → HoldsRecords (D.seen library.disk) library.area library.bodies }
         requires settled { IsTrue D.honest → LeavesAlone (D.seen library.disk) (D.may_leave library.disk) }
+        requires past { IsTrue D.honest → IsPast D.moment D.left_since N.from N.left library.disk }
         requires counted { calls.total ≡ 0 }
         ensures book { result.book ≡ record { base = base; library = library; history = []; failed = [] } }
         ensures since { result.since ≡ result.book ∷ [] }
@@ -223,17 +225,14 @@ impl<N: Named, D: Disk> Book<N, D> {
 
     /// What is known of a book at any time, whatever order the calls of all threads took the lock in: a law, which does nothing.
     pub fn survives(&self)
-        // The history is legal: each answer is the one that one thread gets there. The map is the base with its changes.
-        ensures legal { IsLegal self.now.book.base self.now.book.history }
-        ensures map { self.now.book.library.units ≡ units_after self.now.book.base self.now.book.history }
-
         // Some run of the core leads from an opened disk to a state that the book shows.
         ensures reached { IsTrue D.honest → IsTied compiling Keeps D.seen D.may_leave self.now.book }
 
-        // So what a crash leaves now holds each acknowledged command, and its units are right.
-        ensures now { IsTrue D.honest → (image : List ℕ) → D.may_leave self.now.book.library.disk image → SurvivesCrash self.now.book image }
+        // The history is legal, the map is the base with its changes; what a crash leaves now holds each acknowledged command, what it has
+        // left since the opening a prefix of the calls, and the units in it are right.
+        ensures sound { IsSound D.honest D.may_leave D.left_since N.base N.from N.left self.now.book }
 
-        // And whatever a crash has left since the opening, or since any call, holds all calls until then.
+        // Whatever a crash has left since the end of the opening, or since any call, holds all calls until then.
         ensures since { IsTrue D.honest → (k : ℕ) (then' : BookView D) → slice_get self.now.since k ≡ Some then' → (image : List ℕ)
             → D.left_since self.now.book.library.disk (D.moment then'.library.disk) image → HoldsFrom self.now.book (length then'.history) image }
 

@@ -1,6 +1,7 @@
 // Who calls.
 ghost use Rattle.std.specs.Prelude.{◌≡◌, ◌-◌, [], length, slice_get};
 ghost use Rattle.std.specs.Option.{option_map};
+ghost use Rattle.cc_history.specs.History.{IsOwn};
 
 use crate::named::Named;
 use cc_history::Receipt;
@@ -41,6 +42,13 @@ impl<N: Named> Member<N> {
             receipts: Vec::new(alloc),
             share,
         }
+    }
+
+    // What its type keeps of its receipts. It does nothing.
+    fn kept(&self)
+        ensures { IsOwn self.now }
+    {
+        let _ = &self.number;
     }
 
     fn number(&self) -> u64
@@ -84,6 +92,13 @@ impl<N: Named> Client<N> {
             member: Member::new(alloc, number, share),
             pass,
         }
+    }
+
+    // What its type keeps: its receipts are of its own calls, in their order. It does nothing.
+    pub(crate) fn kept(&self)
+        ensures { IsOwn self.now.holder }
+    {
+        self.member.kept();
     }
 
     /// Its number.

@@ -1,11 +1,10 @@
 // The end of a book, with all its clients.
-ghost use Rattle.std.specs.Prelude.{◌≡◌, ℕ, ◌+◌, ◌≤◌, ◌↔◌, List, [], false, IsTrue, IfErr, IfOk, OnOk, length, map, vec_len};
+ghost use Rattle.std.specs.Prelude.{◌≡◌, ℕ, ◌+◌, ◌≤◌, ◌↔◌, [], false, IsTrue, IfErr, IfOk, OnErr, OnOk, length, map, vec_len};
 ghost use Rattle.std.specs.Vec.{vec_capacity};
-ghost use Rattle.cc_history.specs.Closing.{AreApart, AreOwn, IsClosed, ReceiptsStand, receipts_of};
-ghost use Rattle.cc_history.specs.History.{EachAgrees, IsLegal, units_after};
-ghost use Rattle.cc_service.specs.Book.{AllAgreed, BookView, RecoversTo};
+ghost use Rattle.cc_history.specs.Closing.{AreApart, AreOwn, IsClosed, IsNotWhole, ReceiptsStand, SomeoneAstray, receipts_of};
+ghost use Rattle.cc_service.specs.Book.{BookView};
 ghost use Rattle.cc_service.specs.Client.{holders};
-ghost use Rattle.cc_service.specs.Promise.{SurvivesCrash};
+ghost use Rattle.cc_service.specs.Promise.{IsGivenUp, IsSound};
 ghost use Rattle.cc_service.specs.Answers.{IsNotClosed};
 ghost use Rattle.cc_service.specs.internal.Apart.{HaveOwnNumbers};
 
@@ -15,7 +14,7 @@ use crate::fault::BookFault;
 use crate::named::Named;
 use crate::recorded::RecordedLibrary;
 use cc_disk::{Disk, History};
-use cc_history::{Receipt, SharedEntry, all_stand, receipts_count_up, units_agree};
+use cc_history::{Receipt, SharedEntry, all_stand, receipts_count_up};
 use cc_library::{Command as Change, Library, UnitMap};
 use cc_pool::Pass;
 use std::alloc::{AllocError, Global};
@@ -70,6 +69,7 @@ fn are_apart<N: Named>(clients: &[Client<N>]) -> bool
 fn stand_in<N: Named>(history: &[SharedEntry], clients: &[Client<N>]) -> Result<(), BookFault>
     ensures stand { OnOk result (ReceiptsStand history.now (holders clients.now)) }
     ensures err { IfErr result (λ f. (made : ℕ) → IsNotClosed history.now made (holders clients.now) f) }
+    ensures astray { OnErr result (SomeoneAstray history.now (holders clients.now)) }
 {
     for client in clients {
         match all_stand(history, client.receipts()) {
@@ -106,11 +106,26 @@ fn gather<N: Named>(rest: &mut Share<N>, clients: Vec<Client<N>>, left: &mut Lef
     }
 }
 
+// How many receipts all these clients have.
+fn count_receipts<N: Named>(clients: &[Client<N>]) -> u128
+    ensures count { result ≡ receipts_of (holders clients.now) }
+    // The receipts of each are of its own calls.
+    ensures own { AreOwn (holders clients.now) }
+{
+    let mut count = 0;
+    for client in clients {
+        client.kept();
+        count += client.receipts().len() as u128;
+    }
+    count
+}
+
 impl<N: Named, D: Disk> RecordedLibrary<N, D> {
     // That all receipts of all these clients stand.
     fn stands(&self, clients: &[Client<N>]) -> Result<(), BookFault>
         ensures stand { OnOk result (ReceiptsStand self.now.history (holders clients.now)) }
         ensures err { IfErr result (λ f. (made : ℕ) → IsNotClosed self.now.history made (holders clients.now) f) }
+        ensures astray { OnErr result (SomeoneAstray self.now.history (holders clients.now)) }
     {
         stand_in(self.history.as_slice(), clients)
     }
@@ -120,6 +135,26 @@ impl<N: Named, D: Disk> RecordedLibrary<N, D> {
         ensures { result ≡ length self.now.history }
     {
         self.history.len() as u64
+    }
+
+    // That these are all clients, as many as were made, and that their receipts stand.
+    fn has_all(&self, made: u64, clients: &[Client<N>]) -> Result<(), BookFault>
+        ensures many { OnOk result (length clients.now ≡ made) }
+        ensures apart { OnOk result (AreApart (holders clients.now)) }
+        ensures stand { OnOk result (ReceiptsStand self.now.history (holders clients.now)) }
+        ensures err { IfErr result (λ f. IsNotClosed self.now.history made (holders clients.now) f) }
+    {
+        match self.stands(clients) {
+            Ok(()) => {}
+            Err(fault) => return Err(fault),
+        }
+        if clients.len() as u64 != made || !are_apart(clients) {
+            return Err(BookFault::Estranged {
+                number: self.entries(),
+                found: None,
+            });
+        }
+        Ok(())
     }
 
     // That it can be ended with these clients, as many as were made. Answers the room for what they leave, which is taken first.
@@ -134,21 +169,35 @@ impl<N: Named, D: Disk> RecordedLibrary<N, D> {
         let Ok(left) = Left::with_room(alloc, clients.len()) else {
             return Err(BookFault::OutOfMemory);
         };
+        match self.has_all(made, clients) {
+            Ok(()) => Ok(left),
+            Err(fault) => {
+                drop(left);
+                Err(fault)
+            }
+        }
+    }
+
+    // Whether these are all clients of its history: all their receipts stand, no two have one number, and the receipts are as many as the
+    // entries.
+    fn is_whole(&self, clients: &[Client<N>]) -> bool
+        ensures own { AreOwn (holders clients.now) }
+        ensures closed { IsTrue result → IsClosed self.now.history (holders clients.now) }
+        ensures why { result ≡ false → IsNotWhole self.now.history (holders clients.now) }
+    {
+        receipts_count_up();
+        let receipts = count_receipts(clients);
         match self.stands(clients) {
             Ok(()) => {}
             Err(fault) => {
-                drop(left);
-                return Err(fault);
+                drop(fault);
+                return false;
             }
         }
-        if clients.len() as u64 != made || !are_apart(clients) {
-            drop(left);
-            return Err(BookFault::Estranged {
-                number: self.entries(),
-                found: None,
-            });
+        if !are_apart(clients) {
+            return false;
         }
-        Ok(left)
+        receipts == u128::from(self.entries())
     }
 
     // Ends it. At the end the shares of all clients and the rest are the whole ledger.
@@ -164,23 +213,14 @@ impl<N: Named, D: Disk> RecordedLibrary<N, D> {
         requires amount { rest.amount ≡ 0 }
         requires apart { AreApart (holders clients.items) }
         requires stand { ReceiptsStand self.history (holders clients.items) }
-        ensures base { IsTrue D.honest → result.0.base ≡ N.base }
-        ensures legal { IsLegal result.0.base result.0.history.items }
-        ensures library { result.0.library.units ≡ units_after result.0.base result.0.history.items }
         ensures closed { IsClosed result.0.history.items (holders clients.items) }
         ensures receipts { map (λ v. v.items) result.0.receipts.items ≡ map (λ c. c.receipts) (holders clients.items) }
         // It is the book's library, with what was known of it.
         ensures of_book { ◌≡◌ {A = BookView D} (record { base = result.0.base; library = result.0.library; history = result.0.history.items; failed = result.0.failed.items }) self }
-        ensures images { IsTrue D.honest → (image : List ℕ) → D.may_leave result.0.library.disk image → RecoversTo result.0.library.units result.0.failed.items image }
-        ensures idle { result.0.library.closed ≡ false → result.0.failed.items ≡ [] }
-        // Each unit of the map is the base's of that name, or was compiled; so was that of the change that failed.
-        ensures agrees { EachAgrees result.0.base result.0.library.units }
-        ensures agrees_failed { AllAgreed result.0.failed.items }
         // The receipts of each client are of its own calls.
         ensures own { AreOwn (holders clients.items) }
     {
         receipts_count_up();
-        units_agree();
         let RecordedLibrary {
             base,
             library,
@@ -233,23 +273,26 @@ impl<N: Named, D: Disk> Book<N, D> {
         requires amount { rest.amount ≡ 0 }
         requires apart { AreApart (holders clients.items) }
         requires stand { ReceiptsStand self.book.history (holders clients.items) }
-        ensures base { IsTrue D.honest → result.0.base ≡ N.base }
-        ensures legal { IsLegal result.0.base result.0.history.items }
-        ensures library { result.0.library.units ≡ units_after result.0.base result.0.history.items }
+        ensures sound { IsSound D.honest D.may_leave D.left_since N.base N.from N.left (record { base = result.0.base; library = result.0.library; history = result.0.history.items; failed = result.0.failed.items }) }
         ensures closed { IsClosed result.0.history.items (holders clients.items) }
         ensures receipts { map (λ v. v.items) result.0.receipts.items ≡ map (λ c. c.receipts) (holders clients.items) }
-        ensures images { IsTrue D.honest → (image : List ℕ) → D.may_leave result.0.library.disk image → RecoversTo result.0.library.units result.0.failed.items image }
-        ensures idle { result.0.library.closed ≡ false → result.0.failed.items ≡ [] }
-        ensures agrees { EachAgrees result.0.base result.0.library.units }
-        ensures agrees_failed { AllAgreed result.0.failed.items }
         ensures own { AreOwn (holders clients.items) }
-        // What a crash then leaves of the disk holds each acknowledged command.
-        ensures survives { IsTrue D.honest → (image : List ℕ) → D.may_leave result.0.library.disk image
-            → SurvivesCrash (record { base = result.0.base; library = result.0.library; history = result.0.history.items; failed = result.0.failed.items }) image }
     {
         self.survives();
         let Book { recorded, since: _ } = self;
         recorded.end(rest, clients, left)
+    }
+}
+
+impl<N: Named, D: Disk> Book<N, D> {
+    // The disk, and whether these are all clients of its history. It takes no memory.
+    pub(crate) fn give_up(self, clients: Vec<Client<N>>) -> (D, bool)
+        ensures { IsGivenUp D.honest D.may_leave D.left_since N.base N.from N.left (holders clients.items) result.1 result.0 }
+    {
+        self.survives();
+        let are_all = self.recorded.is_whole(clients.as_slice());
+        drop(clients);
+        (self.into_disk(), are_all)
     }
 }
 
@@ -266,19 +309,11 @@ pub fn close<N: Named, D: Disk>(
 ) -> Result<Closed<D>, (BookFault, Book<N, D>, Share<N>, Vec<Client<N>>)>
     requires parts { rest.parts + made ≡ N.parts }
     requires amount { rest.amount ≡ 0 }
-    ensures base { IfOk result (λ r. IsTrue D.honest → r.base ≡ N.base) }
-    ensures legal { IfOk result (λ r. IsLegal r.base r.history.items) }
-    ensures library { IfOk result (λ r. r.library.units ≡ units_after r.base r.history.items) }
+    ensures sound { IfOk result (λ r. IsSound D.honest D.may_leave D.left_since N.base N.from N.left (record { base = r.base; library = r.library; history = r.history.items; failed = r.failed.items })) }
     ensures closed { IfOk result (λ r. IsClosed r.history.items (holders clients.items)) }
+    ensures all { OnOk result (length clients.items ≡ made) }
     ensures receipts { IfOk result (λ r. map (λ v. v.items) r.receipts.items ≡ map (λ c. c.receipts) (holders clients.items)) }
-    ensures images { IfOk result (λ r. IsTrue D.honest → (image : List ℕ) → D.may_leave r.library.disk image → RecoversTo r.library.units r.failed.items image) }
-    ensures idle { IfOk result (λ r. r.library.closed ≡ false → r.failed.items ≡ []) }
-    ensures agrees { IfOk result (λ r. EachAgrees r.base r.library.units) }
-    ensures agrees_failed { IfOk result (λ r. AllAgreed r.failed.items) }
     ensures own { IfOk result (λ _. AreOwn (holders clients.items)) }
-    // What a crash then leaves of the disk holds each acknowledged command.
-    ensures survives { IfOk result (λ r. IsTrue D.honest → (image : List ℕ) → D.may_leave r.library.disk image
-        → SurvivesCrash (record { base = r.base; library = r.library; history = r.history.items; failed = r.failed.items }) image) }
     ensures back { IfErr result (λ e. (e.1 ≡ book) × (e.2.parts ≡ rest.parts) × (e.2.amount ≡ rest.amount) × (e.3 ≡ clients)) }
     ensures err { IfErr result (λ e. IsNotClosed book.book.history made (holders clients.items) e.0) }
 {

@@ -1,13 +1,15 @@
 // From a text to a compiled unit, by the workers of a pool. No lock is held here.
-ghost use Rattle.std.specs.Prelude.{◌≡◌, length, IfErr, IfOk};
+ghost use Rattle.std.specs.Prelude.{◌≡◌, length, All, IfErr, IfOk};
 ghost use Rattle.std.specs.Arc.{arc_value};
 ghost use Rattle.cc_syntax.specs.Source.{source};
 ghost use Rattle.cc_syntax.specs.Parse.{SpellsText};
 ghost use Rattle.cc_typing.specs.Typed.{defined_names};
 ghost use Rattle.cc_link.specs.Agree.{Agree};
 ghost use Rattle.cc_link.specs.Compile.{IsProgramText};
+ghost use Rattle.cc_link.specs.Made.{IsCompiled};
 ghost use Rattle.cc_link.specs.Pieces.{AreFrom};
-ghost use Rattle.cc_service.specs.Compiling.{IsCompileRefusal, IsProgram};
+ghost use Rattle.cc_pool.specs.Shared.{HasSentSome};
+ghost use Rattle.cc_service.specs.Compiling.{HasSentFor, IsCompileRefusal, IsProgram};
 
 use crate::fault::ServiceFault;
 use crate::named::Named;
@@ -31,6 +33,7 @@ pub(crate) fn compiled<N: Named + Send + Sync + 'static, R: Wait>(
     ensures agrees { IfOk result (λ unit. Agree unit.source unit.image) }
     ensures program { IfOk result (λ _. IsProgram source.now) }
     ensures refused { IfErr result (λ fault. IsCompileRefusal source.now fault) }
+    ensures sent { HasSentFor source.now pass.old.sent pass.new.sent }
 {
     let unit = match parse(alloc, source) {
         Ok(unit) => unit,
@@ -59,9 +62,13 @@ fn made<N: Named + Send + Sync + 'static, R: Wait>(
     ensures agrees { IfOk result (λ made. Agree made.source made.image) }
     ensures program { IsProgram (source (arc_value unit)).text }
     ensures refused { IfErr result (λ fault. IsCompileRefusal (source (arc_value unit)).text fault) }
+    ensures sent { HasSentFor (source (arc_value unit)).text pass.old.sent pass.new.sent }
 {
     let _externals = unit.externals();
-    match pieces(rt, alloc, pool, pass, &unit) {
+    let Ok(theirs) = Arc::try_clone(&unit) else {
+        return Err(ServiceFault::OutOfMemory);
+    };
+    match pieces(rt, alloc, pool, pass, theirs) {
         Ok(pieces) => linked(alloc, &unit, pieces),
         Err(fault) => Err(fault),
     }
@@ -73,17 +80,17 @@ fn pieces<N: Named + Send + Sync + 'static, R: Wait>(
     alloc: Global,
     pool: &Pool<N>,
     pass: &mut Pass<N>,
-    unit: &Arc<TypedUnit>,
+    unit: Arc<TypedUnit>,
 ) -> Result<Vec<Piece>, ServiceFault>
-    requires program { IsProgramText (source (arc_value unit.now)).text (source (arc_value unit.now)).externals }
-    ensures count { IfOk result (λ pieces. length pieces.items ≡ length (defined_names (source (arc_value unit.now)))) }
-    ensures own { IfOk result (λ pieces. AreFrom (source (arc_value unit.now)).text 0 pieces.items) }
-    ensures refused { IfErr result (λ fault. IsCompileRefusal (source (arc_value unit.now)).text fault) }
+    requires program { IsProgramText (source (arc_value unit)).text (source (arc_value unit)).externals }
+    ensures count { IfOk result (λ pieces. length pieces.items ≡ length (defined_names (source (arc_value unit)))) }
+    ensures own { IfOk result (λ pieces. AreFrom (source (arc_value unit)).text 0 pieces.items) }
+    ensures compiled { IfOk result (λ pieces. All IsCompiled pieces.items) }
+    ensures refused { IfErr result (λ fault. IsCompileRefusal (source (arc_value unit)).text fault) }
+    // The pass has sent the first functions of one job.
+    ensures sent { HasSentSome pass.old.sent pass.new.sent (length (defined_names (source (arc_value unit)))) }
 {
-    let Ok(theirs) = Arc::try_clone(unit) else {
-        return Err(ServiceFault::OutOfMemory);
-    };
-    let ticket = match pool.submit(rt, alloc, pass, theirs) {
+    let ticket = match pool.submit(rt, alloc, pass, unit) {
         Ok(ticket) => ticket,
         Err(PoolFault::OutOfMemory) => return Err(ServiceFault::OutOfMemory),
         Err(_) => return Err(ServiceFault::WorkersGone),
@@ -105,6 +112,7 @@ fn linked(
     requires program { IsProgramText (source (arc_value unit.now)).text (source (arc_value unit.now)).externals }
     requires count { length pieces.items ≡ length (defined_names (source (arc_value unit.now))) }
     requires own { AreFrom (source (arc_value unit.now)).text 0 pieces.items }
+    requires compiled { All IsCompiled pieces.items }
     ensures source { IfOk result (λ made. made.source ≡ (source (arc_value unit.now)).text) }
     ensures agrees { IfOk result (λ made. Agree made.source made.image) }
     ensures refused { IfErr result (λ fault. IsCompileRefusal (source (arc_value unit.now)).text fault) }

@@ -84,6 +84,7 @@ impl<N: Named, D: Disk> RecordedLibrary<N, D> {
 
     /// What its type keeps. It does nothing.
     pub(crate) fn kept(&self)
+        ensures base { IsTrue D.honest → self.now.base ≡ N.base }
         ensures replays { Replays (chronicle_of self.now) }
         ensures idle { self.now.library.closed ≡ false → self.now.failed ≡ [] }
         ensures one { length self.now.failed ≤ 1 }

@@ -1,13 +1,13 @@
 // The service.
-ghost use Rattle.std.specs.Prelude.{◌≡◌, ◌≤◌, ℕ, List, [], false, IsTrue, IfErr, IfOk, map};
+ghost use Rattle.std.specs.Prelude.{◌≡◌, ◌≤◌, [], IsTrue, IfErr, IfOk, map};
 ghost use Rattle.cc_disk.specs.Images.{OnlyReads};
 ghost use Rattle.cc_library.specs.Apply.{Units};
 ghost use Rattle.cc_library.specs.Recovered.{Recovers};
 ghost use Rattle.cc_history.specs.Closing.{AreOwn, IsClosed};
-ghost use Rattle.cc_history.specs.History.{EachAgrees, IsLegal, units_after};
-ghost use Rattle.cc_service.specs.Book.{AllAgreed, RecoversTo};
 ghost use Rattle.cc_service.specs.Client.{holders};
-ghost use Rattle.cc_service.specs.Promise.{SurvivesCrash};
+ghost use Rattle.cc_service.specs.Compiling.{HasSentFor};
+ghost use Rattle.cc_service.specs.Promise.{IsGivenUp, IsSound};
+ghost use Rattle.cc_service.specs.Since.{IsPast};
 ghost use Rattle.cc_service.specs.Serving.{Adds, GetAnswers, IsNotCompacted, IsNotEnded, IsNotOpened, IsTurnedAway, ListAnswers, PutAnswers, Replaces, WithdrawAnswers};
 ghost use Rattle.cc_service.specs.Answers.{IsLook};
 ghost use Rattle.cc_service.specs.internal.Under.{IsSeen, MakesAnswers};
@@ -69,6 +69,8 @@ impl<N: Named + Send + Sync + 'static, D: Disk> Service<N, D> {
         requires parts { N.parts ≡ 1025 }
         requires queue { fresh.queue ≡ N.queue }
         requires named { IsTrue D.honest → (units : Units) → Recovers (D.seen disk) units → units ≡ N.base }
+        // It names a moment up to now, too, and what a crash has left since then: `finish` tells what one leaves later.
+        requires past { IsTrue D.honest → IsPast D.moment D.left_since N.from N.left disk }
         requires some { 1 ≤ workers }
         requires few { workers ≤ 8 }
         ensures recovered { IfOk result (λ _. IsTrue D.honest → Recovers (D.seen disk) N.base) }
@@ -116,9 +118,9 @@ impl<N: Named + Send + Sync + 'static, D: Disk> Service<N, D> {
 
     /// Compiles a text and adds its unit under a name that has none.
     ///
-    /// Refusals, in this order: 33; 7, 1 to 6, 11 to 21 of the text; 22 or 24 of the least function that was refused; 41, 25; then under
-    /// the lock 36, 39, 31, 34, 35. 40 where memory ran out. Of these 31 has a receipt; the others leave number and receipts of the
-    /// client as they were, and its pass may have sent some of the functions.
+    /// Refusals, in this order: 33; 7, 1 to 6, 11 to 21 of the text; of the first function of which no piece came 22 or 24, where a
+    /// worker refused it, else 41; 25; then under the lock 36, 39, 31, 34, 35. 40 where memory ran out. Of these 31 has a receipt; the
+    /// others leave number and receipts of the client as they were, and its pass may have sent some of the functions.
     pub fn add<R: Wait>(
         &self,
         rt: &R,
@@ -127,7 +129,8 @@ impl<N: Named + Send + Sync + 'static, D: Disk> Service<N, D> {
         name: &[u8],
         source: &[u8],
     ) -> Result<Receipt, ServiceFault>
-        ensures { PutAnswers (Adds name.now source.now) name.now source.now client.old.holder client.new.holder result }
+        ensures answers { PutAnswers (Adds name.now source.now) name.now source.now client.old.holder client.new.holder result }
+        ensures sent { HasSentFor source.now client.old.sent client.new.sent }
     {
         let Ok(name) = Name::new(name) else {
             return Err(ServiceFault::BadName);
@@ -149,7 +152,8 @@ impl<N: Named + Send + Sync + 'static, D: Disk> Service<N, D> {
         name: &[u8],
         source: &[u8],
     ) -> Result<Receipt, ServiceFault>
-        ensures { PutAnswers (Replaces name.now source.now) name.now source.now client.old.holder client.new.holder result }
+        ensures answers { PutAnswers (Replaces name.now source.now) name.now source.now client.old.holder client.new.holder result }
+        ensures sent { HasSentFor source.now client.old.sent client.new.sent }
     {
         let Ok(name) = Name::new(name) else {
             return Err(ServiceFault::BadName);
@@ -282,24 +286,20 @@ impl<N: Named + Send + Sync + 'static, D: Disk> Service<N, D> {
         alloc: Global,
         clients: Vec<Client<N>>,
     ) -> Result<Closed<D>, (ServiceFault, Service<N, D>, Vec<Client<N>>)>
-        ensures base { IfOk result (λ r. IsTrue D.honest → r.base ≡ N.base) }
-        ensures legal { IfOk result (λ r. IsLegal r.base r.history.items) }
-        ensures library { IfOk result (λ r. r.library.units ≡ units_after r.base r.history.items) }
+        // One legal history from the base leads to the library. What a crash then leaves of the disk holds each acknowledged command; what one
+        // has left at any moment since the opening holds a prefix of them.
+        ensures sound { IfOk result (λ r. IsSound D.honest D.may_leave D.left_since N.base N.from N.left (record { base = r.base; library = r.library; history = r.history.items; failed = r.failed.items })) }
+        // Every receipt of every client stands in that history, once and in its client's order.
         ensures closed { IfOk result (λ r. IsClosed r.history.items (holders clients.items)) }
         ensures receipts { IfOk result (λ r. map (λ v. v.items) r.receipts.items ≡ map (λ c. c.receipts) (holders clients.items)) }
-        ensures images { IfOk result (λ r. IsTrue D.honest → (image : List ℕ) → D.may_leave r.library.disk image → RecoversTo r.library.units r.failed.items image) }
-        ensures idle { IfOk result (λ r. r.library.closed ≡ false → r.failed.items ≡ []) }
-        ensures agrees { IfOk result (λ r. EachAgrees r.base r.library.units) }
-        ensures agrees_failed { IfOk result (λ r. AllAgreed r.failed.items) }
         ensures own { IfOk result (λ _. AreOwn (holders clients.items)) }
-        // What a crash then leaves of the disk holds each acknowledged command.
-        ensures survives { IfOk result (λ r. IsTrue D.honest → (image : List ℕ) → D.may_leave r.library.disk image
-            → SurvivesCrash (record { base = r.base; library = r.library; history = r.history.items; failed = r.failed.items }) image) }
         ensures back { IfErr result (λ e. e.2 ≡ clients) }
-        ensures refused { IfErr result (λ e. IsNotEnded e.0) }
+        // 39 with an entry is of a receipt of these clients.
+        ensures refused { IfErr result (λ e. IsNotEnded D.honest N.base (holders clients.items) e.0) }
     {
         let Service { book, desk, pool } = self;
         let book = book.into_inner();
+        book.survives();
         let Desk { made, rest } = desk.into_inner();
         match book.ready(alloc, made, clients.as_slice()) {
             Ok(left) => {
@@ -316,5 +316,19 @@ impl<N: Named + Send + Sync + 'static, D: Disk> Service<N, D> {
                 Err((ServiceFault::Book(fault), service, clients))
             }
         }
+    }
+
+    /// Ends the service, whoever its clients were, and hands out its disk, with whether these are all its clients: every receipt of theirs
+    /// stands, no two have one number, and every entry of the history has a receipt. It takes no memory, so it ends a service that `finish`
+    /// refuses to end, or one of whose clients is lost.
+    pub fn give_up<R: Wait>(self, rt: &R, alloc: Global, clients: Vec<Client<N>>) -> (D, bool)
+        ensures { IsGivenUp D.honest D.may_leave D.left_since N.base N.from N.left (holders clients.items) result.1 result.0 }
+    {
+        let Service { book, desk, pool } = self;
+        drop(desk);
+        let given_up = book.into_inner().give_up(clients);
+        // The workers are stopped; the passes are let go, so this has no other answer.
+        drop(pool.finish(rt, Vec::new(alloc)));
+        given_up
     }
 }

@@ -1,7 +1,6 @@
 -- What was read before a service was opened changes nothing of how its session ended.
-use Rattle.std.proofs.Common.{◌≡◌, ◌∙◌, ℕ, ◌+◌, ◌≤◌, List, [], ◌∷◌, length, Bool, false, IsTrue, Option, Some, None, inl, inr, refl, sym, subst, arith}
+use Rattle.std.proofs.Common.{◌≡◌, ◌∙◌, ℕ, ◌+◌, ◌≤◌, List, [], ◌∷◌, length, Bool, true, false, if◌then◌else◌, IsTrue, Option, Some, None, inl, inr, refl, sym, ap, subst, arith}
 use Rattle.std.specs.Prelude.{◌⊎◌, IfSome}
-use Rattle.std.proofs.lemmas.List.{nil_from_length}
 use Rattle.cc_disk.specs.Images.{OnlyReads}
 use Rattle.cc_library.specs.Answers.{OpenFaults}
 use Rattle.cc_library.specs.Apply.{Units}
@@ -10,17 +9,19 @@ use Rattle.cc_library.specs.declared.fault.LibraryFault.{LibraryFault}
 use Rattle.cc_library.specs.declared.fault.LibraryFault.TheVariants as library
 use Rattle.cc_journal.specs.Format.{HasHeader}
 use Rattle.cc_history.specs.declared.entry.Entry.{Entry}
-use Rattle.cc_history.specs.Closing.{AreOwn, IsClosed, receipts_of}
-use Rattle.cc_history.specs.History.{EachAgrees, Holder, IsLegal, units_after}
-use Rattle.cc_service.specs.Client.{ClientView, holders}
-use Rattle.cc_service.specs.Book.{BookView, RecoversTo}
-use Rattle.cc_service.specs.Promise.{SurvivesCrash}
-use Rattle.cc_service.specs.Serving.{IsNotOpened}
+use Rattle.cc_history.specs.declared.standing.StandingFault.{StandingFault}
+use Rattle.cc_history.specs.declared.standing.StandingFault.TheVariants as standing
+use Rattle.cc_history.specs.Closing.{AreOwn, IsClosed, IsNotWhole}
+use Rattle.cc_history.specs.History.{Holder}
+use Rattle.cc_service.specs.Book.{BookView}
+use Rattle.cc_service.specs.Fault.{book_fault_number, fault_number, fault_of}
+use Rattle.cc_service.specs.Promise.{IsGivenUp, IsSound}
+use Rattle.cc_service.specs.Since.{IsPast}
+use Rattle.cc_service.specs.Serving.{IsNotEnded, IsNotOpened}
+use Rattle.cc_service.specs.declared.fault.BookFault.{BookFault}
 use Rattle.cc_service.specs.declared.fault.ServiceFault.{ServiceFault}
 use Rattle.cc_service.specs.declared.fault.ServiceFault.TheVariants as service
-use Rattle.cc_session.specs.Session.{HasCalls, HasClient, IsBegun, IsKept, IsUnended, IsUnopened, SessionEnds}
-use Rattle.cc_session.specs.Playing.{IsPlayed, IsPlayedInPart}
-use Rattle.cc_session.specs.internal.Steps.{HaveCalled}
+use Rattle.cc_session.specs.Session.{EndsSince, HaveCalled, IsEnded, IsLeft, IsUnopened, SessionEnds, told_after}
 use Rattle.cc_session.specs.declared.end.SessionEnd.{SessionEnd}
 use Rattle.cc_session.specs.declared.end.SessionEnd.TheVariants.{Finished, Fault}
 
@@ -61,68 +62,66 @@ unopened_on honest seen later before after Finished same it = it
 unopened_on honest seen later before after (Fault number) same it =
     (it.0, it.1, it.2, not_opened_on honest seen later it.0 before after it.1 same it.3)
 
--- What is left of a service that was ended, by what its end says of the book.
-pub kept_by : {D : Type 0} (honest : Bool) (may_leave : D → List ℕ → Type 0) (named : Units) (book : BookView D) (after : D)
-    → after ≡ book.library.disk
-    → (IsTrue honest → book.base ≡ named)
-    → IsLegal book.base book.history
-    → book.library.units ≡ units_after book.base book.history
-    → EachAgrees book.base book.library.units
-    → (book.library.closed ≡ false → book.failed ≡ [])
-    → (IsTrue honest → (image : List ℕ) → may_leave book.library.disk image → RecoversTo book.library.units book.failed image)
-    → (IsTrue honest → (image : List ℕ) → may_leave book.library.disk image → SurvivesCrash book image)
-    → (bytes : List ℕ) → (IsTrue honest → Recovers bytes named) → (script : Option (List ℕ)) (end : SessionEnd) → HasCalls script book.history end
-    → IsKept honest bytes may_leave script end after
-kept_by {D} honest may_leave named book after disk base legal map agrees idle images survives bytes begun script end calls = record {
-  book = book;
-  calls = calls;
-  disk = sym disk;
-  legal = legal;
-  map = map;
-  agrees = agrees;
-  idle = idle;
-  begun = λ h. subst (λ (units : Units). Recovers bytes units) (sym (base h)) (begun h);
-  images = λ h image leaves. images h image (subst (λ (d : D). may_leave d image) disk leaves);
-  survives = λ h image leaves. survives h image (subst (λ (d : D). may_leave d image) disk leaves);
-}
+-- ---- how a service was ended
 
--- the one client with which a service ended
-client_of : (script : Option (List ℕ)) (clients : List ClientView) (history : List Entry) (Plays : List ℕ → Holder → Holder → Type 0)
-    → ((first : Holder) × (last : Holder) × (first.receipts ≡ []) × (holders clients ≡ last ∷ []) × IfSome script (λ bytes. Plays bytes first last))
-    → IsClosed history (holders clients) → AreOwn (holders clients) → HasClient script history Plays
-client_of script clients history Plays called closed own = record {
-  first = called.0;
-  last = called.1;
-  none = called.2;
-  plays = called.4;
-  own = subst (λ (h : List Holder). AreOwn h) called.3 own 0 called.1 refl;
-  closed = subst (λ (h : List Holder). IsClosed history h) called.3 closed;
-}
+-- its end is refused by 39 or 40
+of_standing : (why : StandingFault) → (book_fault_number (fault_of why) ≡ 39) ⊎ (book_fault_number (fault_of why) ≡ 40)
+of_standing (standing.Estranged number found) = inl refl
+of_standing standing.OutOfMemory = inr refl
 
--- the calls of the clients with which it ended
-pub calls_of : (script : Option (List ℕ)) (clients : List ClientView) (history : List Entry) (end : SessionEnd) → HaveCalled script clients end
-    → IsClosed history (holders clients) → AreOwn (holders clients) → HasCalls script history end
-calls_of script clients history Finished called closed own = client_of script clients history IsPlayed called closed own
-calls_of script clients history (Fault number) (inl none) closed own =
-    inl (none.0, nil_from_length history (sym (subst (λ (h : List Holder). receipts_of h ≡ length history) none.1 closed.total)))
-calls_of script clients history (Fault number) (inr called) closed own = inr (client_of script clients history IsPlayedInPart called closed own)
+pub refusal_number : (honest : Bool) (base : Units) (clients : List Holder) (fault : ServiceFault) → IsNotEnded honest base clients fault
+    → (fault_number fault ≡ 39) ⊎ (fault_number fault ≡ 40)
+refusal_number honest base clients fault it =
+    subst (λ (f : ServiceFault). (fault_number f ≡ 39) ⊎ (fault_number f ≡ 40)) (sym it.fault_is) (elim it.why [
+      | inl none ↦ inr (ap book_fault_number none)
+      | inr (inl astray) ↦ subst (λ (f : BookFault). (book_fault_number f ≡ 39) ⊎ (book_fault_number f ≡ 40)) (sym astray.4) (of_standing astray.2)
+      | inr (inr others) ↦ inl (ap book_fault_number others.0)
+    ])
 
--- what is left of one whose service was ended
-pub kept_on : {D : Type 0} (honest : Bool) (seen later : List ℕ) (may_leave : D → List ℕ → Type 0) (script : Option (List ℕ)) (end : SessionEnd) (after : D)
-    → (IsTrue honest → later ≡ seen) → IsKept honest later may_leave script end after → IsKept honest seen may_leave script end after
-kept_on honest seen later may_leave script end after same it =
+module _ {D : Type 0} (honest : Bool) (may_leave : D → List ℕ → Type 0) (left_since : D → ℕ → List ℕ → Type 0) (named : Units) (from : ℕ) (left : List ℕ → Type 0)
+    (bytes : List ℕ) (begun : IsTrue honest → Recovers bytes named) (clients : List Holder) (played : SessionEnd) where
+  -- with all that its end says of the book
+  pub kept_by : (book : BookView D) (after : D) → after ≡ book.library.disk → IsSound honest may_leave left_since named from left book → IsClosed book.history clients → AreOwn clients
+      → IsEnded honest bytes may_leave left_since from left clients played played after
+  kept_by book after disk sound closed own =
+      inl (inl refl, record { base = named; begun = begun; book = book; disk = sym disk; sound = sound; own = own; holds = closed })
+
+  -- it was given up, for its end was refused by this number
+  pub given_up_by : (are_all : Bool) (after : D) (number : ℕ) → IsGivenUp honest may_leave left_since named from left clients are_all after → (number ≡ 39) ⊎ (number ≡ 40)
+      → IsEnded honest bytes may_leave left_since from left clients played (told_after (if are_all then 40 else number) played) after
+  given_up_by true after number it why =
+      inl (inr refl, record { base = named; begun = begun; book = it.book; disk = it.disk_is; sound = it.sound; own = it.own; holds = it.closed refl })
+  given_up_by false after number it why =
+      inr (
+        elim why [ inl astray ↦ inl (ap (λ (n : ℕ). told_after n played) astray) | inr none ↦ inr (ap (λ (n : ℕ). told_after n played) none) ],
+        record { base = named; begun = begun; book = it.book; disk = it.disk_is; sound = it.sound; own = it.own; holds = it.why refl },
+      )
+
+-- ---- what was read before it was opened
+
+-- what is left of a service, said of the bytes that were seen before
+left_on : {D : Type 0} (honest : Bool) (seen later : List ℕ) (may_leave : D → List ℕ → Type 0) (left_since : D → ℕ → List ℕ → Type 0) (from : ℕ) (left : List ℕ → Type 0)
+    (Holds : List Entry → List Holder → Type 0) (clients : List Holder) (after : D) → (IsTrue honest → later ≡ seen)
+    → IsLeft honest later may_leave left_since from left Holds clients after → IsLeft honest seen may_leave left_since from left Holds clients after
+left_on honest seen later may_leave left_since from left Holds clients after same it =
     record {
+      base = it.base;
+      begun = λ h. subst (λ (bytes : List ℕ). Recovers bytes it.base) (same h) (it.begun h);
       book = it.book;
       disk = it.disk;
-      calls = it.calls;
-      legal = it.legal;
-      map = it.map;
-      agrees = it.agrees;
-      idle = it.idle;
-      begun = λ h. subst (λ (bytes : List ℕ). Recovers bytes it.book.base) (same h) (it.begun h);
-      images = it.images;
-      survives = it.survives;
+      sound = it.sound;
+      own = it.own;
+      holds = it.holds;
     }
+
+-- so of one that was ended or given up
+ended_on : {D : Type 0} (honest : Bool) (seen later : List ℕ) (may_leave : D → List ℕ → Type 0) (left_since : D → ℕ → List ℕ → Type 0) (from : ℕ) (left : List ℕ → Type 0)
+    (clients : List Holder) (played end : SessionEnd) (after : D) → (IsTrue honest → later ≡ seen) → IsEnded honest later may_leave left_since from left clients played end after
+    → IsEnded honest seen may_leave left_since from left clients played end after
+ended_on honest seen later may_leave left_since from left clients played end after same (inl kept) =
+    inl (kept.0, left_on honest seen later may_leave left_since from left IsClosed clients after same kept.1)
+ended_on honest seen later may_leave left_since from left clients played end after same (inr estranged) =
+    inr (estranged.0, left_on honest seen later may_leave left_since from left IsNotWhole clients after same estranged.1)
 
 module _ {D : Type 0} (seen : D → List ℕ) (may_leave : D → List ℕ → Type 0) (moment : D → ℕ) (left_since : D → ℕ → List ℕ → Type 0) where
   -- nothing was done
@@ -139,20 +138,37 @@ module _ {D : Type 0} (seen : D → List ℕ) (may_leave : D → List ℕ → Ty
   }
 
   -- how a session ended, said of the disk before it was looked at
-  pub ends_on : (honest : Bool) (failures : D → ℕ) (script now : Option (List ℕ)) (a b : D) (left : Option D) (end : SessionEnd)
+  on_first : (honest : Bool) (failures : D → ℕ) (script now : Option (List ℕ)) (from : ℕ) (begins : List ℕ → Type 0) (a b : D) (left : Option D) (end : SessionEnd)
       → now ≡ script → failures b ≡ failures a → (IsTrue honest → OnlyReads seen may_leave moment left_since a b)
-      → SessionEnds honest seen may_leave moment left_since failures now b left end
-      → SessionEnds honest seen may_leave moment left_since failures script a left end
-  ends_on honest failures script now a b None end heard sound reads it = it
-  ends_on honest failures script now a b (Some d) end heard sound reads (inl (unopened, later)) =
+      → EndsSince honest seen may_leave moment left_since failures from begins now b left end
+      → EndsSince honest seen may_leave moment left_since failures from begins script a left end
+  on_first honest failures script now from begins a b None end heard sound reads it = absurd it
+  on_first honest failures script now from begins a b (Some d) end heard sound reads (inl (unopened, later)) =
       inl (
         subst (λ (n : ℕ). IsUnopened honest (seen a) n (failures d) end) sound
             (unopened_on honest (seen a) (seen b) (failures b) (failures d) end (λ h. (reads h).same) unopened),
         λ h. reads_on a b d (reads h) (later h),
       )
-  ends_on honest failures script now a b (Some d) end heard sound reads (inr (begun, kept)) =
+  on_first honest failures script now from begins a b (Some d) end heard sound reads (inr ended) =
       inr (
-        begun,
-        kept_on honest (seen a) (seen b) may_leave script end d (λ h. (reads h).same)
-            (subst (λ (o : Option (List ℕ)). IsKept honest (seen b) may_leave o end d) heard kept),
+        ended.0,
+        ended.1,
+        subst (λ (o : Option (List ℕ)). HaveCalled o ended.0 ended.1) heard ended.2,
+        ended_on honest (seen a) (seen b) may_leave left_since from begins ended.0 ended.1 end d (λ h. (reads h).same) ended.3,
       )
+
+  -- the disk as it was at the beginning
+  pub ends_on : (honest : Bool) (failures : D → ℕ) (script now : Option (List ℕ)) (first a b : D) (left : Option D) (end : SessionEnd)
+      → first ≡ a → now ≡ script → failures b ≡ failures a → (IsTrue honest → OnlyReads seen may_leave moment left_since a b)
+      → EndsSince honest seen may_leave moment left_since failures (moment first) (may_leave first) now b left end
+      → SessionEnds honest seen may_leave moment left_since failures script a left end
+  ends_on honest failures script now first a b left end is heard sound reads it =
+      subst (λ (d : D). EndsSince honest seen may_leave moment left_since failures (moment d) (may_leave d) script a left end) is
+      (on_first honest failures script now (moment first) (may_leave first) a b left end heard sound reads it)
+
+  -- what a crash may have left at its beginning
+  pub past_at : (first a b : D) → ((image : List ℕ) → left_since a (moment a) image → may_leave a image) → first ≡ a → OnlyReads seen may_leave moment left_since a b
+      → IsPast moment left_since (moment first) (may_leave first) b
+  past_at first a b only is reads =
+      subst (λ (d : D). IsPast moment left_since (moment d) (may_leave d) b) (sym is)
+      (record { past = reads.later; all = λ image since. only image (reads.moments (moment a) image (omega arith) since) })

@@ -1,3 +1,4 @@
+pub mod Calling
 pub mod Ends
 pub mod Fetching
 pub mod Lines

@@ -1,61 +1,150 @@
 -- What is known of the rest of a script is carried from step to step.
-use Rattle.std.proofs.Common.{◌≡◌, ◌∙◌, ℕ, ◌+◌, ◌<◌, ◌≤◌, Bool, true, false, List, [], ◌∷◌, ◌++◌, length, take, Option, Some, None, Result, Ok, Err, refl, sym, ap, subst, append_assoc, arith, inl, inr}
-use Rattle.std.specs.Prelude.{◌⊎◌, ◌≢◌, All, IfSome, OnOk, nat_le}
+use Rattle.std.proofs.Common.{◌≡◌, ◌∙◌, ℕ, ◌+◌, ◌<◌, ◌≤◌, Bool, true, false, List, [], ◌∷◌, ◌++◌, length, take, Option, Some, None, Result, Ok, Err, Vec, Global, refl, sym, ap, subst, append_assoc, arith, inl, inr}
+use Rattle.std.specs.Prelude.{◌⊎◌, ◌≢◌, All, IfErr, IfSome, OnOk, nat_le}
+use Rattle.std.specs.Option.{option_map}
 use Rattle.std.proofs.lemmas.Grind.{common_steps}
 use Rattle.std.proofs.lemmas.List.{length-append}
 use Rattle.std.proofs.lemmas.List.Elements.{All-append}
 use Rattle.std.proofs.lemmas.Bool.Decides.{nat_tests}
 use Rattle.cc_script.specs.Line.{Asked, asked_of}
-use Rattle.cc_script.specs.Reading.{Between, IsLine, IsNext, IsSource, rest_from}
+use Rattle.cc_script.specs.Reading.{Ahead, Between, HasMore, IsLine, IsLineEnd, IsNext, IsNoSource, IsNotRead, IsRead, IsSource, Known, rest_from}
+use Rattle.cc_script.specs.declared.fault.ScriptFault.{ScriptFault}
+use Rattle.cc_script.specs.declared.fault.ScriptFault.TheVariants.{BadLine, EndOfScript, ScriptTooLong, ReadFault, WriteFault}
 use Rattle.cc_script.specs.declared.script.Next.TheVariants.{TooLong}
 use Rattle.cc_history.specs.History.{Holder}
-use Rattle.cc_session.specs.Playing.{IsPlayed, IsPlayedInPart, IsStep, Obeys, Plays, Turn, asked_by_line}
-use Rattle.cc_session.specs.internal.Steps.{IsDone}
+use Rattle.cc_session.specs.Playing.{IsPlayed, IsPlayedInPart, IsStep, IsTooLong, Obeys, Plays, Turn, asked_by_line}
+use Rattle.cc_session.specs.internal.Steps.{HasSent, IsDone, IsNotDone, IsSentAs, IsShortOf}
+use Rattle.cc_session.specs.declared.talk.Sent.{Sent}
 
 -- ---- from step to step
 
-pub between_then : (x y z : Option (List ℕ)) (P Q S : List ℕ → List ℕ → Type 0) → Between x y P → Between y z Q
-    → ((b m a : List ℕ) → P b m → Q m a → S b a) → Between x z S
-between_then None y z P Q S one two on = tt
-between_then (Some b) None z P Q S one two on = absurd one
-between_then (Some b) (Some m) None P Q S one two on = absurd two
-between_then (Some b) (Some m) (Some a) P Q S one two on = on b m a one two
+-- one part behind another, of which neither gave back a byte
+read_then : (x y z : Option (List ℕ)) (n k m : ℕ) (P Q S : List ℕ → List ℕ → Type 0) → Known x y (IsRead n k P) → Known y z (IsRead k m Q)
+    → ((b c a : List ℕ) → length c ≤ length b → length a ≤ length c → P b c → Q c a → S b a) → Known x z (IsRead n m S)
+read_then None y z n k m P Q S one two on = tt
+read_then (Some b) None z n k m P Q S one two on = absurd one
+read_then (Some b) (Some c) None n k m P Q S one two on = absurd two
+read_then (Some b) (Some c) (Some a) n k m P Q S one two on =
+    let first = length-append one.taken c in
+    let second = length-append two.taken a in
+    let both = length-append one.taken two.taken in
+    let long = ap (λ (l : List ℕ). length l) one.prefix in
+    let short = ap (λ (l : List ℕ). length l) two.prefix in
+    record {
+      taken = one.taken ++ two.taken;
+      prefix = one.prefix ∙ (ap (λ (l : List ℕ). one.taken ++ l) two.prefix ∙ sym (append_assoc one.taken two.taken a));
+      counted = omega (arith, both, one.counted, two.counted);
+      holds = on b c a (omega (arith, first, long)) (omega (arith, second, short)) one.holds two.holds;
+    }
 
-pub between_map : (x y : Option (List ℕ)) (P S : List ℕ → List ℕ → Type 0) → Between x y P → ((b a : List ℕ) → P b a → S b a) → Between x y S
-between_map None y P S it on = tt
-between_map (Some b) None P S it on = it
-between_map (Some b) (Some a) P S it on = on b a it
+pub between_on : (x y z : Ahead) (P Q S : List ℕ → List ℕ → Type 0) → Between x y P → Between y z Q
+    → ((b m a : List ℕ) → length m ≤ length b → length a ≤ length m → P b m → Q m a → S b a) → Between x z S
+between_on x y z P Q S one two on = read_then x.rest y.rest z.rest x.left y.left z.left P Q S one two on
+
+pub between_then : (x y z : Ahead) (P Q S : List ℕ → List ℕ → Type 0) → Between x y P → Between y z Q
+    → ((b m a : List ℕ) → P b m → Q m a → S b a) → Between x z S
+between_then x y z P Q S one two on = between_on x y z P Q S one two (λ b m a first second. on b m a)
+
+read_map : (x y : Option (List ℕ)) (n m : ℕ) (P S : List ℕ → List ℕ → Type 0) → Known x y (IsRead n m P) → ((b a : List ℕ) → P b a → S b a) → Known x y (IsRead n m S)
+read_map None y n m P S it on = tt
+read_map (Some b) None n m P S it on = it
+read_map (Some b) (Some a) n m P S it on = record { taken = it.taken; prefix = it.prefix; counted = it.counted; holds = on b a it.holds }
+
+pub between_map : (x y : Ahead) (P S : List ℕ → List ℕ → Type 0) → Between x y P → ((b a : List ℕ) → P b a → S b a) → Between x y S
+between_map x y P S it on = read_map x.rest y.rest x.left y.left P S it on
+
+read_same : (x : Option (List ℕ)) (n : ℕ) (Q : List ℕ → List ℕ → Type 0) → ((b : List ℕ) → Q b b) → Known x x (IsRead n n Q)
+read_same None n Q it = tt
+read_same (Some b) n Q it = record { taken = []; prefix = refl; counted = omega arith; holds = it b }
 
 -- nothing was read
-pub between_same : (x y : Option (List ℕ)) (Q : Type 0) → y ≡ x → Q → Between x y (λ b a. (a ≡ b) × Q)
-between_same None y Q same it = tt
-between_same (Some b) y Q same it = subst (λ (o : Option (List ℕ)). Between (Some b) o (λ b a. (a ≡ b) × Q)) (sym same) (refl, it)
+pub between_none : (x : Ahead) (Q : List ℕ → List ℕ → Type 0) → ((b : List ℕ) → Q b b) → Between x x Q
+between_none x Q it = read_same x.rest x.left Q it
+
+pub between_same : (x y : Ahead) (Q : Type 0) → y ≡ x → Q → Between x y (λ b a. (a ≡ b) × Q)
+between_same x y Q same it = subst (λ (o : Ahead). Between x o (λ b a. (a ≡ b) × Q)) (sym same) (between_none x (λ b a. (a ≡ b) × Q) (λ b. (refl, it)))
 
 -- what is known before follows from what is known after
-pub known_by : (x y : Option (List ℕ)) (P : List ℕ → List ℕ → Type 0) (S : List ℕ → Type 0) → Between x y P → ((b a : List ℕ) → P b a → S b) → IfSome x S
-known_by None y P S it on = tt
-known_by (Some b) None P S it on = absurd it
-known_by (Some b) (Some a) P S it on = on b a it
+read_by : (x y : Option (List ℕ)) (n m : ℕ) (P : List ℕ → List ℕ → Type 0) (Q S : List ℕ → Type 0) → Known x y (IsRead n m P) → IfSome y Q → ((b c : List ℕ) → P b c → Q c → S b) → IfSome x S
+read_by None y n m P Q S one two on = tt
+read_by (Some b) None n m P Q S one two on = absurd one
+read_by (Some b) (Some c) n m P Q S one two on = on b c one.holds two
 
-pub known_then : (x y : Option (List ℕ)) (P : List ℕ → List ℕ → Type 0) (Q S : List ℕ → Type 0) → Between x y P → IfSome y Q → ((b m : List ℕ) → P b m → Q m → S b) → IfSome x S
-known_then None y P Q S one two on = tt
-known_then (Some b) None P Q S one two on = absurd one
-known_then (Some b) (Some m) P Q S one two on = on b m one two
+pub known_then : (x y : Ahead) (P : List ℕ → List ℕ → Type 0) (Q S : List ℕ → Type 0) → Between x y P → IfSome y.rest Q → ((b m : List ℕ) → P b m → Q m → S b) → IfSome x.rest S
+known_then x y P Q S one two on = read_by x.rest y.rest x.left y.left P Q S one two on
 
 pub known : (x : Option (List ℕ)) (S : List ℕ → Type 0) → ((b : List ℕ) → S b) → IfSome x S
 known None S all = tt
 known (Some b) S all = all b
 
+pub known_by : (x y : Ahead) (P : List ℕ → List ℕ → Type 0) (S : List ℕ → Type 0) → Between x y P → ((b a : List ℕ) → P b a → S b) → IfSome x.rest S
+known_by x y P S it on = known_then x y P (λ b. Unit {0}) S it (known y.rest (λ b. Unit {0}) (λ b. tt)) (λ b m p none. on b m p)
+
+pub known_map : (x : Option (List ℕ)) (Q S : List ℕ → Type 0) → IfSome x Q → ((b : List ℕ) → Q b → S b) → IfSome x S
+known_map None Q S it on = tt
+known_map (Some b) Q S it on = on b it
+
+pub known_both : (x : Option (List ℕ)) (Q S : List ℕ → Type 0) → IfSome x Q → IfSome x S → IfSome x (λ b. Q b × S b)
+known_both None Q S one two = tt
+known_both (Some b) Q S one two = (one, two)
+
+-- more bytes are left than there may be, and so it was before
+more_read : (x y : Option (List ℕ)) (n m : ℕ) (P : List ℕ → List ℕ → Type 0) → Known x y (IsRead n m P) → IfSome y (λ rest. m < length rest) → IfSome x (λ all. n < length all)
+more_read None y n m P one more = tt
+more_read (Some b) None n m P one more = absurd one
+more_read (Some b) (Some a) n m P one more =
+    let both = length-append one.taken a in
+    let long = ap (λ (l : List ℕ). length l) one.prefix in
+    omega (arith, both, long, one.counted, more)
+
+pub more_before : (x y : Ahead) (P : List ℕ → List ℕ → Type 0) → Between x y P → HasMore y → HasMore x
+more_before x y P one more = more_read x.rest y.rest x.left y.left P one more
+
+-- so the script is too long
+pub too_long : (x : Ahead) → x.left ≡ 16777216 → HasMore x → IfSome x.rest IsTooLong
+too_long x whole more = known_map x.rest (λ b. x.left < length b) IsTooLong more (λ b few. omega (arith, whole, few))
+
 -- ---- whether a step was done
 
-pub done_of : {T E : Type 0} (answer : Result T E) (Does : List ℕ → List ℕ → Holder → Holder → Type 0) (x y : Option (List ℕ)) (old new : Holder)
-    → Between x y (λ b a. Does b a old new) → IsDone Does x y old new answer
-done_of (Ok t) Does x y old new it = it
-done_of (Err e) Does x y old new it = known_by x y (λ b a. Does b a old new) _ it (λ b a does. inr (a, does))
+pub done_of : {T : Type 0} (answer : Result T ScriptFault) (Does : List ℕ → List ℕ → Holder → Holder → Type 0) (IsShort : List ℕ → Type 0) (x y : Ahead) (old new : Holder)
+    → IfErr answer (λ fault. fault ≡ WriteFault) → Between x y (λ b a. Does b a old new) → IsDone Does IsShort x y old new answer
+done_of (Ok t) Does IsShort x y old new unwritten it = it
+done_of (Err e) Does IsShort x y old new unwritten it =
+    subst (λ (fault : ScriptFault). IsNotDone Does IsShort x old new fault) (sym unwritten)
+    (known_by x y (λ b a. Does b a old new) (λ b. (new ≡ old) ⊎ ((a : List ℕ) × Does b a old new)) it (λ b a does. inr (a, does)))
 
-pub done_not : (T : Type 0) {E : Type 0} (fault : E) (Does : List ℕ → List ℕ → Holder → Holder → Type 0) (x y : Option (List ℕ)) (old new : Holder)
-    → new ≡ old → IsDone {T = T} Does x y old new (Err fault)
-done_not T fault Does x y old new same = known x _ (λ b. inl same)
+-- what could not be read behind a part that was read
+pub unread_before : (x y : Ahead) (P : List ℕ → List ℕ → Type 0) (left : ℕ) (fault : ScriptFault) → Between x y P → IsNotRead y left fault → IsNotRead x left fault
+unread_before x y P left BadLine one why = absurd why
+unread_before x y P left EndOfScript one why = absurd why
+unread_before x y P left ScriptTooLong one why = (why.0, more_before x y P one why.1)
+unread_before x y P left ReadFault one why = tt
+unread_before x y P left WriteFault one why = absurd why
+
+-- a source, or the end of its line
+pub no_source : (x y : Ahead) (P : List ℕ → List ℕ → Type 0) (count left : ℕ) (fault : ScriptFault) → Between x y P → IsNotRead y left fault → IsNoSource x count left fault
+no_source x y P count left BadLine one why = absurd why
+no_source x y P count left EndOfScript one why = absurd why
+no_source x y P count left ScriptTooLong one why = unread_before x y P left ScriptTooLong one why
+no_source x y P count left ReadFault one why = tt
+no_source x y P count left WriteFault one why = absurd why
+
+-- then nothing was done
+pub not_read : (Does : List ℕ → List ℕ → Holder → Holder → Type 0) (IsShort : List ℕ → Type 0) (x : Ahead) (left : ℕ) (h : Holder) (fault : ScriptFault)
+    → IsNotRead x left fault → IsNotDone Does IsShort x h h fault
+not_read Does IsShort x left h BadLine why = absurd why
+not_read Does IsShort x left h EndOfScript why = absurd why
+not_read Does IsShort x left h ScriptTooLong why = (refl, why.1)
+not_read Does IsShort x left h ReadFault why = refl
+not_read Does IsShort x left h WriteFault why = absurd why
+
+pub not_sent : (Does : List ℕ → List ℕ → Holder → Holder → Type 0) (x : Ahead) (count left : ℕ) (h : Holder) (fault : ScriptFault)
+    → IsNoSource x count left fault → IsNotDone Does (IsShortOf count) x h h fault
+not_sent Does x count left h BadLine why = absurd why
+not_sent Does x count left h EndOfScript why = (refl, why)
+not_sent Does x count left h ScriptTooLong why = not_read Does (IsShortOf count) x left h ScriptTooLong why
+not_sent Does x count left h ReadFault why = refl
+not_sent Does x count left h WriteFault why = absurd why
 
 -- ---- lines
 
@@ -120,26 +209,40 @@ pub played_up_to : (script : List ℕ) (first : Holder) (turns : List Turn) (res
     → (last ≡ client) ⊎ ((after : List ℕ) × IsStep rest after client last) → IsPlayedInPart script first last
 played_up_to script first turns rest client last plays it = record { turns = turns; rest = rest; client = client; plays = plays; then_is = it }
 
--- nothing of it yet
-pub played_none : (x : Option (List ℕ)) (h : Holder) → Between x x (λ b a. (turns : List Turn) × Plays b h turns a h)
-played_none None h = tt
-played_none (Some b) h = ([], (refl, refl))
-
 -- ---- lines that are refused, and sources
 
 -- a step whose line is skipped
-pub skipped : {T E : Type 0} (answer : Result T E) (Does : List ℕ → List ℕ → Holder → Holder → Type 0) (x y z : Option (List ℕ)) (h : Holder) (P : List ℕ → List ℕ → Type 0)
-    → Between x y P → OnOk answer (Between y z (λ b a. (rest : List ℕ) × IsLine b rest a))
-    → ((b m a : List ℕ) → P b m → ((rest : List ℕ) × IsLine m rest a) → Does b a h h) → IsDone Does x z h h answer
-skipped (Ok t) Does x y z h P one two on = between_then x y z P (λ b a. (rest : List ℕ) × IsLine b rest a) (λ b a. Does b a h h) one two on
-skipped (Err e) Does x y z h P one two on = known x _ (λ b. inl refl)
+pub skipped : {T : Type 0} (answer : Result T ScriptFault) (Does : List ℕ → List ℕ → Holder → Holder → Type 0) (IsShort : List ℕ → Type 0) (x y z : Ahead) (left : ℕ) (h : Holder)
+    (P : List ℕ → List ℕ → Type 0) → Between x y P → OnOk answer (Between y z (λ b a. (rest : List ℕ) × IsLine b rest a))
+    → IfErr answer (λ fault. (fault ≡ WriteFault) ⊎ IsNotRead y left fault)
+    → ((b m a : List ℕ) → P b m → ((rest : List ℕ) × IsLine m rest a) → Does b a h h) → IsDone Does IsShort x z h h answer
+skipped (Ok t) Does IsShort x y z left h P one two why on = between_then x y z P (λ b a. (rest : List ℕ) × IsLine b rest a) (λ b a. Does b a h h) one two on
+skipped (Err e) Does IsShort x y z left h P one two (inl unwritten) on =
+    subst (λ (fault : ScriptFault). IsNotDone Does IsShort x h h fault) (sym unwritten) (known x.rest _ (λ b. inl refl))
+skipped (Err e) Does IsShort x y z left h P one two (inr why) on = not_read Does IsShort x left h e (unread_before x y P left e one why)
 
--- a source, and the end of its line behind it
-pub source_step : (b m a : List ℕ) (count : ℕ) (kept : List ℕ) → IsSource b count (Some kept) m → IsLine m [] a
-    → (source : List ℕ) × (rest : List ℕ) × (b ≡ source ++ rest) × (length source ≡ count) × IsLine rest [] a × (kept ≡ take 65537 source)
-source_step b m a count kept read line = (read.source, m, read.prefix, read.count_is, line, read.kept_is)
+-- a source, and what stands behind it
+pub sent_step : (b m a : List ℕ) (count : ℕ) (source : Option (Vec ℕ Global)) (is_ended : Bool) (sent : Sent) → IsSentAs source is_ended sent
+    → IsSource b count (option_map (λ bytes. bytes.items) source) m → IsLineEnd m is_ended a → HasSent b count sent a
+sent_step b m a count (Some bytes) true sent is read ended =
+    subst (λ (s : Sent). HasSent b count s a) (sym is) (read.source, m, read.prefix, read.count_is, ended, read.kept_is)
+sent_step b m a count None true sent is read ended =
+    subst (λ (s : Sent). HasSent b count s a) (sym is) (read.source, m, read.prefix, read.count_is, ended)
+sent_step b m a count (Some bytes) false sent is read ended =
+    subst (λ (s : Sent). HasSent b count s a) (sym is)
+    (read.source, ended.0, read.prefix ∙ ap (λ (l : List ℕ). read.source ++ l) ended.2, read.count_is, ended.1)
+sent_step b m a count None false sent is read ended =
+    subst (λ (s : Sent). HasSent b count s a) (sym is)
+    (read.source, ended.0, read.prefix ∙ ap (λ (l : List ℕ). read.source ++ l) ended.2, read.count_is, ended.1)
+
+pub sent_on : (x y z : Ahead) (count : ℕ) (source : Option (Vec ℕ Global)) (is_ended : Bool) (sent : Sent) → IsSentAs source is_ended sent
+    → Between x y (λ b a. IsSource b count (option_map (λ bytes. bytes.items) source) a) → Between y z (λ b a. IsLineEnd b is_ended a)
+    → Between x z (λ b a. HasSent b count sent a)
+sent_on x y z count source is_ended sent is read ended =
+    between_then x y z (λ b a. IsSource b count (option_map (λ bytes. bytes.items) source) a) (λ b a. IsLineEnd b is_ended a) (λ b a. HasSent b count sent a) read ended
+    (λ b m a one two. sent_step b m a count source is_ended sent is one two)
 
 -- a script of which nothing has been read
-pub unread : (remaining : Option (List ℕ)) → rest_from [] false remaining ≡ remaining
+pub unread : (remaining : Option (List ℕ)) → ◌≡◌ {A = Ahead} (record { rest = rest_from [] false remaining; left = 16777216 }) (record { rest = remaining; left = 16777216 })
 unread None = refl
 unread (Some bytes) = refl

@@ -1,23 +1,26 @@
 -- A line with a source behind it is a step.
 use Rattle.std.proofs.Common.{◌≡◌, ◌∙◌, ℕ, ◌<◌, List, [], ◌∷◌, ◌++◌, length, take, Option, Result, Vec, Global, refl, sym, subst, arith, inl, inr}
-use Rattle.std.specs.Prelude.{◌≢◌, OnOk}
+use Rattle.std.specs.Prelude.{◌⊎◌, ◌≢◌, IfErr, OnOk}
 use Rattle.std.proofs.lemmas.List.Elements.{All-cons, All-nil}
-use Rattle.cc_script.specs.Reading.{Between, IsLine}
+use Rattle.cc_script.specs.Reading.{Ahead, Between, IsLine, IsNotRead}
+use Rattle.cc_script.specs.declared.fault.ScriptFault.{ScriptFault}
+use Rattle.cc_script.specs.declared.fault.ScriptFault.TheVariants.{WriteFault}
 use Rattle.cc_history.specs.declared.command.Command.{Command}
 use Rattle.cc_history.specs.History.{Holder}
 use Rattle.cc_service.specs.Serving.{PutAnswers}
 use Rattle.cc_session.specs.Playing.{Calls, IsSent}
-use Rattle.cc_session.specs.internal.Steps.{HasSent, IsDone}
-use Rattle.cc_session.specs.declared.talk.Sent.TheVariants.{Source, Unended}
+use Rattle.cc_session.specs.internal.Steps.{HasSent, IsDone, IsShortOf}
+use Rattle.cc_session.specs.declared.talk.Sent.TheVariants.{NoRoom, Source, Unended}
 use Rattle.cc_session.proofs.Playing.{between_map, done_of, line_behind, skipped}
 
 -- a source that was handed to the service
-pub put_step : {T E : Type 0} (answer : Result T E) (Asks : (name source : List ℕ) → Command → Type 0) (name : List ℕ) (bytes : Vec ℕ Global) (sent : List ℕ) → sent ≡ bytes.items
-    → (count : ℕ) (x y z : Option (List ℕ)) (old new : Holder) → Between x y (λ b a. HasSent b count (Source bytes) a)
-    → z ≡ y → Calls (PutAnswers (Asks name sent) name sent old new) → IsDone (λ b a o n. IsSent Asks name count b a o n) x z old new answer
-put_step answer Asks name bytes sent same count x y z old new read rest called =
-    done_of answer (λ b a o n. IsSent Asks name count b a o n) x z old new
-    (subst (λ (o : Option (List ℕ)). Between x o (λ b a. IsSent Asks name count b a old new)) (sym rest)
+pub put_step : {T : Type 0} (answer : Result T ScriptFault) (Asks : (name source : List ℕ) → Command → Type 0) (name : List ℕ) (bytes : Vec ℕ Global) (sent : List ℕ) → sent ≡ bytes.items
+    → (count : ℕ) (x y z : Ahead) (old new : Holder) → Between x y (λ b a. HasSent b count (Source bytes) a)
+    → IfErr answer (λ fault. fault ≡ WriteFault) → z ≡ y → Calls (PutAnswers (Asks name sent) name sent old new)
+    → IsDone (λ b a o n. IsSent Asks name count b a o n) (IsShortOf count) x z old new answer
+put_step answer Asks name bytes sent same count x y z old new read unwritten rest called =
+    done_of answer (λ b a o n. IsSent Asks name count b a o n) (IsShortOf count) x z old new unwritten
+    (subst (λ (o : Ahead). Between x o (λ b a. IsSent Asks name count b a old new)) (sym rest)
     (between_map x y (λ b a. HasSent b count (Source bytes) a) (λ b a. IsSent Asks name count b a old new) read (λ b a it. record {
       source = it.0;
       rest = it.1;
@@ -27,11 +30,11 @@ put_step answer Asks name bytes sent same count x y z old new read rest called =
     })))
 
 -- one behind which another byte stands than a newline
-pub skip_step : {T E : Type 0} (answer : Result T E) (Asks : (name source : List ℕ) → Command → Type 0) (name : List ℕ) (count : ℕ) (x y z : Option (List ℕ)) (h : Holder)
+pub skip_step : {T : Type 0} (answer : Result T ScriptFault) (Asks : (name source : List ℕ) → Command → Type 0) (name : List ℕ) (count : ℕ) (x y z : Ahead) (left : ℕ) (h : Holder)
     → Between x y (λ b a. HasSent b count Unended a) → OnOk answer (Between y z (λ b a. (rest : List ℕ) × IsLine b rest a))
-    → IsDone (λ b a o n. IsSent Asks name count b a o n) x z h h answer
-skip_step answer Asks name count x y z h read skips =
-    skipped answer (λ b a o n. IsSent Asks name count b a o n) x y z h (λ b a. HasSent b count Unended a) read skips (λ b m a it line. record {
+    → IfErr answer (λ fault. (fault ≡ WriteFault) ⊎ IsNotRead y left fault) → IsDone (λ b a o n. IsSent Asks name count b a o n) (IsShortOf count) x z h h answer
+skip_step answer Asks name count x y z left h read skips why =
+    skipped answer (λ b a o n. IsSent Asks name count b a o n) (IsShortOf count) x y z left h (λ b a. HasSent b count Unended a) read skips why (λ b m a it line. record {
       source = it.0;
       rest = it.1 ∷ m;
       prefix = it.2;
@@ -43,3 +46,18 @@ skip_step answer Asks name count x y z h read skips =
         refl,
       );
     })
+
+-- one for which there was no room
+pub unsent_step : {T : Type 0} (answer : Result T ScriptFault) (Asks : (name source : List ℕ) → Command → Type 0) (name : List ℕ) (count : ℕ) (x y z : Ahead) (h : Holder)
+    → Between x y (λ b a. HasSent b count NoRoom a) → IfErr answer (λ fault. fault ≡ WriteFault) → z ≡ y
+    → IsDone (λ b a o n. IsSent Asks name count b a o n) (IsShortOf count) x z h h answer
+unsent_step answer Asks name count x y z h read unwritten rest =
+    done_of answer (λ b a o n. IsSent Asks name count b a o n) (IsShortOf count) x z h h unwritten
+    (subst (λ (o : Ahead). Between x o (λ b a. IsSent Asks name count b a h h)) (sym rest)
+    (between_map x y (λ b a. HasSent b count NoRoom a) (λ b a. IsSent Asks name count b a h h) read (λ b a it. record {
+      source = it.0;
+      rest = it.1;
+      prefix = it.2;
+      count_is = it.3;
+      called = inl (it.4, inr refl);
+    })))

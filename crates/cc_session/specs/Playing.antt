@@ -2,6 +2,8 @@
 use Rattle.std.specs.Prelude.{◌≡◌, ◌⊎◌, ◌<◌, ℕ, Bool, true, false, List, [], ◌∷◌, ◌++◌, length, take, nat_le, if◌then◌else◌, Option, Some, None, Result, Ok, Err}
 use Rattle.cc_script.specs.Line.{Asked, Add, Replace, Withdraw, Names, Run, Compact, Audit, asked_of}
 use Rattle.cc_script.specs.Reading.{IsLine}
+use Rattle.cc_script.specs.declared.fault.ScriptFault.{ScriptFault}
+use Rattle.cc_script.specs.declared.fault.ScriptFault.TheVariants.{BadLine, EndOfScript, ScriptTooLong, ReadFault, WriteFault}
 use Rattle.cc_history.specs.declared.command.Command.{Command}
 use Rattle.cc_history.specs.declared.entry.Receipt.{Receipt}
 use Rattle.cc_history.specs.declared.reply.Reply.TheVariants as reply
@@ -91,3 +93,43 @@ pub record IsPlayedInPart (script : List ℕ) (first last : Holder) : Type 0 whe
   pub client : Holder
   pub plays : Plays script first turns rest client
   pub then_is : (last ≡ client) ⊎ ((after : List ℕ) × IsStep rest after client last)
+
+-- ---- scripts that a fault ends
+
+-- a line that asks for this needs more bytes behind it than are left there
+abbrev pub IsCutShort : Option Asked → (rest : List ℕ) → Type 0
+IsCutShort (Some (Add name count)) rest = length rest < count
+IsCutShort (Some (Replace name count)) rest = length rest < count
+IsCutShort asked rest = ⊥
+
+-- the next line is such a one: the script ends within its source
+pub record EndsInSource (before : List ℕ) : Type 0 where
+  pub line : List ℕ
+  pub rest : List ℕ
+  pub is_line : IsLine before line rest
+  pub short : IsCutShort (asked_by_line line) rest
+
+-- why 52: the script has more bytes than it may have
+abbrev pub IsTooLong : (script : List ℕ) → Type 0
+IsTooLong script = 16777216 < length script
+
+-- a prefix of the script is done and nothing of what is behind it, of which this holds
+pub record IsPlayedUpTo (script : List ℕ) (Stops : (rest : List ℕ) → Type 0) (first last : Holder) : Type 0 where
+  pub turns : List Turn
+  pub rest : List ℕ
+  pub plays : Plays script first turns rest last
+  pub stops : Stops rest
+
+-- the faults that end a script: 51 to 54
+abbrev pub IsEnding : ScriptFault → Type 0
+IsEnding BadLine = ⊥
+IsEnding fault = Unit {0}
+
+-- How far a script was done that such a fault ended. That it could not be read, 53, or that an answer could not be written, 54, is known to
+-- its reader and its writer alone.
+abbrev pub IsStoppedBy : ScriptFault → (script : List ℕ) (first last : Holder) → Type 0
+IsStoppedBy BadLine script first last = ⊥
+IsStoppedBy EndOfScript script first last = IsPlayedUpTo script EndsInSource first last
+IsStoppedBy ScriptTooLong script first last = IsTooLong script × IsPlayedUpTo script (λ rest. Unit {0}) first last
+IsStoppedBy ReadFault script first last = IsPlayedUpTo script (λ rest. Unit {0}) first last
+IsStoppedBy WriteFault script first last = IsPlayedInPart script first last

@@ -2,12 +2,11 @@
 
 ghost use Rattle.std.specs.Prelude.{◌≡◌, Option, Ok, IsTrue, false, IfErr, IfOk};
 ghost use Rattle.cc_script.specs.Line.{asked_of};
-ghost use Rattle.cc_script.specs.Reading.{rest_of};
+ghost use Rattle.cc_script.specs.declared.fault.ScriptFault.TheVariants.{WriteFault};
 ghost use Rattle.cc_history.specs.declared.entry.Receipt.{Receipt};
 ghost use Rattle.cc_service.specs.Serving.{Adds, GetAnswers, ListAnswers, PutAnswers, Replaces, WithdrawAnswers};
-ghost use Rattle.cc_session.specs.Playing.{Audits, Calls, FetchesEach, IsSent, Obeys};
-ghost use Rattle.cc_session.specs.internal.Ending.{IsEnding};
-ghost use Rattle.cc_session.specs.internal.Steps.{IsDone, IsPlayedBy, asking};
+ghost use Rattle.cc_session.specs.Playing.{Audits, Calls, FetchesEach, IsCutShort, IsSent, Obeys};
+ghost use Rattle.cc_session.specs.internal.Steps.{IsDone, IsPlayedBy, IsShortOf, asking};
 
 use crate::auditing::audit_found;
 use crate::talk::{Sent, Talk};
@@ -43,8 +42,8 @@ impl<'a, N: Named + Send + Sync + 'static, H: Wait, D: Disk> Caller<'a, N, H, D>
         name: &[u8],
         source: &[u8],
     ) -> Result<(), ScriptFault>
-        ensures ending { IfErr result IsEnding }
-        ensures rest { rest_of talk.new.script (R.remaining talk.new.reader) ≡ rest_of talk.old.script (R.remaining talk.old.reader) }
+        ensures ending { IfErr result (λ fault. fault ≡ WriteFault) }
+        ensures rest { talk.new ≡ talk.old }
         ensures called { Calls (PutAnswers (Adds name.now source.now) name.now source.now self.old.client.holder self.new.client.holder) }
     {
         let answer = self
@@ -61,8 +60,8 @@ impl<'a, N: Named + Send + Sync + 'static, H: Wait, D: Disk> Caller<'a, N, H, D>
         name: &[u8],
         source: &[u8],
     ) -> Result<(), ScriptFault>
-        ensures ending { IfErr result IsEnding }
-        ensures rest { rest_of talk.new.script (R.remaining talk.new.reader) ≡ rest_of talk.old.script (R.remaining talk.old.reader) }
+        ensures ending { IfErr result (λ fault. fault ≡ WriteFault) }
+        ensures rest { talk.new ≡ talk.old }
         ensures called { Calls (PutAnswers (Replaces name.now source.now) name.now source.now self.old.client.holder self.new.client.holder) }
     {
         let answer = self
@@ -81,8 +80,7 @@ impl<'a, N: Named + Send + Sync + 'static, H: Wait, D: Disk> Caller<'a, N, H, D>
         length: usize,
         is_new: bool,
     ) -> Result<(), ScriptFault>
-        ensures ending { IfErr result IsEnding }
-        ensures done { IsDone (λ before after old new. IsSent (asking is_new) name.now length before after old new) (rest_of talk.old.script (R.remaining talk.old.reader)) (rest_of talk.new.script (R.remaining talk.new.reader))
+        ensures { IsDone (λ before after old new. IsSent (asking is_new) name.now length before after old new) (IsShortOf length) talk.old talk.new
             self.old.client.holder self.new.client.holder result }
     {
         match talk.source(self.alloc, length)? {
@@ -105,8 +103,8 @@ impl<'a, N: Named + Send + Sync + 'static, H: Wait, D: Disk> Caller<'a, N, H, D>
         talk: &mut Talk<R, W, E>,
         name: &[u8],
     ) -> Result<(), ScriptFault>
-        ensures ending { IfErr result IsEnding }
-        ensures rest { rest_of talk.new.script (R.remaining talk.new.reader) ≡ rest_of talk.old.script (R.remaining talk.old.reader) }
+        ensures ending { IfErr result (λ fault. fault ≡ WriteFault) }
+        ensures rest { talk.new ≡ talk.old }
         ensures called { Calls (WithdrawAnswers name.now self.old.client.holder self.new.client.holder) }
     {
         let answer = self
@@ -121,8 +119,8 @@ impl<'a, N: Named + Send + Sync + 'static, H: Wait, D: Disk> Caller<'a, N, H, D>
         &mut self,
         talk: &mut Talk<R, W, E>,
     ) -> Result<(), ScriptFault>
-        ensures ending { IfErr result IsEnding }
-        ensures rest { rest_of talk.new.script (R.remaining talk.new.reader) ≡ rest_of talk.old.script (R.remaining talk.old.reader) }
+        ensures ending { IfErr result (λ fault. fault ≡ WriteFault) }
+        ensures rest { talk.new ≡ talk.old }
         ensures called { Calls (ListAnswers self.old.client.holder self.new.client.holder) }
     {
         let answer = self.service.list(self.rt, self.alloc, &mut self.client);
@@ -141,8 +139,8 @@ impl<'a, N: Named + Send + Sync + 'static, H: Wait, D: Disk> Caller<'a, N, H, D>
         found: &Found,
         steps: u64,
     ) -> Result<(), ScriptFault>
-        ensures ending { IfErr result IsEnding }
-        ensures rest { rest_of talk.new.script (R.remaining talk.new.reader) ≡ rest_of talk.old.script (R.remaining talk.old.reader) }
+        ensures ending { IfErr result (λ fault. fault ≡ WriteFault) }
+        ensures rest { talk.new ≡ talk.old }
     {
         let answer = run_image(self.alloc, &found.unit().stored().image, &[], steps);
         let told = talk.tell_run(self.alloc, &answer);
@@ -157,8 +155,8 @@ impl<'a, N: Named + Send + Sync + 'static, H: Wait, D: Disk> Caller<'a, N, H, D>
         name: &[u8],
         steps: u64,
     ) -> Result<(), ScriptFault>
-        ensures ending { IfErr result IsEnding }
-        ensures rest { rest_of talk.new.script (R.remaining talk.new.reader) ≡ rest_of talk.old.script (R.remaining talk.old.reader) }
+        ensures ending { IfErr result (λ fault. fault ≡ WriteFault) }
+        ensures rest { talk.new ≡ talk.old }
         ensures called { Calls (GetAnswers name.now self.old.client.holder self.new.client.holder) }
     {
         let answer = self
@@ -176,8 +174,8 @@ impl<'a, N: Named + Send + Sync + 'static, H: Wait, D: Disk> Caller<'a, N, H, D>
         &mut self,
         talk: &mut Talk<R, W, E>,
     ) -> Result<(), ScriptFault>
-        ensures ending { IfErr result IsEnding }
-        ensures rest { rest_of talk.new.script (R.remaining talk.new.reader) ≡ rest_of talk.old.script (R.remaining talk.old.reader) }
+        ensures ending { IfErr result (λ fault. fault ≡ WriteFault) }
+        ensures rest { talk.new ≡ talk.old }
         ensures client { self.new.client.holder ≡ self.old.client.holder }
     {
         let answer = self.service.compact(self.rt, self.alloc);
@@ -193,8 +191,8 @@ impl<'a, N: Named + Send + Sync + 'static, H: Wait, D: Disk> Caller<'a, N, H, D>
         name: &[u8],
         found: &Found,
     ) -> Result<bool, ScriptFault>
-        ensures ending { IfErr result IsEnding }
-        ensures rest { rest_of talk.new.script (R.remaining talk.new.reader) ≡ rest_of talk.old.script (R.remaining talk.old.reader) }
+        ensures ending { IfErr result (λ fault. fault ≡ WriteFault) }
+        ensures rest { talk.new ≡ talk.old }
     {
         match audit_found(self.alloc, found) {
             Ok(audit) => {
@@ -214,8 +212,8 @@ impl<'a, N: Named + Send + Sync + 'static, H: Wait, D: Disk> Caller<'a, N, H, D>
         talk: &mut Talk<R, W, E>,
         name: &[u8],
     ) -> Result<bool, ScriptFault>
-        ensures ending { IfErr result IsEnding }
-        ensures rest { rest_of talk.new.script (R.remaining talk.new.reader) ≡ rest_of talk.old.script (R.remaining talk.old.reader) }
+        ensures ending { IfErr result (λ fault. fault ≡ WriteFault) }
+        ensures rest { talk.new ≡ talk.old }
         ensures called { Calls (GetAnswers name.now self.old.client.holder self.new.client.holder) }
         ensures found { IfOk result (λ is_audited. IsTrue is_audited → (receipt : Receipt) × GetAnswers name.now self.old.client.holder self.new.client.holder (Ok receipt)) }
     {
@@ -239,8 +237,8 @@ impl<'a, N: Named + Send + Sync + 'static, H: Wait, D: Disk> Caller<'a, N, H, D>
         talk: &mut Talk<R, W, E>,
         names: &[Name],
     ) -> Result<bool, ScriptFault>
-        ensures ending { IfErr result IsEnding }
-        ensures rest { rest_of talk.new.script (R.remaining talk.new.reader) ≡ rest_of talk.old.script (R.remaining talk.old.reader) }
+        ensures ending { IfErr result (λ fault. fault ≡ WriteFault) }
+        ensures rest { talk.new ≡ talk.old }
         ensures whole { IfOk result (λ all. FetchesEach names.now all self.old.client.holder self.new.client.holder) }
         ensures part { IfErr result (λ fault. FetchesEach names.now false self.old.client.holder self.new.client.holder) }
     {
@@ -257,8 +255,8 @@ impl<'a, N: Named + Send + Sync + 'static, H: Wait, D: Disk> Caller<'a, N, H, D>
         &mut self,
         talk: &mut Talk<R, W, E>,
     ) -> Result<(), ScriptFault>
-        ensures ending { IfErr result IsEnding }
-        ensures rest { rest_of talk.new.script (R.remaining talk.new.reader) ≡ rest_of talk.old.script (R.remaining talk.old.reader) }
+        ensures ending { IfErr result (λ fault. fault ≡ WriteFault) }
+        ensures rest { talk.new ≡ talk.old }
         ensures called { Audits self.old.client.holder self.new.client.holder }
     {
         let answer = self.service.list(self.rt, self.alloc, &mut self.client);
@@ -280,8 +278,7 @@ impl<'a, N: Named + Send + Sync + 'static, H: Wait, D: Disk> Caller<'a, N, H, D>
         talk: &mut Talk<R, W, E>,
         line: &[u8],
     ) -> Result<(), ScriptFault>
-        ensures ending { IfErr result IsEnding }
-        ensures done { IsDone (λ before after old new. Obeys (asked_of line.now) before after old new) (rest_of talk.old.script (R.remaining talk.old.reader)) (rest_of talk.new.script (R.remaining talk.new.reader))
+        ensures { IsDone (λ before after old new. Obeys (asked_of line.now) before after old new) (λ rest. IsCutShort (asked_of line.now) rest) talk.old talk.new
             self.old.client.holder self.new.client.holder result }
     {
         match command_of(line) {
@@ -301,8 +298,8 @@ impl<'a, N: Named + Send + Sync + 'static, H: Wait, D: Disk> Caller<'a, N, H, D>
         &mut self,
         talk: &mut Talk<R, W, E>,
     ) -> Result<(), ScriptFault>
-        ensures ending { IfErr result IsEnding }
-        ensures played { IsPlayedBy (rest_of talk.old.script (R.remaining talk.old.reader)) self.old.client.holder self.new.client.holder result }
+        requires { talk.old.left ≡ 16777216 }
+        ensures { IsPlayedBy talk.old.rest self.old.client.holder self.new.client.holder result }
     {
         let mut line = [0u8; LINE_BYTES];
         // Each line but the last takes a byte at least.

@@ -1,15 +1,15 @@
 // A session, from the opening of its service to the end.
-ghost use Rattle.std.specs.Prelude.{◌≡◌, ◌≤◌, ◌<◌, ℕ, List, [], Option, IsTrue, IfOk, IfErr, IfNone, IfSome, vec_len};
+ghost use Rattle.std.specs.Prelude.{◌≡◌, if◌then◌else◌, ◌≤◌, ◌<◌, ℕ, List, [], Option, IsTrue, IfOk, IfErr, vec_len};
 ghost use Rattle.std.specs.Vec.{vec_capacity};
 ghost use Rattle.cc_disk.specs.Images.{OnlyReads};
 ghost use Rattle.cc_library.specs.Answers.{OpenFaults};
 ghost use Rattle.cc_library.specs.Apply.{Units};
 ghost use Rattle.cc_library.specs.Recovered.{Recovers};
 ghost use Rattle.cc_service.specs.Fault.{fault_number};
-ghost use Rattle.cc_script.specs.Reading.{rest_of};
-ghost use Rattle.cc_session.specs.Session.{IsBegun, IsKept, IsUnended, SessionEnds};
-ghost use Rattle.cc_session.specs.internal.Ending.{IsEnding};
-ghost use Rattle.cc_session.specs.internal.Steps.{EndsFor, HaveCalled};
+ghost use Rattle.cc_service.specs.Since.{IsPast};
+ghost use Rattle.cc_service.specs.Client.{holders};
+ghost use Rattle.cc_session.specs.Session.{EndsSince, HaveCalled, IsEnded, SessionEnds, told_after};
+ghost use Rattle.cc_session.specs.internal.Steps.{EndsFor};
 
 use crate::calls::Caller;
 use crate::end::SessionEnd;
@@ -26,10 +26,11 @@ use std::snapshot::Snapshot;
 use std::sync::Wait;
 use std::thread::Threads;
 
-// What a service begins with: its disk, the map that this recovers to, and what no type names yet.
+// What a service begins with: its disk, which is known as it was before, the map that it recovers to, and what no type names yet.
 #[derive(Drop)]
 struct Begun<D: Disk> {
     disk: D,
+    before: Snapshot<D>,
     base: Snapshot<UnitMap>,
     fresh: Fresh,
 }
@@ -39,9 +40,12 @@ fn begin<D: Disk + Drop>(alloc: Global, disk: D) -> Result<Begun<D>, (LibraryFau
     ensures base { IfOk result (λ b. IsTrue D.honest → (units : Units) → Recovers (D.seen b.disk) units → units ≡ b.base.value) }
     ensures sound { IfOk result (λ b. D.failures b.disk ≡ D.failures disk) }
     ensures refused { IfErr result (λ e. OpenFaults D.honest (D.seen disk) (D.failures disk) (D.failures e.1) e.0) }
+    ensures before { IfOk result (λ b. b.before.value ≡ disk) }
     ensures reads { IfOk result (λ b. IsTrue D.honest → OnlyReads D.seen D.may_leave D.moment D.left_since disk b.disk) }
+    ensures past { IfOk result (λ b. IsTrue D.honest → IsPast D.moment D.left_since (D.moment b.before.value) (D.may_leave b.before.value) b.disk) }
     ensures reads_refused { IfErr result (λ e. IsTrue D.honest → OnlyReads D.seen D.may_leave D.moment D.left_since disk e.1) }
 {
+    let before = Snapshot::of(&disk);
     let library = match Library::open(alloc, disk) {
         Ok(library) => library,
         Err(refused) => return Err(refused),
@@ -49,25 +53,29 @@ fn begin<D: Disk + Drop>(alloc: Global, disk: D) -> Result<Begun<D>, (LibraryFau
     let base = Snapshot::of(library.units());
     let disk = library.into_disk();
     match Fresh::new(alloc) {
-        Ok(fresh) => Ok(Begun { disk, base, fresh }),
+        Ok(fresh) => Ok(Begun {
+            disk,
+            before,
+            base,
+            fresh,
+        }),
         Err(_) => Err((LibraryFault::OutOfMemory, disk)),
     }
 }
 
-// How a session ended whose service was not: the first of two faults.
-fn unended(played: SessionEnd, number: u32) -> SessionEnd
-    requires begun { IsBegun played }
-    requires least { 39 ≤ number }
-    requires most { number ≤ 40 }
-    ensures { IsUnended result }
+// What is told where the service's end was refused by this number: the fault that ended the script, where one did, else the number. Where
+// all receipts stand it is 40, for there was no memory to say so.
+fn told_after(are_all: bool, number: u32, played: SessionEnd) -> SessionEnd
+    ensures { result ≡ told_after (if are_all then 40 else number) played }
 {
     match played {
+        SessionEnd::Finished if are_all => SessionEnd::Fault(40),
         SessionEnd::Finished => SessionEnd::Fault(number),
         SessionEnd::Fault(first) => SessionEnd::Fault(first),
     }
 }
 
-// Writes a refusal of the service's opening or end; its number.
+// Writes a refusal of the service's opening or end; answers its number.
 fn refused<R: Read, W: Write, E: Write>(
     alloc: Global,
     talk: &mut Talk<R, W, E>,
@@ -86,9 +94,7 @@ fn ended<R: Read, W: Write, E: Write>(
     talk: &mut Talk<R, W, E>,
     played: Result<(), ScriptFault>,
 ) -> SessionEnd
-    requires { IfErr played IsEnding }
-    ensures begun { IsBegun result }
-    ensures end { EndsFor played result }
+    ensures { EndsFor played result }
 {
     match played {
         Ok(()) => SessionEnd::Finished,
@@ -100,6 +106,7 @@ fn ended<R: Read, W: Write, E: Write>(
 }
 
 // Does a script by one client of a service.
+#[tactic(auto, using(crate::proofs::Calling::called_by))]
 fn play<N, H, R, W, E, D>(
     rt: &H,
     alloc: Global,
@@ -116,8 +123,8 @@ where
     D: Disk,
     requires room { vec_len clients.old < vec_capacity clients.old }
     requires none { clients.old.items ≡ [] }
-    ensures begun { IsBegun result }
-    ensures called { HaveCalled (rest_of talk.old.script (R.remaining talk.old.reader)) clients.new.items result }
+    requires fresh { talk.old.left ≡ 16777216 }
+    ensures { HaveCalled talk.old.rest (holders clients.new.items) result }
 {
     match service.client(rt, alloc) {
         Ok(client) => {
@@ -152,7 +159,7 @@ fn disk_of<D: Disk>(closed: Closed<D>) -> D
     library.into_disk()
 }
 
-// Ends a service whose script was done.
+// Ends a service whose script ended so; where its end is refused, it is given up.
 fn finish<N, H, R, W, E, D>(
     rt: &H,
     alloc: Global,
@@ -160,28 +167,24 @@ fn finish<N, H, R, W, E, D>(
     service: Service<N, D>,
     clients: Vec<Client<N>>,
     played: SessionEnd,
-) -> (Option<D>, SessionEnd)
+) -> (D, SessionEnd)
 where
     N: Named + Send + Sync + 'static,
     H: Wait,
     R: Read,
     W: Write,
     E: Write,
-    D: Disk + Drop,
-    requires { IsBegun played }
-    ensures unended { IfNone result.0 (IsUnended result.1) }
-    ensures begun { IfSome result.0 (λ after. IsBegun result.1) }
-    // Whatever bytes those were that recover to the map that the service's type names, and whatever the script was.
-    ensures kept { IfSome result.0 (λ after. (bytes : List ℕ) → (IsTrue D.honest → Recovers bytes N.base)
-        → (script : Option (List ℕ)) → HaveCalled script clients.items played → IsKept D.honest bytes D.may_leave script result.1 after) }
+    D: Disk,
+    // Whatever bytes those were that recover to the map that the service's type names.
+    ensures { (bytes : List ℕ) → (IsTrue D.honest → Recovers bytes N.base)
+        → IsEnded D.honest bytes D.may_leave D.left_since N.from N.left (holders clients.items) played result.1 result.0 }
 {
     match service.finish(rt, alloc, clients) {
-        Ok(closed) => (Some(disk_of(closed)), played),
+        Ok(closed) => (disk_of(closed), played),
         Err((fault, service, clients)) => {
-            drop(clients);
-            drop(service);
+            let (disk, are_all) = service.give_up(rt, alloc, clients);
             let number = refused(alloc, talk, fault);
-            (None, unended(played, number))
+            (disk, told_after(are_all, number, played))
         }
     }
 }
@@ -207,12 +210,15 @@ where
     requires parts { N.parts ≡ 1025 }
     requires queue { begun.fresh.queue ≡ N.queue }
     requires named { IsTrue D.honest → (units : Units) → Recovers (D.seen begun.disk) units → units ≡ N.base }
+    requires past { IsTrue D.honest → IsPast D.moment D.left_since N.from N.left begun.disk }
     requires some { 1 ≤ workers }
     requires few { workers ≤ 8 }
-    ensures { SessionEnds D.honest D.seen D.may_leave D.moment D.left_since D.failures (rest_of talk.old.script (R.remaining talk.old.reader)) begun.disk result.0 result.1 }
+    requires fresh { talk.old.left ≡ 16777216 }
+    ensures { EndsSince D.honest D.seen D.may_leave D.moment D.left_since D.failures N.from N.left talk.old.rest begun.disk result.0 result.1 }
 {
     let Begun {
         disk,
+        before: _,
         base: _,
         fresh,
     } = begun;
@@ -229,7 +235,8 @@ where
     match Service::<N, D>::open(rt, alloc, fresh, disk, workers, gate) {
         Ok(service) => {
             let played = play(rt, alloc, talk, &service, &mut clients);
-            finish(rt, alloc, talk, service, clients, played)
+            let (disk, end) = finish(rt, alloc, talk, service, clients, played);
+            (Some(disk), end)
         }
         Err((fault, disk)) => {
             drop(clients);
@@ -276,8 +283,12 @@ where
 /// service.
 ///
 /// The script comes from `reader`, each answer goes to `writer`, which is flushed behind it. A refusal writes its fault's line, and the
-/// session goes on; a fault of the opening, of the script (51 to 54; of 54 there is no line) or of the service's end ends it. The disk is
-/// handed back but after a fault of the service's end.
+/// session goes on; a fault of the opening, of the script (51 to 54; of 54 there is no line) or of the service's end (39, 40) ends it, and
+/// the first of them is told. The disk is handed back after each.
+///
+/// 51 is told only where the script has fewer bytes than a line's source, 52 only where it has more than 16,777,216. After each
+/// of these faults the library is kept with all that the client's receipts say; or, where a receipt does not stand in the history or
+/// other calls stand there, with some legal history.
 pub fn session<H, R: Read, W: Write, D: Disk + Drop>(
     rt: &H,
     alloc: Global,

@@ -1,9 +1,9 @@
 // The three streams of a session: its script, its answers, and what explains its faults.
 
-ghost use Rattle.std.specs.Prelude.{◌≡◌, ◌≤◌, ℕ, List, IfErr, IfOk, OnOk};
-ghost use Rattle.cc_script.specs.Reading.{Between, IsLine, IsNext, IsWithinLine, rest_of};
-ghost use Rattle.cc_session.specs.internal.Ending.{IsEnding};
-ghost use Rattle.cc_session.specs.internal.Steps.{HasSent};
+ghost use Rattle.std.specs.Prelude.{◌≡◌, ◌⊎◌, ◌≤◌, ℕ, List, IfErr, IfOk, OnOk};
+ghost use Rattle.cc_script.specs.Reading.{Between, IsLine, IsNext, IsNoSource, IsNotRead, IsWithinLine};
+ghost use Rattle.cc_script.specs.declared.fault.ScriptFault.TheVariants.{WriteFault};
+ghost use Rattle.cc_session.specs.internal.Steps.{HasSent, IsSentAs};
 
 use crate::words::{explain_refusal, explain_words};
 use cc_history::Receipt;
@@ -13,14 +13,23 @@ use cc_script::{LINE_BYTES, Next, Script, ScriptFault};
 use cc_service::{Listing, ServiceFault};
 use std::alloc::{AllocError, Global};
 use std::io::{self, Read, Write};
+use std::marker::Model;
 
-// A script, who writes it, who reads the answers, and to whom faults are explained.
+// A script, who writes it, who reads the answers, and to whom faults are explained. A clause sees what is ahead in the script.
 #[derive(Drop)]
 pub(crate) struct Talk<R: Read, W: Write, E: Write> {
     script: Script,
     reader: R,
     answers: W,
     explanations: E,
+}
+
+impl<R: Read, W: Write, E: Write> Model for Talk<R, W, E> {
+    ghost use Rattle.cc_script.specs.Reading.{Ahead, ahead_of};
+
+    ghost Value = { Ahead };
+
+    ghost view = { λ t. ahead_of t.script (R.remaining t.reader) };
 }
 
 // The source that comes next in a script.
@@ -33,9 +42,23 @@ pub(crate) enum Sent {
     Unended,
 }
 
+// What was sent by a source, where there was room for it, and what stands behind it.
+fn behind_line(source: Option<Vec<u8>>, is_ended: bool) -> Sent
+    ensures { IsSentAs source is_ended result }
+{
+    match source {
+        Some(source) if is_ended => Sent::Source(source),
+        None if is_ended => Sent::NoRoom,
+        other => {
+            drop(other);
+            Sent::Unended
+        }
+    }
+}
+
 // The answer of a write.
 fn written(answer: io::Result<()>) -> Result<(), ScriptFault>
-    ensures { IfErr result IsEnding }
+    ensures { IfErr result (λ fault. fault ≡ WriteFault) }
 {
     match answer {
         Ok(()) => Ok(()),
@@ -105,7 +128,7 @@ fn write_refusal<W: Write>(fault: &ServiceFault, source: &[u8], writer: &mut W) 
 
 impl<R: Read, W: Write, E: Write> Talk<R, W, E> {
     pub(crate) fn new(reader: R, answers: W, explanations: E) -> Talk<R, W, E>
-        ensures { rest_of result.script (R.remaining result.reader) ≡ R.remaining reader }
+        ensures { result ≡ record { rest = R.remaining reader; left = 16777216 } }
     {
         Talk {
             script: Script::new(),
@@ -118,49 +141,41 @@ impl<R: Read, W: Write, E: Write> Talk<R, W, E> {
     // The script's next line.
     pub(crate) fn next_line(&mut self, line: &mut [u8; LINE_BYTES]) -> Result<Next, ScriptFault>
         ensures within { IfOk result IsWithinLine }
-        ensures ending { IfErr result IsEnding }
-        ensures bytes { IfOk result (λ next. Between (rest_of self.old.script (R.remaining self.old.reader))
-            (rest_of self.new.script (R.remaining self.new.reader)) (λ before after. IsNext before next line.new after)) }
+        ensures refused { IfErr result (IsNotRead self.old self.new.left) }
+        ensures bytes { IfOk result (λ next. Between self.old self.new (λ before after. IsNext before next line.new after)) }
     {
         self.script.next_line(&mut self.reader, line)
     }
 
     // The source that comes next.
+    #[tactic(auto, using(crate::proofs::Playing::sent_on, crate::proofs::Playing::no_source))]
     pub(crate) fn source(&mut self, alloc: Global, length: usize) -> Result<Sent, ScriptFault>
-        ensures ending { IfErr result IsEnding }
-        ensures bytes { IfOk result (λ sent. Between (rest_of self.old.script (R.remaining self.old.reader))
-            (rest_of self.new.script (R.remaining self.new.reader)) (λ before after. HasSent before length sent after)) }
+        ensures refused { IfErr result (IsNoSource self.old length self.new.left) }
+        ensures bytes { IfOk result (λ sent. Between self.old self.new (λ before after. HasSent before length sent after)) }
     {
         let source = self.script.source(alloc, &mut self.reader, length)?;
-        match self.script.is_at_line_end(&mut self.reader) {
-            Ok(true) => match source {
-                Some(source) => Ok(Sent::Source(source)),
-                None => Ok(Sent::NoRoom),
-            },
-            Ok(false) => {
-                drop(source);
-                Ok(Sent::Unended)
-            }
+        let is_ended = match self.script.is_at_line_end(&mut self.reader) {
+            Ok(is_ended) => is_ended,
             Err(fault) => {
                 drop(source);
-                Err(fault)
+                return Err(fault);
             }
-        }
+        };
+        Ok(behind_line(source, is_ended))
     }
 
     // Says that a line is no command.
     pub(crate) fn refuse_line(&mut self) -> Result<(), ScriptFault>
-        ensures ending { IfErr result IsEnding }
-        ensures rest { rest_of self.new.script (R.remaining self.new.reader) ≡ rest_of self.old.script (R.remaining self.old.reader) }
+        ensures ending { IfErr result (λ fault. fault ≡ WriteFault) }
+        ensures rest { self.new ≡ self.old }
     {
         self.tell_fault(ScriptFault::BadLine)
     }
 
     // The same of a line that was not read to its end, which is skipped.
     pub(crate) fn refuse_and_skip(&mut self) -> Result<(), ScriptFault>
-        ensures ending { IfErr result IsEnding }
-        ensures bytes { OnOk result (Between (rest_of self.old.script (R.remaining self.old.reader))
-            (rest_of self.new.script (R.remaining self.new.reader)) (λ before after. (rest : List ℕ) × IsLine before rest after)) }
+        ensures refused { IfErr result (λ fault. (fault ≡ WriteFault) ⊎ IsNotRead self.old self.new.left fault) }
+        ensures bytes { OnOk result (Between self.old self.new (λ before after. (rest : List ℕ) × IsLine before rest after)) }
     {
         self.tell_fault(ScriptFault::BadLine)?;
         self.script.skip_line(&mut self.reader)
@@ -168,8 +183,8 @@ impl<R: Read, W: Write, E: Write> Talk<R, W, E> {
 
     // Writes the names of a library.
     pub(crate) fn tell_names(&mut self, listing: &Listing) -> Result<(), ScriptFault>
-        ensures ending { IfErr result IsEnding }
-        ensures rest { rest_of self.new.script (R.remaining self.new.reader) ≡ rest_of self.old.script (R.remaining self.old.reader) }
+        ensures ending { IfErr result (λ fault. fault ≡ WriteFault) }
+        ensures rest { self.new ≡ self.old }
     {
         written(write_listing(listing, &mut self.answers))
     }
@@ -180,8 +195,8 @@ impl<R: Read, W: Write, E: Write> Talk<R, W, E> {
         alloc: Global,
         answer: &Result<Answer, AllocError>,
     ) -> Result<(), ScriptFault>
-        ensures ending { IfErr result IsEnding }
-        ensures rest { rest_of self.new.script (R.remaining self.new.reader) ≡ rest_of self.old.script (R.remaining self.old.reader) }
+        ensures ending { IfErr result (λ fault. fault ≡ WriteFault) }
+        ensures rest { self.new ≡ self.old }
     {
         match answer {
             Ok(answer) => written(write_answer(answer, &mut self.answers)),
@@ -191,8 +206,8 @@ impl<R: Read, W: Write, E: Write> Talk<R, W, E> {
 
     // Writes that memory ran out.
     pub(crate) fn tell_no_memory(&mut self, alloc: Global) -> Result<(), ScriptFault>
-        ensures ending { IfErr result IsEnding }
-        ensures rest { rest_of self.new.script (R.remaining self.new.reader) ≡ rest_of self.old.script (R.remaining self.old.reader) }
+        ensures ending { IfErr result (λ fault. fault ≡ WriteFault) }
+        ensures rest { self.new ≡ self.old }
     {
         let fault = ServiceFault::OutOfMemory;
         let told = self.tell_refusal(alloc, &fault, &[]);
@@ -202,16 +217,16 @@ impl<R: Read, W: Write, E: Write> Talk<R, W, E> {
 
     // Writes what an audit says of a name's unit.
     pub(crate) fn tell_audit(&mut self, name: &[u8], audit: Audit) -> Result<(), ScriptFault>
-        ensures ending { IfErr result IsEnding }
-        ensures rest { rest_of self.new.script (R.remaining self.new.reader) ≡ rest_of self.old.script (R.remaining self.old.reader) }
+        ensures ending { IfErr result (λ fault. fault ≡ WriteFault) }
+        ensures rest { self.new ≡ self.old }
     {
         written(write_audit(name, audit, &mut self.answers))
     }
 
     // Writes that what was asked for is done.
     pub(crate) fn tell_ok(&mut self) -> Result<(), ScriptFault>
-        ensures ending { IfErr result IsEnding }
-        ensures rest { rest_of self.new.script (R.remaining self.new.reader) ≡ rest_of self.old.script (R.remaining self.old.reader) }
+        ensures ending { IfErr result (λ fault. fault ≡ WriteFault) }
+        ensures rest { self.new ≡ self.old }
     {
         written(write_ok(&mut self.answers))
     }
@@ -222,8 +237,8 @@ impl<R: Read, W: Write, E: Write> Talk<R, W, E> {
         alloc: Global,
         answer: &Result<(), ServiceFault>,
     ) -> Result<(), ScriptFault>
-        ensures ending { IfErr result IsEnding }
-        ensures rest { rest_of self.new.script (R.remaining self.new.reader) ≡ rest_of self.old.script (R.remaining self.old.reader) }
+        ensures ending { IfErr result (λ fault. fault ≡ WriteFault) }
+        ensures rest { self.new ≡ self.old }
     {
         match answer {
             Ok(()) => self.tell_ok(),
@@ -238,8 +253,8 @@ impl<R: Read, W: Write, E: Write> Talk<R, W, E> {
         answer: &Result<Receipt, ServiceFault>,
         source: &[u8],
     ) -> Result<(), ScriptFault>
-        ensures ending { IfErr result IsEnding }
-        ensures rest { rest_of self.new.script (R.remaining self.new.reader) ≡ rest_of self.old.script (R.remaining self.old.reader) }
+        ensures ending { IfErr result (λ fault. fault ≡ WriteFault) }
+        ensures rest { self.new ≡ self.old }
     {
         match answer {
             Ok(receipt) => written(write_number(receipt.number, &mut self.answers)),
@@ -249,8 +264,8 @@ impl<R: Read, W: Write, E: Write> Talk<R, W, E> {
 
     // Writes the line of a fault of the script, and explains it. Of one of the answers there is no line.
     pub(crate) fn tell_fault(&mut self, fault: ScriptFault) -> Result<(), ScriptFault>
-        ensures ending { IfErr result IsEnding }
-        ensures rest { rest_of self.new.script (R.remaining self.new.reader) ≡ rest_of self.old.script (R.remaining self.old.reader) }
+        ensures ending { IfErr result (λ fault. fault ≡ WriteFault) }
+        ensures rest { self.new ≡ self.old }
     {
         let answer = if fault.number() == 54 {
             Ok(())
@@ -268,8 +283,8 @@ impl<R: Read, W: Write, E: Write> Talk<R, W, E> {
         fault: &ServiceFault,
         source: &[u8],
     ) -> Result<(), ScriptFault>
-        ensures ending { IfErr result IsEnding }
-        ensures rest { rest_of self.new.script (R.remaining self.new.reader) ≡ rest_of self.old.script (R.remaining self.old.reader) }
+        ensures ending { IfErr result (λ fault. fault ≡ WriteFault) }
+        ensures rest { self.new ≡ self.old }
     {
         let answer = written(write_refusal(fault, source, &mut self.answers));
         let _ = explain_refusal(alloc, source, fault, &mut self.explanations);

@@ -108,7 +108,7 @@ where
         }
     }
     match Arc::try_unwrap(pool) {
-        Ok(pool) => pool.finish(rt, passes)?,
+        Ok(pool) => drop(pool.finish(rt, passes)?),
         Err(_) => return Err(Fail::from("the pool is still shared")),
     }
     Ok((right, signs.met.load(Ordering::SeqCst)))

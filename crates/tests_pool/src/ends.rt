@@ -3,7 +3,7 @@
 ghost use Rattle.std.specs.Prelude.{◌≡◌};
 
 use super::helpers::{TWO, one, two, unit};
-use cc_pool::{Fresh, NoGate, Pool, PoolFault, Queued};
+use cc_pool::{Drained, Fresh, NoGate, Pool, PoolFault, Queued};
 use std::alloc::Global;
 use std::marker::Brand;
 use std::sync::Wait;
@@ -40,9 +40,12 @@ where
     Ok(told)
 }
 
-fn number(ended: Result<(), PoolFault>) -> u32 {
+fn number<N: Queued>(ended: Result<Drained<N>, PoolFault>) -> u32 {
     match ended {
-        Ok(()) => 0,
+        Ok(all) => {
+            drop(all);
+            0
+        }
         Err(fault) => fault.number(),
     }
 }

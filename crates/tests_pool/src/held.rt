@@ -33,7 +33,7 @@ where
     let ticket = pool.submit(rt, alloc, &mut pass, unit(alloc, LONG.as_bytes())?)?;
     let pieces = pool.collect(rt, alloc, ticket)?;
     let right = are_of(pieces.as_slice(), LONG.as_bytes(), 2);
-    pool.finish(rt, one(alloc, pass)?)?;
+    drop(pool.finish(rt, one(alloc, pass)?)?);
     Ok((right, signs.met.load(Ordering::SeqCst)))
 }
 
@@ -62,6 +62,6 @@ where
     let came = signs.others.fetch_add(1, Ordering::SeqCst);
     let one_piece = pool.collect(rt, alloc, first)?;
     let right = are_of(one_piece.as_slice(), ONE, 1) && are_of(two_pieces.as_slice(), TWO, 2);
-    pool.finish(rt, one(alloc, pass)?)?;
+    drop(pool.finish(rt, one(alloc, pass)?)?);
     Ok((right, came, signs.met.load(Ordering::SeqCst)))
 }

@@ -65,7 +65,7 @@ where
             same = at + 1;
         }
     }
-    pool.finish(rt, one(alloc, pass)?)?;
+    drop(pool.finish(rt, one(alloc, pass)?)?);
     Ok(same)
 }
 

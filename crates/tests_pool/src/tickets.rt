@@ -35,7 +35,7 @@ where
     let two_pieces = pool.collect(rt, alloc, second)?;
     let one_piece = pool.collect(rt, alloc, first)?;
     let right = are_of(one_piece.as_slice(), ONE, 1) && are_of(two_pieces.as_slice(), TWO, 2);
-    pool.finish(rt, two(alloc, pass, other)?)?;
+    drop(pool.finish(rt, two(alloc, pass, other)?)?);
     Ok((right, earlier, later))
 }
 
@@ -79,6 +79,6 @@ where
             (0, 0, 0)
         }
     };
-    pool.finish(rt, one(alloc, pass)?)?;
+    drop(pool.finish(rt, one(alloc, pass)?)?);
     Ok(told)
 }

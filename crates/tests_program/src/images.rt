@@ -3,7 +3,7 @@
 use super::helpers::{has_no_image, runs};
 
 // Small programs, the instructions of each run, what its image writes on no input and how it ends.
-static IMAGES: [(&str, u64, &str); 9] = [
+static IMAGES: [(&str, u64, &str); 10] = [
     ("int main(void){}", 1000, "exited 0\n"),
     (
         "int main(void){write_word(-7/2);write_word(-7%2);return 0;}",
@@ -30,6 +30,11 @@ static IMAGES: [(&str, u64, &str); 9] = [
         "unsigned char c[2]={300,-1};int main(void){write_word(c[0]);write_word(c[1]);c[0]+=220;write_word(c[0]);write_word(c[1]<<24);write_word(-1<c[1]);}",
         10_000,
         "44\n255\n8\n-16777216\n1\nexited 0\n",
+    ),
+    (
+        "unsigned char c[5];int main(void){int i,n=1,s=0;for(i=0;i<5;i++)c[i]=i*70;for(i=0;i<5;i++){c[i]/=2u;write_word(c[i]);s+=c[i]+((n?c[i]:1u)>-1);}write_word(s);return (n?c[4]:1)>-1;}",
+        10_000,
+        "0\n35\n70\n105\n12\n222\nexited 1\n",
     ),
     (
         "unsigned u=4294967295u;int a[3]={1,2,3};int main(void){write_word(u/2==2147483647);write_word(a[1]+a[2]);return a[0]-4;}",

@@ -6,7 +6,7 @@ use cc_program::perform;
 use std::alloc::{AllocError, Global};
 
 // Small programs, the steps of each run, what it writes on no input and how it ends.
-static PROGRAMS: [(&str, u64, &str); 30] = [
+static PROGRAMS: [(&str, u64, &str); 31] = [
     // the empty main
     ("int main(void){}", 1, "ended 0\n"),
     ("int main(void){}", 0, "going\n"),
@@ -83,6 +83,12 @@ static PROGRAMS: [(&str, u64, &str); 30] = [
         "unsigned char c[2]={300,-1};int main(void){write_word(c[0]);write_word(c[1]);c[0]+=220;write_word(c[0]);write_word(c[1]<<24);write_word(-1<c[1]);}",
         9,
         "44\n255\n8\n-16777216\n1\nended 0\n",
+    ),
+    // by an index that is no constant; `-1` becomes unsigned beside `1u`, and stays `int` beside a promoted byte
+    (
+        "unsigned char c[5];int main(void){int i,n=1,s=0;for(i=0;i<5;i++)c[i]=i*70;for(i=0;i<5;i++){c[i]/=2u;write_word(c[i]);s+=c[i]+((n?c[i]:1u)>-1);}write_word(s);return (n?c[4]:1)>-1;}",
+        100,
+        "0\n35\n70\n105\n12\n222\nended 1\n",
     ),
     (
         "unsigned char c[2];int main(void){c[2]=1;}",

@@ -1,25 +1,26 @@
 // Streams and disks that fail.
 
-use crate::helpers::{ends, formatted};
+use crate::helpers::{answers_on, ends, formatted};
 use cc_disk::{FuseDisk, FuseMode, MemoryDisk};
 use cc_session::{SessionEnd, session};
+use std::alloc::Global;
 use std::io::{self, ErrorKind, Read, Write};
+use std::sync::Wait;
 use std::test::Fail;
+use std::thread::Threads;
 
-/// Gives `l` at its first read, and fails from then on.
+/// Gives these bytes, and fails from then on.
 #[derive(Drop)]
-struct FailsSecond {
-    reads: u8,
+struct FailsBehind {
+    bytes: &'static [u8],
 }
 
-impl Read for FailsSecond {
+impl Read for FailsBehind {
     fn read(&mut self, buf: &mut [u8]) -> io::Result<usize> {
-        if self.reads == 0 && !buf.is_empty() {
-            self.reads = 1;
-            buf[0] = b'l';
-            return Ok(1);
+        if self.bytes.is_empty() {
+            return Err(io::Error::from(ErrorKind::BrokenPipe));
         }
-        Err(io::Error::from(ErrorKind::BrokenPipe))
+        self.bytes.read(buf)
     }
 }
 
@@ -37,19 +38,24 @@ impl Write for Refuses {
     }
 }
 
+// Within a line, and within a source: the script does not end there.
 #[test]
 fn a_read_that_fails(rt: HostRuntime) -> Result<(), Fail> {
-    let mut reader = FailsSecond { reads: 0 };
-    let mut written = Vec::new(rt.alloc());
-    let right = ends(
-        &rt,
-        rt.alloc(),
-        &mut reader,
-        &mut written,
-        64,
-        SessionEnd::Fault(53),
-    )?;
-    assert!(rt; right && written.as_slice() == b"fault 53 ReadFault\n".as_slice());
+    for script in ["l", "add a 16\nint ma"] {
+        let mut reader = FailsBehind {
+            bytes: script.as_bytes(),
+        };
+        let mut written = Vec::new(rt.alloc());
+        let right = ends(
+            &rt,
+            rt.alloc(),
+            &mut reader,
+            &mut written,
+            64,
+            SessionEnd::Fault(53),
+        )?;
+        assert!(rt; right && written.as_slice() == b"fault 53 ReadFault\n".as_slice());
+    }
     Ok(())
 }
 
@@ -130,5 +136,35 @@ fn a_device_that_fails_once(rt: HostRuntime) -> Result<(), Fail> {
     assert!(rt; disk.is_some() && end == SessionEnd::Finished);
     let lines = b"fault 35 DiskFault\nfault 36 Closed\nfault 36 Closed\nok 1\n".as_slice();
     assert!(rt; written.as_slice() == lines);
+    Ok(())
+}
+
+// Whether a session that ends so hands back a disk with the unit that was acknowledged before.
+fn leaves_a_unit<H, R: Read>(
+    rt: &H,
+    alloc: Global,
+    reader: &mut R,
+    wanted: SessionEnd,
+) -> Result<bool, Fail>
+where
+    H: Threads + Wait + Copy + Send + 'static,
+{
+    let mut written = Vec::new(alloc);
+    let disk = formatted(alloc, 4096)?;
+    let (disk, end) = session(rt, alloc, reader, &mut written, disk, 1);
+    let Some(disk) = disk else {
+        return Ok(false);
+    };
+    let lines = "unit a\nok 1\n";
+    Ok(end == wanted && answers_on(rt, alloc, b"list\n", disk, lines, SessionEnd::Finished)?)
+}
+
+// The script ends within a source, and it can't be read on there.
+#[test]
+fn what_a_fault_leaves(rt: HostRuntime) -> Result<(), Fail> {
+    let mut short = b"add a 16\nint main(void){}\nadd b 99\nint".as_slice();
+    let mut failing = FailsBehind { bytes: short };
+    assert!(rt; leaves_a_unit(&rt, rt.alloc(), &mut short, SessionEnd::Fault(51))?);
+    assert!(rt; leaves_a_unit(&rt, rt.alloc(), &mut failing, SessionEnd::Fault(53))?);
     Ok(())
 }

@@ -1,11 +1,14 @@
 -- How far a script has been done.
-use Rattle.std.specs.Prelude.{◌≡◌, ◌≢◌, ◌⊎◌, ℕ, Bool, true, false, List, [], ◌∷◌, ◌++◌, length, take, Option, IfSome, Result, Ok, Err}
-use Rattle.cc_script.specs.Reading.{Between, IsLine}
+use Rattle.std.specs.Prelude.{◌≡◌, ◌≢◌, ◌⊎◌, ◌<◌, ℕ, Bool, true, false, List, [], ◌∷◌, ◌++◌, length, take, Option, Some, None, IfSome, Result, Ok, Err, Vec}
+use Rattle.std.specs.declared.alloc.Global.{Global}
+use Rattle.cc_script.specs.Fault.{fault_number}
+use Rattle.cc_script.specs.Reading.{Ahead, Between, HasMore, IsLine}
+use Rattle.cc_script.specs.declared.fault.ScriptFault.{ScriptFault}
+use Rattle.cc_script.specs.declared.fault.ScriptFault.TheVariants.{BadLine, EndOfScript, ScriptTooLong, ReadFault, WriteFault}
 use Rattle.cc_history.specs.declared.command.Command.{Command}
 use Rattle.cc_history.specs.History.{Holder}
 use Rattle.cc_service.specs.Serving.{Adds, Replaces}
-use Rattle.cc_service.specs.Client.{ClientView, holders}
-use Rattle.cc_session.specs.Playing.{IsPlayed, IsPlayedInPart}
+use Rattle.cc_session.specs.Playing.{IsEnding, IsPlayed, IsStoppedBy}
 use Rattle.cc_session.specs.declared.end.SessionEnd.{SessionEnd}
 use Rattle.cc_session.specs.declared.end.SessionEnd.TheVariants.{Finished, Fault}
 use Rattle.cc_session.specs.declared.talk.Sent.{Sent}
@@ -18,30 +21,45 @@ HasSent before count (Source bytes) after =
 HasSent before count NoRoom after = (source : List ℕ) × (rest : List ℕ) × (before ≡ source ++ rest) × (length source ≡ count) × IsLine rest [] after
 HasSent before count Unended after = (source : List ℕ) × (byte : ℕ) × (before ≡ source ++ byte ∷ after) × (length source ≡ count) × (byte ≢ 10)
 
+-- what was sent is the source that was read, where there was room for it and its line ends behind it
+abbrev pub IsSentAs : Option (Vec ℕ Global) → (is_ended : Bool) → Sent → Type 0
+IsSentAs (Some bytes) true sent = sent ≡ Source bytes
+IsSentAs None true sent = sent ≡ NoRoom
+IsSentAs source false sent = sent ≡ Unended
+
 -- what `add` and `replace` ask
 abbrev pub asking : (is_new : Bool) → (name source : List ℕ) → Command → Type 0
 asking true = Adds
 asking false = Replaces
 
--- the step was done where it was answered; else nothing was, or the step whose answer could not be written
-abbrev pub IsDone : {T E : Type 0} → (Does : List ℕ → List ℕ → Holder → Holder → Type 0) (before after : Option (List ℕ)) (old new : Holder) → Result T E → Type 0
-IsDone Does before after old new (Ok done) = Between before after (λ b a. Does b a old new)
-IsDone Does before after old new (Err fault) = IfSome before (λ b. (new ≡ old) ⊎ ((a : List ℕ) × Does b a old new))
+-- fewer bytes than this many are left
+abbrev pub IsShortOf : (count : ℕ) (rest : List ℕ) → Type 0
+IsShortOf count rest = length rest < count
 
--- the script is done by this client; or a prefix of it
-abbrev pub IsPlayedBy : {T E : Type 0} → (script : Option (List ℕ)) (old new : Holder) → Result T E → Type 0
+-- Why a step was not done to its end. 51 where the bytes that its line needs are not there, 52 where more are left than the script may have, and
+-- 53: then nothing was done of it. 54: nothing was, or the step whose answer could not be written.
+abbrev pub IsNotDone : (Does : List ℕ → List ℕ → Holder → Holder → Type 0) (IsShort : List ℕ → Type 0) (before : Ahead) (old new : Holder) → ScriptFault → Type 0
+IsNotDone Does IsShort before old new BadLine = ⊥
+IsNotDone Does IsShort before old new EndOfScript = (new ≡ old) × IfSome before.rest IsShort
+IsNotDone Does IsShort before old new ScriptTooLong = (new ≡ old) × HasMore before
+IsNotDone Does IsShort before old new ReadFault = new ≡ old
+IsNotDone Does IsShort before old new WriteFault = IfSome before.rest (λ b. (new ≡ old) ⊎ ((a : List ℕ) × Does b a old new))
+
+-- the step was done where it was answered
+abbrev pub IsDone : {T : Type 0} → (Does : List ℕ → List ℕ → Holder → Holder → Type 0) (IsShort : List ℕ → Type 0) (before after : Ahead) (old new : Holder) → Result T ScriptFault → Type 0
+IsDone Does IsShort before after old new (Ok done) = Between before after (λ b a. Does b a old new)
+IsDone Does IsShort before after old new (Err fault) = IsNotDone Does IsShort before old new fault
+
+-- the script is done by this client as far as the fault let it be
+abbrev pub IsStopped : (script : Option (List ℕ)) (old new : Holder) → ScriptFault → Type 0
+IsStopped script old new fault = IsEnding fault × IfSome script (λ bytes. IsStoppedBy fault bytes old new)
+
+-- it is done whole, or so
+abbrev pub IsPlayedBy : {T : Type 0} → (script : Option (List ℕ)) (old new : Holder) → Result T ScriptFault → Type 0
 IsPlayedBy script old new (Ok done) = IfSome script (λ bytes. IsPlayed bytes old new)
-IsPlayedBy script old new (Err fault) = IfSome script (λ bytes. IsPlayedInPart bytes old new)
-
--- the clients with which a service ends: the one that did the script; none for 30
-abbrev pub HaveCalled : (script : Option (List ℕ)) (clients : List ClientView) → SessionEnd → Type 0
-HaveCalled script clients Finished =
-    (first : Holder) × (last : Holder) × (first.receipts ≡ []) × (holders clients ≡ last ∷ []) × IfSome script (λ bytes. IsPlayed bytes first last)
-HaveCalled script clients (Fault number) =
-    ((number ≡ 30) × (holders clients ≡ []))
-    ⊎ ((first : Holder) × (last : Holder) × (first.receipts ≡ []) × (holders clients ≡ last ∷ []) × IfSome script (λ bytes. IsPlayedInPart bytes first last))
+IsPlayedBy script old new (Err fault) = IsStopped script old new fault
 
 -- how a session ends whose script was done so
-abbrev pub EndsFor : {T E : Type 0} → Result T E → SessionEnd → Type 0
+abbrev pub EndsFor : {T : Type 0} → Result T ScriptFault → SessionEnd → Type 0
 EndsFor (Ok done) end = end ≡ Finished
-EndsFor (Err fault) end = (number : ℕ) × (end ≡ Fault number)
+EndsFor (Err fault) end = end ≡ Fault (fault_number fault)

@@ -1,5 +1,5 @@
 // Plays the calls of two clients on a book, and looks at each answer by the model.
-ghost use Rattle.std.specs.Prelude.{◌≡◌, ◌+◌, IsTrue};
+ghost use Rattle.std.specs.Prelude.{◌≡◌, ◌+◌, ℕ, IsTrue, List};
 ghost use Rattle.cc_library.specs.Apply.{Units};
 ghost use Rattle.cc_library.specs.Recovered.{Recovers};
 
@@ -242,6 +242,7 @@ where
     requires queue { queue ≡ N.queue }
     requires base { IsTrue D.honest → (units : Units) → Recovers (D.seen disk) units → units ≡ base }
     requires named { base ≡ N.base }
+    requires any { (N.from ≡ 0) × ((image : List ℕ) → N.left image) }
 {
     drop(base);
     // A client has a pass of a pool.

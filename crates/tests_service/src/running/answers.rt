@@ -1,5 +1,5 @@
 // What one client is answered: each call on its happy path, and each refusal of names, texts and the map.
-ghost use Rattle.std.specs.Prelude.{◌≡◌};
+ghost use Rattle.std.specs.Prelude.{◌≡◌, ℕ, List};
 
 use super::reading::{done_at, is_found, is_listed, number};
 use super::starting::{ALL, Begun, Fused, alone, ended, opened, prepared};
@@ -29,7 +29,7 @@ fn each_call<N, R>(rt: &R, alloc: Global, begun: Begun) -> Result<bool, Fail>
 where
     N: Named + Send + Sync + 'static,
     R: Threads + Wait + Copy + Send + 'static,
-    requires { (begun.fresh.ledger ≡ N.name) × (N.parts ≡ 1025) × (begun.fresh.queue ≡ N.queue) × (begun.base ≡ N.base) }
+    requires { (begun.fresh.ledger ≡ N.name) × (N.parts ≡ 1025) × (begun.fresh.queue ≡ N.queue) × (begun.base ≡ N.base) × (N.from ≡ 0) × ((image : List ℕ) → N.left image) }
 {
     let service = opened::<N, R, NoGate>(rt, alloc, begun, 2, NoGate)?;
     let mut client = service.client(rt, alloc)?;

@@ -1,8 +1,9 @@
 // Calls of one client, and of two in threads.
-ghost use Rattle.std.specs.Prelude.{◌≡◌};
+ghost use Rattle.std.specs.Prelude.{◌≡◌, ℕ, List};
 
 use super::reading::{absent_at, done_at, is_found, number};
 use super::starting::{ALL, Begun, Fused, SMALL, alone, both, ended, opened, prepared};
+use crate::helpers::opened as opened_library;
 use cc_pool::NoGate;
 use cc_service::{BookFault, Client, MOST_CLIENTS, Named, ServiceFault};
 use std::alloc::Global;
@@ -25,7 +26,7 @@ fn four_calls<N, R>(rt: &R, alloc: Global, begun: Begun) -> Result<bool, Fail>
 where
     N: Named + Send + Sync + 'static,
     R: Threads + Wait + Copy + Send + 'static,
-    requires { (begun.fresh.ledger ≡ N.name) × (N.parts ≡ 1025) × (begun.fresh.queue ≡ N.queue) × (begun.base ≡ N.base) }
+    requires { (begun.fresh.ledger ≡ N.name) × (N.parts ≡ 1025) × (begun.fresh.queue ≡ N.queue) × (begun.base ≡ N.base) × (N.from ≡ 0) × ((image : List ℕ) → N.left image) }
 {
     let service = opened::<N, R, NoGate>(rt, alloc, begun, 1, NoGate)?;
     let mut client = service.client(rt, alloc)?;
@@ -95,7 +96,7 @@ fn two_threads<N, R>(rt: &R, alloc: Global, begun: Begun) -> Result<(u32, u32), 
 where
     N: Named + Send + Sync + 'static,
     R: Threads + Wait + Copy + Send + Sync + 'static,
-    requires { (begun.fresh.ledger ≡ N.name) × (N.parts ≡ 1025) × (begun.fresh.queue ≡ N.queue) × (begun.base ≡ N.base) }
+    requires { (begun.fresh.ledger ≡ N.name) × (N.parts ≡ 1025) × (begun.fresh.queue ≡ N.queue) × (begun.base ≡ N.base) × (N.from ≡ 0) × ((image : List ℕ) → N.left image) }
 {
     let service = opened::<N, R, NoGate>(rt, alloc, begun, 2, NoGate)?;
     let one = service.client(rt, alloc)?;
@@ -138,7 +139,7 @@ fn many_clients<N, R>(rt: &R, alloc: Global, begun: Begun) -> Result<bool, Fail>
 where
     N: Named + Send + Sync + 'static,
     R: Threads + Wait + Copy + Send + 'static,
-    requires { (begun.fresh.ledger ≡ N.name) × (N.parts ≡ 1025) × (begun.fresh.queue ≡ N.queue) × (begun.base ≡ N.base) }
+    requires { (begun.fresh.ledger ≡ N.name) × (N.parts ≡ 1025) × (begun.fresh.queue ≡ N.queue) × (begun.base ≡ N.base) × (N.from ≡ 0) × ((image : List ℕ) → N.left image) }
 {
     let service = opened::<N, R, NoGate>(rt, alloc, begun, 1, NoGate)?;
     let mut clients = Vec::new(alloc);
@@ -148,4 +149,41 @@ where
     let refused = number(service.client(rt, alloc));
     drop(ended(rt, alloc, service, clients)?);
     Ok(refused == 30)
+}
+
+#[test]
+fn given_up_with_its_client(rt: HostRuntime) -> Result<(), Fail> {
+    let begun = prepared(rt.alloc(), ALL)?;
+    assert!(rt; gives_up::<Brand, HostRuntime>(&rt, rt.alloc(), begun, false)?);
+    Ok(())
+}
+
+#[test]
+fn given_up_without_its_client(rt: HostRuntime) -> Result<(), Fail> {
+    let begun = prepared(rt.alloc(), ALL)?;
+    assert!(rt; gives_up::<Brand, HostRuntime>(&rt, rt.alloc(), begun, true)?);
+    Ok(())
+}
+
+// Adds a unit and gives the service up, without its client where that is lost: whether it says so, and the disk has the unit.
+fn gives_up<N, R>(rt: &R, alloc: Global, begun: Begun, is_lost: bool) -> Result<bool, Fail>
+where
+    N: Named + Send + Sync + 'static,
+    R: Threads + Wait + Copy + Send + 'static,
+    requires { (begun.fresh.ledger ≡ N.name) × (N.parts ≡ 1025) × (begun.fresh.queue ≡ N.queue) × (begun.base ≡ N.base) × (N.from ≡ 0) × ((image : List ℕ) → N.left image) }
+{
+    let service = opened::<N, R, NoGate>(rt, alloc, begun, 1, NoGate)?;
+    let mut client = service.client(rt, alloc)?;
+    let added = number(service.add(rt, alloc, &mut client, b"a", SMALL));
+    let mut clients = Vec::with_capacity(alloc, 1)?;
+    if is_lost {
+        drop(client);
+    } else {
+        clients.push(client)?;
+    }
+    let (disk, are_all) = service.give_up(rt, alloc, clients);
+    let library = opened_library(alloc, disk)?;
+    let units = library.list(alloc)?.len();
+    drop(library);
+    Ok(added == 0 && are_all != is_lost && units == 1)
 }

@@ -1,5 +1,5 @@
 // Sixteen clients in threads of their own, whose history is replayed against the model.
-ghost use Rattle.std.specs.Prelude.{◌≡◌};
+ghost use Rattle.std.specs.Prelude.{◌≡◌, ℕ, List};
 
 use super::reading::number;
 use super::starting::{ALL, Begun, Fused, ended, opened, prepared};
@@ -31,7 +31,7 @@ fn are_replayed<N, R>(rt: &R, alloc: Global, begun: Begun) -> Result<bool, Fail>
 where
     N: Named + Send + Sync + 'static,
     R: Threads + Wait + Copy + Send + Sync + 'static,
-    requires { (begun.fresh.ledger ≡ N.name) × (N.parts ≡ 1025) × (begun.fresh.queue ≡ N.queue) × (begun.base ≡ N.base) }
+    requires { (begun.fresh.ledger ≡ N.name) × (N.parts ≡ 1025) × (begun.fresh.queue ≡ N.queue) × (begun.base ≡ N.base) × (N.from ≡ 0) × ((image : List ℕ) → N.left image) }
 {
     let service = opened::<N, R, NoGate>(rt, alloc, begun, 4, NoGate)?;
     let mut clients = Vec::new(alloc);

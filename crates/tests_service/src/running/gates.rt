@@ -1,5 +1,5 @@
 // A worker that a gate holds: the other one works, and other clients are answered.
-ghost use Rattle.std.specs.Prelude.{◌≡◌};
+ghost use Rattle.std.specs.Prelude.{◌≡◌, ℕ, List};
 
 use super::reading::number;
 use super::starting::{
@@ -100,7 +100,7 @@ fn held_by_a_piece<N, R>(rt: &R, alloc: Global, begun: Begun, gate: Holds) -> Re
 where
     N: Named + Send + Sync + 'static,
     R: Threads + Wait + Copy + Send + 'static,
-    requires { (begun.fresh.ledger ≡ N.name) × (N.parts ≡ 1025) × (begun.fresh.queue ≡ N.queue) × (begun.base ≡ N.base) }
+    requires { (begun.fresh.ledger ≡ N.name) × (N.parts ≡ 1025) × (begun.fresh.queue ≡ N.queue) × (begun.base ≡ N.base) × (N.from ≡ 0) × ((image : List ℕ) → N.left image) }
 {
     let service = opened::<N, R, Holds>(rt, alloc, begun, 2, gate)?;
     let mut client = service.client(rt, alloc)?;
@@ -134,7 +134,7 @@ fn held_by_a_client<N, R>(
 where
     N: Named + Send + Sync + 'static,
     R: Threads + Wait + Copy + Send + Sync + 'static,
-    requires { (begun.fresh.ledger ≡ N.name) × (N.parts ≡ 1025) × (begun.fresh.queue ≡ N.queue) × (begun.base ≡ N.base) }
+    requires { (begun.fresh.ledger ≡ N.name) × (N.parts ≡ 1025) × (begun.fresh.queue ≡ N.queue) × (begun.base ≡ N.base) × (N.from ≡ 0) × ((image : List ℕ) → N.left image) }
 {
     let service = opened::<N, R, Holds>(rt, alloc, begun, 2, gate)?;
     let one = service.client(rt, alloc)?;

@@ -1,5 +1,5 @@
 // An `add` of which a growth is refused. bench/memory_service.sh refuses each allocation of this test in turn, so one in all.
-ghost use Rattle.std.specs.Prelude.{◌≡◌};
+ghost use Rattle.std.specs.Prelude.{◌≡◌, ℕ, List};
 
 use super::reading::number;
 use super::starting::{ALL, Begun, Device, Fused, TWO_FUNCTIONS, alone, ended, opened, prepared};
@@ -56,7 +56,7 @@ fn is_added<N, R>(rt: &R, alloc: Global, begun: Begun) -> Result<bool, Fail>
 where
     N: Named + Send + Sync + 'static,
     R: Threads + Wait + Copy + Send + 'static,
-    requires { (begun.fresh.ledger ≡ N.name) × (N.parts ≡ 1025) × (begun.fresh.queue ≡ N.queue) × (begun.base ≡ N.base) }
+    requires { (begun.fresh.ledger ≡ N.name) × (N.parts ≡ 1025) × (begun.fresh.queue ≡ N.queue) × (begun.base ≡ N.base) × (N.from ≡ 0) × ((image : List ℕ) → N.left image) }
 {
     let service = opened::<N, R, NoGate>(rt, alloc, begun, 1, NoGate)?;
     let mut client = service.client(rt, alloc)?;

@@ -1,5 +1,5 @@
 // Services that begin on a device.
-ghost use Rattle.std.specs.Prelude.{◌≡◌, ◌≤◌};
+ghost use Rattle.std.specs.Prelude.{◌≡◌, ◌≤◌, ℕ, List};
 ghost use Rattle.cc_disk.specs.Model.{bytes_of};
 ghost use Rattle.cc_library.specs.Apply.{Units};
 ghost use Rattle.cc_library.specs.Recovered.{Recovers};
@@ -66,7 +66,7 @@ where
     N: Named + Send + Sync + 'static,
     R: Threads + Wait + Copy + Send + 'static,
     G: Gate + Drop + Send + Sync + 'static,
-    requires names { (begun.fresh.ledger ≡ N.name) × (N.parts ≡ 1025) × (begun.fresh.queue ≡ N.queue) × (begun.base ≡ N.base) }
+    requires names { (begun.fresh.ledger ≡ N.name) × (N.parts ≡ 1025) × (begun.fresh.queue ≡ N.queue) × (begun.base ≡ N.base) × (N.from ≡ 0) × ((image : List ℕ) → N.left image) }
     requires some { 1 ≤ workers }
     requires few { workers ≤ 8 }
 {

@@ -9,4 +9,4 @@ abbrev pub ghosts-by_clients-N-Queued : goal.ghosts-by_clients-N-Queued
 ghosts-by_clients-N-Queued g a = record { queue = a.fresh.queue }
 
 abbrev pub ghosts-by_clients-N-Named : goal.ghosts-by_clients-N-Named
-ghosts-by_clients-N-Named g a = record { base = empty }
+ghosts-by_clients-N-Named g a = record { base = empty; from = 0; left = λ image. Unit {0} }

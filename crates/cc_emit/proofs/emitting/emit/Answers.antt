@@ -18,7 +18,7 @@ new-requires-2 c =
     let items = items_handed c.args.pair _ _ _ c.in_ok-items.items.items _ tree c.in_ok-bases.ensures c.slots.ensures.answer c.code-code.ensures.code c.in_ok-items.ensures in
     let limits = subst (λ (u : parsed.Unit). IsWithinLimits (source u).externals) unit c.externals.ensures.limits in
     let kept = subst IsPair c.pair.view_is c.pair.invariant in
-    piece_handed c.args.pair _ _ _ _ c.into_parts-unit.ensures.unit c.function-function.ensures.answer c.into_parts-unit.ensures.ltl items (piece_of c.args.pair kept.ltl kept.few c.code-code.ensures.typed limits c.function-function.ensures.of_unit c.code-code.ensures.linear c.code-code.ensures.keeps_up)
+    piece_handed c.args.pair _ _ _ _ c.into_parts-unit.ensures.unit c.function-function.ensures.answer c.into_parts-unit.ensures.ltl items (piece_of c.args.pair kept.ltl kept.few kept.ltl_keeps_up c.code-code.ensures.typed limits c.function-function.ensures.of_unit c.code-code.ensures.linear c.code-code.ensures.keeps_up)
 
 pub returns-clause-items : goal.returns-clause-items
 returns-clause-items c =

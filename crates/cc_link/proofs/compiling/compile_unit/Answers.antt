@@ -1,9 +1,10 @@
 -- Pieces of one's own are refused for the size of the image alone.
-use Rattle.std.proofs.Common.{inl, inr, subst}
+use Rattle.std.proofs.Common.{inl, inr, Err, ap, subst, ◌∙◌}
 use Rattle.std.specs.Arc.{arc_value}
 use Rattle.cc_syntax.specs.Source.{source}
 use Rattle.cc_syntax.specs.declared.unit.Unit as parsed
 use Rattle.cc_typing.specs.Typed.{IsTyped, IsWithinLimits}
+use Rattle.cc_link.specs.declared.fault.LinkFault.{LinkFault}
 use Rattle.cc_link.proofs.Own.{only_large}
 use Rattle.cc_link.proofs.compiling.compile_unit.Goals as goal
 
@@ -20,7 +21,15 @@ returns-in-Err-link-clause-refused c =
       | inl e ↦ inl e
       | inr e ↦ inr (
         only_large s ps c.in-Err-link.fault own count e,
-        (s.externals, record { spelled = c.requires.spelled; typed = typed; limits = limits }),
+        record {
+          tree = s.externals;
+          is = record { spelled = c.requires.spelled; typed = typed; limits = limits };
+          pieces = ps;
+          compiled = c.in-Ok.ensures.compiled;
+          own = own;
+          count = count;
+          refused = e ∙ ap (λ (f : LinkFault). Err f) (only_large s ps c.in-Err-link.fault own count e);
+        },
       )
     ]
 

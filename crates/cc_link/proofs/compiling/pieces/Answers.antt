@@ -1,5 +1,7 @@
 use Rattle.std.proofs.Common.{inl, inr, rules, arith, ◌≡◌, ◌<◌, ◌+◌, List, [], ◌∷◌, ◌++◌, length, sym, ap, subst, ◌∙◌}
 use Rattle.std.proofs.lemmas.Bool.{cases_lt}
+use Rattle.std.proofs.lemmas.List.Elements.{All-push}
+use Rattle.std.specs.Prelude.{All}
 use Rattle.std.specs.Arc.{arc_value}
 use Rattle.cc_syntax.specs.Source.{source}
 use Rattle.cc_syntax.specs.declared.unit.Unit.{Unit}
@@ -8,6 +10,7 @@ use Rattle.cc_typing.specs.Checked.{IsChecked}
 use Rattle.cc_typing.specs.Typed.{defined_names}
 use Rattle.cc_semantics.specs.Meaning.{functions}
 use Rattle.cc_emit.specs.Piece.{Piece}
+use Rattle.cc_link.specs.Made.{IsCompiled}
 use Rattle.cc_link.specs.Pieces.{AreFrom}
 use Rattle.cc_link.proofs.Deciding.{defined_long}
 use Rattle.cc_link.proofs.Own.{one_from}
@@ -33,16 +36,19 @@ loop-function-preserved c =
     let text = (source (arc_value c.args.unit.now)).text in
     let items : c.push.new.self.items ≡ c.loop-function.pieces.items ++ c.in-Ok.piece ∷ [] = search rules in
     let whose : (source c.in-Ok.piece.unit).text ≡ text = ap (λ u. (source u).text) c.in-Ok.ensures.unit in
+    let compiled : IsCompiled c.in-Ok.piece =
+    compiled_of (arc_value c.args.unit.now) c.in-Ok.piece c.in-Ok.ensures.unit (subst (λ (u : Unit). ∥ SpellsText (source u).text (source u).externals ∥₁) c.deref-2.ensures c.externals-externals.ensures.spelled)
+    (subst (λ (u : Unit). IsChecked (source u)) c.deref-2.ensures (record { typed = c.externals-externals.ensures.typed; limits = c.externals-externals.ensures.limits })) c.items-kept.ensures.piece in
     let which : c.in-Ok.piece.function ≡ 0 + length c.loop-function.pieces.items = let f = c.in-Ok.ensures.function in let n = c.loop-function.invariant.count in omega (arith, f, n) in
     record {
       own = subst (λ (ps : List Piece). AreFrom text 0 ps) (sym items) (one_from text 0 c.loop-function.pieces.items c.in-Ok.piece c.loop-function.invariant.own whose which);
       count = search rules;
+      compiled = subst (λ (ps : List Piece). All IsCompiled ps) (sym items) (All-push IsCompiled c.loop-function.pieces.items c.in-Ok.piece c.loop-function.invariant.compiled compiled);
       made = λ g less. elim (cases_lt g c.loop-function.function) [
         | inl lower ↦ c.loop-function.invariant.made g lower
         | inr here ↦ record {
           piece = c.in-Ok.piece;
-          compiled = compiled_of (arc_value c.args.unit.now) c.in-Ok.piece c.in-Ok.ensures.unit (subst (λ (u : Unit). ∥ SpellsText (source u).text (source u).externals ∥₁) c.deref-2.ensures c.externals-externals.ensures.spelled)
-              (subst (λ (u : Unit). IsChecked (source u)) c.deref-2.ensures (record { typed = c.externals-externals.ensures.typed; limits = c.externals-externals.ensures.limits })) c.items-kept.ensures.piece;
+          compiled = compiled;
           text_is = whose;
           function_is = c.in-Ok.ensures.function ∙ omega (arith, here, less);
         }

@@ -1,7 +1,9 @@
 use Rattle.std.proofs.Common.{◌≡◌, ℕ, ◌<◌, length}
+use Rattle.std.specs.Prelude.{All}
 use Rattle.cc_link.specs.Compile.{HasPiece}
 use Rattle.std.specs.Arc.{arc_value}
 use Rattle.cc_syntax.specs.Source.{source}
+use Rattle.cc_link.specs.Made.{IsCompiled}
 use Rattle.cc_link.specs.Pieces.{AreFrom}
 use Rattle.cc_link.proofs.compiling.pieces.Given as goal
 
@@ -10,5 +12,6 @@ abbrev pub invariant-loop-function : goal.invariant-loop-function
 invariant-loop-function l = record {
   own : AreFrom (source (arc_value l.unit)).text 0 l.pieces.items;
   count : length l.pieces.items ≡ l.function;
+  compiled : All IsCompiled l.pieces.items;
   made : (g : ℕ) → g < l.function → HasPiece (source (arc_value l.unit)).text g;
 }

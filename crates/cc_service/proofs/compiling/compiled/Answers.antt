@@ -1,7 +1,9 @@
-use Rattle.std.proofs.Common.{inl, inr, ℕ, List, subst}
+use Rattle.std.proofs.Common.{◌≡◌, inl, inr, ℕ, List, ap, ◌∙◌, subst}
+use Rattle.std.specs.Arc.{arc_value}
 use Rattle.cc_syntax.specs.Source.{source}
 use Rattle.cc_typing.specs.Typed.{IsTypeRefusal}
 use Rattle.cc_typing.specs.Verdict.{source_with}
+use Rattle.cc_service.specs.Compiling.{HasSentFor}
 use Rattle.cc_service.proofs.compiling.compiled.Goals as goal
 
 pub returns-in-Err-check-clause-refused : goal.returns-in-Err-check-clause-refused
@@ -15,3 +17,8 @@ returns-in-Err-check-clause-refused g c =
         refused = subst (λ (t : List ℕ). IsTypeRefusal (source_with t s.externals) c.in-Err-check.fault) c.in-Ok.ensures.text r;
       })
     ]
+
+pub returns-in-Ok-new-clause-sent : goal.returns-in-Ok-new-clause-sent
+returns-in-Ok-new-clause-sent g c =
+    let text : (source (arc_value c.in-Ok-new.unit)).text ≡ c.args.source.now = cc (c.in-Ok-new.ensures.ok, c.in-Ok-check.ensures.answer, c.in-Ok.ensures.text) in
+    subst (λ (t : List ℕ). HasSentFor t c.args.pass.now.sent c.made.new.pass.sent) text c.made.ensures.sent

@@ -57,6 +57,7 @@ returns-in-Err-ImageTooLarge-clause-refused c =
         tree = s.externals;
         is = c.requires.program;
         pieces = ps;
+        compiled = c.requires.compiled;
         own = c.requires.own;
         count = count;
         refused = e ∙ ap (λ (f : LinkFault). Err f) c.in-Err-ImageTooLarge.field-0-is;

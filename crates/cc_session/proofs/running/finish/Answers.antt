@@ -1,11 +1,29 @@
--- What the end of a service says of its book is what is left.
-use Rattle.cc_session.proofs.Ends.{calls_of, kept_by}
+-- What the end of a service says of its book is what is left; and so where it had to be given up.
+use Rattle.std.proofs.Common.{◌≡◌, ℕ, Vec, Global, sym, subst}
+use Rattle.std.specs.Prelude.{◌⊎◌}
+use Rattle.cc_service.specs.Client.{ClientView, holders}
+use Rattle.cc_service.specs.Promise.{IsGivenUp}
+use Rattle.cc_session.specs.Session.{IsEnded}
+use Rattle.cc_session.specs.declared.end.SessionEnd.{SessionEnd}
+use Rattle.cc_session.proofs.Ends.{given_up_by, kept_by, refusal_number}
 use Rattle.cc_session.proofs.running.finish.Goals as goal
 
-pub returns-in-Ok-clause-kept : goal.returns-in-Ok-clause-kept
-returns-in-Ok-clause-kept g c = λ bytes recovers script called.
+pub returns-in-Ok : goal.returns-in-Ok
+returns-in-Ok g c = λ bytes recovers.
+    let D = g.D.Disk in
+    let N = g.N.Named in
     let r = c.in-Ok.closed in
     let e = c.in-Ok.ensures in
-    kept_by g.D.Disk.honest g.D.Disk.may_leave g.N.Named.base (record { base = r.base; library = r.library; history = r.history.items; failed = r.failed.items }) c.disk_of.result
-    c.disk_of.ensures e.base e.legal e.library e.agrees e.idle e.images e.survives bytes recovers script c.args.played
-    (calls_of script c.args.clients.items r.history.items c.args.played called e.closed e.own)
+    kept_by D.honest D.may_leave D.left_since N.base N.from N.left bytes recovers (holders c.args.clients.items) c.args.played
+    (record { base = r.base; library = r.library; history = r.history.items; failed = r.failed.items }) c.disk_of.result c.disk_of.ensures e.sound e.closed e.own
+
+pub returns-in-Err : goal.returns-in-Err
+returns-in-Err g c = λ bytes recovers.
+    let D = g.D.Disk in
+    let N = g.N.Named in
+    let given = c.give_up-disk.result in
+    let it = subst (λ (v : Vec ClientView Global). IsGivenUp D.honest D.may_leave D.left_since N.base N.from N.left (holders v.items) given.1 given.0) c.in-Err.ensures.back c.give_up-disk.ensures in
+    let why = refusal_number D.honest N.base (holders c.args.clients.items) c.in-Err.fault c.in-Err.ensures.refused in
+    subst (λ (end : SessionEnd). IsEnded D.honest bytes D.may_leave D.left_since N.from N.left (holders c.args.clients.items) c.args.played end given.0) (sym c.told_after.ensures)
+    (given_up_by D.honest D.may_leave D.left_since N.base N.from N.left bytes recovers (holders c.args.clients.items) c.args.played given.1 given.0 c.refused-number.result it
+    (subst (λ (n : ℕ). (n ≡ 39) ⊎ (n ≡ 40)) (sym c.refused-number.ensures) why))

@@ -1,4 +1,4 @@
--- The service's type names the ledger and the queue that were made for it, and the map to which the disk recovers.
+-- The service's type names the ledger and the queue that were made for it, the map to which the disk recovers, and what a crash may leave at the session's beginning.
 use Rattle.cc_session.proofs.running.session_and_explain.Given as goal
 
 abbrev pub ghosts-serve-N-Ledger : goal.ghosts-serve-N-Ledger
@@ -8,4 +8,4 @@ abbrev pub ghosts-serve-N-Queued : goal.ghosts-serve-N-Queued
 ghosts-serve-N-Queued g a = record { queue = a.begun.fresh.queue }
 
 abbrev pub ghosts-serve-N-Named : goal.ghosts-serve-N-Named
-ghosts-serve-N-Named g a = record { base = a.begun.base.value }
+ghosts-serve-N-Named g a = record { base = a.begun.base.value; from = g.D.Disk.moment a.begun.before.value; left = g.D.Disk.may_leave a.begun.before.value }

@@ -2,10 +2,10 @@ use Rattle.std.proofs.Common.{◌≡◌, List, [], Some, None, refl, sym, ap, su
 use Rattle.std.specs.Prelude.{slice_get}
 use Rattle.cc_build.specs.Compiling.{compiling, Keeps}
 use Rattle.cc_service.specs.Book.{BookView}
-use Rattle.cc_service.specs.Since.{AreSince}
+use Rattle.cc_service.specs.Since.{AreSince, IsSinceOpening}
 use Rattle.cc_service.specs.Tie.{IsTied}
 use Rattle.cc_service.proofs.Tying.{opening_tied}
-use Rattle.cc_service.proofs.Sinces.{one_more}
+use Rattle.cc_service.proofs.Sinces.{one_more, opening_now}
 use Rattle.cc_service.proofs.book.Book.begin.Goals as goal
 
 pub invariant_of-result : goal.invariant_of-result
@@ -19,4 +19,6 @@ invariant_of-result g c =
       since = λ h. subst (λ (l : List (BookView g.row.D.Denot)). AreSince D.moment D.left_since book l) (sym c.and-since.ensures)
           (one_more D.moment D.may_leave D.left_since book c.new.result.items c.kept.ensures.replays c.kept.ensures.one (λ image left. g.met.D.Disk.only_now book.library.disk image h left) (c.kept.ensures.images h)
           (λ k old at. let none : None ≡ Some old = sym (ap (λ (l : List (BookView g.row.D.Denot)). slice_get l k) c.new.ensures) ∙ at in absurd (cc)));
+      opened = λ h. subst (λ (b : BookView g.row.D.Denot). IsSinceOpening D.moment D.left_since g.N.Named.from g.N.Named.left b) (sym c.new-recorded.ensures)
+          (opening_now D.moment D.may_leave D.left_since first g.N.Named.from g.N.Named.left (c.requires.past h));
     }

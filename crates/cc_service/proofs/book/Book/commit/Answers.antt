@@ -8,7 +8,7 @@ use Rattle.cc_core.specs.Rules.{HasBuilt}
 use Rattle.cc_history.specs.Calls.{change_of}
 use Rattle.cc_service.proofs.Tying.{TurnLaw, commit_tied}
 use Rattle.cc_service.proofs.Putting.{built_of}
-use Rattle.cc_service.proofs.Sinces.{commit_since, one_more}
+use Rattle.cc_service.proofs.Sinces.{Goes, commit_goes, one_more, opening_goes, since_goes}
 use Rattle.cc_service.proofs.book.Book.commit.Goals as goal
 
 pub invariant_of-self : goal.invariant_of-self
@@ -18,14 +18,17 @@ invariant_of-self g c =
     let after_it : BookView g.row.D.Denot = c.commit-result.new.self in
     let done = c.commit-result.ensures in
     let law : TurnLaw compiling Keeps = record { turn = c.turn_law.ensures.turn; goes_on = c.turn_law.ensures.goes_on; no_job = c.turn_law.ensures.no_job; no_work = c.turn_law.ensures.no_work; ready = c.turn_law.ensures.ready } in
+    let goes : IsTrue D.honest → Goes D.moment D.may_leave D.left_since before after_it = λ h.
+    commit_goes D.moment D.may_leave D.left_since before after_it c.kept.ensures.replays c.kept-3.ensures.replays c.kept.ensures.idle D.failures
+    c.client.inside.member c.commit-result.new.client c.args.command c.commit-result.result done.answers (done.moments h) in
     let built : HasBuilt compiling Keeps (change_of c.args.command) = built_of c.made_units_are_built.ensures c.args.command c.kept-2.ensures.source c.kept-2.ensures.made in
     record {
       tied = λ h. commit_tied compiling Keeps law D.seen D.may_leave (λ d. g.met.D.Disk.seen_is_image d h) D.failures before after_it
           c.client.inside.member c.commit-result.new.client c.args.command c.commit-result.result done.answers (done.disk h) c.kept-2.ensures.command built (c.self.invariant.tied h);
       since = λ h. subst (λ (l : List (BookView g.row.D.Denot)). AreSince D.moment D.left_since after_it l) (sym c.and-self-inside.ensures)
           (one_more D.moment D.may_leave D.left_since after_it c.self.inside.since.items c.kept-3.ensures.replays c.kept-3.ensures.one (λ image left. g.met.D.Disk.only_now after_it.library.disk image h left) (c.kept-3.ensures.images h)
-          (λ k old at. commit_since D.moment D.may_leave D.left_since before after_it c.kept.ensures.replays c.kept-3.ensures.replays c.kept.ensures.idle D.failures
-          c.client.inside.member c.commit-result.new.client c.args.command c.commit-result.result done.answers (done.moments h) old (c.self.invariant.since h k old at)));
+          (λ k old at. since_goes D.moment D.may_leave D.left_since before after_it old (goes h) (c.self.invariant.since h k old at)));
+      opened = λ h. opening_goes D.moment D.may_leave D.left_since before after_it (goes h) g.N.Named.from g.N.Named.left (c.self.invariant.opened h);
     }
 
 pub returns-clause-disk : goal.returns-clause-disk

@@ -4,7 +4,7 @@ use Rattle.cc_service.specs.Book.{BookView}
 use Rattle.cc_service.specs.Disk.{CompactsDisk}
 use Rattle.cc_service.specs.Since.{AreSince, BookSince}
 use Rattle.cc_service.proofs.Tying.{TurnLaw, compact_tied}
-use Rattle.cc_service.proofs.Sinces.{compact_since, one_more}
+use Rattle.cc_service.proofs.Sinces.{Goes, compact_goes, one_more, opening_goes, since_goes}
 use Rattle.cc_service.proofs.book.Book.compact.Goals as goal
 
 pub invariant_of-self : goal.invariant_of-self
@@ -14,12 +14,14 @@ invariant_of-self g c =
     let after_it : BookView g.row.D.Denot = c.compact-result.new.self in
     let done = c.compact-result.ensures in
     let law : TurnLaw compiling Keeps = record { turn = c.turn_law.ensures.turn; goes_on = c.turn_law.ensures.goes_on; no_job = c.turn_law.ensures.no_job; no_work = c.turn_law.ensures.no_work; ready = c.turn_law.ensures.ready } in
+    let goes : IsTrue D.honest → Goes D.moment D.may_leave D.left_since before after_it = λ h.
+    compact_goes D.moment D.may_leave D.left_since before after_it c.kept.ensures.replays c.kept-2.ensures.replays c.kept.ensures.idle D.failures c.compact-result.result done.answers (done.moments h) in
     record {
       tied = λ h. compact_tied compiling Keeps law D.seen D.may_leave D.failures before after_it c.compact-result.result done.answers (done.disk h) (c.self.invariant.tied h);
       since = λ h. subst (λ (l : List (BookView g.row.D.Denot)). AreSince D.moment D.left_since after_it l) (sym c.and-self-inside.ensures)
           (one_more D.moment D.may_leave D.left_since after_it c.self.inside.since.items c.kept-2.ensures.replays c.kept-2.ensures.one (λ image left. g.met.D.Disk.only_now after_it.library.disk image h left) (c.kept-2.ensures.images h)
-          (λ k old at. compact_since D.moment D.may_leave D.left_since before after_it c.kept.ensures.replays c.kept-2.ensures.replays c.kept.ensures.idle D.failures
-          c.compact-result.result done.answers (done.moments h) old (c.self.invariant.since h k old at)));
+          (λ k old at. since_goes D.moment D.may_leave D.left_since before after_it old (goes h) (c.self.invariant.since h k old at)));
+      opened = λ h. opening_goes D.moment D.may_leave D.left_since before after_it (goes h) g.N.Named.from g.N.Named.left (c.self.invariant.opened h);
     }
 
 pub returns-clause-disk : goal.returns-clause-disk

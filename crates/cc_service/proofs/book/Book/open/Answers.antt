@@ -2,11 +2,17 @@
 use Rattle.std.proofs.Common.{◌∙◌, List, ℕ, ap, sym, subst}
 use Rattle.cc_journal.specs.Format.{HoldsRecords}
 use Rattle.cc_service.specs.Book.{BookView}
+use Rattle.cc_service.proofs.Sinces.{past_on}
 use Rattle.cc_service.proofs.book.Book.open.Goals as goal
 
 pub begin-requires-clause-records : goal.begin-requires-clause-records
 begin-requires-clause-records g c = λ h.
     subst (λ (b : List ℕ). HoldsRecords b c.in-Ok.library.area c.in-Ok.library.bodies) (sym (c.in-Ok.ensures.reads h).same) (c.in-Ok.ensures.records h)
+
+pub begin-requires-clause-past : goal.begin-requires-clause-past
+begin-requires-clause-past g c = λ h.
+    let D = g.D.Disk in
+    past_on D.seen D.may_leave D.moment D.left_since g.N.Named.from g.N.Named.left c.args.disk c.in-Ok.library.disk (c.requires.past h) (c.in-Ok.ensures.reads h)
 
 pub returns-in-Ok-again-clause-fresh : goal.returns-in-Ok-again-clause-fresh
 returns-in-Ok-again-clause-fresh g c = λ h area holds.

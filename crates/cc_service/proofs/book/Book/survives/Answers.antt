@@ -2,10 +2,10 @@ use Rattle.std.proofs.Common.{◌≡◌, ℕ, List, IsTrue, Some, length, subst}
 use Rattle.std.specs.Prelude.{slice_get}
 use Rattle.cc_build.specs.Compiling.{compiling, Keeps, is_right}
 use Rattle.cc_service.specs.Book.{BookView}
-use Rattle.cc_service.specs.Promise.{SurvivesCrash}
+use Rattle.cc_service.specs.Promise.{IsSound}
 use Rattle.cc_service.specs.Since.{BookSince, HoldsFrom}
 use Rattle.cc_service.specs.Tie.{IsTied}
-use Rattle.cc_service.proofs.Surviving.{held_agrees, tied_survives}
+use Rattle.cc_service.proofs.Surviving.{held_agrees, map_agrees, or_prefix, tied_survives}
 use Rattle.cc_core.specs.Run.{EachUnit, IsRightOr}
 use Rattle.cc_library.specs.Apply.{Units}
 use Rattle.cc_library.specs.Recovered.{Recovers}
@@ -16,11 +16,25 @@ returns-clause-reached g c =
     let D = g.D.Disk in
     subst (λ (b : BookSince g.row.D.Denot). IsTrue D.honest → IsTied compiling Keeps D.seen D.may_leave b.book) c.self.view_is c.self.invariant.tied
 
-pub returns-clause-now : goal.returns-clause-now
-returns-clause-now g c =
+pub returns-clause-sound : goal.returns-clause-sound
+returns-clause-sound g c =
     let D = g.D.Disk in
-    subst (λ (b : BookSince g.row.D.Denot). IsTrue D.honest → (image : List ℕ) → D.may_leave b.book.library.disk image → SurvivesCrash b.book image) c.self.view_is
-    (λ h image left. tied_survives compiling Keeps c.crash_law.ensures.survives c.crash_law.ensures.units D.seen D.may_leave c.self.inside.recorded (c.self.invariant.tied h) image left)
+    let N = g.N.Named in
+    let book : BookView g.row.D.Denot = c.self.inside.recorded in
+    let kept = c.kept.ensures in
+    subst (λ (b : BookSince g.row.D.Denot). IsSound D.honest D.may_leave D.left_since N.base N.from N.left b.book) c.self.view_is
+    (record {
+      base_is = kept.base;
+      legal = kept.replays.legal;
+      map = kept.replays.units;
+      agrees = map_agrees c.units_agree.ensures book kept.replays kept.agreed;
+      agrees_failed = kept.agreed_failed;
+      idle = kept.idle;
+      images = kept.images;
+      survives = λ h image left. tied_survives compiling Keeps c.crash_law.ensures.survives c.crash_law.ensures.units D.seen D.may_leave book (c.self.invariant.tied h) image left;
+      since = λ h image left.
+          or_prefix book N.left image (held_agrees c.units_agree.ensures c.units_law.ensures.found book kept.replays kept.agreed kept.agreed_failed 0 image) ((c.self.invariant.opened h).holds image left);
+    })
 
 pub returns-clause-since : goal.returns-clause-since
 returns-clause-since g c =

@@ -1,12 +1,11 @@
 -- Whatever is fetched of the names from here on, with what was fetched before, is fetched of all.
 use Rattle.std.proofs.Common.{◌≡◌, Bool, drop}
-use Rattle.cc_script.specs.Reading.{rest_of}
 use Rattle.cc_history.specs.History.{Holder}
 use Rattle.cc_session.specs.Playing.{FetchesEach}
 use Rattle.cc_session.proofs.calls.Caller.audit_names.Given as goal
 
 abbrev pub invariant-loop-name : goal.invariant-loop-name
 invariant-loop-name g l = record {
-  rest : rest_of l.talk.script (g.R.Read.remaining l.talk.reader) ≡ rest_of l.initial.talk.script (g.R.Read.remaining l.initial.talk.reader);
+  rest : l.talk ≡ l.initial.talk;
   onward : (all : Bool) (new : Holder) → FetchesEach (drop l.name-index l.names) all l.self.client.holder new → FetchesEach l.names all l.initial.self.client.holder new;
 }

@@ -8,4 +8,4 @@ abbrev pub ghosts-run-N-Queued : goal.ghosts-run-N-Queued
 ghosts-run-N-Queued g a = record { queue = a.queue }
 
 abbrev pub ghosts-run-N-Named : goal.ghosts-run-N-Named
-ghosts-run-N-Named g a = record { base = a.base }
+ghosts-run-N-Named g a = record { base = a.base; from = 0; left = λ image. Unit {0} }

@@ -8,4 +8,4 @@ abbrev pub ghosts-each_call-N-Queued : goal.ghosts-each_call-N-Queued
 ghosts-each_call-N-Queued g a = record { queue = a.begun.fresh.queue }
 
 abbrev pub ghosts-each_call-N-Named : goal.ghosts-each_call-N-Named
-ghosts-each_call-N-Named g a = record { base = a.begun.base }
+ghosts-each_call-N-Named g a = record { base = a.begun.base; from = 0; left = λ image. Unit {0} }

@@ -8,4 +8,4 @@ abbrev pub ghosts-four_calls-N-Queued : goal.ghosts-four_calls-N-Queued
 ghosts-four_calls-N-Queued g a = record { queue = a.begun.fresh.queue }
 
 abbrev pub ghosts-four_calls-N-Named : goal.ghosts-four_calls-N-Named
-ghosts-four_calls-N-Named g a = record { base = a.begun.base }
+ghosts-four_calls-N-Named g a = record { base = a.begun.base; from = 0; left = λ image. Unit {0} }

@@ -8,4 +8,4 @@ abbrev pub ghosts-many_clients-N-Queued : goal.ghosts-many_clients-N-Queued
 ghosts-many_clients-N-Queued g a = record { queue = a.begun.fresh.queue }
 
 abbrev pub ghosts-many_clients-N-Named : goal.ghosts-many_clients-N-Named
-ghosts-many_clients-N-Named g a = record { base = a.begun.base }
+ghosts-many_clients-N-Named g a = record { base = a.begun.base; from = 0; left = λ image. Unit {0} }

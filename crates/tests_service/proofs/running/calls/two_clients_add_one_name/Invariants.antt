@@ -8,4 +8,4 @@ abbrev pub ghosts-two_threads-N-Queued : goal.ghosts-two_threads-N-Queued
 ghosts-two_threads-N-Queued g a = record { queue = a.begun.fresh.queue }
 
 abbrev pub ghosts-two_threads-N-Named : goal.ghosts-two_threads-N-Named
-ghosts-two_threads-N-Named g a = record { base = a.begun.base }
+ghosts-two_threads-N-Named g a = record { base = a.begun.base; from = 0; left = λ image. Unit {0} }

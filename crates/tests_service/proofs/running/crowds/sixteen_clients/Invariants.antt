@@ -8,4 +8,4 @@ abbrev pub ghosts-are_replayed-N-Queued : goal.ghosts-are_replayed-N-Queued
 ghosts-are_replayed-N-Queued g a = record { queue = a.begun.fresh.queue }
 
 abbrev pub ghosts-are_replayed-N-Named : goal.ghosts-are_replayed-N-Named
-ghosts-are_replayed-N-Named g a = record { base = a.begun.base }
+ghosts-are_replayed-N-Named g a = record { base = a.begun.base; from = 0; left = λ image. Unit {0} }

@@ -8,4 +8,4 @@ abbrev pub ghosts-five_calls-N-Queued : goal.ghosts-five_calls-N-Queued
 ghosts-five_calls-N-Queued g a = record { queue = a.begun.fresh.queue }
 
 abbrev pub ghosts-five_calls-N-Named : goal.ghosts-five_calls-N-Named
-ghosts-five_calls-N-Named g a = record { base = a.begun.base }
+ghosts-five_calls-N-Named g a = record { base = a.begun.base; from = 0; left = λ image. Unit {0} }

@@ -8,4 +8,4 @@ abbrev pub ghosts-not_opened-N-Queued : goal.ghosts-not_opened-N-Queued
 ghosts-not_opened-N-Queued g a = record { queue = a.begun.fresh.queue }
 
 abbrev pub ghosts-not_opened-N-Named : goal.ghosts-not_opened-N-Named
-ghosts-not_opened-N-Named g a = record { base = a.begun.base }
+ghosts-not_opened-N-Named g a = record { base = a.begun.base; from = 0; left = λ image. Unit {0} }

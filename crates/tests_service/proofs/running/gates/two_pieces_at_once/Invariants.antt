@@ -8,4 +8,4 @@ abbrev pub ghosts-held_by_a_piece-N-Queued : goal.ghosts-held_by_a_piece-N-Queue
 ghosts-held_by_a_piece-N-Queued g a = record { queue = a.begun.fresh.queue }
 
 abbrev pub ghosts-held_by_a_piece-N-Named : goal.ghosts-held_by_a_piece-N-Named
-ghosts-held_by_a_piece-N-Named g a = record { base = a.begun.base }
+ghosts-held_by_a_piece-N-Named g a = record { base = a.begun.base; from = 0; left = λ image. Unit {0} }

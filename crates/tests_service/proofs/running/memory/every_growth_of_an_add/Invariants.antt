@@ -8,4 +8,4 @@ abbrev pub ghosts-is_added-N-Queued : goal.ghosts-is_added-N-Queued
 ghosts-is_added-N-Queued g a = record { queue = a.begun.fresh.queue }
 
 abbrev pub ghosts-is_added-N-Named : goal.ghosts-is_added-N-Named
-ghosts-is_added-N-Named g a = record { base = a.begun.base }
+ghosts-is_added-N-Named g a = record { base = a.begun.base; from = 0; left = λ image. Unit {0} }

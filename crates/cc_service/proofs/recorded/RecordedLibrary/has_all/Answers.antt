@@ -5,8 +5,8 @@ use Rattle.cc_service.specs.Client.{holders}
 use Rattle.cc_service.specs.declared.fault.BookFault.TheVariants.{Estranged}
 use Rattle.cc_service.specs.internal.Apart.{HaveOwnNumbers}
 use Rattle.cc_service.proofs.Holding.{apart, not_all}
-use Rattle.cc_service.proofs.recorded.RecordedLibrary.ready.Goals as goal
-use Rattle.cc_service.proofs.recorded.RecordedLibrary.ready.Goals.{then-clients-made-via-then-clients-made, then-clients-made-via-else-clients-made+then-not-are_apart}
+use Rattle.cc_service.proofs.recorded.RecordedLibrary.has_all.Goals as goal
+use Rattle.cc_service.proofs.recorded.RecordedLibrary.has_all.Goals.{then-clients-made-via-then-clients-made, then-clients-made-via-else-clients-made+then-not-are_apart}
 
 pub returns-in-Err-clause-err : goal.returns-in-Err-clause-err
 returns-in-Err-clause-err g c = c.in-Err.ensures.err c.args.made
