@@ -1,4 +1,4 @@
-// The texts of `--help` and `--version`. The script `cclib` prints them from here where the program is not built yet.
+// The texts of `--help` and `--version`. The script `cclib` prints the same without the program: `.ci/run` compares them.
 
 use cc_command_line::line;
 use std::alloc::Global;
