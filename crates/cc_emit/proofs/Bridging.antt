@@ -1,63 +1,100 @@
 -- Places counted from the end are the places of the definition, and the items put so far and those of the items to come are the
 -- function's code.
-use Rattle.std.proofs.Common.{◌≡◌, ℕ, zero, suc, ◌+◌, ◌-◌, ◌*◌, ◌^◌, ◌<◌, ◌≤◌, List, [], ◌∷◌, ◌++◌, true, false, Bool, length, get_or, drop, refl, sym, ap, ◌∙◌, subst, inl, inr, append_assoc, length-append, arith}
+use Rattle.std.proofs.Common.{◌≡◌, ℕ, zero, suc, ◌+◌, ◌-◌, ◌*◌, ◌^◌, ◌<◌, ◌≤◌, List, [], ◌∷◌, ◌++◌, Option, true, false, Bool, length, get_or, drop, refl, sym, ap, ◌∙◌, subst, inl, inr, append_assoc, length-append, arith}
 use Rattle.std.specs.Prelude.{if◌then◌else◌, nat_lt, Contains}
 use Rattle.std.specs.List.{AllByRecursion}
 use Rattle.std.proofs.lemmas.List.{drop_more, drop_all}
 use Rattle.std.proofs.lemmas.Bool.{lt-ltb}
 use Rattle.std.proofs.lemmas.Bool.Decides.{nat_tests, leb_tells}
-use Rattle.cc_rv32.specs.declared.instr.BranchOperation.TheVariants.{Beq, Bne}
 use Rattle.cc_linear.specs.declared.item.Item as linear
 use Rattle.cc_linear.specs.declared.item.Item.TheVariants.{Jump, IfNonzero, IfZero}
 use Rattle.cc_linear.specs.Linear.{IsItem}
+use Rattle.cc_rv32.specs.declared.instr.BranchOperation.TheVariants.{Beq, Bne}
+use Rattle.cc_select.specs.declared.step.Step.{Step}
+use Rattle.cc_select.specs.declared.step.Step.TheVariants.{One, Immediate, LoadAt, StoreAt, Branch, BranchImmediate}
+use Rattle.cc_select.specs.Selected.{IsStep}
+use Rattle.cc_emit.specs.declared.condition.Condition.{Condition}
+use Rattle.cc_emit.specs.declared.recipe.WordRecipe.{WordRecipe}
+use Rattle.cc_emit.specs.Branches.{compares, turned, comparison, against_zero}
 use Rattle.cc_emit.specs.declared.item.Item.{Item}
 use Rattle.cc_emit.specs.declared.item.Item.TheVariants.{Go}
-use Rattle.cc_emit.specs.declared.step.Step.{Step}
-use Rattle.cc_emit.specs.declared.step.Step.TheVariants.{One, Immediate, LoadAt, StoreAt}
+use Rattle.cc_emit.specs.declared.addressed.Addressed.{Addressed}
+use Rattle.cc_emit.specs.declared.addressed.Remembered.{Remembered}
+use Rattle.cc_emit.specs.declared.scratch.Scratch.{Scratch}
+use Rattle.cc_emit.specs.Scratch.{addressed, behind_step}
 use Rattle.cc_emit.specs.Frames.{Frame, frame_size}
-use Rattle.cc_emit.specs.Steps.{steps}
-use Rattle.cc_emit.specs.Emission.{size, long_size, branch_size, branch_items, items_of, is_label, reaches, is_near, long_place, short_place, stack_moved, saving, prologue, prologue_size, emitted, framed_items}
-use Rattle.cc_emit.specs.internal.Behind.{long_behind, near_behind, behind, label_behind, IsTable, ArePlaces, place_from, LeadsBelow}
-use Rattle.cc_emit.proofs.Stepping.{IsJoin, steps_all}
-use Rattle.cc_emit.proofs.Places.{size_is, length_stack_moved, length_saving, AreSeen, seen_first, seen_next, stays_near}
+use Rattle.cc_emit.specs.Emission.{size, size_of_step, items_of_step, long_size, branch_size, branch_items, word_branch_size, word_branch_items, word_recipe, items_of, is_label, is_close, is_near, long_place, short_place, stack_moved, saving, prologue, prologue_size, emitted, framed_items}
+use Rattle.cc_emit.specs.internal.Behind.{reaches, long_behind, near_behind, behind, label_behind, IsTable, ArePlaces, place_from, LeadsBelow, StepLeadsBelow}
+use Rattle.cc_emit.proofs.Places.{size_is, length_stack_moved, length_saving, AreSeen, IsClose, close_nears, next_nears, seen_first, seen_next, stays_near}
 
 -- ---- a step asks of a label that it leads to alone whether it is near, and where it is
 
-abbrev SameNear : (p q : ℕ → Bool) → Step → Type 0
-SameNear p q (One (IfNonzero r n)) = p n ≡ q n
-SameNear p q (One (IfZero r n)) = p n ≡ q n
-SameNear p q _ = Unit {0}
+abbrev SameNearStep : (p q : ℕ → Bool) → Step → Type 0
+SameNearStep p q (One (IfNonzero r n)) = p n ≡ q n
+SameNearStep p q (One (IfZero r n)) = p n ≡ q n
+SameNearStep p q (Branch o nonzero b c n) = p n ≡ q n
+SameNearStep p q (BranchImmediate o nonzero b w n) = p n ≡ q n
+SameNearStep p q _ = Unit {0}
 
-same_size : (f : Frame) (p q : ℕ → Bool) (i : Step) → SameNear p q i → size f p i ≡ size f q i
-same_size f p q (One (IfNonzero r n)) e = ap branch_size e
-same_size f p q (One (IfZero r n)) e = ap branch_size e
-same_size f p q _ e = refl
+abbrev SameNear : (p q : ℕ → Bool) → Addressed → Type 0
+SameNear p q i = SameNearStep p q i.step
 
-every_near : (p q : ℕ → Bool) (i : Step) → ((l : ℕ) → p l ≡ q l) → SameNear p q i
-every_near p q (One (IfNonzero r n)) e = e n
-every_near p q (One (IfZero r n)) e = e n
-every_near p q _ e = tt
+same_size_step : (f : Frame) (p q : ℕ → Bool) (k : Remembered) (i : Step) → SameNearStep p q i → size_of_step f p k i ≡ size_of_step f q k i
+same_size_step f p q k (One (IfNonzero r n)) e = ap branch_size e
+same_size_step f p q k (One (IfZero r n)) e = ap branch_size e
+same_size_step f p q k (Branch o nonzero b c n) e = ap branch_size e
+same_size_step f p q k (BranchImmediate o nonzero b w n) e = ap (word_branch_size (against_zero (word_recipe o w) b)) e
+same_size_step f p q k _ e = refl
 
-below_near : (count : ℕ) (p q : ℕ → Bool) (i : Step) → LeadsBelow count i → ((l : ℕ) → l < count → p l ≡ q l) → SameNear p q i
-below_near count p q (One (IfNonzero r n)) lt e = e n lt
-below_near count p q (One (IfZero r n)) lt e = e n lt
-below_near count p q _ lt e = tt
+same_size : (f : Frame) (p q : ℕ → Bool) (i : Addressed) → SameNear p q i → size f p i ≡ size f q i
+same_size f p q i e = same_size_step f p q i.known i.step e
 
-pub same_items : (base : ℕ → ℕ) (f : Frame) (p q : ℕ → Bool) (g h : ℕ → ℕ) (a count : ℕ) (i : Step) → LeadsBelow count i → ((l : ℕ) → l < count → p l ≡ q l) → ((l : ℕ) → l < count → g l ≡ h l) → items_of base f p g a i ≡ items_of base f q h a i
-same_items base f p q g h a count (One (Jump n)) lt e d = ap (λ to. Go to ∷ []) (d n lt)
-same_items base f p q g h a count (One (IfNonzero r n)) lt e d = ap (λ b. branch_items b Bne Beq r a (g n)) (e n lt) ∙ ap (branch_items (q n) Bne Beq r a) (d n lt)
-same_items base f p q g h a count (One (IfZero r n)) lt e d = ap (λ b. branch_items b Beq Bne r a (g n)) (e n lt) ∙ ap (branch_items (q n) Beq Bne r a) (d n lt)
-same_items base f p q g h a count _ lt e d = refl
+every_near : (p q : ℕ → Bool) (i : Addressed) → ((l : ℕ) → p l ≡ q l) → SameNear p q i
+every_near p q i e = every i.step
+  where
+    every : (i : Step) → SameNearStep p q i
+    every (One (IfNonzero r n)) = e n
+    every (One (IfZero r n)) = e n
+    every (Branch o nonzero b c n) = e n
+    every (BranchImmediate o nonzero b w n) = e n
+    every _ = tt
+
+below_near : (count : ℕ) (p q : ℕ → Bool) (i : Addressed) → LeadsBelow count i → ((l : ℕ) → l < count → p l ≡ q l) → SameNear p q i
+below_near count p q i lt e = below i.step lt
+  where
+    below : (i : Step) → StepLeadsBelow count i → SameNearStep p q i
+    below (One (IfNonzero r n)) lt = e n lt
+    below (One (IfZero r n)) lt = e n lt
+    below (Branch o nonzero b c n) lt = e n lt
+    below (BranchImmediate o nonzero b w n) lt = e n lt
+    below _ lt = tt
+
+same_branch : (c : Condition) (p q : Bool) (a m n : ℕ) → p ≡ q → m ≡ n → branch_items p c a m ≡ branch_items q c a n
+same_branch c p q a m n e d = ap (λ b. branch_items b c a m) e ∙ ap (branch_items q c a) d
+
+same_word_branch : (alone : Option Condition) (k : WordRecipe) (nonzero : Bool) (r : ℕ) (p q : Bool) (a m n : ℕ) → p ≡ q → m ≡ n → word_branch_items alone k p nonzero r a m ≡ word_branch_items alone k q nonzero r a n
+same_word_branch alone k nonzero r p q a m n e d = ap (λ b. word_branch_items alone k b nonzero r a m) e ∙ ap (word_branch_items alone k q nonzero r a) d
+
+pub same_items : (base : ℕ → ℕ) (f : Frame) (p q : ℕ → Bool) (g h : ℕ → ℕ) (a count : ℕ) (i : Addressed) → LeadsBelow count i → ((l : ℕ) → l < count → p l ≡ q l) → ((l : ℕ) → l < count → g l ≡ h l) → items_of base f p g a i ≡ items_of base f q h a i
+same_items base f p q g h a count i lt e d = same i.known i.step lt
+  where
+    same : (k : Remembered) (i : Step) → StepLeadsBelow count i → items_of_step base f p g a k i ≡ items_of_step base f q h a k i
+    same k (One (Jump n)) lt = ap (λ to. Go to ∷ []) (d n lt)
+    same k (One (IfNonzero r n)) lt = same_branch (compares Bne r 0) (p n) (q n) a (g n) (h n) (e n lt) (d n lt)
+    same k (One (IfZero r n)) lt = same_branch (compares Beq r 0) (p n) (q n) a (g n) (h n) (e n lt) (d n lt)
+    same k (Branch o nonzero b c n) lt = same_branch (turned nonzero (comparison o b c)) (p n) (q n) a (g n) (h n) (e n lt) (d n lt)
+    same k (BranchImmediate o nonzero b w n) lt = same_word_branch (against_zero (word_recipe o w) b) (word_recipe o w) nonzero b (p n) (q n) a (g n) (h n) (e n lt) (d n lt)
+    same k _ lt = refl
 
 -- ---- the first pass
 
 none_before : (n : ℕ) → nat_lt n 0 ≡ false
 none_before n = elim (leb_tells (suc n) 0) [ inl e ↦ absurd (let q = e.1 in omega arith) | inr e ↦ e.0 ]
 
-first_size : (f : Frame) (here : ℕ) (i : Step) → size f (near_behind [] here) i ≡ long_size f i
-first_size f here i = same_size f (near_behind [] here) (λ l. false) i (every_near (near_behind [] here) (λ l. false) i (λ l. ap (λ b. if b then reaches 0 here else false) (none_before l)))
+first_size : (f : Frame) (here : ℕ) (i : Addressed) → size f (near_behind [] here) i ≡ long_size f i
+first_size f here i = same_size f (near_behind [] here) (λ l. false) i (every_near (near_behind [] here) (λ l. false) i (λ l. ap (λ b. if b then is_close 0 here else false) (none_before l)))
 
-pub behind_first : (f : Frame) (items : List Step) → behind f [] items ≡ long_behind f items
+pub behind_first : (f : Frame) (items : List Addressed) → behind f [] items ≡ long_behind f items
 behind_first f [] = refl
 behind_first f (i ∷ items) = let e = first_size f (long_behind f (i ∷ items)) i in let h = behind_first f items in omega arith
 
@@ -65,7 +102,7 @@ sum_if : (b : Bool) (p q r s t : ℕ) → p + r ≡ t → q + s ≡ t → (if b 
 sum_if true p q r s t e d = e
 sum_if false p q r s t e d = d
 
-first_place : (f : Frame) (a : ℕ) (items : List Step) (l : ℕ) → long_place f a items l + label_behind f [] items l ≡ a + long_behind f items
+first_place : (f : Frame) (a : ℕ) (items : List Addressed) (l : ℕ) → long_place f a items l + label_behind f [] items l ≡ a + long_behind f items
 first_place f a [] l = refl
 first_place f a (i ∷ items) l =
     let all = behind_first f (i ∷ items) in
@@ -74,17 +111,17 @@ first_place f a (i ∷ items) l =
 
 -- ---- which branches are near
 
-turned : (w h t p whole : ℕ) → p + t ≡ whole → w + h ≡ whole → reaches t h ≡ reaches w p
-turned w h t p whole e d = grind (arith, nat_tests)
+seen_from_end : (w h t p whole : ℕ) → p + t ≡ whole → w + h ≡ whole → is_close t h ≡ is_close w p
+seen_from_end w h t p whole e d = grind (arith, nat_tests)
 
-pub near_same : (f : Frame) (all : List Step) (first : List ℕ) (w here l : ℕ) → IsTable f [] all (length first) first → w + here ≡ long_behind f all → l < length first → near_behind first here l ≡ is_near f all w l
+pub near_same : (f : Frame) (all : List Addressed) (first : List ℕ) (w here l : ℕ) → IsTable f [] all (length first) first → w + here ≡ long_behind f all → l < length first → near_behind first here l ≡ is_near f all w l
 near_same f all first w here l t sum lt =
-    ap (λ b. if b then reaches (get_or first l 0) here else false) (lt-ltb l (length first) lt)
-    ∙ turned w here (get_or first l 0) (long_place f 0 all l) (long_behind f all) (let q = t.each l lt in let p = first_place f 0 all l in omega arith) sum
+    ap (λ b. if b then is_close (get_or first l 0) here else false) (lt-ltb l (length first) lt)
+    ∙ seen_from_end w here (get_or first l 0) (long_place f 0 all l) (long_behind f all) (let q = t.each l lt in let p = first_place f 0 all l in omega arith) sum
 
 -- ---- the second pass
 
-second_place : (f : Frame) (all : List Step) (first : List ℕ) (w a : ℕ) (items : List Step) (l : ℕ) → IsTable f [] all (length first) first → AllByRecursion (LeadsBelow (length first)) items → w + long_behind f items ≡ long_behind f all
+second_place : (f : Frame) (all : List Addressed) (first : List ℕ) (w a : ℕ) (items : List Addressed) (l : ℕ) → IsTable f [] all (length first) first → AllByRecursion (LeadsBelow (length first)) items → w + long_behind f items ≡ long_behind f all
     → short_place f (is_near f all) w a items l + label_behind f first items l ≡ a + behind f first items
 second_place f all first w a [] l t leads sum = refl
 second_place f all first w a (i ∷ items) l t leads sum =
@@ -94,22 +131,22 @@ second_place f all first w a (i ∷ items) l t leads sum =
     sum_if (is_label l i) a (short_place f (is_near f all) (w + long_size f i) (a + size f (is_near f all w) i) items l) (behind f first (i ∷ items)) (label_behind f first items l) (a + behind f first (i ∷ items)) refl (omega arith)
 
 -- the labels' places in the code of all items
-abbrev pub places_of : Frame → List Step → (label : ℕ) → ℕ
+abbrev pub places_of : Frame → List Addressed → (label : ℕ) → ℕ
 places_of f all label = short_place f (is_near f all) 0 (prologue_size f) all label
 
-sum_of : (f : Frame) (all : List Step) (first second : List ℕ) (end l : ℕ) → ArePlaces f all first second end → AllByRecursion (LeadsBelow (length first)) all → l < length first → places_of f all l + get_or second l 0 ≡ end
+sum_of : (f : Frame) (all : List Addressed) (first second : List ℕ) (end l : ℕ) → ArePlaces f all first second end → AllByRecursion (LeadsBelow (length first)) all → l < length first → places_of f all l + get_or second l 0 ≡ end
 sum_of f all first second end l p leads lt =
     ap (λ n. places_of f all l + n) (p.of_second.each l lt) ∙ second_place f all first 0 (prologue_size f) all l p.of_first leads (omega arith) ∙ sym p.end_is
 
-pub place_is : (f : Frame) (all : List Step) (first second : List ℕ) (end l : ℕ) → ArePlaces f all first second end → AllByRecursion (LeadsBelow (length first)) all → l < length first → place_from second end l ≡ places_of f all l
+pub place_is : (f : Frame) (all : List Addressed) (first second : List ℕ) (end l : ℕ) → ArePlaces f all first second end → AllByRecursion (LeadsBelow (length first)) all → l < length first → place_from second end l ≡ places_of f all l
 place_is f all first second end l p leads lt = let e = sum_of f all first second end l p leads lt in omega arith
 
-pub place_within : (f : Frame) (all : List Step) (first second : List ℕ) (end l : ℕ) → ArePlaces f all first second end → AllByRecursion (LeadsBelow (length first)) all → l < length second → get_or second l 0 ≤ end
+pub place_within : (f : Frame) (all : List Addressed) (first second : List ℕ) (end l : ℕ) → ArePlaces f all first second end → AllByRecursion (LeadsBelow (length first)) all → l < length second → get_or second l 0 ≤ end
 place_within f all first second end l p leads lt = let long = p.of_second.long in let e = sum_of f all first second end l p leads (omega arith) in omega arith
 
 -- ---- the items so far
 
-pub record Emitting (base : ℕ → ℕ) (f : Frame) (all : List Step) (index here : ℕ) (items : List Item) : Type 0 where
+pub record Emitting (base : ℕ → ℕ) (f : Frame) (all : List Addressed) (index here : ℕ) (items : List Item) : Type 0 where
   pub long : ℕ
   pub sum : long + here ≡ long_behind f all
   pub here_is : here ≡ long_behind f (drop index all)
@@ -124,7 +161,7 @@ length_prologue f =
     let more = length_saving (4 * f.slots) f.saved in
     omega arith
 
-pub emitting_first : (base : ℕ → ℕ) (f : Frame) (all : List Step) (here : ℕ) (items : List Item) → items ≡ prologue f → here ≡ behind f [] all → Emitting base f all 0 here items
+pub emitting_first : (base : ℕ → ℕ) (f : Frame) (all : List Addressed) (here : ℕ) (items : List Item) → items ≡ prologue f → here ≡ behind f [] all → Emitting base f all 0 here items
 emitting_first base f all here items e h =
     let n : length items ≡ prologue_size f = ap (λ (xs : List Item). length xs) e ∙ length_prologue f in
     record {
@@ -135,18 +172,18 @@ emitting_first base f all here items e h =
       so_far = ap (λ a. items ++ emitted base f (is_near f all) (places_of f all) 0 a all) n ∙ ap (λ xs. xs ++ emitted base f (is_near f all) (places_of f all) 0 (prologue_size f) all) e;
     }
 
-rest_is : (all : List Step) (i : ℕ) (item : Step) → i < length all → item ≡ get_or all i item → drop i all ≡ item ∷ drop (i + 1) all
+rest_is : (all : List Addressed) (i : ℕ) (item : Addressed) → i < length all → item ≡ get_or all i item → drop i all ≡ item ∷ drop (i + 1) all
 rest_is all i item lt is = drop_more all i item lt ∙ ap (λ x. x ∷ drop (i + 1) all) (sym is)
 
-pub here_enough : (base : ℕ → ℕ) (f : Frame) (all : List Step) (i here : ℕ) (item : Step) (items : List Item) → i < length all → item ≡ get_or all i item → Emitting base f all i here items → long_size f item ≤ here
+pub here_enough : (base : ℕ → ℕ) (f : Frame) (all : List Addressed) (i here : ℕ) (item : Addressed) (items : List Item) → i < length all → item ≡ get_or all i item → Emitting base f all i here items → long_size f item ≤ here
 here_enough base f all i here item items lt is o = let e = o.here_is ∙ ap (long_behind f) (rest_is all i item lt is) in omega arith
 
-leads_at : (count : ℕ) (all : List Step) (i : ℕ) (item : Step) → i < length all → item ≡ get_or all i item → AllByRecursion (LeadsBelow count) all → LeadsBelow count item
+leads_at : (count : ℕ) (all : List Addressed) (i : ℕ) (item : Addressed) → i < length all → item ≡ get_or all i item → AllByRecursion (LeadsBelow count) all → LeadsBelow count item
 leads_at count [] i item lt is leads = absurd (omega arith)
 leads_at count (x ∷ all) zero item lt is leads = subst (LeadsBelow count) (sym is) leads.0
 leads_at count (x ∷ all) (suc i) item lt is leads = leads_at count all i item (omega arith) is leads.1
 
-pub emitting_more : (base : ℕ → ℕ) (f : Frame) (all : List Step) (first second : List ℕ) (end i here here' : ℕ) (item : Step) (old new : List Item) → ArePlaces f all first second end → AllByRecursion (LeadsBelow (length first)) all
+pub emitting_more : (base : ℕ → ℕ) (f : Frame) (all : List Addressed) (first second : List ℕ) (end i here here' : ℕ) (item : Addressed) (old new : List Item) → ArePlaces f all first second end → AllByRecursion (LeadsBelow (length first)) all
     → i < length all → item ≡ get_or all i item → new ≡ old ++ items_of base f (near_behind first here) (place_from second end) (length old) item → here' ≡ here - long_size f item → Emitting base f all i here old → Emitting base f all (i + 1) here' new
 emitting_more base f all first second end i here here' item old new p leads lt is e less o =
     let rest = rest_is all i item lt is in
@@ -172,7 +209,7 @@ emitting_more base f all first second end i here here' item old new p leads lt i
           ∙ sym (ap (λ items. old ++ emitted base f near (places_of f all) w a items) rest) ∙ o.so_far;
     }
 
-pub emitting_all : (base : ℕ → ℕ) (f : Frame) (all : List Step) (i here : ℕ) (items : List Item) → length all ≤ i → Emitting base f all i here items → items ≡ framed_items base f all
+pub emitting_all : (base : ℕ → ℕ) (f : Frame) (all : List Addressed) (i here : ℕ) (items : List Item) → length all ≤ i → Emitting base f all i here items → items ≡ framed_items base f all
 emitting_all base f all i here items le o =
     let none = drop_all i all le in
     sym (append_none items) ∙ sym (ap (λ xs. items ++ emitted base f (is_near f all) (places_of f all) o.long (length items) xs) none) ∙ o.so_far
@@ -186,32 +223,47 @@ emitting_all base f all i here items le o =
 reach_from : (from to : ℕ) → from ≤ to + 1024 → to < from + 1024 → reaches from to ≡ true
 reach_from from to p q = grind (arith, nat_tests)
 
-pub near_reaches : (base : ℕ → ℕ) (f : Frame) (all : List Step) (first second : List ℕ) (end i here : ℕ) (items : List Item) → ArePlaces f all first second end → AllByRecursion (LeadsBelow (length first)) all → Emitting base f all i here items
-    → (l : ℕ) → l < length second → near_behind first here l ≡ true → reaches (length items) (place_from second end l) ≡ true
-near_reaches base f all first second end i here items p leads o l lt near =
+near_close : (base : ℕ → ℕ) (f : Frame) (all : List Addressed) (first second : List ℕ) (end i here : ℕ) (items : List Item) → ArePlaces f all first second end → AllByRecursion (LeadsBelow (length first)) all → Emitting base f all i here items
+    → (l : ℕ) → l < length second → near_behind first here l ≡ true → IsClose (length items) (place_from second end l)
+near_close base f all first second end i here items p leads o l lt near =
     let long = p.of_second.long in
     let ll : l < length first = omega arith in
-    let n = stays_near f all (drop i all) o.long (length items) l o.seen (sym (near_same f all first o.long here l p.of_first o.sum ll) ∙ near) in
-    ap (reaches (length items)) (place_is f all first second end l p leads ll) ∙ reach_from (length items) (places_of f all l) n.0 n.1
+    subst (IsClose (length items)) (sym (place_is f all first second end l p leads ll)) (stays_near f all (drop i all) o.long (length items) l o.seen (sym (near_same f all first o.long here l p.of_first o.sum ll) ∙ near))
 
--- ---- labels that items lead to
+pub near_reaches : (base : ℕ → ℕ) (f : Frame) (all : List Addressed) (first second : List ℕ) (end i here : ℕ) (items : List Item) → ArePlaces f all first second end → AllByRecursion (LeadsBelow (length first)) all → Emitting base f all i here items
+    → (l : ℕ) → l < length second → near_behind first here l ≡ true → reaches (length items) (place_from second end l) ≡ true
+near_reaches base f all first second end i here items p leads o l lt near =
+    let n = close_nears (length items) (place_from second end l) (near_close base f all first second end i here items p leads o l lt near) in
+    reach_from (length items) (place_from second end l) n.0 n.1
+
+-- from the next place too
+pub next_reaches : (base : ℕ → ℕ) (f : Frame) (all : List Addressed) (first second : List ℕ) (end i here : ℕ) (items : List Item) → ArePlaces f all first second end → AllByRecursion (LeadsBelow (length first)) all → Emitting base f all i here items
+    → (l : ℕ) → l < length second → near_behind first here l ≡ true → reaches (length items + 1) (place_from second end l) ≡ true
+next_reaches base f all first second end i here items p leads o l lt near =
+    let n = next_nears (length items) (place_from second end l) (near_close base f all first second end i here items p leads o l lt near) in
+    reach_from (length items + 1) (place_from second end l) n.0 n.1
+
+-- ---- labels that steps lead to
 
 contained_below : (n : ℕ) (ls : List ℕ) (l : ℕ) → Contains ls l → AllByRecursion (λ label. label < n) ls → l < n
 contained_below n [] l (k, lt, is) all = absurd (omega arith)
 contained_below n (x ∷ ls) l (zero, lt, is) all = (let p = all.0 in let e : x ≡ l = is in omega arith)
 contained_below n (x ∷ ls) l (suc k, lt, is) all = contained_below n ls l (k, omega arith, is) all.1
 
-leads_one : (count slots functions : ℕ) (ls : List ℕ) (i : linear.Item) → AllByRecursion (λ label. label < count) ls → IsItem slots functions ls i → LeadsBelow count (One i)
+leads_one : (count slots functions : ℕ) (ls : List ℕ) (i : linear.Item) → AllByRecursion (λ label. label < count) ls → IsItem slots functions ls i → StepLeadsBelow count (One i)
 leads_one count slots functions ls (Jump to) all fits = contained_below count ls to fits all
 leads_one count slots functions ls (IfNonzero from to) all fits = contained_below count ls to fits.1 all
 leads_one count slots functions ls (IfZero from to) all fits = contained_below count ls to fits.1 all
 leads_one count slots functions ls _ all fits = tt
 
-leads_join : (count : ℕ) (i k : linear.Item) (s : Step) → IsJoin i k s → LeadsBelow count s
-leads_join count i k (One item) j = absurd j
-leads_join count i k (Immediate o to left word) j = tt
-leads_join count i k (LoadAt width object to index word) j = tt
-leads_join count i k (StoreAt width object index word from) j = tt
+leads : (count slots functions : ℕ) (ls : List ℕ) (s : Step) → AllByRecursion (λ label. label < count) ls → IsStep slots functions ls s → StepLeadsBelow count s
+leads count slots functions ls (One i) all fits = leads_one count slots functions ls i all fits
+leads count slots functions ls (Immediate o to b w) all fits = tt
+leads count slots functions ls (LoadAt width g to n) all fits = tt
+leads count slots functions ls (StoreAt width g n b) all fits = tt
+leads count slots functions ls (Branch o nonzero b c n) all fits = contained_below count ls n fits.3 all
+leads count slots functions ls (BranchImmediate o nonzero b w n) all fits = contained_below count ls n fits.4 all
 
-pub leads_all : (count slots functions : ℕ) (ls : List ℕ) (items : List linear.Item) → AllByRecursion (λ label. label < count) ls → AllByRecursion (IsItem slots functions ls) items → AllByRecursion (LeadsBelow count) (steps items)
-leads_all count slots functions ls items all fits = steps_all (IsItem slots functions ls) (LeadsBelow count) items (λ i u. leads_one count slots functions ls i all u) (λ i k s u v j. leads_join count i k s j) fits
+pub leads_all : (count slots functions : ℕ) (ls : List ℕ) (base : ℕ → ℕ) (held : Scratch) (steps : List Step) → AllByRecursion (λ label. label < count) ls → AllByRecursion (IsStep slots functions ls) steps → AllByRecursion (LeadsBelow count) (addressed base held steps)
+leads_all count slots functions ls base held [] all fits = tt
+leads_all count slots functions ls base held (s ∷ steps) all fits = (leads count slots functions ls s all fits.0, leads_all count slots functions ls base (behind_step base s held) steps all fits.1)

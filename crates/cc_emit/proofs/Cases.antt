@@ -1,4 +1,4 @@
--- What the items that stand for one item of Linear do.
+-- What the items do that stand for an item of Linear.
 use Rattle.std.proofs.Common.{◌≡◌, ℕ, suc, ◌+◌, ◌-◌, ◌*◌, ◌%◌, ◌^◌, ◌<◌, ◌≤◌, ◌⊎◌, List, [], ◌∷◌, ◌++◌, Option, Some, None, true, false, Bool, refl, sym, ap, ap₂, ◌∙◌, subst, inl, inr, arith}
 use Rattle.std.specs.Prelude.{◌==◌, if◌then◌else◌, not, option_map}
 use Rattle.cc_words.specs.Words.{add, lt_u}
@@ -13,14 +13,14 @@ use Rattle.cc_ltl.specs.declared.operation.Move.{Move}
 use Rattle.cc_ltl.specs.declared.operation.Move.TheVariants.{Between, Reload, Spill}
 use Rattle.cc_ltl.specs.Registers.{IsAllocatable}
 use Rattle.cc_ltl.specs.Ltl.{Locations, put}
-use Rattle.cc_linear.specs.declared.item.Item as linear
 use Rattle.cc_linear.specs.declared.item.Item.TheVariants.{Jump, IfNonzero, IfZero, Copy, Const, Unary, Binary, Load, Store, Read, Write}
-use Rattle.cc_linear.specs.Linear.{at_items, linear_move, place}
+use Rattle.cc_select.specs.declared.step.Step.{Step}
+use Rattle.cc_select.specs.declared.step.Step.TheVariants.{One}
+use Rattle.cc_select.specs.Selected.{at_steps, led, place, selected_move}
 use Rattle.cc_rv32.specs.declared.instr.Instr.{Instr}
 use Rattle.cc_rv32.specs.declared.instr.Instr.TheVariants as instr
 use Rattle.cc_rv32.specs.declared.instr.Instr.TheVariants.{Branch, Ecall, Lui, Op, OpImm, Shift}
-use Rattle.cc_rv32.specs.declared.instr.BranchOperation.{BranchOperation}
-use Rattle.cc_rv32.specs.declared.instr.BranchOperation.TheVariants.{Beq, Bne}
+use Rattle.cc_rv32.specs.declared.instr.BranchOperation.TheVariants.{Bne}
 use Rattle.cc_rv32.specs.declared.instr.ImmediateOperation.TheVariants.{Addi, Sltiu}
 use Rattle.cc_rv32.specs.declared.instr.ShiftOperation.TheVariants.{Slli}
 use Rattle.cc_rv32.specs.declared.instr.Operation.TheVariants as operations
@@ -30,26 +30,31 @@ use Rattle.cc_rv32.specs.declared.instr.StoreOperation.TheVariants.{Sw}
 use Rattle.cc_rv32.specs.Machine.{Continues, State, Traps, branches, computed, execute, globals_to, is_accessible, is_taken, loaded, puts, stored, with_register, with_word}
 use Rattle.cc_words.specs.declared.operators.Width.{Width}
 use Rattle.cc_words.specs.declared.operators.Width.TheVariants.{Byte, Word}
-use Rattle.cc_words.specs.Widths.{kept}
+use Rattle.cc_words.specs.Widths.{bytes, kept}
 use Rattle.cc_emit.specs.declared.item.Item.{Item}
 use Rattle.cc_emit.specs.declared.item.Item.TheVariants.{Go, Plain}
-use Rattle.cc_emit.specs.declared.step.Step.{Step}
-use Rattle.cc_emit.specs.declared.step.Step.TheVariants.{One}
+use Rattle.cc_emit.specs.declared.condition.Condition.{Condition}
 use Rattle.cc_emit.specs.Contract.{Code, IsPlace, Path, element_place, filled, load_of, store_of}
 use Rattle.cc_emit.specs.Frames.{Frame}
-use Rattle.cc_emit.specs.Emission.{access_size, addi, based, branch_items, branch_size, const_items, const_size, distance, high, indexed, load_element, low, prologue_size, recipe, recipe_items, recipe_size, store_element, unary_instr}
+use Rattle.cc_emit.specs.Branches.{compares, opposite, turned}
+use Rattle.cc_emit.specs.Emission.{access_size, addi, based, branch_items, branch_size, const_items, const_size, distance, high, indexed, load_element, low, prologue_size, recipe, recipe_items, recipe_size, store_element, unary_instr, upper_items}
 use Rattle.cc_emit.specs.declared.recipe.Recipe.{Recipe}
 use Rattle.cc_emit.specs.declared.recipe.Recipe.TheVariants.{Direct, NonzeroOf, ZeroOf, ZeroOfExchanged}
+use Rattle.cc_emit.specs.declared.addressed.Remembered.{Remembered}
+use Rattle.cc_emit.specs.declared.addressed.Remembered.TheVariants.{Nothing, Upper, Element}
+use Rattle.cc_emit.specs.declared.scratch.Scratch.{Scratch}
+use Rattle.cc_emit.specs.Scratch.{nothing, known_of, address_of, without, without_address, behind_const, behind_recipe, behind_element, behind_at}
 use Rattle.cc_emit.proofs.Fine.{IsTarget}
-use Rattle.cc_emit.proofs.Basics.{in_stack, high_low, high_word, first_word, eqb_yes, eqb_says, same_first, set_other}
+use Rattle.cc_emit.proofs.Basics.{in_stack, high_low, high_word, first_word, eqb_yes, eqb_says, same_first, set_same, set_other}
 use Rattle.cc_emit.proofs.Bytes.{load_accessible, loaded_word, store_accessible}
 use Rattle.cc_emit.proofs.Elements.{element_tells, holds, placed}
-use Rattle.cc_emit.proofs.Stepping.{items_behind, steps_from, place_stands}
-use Rattle.cc_emit.proofs.Places.{DistanceIs, Nears, distance_is, stays_near}
+use Rattle.cc_emit.proofs.Places.{DistanceIs, Nears, close_nears, distance_is, stays_near}
+use Rattle.cc_emit.proofs.Branching.{Tells, if_not, led_by, opposite_taken, turned_tells}
 use Rattle.cc_emit.proofs.Recipes.{IsRight, recipe_right, binary_word, unary_right, unary_executes}
-use Rattle.cc_emit.proofs.Standing.{Site, Standing, Stands, near, labels, machine_step, first_items, standing_tail, standing_from, step_at, jump_step}
+use Rattle.cc_emit.proofs.Standing.{Site, Standing, Stands, addressed_at, all_addressed, near, labels, machine_step, first_items, standing_tail, standing_from, step_at, jump_step}
 use Rattle.cc_emit.proofs.Saving.{load_step, store_step}
-use Rattle.cc_emit.proofs.Within.{Within, within_set, within_scratch, within_pc, within_slot, within_store, within_read, within_write, low_stack}
+use Rattle.cc_emit.proofs.Holding.{IsKnown, IsKnownAt, is_known, element_address, address_stays_6}
+use Rattle.cc_emit.proofs.Within.{Within, within_set, within_scratch, within_5, within_as, within_nothing, within_pc, within_slot, within_store, within_read, within_write, low_stack}
 
 -- the machine comes to where these items stand
 pub record Reaches (x : Site) (next : List Step) (l : Locations) (h : World) (s : State) : Type 0 where
@@ -58,83 +63,84 @@ pub record Reaches (x : Site) (next : List Step) (l : Locations) (h : World) (s 
   pub path : Path x.code (suc more) s to
   pub long : ℕ
   pub offset : ℕ
+  pub held : Scratch
   pub at : to.pc ≡ x.place + 4 * offset
-  pub standing : Standing x long offset next
-  pub within : Within x l h to
+  pub standing : Standing x held long offset next
+  pub within : Within x held l h to
 
--- one move of Linear, with the words that it takes
+-- one move, with the words that it takes
 pub record Stepped (x : Site) (ops : List Step) (l : Locations) (h : World) (s : State) : Type 0 where
   pub prefix : List ℕ
   pub are_words : AreWords prefix
   pub next : List Step
   pub locations : Locations
   pub world : World
-  pub moves : (ws : List ℕ) → linear_move x.meaning.arity (items_behind x.steps) (at_items (items_behind ops) l h (prefix ++ ws)) ≡ Goes (at_items (items_behind next) locations world ws)
+  pub moves : (ws : List ℕ) → selected_move x.meaning.arity x.steps (at_steps ops l h (prefix ++ ws)) ≡ Goes (at_steps next locations world ws)
   pub reaches : Reaches x next locations world s
 
 -- or none, since it goes wrong
 abbrev pub Case : (x : Site) (ops : List Step) (l : Locations) (h : World) (s : State) → Type 0
-Case x ops l h s = Stepped x ops l h s ⊎ ((ws : List ℕ) → linear_move x.meaning.arity (items_behind x.steps) (at_items (items_behind ops) l h ws) ≡ Fails)
+Case x ops l h s = Stepped x ops l h s ⊎ ((ws : List ℕ) → selected_move x.meaning.arity x.steps (at_steps ops l h ws) ≡ Fails)
 
-reach_more : (x : Site) (next : List Step) (l : Locations) (h : World) (s u : State) → machine_step x.code s ≡ Continues u → Reaches x next l h u → Reaches x next l h s
-reach_more x next l h s u e r = record { more = suc r.more; to = r.to; path = (u, e, r.path); long = r.long; offset = r.offset; at = r.at; standing = r.standing; within = r.within }
+pub reach_more : (x : Site) (next : List Step) (l : Locations) (h : World) (s u : State) → machine_step x.code s ≡ Continues u → Reaches x next l h u → Reaches x next l h s
+reach_more x next l h s u e r = record { more = suc r.more; to = r.to; path = (u, e, r.path); long = r.long; offset = r.offset; held = r.held; at = r.at; standing = r.standing; within = r.within }
 
 -- the machine comes to an item of the piece
-pub record Walked (x : Site) (l : Locations) (h : World) (s : State) (b : ℕ) : Type 0 where
+pub record Walked (x : Site) (held : Scratch) (l : Locations) (h : World) (s : State) (b : ℕ) : Type 0 where
   pub more : ℕ
   pub to : State
   pub path : Path x.code (suc more) s to
   pub at : to.pc ≡ x.place + 4 * b
-  pub within : Within x l h to
+  pub within : Within x held l h to
 
-pub reaches_of : (x : Site) (next : List Step) (l : Locations) (h : World) (s : State) (v b : ℕ) → Walked x l h s b → Standing x v b next → Reaches x next l h s
-reaches_of x next l h s v b r st = record { more = r.more; to = r.to; path = r.path; long = v; offset = b; at = r.at; standing = st; within = r.within }
+pub reaches_of : (x : Site) {held : Scratch} (next : List Step) (l : Locations) (h : World) (s : State) (v b : ℕ) → Walked x held l h s b → Standing x held v b next → Reaches x next l h s
+reaches_of x {held} next l h s v b r st = record { more = r.more; to = r.to; path = r.path; long = v; offset = b; held = held; at = r.at; standing = st; within = r.within }
 
-pub walk_more : (x : Site) (l : Locations) (h : World) (s u : State) (b : ℕ) → machine_step x.code s ≡ Continues u → Walked x l h u b → Walked x l h s b
+pub walk_more : (x : Site) {held : Scratch} (l : Locations) (h : World) (s u : State) (b : ℕ) → machine_step x.code s ≡ Continues u → Walked x held l h u b → Walked x held l h s b
 walk_more x l h s u b e r = record { more = suc r.more; to = r.to; path = (u, e, r.path); at = r.at; within = r.within }
 
-pub walk_by : (x : Site) (l : Locations) (h : World) (s t : State) (b : ℕ) → machine_step x.code s ≡ Continues t → t.pc ≡ x.place + 4 * b → Within x l h t → Walked x l h s b
+pub walk_by : (x : Site) {held : Scratch} (l : Locations) (h : World) (s t : State) (b : ℕ) → machine_step x.code s ≡ Continues t → t.pc ≡ x.place + 4 * b → Within x held l h t → Walked x held l h s b
 walk_by x l h s t b e at w = record { more = 0; to = t; path = (t, e, refl); at = at; within = w }
 
 -- the last instruction sets a register
-walk_set : (x : Site) (l : Locations) (h : World) (s : State) (p b d v : ℕ) (i : Instr) → s.pc ≡ p → x.code p ≡ Some i → p + 4 ≡ x.place + 4 * b → execute i s ≡ puts d v s → IsTarget x.frame d → v < 2 ^ 32 → Within x l h s → Walked x (put (Register d) v l) h s b
+walk_set : (x : Site) {held : Scratch} (l : Locations) (h : World) (s : State) (p b d v : ℕ) (i : Instr) → s.pc ≡ p → x.code p ≡ Some i → p + 4 ≡ x.place + 4 * b → execute i s ≡ puts d v s → IsTarget x.frame d → v < 2 ^ 32 → Within x held l h s → Walked x (without d held) (put (Register d) v l) h s b
 walk_set x l h s p b d v i e f g k u lt w =
     walk_by x (put (Register d) v l) h s (record s { pc = s.pc + 4; registers = with_register s.registers d v }) b (step_at x.code s p i e f ∙ k) (ap (λ n. n + 4) e ∙ g) (within_set x l h s (s.pc + 4) d v u lt w)
 
 -- the last instruction
-reach_by : (x : Site) (next : List Step) (l : Locations) (h : World) (s t : State) (v b : ℕ) → machine_step x.code s ≡ Continues t → t.pc ≡ x.place + 4 * b → Standing x v b next → Within x l h t → Reaches x next l h s
-reach_by x next l h s t v b e at st w = record { more = 0; to = t; path = (t, e, refl); long = v; offset = b; at = at; standing = st; within = w }
+pub reach_by : (x : Site) {held : Scratch} (next : List Step) (l : Locations) (h : World) (s t : State) (v b : ℕ) → machine_step x.code s ≡ Continues t → t.pc ≡ x.place + 4 * b → Standing x held v b next → Within x held l h t → Reaches x next l h s
+reach_by x {held} next l h s t v b e at st w = record { more = 0; to = t; path = (t, e, refl); long = v; offset = b; held = held; at = at; standing = st; within = w }
 
-pub reach_set : (x : Site) (next : List Step) (l : Locations) (h : World) (s : State) (p q b d v : ℕ) (i : Instr) → s.pc ≡ p → x.code p ≡ Some i → p + 4 ≡ x.place + 4 * b → execute i s ≡ puts d v s → IsTarget x.frame d → v < 2 ^ 32 → Standing x q b next → Within x l h s → Reaches x next (put (Register d) v l) h s
+pub reach_set : (x : Site) {held : Scratch} (next : List Step) (l : Locations) (h : World) (s : State) (p q b d v : ℕ) (i : Instr) → s.pc ≡ p → x.code p ≡ Some i → p + 4 ≡ x.place + 4 * b → execute i s ≡ puts d v s → IsTarget x.frame d → v < 2 ^ 32 → Standing x (without d held) q b next → Within x held l h s → Reaches x next (put (Register d) v l) h s
 reach_set x next l h s p q b d v i e f g k u lt st w =
     reach_by x next (put (Register d) v l) h s (record s { pc = s.pc + 4; registers = with_register s.registers d v }) q b (step_at x.code s p i e f ∙ k) (ap (λ n. n + 4) e ∙ g) st (within_set x l h s (s.pc + 4) d v u lt w)
 
 -- an item that is done
-pub stepped : (x : Site) (ops next : List Step) (l k : Locations) (h g : World) (s : State) → ((ws : List ℕ) → linear_move x.meaning.arity (items_behind x.steps) (at_items (items_behind ops) l h ws) ≡ Goes (at_items (items_behind next) k g ws)) → Reaches x next k g s → Stepped x ops l h s
+pub stepped : (x : Site) (ops next : List Step) (l k : Locations) (h g : World) (s : State) → ((ws : List ℕ) → selected_move x.meaning.arity x.steps (at_steps ops l h ws) ≡ Goes (at_steps next k g ws)) → Reaches x next k g s → Stepped x ops l h s
 stepped x ops next l k h g s moves r = record { prefix = []; are_words = tt; next = next; locations = k; world = g; moves = moves; reaches = r }
 
-abbrev pub Given : (x : Site) (w a : ℕ) (ops : List Step) (l : Locations) (h : World) (s : State) → Type 0
-Given x w a ops l h s = (s.pc ≡ x.place + 4 * a) × Standing x w a ops × Within x l h s
+abbrev pub Given : (x : Site) (held : Scratch) (w a : ℕ) (ops : List Step) (l : Locations) (h : World) (s : State) → Type 0
+Given x held w a ops l h s = (s.pc ≡ x.place + 4 * a) × Standing x held w a ops × Within x held l h s
 
-pub word_of_register : (x : Site) (l : Locations) (h : World) (s : State) (r : ℕ) → IsAllocatable r → Within x l h s → l (Register r) < 2 ^ 32
+pub word_of_register : (x : Site) {held : Scratch} (l : Locations) (h : World) (s : State) (r : ℕ) → IsAllocatable r → Within x held l h s → l (Register r) < 2 ^ 32
 word_of_register x l h s r u w = let e = w.same r u in let b = w.sound.registers r in omega arith
 
 -- ---- jumps and branches
 
 -- the function's items stand behind its prologue
 abbrev pub StandsWhole : Site → Type 0
-StandsWhole x = Standing x 0 (prologue_size x.frame) x.steps
+StandsWhole x = Standing x nothing 0 (prologue_size x.frame) x.steps
 
 -- to a label
-reach_jump : (x : Site) (p n : ℕ) (l : Locations) (h : World) (s : State) → s.pc ≡ p → IsPlace p → x.code p ≡ Some (instr.Jal 0 ((x.place + 4 * labels x n + (2 ^ 32 - p)) % 2 ^ 32)) → StandsWhole x → Within x l h s → Reaches x (steps_from x.steps n) l h s
+reach_jump : (x : Site) {held : Scratch} (p n : ℕ) (l : Locations) (h : World) (s : State) → s.pc ≡ p → IsPlace p → x.code p ≡ Some (instr.Jal 0 ((x.place + 4 * labels x n + (2 ^ 32 - p)) % 2 ^ 32)) → StandsWhole x → Within x held l h s → Reaches x (place x.steps n) l h s
 reach_jump x p n l h s e from f all w =
     let b = labels x n in
     let target = standing_from x n 0 (prologue_size x.frame) x.steps all in
-    reach_by x (steps_from x.steps n) l h s (record s { pc = x.place + 4 * b }) _ b (jump_step x.code s p (x.place + 4 * b) e from target.from f) refl target (within_pc x l h s (x.place + 4 * b) w)
+    reach_by x (place x.steps n) l h s (record s { pc = x.place + 4 * b }) _ b (jump_step x.code s p (x.place + 4 * b) e from target.from f) refl target (within_pc x l h s (x.place + 4 * b) (within_nothing x l h s w))
 
-pub jump_case : (x : Site) (w a n : ℕ) (rest : List Step) (l : Locations) (h : World) (s : State) → Given x w a (One (Jump n) ∷ rest) l h s → StandsWhole x → Stepped x (One (Jump n) ∷ rest) l h s
+pub jump_case : (x : Site) {held : Scratch} (w a n : ℕ) (rest : List Step) (l : Locations) (h : World) (s : State) → Given x held w a (One (Jump n) ∷ rest) l h s → StandsWhole x → Stepped x (One (Jump n) ∷ rest) l h s
 jump_case x w a n rest l h s (e, st, inside) all =
-    stepped x (One (Jump n) ∷ rest) (steps_from x.steps n) l l h h s (λ ws. ap (λ is. Goes (at_items is l h ws)) (place_stands x.steps n)) (reach_jump x (x.place + 4 * a) n l h s e st.from (first_items x w a (One (Jump n)) rest st).0 all inside)
+    stepped x (One (Jump n) ∷ rest) (place x.steps n) l l h h s (λ ws. refl) (reach_jump x (x.place + 4 * a) n l h s e st.from (first_items x w a (One (Jump n)) rest st).0 all inside)
 
 -- a branch goes on at one of two places
 branch_step : (code : Code) (s : State) (p q : ℕ) (i : Instr) (t : Bool) → s.pc ≡ p → q % 4 ≡ 0 → code p ≡ Some i → (to : ℕ) → execute i s ≡ branches t to s → (t ≡ true → to ≡ q) → machine_step code s ≡ Continues (record s { pc = if t then q else p + 4 })
@@ -143,13 +149,13 @@ branch_step code s p q i true e z f to k there =
 branch_step code s p q i false e z f to k there = step_at code s p i e f ∙ k ∙ ap (λ n. Continues (record s { pc = n + 4 })) e
 
 -- the long form: the branch over the jump, then the jump or not
-over_reaches : (x : Site) (v a n : ℕ) (next rest : List Step) (l : Locations) (h : World) (s : State) (i : Instr) (t : Bool) → s.pc ≡ x.place + 4 * a → Within x l h s → IsPlace (x.place + 4 * a) → Standing x v (a + 2) rest → StandsWhole x
-    → Stands x (x.place + 4 * a) (Plain i ∷ Go (labels x n) ∷ []) → execute i s ≡ branches t (add s.pc 8) s → (if t then rest else steps_from x.steps n) ≡ next → Reaches x next l h s
+over_reaches : (x : Site) {held : Scratch} (v a n : ℕ) (next rest : List Step) (l : Locations) (h : World) (s : State) (i : Instr) (t : Bool) → s.pc ≡ x.place + 4 * a → Within x held l h s → IsPlace (x.place + 4 * a) → Standing x held v (a + 2) rest → StandsWhole x
+    → Stands x (x.place + 4 * a) (Plain i ∷ Go (labels x n) ∷ []) → execute i s ≡ branches t (add s.pc 8) s → (if t then rest else place x.steps n) ≡ next → Reaches x next l h s
 over_reaches x v a n next rest l h s i true e inside p st all f k same =
     let q = p.to in
     let z = p.aligned in
     let one = branch_step x.code s (x.place + 4 * a) (x.place + 4 * a + 8) i true e (omega arith) f.0 (add s.pc 8) k (λ t. omega arith) in
-    reach_by x next l h s (record s { pc = x.place + 4 * a + 8 }) v (a + 2) one (omega arith) (subst (Standing x v (a + 2)) same st) (within_pc x l h s (x.place + 4 * a + 8) inside)
+    reach_by x next l h s (record s { pc = x.place + 4 * a + 8 }) v (a + 2) one (omega arith) (subst (Standing x _ v (a + 2)) same st) (within_pc x l h s (x.place + 4 * a + 8) inside)
 over_reaches x v a n next rest l h s i false e inside p st all f k same =
     let q = p.to in
     let z = p.aligned in
@@ -165,60 +171,54 @@ offset_arrives place a b y pc p q n (inl d) e = let x = p.to in let z = q.to in 
 offset_arrives place a b y pc p q n (inr d) e = let x = p.to in let z = q.to in let u = n.0 in let v = n.1 in let g = d.0 in let k = d.1 in omega arith
 
 -- the short form
-short_reaches : (x : Site) (v a n : ℕ) (next rest : List Step) (l : Locations) (h : World) (s : State) (i : Instr) (t : Bool) → s.pc ≡ x.place + 4 * a → Within x l h s → IsPlace (x.place + 4 * a) → Standing x v (a + 1) rest → StandsWhole x
-    → Nears a (labels x n) → Stands x (x.place + 4 * a) (Plain i ∷ []) → execute i s ≡ branches t (add s.pc (distance a (labels x n))) s → (if t then steps_from x.steps n else rest) ≡ next → Reaches x next l h s
+short_reaches : (x : Site) {held : Scratch} (v a n : ℕ) (next rest : List Step) (l : Locations) (h : World) (s : State) (i : Instr) (t : Bool) → s.pc ≡ x.place + 4 * a → Within x held l h s → IsPlace (x.place + 4 * a) → Standing x held v (a + 1) rest → StandsWhole x
+    → Nears a (labels x n) → Stands x (x.place + 4 * a) (Plain i ∷ []) → execute i s ≡ branches t (add s.pc (distance a (labels x n))) s → (if t then place x.steps n else rest) ≡ next → Reaches x next l h s
 short_reaches x v a n next rest l h s i true e inside p st all nears f k same =
     let b = labels x n in
     let target = standing_from x n 0 (prologue_size x.frame) x.steps all in
     let there = offset_arrives x.place a b (distance a b) s.pc p target.from nears (distance_is a b) e in
     let one = branch_step x.code s (x.place + 4 * a) (x.place + 4 * b) i true e target.from.aligned f.0 (add s.pc (distance a b)) k (λ t. there) in
-    reach_by x next l h s (record s { pc = x.place + 4 * b }) _ b one refl (subst (Standing x _ b) same target) (within_pc x l h s (x.place + 4 * b) inside)
+    reach_by x next l h s (record s { pc = x.place + 4 * b }) _ b one refl (subst (Standing x nothing _ b) same target) (within_pc x l h s (x.place + 4 * b) (within_nothing x l h s inside))
 short_reaches x v a n next rest l h s i false e inside p st all nears f k same =
     let b = labels x n in
     let target = standing_from x n 0 (prologue_size x.frame) x.steps all in
     let there = offset_arrives x.place a b (distance a b) s.pc p target.from nears (distance_is a b) e in
     let one = branch_step x.code s (x.place + 4 * a) (x.place + 4 * b) i false e target.from.aligned f.0 (add s.pc (distance a b)) k (λ t. there) in
-    reach_by x next l h s (record s { pc = x.place + 4 * a + 4 }) v (a + 1) one (omega arith) (subst (Standing x v (a + 1)) same st) (within_pc x l h s (x.place + 4 * a + 4) inside)
-
-if_not : {A : Type 0} (t : Bool) (p q : A) → (if not t then p else q) ≡ (if t then q else p)
-if_not true p q = refl
-if_not false p q = refl
+    reach_by x next l h s (record s { pc = x.place + 4 * a + 4 }) v (a + 1) one (omega arith) (subst (Standing x _ v (a + 1)) same st) (within_pc x l h s (x.place + 4 * a + 4) inside)
 
 -- a branch in either form; the opposite one is taken where it is not
-branch_reaches : (x : Site) (v a n : ℕ) (next rest : List Step) (l : Locations) (h : World) (s : State) (o c : BranchOperation) (r : ℕ) (t is : Bool) → s.pc ≡ x.place + 4 * a → Within x l h s → IsPlace (x.place + 4 * a) → Standing x v (a + branch_size is) rest → StandsWhole x
-    → (is ≡ true → Nears a (labels x n)) → Stands x (x.place + 4 * a) (branch_items is o c r a (labels x n)) → is_taken o (s.registers r) (s.registers 0) ≡ t → is_taken c (s.registers r) (s.registers 0) ≡ not t → (if t then steps_from x.steps n else rest) ≡ next → Reaches x next l h s
-branch_reaches x v a n next rest l h s o c r t true e inside p st all nears f taken opposite same =
-    short_reaches x v a n next rest l h s (Branch o r 0 (distance a (labels x n))) t e inside p st all (nears refl) f (ap (λ b. branches b (add s.pc (distance a (labels x n))) s) taken) same
-branch_reaches x v a n next rest l h s o c r t false e inside p st all nears f taken opposite same =
-    over_reaches x v a n next rest l h s (Branch c r 0 8) (not t) e inside p st all f (ap (λ b. branches b (add s.pc 8) s) opposite) (if_not t rest (steps_from x.steps n) ∙ same)
+branch_reaches : (x : Site) {held : Scratch} (v a n : ℕ) (next rest : List Step) (l : Locations) (h : World) (s : State) (c : Condition) (t is : Bool) → s.pc ≡ x.place + 4 * a → Within x held l h s → IsPlace (x.place + 4 * a) → Standing x held v (a + branch_size is) rest → StandsWhole x
+    → (is ≡ true → Nears a (labels x n)) → Stands x (x.place + 4 * a) (branch_items is c a (labels x n)) → is_taken c.operation (s.registers c.left) (s.registers c.right) ≡ t → (if t then place x.steps n else rest) ≡ next → Reaches x next l h s
+branch_reaches x v a n next rest l h s c t true e inside p st all nears f taken same =
+    short_reaches x v a n next rest l h s (Branch c.operation c.left c.right (distance a (labels x n))) t e inside p st all (nears refl) f (ap (λ b. branches b (add s.pc (distance a (labels x n))) s) taken) same
+branch_reaches x v a n next rest l h s c t false e inside p st all nears f taken same =
+    over_reaches x v a n next rest l h s (Branch (opposite c.operation) c.left c.right 8) (not t) e inside p st all f
+    (ap (λ b. branches b (add s.pc 8) s) (opposite_taken c.operation (s.registers c.left) (s.registers c.right) ∙ ap not taken)) (if_not t rest (place x.steps n) ∙ same)
 
-zero_test : (x : Site) (l : Locations) (h : World) (s : State) (r : ℕ) → IsAllocatable r → Within x l h s → (s.registers r == s.registers 0) ≡ (l (Register r) == 0)
-zero_test x l h s r u w = ap₂ (λ p q. p == q) (sym (w.same r u)) w.sound.zero
+-- a branch on a condition that tells a word, either way
+pub told_reaches : (x : Site) {held : Scratch} (v a n : ℕ) (rest : List Step) (l : Locations) (h : World) (s : State) (c : Condition) (word : ℕ) (nonzero is : Bool) → s.pc ≡ x.place + 4 * a → Within x held l h s → IsPlace (x.place + 4 * a) → Standing x held v (a + branch_size is) rest → StandsWhole x
+    → (is ≡ true → Nears a (labels x n)) → Stands x (x.place + 4 * a) (branch_items is (turned nonzero c) a (labels x n)) → Tells c s.registers word → Reaches x (led nonzero word rest (place x.steps n)) l h s
+told_reaches x v a n rest l h s c word nonzero is e inside p st all nears f tells =
+    branch_reaches x v a n (led nonzero word rest (place x.steps n)) rest l h s (turned nonzero c) _ is e inside p st all nears f (turned_tells nonzero c s.registers word tells) (led_by nonzero word rest (place x.steps n))
 
--- where one goes on
-stands_either : (t : Bool) (is ks : List linear.Item) (xs ys : List Step) → is ≡ items_behind xs → ks ≡ items_behind ys → (if t then is else ks) ≡ items_behind (if t then xs else ys)
-stands_either true is ks xs ys p q = p
-stands_either false is ks xs ys p q = q
+-- what a near branch reaches from its step's place
+pub near_nears : (x : Site) {held : Scratch} (w a n : ℕ) (ops : List Step) → Standing x held w a ops → near x w n ≡ true → Nears a (labels x n)
+near_nears x {held} w a n ops st e = close_nears a (labels x n) (stays_near x.frame (all_addressed x) (addressed_at x held ops) w a n st.seen e)
 
-pub if_zero_case : (x : Site) (w a r n : ℕ) (rest : List Step) (l : Locations) (h : World) (s : State) → Given x w a (One (IfZero r n) ∷ rest) l h s → StandsWhole x → Stepped x (One (IfZero r n) ∷ rest) l h s
+register_tells : (x : Site) {held : Scratch} (l : Locations) (h : World) (s : State) (r : ℕ) → IsAllocatable r → Within x held l h s → Tells (compares Bne r 0) s.registers (l (Register r))
+register_tells x l h s r u w = ap₂ (λ p q. not (p == q)) (sym (w.same r u)) w.sound.zero
+
+pub if_zero_case : (x : Site) {held : Scratch} (w a r n : ℕ) (rest : List Step) (l : Locations) (h : World) (s : State) → Given x held w a (One (IfZero r n) ∷ rest) l h s → StandsWhole x → Stepped x (One (IfZero r n) ∷ rest) l h s
 if_zero_case x w a r n rest l h s (e, st, inside) all =
-    let t = l (Register r) == 0 in
-    let next : List Step = if t then steps_from x.steps n else rest in
-    let test = zero_test x l h s r st.fine.0 inside in
-    stepped x (One (IfZero r n) ∷ rest) next l l h h s (λ ws. ap (λ is. Goes (at_items is l h ws)) (stands_either t (place (items_behind x.steps) n) (items_behind rest) (steps_from x.steps n) rest (place_stands x.steps n) refl))
-    (branch_reaches x _ a n next rest l h s Beq Bne r t (near x w n) e inside st.from (standing_tail x w a (One (IfZero r n)) rest st) all (stays_near x.frame x.steps (One (IfZero r n) ∷ rest) w a n st.seen) (first_items x w a (One (IfZero r n)) rest st) test (ap not test) refl)
+    let ops : List Step = One (IfZero r n) ∷ rest in
+    stepped x ops (led false (l (Register r)) rest (place x.steps n)) l l h h s (λ ws. refl)
+    (told_reaches x _ a n rest l h s (compares Bne r 0) (l (Register r)) false (near x w n) e inside st.from (standing_tail x w a (One (IfZero r n)) rest st) all (near_nears x w a n ops st) (first_items x w a (One (IfZero r n)) rest st) (register_tells x l h s r st.fine.0 inside))
 
-pub if_nonzero_case : (x : Site) (w a r n : ℕ) (rest : List Step) (l : Locations) (h : World) (s : State) → Given x w a (One (IfNonzero r n) ∷ rest) l h s → StandsWhole x → Stepped x (One (IfNonzero r n) ∷ rest) l h s
+pub if_nonzero_case : (x : Site) {held : Scratch} (w a r n : ℕ) (rest : List Step) (l : Locations) (h : World) (s : State) → Given x held w a (One (IfNonzero r n) ∷ rest) l h s → StandsWhole x → Stepped x (One (IfNonzero r n) ∷ rest) l h s
 if_nonzero_case x w a r n rest l h s (e, st, inside) all =
-    let t = l (Register r) == 0 in
-    let next : List Step = if t then rest else steps_from x.steps n in
-    let test = zero_test x l h s r st.fine.0 inside in
-    stepped x (One (IfNonzero r n) ∷ rest) next l l h h s (λ ws. ap (λ is. Goes (at_items is l h ws)) (stands_either t (items_behind rest) (place (items_behind x.steps) n) rest (steps_from x.steps n) refl (place_stands x.steps n)))
-    (branch_reaches x _ a n next rest l h s Bne Beq r (not t) (near x w n) e inside st.from (standing_tail x w a (One (IfNonzero r n)) rest st) all (stays_near x.frame x.steps (One (IfNonzero r n) ∷ rest) w a n st.seen) (first_items x w a (One (IfNonzero r n)) rest st) (ap not test) (test ∙ sym (not_not t)) (if_not t (steps_from x.steps n) rest))
-  where
-    not_not : (b : Bool) → not (not b) ≡ b
-    not_not true = refl
-    not_not false = refl
+    let ops : List Step = One (IfNonzero r n) ∷ rest in
+    stepped x ops (led true (l (Register r)) rest (place x.steps n)) l l h h s (λ ws. refl)
+    (told_reaches x _ a n rest l h s (compares Bne r 0) (l (Register r)) true (near x w n) e inside st.from (standing_tail x w a (One (IfNonzero r n)) rest st) all (near_nears x w a n ops st) (first_items x w a (One (IfNonzero r n)) rest st) (register_tells x l h s r st.fine.0 inside))
 
 -- ---- registers
 
@@ -229,9 +229,9 @@ behind_2 : (place a : ℕ) → place + 4 * a + 4 + 4 ≡ place + 4 * (a + 2)
 behind_2 place a = omega arith
 
 -- a word, by the parts that are not zero
-const_walks_by : (x : Site) (a to word : ℕ) (no_high no_low : Bool) (l : Locations) (h : World) (s : State) → s.pc ≡ x.place + 4 * a → Within x l h s → IsTarget x.frame to → word < 2 ^ 32 → (no_high ≡ true → high word ≡ 0) → (no_low ≡ true → low word ≡ 0)
+const_walks_by : (x : Site) {held : Scratch} (a to word : ℕ) (no_high no_low : Bool) (l : Locations) (h : World) (s : State) → s.pc ≡ x.place + 4 * a → Within x held l h s → IsTarget x.frame to → word < 2 ^ 32 → (no_high ≡ true → high word ≡ 0) → (no_low ≡ true → low word ≡ 0)
     → Stands x (x.place + 4 * a) (if no_high then addi to 0 (low word) ∷ [] else if no_low then Plain (Lui to (high word)) ∷ [] else Plain (Lui 5 (high word)) ∷ addi to 5 (low word) ∷ [])
-    → Walked x (put (Register to) word l) h s (a + (if no_high then 1 else if no_low then 1 else 2))
+    → Walked x (if no_high then without to held else if no_low then without to held else without to (without_address held)) (put (Register to) word l) h s (a + (if no_high then 1 else if no_low then 1 else 2))
 const_walks_by x a to word true no_low l h s e inside u lt is_high is_low f =
     let zero = inside.sound.zero in
     let none = is_high refl in
@@ -247,20 +247,20 @@ const_walks_by x a to word false true l h s e inside u lt is_high is_low f =
 const_walks_by x a to word false false l h s e inside u lt is_high is_low f =
     let up = high word * 2 ^ 12 in
     let s5 : State = record s { pc = s.pc + 4; registers = with_register s.registers 5 up } in
-    let w5 = within_scratch x l h s (s.pc + 4) 5 up (omega arith) (omega arith) (high_word word) inside in
+    let w5 = within_5 x l h s (s.pc + 4) up (high_word word) inside in
     walk_more x (put (Register to) word l) h s s5 (a + 2) (step_at x.code s (x.place + 4 * a) (Lui 5 (high word)) e f.0)
     (walk_set x l h s5 (x.place + 4 * a + 4) (a + 2) to word (OpImm Addi to 5 (low word)) (ap (λ n. n + 4) e) f.1.0 (behind_2 x.place a) (ap (λ n. puts to n s5) (high_low word lt)) u lt w5)
 
-pub const_walks : (x : Site) (a to word : ℕ) (l : Locations) (h : World) (s : State) → s.pc ≡ x.place + 4 * a → Within x l h s → IsTarget x.frame to → word < 2 ^ 32 → Stands x (x.place + 4 * a) (const_items to word) → Walked x (put (Register to) word l) h s (a + const_size word)
+pub const_walks : (x : Site) {held : Scratch} (a to word : ℕ) (l : Locations) (h : World) (s : State) → s.pc ≡ x.place + 4 * a → Within x held l h s → IsTarget x.frame to → word < 2 ^ 32 → Stands x (x.place + 4 * a) (const_items to word) → Walked x (behind_const to word held) (put (Register to) word l) h s (a + const_size word)
 const_walks x a to word l h s e inside u lt f = const_walks_by x a to word (high word == 0) (low word == 0) l h s e inside u lt (eqb_says (high word) 0) (eqb_says (low word) 0) f
 
-pub const_case : (x : Site) (w a to word : ℕ) (rest : List Step) (l : Locations) (h : World) (s : State) → Given x w a (One (Const to word) ∷ rest) l h s → Stepped x (One (Const to word) ∷ rest) l h s
+pub const_case : (x : Site) {held : Scratch} (w a to word : ℕ) (rest : List Step) (l : Locations) (h : World) (s : State) → Given x held w a (One (Const to word) ∷ rest) l h s → Stepped x (One (Const to word) ∷ rest) l h s
 const_case x w a to word rest l h s (e, st, inside) =
     let fine = st.fine.0 in
     stepped x (One (Const to word) ∷ rest) rest l (put (Register to) word l) h h s (λ ws. refl)
     (reaches_of x rest (put (Register to) word l) h s _ (a + const_size word) (const_walks x a to word l h s e inside fine.0 fine.1 (first_items x w a (One (Const to word)) rest st)) (standing_tail x w a (One (Const to word)) rest st))
 
-pub unary_case : (x : Site) (w a to b : ℕ) (o : unary.Unary) (rest : List Step) (l : Locations) (h : World) (s : State) → Given x w a (One (Unary o to b) ∷ rest) l h s → Stepped x (One (Unary o to b) ∷ rest) l h s
+pub unary_case : (x : Site) {held : Scratch} (w a to b : ℕ) (o : unary.Unary) (rest : List Step) (l : Locations) (h : World) (s : State) → Given x held w a (One (Unary o to b) ∷ rest) l h s → Stepped x (One (Unary o to b) ∷ rest) l h s
 unary_case x w a to b o rest l h s (e, st, inside) =
     let fine = st.fine.0 in
     let v = apply_unary o (l (Register b)) in
@@ -270,15 +270,15 @@ unary_case x w a to b o rest l h s (e, st, inside) =
     (reach_set x rest l h s (x.place + 4 * a) _ (a + 1) to v (unary_instr o to b) e (first_items x w a (One (Unary o to b)) rest st).0 (behind_1 x.place a) same fine.0 (subst (λ n. apply_unary o n < 2 ^ 32) (sym (inside.same b fine.1)) r.1) (standing_tail x w a (One (Unary o to b)) rest st) inside)
 
 -- x5, then a question about it
-pub asked : (x : Site) (w a to v t : ℕ) (i j : Instr) (rest : List Step) (l : Locations) (h : World) (s : State) → s.pc ≡ x.place + 4 * a → Standing x w (a + 2) rest → Within x l h s → Stands x (x.place + 4 * a) (Plain i ∷ Plain j ∷ []) → execute i s ≡ puts 5 t s → t < 2 ^ 32
+pub asked : (x : Site) {held : Scratch} (w a to v t : ℕ) (i j : Instr) (rest : List Step) (l : Locations) (h : World) (s : State) → s.pc ≡ x.place + 4 * a → Standing x (without to (without_address held)) w (a + 2) rest → Within x held l h s → Stands x (x.place + 4 * a) (Plain i ∷ Plain j ∷ []) → execute i s ≡ puts 5 t s → t < 2 ^ 32
     → ((u : State) → u.registers 5 ≡ t → u.registers 0 ≡ 0 → execute j u ≡ puts to v u) → IsTarget x.frame to → v < 2 ^ 32 → Reaches x rest (put (Register to) v l) h s
 asked x w a to v t i j rest l h s e st inside items value b5 question u lt =
     let s5 : State = record s { pc = s.pc + 4; registers = with_register s.registers 5 t } in
-    let w5 = within_scratch x l h s (s.pc + 4) 5 t (omega arith) (omega arith) b5 inside in
+    let w5 = within_5 x l h s (s.pc + 4) t b5 inside in
     reach_more x rest (put (Register to) v l) h s s5 (step_at x.code s (x.place + 4 * a) i e items.0 ∙ value)
     (reach_set x rest l h s5 (x.place + 4 * a + 4) w (a + 2) to v j (ap (λ n. n + 4) e) items.1.0 (behind_2 x.place a) (question s5 refl w5.sound.zero) u lt st w5)
 
-recipe_reaches : (x : Site) (w a to b c v : ℕ) (k : Recipe) (rest : List Step) (l : Locations) (h : World) (s : State) → s.pc ≡ x.place + 4 * a → Standing x w (a + recipe_size k) rest → Within x l h s → Stands x (x.place + 4 * a) (recipe_items k to b c) → IsTarget x.frame to → IsAllocatable b → IsAllocatable c
+recipe_reaches : (x : Site) {held : Scratch} (w a to b c v : ℕ) (k : Recipe) (rest : List Step) (l : Locations) (h : World) (s : State) → s.pc ≡ x.place + 4 * a → Standing x (behind_recipe k to held) w (a + recipe_size k) rest → Within x held l h s → Stands x (x.place + 4 * a) (recipe_items k to b c) → IsTarget x.frame to → IsAllocatable b → IsAllocatable c
     → IsRight k (l (Register b)) (l (Register c)) v → v < 2 ^ 32 → Reaches x rest (put (Register to) v l) h s
 recipe_reaches x w a to b c v (Direct i) rest l h s e st inside items u ub uc right lt =
     let value : computed i (s.registers b) (s.registers c) ≡ v = ap₂ (computed i) (sym (inside.same b ub)) (sym (inside.same c uc)) ∙ right in
@@ -290,22 +290,22 @@ recipe_reaches x w a to b c v (ZeroOfExchanged i) rest l h s e st inside items u
 recipe_reaches x w a to b c v (NonzeroOf i) rest l h s e st inside items u ub uc right lt =
     asked x w a to v (computed i (l (Register b)) (l (Register c))) (Op i 5 b c) (Op operations.Sltu to 0 5) rest l h s e st inside items (ap₂ (λ m n. puts 5 (computed i m n) s) (sym (inside.same b ub)) (sym (inside.same c uc))) right.0 (λ t p z. ap₂ (λ n k. puts to (lt_u k n) t) p z ∙ ap (λ n. puts to n t) right.1) u lt
 
-binary_at : (x : Site) (w a to b c : ℕ) (o : binary.Binary) (rest : List Step) (l : Locations) (h : World) (s : State) → Given x w a (One (Binary o to b c) ∷ rest) l h s → (z : Option ℕ) → apply_binary o (l (Register b)) (l (Register c)) ≡ z → Case x (One (Binary o to b c) ∷ rest) l h s
-binary_at x w a to b c o rest l h s given None is = inr (λ ws. ap (λ z. tried z (λ q. Goes (at_items (items_behind rest) (put (Register to) q l) h ws))) is)
+binary_at : (x : Site) {held : Scratch} (w a to b c : ℕ) (o : binary.Binary) (rest : List Step) (l : Locations) (h : World) (s : State) → Given x held w a (One (Binary o to b c) ∷ rest) l h s → (z : Option ℕ) → apply_binary o (l (Register b)) (l (Register c)) ≡ z → Case x (One (Binary o to b c) ∷ rest) l h s
+binary_at x w a to b c o rest l h s given None is = inr (λ ws. ap (λ z. tried z (λ q. Goes (at_steps rest (put (Register to) q l) h ws))) is)
 binary_at x w a to b c o rest l h s (e, st, inside) (Some v) is =
     let fine = st.fine.0 in
     let wb = word_of_register x l h s b fine.1 inside in
     let wc = word_of_register x l h s c fine.2 inside in
     let right = recipe_right o (l (Register b)) (l (Register c)) v wb wc is in
-    inl (stepped x (One (Binary o to b c) ∷ rest) rest l (put (Register to) v l) h h s (λ ws. ap (λ z. tried z (λ q. Goes (at_items (items_behind rest) (put (Register to) q l) h ws))) is)
+    inl (stepped x (One (Binary o to b c) ∷ rest) rest l (put (Register to) v l) h h s (λ ws. ap (λ z. tried z (λ q. Goes (at_steps rest (put (Register to) q l) h ws))) is)
     (recipe_reaches x _ a to b c v (recipe o) rest l h s e (standing_tail x w a (One (Binary o to b c)) rest st) inside (first_items x w a (One (Binary o to b c)) rest st) fine.0 fine.1 fine.2 right (binary_word o (l (Register b)) (l (Register c)) v wb wc is)))
 
-pub binary_case : (x : Site) (w a to b c : ℕ) (o : binary.Binary) (rest : List Step) (l : Locations) (h : World) (s : State) → Given x w a (One (Binary o to b c) ∷ rest) l h s → Case x (One (Binary o to b c) ∷ rest) l h s
+pub binary_case : (x : Site) {held : Scratch} (w a to b c : ℕ) (o : binary.Binary) (rest : List Step) (l : Locations) (h : World) (s : State) → Given x held w a (One (Binary o to b c) ∷ rest) l h s → Case x (One (Binary o to b c) ∷ rest) l h s
 binary_case x w a to b c o rest l h s given = binary_at x w a to b c o rest l h s given (apply_binary o (l (Register b)) (l (Register c))) refl
 
 -- ---- moves
 
-slot_address : (x : Site) (l : Locations) (h : World) (s : State) (i : ℕ) → i < x.frame.slots → Within x l h s → (is_accessible 4 (s.registers 2 + 4 * i) ≡ true) × ((s.registers 2 + 4 * i) % 2 ^ 32 ≡ s.registers 2 + 4 * i)
+slot_address : (x : Site) {held : Scratch} (l : Locations) (h : World) (s : State) (i : ℕ) → i < x.frame.slots → Within x held l h s → (is_accessible 4 (s.registers 2 + 4 * i) ≡ true) × ((s.registers 2 + 4 * i) % 2 ^ 32 ≡ s.registers 2 + 4 * i)
 slot_address x l h s i lt w =
     let stack = w.stack in
     let from = low_stack x l h s w in
@@ -313,7 +313,7 @@ slot_address x l h s i lt w =
     let z = x.aligned in
     (in_stack (s.registers 2 + 4 * i) (omega arith) (omega arith) (omega arith), omega arith)
 
-pub copy_case : (x : Site) (w a : ℕ) (m : Move) (rest : List Step) (l : Locations) (h : World) (s : State) → Given x w a (One (Copy m) ∷ rest) l h s → Stepped x (One (Copy m) ∷ rest) l h s
+pub copy_case : (x : Site) {held : Scratch} (w a : ℕ) (m : Move) (rest : List Step) (l : Locations) (h : World) (s : State) → Given x held w a (One (Copy m) ∷ rest) l h s → Stepped x (One (Copy m) ∷ rest) l h s
 copy_case x w a (Between to b) rest l h s (e, st, inside) =
     let fine = st.fine.0 in
     let q = inside.same b fine.1 in
@@ -342,83 +342,161 @@ copy_case x w a (Spill i b) rest l h s (e, st, inside) =
 
 -- ---- objects
 
-sum_address : (i b hi lo : ℕ) → (hi + lo) % 2 ^ 32 ≡ b → b + 4 * i < 2 ^ 32 → (((i * 4) % 2 ^ 32 + hi) % 2 ^ 32 + lo) % 2 ^ 32 ≡ b + 4 * i
-sum_address i b hi lo e lt = omega arith
-
-sum_bytes : (i b hi lo : ℕ) → (hi + lo) % 2 ^ 32 ≡ b → b + 1 * i < 2 ^ 32 → ((i + hi) % 2 ^ 32 + lo) % 2 ^ 32 ≡ b + 1 * i
-sum_bytes i b hi lo e lt = omega arith
-
+-- the instructions that make an element's address
 abbrev shifted : State → ℕ → State
 shifted s i = record s { pc = s.pc + 4; registers = with_register s.registers 5 ((s.registers i * 4) % 2 ^ 32) }
 
-abbrev uppered : State → ℕ → State
-uppered s b = record s { pc = s.pc + 4; registers = with_register s.registers 6 (high b * 2 ^ 12) }
+abbrev pub uppered : Remembered → State → ℕ → State
+uppered Nothing s b = record s { pc = s.pc + 4; registers = with_register s.registers 6 (high b * 2 ^ 12) }
+uppered known s b = s
 
 -- the sum of x6 and of a distance in a register
 abbrev added : State → ℕ → State
 added s r = record s { pc = s.pc + 4; registers = with_register s.registers 5 (add (s.registers r) (s.registers 6)) }
 
-abbrev pub at_element : Width → State → (i b : ℕ) → State
-at_element Byte s i b = added (uppered s b) i
-at_element Word s i b = added (uppered (shifted s i) b) 5
+abbrev pub at_element : Remembered → Width → State → (i b : ℕ) → State
+at_element Element w s i b = s
+at_element known Byte s i b = added (uppered known s b) i
+at_element known Word s i b = added (uppered known (shifted s i) b) 5
 
 -- how many instructions that are
-abbrev pub before : Width → ℕ
-before Byte = 2
-before Word = 3
+abbrev pub upper_before : Remembered → ℕ
+upper_before Nothing = 1
+upper_before known = 0
 
-within_based : (x : Site) (l : Locations) (h : World) (s : State) (r b : ℕ) → Within x l h s → Within x l h (added (uppered s b) r)
-within_based x l h s r b w =
-    let one = within_scratch x l h s (s.pc + 4) 6 (high b * 2 ^ 12) (omega arith) (omega arith) (high_word b) w in
-    within_scratch x l h (uppered s b) (s.pc + 4 + 4) 5 _ (omega arith) (omega arith) (omega arith) one
+abbrev pub before : Remembered → Width → ℕ
+before Element w = 0
+before known Byte = upper_before known + 1
+before known Word = upper_before known + 2
 
-within_element : (x : Site) (l : Locations) (h : World) (w : Width) (s : State) (i b : ℕ) → Within x l h s → Within x l h (at_element w s i b)
-within_element x l h Byte s i b w = within_based x l h s i b w
-within_element x l h Word s i b w = within_based x l h (shifted s i) 5 b (within_scratch x l h s (s.pc + 4) 5 ((s.registers i * 4) % 2 ^ 32) (omega arith) (omega arith) (omega arith) w)
+-- x6 has the upper part then
+abbrev HasUpper : State → ℕ → Type 0
+HasUpper s b = s.registers 6 ≡ high b * 2 ^ 12
 
-based_reaches : (x : Site) (next : List Step) (k : Locations) (g : World) (s : State) (p r b : ℕ) (items : List Item) → s.pc ≡ p → Stands x p (based b r items) → Reaches x next k g (added (uppered s b) r) → Reaches x next k g s
-based_reaches x next k g s p r b items e f z =
-    let u = uppered s b in
-    reach_more x next k g s u (step_at x.code s p (Lui 6 (high b)) e f.0)
-    (reach_more x next k g u (added u r) (step_at x.code u (p + 4) (Op operations.Add 5 r 6) (ap (λ n. n + 4) e) f.1.0) z)
+-- ---- what is known then
 
--- the instructions before a load or a store
-element_reaches : (x : Site) (next : List Step) (k : Locations) (g : World) (w : Width) (s : State) (p i b : ℕ) (items : List Item) → s.pc ≡ p → Stands x p (indexed w b i items) → Reaches x next k g (at_element w s i b) → Reaches x next k g s
-element_reaches x next k g Byte s p i b items e f r = based_reaches x next k g s p i b items e f r
-element_reaches x next k g Word s p i b items e f r =
-    reach_more x next k g s (shifted s i) (step_at x.code s p (Shift Slli 5 i 2) e f.0) (based_reaches x next k g (shifted s i) (p + 4) 5 b items (ap (λ n. n + 4) e) f.1 r)
+-- x6 is set, where it is to be, and what is known of x5 stays
+pub within_upper : (x : Site) {held : Scratch} (known : Remembered) (l : Locations) (h : World) (s : State) (b : ℕ) → IsKnownAt known b s.registers → Within x held l h s → Within x (behind_at held b) l h (uppered known s b)
+within_upper x Nothing l h s b known w =
+    within_scratch x _ l h s (s.pc + 4) 6 (high b * 2 ^ 12) (omega arith) (omega arith) (high_word b)
+    (record { upper = set_same s.registers 6 (high b * 2 ^ 12) (omega arith); address = address_stays_6 _ s.registers (high b * 2 ^ 12) w.holds.address }) w
+within_upper x Upper l h s b known w = within_as x _ l h s (record { upper = known; address = w.holds.address }) w
+within_upper x Element l h s b known w = absurd known
 
--- what stands behind them, and where
-access_at : (x : Site) (w : Width) (p i b : ℕ) (item : Item) → Stands x p (indexed w b i (item ∷ [])) → x.code (p + 4 * before w) ≡ Some (filled x.places x.place (p + 4 * before w) item)
-access_at x Byte p i b item f = subst (λ n. x.code n ≡ Some (filled x.places x.place n item)) (let e : p + 4 + 4 ≡ p + 4 * 2 = omega arith in e) f.1.1.0
-access_at x Word p i b item f = subst (λ n. x.code n ≡ Some (filled x.places x.place n item)) (let e : p + 4 + 4 + 4 ≡ p + 4 * 3 = omega arith in e) f.1.1.1.0
+-- then x5, from a distance that is so many bytes
+within_added : (x : Site) {held : Scratch} (l : Locations) (h : World) (s : State) (width : Width) (r i b : ℕ) → HasUpper s b → add (s.registers r) (s.registers 6) ≡ (bytes width * s.registers i + high b * 2 ^ 12) % 2 ^ 32 → IsAllocatable i → Within x held l h s
+    → Within x (record { upper = Some (high b); address = Some (address_of width i (high b)) }) l h (added s r)
+within_added x l h s width r i b upper sum ui w =
+    let v = add (s.registers r) (s.registers 6) in
+    let lo = ui.0 in
+    within_scratch x _ l h s (s.pc + 4) 5 v (omega arith) (omega arith) (omega arith)
+    (record {
+      upper = set_other s.registers 5 v 6 (λ e. omega arith) ∙ upper;
+      address = (ui, set_same s.registers 5 v (omega arith) ∙ sum ∙ ap (λ n. (bytes width * n + high b * 2 ^ 12) % 2 ^ 32) (sym (set_other s.registers 5 v i (λ e. omega arith))));
+    }) w
 
-access_pc : (w : Width) (s : State) (p i b : ℕ) → s.pc ≡ p → (at_element w s i b).pc ≡ p + 4 * before w
-access_pc Byte s p i b e = (let z : s.pc + 4 + 4 ≡ p + 4 * 2 = omega arith in z)
-access_pc Word s p i b e = (let z : s.pc + 4 + 4 + 4 ≡ p + 4 * 3 = omega arith in z)
+sum_bytes : (i five six up : ℕ) → five ≡ i → six ≡ up → (five + six) % 2 ^ 32 ≡ (1 * i + up) % 2 ^ 32
+sum_bytes i five six up e d = omega arith
 
-behind_access : (w : Width) (place a : ℕ) → place + 4 * a + 4 * before w + 4 ≡ place + 4 * (a + access_size w)
-behind_access Byte place a = omega arith
-behind_access Word place a = omega arith
+sum_words : (i k five six up : ℕ) → five ≡ (i * 4) % 2 ^ 32 → k ≡ i → six ≡ up → (five + six) % 2 ^ 32 ≡ (4 * k + up) % 2 ^ 32
+sum_words i k five six up e d q = omega arith
 
-same_memory : (w : Width) (s : State) (i b : ℕ) → (at_element w s i b).memory ≡ s.memory
-same_memory Byte s i b = refl
-same_memory Word s i b = refl
+within_shifted : (x : Site) {held : Scratch} (l : Locations) (h : World) (s : State) (i : ℕ) → Within x held l h s → Within x (without_address held) l h (shifted s i)
+within_shifted x l h s i w = within_5 x l h s (s.pc + 4) ((s.registers i * 4) % 2 ^ 32) (omega arith) w
 
--- the element's address
-element_address : (w : Width) (s : State) (i b n : ℕ) → IsAllocatable i → s.registers i ≡ n → element_place w b n < globals_to → ((at_element w s i b).registers 5 + low b) % 2 ^ 32 ≡ element_place w b n
-element_address Byte s i b n u e lt =
-    let lo = u.0 in
-    let small : b < 2 ^ 32 = omega arith in
-    let there : (uppered s b).registers i ≡ s.registers i = set_other s.registers 6 (high b * 2 ^ 12) i (λ q. omega arith) in
-    ap (λ k. ((k + high b * 2 ^ 12) % 2 ^ 32 + low b) % 2 ^ 32) (there ∙ e) ∙ sum_bytes n b (high b * 2 ^ 12) (low b) (high_low b small) (omega arith)
-element_address Word s i b n u e lt =
-    let small : b < 2 ^ 32 = omega arith in
-    ap (λ k. (((k * 4) % 2 ^ 32 + high b * 2 ^ 12) % 2 ^ 32 + low b) % 2 ^ 32) e ∙ sum_address n b (high b * 2 ^ 12) (low b) (high_low b small) (omega arith)
+shifted_same : (s : State) (i r : ℕ) → (r ≡ 5 → ⊥) → (shifted s i).registers r ≡ s.registers r
+shifted_same s i r n = set_other s.registers 5 _ r n
 
-load_at : (x : Site) (w a : ℕ) (width : Width) (g to i : ℕ) (rest : List Step) (l : Locations) (h : World) (s : State) → Given x w a (One (Load width g to i) ∷ rest) l h s → (z : Option ℕ) → element h width g (l (Register i)) ≡ z → Case x (One (Load width g to i) ∷ rest) l h s
-load_at x w a width g to i rest l h s given None is = inr (λ ws. ap (λ z. tried z (λ q. Goes (at_items (items_behind rest) (put (Register to) q l) h ws))) is)
-load_at x w a width g to i rest l h s (e, st, inside) (Some v) is =
+uppered_same : (s : State) (b r : ℕ) → (r ≡ 6 → ⊥) → (uppered Nothing s b).registers r ≡ s.registers r
+uppered_same s b r n = set_other s.registers 6 (high b * 2 ^ 12) r n
+
+-- behind all of them
+pub within_element : (x : Site) {held : Scratch} (known : Remembered) (l : Locations) (h : World) (width : Width) (s : State) (i b : ℕ) → IsKnown known width b i s.registers → IsAllocatable i → Within x held l h s
+    → Within x (behind_element known held width b i) l h (at_element known width s i b)
+within_element x Nothing l h Byte s i b known ui w =
+    let u = uppered Nothing s b in
+    let upper : HasUpper u b = set_same s.registers 6 (high b * 2 ^ 12) (omega arith) in
+    within_added x l h u Byte i i b upper (sum_bytes (u.registers i) (u.registers i) (u.registers 6) (high b * 2 ^ 12) refl upper) ui (within_upper x Nothing l h s b tt w)
+within_element x Nothing l h Word s i b known ui w =
+    let lo = ui.0 in
+    let t = shifted s i in
+    let u = uppered Nothing t b in
+    let upper : HasUpper u b = set_same t.registers 6 (high b * 2 ^ 12) (omega arith) in
+    let five : u.registers 5 ≡ (s.registers i * 4) % 2 ^ 32 = uppered_same t b 5 (λ e. omega arith) ∙ set_same s.registers 5 _ (omega arith) in
+    let same : u.registers i ≡ s.registers i = uppered_same t b i (λ e. omega arith) ∙ shifted_same s i i (λ e. omega arith) in
+    within_added x l h u Word 5 i b upper (sum_words (s.registers i) (u.registers i) (u.registers 5) (u.registers 6) (high b * 2 ^ 12) five same upper) ui (within_upper x Nothing l h t b tt (within_shifted x l h s i w))
+within_element x Upper l h Byte s i b known ui w =
+    within_added x l h s Byte i i b known (sum_bytes (s.registers i) (s.registers i) (s.registers 6) (high b * 2 ^ 12) refl known) ui w
+within_element x Upper l h Word s i b known ui w =
+    let lo = ui.0 in
+    let t = shifted s i in
+    let upper : HasUpper t b = shifted_same s i 6 (λ e. omega arith) ∙ known in
+    let five : t.registers 5 ≡ (s.registers i * 4) % 2 ^ 32 = set_same s.registers 5 _ (omega arith) in
+    let same : t.registers i ≡ s.registers i = shifted_same s i i (λ e. omega arith) in
+    within_added x l h t Word 5 i b upper (sum_words (s.registers i) (t.registers i) (t.registers 5) (t.registers 6) (high b * 2 ^ 12) five same upper) ui (within_shifted x l h s i w)
+within_element x Element l h width s i b known ui w = within_as x _ l h s (record { upper = w.holds.upper; address = (ui, known) }) w
+
+-- ---- the machine comes there
+
+pub uppered_reaches : (x : Site) (next : List Step) (k : Locations) (g : World) (known : Remembered) (s : State) (p b : ℕ) (items : List Item) → s.pc ≡ p → Stands x p (upper_items known b ++ items)
+    → (Stands x (p + 4 * upper_before known) items → (uppered known s b).pc ≡ p + 4 * upper_before known → Reaches x next k g (uppered known s b)) → Reaches x next k g s
+uppered_reaches x next k g Nothing s p b items e f go =
+    let four : p + 4 ≡ p + 4 * 1 = omega arith in
+    reach_more x next k g s (uppered Nothing s b) (step_at x.code s p (Lui 6 (high b)) e f.0) (go (subst (λ n. Stands x n items) four f.1) (ap (λ n. n + 4) e ∙ four))
+uppered_reaches x next k g Upper s p b items e f go = (let none : p ≡ p + 4 * 0 = omega arith in go (subst (λ n. Stands x n items) none f) (e ∙ none))
+uppered_reaches x next k g Element s p b items e f go = (let none : p ≡ p + 4 * 0 = omega arith in go (subst (λ n. Stands x n items) none f) (e ∙ none))
+
+-- the item behind those before an access, and the machine there
+abbrev Arrives : (x : Site) (next : List Step) (k : Locations) (g : World) (p n : ℕ) (item : Item) (t : State) → Type 0
+Arrives x next k g p n item t = x.code (p + 4 * n) ≡ Some (filled x.places x.place (p + 4 * n) item) → t.pc ≡ p + 4 * n → Reaches x next k g t
+
+based_reaches : (x : Site) (next : List Step) (k : Locations) (g : World) (known : Remembered) (s : State) (p r b : ℕ) (item : Item) → s.pc ≡ p → Stands x p (based known b r (item ∷ [])) → Arrives x next k g p (upper_before known + 1) item (added (uppered known s b) r)
+    → Reaches x next k g s
+based_reaches x next k g known s p r b item e f go =
+    uppered_reaches x next k g known s p b (Plain (Op operations.Add 5 r 6) ∷ item ∷ []) e f
+    (λ stands at.
+    let u = uppered known s b in
+    let q = p + 4 * upper_before known in
+    let four : q + 4 ≡ p + 4 * (upper_before known + 1) = omega arith in
+    reach_more x next k g u (added u r) (step_at x.code u q (Op operations.Add 5 r 6) at stands.0) (go (subst (λ n. x.code n ≡ Some (filled x.places x.place n item)) four stands.1.0) (ap (λ n. n + 4) at ∙ four)))
+
+shifted_reaches : (x : Site) (next : List Step) (k : Locations) (g : World) (known : Remembered) (s : State) (p i b : ℕ) (item : Item) → s.pc ≡ p → Stands x p (Plain (Shift Slli 5 i 2) ∷ based known b 5 (item ∷ []))
+    → Arrives x next k g p (upper_before known + 2) item (added (uppered known (shifted s i) b) 5) → Reaches x next k g s
+shifted_reaches x next k g known s p i b item e f go =
+    let t = shifted s i in
+    reach_more x next k g s t (step_at x.code s p (Shift Slli 5 i 2) e f.0)
+    (based_reaches x next k g known t (p + 4) 5 b item (ap (λ n. n + 4) e) f.1
+    (λ stands at.
+    let long : p + 4 + 4 * (upper_before known + 1) ≡ p + 4 * (upper_before known + 2) = omega arith in
+    go (subst (λ n. x.code n ≡ Some (filled x.places x.place n item)) long stands) (at ∙ long)))
+
+-- before a load or a store
+pub element_reaches : (x : Site) (next : List Step) (k : Locations) (g : World) (known : Remembered) (w : Width) (s : State) (p i b : ℕ) (item : Item) → s.pc ≡ p → Stands x p (indexed known w b i (item ∷ [])) → Arrives x next k g p (before known w) item (at_element known w s i b)
+    → Reaches x next k g s
+element_reaches x next k g Nothing Byte s p i b item e f go = based_reaches x next k g Nothing s p i b item e f go
+element_reaches x next k g Upper Byte s p i b item e f go = based_reaches x next k g Upper s p i b item e f go
+element_reaches x next k g Nothing Word s p i b item e f go = shifted_reaches x next k g Nothing s p i b item e f go
+element_reaches x next k g Upper Word s p i b item e f go = shifted_reaches x next k g Upper s p i b item e f go
+element_reaches x next k g Element w s p i b item e f go =
+    (let none : p ≡ p + 4 * 0 = omega arith in go (subst (λ n. x.code n ≡ Some (filled x.places x.place n item)) none f.0) (e ∙ none))
+
+behind_access : (known : Remembered) (w : Width) (place a : ℕ) → place + 4 * a + 4 * before known w + 4 ≡ place + 4 * (a + access_size known w)
+behind_access Nothing Byte place a = omega arith
+behind_access Nothing Word place a = omega arith
+behind_access Upper Byte place a = omega arith
+behind_access Upper Word place a = omega arith
+behind_access Element w place a = omega arith
+
+same_memory : (known : Remembered) (w : Width) (s : State) (i b : ℕ) → (at_element known w s i b).memory ≡ s.memory
+same_memory Nothing Byte s i b = refl
+same_memory Nothing Word s i b = refl
+same_memory Upper Byte s i b = refl
+same_memory Upper Word s i b = refl
+same_memory Element w s i b = refl
+
+load_at : (x : Site) {held : Scratch} (w a : ℕ) (width : Width) (g to i : ℕ) (rest : List Step) (l : Locations) (h : World) (s : State) → Given x held w a (One (Load width g to i) ∷ rest) l h s → (z : Option ℕ) → element h width g (l (Register i)) ≡ z → Case x (One (Load width g to i) ∷ rest) l h s
+load_at x w a width g to i rest l h s given None is = inr (λ ws. ap (λ z. tried z (λ q. Goes (at_steps rest (put (Register to) q l) h ws))) is)
+load_at x {held} w a width g to i rest l h s (e, st, inside) (Some v) is =
     let items = first_items x w a (One (Load width g to i)) rest st in
     let fine = st.fine.0 in
     let n = l (Register i) in
@@ -428,25 +506,30 @@ load_at x w a width g to i rest l h s (e, st, inside) (Some v) is =
     let there = element_tells h width g n v is in
     let lies = placed x h s width g n v inside.shares there in
     let from = lies.from in
+    let below = lies.below in
     let low_from = x.layout.from g in
-    let u = at_element width s i b in
-    let wu = within_element x l h width s i b inside in
-    let value : loaded (load_of width) u.memory at ≡ v = ap (λ (m : ℕ → ℕ). loaded (load_of width) m at) (same_memory width s i b) ∙ holds x h s width g n v inside.shares there in
+    let low_to = x.layout.to g in
+    let small : b < 2 ^ 32 = omega arith in
+    let known = known_of held width b i in
+    let u = at_element known width s i b in
+    let wu = within_element x known l h width s i b (is_known held width b i s.registers inside.holds) fine.1 inside in
+    let value : loaded (load_of width) u.memory at ≡ v = ap (λ (m : ℕ → ℕ). loaded (load_of width) m at) (same_memory known width s i b) ∙ holds x h s width g n v inside.shares there in
     let lv : v < 2 ^ 32 = (let q = loaded_word width u.memory at wu.sound.memory in omega arith) in
-    let pc = access_pc width s p i b e in
-    let step = load_step x.code u (load_of width) (p + 4 * before width) to 5 (low b) at pc (access_at x width p i b (load_element width to 5 (low b)) items) (element_address width s i b n fine.1 (sym (inside.same i fine.1)) lies.below) (load_accessible width at lies.aligned (omega arith) lies.below)
-    ∙ ap (λ n. puts to n u) value in
-    inl (stepped x (One (Load width g to i) ∷ rest) rest l (put (Register to) v l) h h s (λ ws. ap (λ z. tried z (λ q. Goes (at_items (items_behind rest) (put (Register to) q l) h ws))) is)
-    (element_reaches x rest (put (Register to) v l) h width s p i b (load_element width to 5 (low b) ∷ []) e items
-    (reach_by x rest (put (Register to) v l) h u (record u { pc = u.pc + 4; registers = with_register u.registers to v }) _ (a + access_size width) step (ap (λ n. n + 4) pc ∙ behind_access width x.place a) (standing_tail x w a (One (Load width g to i)) rest st)
-    (within_set x l h u (u.pc + 4) to v fine.0 lv wu))))
+    let address = element_address width i b n u.registers (sym (wu.same i fine.1)) small (omega arith) wu.holds.address.1 in
+    let t : State = record u { pc = u.pc + 4; registers = with_register u.registers to v } in
+    inl (stepped x (One (Load width g to i) ∷ rest) rest l (put (Register to) v l) h h s (λ ws. ap (λ z. tried z (λ q. Goes (at_steps rest (put (Register to) q l) h ws))) is)
+    (element_reaches x rest (put (Register to) v l) h known width s p i b (load_element width to 5 (low b)) e items
+    (λ stands pc.
+    reach_by x rest (put (Register to) v l) h u t _ (a + access_size known width)
+    (load_step x.code u (load_of width) (p + 4 * before known width) to 5 (low b) at pc stands address (load_accessible width at lies.aligned (omega arith) lies.below) ∙ ap (λ n. puts to n u) value)
+    (ap (λ n. n + 4) pc ∙ behind_access known width x.place a) (standing_tail x w a (One (Load width g to i)) rest st) (within_set x l h u (u.pc + 4) to v fine.0 lv wu))))
 
-pub load_case : (x : Site) (w a : ℕ) (width : Width) (g to i : ℕ) (rest : List Step) (l : Locations) (h : World) (s : State) → Given x w a (One (Load width g to i) ∷ rest) l h s → Case x (One (Load width g to i) ∷ rest) l h s
+pub load_case : (x : Site) {held : Scratch} (w a : ℕ) (width : Width) (g to i : ℕ) (rest : List Step) (l : Locations) (h : World) (s : State) → Given x held w a (One (Load width g to i) ∷ rest) l h s → Case x (One (Load width g to i) ∷ rest) l h s
 load_case x w a width g to i rest l h s given = load_at x w a width g to i rest l h s given (element h width g (l (Register i))) refl
 
-store_at : (x : Site) (w a : ℕ) (width : Width) (g i r : ℕ) (rest : List Step) (l : Locations) (h : World) (s : State) → Given x w a (One (Store width g i r) ∷ rest) l h s → (z : Option ℕ) → element h width g (l (Register i)) ≡ z → Case x (One (Store width g i r) ∷ rest) l h s
-store_at x w a width g i r rest l h s given None is = inr (λ ws. ap (λ z. tried (option_map (λ old. with_element h g (l (Register i)) (kept width (l (Register r)))) z) (λ k. Goes (at_items (items_behind rest) l k ws))) is)
-store_at x w a width g i r rest l h s (e, st, inside) (Some v) is =
+store_at : (x : Site) {held : Scratch} (w a : ℕ) (width : Width) (g i r : ℕ) (rest : List Step) (l : Locations) (h : World) (s : State) → Given x held w a (One (Store width g i r) ∷ rest) l h s → (z : Option ℕ) → element h width g (l (Register i)) ≡ z → Case x (One (Store width g i r) ∷ rest) l h s
+store_at x w a width g i r rest l h s given None is = inr (λ ws. ap (λ z. tried (option_map (λ old. with_element h g (l (Register i)) (kept width (l (Register r)))) z) (λ k. Goes (at_steps rest l k ws))) is)
+store_at x {held} w a width g i r rest l h s (e, st, inside) (Some v) is =
     let items = first_items x w a (One (Store width g i r)) rest st in
     let fine = st.fine.0 in
     let n = l (Register i) in
@@ -456,20 +539,26 @@ store_at x w a width g i r rest l h s (e, st, inside) (Some v) is =
     let there = element_tells h width g n v is in
     let lies = placed x h s width g n v inside.shares there in
     let from = lies.from in
+    let below = lies.below in
     let low_from = x.layout.from g in
+    let low_to = x.layout.to g in
+    let small : b < 2 ^ 32 = omega arith in
     let k = with_element h g n (kept width (l (Register r))) in
-    let u = at_element width s i b in
-    let wu = within_element x l h width s i b inside in
-    let pc = access_pc width s p i b e in
+    let known = known_of held width b i in
+    let u = at_element known width s i b in
+    let wu = within_element x known l h width s i b (is_known held width b i s.registers inside.holds) fine.0 inside in
+    let address = element_address width i b n u.registers (sym (wu.same i fine.0)) small (omega arith) wu.holds.address.1 in
     let t : State = record u { pc = u.pc + 4; memory = stored (store_of width) u.memory at (l (Register r)) } in
-    let step = store_step x.code u (store_of width) (p + 4 * before width) 5 r (low b) at pc (access_at x width p i b (store_element width 5 r (low b)) items) (element_address width s i b n fine.0 (sym (inside.same i fine.0)) lies.below) (store_accessible width at lies.aligned (omega arith) lies.below)
-    ∙ ap (λ n. Continues (record u { pc = u.pc + 4; memory = stored (store_of width) u.memory at n })) (sym (wu.same r fine.1)) in
-    inl (stepped x (One (Store width g i r) ∷ rest) rest l l h k s (λ ws. ap (λ z. tried (option_map (λ old. with_element h g (l (Register i)) (kept width (l (Register r)))) z) (λ k. Goes (at_items (items_behind rest) l k ws))) is)
-    (element_reaches x rest l k width s p i b (store_element width 5 r (low b) ∷ []) e items
-    (reach_by x rest l k u t _ (a + access_size width) step (ap (λ n. n + 4) pc ∙ behind_access width x.place a) (standing_tail x w a (One (Store width g i r)) rest st)
+    inl (stepped x (One (Store width g i r) ∷ rest) rest l l h k s (λ ws. ap (λ z. tried (option_map (λ old. with_element h g (l (Register i)) (kept width (l (Register r)))) z) (λ k. Goes (at_steps rest l k ws))) is)
+    (element_reaches x rest l k known width s p i b (store_element width 5 r (low b)) e items
+    (λ stands pc.
+    reach_by x rest l k u t _ (a + access_size known width)
+    (store_step x.code u (store_of width) (p + 4 * before known width) 5 r (low b) at pc stands address (store_accessible width at lies.aligned (omega arith) lies.below)
+    ∙ ap (λ n. Continues (record u { pc = u.pc + 4; memory = stored (store_of width) u.memory at n })) (sym (wu.same r fine.1)))
+    (ap (λ n. n + 4) pc ∙ behind_access known width x.place a) (standing_tail x w a (One (Store width g i r)) rest st)
     (within_store x l h u (u.pc + 4) width g n (l (Register r)) v there (word_of_register x l h s r fine.1 inside) wu))))
 
-pub store_case : (x : Site) (w a : ℕ) (width : Width) (g i r : ℕ) (rest : List Step) (l : Locations) (h : World) (s : State) → Given x w a (One (Store width g i r) ∷ rest) l h s → Case x (One (Store width g i r) ∷ rest) l h s
+pub store_case : (x : Site) {held : Scratch} (w a : ℕ) (width : Width) (g i r : ℕ) (rest : List Step) (l : Locations) (h : World) (s : State) → Given x held w a (One (Store width g i r) ∷ rest) l h s → Case x (One (Store width g i r) ∷ rest) l h s
 store_case x w a width g i r rest l h s given = store_at x w a width g i r rest l h s given (element h width g (l (Register i))) refl
 
 -- ---- input and output
@@ -481,17 +570,17 @@ not_kept f r lo hi = ((omega arith, omega arith), λ k. elim k [ inl q ↦ absur
 numbered : State → ℕ → State
 numbered s n = record s { pc = s.pc + 4; registers = with_register s.registers 17 n }
 
-number_step : (x : Site) (l : Locations) (h : World) (s : State) (p n : ℕ) → s.pc ≡ p → n < 2 ^ 32 → x.code p ≡ Some (OpImm Addi 17 0 n) → Within x l h s → machine_step x.code s ≡ Continues (numbered s n)
+number_step : (x : Site) {held : Scratch} (l : Locations) (h : World) (s : State) (p n : ℕ) → s.pc ≡ p → n < 2 ^ 32 → x.code p ≡ Some (OpImm Addi 17 0 n) → Within x held l h s → machine_step x.code s ≡ Continues (numbered s n)
 unfolding numbered
 number_step x l h s p n e lt f w =
     let value : add (s.registers 0) n ≡ n = (let z = w.sound.zero in omega arith) in
     step_at x.code s p (OpImm Addi 17 0 n) e f ∙ ap (λ v. puts 17 v s) value
 
-number_within : (x : Site) (l : Locations) (h : World) (s : State) (n : ℕ) → n < 2 ^ 32 → Within x l h s → Within x (put (Register 17) n l) h (numbered s n)
+number_within : (x : Site) {held : Scratch} (l : Locations) (h : World) (s : State) (n : ℕ) → n < 2 ^ 32 → Within x held l h s → Within x (without 17 held) (put (Register 17) n l) h (numbered s n)
 unfolding numbered
 number_within x l h s n lt w = within_set x l h s (s.pc + 4) 17 n (not_kept x.frame 17 (omega arith) (omega arith)) lt w
 
-pub write_case : (x : Site) (w a : ℕ) (rest : List Step) (l : Locations) (h : World) (s : State) → Given x w a (One (Write) ∷ rest) l h s → Stepped x (One (Write) ∷ rest) l h s
+pub write_case : (x : Site) {held : Scratch} (w a : ℕ) (rest : List Step) (l : Locations) (h : World) (s : State) → Given x held w a (One (Write) ∷ rest) l h s → Stepped x (One (Write) ∷ rest) l h s
 unfolding numbered
 write_case x w a rest l h s (e, st, inside) =
     let items = first_items x w a (One Write) rest st in
@@ -512,7 +601,7 @@ write_case x w a rest l h s (e, st, inside) =
           (reach_by x rest k (after_write v h) u t _ (a + 2) step (ap (λ n. n + 4 + 4) e ∙ behind_2 x.place a) (standing_tail x w a (One Write) rest st) (within_pc x k (after_write v h) (record u { output = u.output ++ (v ∷ []) }) (u.pc + 4) (within_write x k h u v wu)));
     }
 
-pub read_case : (x : Site) (w a : ℕ) (rest : List Step) (l : Locations) (h : World) (s : State) → Given x w a (One (Read) ∷ rest) l h s → Stepped x (One (Read) ∷ rest) l h s
+pub read_case : (x : Site) {held : Scratch} (w a : ℕ) (rest : List Step) (l : Locations) (h : World) (s : State) → Given x held w a (One (Read) ∷ rest) l h s → Stepped x (One (Read) ∷ rest) l h s
 unfolding numbered
 read_case x w a rest l h s (e, st, inside) =
     let items = first_items x w a (One Read) rest st in

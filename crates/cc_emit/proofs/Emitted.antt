@@ -1,6 +1,5 @@
--- The code of a Linear function does what the function does: by induction on the moves of its run, the words that nobody knows chosen
--- as those that the machine's registers and memory hold. A step of two items is two moves that one path of the machine pays; a run that
--- is cut between them has written what the path writes behind both, since neither writes.
+-- The code of a function does what its steps do: by induction on the moves of their run, the words that nobody knows chosen as those that
+-- the machine's registers and memory hold.
 use Rattle.std.proofs.Common.{◌≡◌, ℕ, zero, suc, ◌+◌, ◌-◌, ◌*◌, ◌%◌, ◌<◌, ◌≤◌, List, [], ◌∷◌, ◌++◌, length, get_or, take, drop, refl, sym, ap, ap₂, ◌∙◌, subst, inl, inr, arith}
 use Rattle.std.specs.Prelude.{if◌then◌else◌, nat_le}
 use Rattle.std.proofs.Math.Nat.{mul-suc, mul-le-mul_left, mul-add, add-mul, mul_assoc}
@@ -14,23 +13,23 @@ use Rattle.cc_runs.specs.Unknown.{survives}
 use Rattle.cc_ltl.specs.declared.location.Location.{Location}
 use Rattle.cc_ltl.specs.declared.location.Location.TheVariants.{Register, Slot}
 use Rattle.cc_ltl.specs.Ltl.{Locations, put, words_from, after_call, at_entry}
-use Rattle.cc_linear.specs.declared.item.Item as linear
 use Rattle.cc_linear.specs.declared.item.Item.TheVariants.{Label, Jump, IfNonzero, IfZero, Copy, Const, Unary, Binary, Load, Store, Call, Read, Write, Return}
-use Rattle.cc_linear.specs.Linear.{Configuration, at_items, items_after_answer, linear_move, linear_output, linear_start}
+use Rattle.cc_select.specs.declared.step.Step.{Step}
+use Rattle.cc_select.specs.declared.step.Step.TheVariants.{One, Immediate, LoadAt, StoreAt, Branch, BranchImmediate}
+use Rattle.cc_select.specs.Selected.{Configuration, at_steps, steps_after_answer, selected_move, selected_output, selected_start}
 use Rattle.cc_rv32.specs.Machine.{Continues, State, stack_from}
-use Rattle.cc_emit.specs.declared.step.Step.{Step}
-use Rattle.cc_emit.specs.declared.step.Step.TheVariants.{One, Immediate, LoadAt, StoreAt}
 use Rattle.cc_emit.specs.Contract.{CallsMeet, Code, ComesBack, Enters, IsPlace, IsSound, Layout, Meets, Path, PieceMeets, Placed}
 use Rattle.cc_emit.specs.Frames.{Frame}
 use Rattle.cc_emit.specs.Emission.{emitted, framed_items, prologue, prologue_size, saving, stack_moved}
-use Rattle.cc_emit.proofs.Fine.{AreFineSteps, IsFrame, Member}
+use Rattle.cc_emit.specs.declared.scratch.Scratch.{Scratch}
+use Rattle.cc_emit.specs.Scratch.{nothing, addressed}
+use Rattle.cc_emit.proofs.Fine.{AreFine, IsFrame, Member}
 use Rattle.cc_emit.proofs.Basics.{words_append, listed, listed_words, take_listed, drop_listed}
-use Rattle.cc_emit.proofs.Stepping.{items_behind}
 use Rattle.cc_emit.proofs.Places.{length_saving, length_stack_moved, seen_first}
-use Rattle.cc_emit.proofs.Standing.{Site, Standing, Stands, near, labels, machine_step, path_then, first_items, standing_tail, placed_append, between}
-use Rattle.cc_emit.proofs.Within.{Within}
+use Rattle.cc_emit.proofs.Standing.{Site, Standing, Stands, all_addressed, near, labels, machine_step, path_then, first_items, standing_tail, placed_append, between}
+use Rattle.cc_emit.proofs.Within.{Within, within_nothing}
 use Rattle.cc_emit.proofs.Cases.{Stepped, Case, StandsWhole, jump_case, if_zero_case, if_nonzero_case, const_case, copy_case, unary_case, binary_case, load_case, store_case, read_case, write_case}
-use Rattle.cc_emit.proofs.Neighbours.{Twice, Stops, Pair, immediate_case, load_at_case, store_at_case}
+use Rattle.cc_emit.proofs.Steps.{immediate_case, load_at_case, store_at_case, branch_case, branch_immediate_case}
 use Rattle.cc_emit.proofs.Returning.{return_path, called, called_step, enters_callee, return_place, regained, within_behind, framed, prologue_path, framed_pc, found, framed_within}
 
 abbrev pub DoesBy : {b : List Size} (y : Layout b) (code : Code) (rate : ℕ) (from s : State) → Stop Answer → List ℕ → ℕ → Type 0
@@ -38,7 +37,7 @@ DoesBy y code rate from s Going o done = (m : ℕ) × (t : State) × Path code m
 DoesBy y code rate from s (Ended r) o done = (m : ℕ) × (t : State) × Path code m s t × ComesBack y from r t × (done ≤ rate * m)
 DoesBy y code rate from s Wrong o done = Unit {0}
 
--- what the machine does, of a run of Linear with this much work
+-- what the machine does, of a run with this much work
 abbrev pub Does : {b : List Size} (y : Layout b) (code : Code) (rate : ℕ) (from s : State) → Outcome Answer → ℕ → Type 0
 Does y code rate from s z done = DoesBy y code rate from s z.stop z.output done
 
@@ -67,17 +66,17 @@ module _ (x : Site) (c d : ℕ) (one : 1 ≤ c) (below : d < 1024) (all_places :
   Done s z done = Does x.layout x.code rate x.from s z done
 
   abbrev lrun : ℕ → ℕ → Configuration → Outcome Answer
-  lrun k j q = run (linear_move x.meaning.arity (items_behind x.steps)) linear_output (call_effect x.meaning (suc d)) k j q
+  lrun k j q = run (selected_move x.meaning.arity x.steps) selected_output (call_effect x.meaning (suc d)) k j q
 
   abbrev lwork : ℕ → ℕ → Configuration → ℕ
-  lwork k j q = work (linear_move x.meaning.arity (items_behind x.steps)) (call_effect x.meaning (suc d)) k j q
+  lwork k j q = work (selected_move x.meaning.arity x.steps) (call_effect x.meaning (suc d)) k j q
 
   abbrev FollowsWith : (k j : ℕ) → Configuration → State → Type 0
   FollowsWith k j q s = (i steps : ℕ) → i ≤ k → steps ≤ j → Done s (lrun i steps q) (lwork i steps q)
 
   -- some words, for all smaller cuts at once
   abbrev Simulated : (k j : ℕ) → List Step → Locations → World → State → Type 0
-  Simulated k j ops l h s = (words : List ℕ) × AreWords words × FollowsWith k j (at_items (items_behind ops) l h words) s
+  Simulated k j ops l h s = (words : List ℕ) × AreWords words × FollowsWith k j (at_steps ops l h words) s
 
   two : 1 ≤ rate
   two = omega arith
@@ -89,76 +88,31 @@ module _ (x : Site) (c d : ℕ) (one : 1 ≤ c) (below : d < 1024) (all_places :
   abbrev Owes : (i steps : ℕ) → List ℕ → State → Move Configuration → Type 0
   Owes i steps o s mv = Done s (act (call_effect x.meaning (suc d)) mv o steps (lrun i)) (work_act (call_effect x.meaning (suc d)) mv steps (lwork i))
 
-  stepped_follows : (k j : ℕ) (ops : List Step) (l : Locations) (h : World) (s : State) → s.output ≡ h.output → (z : Stepped x ops l h s) → (words : List ℕ) → FollowsWith k j (at_items (items_behind z.next) z.locations z.world words) z.reaches.to
-      → FollowsWith (suc k) j (at_items (items_behind ops) l h (z.prefix ++ words)) s
+  stepped_follows : (k j : ℕ) (ops : List Step) (l : Locations) (h : World) (s : State) → s.output ≡ h.output → (z : Stepped x ops l h s) → (words : List ℕ) → FollowsWith k j (at_steps z.next z.locations z.world words) z.reaches.to
+      → FollowsWith (suc k) j (at_steps ops l h (z.prefix ++ words)) s
   stepped_follows k j ops l h s o z words f zero steps le les = here s h.output o
   stepped_follows k j ops l h s o z words f (suc i) steps le les =
-      let q = at_items (items_behind z.next) z.locations z.world words in
+      let q = at_steps z.next z.locations z.world words in
       subst (Owes i steps h.output s) (sym (z.moves words)) (one_move x.layout x.code rate x.from s z.reaches.to (lrun i steps q) (lwork i steps q) z.reaches.more two z.reaches.path (f i steps (omega arith) les))
 
-  fails_follows : (k j : ℕ) (ops : List Step) (l : Locations) (h : World) (s : State) → s.output ≡ h.output → (words : List ℕ) → linear_move x.meaning.arity (items_behind x.steps) (at_items (items_behind ops) l h words) ≡ Fails → FollowsWith k j (at_items (items_behind ops) l h words) s
+  fails_follows : (k j : ℕ) (ops : List Step) (l : Locations) (h : World) (s : State) → s.output ≡ h.output → (words : List ℕ) → selected_move x.meaning.arity x.steps (at_steps ops l h words) ≡ Fails → FollowsWith k j (at_steps ops l h words) s
   fails_follows k j ops l h s o words e zero steps le les = here s h.output o
   fails_follows k j ops l h s o words e (suc i) steps le les = subst (Owes i steps h.output s) (sym e) tt
-
-  -- ---- two moves that one path pays
-
-  two_moves : (s t : State) (z : Outcome Answer) (v m : ℕ) → Path x.code (suc m) s t → Done t z v → Done s z (suc (suc v))
-  two_moves s t z v m p y =
-      let f : 2 + v ≡ suc (suc v) = omega arith in
-      let g : 2 ≤ rate * suc m = let h = mul-suc rate m in omega arith in
-      subst (Done s z) f (does_then x.layout x.code rate x.from s t z.stop z.output v (suc m) 2 p g y)
-
-  -- the first of them alone
-  first_follows : (j : ℕ) (rest : List linear.Item) (k : Locations) (h : World) (s t : State) (words : List ℕ) (m : ℕ) → Path x.code (suc m) s t → t.output ≡ h.output → Done s (lrun zero j (at_items rest k h words)) (suc (lwork zero j (at_items rest k h words)))
-  first_follows j rest k h s t words m p o = one_move x.layout x.code rate x.from s t (lrun zero j (at_items rest k h words)) 0 m two p (here t h.output o)
-
-  -- what is owed of the second, with the first
-  abbrev OwesBoth : (i steps : ℕ) → List ℕ → State → Move Configuration → Type 0
-  OwesBoth i steps o s mv = Done s (act (call_effect x.meaning (suc d)) mv o steps (lrun i)) (suc (work_act (call_effect x.meaning (suc d)) mv steps (lwork i)))
-
-  twice_follows : (k j : ℕ) (ops : List Step) (l : Locations) (h : World) (s : State) → s.output ≡ h.output → (z : Twice x ops l h s) → (words : List ℕ) → FollowsWith k j (at_items (items_behind z.next) z.locations z.world words) z.reaches.to
-      → FollowsWith (suc k) j (at_items (items_behind ops) l h words) s
-  twice_follows k j ops l h s o z words f zero steps le les = here s h.output o
-  twice_follows k j ops l h s o z words f (suc zero) steps le les =
-      subst (Owes zero steps h.output s) (sym (z.first words)) (first_follows steps z.rest z.middle h s z.reaches.to words z.reaches.more z.reaches.path (z.reaches.within.shares.output ∙ z.output))
-  twice_follows k j ops l h s o z words f (suc (suc i)) steps le les =
-      let q = at_items (items_behind z.next) z.locations z.world words in
-      let both : OwesBoth i steps h.output s (linear_move x.meaning.arity (items_behind x.steps) (at_items z.rest z.middle h words)) =
-      subst (OwesBoth i steps h.output s) (sym (z.second words)) (two_moves s z.reaches.to (lrun i steps q) (lwork i steps q) z.reaches.more z.reaches.path (f i steps (omega arith) les)) in
-      subst (Owes (suc i) steps h.output s) (sym (z.first words)) both
-
-  stops_follows : (k j : ℕ) (ops : List Step) (l : Locations) (h : World) (s : State) → s.output ≡ h.output → (z : Stops x ops l h s) → (words : List ℕ) → FollowsWith k j (at_items (items_behind ops) l h words) s
-  stops_follows k j ops l h s o z words zero steps le les = here s h.output o
-  stops_follows k j ops l h s o z words (suc zero) steps le les =
-      subst (Owes zero steps h.output s) (sym (z.first words)) (first_follows steps z.rest z.middle h s z.walked.to words z.walked.more z.walked.path z.walked.within.shares.output)
-  stops_follows k j ops l h s o z words (suc (suc i)) steps le les =
-      let both : OwesBoth i steps h.output s (linear_move x.meaning.arity (items_behind x.steps) (at_items z.rest z.middle h words)) = subst (OwesBoth i steps h.output s) (sym (z.second words)) tt in
-      subst (Owes (suc i) steps h.output s) (sym (z.first words)) both
 
   -- ---- all that is to come
 
   abbrev Later : ℕ → Type 0
-  Later k = (j w a : ℕ) (ops : List Step) (l : Locations) (h : World) (s : State) → s.pc ≡ x.place + 4 * a → Standing x w a ops → Within x l h s → Simulated k j ops l h s
+  Later k = (j w a : ℕ) (held : Scratch) (ops : List Step) (l : Locations) (h : World) (s : State) → s.pc ≡ x.place + 4 * a → Standing x held w a ops → Within x held l h s → Simulated k j ops l h s
 
   at_stepped : (k j : ℕ) (ops : List Step) (l : Locations) (h : World) (s : State) → Later k → s.output ≡ h.output → Stepped x ops l h s → Simulated (suc k) j ops l h s
   at_stepped k j ops l h s later o z =
       let r = z.reaches in
-      let next = later j r.long r.offset z.next z.locations z.world r.to r.at r.standing r.within in
+      let next = later j r.long r.offset r.held z.next z.locations z.world r.to r.at r.standing r.within in
       (z.prefix ++ next.0, words_append z.prefix next.0 z.are_words next.1, stepped_follows k j ops l h s o z next.0 next.2)
 
   at_case : (k j : ℕ) (ops : List Step) (l : Locations) (h : World) (s : State) → Later k → s.output ≡ h.output → Case x ops l h s → Simulated (suc k) j ops l h s
   at_case k j ops l h s later o (inl z) = at_stepped k j ops l h s later o z
   at_case k j ops l h s later o (inr e) = ([], tt, fails_follows (suc k) j ops l h s o [] (e []))
-
-  at_twice : (k j : ℕ) (ops : List Step) (l : Locations) (h : World) (s : State) → Later k → s.output ≡ h.output → Twice x ops l h s → Simulated (suc k) j ops l h s
-  at_twice k j ops l h s later o z =
-      let r = z.reaches in
-      let next = later j r.long r.offset z.next z.locations z.world r.to r.at r.standing r.within in
-      (next.0, next.1, twice_follows k j ops l h s o z next.0 next.2)
-
-  at_pair : (k j : ℕ) (ops : List Step) (l : Locations) (h : World) (s : State) → Later k → s.output ≡ h.output → Pair x ops l h s → Simulated (suc k) j ops l h s
-  at_pair k j ops l h s later o (inl z) = at_twice k j ops l h s later o z
-  at_pair k j ops l h s later o (inr z) = ([], tt, stops_follows (suc k) j ops l h s o z [])
 
   -- ---- calls
 
@@ -166,9 +120,9 @@ module _ (x : Site) (c d : ℕ) (one : 1 ≤ c) (below : d < 1024) (all_places :
   effect j g l h = x.meaning.call j (suc d) g (words_from 10 (x.meaning.arity g) l) h
 
   abbrev Comes : ℕ → (ops : List Step) (l : Locations) → State → List ℕ → ℕ → Effect → Type 0
-  Comes i ops l s words steps e = Done s (resumed e (items_after_answer (items_behind ops) l words) (lrun i)) (suc (work_resumed e (items_after_answer (items_behind ops) l words) steps (lwork i)))
+  Comes i ops l s words steps e = Done s (resumed e (steps_after_answer ops l words) (lrun i)) (suc (work_resumed e (steps_after_answer ops l words) steps (lwork i)))
 
-  -- after the call the run of Linear finds in its locations what the machine's hold
+  -- after the call the run finds in its locations what the machine's hold
   same_call : (l : Locations) (t : State) (words : List ℕ) → after_call (listed 32 0 t.registers ++ words) l ≡ regained l t
   same_call l t words = λ i k. at_location k i
     where
@@ -176,17 +130,17 @@ module _ (x : Site) (c d : ℕ) (one : 1 ≤ c) (below : d < 1024) (all_places :
       at_location (Register r) = ap (λ xs. if survives r then l (Register r) else get_or xs r 0) (take_listed 32 0 t.registers words)
       at_location (Slot i) = refl
 
-  same_configuration : (ops : List Step) (l : Locations) (a : Answer) (t : State) (words : List ℕ) → items_after_answer (items_behind ops) l (listed 32 0 t.registers ++ words) a ≡ at_items (items_behind ops) (put (Register 10) a.value (regained l t)) a.world words
+  same_configuration : (ops : List Step) (l : Locations) (a : Answer) (t : State) (words : List ℕ) → steps_after_answer ops l (listed 32 0 t.registers ++ words) a ≡ at_steps ops (put (Register 10) a.value (regained l t)) a.world words
   same_configuration ops l a t words =
-      ap₂ (λ (k : Locations) (xs : List ℕ). at_items (items_behind ops) (put (Register 10) a.value k) a.world xs) (same_call l t words) (drop_listed 32 0 t.registers words)
+      ap₂ (λ (k : Locations) (xs : List ℕ). at_steps ops (put (Register 10) a.value k) a.world xs) (same_call l t words) (drop_listed 32 0 t.registers words)
 
   -- a call that gives its answer
   answers : (i steps left n : ℕ) (s : State) (ops : List Step) (l : Locations) (g : ℕ) (a : Answer) (t : State) (words : List ℕ) → machine_step x.code s ≡ Continues (called s (x.places g)) → Path x.code n (called s (x.places g)) t → steps ≤ left + c + c * n
-      → Done t (lrun i left (at_items (items_behind ops) (put (Register 10) a.value (regained l t)) a.world words)) (lwork i left (at_items (items_behind ops) (put (Register 10) a.value (regained l t)) a.world words))
+      → Done t (lrun i left (at_steps ops (put (Register 10) a.value (regained l t)) a.world words)) (lwork i left (at_steps ops (put (Register 10) a.value (regained l t)) a.world words))
       → Comes i ops l s (listed 32 0 t.registers ++ words) steps (Gives a left)
   answers i steps left n s ops l g a t words to p le z =
       let P : Configuration → Type 0 = λ q. Done t (lrun i left q) (lwork i left q) in
-      let q = items_after_answer (items_behind ops) l (listed 32 0 t.registers ++ words) a in
+      let q = steps_after_answer ops l (listed 32 0 t.registers ++ words) a in
       let y : P q = subst P (sym (same_configuration ops l a t words)) z in
       let v = lwork i left q in
       let e : suc (steps - left) + v ≡ suc (steps - left + v) = omega arith in
@@ -209,7 +163,7 @@ module _ (x : Site) (c d : ℕ) (one : 1 ≤ c) (below : d < 1024) (all_places :
 
   call_follows : (k j : ℕ) (s : State) (ops : List Step) (l : Locations) (h : World) (g : ℕ) (words : List ℕ) → s.output ≡ h.output → machine_step x.code s ≡ Continues (called s (x.places g)) → g < x.meaning.functions → EntersBy g l h s
       → ((i steps : ℕ) → i ≤ k → steps ≤ j → (a : Answer) (left : ℕ) → effect steps g l h ≡ Gives a left → Comes i ops l s words steps (Gives a left))
-      → FollowsWith (suc k) j (at_items (Call g ∷ items_behind ops) l h words) s
+      → FollowsWith (suc k) j (at_steps (One (Call g) ∷ ops) l h words) s
   call_follows k j s ops l h g words o to lt enter f zero steps le les = here s h.output o
   call_follows k j s ops l h g words o to lt enter f (suc i) steps le les = at_call s ops l h g i steps words to lt enter (f i steps (omega arith) les) (effect steps g l h) refl
 
@@ -219,7 +173,7 @@ module _ (x : Site) (c d : ℕ) (one : 1 ≤ c) (below : d < 1024) (all_places :
       let e : steps + (j - steps) ≡ j = omega arith in
       ap (λ q. effect q g l h) (sym e) ∙ subst (λ e. Lasts (j - steps) e (effect (steps + (j - steps)) g l h)) eq (x.meaning.later steps (j - steps) (suc d) g (words_from 10 (x.meaning.arity g) l) h)
 
-  call_simulated : (k j w a0 : ℕ) (s : State) (ops : List Step) (l : Locations) (h : World) (g : ℕ) → Member 1 x.frame.saved → Within x l h s → s.pc ≡ x.place + 4 * a0 → Standing x w (a0 + 1) ops → machine_step x.code s ≡ Continues (called s (x.places g)) → g < x.meaning.functions → EntersBy g l h s → Later k
+  call_simulated : (k j w a0 : ℕ) {held : Scratch} (s : State) (ops : List Step) (l : Locations) (h : World) (g : ℕ) → Member 1 x.frame.saved → Within x held l h s → s.pc ≡ x.place + 4 * a0 → Standing x nothing w (a0 + 1) ops → machine_step x.code s ≡ Continues (called s (x.places g)) → g < x.meaning.functions → EntersBy g l h s → Later k
       → (e : Effect) → effect j g l h ≡ e → Simulated (suc k) j (One (Call g) ∷ ops) l h s
   call_simulated k j w a0 s ops l h g saves inside here_at st to lt enter later (Gives a left) eq =
       let met : Meets x.layout x.code c c j (called s (x.places g)) (Gives a left) = subst (Meets x.layout x.code c c j (called s (x.places g))) eq (calls g (words_from 10 (x.meaning.arity g) l) h (called s (x.places g)) j lt enter) in
@@ -228,7 +182,7 @@ module _ (x : Site) (c d : ℕ) (one : 1 ≤ c) (below : d < 1024) (all_places :
       let back = met.3 in
       let paid = met.4 in
       let to_next : t.pc ≡ x.place + 4 * (a0 + 1) = back.at ∙ return_place s (x.places g) ∙ ap (λ b. b + 4) here_at ∙ (let e : x.place + 4 * a0 + 4 ≡ x.place + 4 * (a0 + 1) = omega arith in e) in
-      let onward = later left w (a0 + 1) ops (put (Register 10) a.value (regained l t)) a.world t to_next st (within_behind x l h s (x.places g) a t saves inside back) in
+      let onward = later left w (a0 + 1) nothing ops (put (Register 10) a.value (regained l t)) a.world t to_next st (within_behind x l h s (x.places g) a t saves inside back) in
       let mine = listed 32 0 t.registers in (
         mine ++ onward.0,
         words_append mine onward.0 (listed_words 32 0 t.registers (λ r lo hi. back.sound.registers r)) onward.1,
@@ -246,52 +200,54 @@ module _ (x : Site) (c d : ℕ) (one : 1 ≤ c) (below : d < 1024) (all_places :
 
   -- ---- the rest
 
-  return_follows : (k j : ℕ) (s : State) (ops : List Step) (l : Locations) (h : World) → s.output ≡ h.output → (n : ℕ) × (t : State) × Path x.code n s t × ComesBack x.layout x.from (record { value = l (Register 10); world = h }) t → FollowsWith (suc k) j (at_items (Return ∷ items_behind ops) l h []) s
+  return_follows : (k j : ℕ) (s : State) (ops : List Step) (l : Locations) (h : World) → s.output ≡ h.output → (n : ℕ) × (t : State) × Path x.code n s t × ComesBack x.layout x.from (record { value = l (Register 10); world = h }) t → FollowsWith (suc k) j (at_steps (One Return ∷ ops) l h []) s
   return_follows k j s ops l h o p zero steps le les = here s h.output o
   return_follows k j s ops l h o p (suc i) steps le les = (p.0, p.1, p.2, p.3, omega arith)
 
   -- a label is no move
-  label_follows : (k j n : ℕ) (s : State) (ops : List Step) (l : Locations) (h : World) (words : List ℕ) → FollowsWith k j (at_items (items_behind ops) l h words) s → FollowsWith k j (at_items (Label n ∷ items_behind ops) l h words) s
+  label_follows : (k j n : ℕ) (s : State) (ops : List Step) (l : Locations) (h : World) (words : List ℕ) → FollowsWith k j (at_steps ops l h words) s → FollowsWith k j (at_steps (One (Label n) ∷ ops) l h words) s
   label_follows k j n s ops l h words f zero steps le les = f zero steps le les
   label_follows k j n s ops l h words f (suc i) steps le les = f (suc i) steps le les
 
-  at_none : (j : ℕ) (ops : List Step) (l : Locations) (h : World) (s : State) → s.output ≡ h.output → FollowsWith 0 j (at_items (items_behind ops) l h []) s
+  at_none : (j : ℕ) (ops : List Step) (l : Locations) (h : World) (s : State) → s.output ≡ h.output → FollowsWith 0 j (at_steps ops l h []) s
   at_none j ops l h s o zero steps le les = here s h.output o
   at_none j ops l h s o (suc i) steps le les = absurd (omega arith)
 
   simulate_next : (k : ℕ) → Later k → Later (suc k)
-  simulate_next k later j w a [] l h s e st inside = ([], tt, fails_follows (suc k) j [] l h s inside.shares.output [] refl)
-  simulate_next k later j w a (One (Label n) ∷ ops) l h s e st inside =
+  simulate_next k later j w a held [] l h s e st inside = ([], tt, fails_follows (suc k) j [] l h s inside.shares.output [] refl)
+  simulate_next k later j w a held (One (Label n) ∷ ops) l h s e st inside =
       let z : a + 0 ≡ a = omega arith in
-      let r = simulate_next k later j (w + 0) a ops l h s e (subst (λ b. Standing x (w + 0) b ops) z (standing_tail x w a (One (Label n)) ops st)) inside in
+      let r = simulate_next k later j (w + 0) a nothing ops l h s e (subst (λ b. Standing x nothing (w + 0) b ops) z (standing_tail x w a (One (Label n)) ops st)) (within_nothing x l h s inside) in
       (r.0, r.1, label_follows (suc k) j n s ops l h r.0 r.2)
-  simulate_next k later j w a (One (Jump n) ∷ ops) l h s e st inside = at_stepped k j (One (Jump n) ∷ ops) l h s later inside.shares.output (jump_case x w a n ops l h s (e, st, inside) all)
-  simulate_next k later j w a (One (IfZero r n) ∷ ops) l h s e st inside = at_stepped k j (One (IfZero r n) ∷ ops) l h s later inside.shares.output (if_zero_case x w a r n ops l h s (e, st, inside) all)
-  simulate_next k later j w a (One (IfNonzero r n) ∷ ops) l h s e st inside = at_stepped k j (One (IfNonzero r n) ∷ ops) l h s later inside.shares.output (if_nonzero_case x w a r n ops l h s (e, st, inside) all)
-  simulate_next k later j w a (One (Copy m) ∷ ops) l h s e st inside = at_stepped k j (One (Copy m) ∷ ops) l h s later inside.shares.output (copy_case x w a m ops l h s (e, st, inside))
-  simulate_next k later j w a (One (Const to v) ∷ ops) l h s e st inside = at_stepped k j (One (Const to v) ∷ ops) l h s later inside.shares.output (const_case x w a to v ops l h s (e, st, inside))
-  simulate_next k later j w a (One (Unary o to b) ∷ ops) l h s e st inside = at_stepped k j (One (Unary o to b) ∷ ops) l h s later inside.shares.output (unary_case x w a to b o ops l h s (e, st, inside))
-  simulate_next k later j w a (One (Binary o to b c) ∷ ops) l h s e st inside = at_case k j (One (Binary o to b c) ∷ ops) l h s later inside.shares.output (binary_case x w a to b c o ops l h s (e, st, inside))
-  simulate_next k later j w a (One (Load width g to i) ∷ ops) l h s e st inside = at_case k j (One (Load width g to i) ∷ ops) l h s later inside.shares.output (load_case x w a width g to i ops l h s (e, st, inside))
-  simulate_next k later j w a (One (Store width g i b) ∷ ops) l h s e st inside = at_case k j (One (Store width g i b) ∷ ops) l h s later inside.shares.output (store_case x w a width g i b ops l h s (e, st, inside))
-  simulate_next k later j w a (One Read ∷ ops) l h s e st inside = at_stepped k j (One Read ∷ ops) l h s later inside.shares.output (read_case x w a ops l h s (e, st, inside))
-  simulate_next k later j w a (One Write ∷ ops) l h s e st inside = at_stepped k j (One Write ∷ ops) l h s later inside.shares.output (write_case x w a ops l h s (e, st, inside))
-  simulate_next k later j w a (One (Call g) ∷ ops) l h s e st inside =
+  simulate_next k later j w a held (One (Jump n) ∷ ops) l h s e st inside = at_stepped k j (One (Jump n) ∷ ops) l h s later inside.shares.output (jump_case x w a n ops l h s (e, st, inside) all)
+  simulate_next k later j w a held (One (IfZero r n) ∷ ops) l h s e st inside = at_stepped k j (One (IfZero r n) ∷ ops) l h s later inside.shares.output (if_zero_case x w a r n ops l h s (e, st, inside) all)
+  simulate_next k later j w a held (One (IfNonzero r n) ∷ ops) l h s e st inside = at_stepped k j (One (IfNonzero r n) ∷ ops) l h s later inside.shares.output (if_nonzero_case x w a r n ops l h s (e, st, inside) all)
+  simulate_next k later j w a held (One (Copy m) ∷ ops) l h s e st inside = at_stepped k j (One (Copy m) ∷ ops) l h s later inside.shares.output (copy_case x w a m ops l h s (e, st, inside))
+  simulate_next k later j w a held (One (Const to v) ∷ ops) l h s e st inside = at_stepped k j (One (Const to v) ∷ ops) l h s later inside.shares.output (const_case x w a to v ops l h s (e, st, inside))
+  simulate_next k later j w a held (One (Unary o to b) ∷ ops) l h s e st inside = at_stepped k j (One (Unary o to b) ∷ ops) l h s later inside.shares.output (unary_case x w a to b o ops l h s (e, st, inside))
+  simulate_next k later j w a held (One (Binary o to b c) ∷ ops) l h s e st inside = at_case k j (One (Binary o to b c) ∷ ops) l h s later inside.shares.output (binary_case x w a to b c o ops l h s (e, st, inside))
+  simulate_next k later j w a held (One (Load width g to i) ∷ ops) l h s e st inside = at_case k j (One (Load width g to i) ∷ ops) l h s later inside.shares.output (load_case x w a width g to i ops l h s (e, st, inside))
+  simulate_next k later j w a held (One (Store width g i b) ∷ ops) l h s e st inside = at_case k j (One (Store width g i b) ∷ ops) l h s later inside.shares.output (store_case x w a width g i b ops l h s (e, st, inside))
+  simulate_next k later j w a held (One Read ∷ ops) l h s e st inside = at_stepped k j (One Read ∷ ops) l h s later inside.shares.output (read_case x w a ops l h s (e, st, inside))
+  simulate_next k later j w a held (One Write ∷ ops) l h s e st inside = at_stepped k j (One Write ∷ ops) l h s later inside.shares.output (write_case x w a ops l h s (e, st, inside))
+  simulate_next k later j w a held (One (Call g) ∷ ops) l h s e st inside =
       let fine = st.fine.0 in
       let on_s : IsPlace s.pc = subst IsPlace (sym e) st.from in
       call_simulated k j _ a s ops l h g fine.2 inside e (standing_tail x w a (One (Call g)) ops st) (called_step x.code s (x.place + 4 * a) (x.places g) e st.from (all_places g fine.0) (first_items x w a (One (Call g)) ops st).0) fine.0 (enters_callee x d g l h s below room fine.1 on_s inside) later (effect j g l h) refl
-  simulate_next k later j w a (Immediate o to b v ∷ ops) l h s e st inside = at_twice k j (Immediate o to b v ∷ ops) l h s later inside.shares.output (immediate_case x w a o to b v ops l h s (e, st, inside))
-  simulate_next k later j w a (LoadAt width g to i v ∷ ops) l h s e st inside = at_pair k j (LoadAt width g to i v ∷ ops) l h s later inside.shares.output (load_at_case x w a width g to i v ops l h s (e, st, inside))
-  simulate_next k later j w a (StoreAt width g i v b ∷ ops) l h s e st inside = at_pair k j (StoreAt width g i v b ∷ ops) l h s later inside.shares.output (store_at_case x w a width g i v b ops l h s (e, st, inside))
-  simulate_next k later j w a (One Return ∷ ops) l h s e st inside = ([], tt, return_follows k j s ops l h inside.shares.output (return_path x w a ops l h s sound back e st inside))
+  simulate_next k later j w a held (Immediate o to b v ∷ ops) l h s e st inside = at_stepped k j (Immediate o to b v ∷ ops) l h s later inside.shares.output (immediate_case x w a o to b v ops l h s (e, st, inside))
+  simulate_next k later j w a held (LoadAt width g to n ∷ ops) l h s e st inside = at_case k j (LoadAt width g to n ∷ ops) l h s later inside.shares.output (load_at_case x w a width g to n ops l h s (e, st, inside))
+  simulate_next k later j w a held (StoreAt width g n b ∷ ops) l h s e st inside = at_case k j (StoreAt width g n b ∷ ops) l h s later inside.shares.output (store_at_case x w a width g n b ops l h s (e, st, inside))
+  simulate_next k later j w a held (Branch o nonzero b c n ∷ ops) l h s e st inside = at_stepped k j (Branch o nonzero b c n ∷ ops) l h s later inside.shares.output (branch_case x w a o nonzero b c n ops l h s (e, st, inside) all)
+  simulate_next k later j w a held (BranchImmediate o nonzero b v n ∷ ops) l h s e st inside = at_stepped k j (BranchImmediate o nonzero b v n ∷ ops) l h s later inside.shares.output (branch_immediate_case x w a o nonzero b v n ops l h s (e, st, inside) all)
+  simulate_next k later j w a held (One Return ∷ ops) l h s e st inside = ([], tt, return_follows k j s ops l h inside.shares.output (return_path x w a ops l h s sound back e st inside))
 
   simulate : (k : ℕ) → Later k
-  simulate zero j w a ops l h s e st inside = ([], tt, at_none j ops l h s inside.shares.output)
-  simulate (suc k) j w a ops l h s e st inside = simulate_next k (simulate k) j w a ops l h s e st inside
+  simulate zero j w a held ops l h s e st inside = ([], tt, at_none j ops l h s inside.shares.output)
+  simulate (suc k) j w a held ops l h s e st inside = simulate_next k (simulate k) j w a held ops l h s e st inside
 
 -- ---- the whole function
 
--- the run of Linear starts with what the machine's registers and memory hold
+-- the run starts with what the machine's registers and memory hold
 same_locations : (f : Frame) (ws : List ℕ) (t : State) (words : List ℕ) → at_entry f.slots (listed 32 0 t.registers ++ (listed f.slots 0 (λ k. t.memory (t.registers 2 + 4 * k)) ++ words)) ws ≡ found f t ws
 same_locations f ws t words = λ i k. at_location k i
   where
@@ -305,11 +261,11 @@ same_locations f ws t words = λ i k. at_location k i
     at_location (Register r) = ap (λ xs. if nat_le 10 r then get_or ws (r - 10) (get_or xs r 0) else get_or xs r 0) (take_listed 32 0 t.registers (slots ++ words))
     at_location (Slot i) = ap (λ xs. get_or (take f.slots xs) i 0) (drop_listed 32 0 t.registers (slots ++ words)) ∙ ap (λ xs. get_or xs i 0) (take_listed f.slots 0 (λ k. t.memory (t.registers 2 + 4 * k)) words)
 
-same_start : (f : Frame) (ops : List linear.Item) (ws : List ℕ) (h : World) (t : State) (words : List ℕ)
-    → linear_start f.slots ops (listed 32 0 t.registers ++ (listed f.slots 0 (λ k. t.memory (t.registers 2 + 4 * k)) ++ words)) ws h ≡ at_items ops (found f t ws) h words
+same_start : (f : Frame) (ops : List Step) (ws : List ℕ) (h : World) (t : State) (words : List ℕ)
+    → selected_start f.slots ops (listed 32 0 t.registers ++ (listed f.slots 0 (λ k. t.memory (t.registers 2 + 4 * k)) ++ words)) ws h ≡ at_steps ops (found f t ws) h words
 same_start f ops ws h t words =
     let slots = listed f.slots 0 (λ k. t.memory (t.registers 2 + 4 * k)) in
-    ap₂ (λ (k : Locations) (xs : List ℕ). at_items ops k h xs) (same_locations f ws t words)
+    ap₂ (λ (k : Locations) (xs : List ℕ). at_steps ops k h xs) (same_locations f ws t words)
     (ap (λ xs. drop f.slots xs) (drop_listed 32 0 t.registers (slots ++ words)) ∙ drop_listed f.slots 0 (λ k. t.memory (t.registers 2 + 4 * k)) words)
 
 rate_paid : (r c v p m n left : ℕ) → 1 ≤ c → n ≤ left + r * suc v → v ≤ (c + c) * m → n ≤ left + (r + r) * c + (r + r) * c * (p + m)
@@ -335,11 +291,11 @@ meets_of y code r c p n s t (Unfinished o) v z one path (e, b) does =
 meets_of y code r c p n s t (Failed o) v z one path k does = tt
 
 -- the function's items stand behind its prologue
-standing_all : (x : Site) → IsPlace x.place → IsPlace (x.place + 4 * length (framed_items x.layout.base x.frame x.steps)) → Stands x x.place (framed_items x.layout.base x.frame x.steps) → AreFineSteps x.meaning x.frame x.steps → Stands x x.place (prologue x.frame) × StandsWhole x
+standing_all : (x : Site) → IsPlace x.place → IsPlace (x.place + 4 * length (framed_items x.layout.base x.frame (all_addressed x))) → Stands x x.place (framed_items x.layout.base x.frame (all_addressed x)) → AreFine x.meaning x.frame x.steps → Stands x x.place (prologue x.frame) × StandsWhole x
 standing_all x from to placed fine =
     let f = x.frame in
     let first = prologue f in
-    let rest = emitted x.layout.base f (near x) (labels x) 0 (prologue_size f) x.steps in
+    let rest = emitted x.layout.base f (near x) (labels x) 0 (prologue_size f) (all_addressed x) in
     let both = placed_append x.code x.places x.place x.place first rest placed in
     let n : length first ≡ prologue_size f = length-append (stack_moved f _) (saving (4 * f.slots) f.saved) ∙ ap₂ (λ i k. i + k) (length_stack_moved f _) (length_saving (4 * f.slots) f.saved) in
     let long : length (first ++ rest) ≡ length first + length rest = length-append first rest in
@@ -353,7 +309,7 @@ standing_all x from to placed fine =
         from = between x.place (x.place + 4 * prologue_size f) _ from last (omega arith) (omega arith) (omega arith);
         to = last;
         fine = fine;
-        seen = seen_first f x.steps;
+        seen = seen_first f (all_addressed x);
       },
     )
 
@@ -361,8 +317,8 @@ enough_room : (d n top : ℕ) → d < 1024 → n ≤ 508 → stack_from + 2032 *
 enough_room d n top below small room = omega arith
 
 -- what is emitted in a frame meets a piece's contract
-pub framed_meets : (meaning : Meaning) (layout : Layout meaning.objects) (f rate : ℕ) (frame : Frame) (ops : List Step) → TracksForAll meaning f rate (linear_move meaning.arity (items_behind ops)) linear_output (linear_start frame.slots (items_behind ops)) → IsFrame frame → AreFineSteps meaning frame ops
-    → PieceMeets meaning layout f (rate + rate) (framed_items layout.base frame ops)
+pub framed_meets : (meaning : Meaning) (layout : Layout meaning.objects) (f rate : ℕ) (frame : Frame) (ops : List Step) → TracksForAll meaning f rate (selected_move meaning.arity ops) selected_output (selected_start frame.slots ops) → IsFrame frame → AreFine meaning frame ops
+    → PieceMeets meaning layout f (rate + rate) (framed_items layout.base frame (addressed layout.base nothing ops))
 framed_meets meaning layout f rate frame ops keeps is_frame fine code places place from to placed all_places d c below one calls ws h s n enters =
     let small = is_frame.small in
     let x : Site = record { meaning = meaning; layout = layout; frame = frame; steps = ops; code = code; places = places; place = place; from = s; is_frame = is_frame; aligned = enters.aligned; room = enough_room d (frame.slots + length frame.saved) (s.registers 2) below small enters.room; top = enters.top } in
@@ -374,11 +330,14 @@ framed_meets meaning layout f rate frame ops keeps is_frame fine code places pla
     let on_s : Placed code places place s.pc (prologue frame) = subst (λ b. Placed code places place b (prologue frame)) (sym enters.at) stand.0 in
     let path : Path code (prologue_size frame) s t = prologue_path code places place frame s enters.aligned x.room enters.top small on_s in
     let within = framed_within x f d ws h enters in
-    let sim = simulate x c d one below all_places calls enters.sound enters.back enters.room stand.1 most most_steps 0 (prologue_size frame) ops (found frame t ws) h t (framed_pc frame s place enters.at) stand.1 within in
+    let sim = simulate x c d one below all_places calls enters.sound enters.back enters.room stand.1 most most_steps 0 (prologue_size frame) nothing ops (found frame t ws) h t (framed_pc frame s place enters.at) stand.1 within in
     let mine = listed 32 0 t.registers in
     let slots = listed frame.slots 0 (λ k. t.memory (t.registers 2 + 4 * k)) in
     let words = mine ++ (slots ++ sim.0) in
     let are : AreWords words = words_append mine (slots ++ sim.0) (listed_words 32 0 t.registers (λ r lo hi. within.sound.registers r)) (words_append slots sim.0 (listed_words frame.slots 0 _ (λ i lo hi. within.sound.memory (t.registers 2 + 4 * i))) sim.1) in
     let k = bound.2 words are in
-    let does = subst (λ q. Does layout code (c + c) s t (run (linear_move meaning.arity (items_behind ops)) linear_output (call_effect meaning (suc d)) k.moves k.steps q) (work (linear_move meaning.arity (items_behind ops)) (call_effect meaning (suc d)) k.moves k.steps q)) (sym (same_start frame (items_behind ops) ws h t sim.0)) (sim.2 k.moves k.steps k.few k.few_steps) in
-    meets_of layout code rate c (prologue_size frame) n s t (meaning.body n d f ws h) _ _ one path k.keeps does
+    let q = selected_start frame.slots ops words ws h in
+    let outcome = run (selected_move meaning.arity ops) selected_output (call_effect meaning (suc d)) k.moves k.steps q in
+    let done = work (selected_move meaning.arity ops) (call_effect meaning (suc d)) k.moves k.steps q in
+    let does = subst (λ q. Does layout code (c + c) s t (run (selected_move meaning.arity ops) selected_output (call_effect meaning (suc d)) k.moves k.steps q) (work (selected_move meaning.arity ops) (call_effect meaning (suc d)) k.moves k.steps q)) (sym (same_start frame ops ws h t sim.0)) (sim.2 k.moves k.steps k.few k.few_steps) in
+    meets_of layout code rate c (prologue_size frame) n s t (meaning.body n d f ws h) done outcome one path k.keeps does

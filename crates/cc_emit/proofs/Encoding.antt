@@ -1,7 +1,7 @@
 -- Every item of a function's code has a word, wherever the code stands: each instruction is encodable, each call is of a function of
 -- the unit, each jump goes to a place within the code.
-use Rattle.std.proofs.Common.{◌≡◌, ℕ, ◌+◌, ◌-◌, ◌*◌, ◌<◌, ◌≤◌, ◌^◌, List, [], ◌∷◌, ◌++◌, true, false, Bool, length, refl, inl, inr, arith}
-use Rattle.std.specs.Prelude.{if◌then◌else◌, ◌==◌}
+use Rattle.std.proofs.Common.{◌≡◌, ℕ, ◌+◌, ◌-◌, ◌*◌, ◌<◌, ◌≤◌, ◌^◌, List, [], ◌∷◌, ◌++◌, Option, Some, None, true, false, Bool, length, refl, subst, inl, inr, arith}
+use Rattle.std.specs.Prelude.{if◌then◌else◌, ◌==◌, option_map}
 use Rattle.std.proofs.lemmas.List.{length-append}
 use Rattle.cc_words.specs.Words.{neg}
 use Rattle.cc_words.specs.declared.operators.Unary as unary
@@ -11,31 +11,42 @@ use Rattle.cc_ltl.specs.declared.operation.Move.{Move}
 use Rattle.cc_ltl.specs.declared.operation.Move.TheVariants.{Between, Reload, Spill}
 use Rattle.cc_linear.specs.declared.item.Item as linear
 use Rattle.cc_linear.specs.declared.item.Item.TheVariants.{Label, Jump, IfNonzero, IfZero, Copy, Const, Unary, Binary, Load, Store, Call, Read, Write, Return}
-use Rattle.cc_rv32.specs.declared.instr.Instr.TheVariants.{Lui}
+use Rattle.cc_select.specs.declared.step.Immediate as immediate
+use Rattle.cc_select.specs.declared.step.Immediate.TheVariants as immediates
+use Rattle.cc_select.specs.declared.step.Step.{Step}
+use Rattle.cc_select.specs.declared.step.Step.TheVariants.{One, Immediate, LoadAt, StoreAt, Branch, BranchImmediate}
+use Rattle.cc_rv32.specs.declared.instr.Instr.TheVariants.{Lui, Op}
 use Rattle.cc_rv32.specs.declared.instr.Operation.TheVariants as operation
-use Rattle.cc_rv32.specs.declared.instr.ImmediateOperation.TheVariants.{Addi, Sltiu}
-use Rattle.cc_rv32.specs.declared.instr.BranchOperation.{BranchOperation}
-use Rattle.cc_rv32.specs.declared.instr.BranchOperation.TheVariants.{Beq, Bne}
+use Rattle.cc_rv32.specs.declared.instr.ImmediateOperation.TheVariants.{Addi, Slti, Sltiu}
+use Rattle.cc_rv32.specs.declared.instr.ImmediateOperation.{ImmediateOperation}
+use Rattle.cc_rv32.specs.declared.instr.Operation as machine
+use Rattle.cc_rv32.specs.declared.instr.BranchOperation.TheVariants.{Beq, Bne, Blt, Bge}
 use Rattle.cc_rv32.specs.Fields.{IsImmediate}
 use Rattle.cc_rv32.specs.Table.{IsEncodable}
+use Rattle.cc_words.specs.declared.operators.Binary as binary
+use Rattle.cc_words.specs.declared.operators.Binary.TheVariants as operators
+use Rattle.cc_emit.specs.declared.condition.Condition.{Condition}
+use Rattle.cc_emit.specs.Branches.{compares, opposed, turned, comparison, immediate_against_zero, operation_on_zero, against_zero, asked_of}
 use Rattle.cc_emit.specs.declared.item.Item.{Item}
 use Rattle.cc_emit.specs.declared.item.Item.TheVariants.{Plain}
-use Rattle.cc_emit.specs.declared.step.Immediate as immediate
-use Rattle.cc_emit.specs.declared.step.Immediate.TheVariants as immediates
-use Rattle.cc_emit.specs.declared.step.Step.{Step}
+use Rattle.cc_words.specs.declared.operators.Width.{Width}
 use Rattle.cc_words.specs.declared.operators.Width.TheVariants.{Byte, Word}
-use Rattle.cc_emit.specs.declared.step.Step.TheVariants.{One, Immediate, LoadAt, StoreAt}
-use Rattle.cc_emit.specs.Contract.{AreFit}
+use Rattle.cc_emit.specs.declared.addressed.Addressed.{Addressed}
+use Rattle.cc_emit.specs.declared.addressed.Remembered.{Remembered}
+use Rattle.cc_emit.specs.declared.addressed.Remembered.TheVariants.{Nothing, Upper, Element}
+use Rattle.cc_emit.specs.declared.scratch.Scratch.{Scratch}
+use Rattle.cc_emit.specs.Scratch.{nothing, with_known, behind_step, addressed}
+use Rattle.cc_emit.specs.Contract.{AreFit, IsFit}
 use Rattle.cc_emit.specs.Frames.{Frame, frame_size}
-use Rattle.cc_emit.specs.Emission.{addi, branch_items, const_items, emitted, epilogue, framed_items, high, is_near, items_of, items_of_one, kept_items, known_place, load_at, long_size, low, move_item, prologue, prologue_size, recipe, recipe_items, restoring, saving, short_place, size, stack_moved, store_at, stack_moved_size, unary_instr, word_recipe, word_recipe_items}
+use Rattle.cc_emit.specs.Emission.{addi, branch_items, emitted, epilogue, framed_items, high, first_instr, indexed, is_near, items_of, items_of_one, items_of_step, load_element, long_size, low, move_item, prologue, prologue_size, recipe, recipe_items, restoring, saving, short_place, size, stack_moved, stack_moved_size, unary_instr, word_branch_items, word_recipe, word_recipe_items, store_element, upper_items, known_place}
 use Rattle.cc_emit.specs.declared.recipe.Recipe.{Recipe}
 use Rattle.cc_emit.specs.internal.Room.{HasRoom}
 use Rattle.cc_emit.specs.declared.recipe.WordRecipe.{WordRecipe}
 use Rattle.cc_emit.specs.declared.recipe.Recipe.TheVariants.{Direct, NonzeroOf, ZeroOf, ZeroOfExchanged}
 use Rattle.cc_emit.specs.declared.recipe.WordRecipe.TheVariants.{NonzeroOfImmediate, OnZero, ShiftBy, WithImmediate, ZeroOfImmediate}
-use Rattle.cc_emit.proofs.Fine.{AreFineSteps, AreSavable, IsFine, IsFineStep, IsFineMove, IsFrame, IsSavable}
+use Rattle.cc_emit.proofs.Fine.{AreFine, AreSavable, IsFine, IsFineStep, IsFineMove, IsFrame, IsSavable}
 use Rattle.cc_emit.proofs.Basics.{LowIs, low_is, eqb_denies}
-use Rattle.cc_emit.proofs.Places.{AreSeen, Nears, length_saving, length_stack_moved, near_offset, seen_first, seen_next, short_place_le, stays_near}
+use Rattle.cc_emit.proofs.Places.{AreSeen, IsClose, Nears, close_nears, next_nears, length_saving, length_stack_moved, near_offset, seen_first, seen_next, short_place_le, stays_near}
 
 low_fits_of : (w x : ℕ) → LowIs w x → IsImmediate x
 low_fits_of w x (inl h) = (omega arith, omega arith)
@@ -48,6 +59,58 @@ savable_below : (r : ℕ) → IsSavable r → r < 32
 savable_below r (inl e) = omega arith
 savable_below r (inr (inl k)) = omega arith
 savable_below r (inr (inr k)) = omega arith
+
+-- ---- the registers of conditions
+
+abbrev AreRegisters : Condition → Type 0
+AreRegisters c = (c.left < 32) × (c.right < 32)
+
+turned_registers : (nonzero : Bool) (c : Condition) → AreRegisters c → AreRegisters (turned nonzero c)
+turned_registers true c u = u
+turned_registers false c u = u
+
+comparison_registers : (o : binary.Binary) (a b : ℕ) → a < 32 → b < 32 → AreRegisters (comparison o a b)
+comparison_registers operators.LeS a b p q = (q, p)
+comparison_registers operators.LeU a b p q = (q, p)
+comparison_registers _ a b p q = (p, q)
+
+none_registers : (c : Condition) → None ≡ Some c → AreRegisters c
+none_registers c e = absurd (cc)
+
+some_registers : (b c : Condition) → AreRegisters b → Some b ≡ Some c → AreRegisters c
+some_registers b c u e = subst AreRegisters (let z : b ≡ c = cc in z) u
+
+immediate_registers : (i : ImmediateOperation) (n a : ℕ) (c : Condition) → a < 32 → immediate_against_zero i n a ≡ Some c → AreRegisters c
+immediate_registers Slti n a c p e = by_part (n == 0) (n == 1) e
+  where
+    by_part : (x y : Bool) → (if x then Some (compares Blt a 0) else if y then Some (compares Bge 0 a) else None) ≡ Some c → AreRegisters c
+    by_part true y f = some_registers (compares Blt a 0) c (p, omega arith) f
+    by_part false true f = some_registers (compares Bge 0 a) c (omega arith, p) f
+    by_part false false f = none_registers c f
+immediate_registers Sltiu n a c p e = by_part (n == 1) e
+  where
+    by_part : (x : Bool) → (if x then Some (compares Beq a 0) else None) ≡ Some c → AreRegisters c
+    by_part true f = some_registers (compares Beq a 0) c (p, omega arith) f
+    by_part false f = none_registers c f
+immediate_registers _ n a c p e = none_registers c e
+
+operation_registers : (i : machine.Operation) (a : ℕ) (c : Condition) → a < 32 → operation_on_zero i a ≡ Some c → AreRegisters c
+operation_registers operation.Slt a c p e = some_registers (compares Blt 0 a) c (omega arith, p) e
+operation_registers operation.Sltu a c p e = some_registers (compares Bne a 0) c (p, omega arith) e
+operation_registers _ a c p e = none_registers c e
+
+opposed_registers : (z : Option Condition) (c : Condition) → ((d : Condition) → z ≡ Some d → AreRegisters d) → option_map opposed z ≡ Some c → AreRegisters c
+opposed_registers None c f e = none_registers c e
+opposed_registers (Some d) c f e = some_registers (opposed d) c (f d refl) e
+
+against_registers : (k : WordRecipe) (a : ℕ) (c : Condition) → a < 32 → against_zero k a ≡ Some c → AreRegisters c
+against_registers (WithImmediate i n) a c p e = immediate_registers i n a c p e
+against_registers (ShiftBy i n) a c p e = none_registers c e
+against_registers (OnZero i) a c p e = operation_registers i a c p e
+against_registers (ZeroOfImmediate i n) a c p e = opposed_registers (immediate_against_zero i n a) c (λ d f. immediate_registers i n a d p f) e
+against_registers (NonzeroOfImmediate i n) a c p e = none_registers c e
+
+-- ---- items
 
 module _ (functions long : ℕ) where
   abbrev Fit : List Item → Type 0
@@ -85,9 +148,9 @@ module _ (functions long : ℕ) where
   const_fit false true to w t = ((t, omega arith), tt)
   const_fit false false to w t = ((omega arith, omega arith), ((t, omega arith, low_fits w), tt))
 
-  branch_fit : (near : Bool) (taken opposite : BranchOperation) (r a to : ℕ) → r < 32 → (near ≡ true → Nears a to) → to ≤ long → Fit (branch_items near taken opposite r a to)
-  branch_fit true taken opposite r a to t n le = ((t, omega arith, near_offset a to (n refl)), tt)
-  branch_fit false taken opposite r a to t n le = ((t, omega arith, (omega arith, omega arith, omega arith)), (le, tt))
+  branch_fit : (near : Bool) (c : Condition) (a to : ℕ) → AreRegisters c → (near ≡ true → Nears a to) → to ≤ long → Fit (branch_items near c a to)
+  branch_fit true c a to u n le = ((u.0, u.1, near_offset a to (n refl)), tt)
+  branch_fit false c a to u n le = ((u.0, u.1, (omega arith, omega arith, omega arith)), (le, tt))
 
   epilogue_fit : (f : Frame) → IsFrame f → Fit (epilogue f)
   epilogue_fit f is =
@@ -109,23 +172,33 @@ module _ (functions long : ℕ) where
   move_encodable f (Reload to slot) is u = (let t = u.0.0 in let lt = u.1 in let small = is.small in ((omega arith, omega arith, (omega arith, omega arith)), tt))
   move_encodable f (Spill slot from) is u = (let p = u.1 in let lt = u.0 in let small = is.small in ((omega arith, omega arith, (omega arith, omega arith)), tt))
 
-  one_fit : (meaning : Meaning) (base : ℕ → ℕ) (f : Frame) (near : ℕ → Bool) (labels : ℕ → ℕ) (a : ℕ) (i : linear.Item) → meaning.functions ≡ functions → IsFrame f → IsFine meaning f i → ((l : ℕ) → near l ≡ true → Nears a (labels l)) → ((l : ℕ) → labels l ≤ long) → Fit (items_of_one base f near labels a i)
-  one_fit meaning base f near labels a (Label label) e is u n le = tt
-  one_fit meaning base f near labels a (Jump to) e is u n le = (le to, tt)
-  one_fit meaning base f near labels a (IfNonzero from to) e is u n le = branch_fit (near to) Bne Beq from a (labels to) u.1 (n to) (le to)
-  one_fit meaning base f near labels a (IfZero from to) e is u n le = branch_fit (near to) Beq Bne from a (labels to) u.1 (n to) (le to)
-  one_fit meaning base f near labels a (Copy m) e is u n le = move_encodable f m is u
-  one_fit meaning base f near labels a (Const to word) e is u n le = const_fit (high word == 0) (low word == 0) to word u.0.0.1
-  one_fit meaning base f near labels a (Unary o to from) e is u n le = (unary_encodable o to from u.0.0.1 u.1.1, tt)
-  one_fit meaning base f near labels a (Binary o to left right) e is u n le = recipe_fit (recipe o) to left right u.0.0.1 u.1.1 u.2.1
-  one_fit meaning base f near labels a (Load Byte object to index) e is u n le = ((omega arith, omega arith), ((omega arith, u.1.1, omega arith), ((u.0.0.1, omega arith, low_fits _), tt)))
-  one_fit meaning base f near labels a (Load Word object to index) e is u n le = ((omega arith, u.1.1, omega arith), ((omega arith, omega arith), ((omega arith, omega arith, omega arith), ((u.0.0.1, omega arith, low_fits _), tt))))
-  one_fit meaning base f near labels a (Store Byte object index from) e is u n le = ((omega arith, omega arith), ((omega arith, u.0.1, omega arith), ((omega arith, u.1.1, low_fits _), tt)))
-  one_fit meaning base f near labels a (Store Word object index from) e is u n le = ((omega arith, u.0.1, omega arith), ((omega arith, omega arith), ((omega arith, omega arith, omega arith), ((omega arith, u.1.1, low_fits _), tt))))
-  one_fit meaning base f near labels a (Call function) e is u n le = (let lt = u.0 in omega arith, tt)
-  one_fit meaning base f near labels a Read e is u n le = ((omega arith, omega arith, (omega arith, omega arith)), (tt, tt))
-  one_fit meaning base f near labels a Write e is u n le = ((omega arith, omega arith, (omega arith, omega arith)), (tt, tt))
-  one_fit meaning base f near labels a Return e is u n le = epilogue_fit f is
+  upper_fit : (k : Remembered) (b : ℕ) (items : List Item) → Fit items → Fit (upper_items k b ++ items)
+  upper_fit Nothing b items p = ((omega arith, omega arith), p)
+  upper_fit Upper b items p = p
+  upper_fit Element b items p = p
+
+  access_fit : (k : Remembered) (width : Width) (b i : ℕ) (item : Item) → i < 32 → IsFit functions long item → Fit (indexed k width b i (item ∷ []))
+  access_fit Nothing Byte b i item p q = upper_fit Nothing b (Plain (Op operation.Add 5 i 6) ∷ item ∷ []) ((omega arith, p, omega arith), (q, tt))
+  access_fit Upper Byte b i item p q = upper_fit Upper b (Plain (Op operation.Add 5 i 6) ∷ item ∷ []) ((omega arith, p, omega arith), (q, tt))
+  access_fit Nothing Word b i item p q = ((omega arith, p, omega arith), upper_fit Nothing b (Plain (Op operation.Add 5 5 6) ∷ item ∷ []) ((omega arith, omega arith, omega arith), (q, tt)))
+  access_fit Upper Word b i item p q = ((omega arith, p, omega arith), upper_fit Upper b (Plain (Op operation.Add 5 5 6) ∷ item ∷ []) ((omega arith, omega arith, omega arith), (q, tt)))
+  access_fit Element width b i item p q = (q, tt)
+
+  one_fit : (meaning : Meaning) (base : ℕ → ℕ) (f : Frame) (near : ℕ → Bool) (labels : ℕ → ℕ) (a : ℕ) (k : Remembered) (i : linear.Item) → meaning.functions ≡ functions → IsFrame f → IsFine meaning f i → ((l : ℕ) → near l ≡ true → IsClose a (labels l)) → ((l : ℕ) → labels l ≤ long) → Fit (items_of_one base f near labels a k i)
+  one_fit meaning base f near labels a k (Label label) e is u n le = tt
+  one_fit meaning base f near labels a k (Jump to) e is u n le = (le to, tt)
+  one_fit meaning base f near labels a k (IfNonzero from to) e is u n le = branch_fit (near to) (compares Bne from 0) a (labels to) (u.1, omega arith) (λ q. close_nears a (labels to) (n to q)) (le to)
+  one_fit meaning base f near labels a k (IfZero from to) e is u n le = branch_fit (near to) (compares Beq from 0) a (labels to) (u.1, omega arith) (λ q. close_nears a (labels to) (n to q)) (le to)
+  one_fit meaning base f near labels a k (Copy m) e is u n le = move_encodable f m is u
+  one_fit meaning base f near labels a k (Const to word) e is u n le = const_fit (high word == 0) (low word == 0) to word u.0.0.1
+  one_fit meaning base f near labels a k (Unary o to from) e is u n le = (unary_encodable o to from u.0.0.1 u.1.1, tt)
+  one_fit meaning base f near labels a k (Binary o to left right) e is u n le = recipe_fit (recipe o) to left right u.0.0.1 u.1.1 u.2.1
+  one_fit meaning base f near labels a k (Load width object to index) e is u n le = access_fit k width (base object) index (load_element width to 5 (low (base object))) u.1.1 (u.0.0.1, omega arith, low_fits _)
+  one_fit meaning base f near labels a k (Store width object index from) e is u n le = access_fit k width (base object) index (store_element width 5 from (low (base object))) u.0.1 (omega arith, u.1.1, low_fits _)
+  one_fit meaning base f near labels a k (Call function) e is u n le = (let lt = u.0 in omega arith, tt)
+  one_fit meaning base f near labels a k Read e is u n le = ((omega arith, omega arith, (omega arith, omega arith)), (tt, tt))
+  one_fit meaning base f near labels a k Write e is u n le = ((omega arith, omega arith, (omega arith, omega arith)), (tt, tt))
+  one_fit meaning base f near labels a k Return e is u n le = epilogue_fit f is
 
   room_if : (b : Bool) (j k : WordRecipe) → HasRoom j → HasRoom k → HasRoom (if b then j else k)
   room_if true j k p q = p
@@ -151,6 +224,13 @@ module _ (functions long : ℕ) where
   has_room immediates.GeS w = low_fits w
   has_room immediates.GeU w = low_fits w
 
+  first_encodable : (k : WordRecipe) (to a : ℕ) → HasRoom k → to < 32 → a < 32 → IsEncodable (first_instr k to a)
+  first_encodable (WithImmediate i n) to a u t p = (t, p, u)
+  first_encodable (ShiftBy i n) to a u t p = (t, p, u)
+  first_encodable (OnZero i) to a u t p = (t, omega arith, p)
+  first_encodable (ZeroOfImmediate i n) to a u t p = (t, p, u)
+  first_encodable (NonzeroOfImmediate i n) to a u t p = (t, p, u)
+
   word_recipe_fit : (k : WordRecipe) (to a : ℕ) → HasRoom k → to < 32 → a < 32 → Fit (word_recipe_items k to a)
   word_recipe_fit (WithImmediate i n) to a u t p = ((t, p, u), tt)
   word_recipe_fit (ShiftBy i n) to a u t p = ((t, p, u), tt)
@@ -158,29 +238,35 @@ module _ (functions long : ℕ) where
   word_recipe_fit (ZeroOfImmediate i n) to a u t p = ((omega arith, p, u), ((t, omega arith, (omega arith, omega arith)), tt))
   word_recipe_fit (NonzeroOfImmediate i n) to a u t p = ((omega arith, p, u), ((t, omega arith, omega arith), tt))
 
-  kept_fit : (b : Bool) (r w : ℕ) → r < 32 → Fit (if b then [] else const_items r w)
-  kept_fit true r w t = tt
-  kept_fit false r w t = const_fit (high w == 0) (low w == 0) r w t
+  word_branch_fit : (z : Option Condition) (k : WordRecipe) (near nonzero : Bool) (r a to : ℕ) → ((c : Condition) → z ≡ Some c → AreRegisters c) → HasRoom k → r < 32 → (near ≡ true → IsClose a to) → to ≤ long → Fit (word_branch_items z k near nonzero r a to)
+  word_branch_fit (Some c) k near nonzero r a to all u p n le = branch_fit near (turned nonzero c) a to (turned_registers nonzero c (all c refl)) (λ q. close_nears a to (n q)) le
+  word_branch_fit None k near nonzero r a to all u p n le =
+      (first_encodable k 5 r u (omega arith) p, branch_fit near (turned nonzero (compares (asked_of k) 5 0)) (a + 1) to (turned_registers nonzero (compares (asked_of k) 5 0) (omega arith, omega arith)) (λ q. next_nears a to (n q)) le)
 
-  step_fit : (meaning : Meaning) (base : ℕ → ℕ) (f : Frame) (near : ℕ → Bool) (labels : ℕ → ℕ) (a : ℕ) (s : Step) → meaning.functions ≡ functions → IsFrame f → IsFineStep meaning f s → ((l : ℕ) → near l ≡ true → Nears a (labels l)) → ((l : ℕ) → labels l ≤ long) → Fit (items_of base f near labels a s)
-  step_fit meaning base f near labels a (One i) e is u n le = one_fit meaning base f near labels a i e is u n le
-  step_fit meaning base f near labels a (Immediate o to from word) e is u n le = word_recipe_fit (word_recipe o word) to from (has_room o word) u.0.0.1 u.1.1
-  step_fit meaning base f near labels a (LoadAt width object to index word) e is u n le =
-      append_fit (kept_items to index word) (load_at width to (known_place width (base object) word)) (kept_fit (to == index) index word u.1.0.1) ((omega arith, omega arith), ((u.0.0.1, omega arith, low_fits _), tt))
-  step_fit meaning base f near labels a (StoreAt width object index word from) e is u n le =
-      append_fit (const_items index word) (store_at width from (known_place width (base object) word)) (const_fit (high word == 0) (low word == 0) index word u.0.0.1) ((omega arith, omega arith), ((omega arith, u.2.1, low_fits _), tt))
+  step_fit : (meaning : Meaning) (base : ℕ → ℕ) (f : Frame) (near : ℕ → Bool) (labels : ℕ → ℕ) (a : ℕ) (k : Remembered) (s : Step) → meaning.functions ≡ functions → IsFrame f → IsFineStep meaning f s → ((l : ℕ) → near l ≡ true → IsClose a (labels l)) → ((l : ℕ) → labels l ≤ long) → Fit (items_of_step base f near labels a k s)
+  step_fit meaning base f near labels a k (One i) e is u n le = one_fit meaning base f near labels a k i e is u n le
+  step_fit meaning base f near labels a k (Immediate o to from word) e is u n le = word_recipe_fit (word_recipe o word) to from (has_room o word) u.0.0.1 u.1.1
+  step_fit meaning base f near labels a k (LoadAt width object to number) e is u n le = upper_fit k (known_place width (base object) number) (load_element width to 6 (low (known_place width (base object) number)) ∷ []) ((u.0.1, omega arith, low_fits _), tt)
+  step_fit meaning base f near labels a k (StoreAt width object number from) e is u n le = upper_fit k (known_place width (base object) number) (store_element width 6 from (low (known_place width (base object) number)) ∷ []) ((omega arith, u.1, low_fits _), tt)
+  step_fit meaning base f near labels a k (Branch o nonzero left right to) e is u n le =
+      branch_fit (near to) (turned nonzero (comparison o left right)) a (labels to) (turned_registers nonzero (comparison o left right) (comparison_registers o left right u.1.1 u.2.1)) (λ q. close_nears a (labels to) (n to q)) (le to)
+  step_fit meaning base f near labels a k (BranchImmediate o nonzero from word to) e is u n le =
+      word_branch_fit (against_zero (word_recipe o word) from) (word_recipe o word) (near to) nonzero from a (labels to) (λ c q. against_registers (word_recipe o word) from c u.0.1 q) (has_room o word) u.0.1 (n to) (le to)
 
-  emitted_fit : (meaning : Meaning) (base : ℕ → ℕ) (f : Frame) (all : List Step) (w a : ℕ) (items : List Step) → meaning.functions ≡ functions → IsFrame f → AreFineSteps meaning f items → AreSeen f all items w a → ((l : ℕ) → short_place f (is_near f all) 0 (prologue_size f) all l ≤ long)
-      → Fit (emitted base f (is_near f all) (short_place f (is_near f all) 0 (prologue_size f) all) w a items)
-  emitted_fit meaning base f all w a [] e is u seen le = tt
-  emitted_fit meaning base f all w a (i ∷ items) e is u seen le =
+  emitted_fit : (meaning : Meaning) (base : ℕ → ℕ) (f : Frame) (all : List Addressed) (w a : ℕ) (held : Scratch) (ops : List Step) → meaning.functions ≡ functions → IsFrame f → AreFine meaning f ops → AreSeen f all (addressed base held ops) w a → ((l : ℕ) → short_place f (is_near f all) 0 (prologue_size f) all l ≤ long)
+      → Fit (emitted base f (is_near f all) (short_place f (is_near f all) 0 (prologue_size f) all) w a (addressed base held ops))
+  emitted_fit meaning base f all w a held [] e is u seen le = tt
+  emitted_fit meaning base f all w a held (op ∷ ops) e is u seen le =
       let near = is_near f all in
       let labels = short_place f near 0 (prologue_size f) all in
-      append_fit (items_of base f (near w) labels a i) _ (step_fit meaning base f (near w) labels a i e is u.0 (λ l. stays_near f all (i ∷ items) w a l seen) le)
-      (emitted_fit meaning base f all (w + long_size f i) (a + size f (near w) i) items e is u.1 (seen_next f all i items w a seen) le)
+      let i = with_known base held op in
+      let next = behind_step base op held in
+      append_fit (items_of base f (near w) labels a i) _ (step_fit meaning base f (near w) labels a i.known op e is u.0 (λ l. stays_near f all (i ∷ addressed base next ops) w a l seen) le)
+      (emitted_fit meaning base f all (w + long_size f i) (a + size f (near w) i) next ops e is u.1 (seen_next f all i (addressed base next ops) w a seen) le)
 
-pub framed_fit : (meaning : Meaning) (base : ℕ → ℕ) (f : Frame) (all : List Step) → IsFrame f → AreFineSteps meaning f all → AreFit meaning.functions (length (framed_items base f all)) (framed_items base f all)
-framed_fit meaning base f all is u =
+pub framed_fit : (meaning : Meaning) (base : ℕ → ℕ) (f : Frame) (steps : List Step) → IsFrame f → AreFine meaning f steps → AreFit meaning.functions (length (framed_items base f (addressed base nothing steps))) (framed_items base f (addressed base nothing steps))
+framed_fit meaning base f steps is u =
+    let all = addressed base nothing steps in
     let near = is_near f all in
     let labels = short_place f near 0 (prologue_size f) all in
     let rest = emitted base f near labels 0 (prologue_size f) all in
@@ -192,4 +278,4 @@ framed_fit meaning base f all is u =
     let whole : length (prologue f ++ rest) ≡ length (prologue f) + length rest = length-append (prologue f) rest in
     let long = length (prologue f ++ rest) in
     append_fit meaning.functions long (prologue f) rest (prologue_fit meaning.functions long f is)
-    (emitted_fit meaning.functions long meaning base f all 0 (prologue_size f) all refl is u (seen_first f all) (λ l. (let le = short_place_le base f near labels 0 (prologue_size f) all l in omega arith)))
+    (emitted_fit meaning.functions long meaning base f all 0 (prologue_size f) nothing steps refl is u (seen_first f all) (λ l. (let le = short_place_le base f near labels 0 (prologue_size f) all l in omega arith)))

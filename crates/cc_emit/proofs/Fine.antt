@@ -1,4 +1,4 @@
--- What emission asks of a frame and of items: that a frame saves what is written, and that items name what there is.
+-- What emission asks of a frame and of steps: that a frame saves what is written, and that steps name what there is.
 use Rattle.std.specs.Prelude.{◌≡◌, ℕ, ◌+◌, ◌<◌, ◌≤◌, ◌⊎◌, true, List, [], ◌∷◌, length}
 use Rattle.std.specs.List.{AllByRecursion}
 use Rattle.cc_runs.specs.Meaning.{Meaning}
@@ -8,11 +8,11 @@ use Rattle.cc_ltl.specs.Registers.{IsAllocatable}
 use Rattle.cc_ltl.specs.Ltl.{IsWord}
 use Rattle.cc_linear.specs.declared.item.Item as linear
 use Rattle.cc_linear.specs.declared.item.Item.TheVariants.{Label, Jump, IfNonzero, IfZero, Copy, Const, Unary, Binary, Load, Store, Call, Read, Write, Return}
-use Rattle.cc_emit.specs.declared.step.Step.{Step}
-use Rattle.cc_emit.specs.declared.step.Step.TheVariants.{One, Immediate, LoadAt, StoreAt}
+use Rattle.cc_select.specs.declared.step.Step.{Step}
+use Rattle.cc_select.specs.declared.step.Step.TheVariants.{One, Immediate, LoadAt, StoreAt, Branch, BranchImmediate}
+use Rattle.cc_select.specs.Immediates.{has_word, is_comparison}
 use Rattle.cc_emit.specs.Contract.{IsKept}
 use Rattle.cc_emit.specs.Frames.{Frame}
-use Rattle.cc_emit.specs.Steps.{has_word}
 
 abbrev pub Member : ℕ → List ℕ → Type 0
 Member r [] = ⊥
@@ -56,15 +56,14 @@ IsFine meaning f Read = Unit {0}
 IsFine meaning f Write = Unit {0}
 IsFine meaning f Return = Unit {0}
 
-abbrev pub AreFine : Meaning → Frame → List linear.Item → Type 0
-AreFine meaning f items = AllByRecursion (IsFine meaning f) items
-
--- a step's items are fine, and where an operator and a constant are one, its instruction has the word
+-- an item is fine, and an operator's instructions have its word
 abbrev pub IsFineStep : Meaning → Frame → Step → Type 0
 IsFineStep meaning f (One item) = IsFine meaning f item
-IsFineStep meaning f (Immediate o to from word) = IsTarget f to × IsAllocatable from × IsWord word × (from ≡ to → ⊥) × (has_word o word ≡ true)
-IsFineStep meaning f (LoadAt width object to index word) = IsTarget f to × IsTarget f index × IsWord word
-IsFineStep meaning f (StoreAt width object index word from) = IsTarget f index × IsWord word × IsAllocatable from
+IsFineStep meaning f (Immediate operator to from word) = IsTarget f to × IsAllocatable from × IsWord word × (has_word operator word ≡ true)
+IsFineStep meaning f (LoadAt width object to number) = IsTarget f to
+IsFineStep meaning f (StoreAt width object number from) = IsAllocatable from
+IsFineStep meaning f (Branch operator nonzero left right to) = (is_comparison operator ≡ true) × IsAllocatable left × IsAllocatable right
+IsFineStep meaning f (BranchImmediate operator nonzero from word to) = IsAllocatable from × IsWord word × (has_word operator word ≡ true)
 
-abbrev pub AreFineSteps : Meaning → Frame → List Step → Type 0
-AreFineSteps meaning f ss = AllByRecursion (IsFineStep meaning f) ss
+abbrev pub AreFine : Meaning → Frame → List Step → Type 0
+AreFine meaning f steps = AllByRecursion (IsFineStep meaning f) steps

@@ -4,10 +4,10 @@ pub mod Fine
 pub mod Basics
 -- the machine's memory element by element
 pub mod Bytes
--- steps and the items that they stand for
-pub mod Stepping
 -- sizes and places, and near branches
 pub mod Places
+-- what the scratch registers hold
+pub mod Holding
 -- where items stand in the code
 pub mod Standing
 -- elements of objects
@@ -18,10 +18,12 @@ pub mod Within
 pub mod Saving
 -- operators
 pub mod Recipes
+-- branches
+pub mod Branching
 -- what stands for each item of Linear
 pub mod Cases
--- what stands for two items
-pub mod Neighbours
+-- what stands for the other steps
+pub mod Steps
 -- calls and returns
 pub mod Returning
 -- the simulation
@@ -32,10 +34,10 @@ pub mod Choosing
 pub mod Encoding
 -- a pair's code is a piece
 pub mod Pieces
+-- the code: what is known of addresses
+pub mod Addressing
 -- the code: which registers are saved
 pub mod Kept
--- the code: steps one after the other
-pub mod Walking
 -- the code: the table of labels
 pub mod Tabling
 -- the code: places from the end are places

@@ -1,4 +1,4 @@
--- The code that a pair of Linear becomes is a piece of its unit.
+-- The code that a pair of selected steps becomes is a piece of its unit.
 use Rattle.std.proofs.Common.{◌≡◌, ℕ, zero, suc, ◌+◌, ◌<◌, ◌≤◌, Bool, true, false, cond, List, [], ◌∷◌, ◌++◌, length, map, unwrap_or, slice_get, nat_lt, refl, sym, ap, ◌∙◌, subst, arith}
 use Rattle.std.proofs.lemmas.Bool.Decides.{nat_tests}
 use Rattle.std.specs.List.{AllByRecursion}
@@ -10,20 +10,20 @@ use Rattle.cc_typing.specs.declared.rule.RuleError.{RuleError}
 use Rattle.cc_semantics.specs.Meaning.{Function, functions, functions_from, text_of}
 use Rattle.cc_semantics.specs.Numbered.{arity_in, objects_in}
 use Rattle.cc_runs.specs.World.{Size}
-use Rattle.cc_runs.specs.Tracks.{TracksForAll}
-use Rattle.cc_linear.specs.Linear.{labels, IsItem, IsLinear, linear_move, linear_output, linear_start}
 use Rattle.cc_ltl.specs.Ltl.{IsLtl}
 use Rattle.cc_validate.specs.Pair as validated
-use Rattle.cc_linear.specs.Pair as above
 use Rattle.cc_linear.specs.Pair.{most_blocks}
+use Rattle.cc_select.specs.Selected.{labels, IsStep, IsSelected}
+use Rattle.cc_select.specs.Pair as above
+use Rattle.cc_emit.specs.declared.item.Item.{Item}
 use Rattle.cc_emit.specs.Contract.{IsPiece}
 use Rattle.cc_emit.specs.Objects.{object_address}
 use Rattle.cc_emit.specs.Frames.{frame_of}
-use Rattle.cc_emit.specs.Steps.{steps}
-use Rattle.cc_emit.specs.Emission.{pair_items, framed_items}
+use Rattle.cc_emit.specs.Emission.{framed_items}
+use Rattle.cc_emit.specs.Scratch.{nothing, addressed}
+use Rattle.cc_emit.specs.Function.{function_items}
 use Rattle.cc_emit.specs.Piece.{AreOf, IsPieceOfUnit}
 use Rattle.cc_emit.proofs.Choosing.{is_frame, are_fine}
-use Rattle.cc_emit.proofs.Stepping.{steps_fine, steps_stand}
 use Rattle.cc_emit.proofs.Encoding.{framed_fit}
 use Rattle.cc_emit.proofs.Emitted.{framed_meets}
 
@@ -61,26 +61,29 @@ few_parameters unit limits g = few_in unit first_file_scope g (prefix_none (exte
 
 -- ---- the piece
 
-items_do : (p : above.Pair) → IsWithinLimits (above.tree_of p) → IsLinear p.ltl.slots (length (functions (above.tree_of p))) p.code → above.KeepsUp (above.tree_of p) p.function p.ltl.slots p.code
-    → AreOf (above.tree_of p) p.function (pair_items p)
-items_do p limits linear keeps meaning is layout in_order =
+-- the items of a pair's steps
+abbrev pub items_for : above.Pair → List Item
+items_for p = function_items (object_address (objects_in (above.tree_of p))) p.ltl.slots p.code
+
+items_do : (p : above.Pair) → IsWithinLimits (above.tree_of p) → IsSelected p.ltl.slots (length (functions (above.tree_of p))) p.code → above.KeepsUp (above.tree_of p) p.function p.ltl.slots p.code
+    → AreOf (above.tree_of p) p.function (items_for p)
+items_do p limits selected keeps meaning is layout in_order =
     let tree = above.tree_of p in
     let base : layout.base ≡ object_address (objects_in tree) = λ i g. (in_order g ∙ ap (λ (o : List Size). object_address o g) is.objects) i in
-    let fits : AllByRecursion (IsItem p.ltl.slots meaning.functions (labels p.code)) p.code = subst (λ n. AllByRecursion (IsItem p.ltl.slots n (labels p.code)) p.code) (sym is.functions) linear.fit in
+    let fits : AllByRecursion (IsStep p.ltl.slots meaning.functions (labels p.code)) p.code = subst (λ n. AllByRecursion (IsStep p.ltl.slots n (labels p.code)) p.code) (sym is.functions) selected.fit in
     let few : (g : ℕ) → meaning.arity g ≤ 8 = λ g. subst (λ (arity : ℕ → ℕ). arity g ≤ 8) (sym is.arity) (few_parameters tree limits g) in
     let frame = frame_of p.ltl.slots p.code in
-    let ss = steps p.code in
-    let fine = steps_fine meaning frame p.code (are_fine meaning (labels p.code) p.ltl.slots p.code few fits) in
-    let framed = is_frame p.ltl.slots p.code linear.few in
+    let fine = are_fine meaning (labels p.code) p.ltl.slots p.code few fits in
+    let framed = is_frame p.ltl.slots p.code selected.few in
     let rate = keeps.0 in
-    let piece : IsPiece meaning layout p.function (framed_items layout.base frame ss) = record {
+    let piece : IsPiece meaning layout p.function (framed_items layout.base frame (addressed layout.base nothing p.code)) = record {
       rate = rate + rate;
-      meets = framed_meets meaning layout p.function rate frame ss (subst (λ items. TracksForAll meaning p.function rate (linear_move meaning.arity items) linear_output (linear_start p.ltl.slots items)) (sym (steps_stand p.code)) (keeps.1 meaning is)) framed fine;
-      fit = framed_fit meaning layout.base frame ss framed fine;
+      meets = framed_meets meaning layout p.function rate frame p.code (keeps.1 meaning is) framed fine;
+      fit = framed_fit meaning layout.base frame p.code framed fine;
     } in
-    subst (λ (b : ℕ → ℕ). IsPiece meaning layout p.function (framed_items b frame ss)) base piece
+    subst (λ (b : ℕ → ℕ). IsPiece meaning layout p.function (framed_items b frame (addressed b nothing p.code))) base piece
 
--- with what `LinearPair::code` and `ltl` say of a pair, and the limits of its unit
-pub piece_of : (p : above.Pair) → IsLtl p.ltl → length p.ltl.blocks ≤ most_blocks → validated.KeepsUp (above.tree_of p) p.function p.ltl → IsTyped (above.tree_of p) → IsWithinLimits (above.tree_of p) → p.function < length (functions (above.tree_of p)) → IsLinear p.ltl.slots (length (functions (above.tree_of p))) p.code → above.KeepsUp (above.tree_of p) p.function p.ltl.slots p.code
-    → IsPieceOfUnit (record { unit = p.unit; function = p.function; ltl = p.ltl; items = pair_items p })
-piece_of p is_ltl few ltl_keeps typed limits lt linear keeps = record { typed = typed; function = lt; ltl = is_ltl; few = few; ltl_keeps_up = ltl_keeps; items = items_do p limits linear keeps }
+-- with what `SelectedPair::code` and `into_parts` say of a pair, and the limits of its unit
+pub piece_of : (p : above.Pair) → IsLtl p.ltl → length p.ltl.blocks ≤ most_blocks → validated.KeepsUp (above.tree_of p) p.function p.ltl → IsTyped (above.tree_of p) → IsWithinLimits (above.tree_of p) → p.function < length (functions (above.tree_of p)) → IsSelected p.ltl.slots (length (functions (above.tree_of p))) p.code → above.KeepsUp (above.tree_of p) p.function p.ltl.slots p.code
+    → IsPieceOfUnit (record { unit = p.unit; function = p.function; ltl = p.ltl; items = items_for p })
+piece_of p is_ltl few ltl_keeps typed limits lt selected keeps = record { typed = typed; function = lt; ltl = is_ltl; few = few; ltl_keeps_up = ltl_keeps; items = items_do p limits selected keeps }

@@ -1,21 +1,26 @@
 -- Sizes and places: an item has as many items as its size says, and a branch that is near in the first pass is so in the second,
 -- since from the first to the second distances do not grow.
-use Rattle.std.proofs.Common.{◌≡◌, ℕ, suc, ◌+◌, ◌-◌, ◌*◌, ◌^◌, ◌<◌, ◌≤◌, ◌⊎◌, List, [], ◌∷◌, ◌++◌, true, false, Bool, length, refl, sym, ap, ◌∙◌, subst, inl, inr, arith}
+use Rattle.std.proofs.Common.{◌≡◌, ℕ, suc, ◌+◌, ◌-◌, ◌*◌, ◌^◌, ◌<◌, ◌≤◌, ◌⊎◌, List, [], ◌∷◌, ◌++◌, Option, Some, None, true, false, Bool, length, refl, sym, ap, ◌∙◌, subst, inl, inr, arith}
 use Rattle.std.specs.Prelude.{if◌then◌else◌, ◌==◌}
 use Rattle.std.proofs.lemmas.Bool.Decides.{nat_tests}
 use Rattle.std.proofs.lemmas.List.{length-append}
 use Rattle.cc_linear.specs.declared.item.Item as linear
 use Rattle.cc_linear.specs.declared.item.Item.TheVariants.{Label, Jump, IfNonzero, IfZero, Copy, Const, Unary, Binary, Load, Store, Call, Read, Write, Return}
+use Rattle.cc_select.specs.declared.step.Step.{Step}
+use Rattle.cc_select.specs.declared.step.Step.TheVariants.{One, Immediate, LoadAt, StoreAt, Branch, BranchImmediate}
 use Rattle.cc_rv32.specs.Fields.{IsBranchOffset}
-use Rattle.cc_rv32.specs.declared.instr.BranchOperation.{BranchOperation}
 use Rattle.cc_rv32.specs.declared.instr.Instr.TheVariants.{Jalr}
+use Rattle.cc_emit.specs.declared.condition.Condition.{Condition}
+use Rattle.cc_emit.specs.Branches.{compares, turned, against_zero, asked_of}
 use Rattle.cc_emit.specs.declared.item.Item.{Item}
 use Rattle.cc_emit.specs.declared.item.Item.TheVariants.{Plain}
-use Rattle.cc_emit.specs.declared.step.Step.{Step}
+use Rattle.cc_words.specs.declared.operators.Width.{Width}
 use Rattle.cc_words.specs.declared.operators.Width.TheVariants.{Byte, Word}
-use Rattle.cc_emit.specs.declared.step.Step.TheVariants.{One, Immediate, LoadAt, StoreAt}
+use Rattle.cc_emit.specs.declared.addressed.Addressed.{Addressed}
+use Rattle.cc_emit.specs.declared.addressed.Remembered.{Remembered}
+use Rattle.cc_emit.specs.declared.addressed.Remembered.TheVariants.{Nothing, Upper, Element}
 use Rattle.cc_emit.specs.Frames.{Frame, frame_size}
-use Rattle.cc_emit.specs.Emission.{word_recipe, word_recipe_items, word_recipe_size, high, low, stack_moved, stack_moved_size, restoring, saving, epilogue, prologue_size, recipe, recipe_items, recipe_size, branch_items, branch_size, const_items, const_size, kept_items, kept_size, known_place, load_at, store_at, items_of_one, items_of, size_of_one, size, long_size, distance, reaches, is_label, is_near, long_place, short_place, emitted}
+use Rattle.cc_emit.specs.Emission.{word_recipe, word_recipe_items, word_recipe_size, word_branch_items, word_branch_size, high, low, stack_moved, stack_moved_size, restoring, saving, epilogue, prologue_size, recipe, recipe_items, recipe_size, branch_items, branch_size, const_items, const_size, items_of_one, items_of_step, items_of, access_size, known_access_size, size_of_one, size_of_step, size, indexed, upper_items, long_size, distance, is_close, is_label, is_near, long_place, short_place, emitted}
 use Rattle.cc_emit.specs.declared.recipe.Recipe.{Recipe}
 use Rattle.cc_emit.specs.declared.recipe.WordRecipe.{WordRecipe}
 use Rattle.cc_emit.specs.declared.recipe.Recipe.TheVariants.{Direct, ZeroOf, ZeroOfExchanged, NonzeroOf}
@@ -63,65 +68,91 @@ word_recipe_size_is (OnZero i) to a = refl
 word_recipe_size_is (ZeroOfImmediate i n) to a = refl
 word_recipe_size_is (NonzeroOfImmediate i n) to a = refl
 
-branch_size_is : (near : Bool) (taken opposite : BranchOperation) (r a to : ℕ) → length (branch_items near taken opposite r a to) ≡ branch_size near
-branch_size_is near taken opposite r a to = long_if near _ _ 1 2 refl refl
+branch_size_is : (near : Bool) (c : Condition) (a to : ℕ) → length (branch_items near c a to) ≡ branch_size near
+branch_size_is near c a to = long_if near _ _ 1 2 refl refl
+
+word_branch_size_is : (alone : Option Condition) (k : WordRecipe) (near nonzero : Bool) (r a to : ℕ) → length (word_branch_items alone k near nonzero r a to) ≡ word_branch_size alone near
+word_branch_size_is (Some c) k near nonzero r a to = branch_size_is near (turned nonzero c) a to
+word_branch_size_is None k near nonzero r a to =
+    ap suc (branch_size_is near (turned nonzero (compares (asked_of k) 5 0)) (a + 1) to) ∙ (let z : suc (branch_size near) ≡ 1 + branch_size near = omega arith in z)
 
 pub const_size_is : (to w : ℕ) → length (const_items to w) ≡ const_size w
 const_size_is to w = long_if (high w == 0) _ _ 1 (if low w == 0 then 1 else 2) refl (long_if (low w == 0) _ _ 1 2 refl refl)
 
-one_size_is : (base : ℕ → ℕ) (f : Frame) (near : ℕ → Bool) (labels : ℕ → ℕ) (a : ℕ) (i : linear.Item) → length (items_of_one base f near labels a i) ≡ size_of_one f near i
-one_size_is base f near labels a (Label n) = refl
-one_size_is base f near labels a (Jump n) = refl
-one_size_is base f near labels a (IfNonzero r n) = branch_size_is (near n) _ _ r a (labels n)
-one_size_is base f near labels a (IfZero r n) = branch_size_is (near n) _ _ r a (labels n)
-one_size_is base f near labels a (Copy m) = refl
-one_size_is base f near labels a (Const to w) = const_size_is to w
-one_size_is base f near labels a (Unary o to b) = refl
-one_size_is base f near labels a (Binary o to b c) = recipe_size_is (recipe o) to b c
-one_size_is base f near labels a (Load Byte g to i) = refl
-one_size_is base f near labels a (Load Word g to i) = refl
-one_size_is base f near labels a (Store Byte g i b) = refl
-one_size_is base f near labels a (Store Word g i b) = refl
-one_size_is base f near labels a (Call g) = refl
-one_size_is base f near labels a Read = refl
-one_size_is base f near labels a Write = refl
-one_size_is base f near labels a Return = length_epilogue f
+access_size_is : (k : Remembered) (width : Width) (b i : ℕ) (item : Item) → length (indexed k width b i (item ∷ [])) ≡ access_size k width
+access_size_is Nothing Byte b i item = refl
+access_size_is Nothing Word b i item = refl
+access_size_is Upper Byte b i item = refl
+access_size_is Upper Word b i item = refl
+access_size_is Element width b i item = refl
 
-pub kept_size_is : (to r w : ℕ) → length (kept_items to r w) ≡ kept_size to r w
-kept_size_is to r w = long_if (to == r) [] (const_items r w) 0 (const_size w) refl (const_size_is r w)
+known_access_size_is : (k : Remembered) (b : ℕ) (item : Item) → length (upper_items k b ++ item ∷ []) ≡ known_access_size k
+known_access_size_is Nothing b item = refl
+known_access_size_is Upper b item = refl
+known_access_size_is Element b item = refl
 
-pub size_is : (base : ℕ → ℕ) (f : Frame) (near : ℕ → Bool) (labels : ℕ → ℕ) (a : ℕ) (s : Step) → length (items_of base f near labels a s) ≡ size f near s
-size_is base f near labels a (One i) = one_size_is base f near labels a i
-size_is base f near labels a (Immediate o to b w) = word_recipe_size_is (word_recipe o w) to b
-size_is base f near labels a (LoadAt width g to i w) = length-append (kept_items to i w) (load_at width to (known_place width (base g) w)) ∙ ap (λ n. n + 2) (kept_size_is to i w)
-size_is base f near labels a (StoreAt width g i w b) = length-append (const_items i w) (store_at width b (known_place width (base g) w)) ∙ ap (λ n. n + 2) (const_size_is i w)
+one_size_is : (base : ℕ → ℕ) (f : Frame) (near : ℕ → Bool) (labels : ℕ → ℕ) (a : ℕ) (k : Remembered) (i : linear.Item) → length (items_of_one base f near labels a k i) ≡ size_of_one f near k i
+one_size_is base f near labels a k (Label n) = refl
+one_size_is base f near labels a k (Jump n) = refl
+one_size_is base f near labels a k (IfNonzero r n) = branch_size_is (near n) _ a (labels n)
+one_size_is base f near labels a k (IfZero r n) = branch_size_is (near n) _ a (labels n)
+one_size_is base f near labels a k (Copy m) = refl
+one_size_is base f near labels a k (Const to w) = const_size_is to w
+one_size_is base f near labels a k (Unary o to b) = refl
+one_size_is base f near labels a k (Binary o to b c) = recipe_size_is (recipe o) to b c
+one_size_is base f near labels a k (Load width g to i) = access_size_is k width (base g) i _
+one_size_is base f near labels a k (Store width g i b) = access_size_is k width (base g) i _
+one_size_is base f near labels a k (Call g) = refl
+one_size_is base f near labels a k Read = refl
+one_size_is base f near labels a k Write = refl
+one_size_is base f near labels a k Return = length_epilogue f
+
+step_size_is : (base : ℕ → ℕ) (f : Frame) (near : ℕ → Bool) (labels : ℕ → ℕ) (a : ℕ) (k : Remembered) (s : Step) → length (items_of_step base f near labels a k s) ≡ size_of_step f near k s
+step_size_is base f near labels a k (One i) = one_size_is base f near labels a k i
+step_size_is base f near labels a k (Immediate o to b w) = word_recipe_size_is (word_recipe o w) to b
+step_size_is base f near labels a k (LoadAt width g to n) = known_access_size_is k _ _
+step_size_is base f near labels a k (StoreAt width g n b) = known_access_size_is k _ _
+step_size_is base f near labels a k (Branch o nonzero b c n) = branch_size_is (near n) _ a (labels n)
+step_size_is base f near labels a k (BranchImmediate o nonzero b w n) = word_branch_size_is (against_zero (word_recipe o w) b) (word_recipe o w) (near n) nonzero b a (labels n)
+
+pub size_is : (base : ℕ → ℕ) (f : Frame) (near : ℕ → Bool) (labels : ℕ → ℕ) (a : ℕ) (s : Addressed) → length (items_of base f near labels a s) ≡ size f near s
+size_is base f near labels a s = step_size_is base f near labels a s.known s.step
 
 branch_size_le : (near : Bool) → branch_size near ≤ 2
 branch_size_le true = omega arith
 branch_size_le false = omega arith
 
--- in its long form a step is no shorter
-one_size_le : (f : Frame) (near : ℕ → Bool) (i : linear.Item) → size_of_one f near i ≤ long_size f (One i)
-one_size_le f near (Label n) = omega arith
-one_size_le f near (Jump n) = omega arith
-one_size_le f near (IfNonzero r n) = branch_size_le (near n)
-one_size_le f near (IfZero r n) = branch_size_le (near n)
-one_size_le f near (Copy m) = omega arith
-one_size_le f near (Const to w) = omega arith
-one_size_le f near (Unary o to b) = omega arith
-one_size_le f near (Binary o to b c) = omega arith
-one_size_le f near (Load width g to i) = omega arith
-one_size_le f near (Store width g i b) = omega arith
-one_size_le f near (Call g) = omega arith
-one_size_le f near Read = omega arith
-one_size_le f near Write = omega arith
-one_size_le f near Return = omega arith
+word_branch_size_le : (alone : Option Condition) (near : Bool) → word_branch_size alone near ≤ word_branch_size alone false
+word_branch_size_le (Some c) near = branch_size_le near
+word_branch_size_le None near = let le = branch_size_le near in omega arith
 
-pub size_le : (f : Frame) (near : ℕ → Bool) (s : Step) → size f near s ≤ long_size f s
-size_le f near (One i) = one_size_le f near i
-size_le f near (Immediate o to b w) = omega arith
-size_le f near (LoadAt width g to i w) = omega arith
-size_le f near (StoreAt width g i w b) = omega arith
+-- in its long form a step is no shorter
+one_size_le : (f : Frame) (near : ℕ → Bool) (k : Remembered) (i : linear.Item) → size_of_one f near k i ≤ size_of_one f (λ label. false) k i
+one_size_le f near k (Label n) = omega arith
+one_size_le f near k (Jump n) = omega arith
+one_size_le f near k (IfNonzero r n) = branch_size_le (near n)
+one_size_le f near k (IfZero r n) = branch_size_le (near n)
+one_size_le f near k (Copy m) = omega arith
+one_size_le f near k (Const to w) = omega arith
+one_size_le f near k (Unary o to b) = omega arith
+one_size_le f near k (Binary o to b c) = omega arith
+one_size_le f near k (Load width g to i) = omega arith
+one_size_le f near k (Store width g i b) = omega arith
+one_size_le f near k (Call g) = omega arith
+one_size_le f near k Read = omega arith
+one_size_le f near k Write = omega arith
+one_size_le f near k Return = omega arith
+
+step_size_le : (f : Frame) (near : ℕ → Bool) (k : Remembered) (s : Step) → size_of_step f near k s ≤ size_of_step f (λ label. false) k s
+step_size_le f near k (One i) = one_size_le f near k i
+step_size_le f near k (Immediate o to b w) = omega arith
+step_size_le f near k (LoadAt width g to n) = omega arith
+step_size_le f near k (StoreAt width g n b) = omega arith
+step_size_le f near k (Branch o nonzero b c n) = branch_size_le (near n)
+step_size_le f near k (BranchImmediate o nonzero b w n) = word_branch_size_le (against_zero (word_recipe o w) b) (near n)
+
+pub size_le : (f : Frame) (near : ℕ → Bool) (s : Addressed) → size f near s ≤ long_size f s
+size_le f near s = step_size_le f near s.known s.step
 
 -- ---- places
 
@@ -138,7 +169,7 @@ ahead_if false w a long short h = h
 further : (w a v b long short : ℕ) → w ≤ v → a ≤ b → b + w ≤ v + a → IsAhead v b long short → IsAhead w a long short
 further w a v b long short p q r h = let x = h.longer in let y = h.shorter in let z = h.apart in record { longer = omega arith; shorter = omega arith; apart = omega arith }
 
-is_ahead : (f : Frame) (near : ℕ → ℕ → Bool) (w a : ℕ) (items : List Step) (l : ℕ) → IsAhead w a (long_place f w items l) (short_place f near w a items l)
+is_ahead : (f : Frame) (near : ℕ → ℕ → Bool) (w a : ℕ) (items : List Addressed) (l : ℕ) → IsAhead w a (long_place f w items l) (short_place f near w a items l)
 is_ahead f near w a [] l = record { longer = omega arith; shorter = omega arith; apart = omega arith }
 is_ahead f near w a (i ∷ items) l =
     let le = size_le f (near w) i in
@@ -146,48 +177,59 @@ is_ahead f near w a (i ∷ items) l =
     ahead_if (is_label l i) w a _ _ (further w a (w + long_size f i) (a + size f (near w) i) _ _ (omega arith) (omega arith) (omega arith) next)
 
 -- where a label of all items is, seen from items that stand at w and a: in front, or among them
-abbrev pub IsSeen : Frame → (all items : List Step) → (w a : ℕ) → (l : ℕ) → Type 0
+abbrev pub IsSeen : Frame → (all items : List Addressed) → (w a : ℕ) → (l : ℕ) → Type 0
 IsSeen f all items w a l =
     ((long_place f 0 all l ≤ w) × (short_place f (is_near f all) 0 (prologue_size f) all l ≤ a) × (a + long_place f 0 all l ≤ w + short_place f (is_near f all) 0 (prologue_size f) all l))
     ⊎ ((long_place f 0 all l ≡ long_place f w items l) × (short_place f (is_near f all) 0 (prologue_size f) all l ≡ short_place f (is_near f all) w a items l))
 
 -- so of each label
-abbrev pub AreSeen : Frame → (all items : List Step) → (w a : ℕ) → Type 0
+abbrev pub AreSeen : Frame → (all items : List Addressed) → (w a : ℕ) → Type 0
 AreSeen f all items w a = (l : ℕ) → IsSeen f all items w a l
 
-pub seen_first : (f : Frame) (all : List Step) → AreSeen f all all 0 (prologue_size f)
+pub seen_first : (f : Frame) (all : List Addressed) → AreSeen f all all 0 (prologue_size f)
 seen_first f all l = inr (refl, refl)
 
-seen_by : (f : Frame) (all : List Step) (i : Step) (items : List Step) (w a l : ℕ) (b : Bool) → long_place f 0 all l ≡ (if b then w else long_place f (w + long_size f i) items l)
+seen_by : (f : Frame) (all : List Addressed) (i : Addressed) (items : List Addressed) (w a l : ℕ) (b : Bool) → long_place f 0 all l ≡ (if b then w else long_place f (w + long_size f i) items l)
     → short_place f (is_near f all) 0 (prologue_size f) all l ≡ (if b then a else short_place f (is_near f all) (w + long_size f i) (a + size f (is_near f all w) i) items l)
     → IsSeen f all items (w + long_size f i) (a + size f (is_near f all w) i) l
 seen_by f all i items w a l true p q = let le = size_le f (is_near f all w) i in inl (omega arith, omega arith, omega arith)
 seen_by f all i items w a l false p q = inr (p, q)
 
-pub seen_next : (f : Frame) (all : List Step) (i : Step) (items : List Step) (w a : ℕ) → AreSeen f all (i ∷ items) w a → AreSeen f all items (w + long_size f i) (a + size f (is_near f all w) i)
+pub seen_next : (f : Frame) (all : List Addressed) (i : Addressed) (items : List Addressed) (w a : ℕ) → AreSeen f all (i ∷ items) w a → AreSeen f all items (w + long_size f i) (a + size f (is_near f all w) i)
 seen_next f all i items w a seen l =
     elim (seen l) [ inl h ↦ (let le = size_le f (is_near f all w) i in let x = h.0 in let y = h.1 in let z = h.2 in inl (omega arith, omega arith, omega arith)) | inr h ↦ seen_by f all i items w a l (is_label l i) h.0 h.1 ]
 
 -- ---- near branches
 
+-- what a branch reaches
 abbrev pub Nears : (from to : ℕ) → Type 0
 Nears from to = (from ≤ to + 1024) × (to < from + 1024)
 
-pub reaches_says : (from to : ℕ) → reaches from to ≡ true → Nears from to
-reaches_says from to e = grind (arith, nat_tests)
+-- what a step's branch reaches from the step's place and from the next one
+abbrev pub IsClose : (from to : ℕ) → Type 0
+IsClose from to = (from < to + 1024) × (to < from + 1024)
 
-near_by : (w a long short : ℕ) → Nears w long → ((long ≤ w) × (short ≤ a) × (a + long ≤ w + short)) ⊎ IsAhead w a long short → Nears a short
+pub close_nears : (from to : ℕ) → IsClose from to → Nears from to
+close_nears from to (p, q) = (omega arith, q)
+
+pub next_nears : (from to : ℕ) → IsClose from to → Nears (from + 1) to
+next_nears from to (p, q) = (omega arith, omega arith)
+
+close_says : (from to : ℕ) → is_close from to ≡ true → IsClose from to
+close_says from to e = grind (arith, nat_tests)
+
+near_by : (w a long short : ℕ) → IsClose w long → ((long ≤ w) × (short ≤ a) × (a + long ≤ w + short)) ⊎ IsAhead w a long short → IsClose a short
 near_by w a long short n (inl h) = let x = h.0 in let y = h.1 in let z = h.2 in let u = n.0 in let v = n.1 in (omega arith, omega arith)
 near_by w a long short n (inr h) = let x = h.longer in let y = h.shorter in let z = h.apart in let u = n.0 in let v = n.1 in (omega arith, omega arith)
 
-seen_ahead : (f : Frame) (all items : List Step) (w a l : ℕ) → IsSeen f all items w a l
+seen_ahead : (f : Frame) (all items : List Addressed) (w a l : ℕ) → IsSeen f all items w a l
     → ((long_place f 0 all l ≤ w) × (short_place f (is_near f all) 0 (prologue_size f) all l ≤ a) × (a + long_place f 0 all l ≤ w + short_place f (is_near f all) 0 (prologue_size f) all l)) ⊎ IsAhead w a (long_place f 0 all l) (short_place f (is_near f all) 0 (prologue_size f) all l)
 seen_ahead f all items w a l (inl h) = inl h
 seen_ahead f all items w a l (inr h) = inr (subst (λ n. IsAhead w a n (short_place f (is_near f all) 0 (prologue_size f) all l)) (sym h.0) (subst (IsAhead w a (long_place f w items l)) (sym h.1) (is_ahead f (is_near f all) w a items l)))
 
 -- a branch that is near by the first pass
-pub stays_near : (f : Frame) (all items : List Step) (w a l : ℕ) → AreSeen f all items w a → is_near f all w l ≡ true → Nears a (short_place f (is_near f all) 0 (prologue_size f) all l)
-stays_near f all items w a l seen e = near_by w a (long_place f 0 all l) _ (reaches_says w (long_place f 0 all l) e) (seen_ahead f all items w a l (seen l))
+pub stays_near : (f : Frame) (all items : List Addressed) (w a l : ℕ) → AreSeen f all items w a → is_near f all w l ≡ true → IsClose a (short_place f (is_near f all) 0 (prologue_size f) all l)
+stays_near f all items w a l seen e = near_by w a (long_place f 0 all l) _ (close_says w (long_place f 0 all l) e) (seen_ahead f all items w a l (seen l))
 
 -- the offset of such a branch: what it is, and that the instruction can hold it
 abbrev pub DistanceIs : (from to x : ℕ) → Type 0
@@ -209,7 +251,7 @@ place_if : (b : Bool) (a x y : ℕ) → a ≤ y → x ≤ y → (if b then a els
 place_if true a x y p q = p
 place_if false a x y p q = q
 
-pub short_place_le : (base : ℕ → ℕ) (f : Frame) (near : ℕ → ℕ → Bool) (labels : ℕ → ℕ) (w a : ℕ) (items : List Step) (l : ℕ) → short_place f near w a items l ≤ a + length (emitted base f near labels w a items)
+pub short_place_le : (base : ℕ → ℕ) (f : Frame) (near : ℕ → ℕ → Bool) (labels : ℕ → ℕ) (w a : ℕ) (items : List Addressed) (l : ℕ) → short_place f near w a items l ≤ a + length (emitted base f near labels w a items)
 short_place_le base f near labels w a [] l = omega arith
 short_place_le base f near labels w a (i ∷ items) l =
     let first = items_of base f (near w) labels a i in

@@ -14,16 +14,15 @@ use Rattle.cc_words.proofs.Laws.{is_zero-lt_u, sub_is, eq-sub, ne-sub, le_s-lt_s
 use Rattle.cc_rv32.specs.declared.instr.Operation.TheVariants as operation
 use Rattle.cc_rv32.specs.declared.instr.ImmediateOperation.TheVariants.{Addi, Sltiu}
 use Rattle.cc_rv32.specs.Machine.{State, computed, execute, immediate_operation, puts, shift_operation}
-use Rattle.cc_emit.specs.declared.step.Immediate as immediate
-use Rattle.cc_emit.specs.declared.step.Immediate.TheVariants as immediates
-use Rattle.cc_emit.specs.Steps.{is_short, has_word}
+use Rattle.cc_select.specs.declared.step.Immediate as immediate
+use Rattle.cc_select.specs.declared.step.Immediate.TheVariants as immediates
+use Rattle.cc_select.specs.Immediates.{is_exchanged, operator_of, applied, apply_immediate, is_short, has_word}
 use Rattle.cc_emit.specs.Emission.{low, recipe, unary_instr, word_recipe}
 use Rattle.cc_emit.specs.declared.recipe.Recipe.{Recipe}
 use Rattle.cc_emit.specs.declared.recipe.WordRecipe.{WordRecipe}
 use Rattle.cc_emit.specs.declared.recipe.Recipe.TheVariants.{Direct, NonzeroOf, ZeroOf, ZeroOfExchanged}
 use Rattle.cc_emit.specs.declared.recipe.WordRecipe.TheVariants.{NonzeroOfImmediate, OnZero, ShiftBy, WithImmediate, ZeroOfImmediate}
 use Rattle.cc_emit.proofs.Basics.{LowIs, eqb_denies, eqb_says, low_is}
-use Rattle.cc_emit.proofs.Stepping.{is_exchanged, operator_of}
 
 -- a recipe gives a word v
 abbrev pub IsRight : Recipe → (a b v : ℕ) → Type 0
@@ -144,7 +143,7 @@ shr_u_by a w e = grind (arith, nat_tests, mod-eq_of_lt)
 
 -- ---- comparisons with a word
 
-next_s : (a w : ℕ) → IsWord a → IsWord w → (w ≡ 2 ^ 31 - 1 → ⊥) → le_s a w ≡ lt_s a (add w 1)
+pub next_s : (a w : ℕ) → IsWord a → IsWord w → (w ≡ 2 ^ 31 - 1 → ⊥) → le_s a w ≡ lt_s a (add w 1)
 next_s a w p q other = grind (arith, ints)
 
 next_u : (a w : ℕ) → IsWord a → IsWord w → (w ≡ 2 ^ 32 - 1 → ⊥) → le_u a w ≡ lt_u a (add w 1)
@@ -176,7 +175,7 @@ eq_by : (a w : ℕ) (b : Bool) → IsWord a → IsWord w → is_short (neg w) �
 eq_by a w true p q e z = sym (is_zero-lt_u a) ∙ ap (eq a) (sym (eqb_says w 0 z))
 eq_by a w false p q e z = (IsWord-add a _, ap (λ n. lt_u n 1) (sym (minus a w p q e)) ∙ sym (is_zero-lt_u (sub a w)) ∙ sym (eq-sub a w p q))
 
-not_zero : (a : ℕ) → lt_u 0 a ≡ ne a 0
+pub not_zero : (a : ℕ) → lt_u 0 a ≡ ne a 0
 not_zero a = grind (arith, nat_tests)
 
 ne_by : (a w : ℕ) (b : Bool) → IsWord a → IsWord w → is_short (neg w) ≡ true → (w == 0) ≡ b → IsRightWord (if b then OnZero operation.Sltu else NonzeroOfImmediate Addi (low (neg w))) a (ne a w)
@@ -185,20 +184,13 @@ ne_by a w false p q e z = (IsWord-add a _, ap (lt_u 0) (sym (minus a w p q e)) �
 
 -- ---- what the operators give
 
--- an operator's operands, where the word is the right one or the left one
-abbrev pub left_one : (exchanged : Bool) → (a w : ℕ) → ℕ
-left_one x a w = if x then w else a
-
-abbrev pub right_one : (exchanged : Bool) → (a w : ℕ) → ℕ
-right_one x a w = if x then a else w
-
 -- an operator on a register's word and a word has a value, and its instructions give it
 pub record Gives (o : immediate.Immediate) (a w : ℕ) : Type 0 where
   pub value : ℕ
-  pub applied : apply_binary (operator_of o) (left_one (is_exchanged o) a w) (right_one (is_exchanged o) a w) ≡ Some value
+  pub applied : apply_immediate o a w ≡ Some value
   pub right : IsRightWord (word_recipe o w) a value
 
-gives : (o : immediate.Immediate) (a w v : ℕ) → apply_binary (operator_of o) (left_one (is_exchanged o) a w) (right_one (is_exchanged o) a w) ≡ Some v → IsRightWord (word_recipe o w) a v → Gives o a w
+gives : (o : immediate.Immediate) (a w v : ℕ) → apply_immediate o a w ≡ Some v → IsRightWord (word_recipe o w) a v → Gives o a w
 gives o a w v e r = record { value = v; applied = e; right = r }
 
 pub immediate_gives : (o : immediate.Immediate) (a w : ℕ) → IsWord a → IsWord w → has_word o w ≡ true → Gives o a w
@@ -224,6 +216,9 @@ immediate_gives immediates.GeU a w p q e =
     gives immediates.GeU a w (le_u w a) refl (IsWord-lt_u a (low w), turned _ ∙ ap (λ n. 1 - lt_u a n) (low_short w q e) ∙ sym (le_u-lt_u w a))
 
 -- and the value is a word
-pub gives_word : (o : immediate.Immediate) (x : Bool) (a w v : ℕ) → IsWord a → IsWord w → apply_binary (operator_of o) (left_one x a w) (right_one x a w) ≡ Some v → IsWord v
-gives_word o true a w v p q e = binary_word (operator_of o) w a v q p e
-gives_word o false a w v p q e = binary_word (operator_of o) a w v p q e
+pub gives_word : (o : immediate.Immediate) (a w v : ℕ) → IsWord a → IsWord w → apply_immediate o a w ≡ Some v → IsWord v
+gives_word o a w v p q e = by_side (is_exchanged o) (operator_of o) e
+  where
+    by_side : (x : Bool) (b : binary.Binary) → applied x b a w ≡ Some v → IsWord v
+    by_side true b f = binary_word b w a v q p f
+    by_side false b f = binary_word b a w v p q f

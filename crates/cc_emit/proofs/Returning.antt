@@ -12,11 +12,14 @@ use Rattle.cc_ltl.specs.Ltl.{Locations, put, words_from}
 use Rattle.cc_linear.specs.declared.item.Item.TheVariants.{Return}
 use Rattle.cc_rv32.specs.declared.instr.Instr.TheVariants.{Jal, Jalr}
 use Rattle.cc_rv32.specs.Machine.{Continues, State, Traps, jumps, stack_from, stack_to, with_register}
-use Rattle.cc_emit.specs.declared.step.Step.{Step}
-use Rattle.cc_emit.specs.declared.step.Step.TheVariants.{One}
+use Rattle.cc_select.specs.declared.step.Step.{Step}
+use Rattle.cc_select.specs.declared.step.Step.TheVariants.{One}
 use Rattle.cc_emit.specs.Contract.{Code, ComesBack, Enters, IsKept, IsPlace, IsSound, Passes, Path, Placed, Shares, element_place}
 use Rattle.cc_emit.specs.Frames.{Frame, frame_size}
 use Rattle.cc_emit.specs.Emission.{prologue, prologue_size, restoring, saving, stack_moved, stack_moved_size}
+use Rattle.cc_emit.specs.declared.scratch.Scratch.{Scratch}
+use Rattle.cc_emit.specs.Scratch.{nothing}
+use Rattle.cc_emit.proofs.Holding.{holds_nothing}
 use Rattle.cc_emit.proofs.Fine.{AreSavable, IsSavable, Member}
 use Rattle.cc_emit.proofs.Basics.{set_other, set_word, eqb_yes, put_register, with_zero, survives_tells, listed, listed_at}
 use Rattle.cc_emit.proofs.Places.{length_restoring, length_stack_moved}
@@ -47,7 +50,7 @@ not_saved r (inr (inl e)) = ((λ q. omega arith), (λ k. elim k [ inl b ↦ omeg
 not_saved r (inr (inr e)) = ((λ q. omega arith), (λ k. elim k [ inl b ↦ omega arith | inr b ↦ omega arith ]))
 
 -- the return: the saved registers are read back, the frame given up
-pub return_path : (x : Site) (w a : ℕ) (rest : List Step) (l : Locations) (h : World) (s : State) → IsSound x.from → x.from.registers 1 % 4 ≡ 0 → s.pc ≡ x.place + 4 * a → Standing x w a (One Return ∷ rest) → Within x l h s
+pub return_path : (x : Site) {held : Scratch} (w a : ℕ) (rest : List Step) (l : Locations) (h : World) (s : State) → IsSound x.from → x.from.registers 1 % 4 ≡ 0 → s.pc ≡ x.place + 4 * a → Standing x held w a (One Return ∷ rest) → Within x held l h s
     → (n : ℕ) × (t : State) × Path x.code n s t × ComesBack x.layout x.from (record { value = l (Register 10); world = h }) t
 return_path x w a rest l h s sound back e st inside =
     let f = x.frame in
@@ -131,7 +134,7 @@ words_shared x s h g sound sh =
     are_words (object_words h g)
     (λ i lt. (let e = sh.globals g i (omega arith) in let b = loaded_word (size_at x g).width s.memory (element_place (size_at x g).width (x.layout.base g) i) sound.memory in omega arith))
 
-pub enters_callee : (x : Site) (d g : ℕ) (l : Locations) (h : World) (s : State) → d < 1024 → stack_from + 2032 * (1024 - d) ≤ x.from.registers 2 → x.meaning.arity g ≤ 8 → IsPlace s.pc → Within x l h s → Enters x.meaning x.layout g (suc d) (x.places g) (words_from 10 (x.meaning.arity g) l) h (called s (x.places g))
+pub enters_callee : (x : Site) {held : Scratch} (d g : ℕ) (l : Locations) (h : World) (s : State) → d < 1024 → stack_from + 2032 * (1024 - d) ≤ x.from.registers 2 → x.meaning.arity g ≤ 8 → IsPlace s.pc → Within x held l h s → Enters x.meaning x.layout g (suc d) (x.places g) (words_from 10 (x.meaning.arity g) l) h (called s (x.places g))
 unfolding called
 enters_callee x d g l h s below room le p w =
     let stack = w.stack in
@@ -162,7 +165,7 @@ abbrev pub regained : Locations → State → Locations
 regained l t (Register r) = if survives r then l (Register r) else get_or (listed 32 0 t.registers) r 0
 regained l t (Slot i) = l (Slot i)
 
-regained_same : (x : Site) (l : Locations) (h : World) (s t : State) (to r : ℕ) → Within x l h s → ((r : ℕ) → IsKept r → t.registers r ≡ (called s to).registers r) → IsAllocatable r → regained l t (Register r) ≡ t.registers r
+regained_same : (x : Site) {held : Scratch} (l : Locations) (h : World) (s t : State) (to r : ℕ) → Within x held l h s → ((r : ℕ) → IsKept r → t.registers r ≡ (called s to).registers r) → IsAllocatable r → regained l t (Register r) ≡ t.registers r
 unfolding called
 regained_same x l h s t to r w kept u =
     elim (survives_tells r) [
@@ -181,13 +184,14 @@ kept_on x s t to r one kept (inr k) (inr q) = inr (kept r k ∙ set_other s.regi
     not_1 r (inr k) e = omega arith
 
 -- behind a call the function goes on in its frame
-pub within_behind : (x : Site) (l : Locations) (h : World) (s : State) (to : ℕ) (a : Answer) (t : State) → Member 1 x.frame.saved → Within x l h s → ComesBack x.layout (called s to) a t → Within x (put (Register 10) a.value (regained l t)) a.world t
+pub within_behind : (x : Site) {held : Scratch} (l : Locations) (h : World) (s : State) (to : ℕ) (a : Answer) (t : State) → Member 1 x.frame.saved → Within x held l h s → ComesBack x.layout (called s to) a t → Within x nothing (put (Register 10) a.value (regained l t)) a.world t
 unfolding called
 within_behind x l h s to a t one w r =
     let stack = w.stack in
     let t2 : t.registers 2 ≡ s.registers 2 = r.stack in
     record {
       sound = r.sound;
+      holds = holds_nothing t.registers;
       same = λ q u. put_register (regained l t) 10 a.value q (t.registers q) (λ e. sym (ap t.registers (sym e) ∙ r.value)) (λ e. regained_same x l h s t to q w r.kept u);
       slots = λ i lt. w.slots i lt ∙ sym (r.above (s.registers 2 + 4 * i) (omega arith)) ∙ ap (λ n. t.memory (n + 4 * i)) (sym t2);
       shares = r.shares;
@@ -255,7 +259,7 @@ found_register f t ws r hi p = found_by (nat_le 10 r) r ws t (le_says r) hi p
     le_says : (r : ℕ) → nat_le 10 r ≡ true → 10 ≤ r
     le_says r e = grind (arith, nat_tests)
 
-pub framed_within : (x : Site) (fn d : ℕ) (ws : List ℕ) (h : World) → Enters x.meaning x.layout fn d x.place ws h x.from → Within x (found x.frame (framed x.frame x.from) ws) h (framed x.frame x.from)
+pub framed_within : (x : Site) (fn d : ℕ) (ws : List ℕ) (h : World) → Enters x.meaning x.layout fn d x.place ws h x.from → Within x nothing (found x.frame (framed x.frame x.from) ws) h (framed x.frame x.from)
 unfolding framed
 framed_within x fn d ws h enters =
     let f = x.frame in
@@ -271,6 +275,7 @@ framed_within x fn d ws h enters =
     let moved = passes_moved ws 10 s (framed f s) (omega arith) (λ r le. other r (λ e. omega arith)) enters.passes in
     record {
       sound = record { zero = enters.sound.zero; registers = set_word s.registers 2 n (omega arith) enters.sound.registers; memory = saved_words f.saved at g s.memory (set_word s.registers 2 n (omega arith) enters.sound.registers) enters.sound.memory; input = enters.sound.input };
+      holds = holds_nothing _;
       same = λ r u. found_register f (framed f s) ws r u.1 moved;
       slots = λ i lt. listed_at f.slots 0 i (λ k. (framed f s).memory ((framed f s).registers 2 + 4 * k)) lt ∙ ap (λ k. (framed f s).memory (n + 4 * k)) (let e : 0 + i ≡ i = omega arith in e);
       shares = record { sizes = enters.shares.sizes; globals = λ k i lt. elements_stay x s.memory (with_saved f.saved at g s.memory) k i lt (λ c below. saved_below f.saved at g s.memory c (omega arith)) ∙ enters.shares.globals k i lt; input = enters.shares.input; output = enters.shares.output };

@@ -8,14 +8,19 @@ use Rattle.cc_rv32.specs.Machine.{Continues, State, Traps, Turn, execute, execut
 use Rattle.cc_words.specs.declared.operators.Width.TheVariants.{Word}
 use Rattle.cc_runs.specs.World.{Object, Size, World, object_of, size_in, size_of}
 use Rattle.cc_runs.specs.Meaning.{Meaning}
+use Rattle.cc_linear.specs.declared.item.Item.TheVariants.{Label}
+use Rattle.cc_select.specs.declared.step.Step.{Step}
+use Rattle.cc_select.specs.declared.step.Step.TheVariants.{One}
+use Rattle.cc_select.specs.Selected as selected
 use Rattle.cc_emit.specs.declared.item.Item.{Item}
-use Rattle.cc_emit.specs.declared.step.Step.{Step}
 use Rattle.cc_emit.specs.Contract.{Code, IsPlace, Layout, Path, Placed}
 use Rattle.cc_emit.specs.Frames.{Frame, frame_size}
-use Rattle.cc_emit.specs.Emission.{prologue_size, emitted, items_of, size, long_size, is_label, is_near, long_place, short_place}
-use Rattle.cc_emit.proofs.Fine.{AreFineSteps, IsFrame}
+use Rattle.cc_emit.specs.declared.addressed.Addressed.{Addressed}
+use Rattle.cc_emit.specs.declared.scratch.Scratch.{Scratch}
+use Rattle.cc_emit.specs.Scratch.{nothing, with_known, behind_step, addressed}
+use Rattle.cc_emit.specs.Emission.{prologue_size, emitted, items_of, size, long_size, is_label_step, is_near, long_place, short_place}
+use Rattle.cc_emit.proofs.Fine.{AreFine, IsFrame}
 use Rattle.cc_emit.proofs.Basics.{eqb_yes, with_zero}
-use Rattle.cc_emit.proofs.Stepping.{steps_from}
 use Rattle.cc_emit.proofs.Places.{AreSeen, size_is, seen_next}
 
 -- one instruction of some code
@@ -57,28 +62,41 @@ size_found objects h e g = ap (λ (o : List Size). size_in o g) (sym e) ∙ foun
     found_at (o ∷ os) zero = refl
     found_at (o ∷ os) (suc g) = found_at os g
 
+-- steps with what is known of their addresses, where the scratch registers hold so much before them
+abbrev pub addressed_at : Site → Scratch → List Step → List Addressed
+addressed_at x held ops = addressed x.layout.base held ops
+
+abbrev pub all_addressed : Site → List Addressed
+all_addressed x = addressed_at x nothing x.steps
+
+abbrev pub one_addressed : Site → Scratch → Step → Addressed
+one_addressed x held op = with_known x.layout.base held op
+
+abbrev pub behind : Site → Scratch → Step → Scratch
+behind x held op = behind_step x.layout.base op held
+
 abbrev pub near : Site → (long label : ℕ) → Bool
-near x = is_near x.frame x.steps
+near x = is_near x.frame (all_addressed x)
 
 abbrev pub labels : Site → ℕ → ℕ
-labels x = short_place x.frame (near x) 0 (prologue_size x.frame) x.steps
+labels x = short_place x.frame (near x) 0 (prologue_size x.frame) (all_addressed x)
 
-abbrev pub items_at : Site → (w a : ℕ) → List Step → List Item
-items_at x w a ops = emitted x.layout.base x.frame (near x) (labels x) w a ops
+abbrev pub items_at : Site → Scratch → (w a : ℕ) → List Step → List Item
+items_at x held w a ops = emitted x.layout.base x.frame (near x) (labels x) w a (addressed_at x held ops)
 
-abbrev pub items_for : Site → (w a : ℕ) → Step → List Item
-items_for x w a op = items_of x.layout.base x.frame (near x w) (labels x) a op
+abbrev pub items_for : Site → Scratch → (w a : ℕ) → Step → List Item
+items_for x held w a op = items_of x.layout.base x.frame (near x w) (labels x) a (one_addressed x held op)
 
 abbrev pub Stands : Site → ℕ → List Item → Type 0
 Stands x p items = Placed x.code x.places x.place p items
 
--- the items of these steps stand from an item of the piece on, w in the first pass
-pub record Standing (x : Site) (w a : ℕ) (ops : List Step) : Type 0 where
-  pub placed : Stands x (x.place + 4 * a) (items_at x w a ops)
+-- the items of these steps stand from an item of the piece on, w in the first pass, where so much is known
+pub record Standing (x : Site) (held : Scratch) (w a : ℕ) (ops : List Step) : Type 0 where
+  pub placed : Stands x (x.place + 4 * a) (items_at x held w a ops)
   pub from : IsPlace (x.place + 4 * a)
-  pub to : IsPlace (x.place + 4 * a + 4 * length (items_at x w a ops))
-  pub fine : AreFineSteps x.meaning x.frame ops
-  pub seen : AreSeen x.frame x.steps ops w a
+  pub to : IsPlace (x.place + 4 * a + 4 * length (items_at x held w a ops))
+  pub fine : AreFine x.meaning x.frame ops
+  pub seen : AreSeen x.frame (all_addressed x) (addressed_at x held ops) w a
 
 pub placed_append : (code : Code) (places : ℕ → ℕ) (place a : ℕ) (xs ys : List Item) → Placed code places place a (xs ++ ys) → Placed code places place a xs × Placed code places place (a + 4 * length xs) ys
 placed_append code places place a [] ys p = (tt, subst (λ n. Placed code places place n ys) (let e : a ≡ a + 4 * 0 = omega arith in e) p)
@@ -91,17 +109,19 @@ pub between : (a b c : ℕ) → IsPlace a → IsPlace c → a ≤ b → b ≤ c 
 between a b c p q le lt z = let from = p.from in let to = q.to in record { aligned = z; from = omega arith; to = omega arith }
 
 -- the items of the first one
-pub first_items : (x : Site) (w a : ℕ) (op : Step) (ops : List Step) → Standing x w a (op ∷ ops) → Stands x (x.place + 4 * a) (items_for x w a op)
-first_items x w a op ops st =
-    (placed_append x.code x.places x.place (x.place + 4 * a) (items_for x w a op) (items_at x (w + long_size x.frame op) (a + size x.frame (near x w) op) ops) st.placed).0
+pub first_items : (x : Site) {held : Scratch} (w a : ℕ) (op : Step) (ops : List Step) → Standing x held w a (op ∷ ops) → Stands x (x.place + 4 * a) (items_for x held w a op)
+first_items x {held} w a op ops st =
+    let i = one_addressed x held op in
+    (placed_append x.code x.places x.place (x.place + 4 * a) (items_for x held w a op) (items_at x (behind x held op) (w + long_size x.frame i) (a + size x.frame (near x w) i) ops) st.placed).0
 
 -- the items behind it
-pub standing_tail : (x : Site) (w a : ℕ) (op : Step) (ops : List Step) → Standing x w a (op ∷ ops) → Standing x (w + long_size x.frame op) (a + size x.frame (near x w) op) ops
-standing_tail x w a op ops st =
-    let b = a + size x.frame (near x w) op in
-    let first = items_for x w a op in
-    let rest = items_at x (w + long_size x.frame op) b ops in
-    let n : length first ≡ size x.frame (near x w) op = size_is x.layout.base x.frame (near x w) (labels x) a op in
+pub standing_tail : (x : Site) {held : Scratch} (w a : ℕ) (op : Step) (ops : List Step) → Standing x held w a (op ∷ ops) → Standing x (behind x held op) (w + long_size x.frame (one_addressed x held op)) (a + size x.frame (near x w) (one_addressed x held op)) ops
+standing_tail x {held} w a op ops st =
+    let i = one_addressed x held op in
+    let b = a + size x.frame (near x w) i in
+    let first = items_for x held w a op in
+    let rest = items_at x (behind x held op) (w + long_size x.frame i) b ops in
+    let n : length first ≡ size x.frame (near x w) i = size_is x.layout.base x.frame (near x w) (labels x) a i in
     let long : length (first ++ rest) ≡ length first + length rest = length-append first rest in
     let e : x.place + 4 * a + 4 * length first ≡ x.place + 4 * b = omega arith in
     let end : x.place + 4 * a + 4 * length (first ++ rest) ≡ x.place + 4 * b + 4 * length rest = omega arith in
@@ -112,20 +132,35 @@ standing_tail x w a op ops st =
       from = between (x.place + 4 * a) (x.place + 4 * b) _ st.from to (omega arith) (omega arith) (omega arith);
       to = to;
       fine = st.fine.1;
-      seen = seen_next x.frame x.steps op ops w a st.seen;
+      seen = seen_next x.frame (all_addressed x) i (addressed_at x (behind x held op) ops) w a st.seen;
     }
 
-stands_if : (x : Site) (t : Bool) (v w a b : ℕ) (os ps : List Step) → Standing x v a os → Standing x w b ps → Standing x (if t then v else w) (if t then a else b) (if t then os else ps)
-stands_if x true v w a b os ps p q = p
+-- a label forgets what is known before it, and where no step is left nothing is to be known
+standing_none : (x : Site) {held : Scratch} (w a : ℕ) → Standing x held w a [] → Standing x nothing w a []
+standing_none x {held} w a st = record { placed = st.placed; from = st.from; to = st.to; fine = st.fine; seen = st.seen }
+
+standing_label : (x : Site) {held : Scratch} (w a l : ℕ) (op : Step) (ops : List Step) → is_label_step l op ≡ true → Standing x held w a (op ∷ ops) → Standing x nothing w a (op ∷ ops)
+standing_label x {held} w a l (One (Label n)) ops e st = record { placed = st.placed; from = st.from; to = st.to; fine = st.fine; seen = st.seen }
+standing_label x {held} w a l _ ops e st = absurd (let q : false ≡ true = e in cc)
+
+stands_if : (x : Site) (t : Bool) (v w a b : ℕ) (os ps : List Step) → (t ≡ true → Standing x nothing v a os) → Standing x nothing w b ps → Standing x nothing (if t then v else w) (if t then a else b) (if t then os else ps)
+stands_if x true v w a b os ps p q = p refl
 stands_if x false v w a b os ps p q = q
 
--- the steps from a label on stand where the label does
-pub standing_from : (x : Site) (l w a : ℕ) (ops : List Step) → Standing x w a ops → Standing x (long_place x.frame w ops l) (short_place x.frame (near x) w a ops l) (steps_from ops l)
-standing_from x l w a [] st = st
-standing_from x l w a (op ∷ ops) st =
-    let v = w + long_size x.frame op in
-    let b = a + size x.frame (near x w) op in
-    stands_if x (is_label l op) w (long_place x.frame v ops l) a (short_place x.frame (near x) v b ops l) (op ∷ ops) (steps_from ops l) st (standing_from x l v b ops (standing_tail x w a op ops st))
+place_next : (op : Step) (ops : List Step) (l : ℕ) → selected.place (op ∷ ops) l ≡ (if is_label_step l op then op ∷ ops else selected.place ops l)
+place_next (One (Label n)) ops l = refl
+place_next _ ops l = refl
+
+-- the steps from a label's place on stand where the label does
+pub standing_from : (x : Site) {held : Scratch} (l w a : ℕ) (ops : List Step) → Standing x held w a ops → Standing x nothing (long_place x.frame w (addressed_at x held ops) l) (short_place x.frame (near x) w a (addressed_at x held ops) l) (selected.place ops l)
+standing_from x {held} l w a [] st = standing_none x w a st
+standing_from x {held} l w a (op ∷ ops) st =
+    let i = one_addressed x held op in
+    let next = behind x held op in
+    let v = w + long_size x.frame i in
+    let b = a + size x.frame (near x w) i in
+    subst (Standing x nothing (long_place x.frame w (addressed_at x held (op ∷ ops)) l) (short_place x.frame (near x) w a (addressed_at x held (op ∷ ops)) l)) (sym (place_next op ops l))
+    (stands_if x (is_label_step l op) w (long_place x.frame v (addressed_at x next ops) l) a (short_place x.frame (near x) v b (addressed_at x next ops) l) (op ∷ ops) (selected.place ops l) (λ e. standing_label x w a l op ops e st) (standing_from x {held = next} l v b ops (standing_tail x w a op ops st)))
 
 -- ---- single steps
 

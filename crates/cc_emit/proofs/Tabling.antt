@@ -4,37 +4,41 @@ use Rattle.std.specs.Prelude.{if◌then◌else◌}
 use Rattle.std.specs.List.{AllByRecursion}
 use Rattle.std.proofs.lemmas.List.{get_or-set_same, get_or-set_other, length-set, get_or-replicate, length-replicate, drop_more, drop_all}
 use Rattle.std.proofs.lemmas.Bool.Decides.{eqb_tells}
-use Rattle.cc_linear.specs.declared.item.Item as linear
 use Rattle.cc_linear.specs.declared.item.Item.TheVariants.{Label}
-use Rattle.cc_linear.specs.Linear.{labels}
-use Rattle.cc_emit.specs.declared.step.Step.{Step}
-use Rattle.cc_emit.specs.declared.step.Step.TheVariants.{One}
+use Rattle.cc_select.specs.declared.step.Step.{Step}
+use Rattle.cc_select.specs.declared.step.Step.TheVariants.{One}
+use Rattle.cc_select.specs.Selected.{labels}
+use Rattle.cc_emit.specs.declared.addressed.Addressed.{Addressed}
+use Rattle.cc_emit.specs.declared.addressed.Remembered.{Remembered}
 use Rattle.cc_emit.specs.Frames.{Frame}
-use Rattle.cc_emit.specs.Emission.{size, long_size, is_label}
-use Rattle.cc_emit.specs.internal.Behind.{long_behind, near_behind, behind, label_behind, label_of, IsTable}
+use Rattle.cc_emit.specs.Emission.{size, long_size, is_label, is_label_step}
+use Rattle.cc_emit.specs.internal.Behind.{long_behind, near_behind, behind, label_behind, label_of, label_of_step, IsTable}
 
 -- ---- how many labels a table needs
 
 -- a number from `count` on that is above the labels of the rest is above all
-abbrev pub Counted : List linear.Item → (index count : ℕ) → Type 0
+abbrev pub Counted : List Step → (index count : ℕ) → Type 0
 Counted code i count = (n : ℕ) → count ≤ n → AllByRecursion (λ label. label < n) (labels (drop i code)) → AllByRecursion (λ label. label < n) (labels code)
 
-pub counted_more : (code : List linear.Item) (i count above count' : ℕ) (item : linear.Item) → i < length code → item ≡ get_or code i item → count ≤ count' → above ≤ count'
-    → ((n : ℕ) (rest : List linear.Item) → above ≤ n → AllByRecursion (λ label. label < n) (labels rest) → AllByRecursion (λ label. label < n) (labels (item ∷ rest))) → Counted code i count → Counted code (i + 1) count'
+pub counted_more : (code : List Step) (i count above count' : ℕ) (item : Step) → i < length code → item ≡ get_or code i item → count ≤ count' → above ≤ count'
+    → ((n : ℕ) (rest : List Step) → above ≤ n → AllByRecursion (λ label. label < n) (labels rest) → AllByRecursion (λ label. label < n) (labels (item ∷ rest))) → Counted code i count → Counted code (i + 1) count'
 counted_more code i count above count' item lt is le more one counted n ln all =
     let rest : drop i code ≡ item ∷ drop (i + 1) code = drop_more code i item lt ∙ ap (λ x. x ∷ drop (i + 1) code) (sym is) in
     counted n (omega arith) (subst (λ items. AllByRecursion (λ label. label < n) (labels items)) (sym rest) (one n (drop (i + 1) code) (omega arith) all))
 
 -- ---- the table
 
+abbrev pub labelled : Remembered → (label : ℕ) → Addressed
+labelled k n = record { step = One (Label n); known = k }
+
 pub no_labels : (f : Frame) (first : List ℕ) (count : ℕ) → IsTable f first [] count (replicate count 0)
 no_labels f first count = record { long = length-replicate count 0; each = λ l lt. get_or-replicate count l 0 0 lt }
 
 -- a label is noted where it stands
-pub label_noted : (f : Frame) (first : List ℕ) (count n : ℕ) (items : List Step) (table : List ℕ) → n < count → IsTable f first items count table
-    → IsTable f first (One (Label n) ∷ items) count (set table n (behind f first (One (Label n) ∷ items)))
-label_noted f first count n items table lt t =
-    let b = behind f first (One (Label n) ∷ items) in
+pub label_noted : (f : Frame) (first : List ℕ) (count n : ℕ) (k : Remembered) (items : List Addressed) (table : List ℕ) → n < count → IsTable f first items count table
+    → IsTable f first (labelled k n ∷ items) count (set table n (behind f first (labelled k n ∷ items)))
+label_noted f first count n k items table lt t =
+    let b = behind f first (labelled k n ∷ items) in
     record {
       long = length-set table n b ∙ t.long;
       each = λ l ll. elim (eqb_tells n l) [
@@ -44,31 +48,37 @@ label_noted f first count n items table lt t =
     }
 
 -- one past the table is not
-pub label_past : (f : Frame) (first : List ℕ) (count n : ℕ) (items : List Step) (table : List ℕ) → count ≤ n → IsTable f first items count table → IsTable f first (One (Label n) ∷ items) count table
-label_past f first count n items table le t = record {
+pub label_past : (f : Frame) (first : List ℕ) (count n : ℕ) (k : Remembered) (items : List Addressed) (table : List ℕ) → count ≤ n → IsTable f first items count table → IsTable f first (labelled k n ∷ items) count table
+label_past f first count n k items table le t = record {
   long = t.long;
   each = λ l ll. elim (eqb_tells n l) [
     | inl e ↦ absurd (let q = e.1 in omega arith)
-    | inr e ↦ (t.each l ll ∙ sym (ap (λ c. if c then behind f first (One (Label n) ∷ items) else label_behind f first items l) e.0))
+    | inr e ↦ (t.each l ll ∙ sym (ap (λ c. if c then behind f first (labelled k n ∷ items) else label_behind f first items l) e.0))
   ];
 }
 
-abbrev pub IsNoLabel : Step → Type 0
+abbrev pub IsNoLabel : Addressed → Type 0
 IsNoLabel item = (l : ℕ) → is_label l item ≡ false
 
-pub other_past : (f : Frame) (first : List ℕ) (count : ℕ) (item : Step) (items : List Step) (table : List ℕ) → IsNoLabel item → IsTable f first items count table → IsTable f first (item ∷ items) count table
+pub other_past : (f : Frame) (first : List ℕ) (count : ℕ) (item : Addressed) (items : List Addressed) (table : List ℕ) → IsNoLabel item → IsTable f first items count table → IsTable f first (item ∷ items) count table
 other_past f first count item items table none t = record { long = t.long; each = λ l lt. t.each l lt ∙ sym (ap (λ c. if c then behind f first (item ∷ items) else label_behind f first items l) (none l)) }
 
-pub no_label : (item : Step) → ((n : ℕ) → label_of item ≡ Some n → ⊥) → IsNoLabel item
-no_label (One (Label n)) f l = absurd (f n refl)
-no_label _ f l = refl
+no_label_step : (step : Step) → ((n : ℕ) → label_of_step step ≡ Some n → ⊥) → (l : ℕ) → is_label_step l step ≡ false
+no_label_step (One (Label n)) f l = absurd (f n refl)
+no_label_step _ f l = refl
 
-pub label_says : (item : Step) (n : ℕ) → Some n ≡ label_of item → item ≡ One (Label n)
-label_says (One (Label m)) n e = ap (λ k. One (Label k)) (let z : m ≡ n = cc in z)
-label_says _ n e = absurd (cc)
+pub no_label : (item : Addressed) → ((n : ℕ) → label_of item ≡ Some n → ⊥) → IsNoLabel item
+no_label item f l = no_label_step item.step f l
+
+step_says : (step : Step) (n : ℕ) → Some n ≡ label_of_step step → step ≡ One (Label n)
+step_says (One (Label m)) n e = ap (λ k. One (Label k)) (let z : m ≡ n = cc in z)
+step_says _ n e = absurd (cc)
+
+pub label_says : (item : Addressed) (n : ℕ) → Some n ≡ label_of item → item ≡ labelled item.known n
+label_says item n e = λ i. record { step = step_says item.step n e i; known = item.known }
 
 -- the items from number `at` on are in the table
-pub record Filled (f : Frame) (first : List ℕ) (code : List Step) (count at here all : ℕ) (table : List ℕ) : Type 0 where
+pub record Filled (f : Frame) (first : List ℕ) (code : List Addressed) (count at here all : ℕ) (table : List ℕ) : Type 0 where
   pub within : at ≤ length code
   pub here_is : here ≡ long_behind f (drop at code)
   pub all_is : all ≡ behind f first (drop at code)
@@ -76,7 +86,7 @@ pub record Filled (f : Frame) (first : List ℕ) (code : List Step) (count at he
   pub few : here + 15 * at ≤ 15 * length code
   pub few_all : all + 15 * at ≤ 15 * length code
 
-pub filled_first : (f : Frame) (first : List ℕ) (code : List Step) (count : ℕ) (table : List ℕ) → table ≡ replicate count 0 → Filled f first code count (length code) 0 0 table
+pub filled_first : (f : Frame) (first : List ℕ) (code : List Addressed) (count : ℕ) (table : List ℕ) → table ≡ replicate count 0 → Filled f first code count (length code) 0 0 table
 filled_first f first code count table e =
     let none = drop_all (length code) code (omega arith) in
     record {
@@ -89,19 +99,19 @@ filled_first f first code count table e =
     }
 
 -- the item before number `at`
-abbrev pub At : (code : List Step) (at : ℕ) → Step → Type 0
+abbrev pub At : (code : List Addressed) (at : ℕ) → Addressed → Type 0
 At code at item = (0 < at) × (item ≡ get_or code (at - 1) item)
 
-rest_more : (code : List Step) (at : ℕ) (item : Step) → at ≤ length code → At code at item → drop (at - 1) code ≡ item ∷ drop at code
+rest_more : (code : List Addressed) (at : ℕ) (item : Addressed) → at ≤ length code → At code at item → drop (at - 1) code ≡ item ∷ drop at code
 rest_more code at item le (pos, is) =
     let n : at - 1 + 1 ≡ at = omega arith in
     drop_more code (at - 1) item (omega arith) ∙ ap (λ x. x ∷ drop (at - 1 + 1) code) (sym is) ∙ ap (λ i. item ∷ drop i code) n
 
-pub is_label_at : (code : List Step) (at : ℕ) (item : Step) (n : ℕ) → item ≡ get_or code at item → item ≡ One (Label n) → One (Label n) ≡ get_or code at (One (Label n))
-is_label_at code at item n is e = subst (λ x. x ≡ get_or code at x) e is
+pub is_label_at : (code : List Addressed) (at : ℕ) (item : Addressed) (n : ℕ) (k : Remembered) → item ≡ get_or code at item → item ≡ labelled k n → labelled k n ≡ get_or code at (labelled k n)
+is_label_at code at item n k is e = subst (λ x. x ≡ get_or code at x) e is
 
 -- one item more
-filled_more : (f : Frame) (first : List ℕ) (code : List Step) (count at here all here' all' : ℕ) (item : Step) (table table' : List ℕ) → Filled f first code count at here all table → At code at item
+filled_more : (f : Frame) (first : List ℕ) (code : List Addressed) (count at here all here' all' : ℕ) (item : Addressed) (table table' : List ℕ) → Filled f first code count at here all table → At code at item
     → here' ≡ here + long_size f item → all' ≡ all + size f (near_behind first here') item → long_size f item ≤ 15 → size f (near_behind first here') item ≤ 15
     → (here' ≡ long_behind f (item ∷ drop at code) → all' ≡ behind f first (item ∷ drop at code) → IsTable f first (item ∷ drop at code) count table') → Filled f first code count (at - 1) here' all' table'
 filled_more f first code count at here all here' all' item table table' o a eh ea lh la t =
@@ -122,25 +132,25 @@ filled_more f first code count at here all here' all' item table table' o a eh e
       few_all = omega arith;
     }
 
-pub filled_label : (f : Frame) (first : List ℕ) (code : List Step) (count at here all here' all' n : ℕ) (table : List ℕ) → Filled f first code count at here all table → At code at (One (Label n))
-    → here' ≡ here + long_size f (One (Label n)) → all' ≡ all + size f (near_behind first here') (One (Label n)) → n < length table → Filled f first code count (at - 1) here' all' (set table n all')
-filled_label f first code count at here all here' all' n table o a eh ea lt =
+pub filled_label : (f : Frame) (first : List ℕ) (code : List Addressed) (count at here all here' all' n : ℕ) (k : Remembered) (table : List ℕ) → Filled f first code count at here all table → At code at (labelled k n)
+    → here' ≡ here + long_size f (labelled k n) → all' ≡ all + size f (near_behind first here') (labelled k n) → n < length table → Filled f first code count (at - 1) here' all' (set table n all')
+filled_label f first code count at here all here' all' n k table o a eh ea lt =
     let long = o.of_table.long in
-    filled_more f first code count at here all here' all' (One (Label n)) table (set table n all') o a eh ea (omega arith) (omega arith)
-    (λ h e. subst (λ m. IsTable f first (One (Label n) ∷ drop at code) count (set table n m)) (sym e) (label_noted f first count n (drop at code) table (omega arith) o.of_table))
+    filled_more f first code count at here all here' all' (labelled k n) table (set table n all') o a eh ea (omega arith) (omega arith)
+    (λ h e. subst (λ m. IsTable f first (labelled k n ∷ drop at code) count (set table n m)) (sym e) (label_noted f first count n k (drop at code) table (omega arith) o.of_table))
 
-pub filled_past : (f : Frame) (first : List ℕ) (code : List Step) (count at here all here' all' n : ℕ) (table : List ℕ) → Filled f first code count at here all table → At code at (One (Label n))
-    → here' ≡ here + long_size f (One (Label n)) → all' ≡ all + size f (near_behind first here') (One (Label n)) → length table ≤ n → Filled f first code count (at - 1) here' all' table
-filled_past f first code count at here all here' all' n table o a eh ea le =
+pub filled_past : (f : Frame) (first : List ℕ) (code : List Addressed) (count at here all here' all' n : ℕ) (k : Remembered) (table : List ℕ) → Filled f first code count at here all table → At code at (labelled k n)
+    → here' ≡ here + long_size f (labelled k n) → all' ≡ all + size f (near_behind first here') (labelled k n) → length table ≤ n → Filled f first code count (at - 1) here' all' table
+filled_past f first code count at here all here' all' n k table o a eh ea le =
     let long = o.of_table.long in
-    filled_more f first code count at here all here' all' (One (Label n)) table table o a eh ea (omega arith) (omega arith) (λ h e. label_past f first count n (drop at code) table (omega arith) o.of_table)
+    filled_more f first code count at here all here' all' (labelled k n) table table o a eh ea (omega arith) (omega arith) (λ h e. label_past f first count n k (drop at code) table (omega arith) o.of_table)
 
-pub filled_other : (f : Frame) (first : List ℕ) (code : List Step) (count at here all here' all' : ℕ) (item : Step) (table : List ℕ) → Filled f first code count at here all table → At code at item
+pub filled_other : (f : Frame) (first : List ℕ) (code : List Addressed) (count at here all here' all' : ℕ) (item : Addressed) (table : List ℕ) → Filled f first code count at here all table → At code at item
     → here' ≡ here + long_size f item → all' ≡ all + size f (near_behind first here') item → long_size f item ≤ 15 → size f (near_behind first here') item ≤ 15
     → ((n : ℕ) → label_of item ≡ Some n → ⊥) → Filled f first code count (at - 1) here' all' table
 filled_other f first code count at here all here' all' item table o a eh ea lh la none =
     filled_more f first code count at here all here' all' item table table o a eh ea lh la (λ h e. other_past f first count item (drop at code) table (no_label item none) o.of_table)
 
-pub filled_all : (f : Frame) (first : List ℕ) (code : List Step) (count at here all : ℕ) (table : List ℕ) → Filled f first code count at here all table → at ≤ 0 → IsTable f first code count table × (all ≡ behind f first code)
+pub filled_all : (f : Frame) (first : List ℕ) (code : List Addressed) (count at here all : ℕ) (table : List ℕ) → Filled f first code count at here all table → at ≤ 0 → IsTable f first code count table × (all ≡ behind f first code)
 filled_all f first code count zero here all table o le = (o.of_table, o.all_is)
 filled_all f first code count (suc at) here all table o le = absurd (omega arith)

@@ -1,7 +1,7 @@
 -- The code of a function: which items stand for its steps, and in which order.
--- A place is a number of items of the piece before it. Which branches are near is known from a first pass, in which each branch takes
--- two items; a second pass has the places of labels with each branch as long as it is.
-use Rattle.std.specs.Prelude.{ℕ, ◌+◌, ◌-◌, ◌*◌, ◌/◌, ◌%◌, ◌^◌, Bool, false, ◌&&◌, ◌==◌, nat_lt, nat_le, if◌then◌else◌, List, [], ◌∷◌, ◌++◌, length}
+-- A place is a number of items of the piece before it. Which branches are near is known from a first pass, in which each branch is
+-- far; a second pass has the places of labels with each branch as long as it is.
+use Rattle.std.specs.Prelude.{ℕ, ◌+◌, ◌-◌, ◌*◌, ◌/◌, ◌%◌, ◌^◌, Bool, false, ◌&&◌, ◌==◌, nat_lt, nat_le, if◌then◌else◌, Option, Some, None, List, [], ◌∷◌, ◌++◌, length}
 use Rattle.cc_words.specs.Words.{add, neg}
 use Rattle.cc_words.specs.declared.operators.Unary as unary
 use Rattle.cc_words.specs.declared.operators.Unary.TheVariants.{Neg, Complement, IsZero}
@@ -9,22 +9,24 @@ use Rattle.cc_words.specs.declared.operators.Binary as binary
 use Rattle.cc_words.specs.declared.operators.Binary.TheVariants.{Add, Sub, Mul, DivS, DivU, RemS, RemU, Shl, ShrS, ShrU, And, Or, Xor, Eq, Ne, LtS, LtU, LeS, LeU}
 use Rattle.cc_ltl.specs.declared.operation.Move.{Move}
 use Rattle.cc_ltl.specs.declared.operation.Move.TheVariants.{Between, Reload, Spill}
-use Rattle.cc_semantics.specs.Numbered.{objects_in}
-use Rattle.cc_linear.specs.Pair as above
 use Rattle.cc_linear.specs.declared.item.Item as linear
 use Rattle.cc_linear.specs.declared.item.Item.TheVariants.{Label, Jump, IfNonzero, IfZero, Copy, Const, Unary, Binary, Load, Store, Call, Read, Write, Return}
 use Rattle.cc_rv32.specs.declared.instr.Instr.{Instr}
 use Rattle.cc_rv32.specs.declared.instr.Instr.TheVariants as instr
-use Rattle.cc_rv32.specs.declared.instr.Operation.{Operation}
 use Rattle.cc_rv32.specs.declared.instr.Operation.TheVariants as operation
-use Rattle.cc_rv32.specs.declared.instr.ImmediateOperation.{ImmediateOperation}
 use Rattle.cc_rv32.specs.declared.instr.ImmediateOperation.TheVariants.{Addi, Slti, Sltiu, Xori, Ori, Andi}
-use Rattle.cc_rv32.specs.declared.instr.ShiftOperation.{ShiftOperation}
 use Rattle.cc_rv32.specs.declared.instr.ShiftOperation.TheVariants.{Slli, Srli, Srai}
 use Rattle.cc_words.specs.declared.operators.Width.{Width}
 use Rattle.cc_words.specs.declared.operators.Width.TheVariants.{Byte, Word}
-use Rattle.cc_rv32.specs.declared.instr.BranchOperation.{BranchOperation}
 use Rattle.cc_rv32.specs.declared.instr.BranchOperation.TheVariants.{Beq, Bne}
+use Rattle.cc_select.specs.declared.step.Immediate as immediate
+use Rattle.cc_select.specs.declared.step.Immediate.TheVariants as immediates
+use Rattle.cc_select.specs.declared.step.Step.{Step}
+use Rattle.cc_select.specs.declared.step.Step.TheVariants.{One, Immediate, LoadAt, StoreAt, Branch, BranchImmediate}
+use Rattle.cc_emit.specs.declared.addressed.Addressed.{Addressed}
+use Rattle.cc_emit.specs.declared.addressed.Remembered.{Remembered}
+use Rattle.cc_emit.specs.declared.addressed.Remembered.TheVariants.{Nothing, Upper, Element}
+use Rattle.cc_emit.specs.declared.condition.Condition.{Condition}
 use Rattle.cc_emit.specs.declared.item.Item.{Item}
 use Rattle.cc_emit.specs.declared.item.Item.TheVariants as item
 use Rattle.cc_emit.specs.declared.item.Item.TheVariants.{Plain, Go}
@@ -32,14 +34,9 @@ use Rattle.cc_emit.specs.declared.recipe.Recipe.{Recipe}
 use Rattle.cc_emit.specs.declared.recipe.Recipe.TheVariants.{Direct, ZeroOf, ZeroOfExchanged, NonzeroOf}
 use Rattle.cc_emit.specs.declared.recipe.WordRecipe.{WordRecipe}
 use Rattle.cc_emit.specs.declared.recipe.WordRecipe.TheVariants.{WithImmediate, ShiftBy, OnZero, ZeroOfImmediate, NonzeroOfImmediate}
-use Rattle.cc_emit.specs.declared.step.Immediate as immediate
-use Rattle.cc_emit.specs.declared.step.Immediate.TheVariants as immediates
-use Rattle.cc_emit.specs.declared.step.Step.{Step}
-use Rattle.cc_emit.specs.declared.step.Step.TheVariants.{One, Immediate, LoadAt, StoreAt}
-use Rattle.cc_emit.specs.Objects.{object_address}
 use Rattle.cc_emit.specs.Contract.{load_of, store_of, element_place}
-use Rattle.cc_emit.specs.Frames.{Frame, frame_size, frame_of}
-use Rattle.cc_emit.specs.Steps.{steps}
+use Rattle.cc_emit.specs.Frames.{Frame, frame_size}
+use Rattle.cc_emit.specs.Branches.{compares, opposite, turned, comparison, against_zero, asked_of}
 
 -- ---- instructions
 
@@ -138,15 +135,21 @@ recipe_items (ZeroOf o) to a b = Plain (instr.Op o 5 a b) ∷ Plain (instr.OpImm
 recipe_items (ZeroOfExchanged o) to a b = Plain (instr.Op o 5 b a) ∷ Plain (instr.OpImm Sltiu to 5 1) ∷ []
 recipe_items (NonzeroOf o) to a b = Plain (instr.Op o 5 a b) ∷ Plain (instr.Op operation.Sltu to 0 5) ∷ []
 
+-- x6 becomes the upper part of an address, where it is not
+abbrev pub upper_items : Remembered → (address : ℕ) → List Item
+upper_items Nothing address = Plain (instr.Lui 6 (high address)) ∷ []
+upper_items known address = []
+
 -- before the access to an element: x5 becomes its address, less the lower part of its object's address, from how many bytes it lies behind
 -- the first one
-abbrev pub based : (base distance : ℕ) → List Item → List Item
-based base distance items = Plain (instr.Lui 6 (high base)) ∷ Plain (instr.Op operation.Add 5 distance 6) ∷ items
+abbrev pub based : Remembered → (base distance : ℕ) → List Item → List Item
+based known base distance items = upper_items known base ++ Plain (instr.Op operation.Add 5 distance 6) ∷ items
 
--- from its number
-abbrev pub indexed : Width → (base index : ℕ) → List Item → List Item
-indexed Byte base index items = based base index items
-indexed Word base index items = Plain (instr.Shift Slli 5 index 2) ∷ based base 5 items
+-- from its number, where it is not that address
+abbrev pub indexed : Remembered → Width → (base index : ℕ) → List Item → List Item
+indexed Element width base index items = items
+indexed known Byte base index items = based known base index items
+indexed known Word base index items = Plain (instr.Shift Slli 5 index 2) ∷ based known base 5 items
 
 -- a service of the machine
 abbrev pub service : (number : ℕ) → List Item
@@ -156,31 +159,31 @@ service number = addi 17 0 number ∷ Plain instr.Ecall ∷ []
 abbrev pub distance : (from to : ℕ) → ℕ
 distance from to = if nat_le from to then 4 * (to - from) else 2 ^ 32 - 4 * (from - to)
 
--- a branch on a register: where it is near, one instruction, else the opposite one over a jump
-abbrev pub branch_items : (near : Bool) → (taken opposite : BranchOperation) → (register place to : ℕ) → List Item
-branch_items near taken opposite r place to =
-    if near then Plain (instr.Branch taken r 0 (distance place to)) ∷ []
-    else Plain (instr.Branch opposite r 0 8) ∷ Go to ∷ []
+-- a branch: where it is near, one instruction, else the opposite one over a jump
+abbrev pub branch_items : (near : Bool) → Condition → (place to : ℕ) → List Item
+branch_items near c place to =
+    if near then Plain (instr.Branch c.operation c.left c.right (distance place to)) ∷ []
+    else Plain (instr.Branch (opposite c.operation) c.left c.right 8) ∷ Go to ∷ []
 
--- the items of one item of Linear at a place; `base` has the objects' addresses, `labels` the labels' places, `near` says whether a
--- branch from here to a label is near
-abbrev pub items_of_one : (base : ℕ → ℕ) → Frame → (near : ℕ → Bool) → (labels : ℕ → ℕ) → (place : ℕ) → linear.Item → List Item
-items_of_one base f near labels place (Label label) = []
-items_of_one base f near labels place (Jump to) = Go (labels to) ∷ []
-items_of_one base f near labels place (IfNonzero from to) = branch_items (near to) Bne Beq from place (labels to)
-items_of_one base f near labels place (IfZero from to) = branch_items (near to) Beq Bne from place (labels to)
-items_of_one base f near labels place (Copy m) = move_item m ∷ []
-items_of_one base f near labels place (Const to word) = const_items to word
-items_of_one base f near labels place (Unary operator to from) = Plain (unary_instr operator to from) ∷ []
-items_of_one base f near labels place (Binary operator to left right) = recipe_items (recipe operator) to left right
-items_of_one base f near labels place (Load width object to index) = indexed width (base object) index (load_element width to 5 (low (base object)) ∷ [])
-items_of_one base f near labels place (Store width object index from) = indexed width (base object) index (store_element width 5 from (low (base object)) ∷ [])
-items_of_one base f near labels place (Call function) = item.Call function ∷ []
-items_of_one base f near labels place Read = service 2
-items_of_one base f near labels place Write = service 1
-items_of_one base f near labels place Return = epilogue f
+-- the items of one item of Linear at a place, of whose address so much is known; `base` has the objects' addresses, `labels` the labels'
+-- places, `near` says whether a branch from here to a label is near
+abbrev pub items_of_one : (base : ℕ → ℕ) → Frame → (near : ℕ → Bool) → (labels : ℕ → ℕ) → (place : ℕ) → Remembered → linear.Item → List Item
+items_of_one base f near labels place known (Label label) = []
+items_of_one base f near labels place known (Jump to) = Go (labels to) ∷ []
+items_of_one base f near labels place known (IfNonzero from to) = branch_items (near to) (compares Bne from 0) place (labels to)
+items_of_one base f near labels place known (IfZero from to) = branch_items (near to) (compares Beq from 0) place (labels to)
+items_of_one base f near labels place known (Copy m) = move_item m ∷ []
+items_of_one base f near labels place known (Const to word) = const_items to word
+items_of_one base f near labels place known (Unary operator to from) = Plain (unary_instr operator to from) ∷ []
+items_of_one base f near labels place known (Binary operator to left right) = recipe_items (recipe operator) to left right
+items_of_one base f near labels place known (Load width object to index) = indexed known width (base object) index (load_element width to 5 (low (base object)) ∷ [])
+items_of_one base f near labels place known (Store width object index from) = indexed known width (base object) index (store_element width 5 from (low (base object)) ∷ [])
+items_of_one base f near labels place known (Call function) = item.Call function ∷ []
+items_of_one base f near labels place known Read = service 2
+items_of_one base f near labels place known Write = service 1
+items_of_one base f near labels place known Return = epilogue f
 
--- ---- what stands for two items of Linear
+-- ---- what stands for the other steps
 
 -- how an operator on a register and a word is made: by one instruction with an immediate, by a shift, or by one instruction on 0 and the
 -- register; or by asking whether the word that an instruction with an immediate gives is zero, or whether it is not
@@ -209,33 +212,47 @@ word_recipe immediates.GtU w = OnZero operation.Sltu
 word_recipe immediates.GeS w = ZeroOfImmediate Slti (low w)
 word_recipe immediates.GeU w = ZeroOfImmediate Sltiu (low w)
 
+-- the instruction that a recipe begins with, into a register
+abbrev pub first_instr : WordRecipe → (to from : ℕ) → Instr
+first_instr (WithImmediate o n) to a = instr.OpImm o to a n
+first_instr (ShiftBy o n) to a = instr.Shift o to a n
+first_instr (OnZero o) to a = instr.Op o to 0 a
+first_instr (ZeroOfImmediate o n) to a = instr.OpImm o to a n
+first_instr (NonzeroOfImmediate o n) to a = instr.OpImm o to a n
+
 abbrev pub word_recipe_items : WordRecipe → (to from : ℕ) → List Item
-word_recipe_items (WithImmediate o n) to a = Plain (instr.OpImm o to a n) ∷ []
-word_recipe_items (ShiftBy o n) to a = Plain (instr.Shift o to a n) ∷ []
-word_recipe_items (OnZero o) to a = Plain (instr.Op o to 0 a) ∷ []
-word_recipe_items (ZeroOfImmediate o n) to a = Plain (instr.OpImm o 5 a n) ∷ Plain (instr.OpImm Sltiu to 5 1) ∷ []
-word_recipe_items (NonzeroOfImmediate o n) to a = Plain (instr.OpImm o 5 a n) ∷ Plain (instr.Op operation.Sltu to 0 5) ∷ []
+word_recipe_items (ZeroOfImmediate o n) to a = Plain (first_instr (ZeroOfImmediate o n) 5 a) ∷ Plain (instr.OpImm Sltiu to 5 1) ∷ []
+word_recipe_items (NonzeroOfImmediate o n) to a = Plain (first_instr (NonzeroOfImmediate o n) 5 a) ∷ Plain (instr.Op operation.Sltu to 0 5) ∷ []
+word_recipe_items recipe to a = Plain (first_instr recipe to a) ∷ []
+
+-- a branch on a register and a word, by the recipe of the comparison: on x0 alone, where that says the same, else on x5 behind the recipe's
+-- first instruction
+abbrev pub word_branch_items : (alone : Option Condition) → WordRecipe → (near nonzero : Bool) → (from place to : ℕ) → List Item
+word_branch_items (Some c) recipe near nonzero a place to = branch_items near (turned nonzero c) place to
+word_branch_items None recipe near nonzero a place to = Plain (first_instr recipe 5 a) ∷ branch_items near (turned nonzero (compares (asked_of recipe) 5 0)) (place + 1) to
 
 -- the address of an element whose number is known
 abbrev pub known_place : Width → (base number : ℕ) → ℕ
 known_place width base number = element_place width base number % 2 ^ 32
 
-abbrev pub load_at : Width → (to address : ℕ) → List Item
-load_at width to address = Plain (instr.Lui 5 (high address)) ∷ load_element width to 5 (low address) ∷ []
+abbrev pub load_at : Remembered → Width → (to address : ℕ) → List Item
+load_at known width to address = upper_items known address ++ load_element width to 6 (low address) ∷ []
 
-abbrev pub store_at : Width → (from address : ℕ) → List Item
-store_at width from address = Plain (instr.Lui 5 (high address)) ∷ store_element width 5 from (low address) ∷ []
+abbrev pub store_at : Remembered → Width → (from address : ℕ) → List Item
+store_at known width from address = upper_items known address ++ store_element width 6 from (low address) ∷ []
 
--- the constant in its register, where the word that is loaded does not overwrite it
-abbrev pub kept_items : (to register word : ℕ) → List Item
-kept_items to r w = if to == r then [] else const_items r w
+-- the items of a step at a place, of whose address so much is known
+abbrev pub items_of_step : (base : ℕ → ℕ) → Frame → (near : ℕ → Bool) → (labels : ℕ → ℕ) → (place : ℕ) → Remembered → Step → List Item
+items_of_step base f near labels place known (One item) = items_of_one base f near labels place known item
+items_of_step base f near labels place known (Immediate operator to from word) = word_recipe_items (word_recipe operator word) to from
+items_of_step base f near labels place known (LoadAt width object to number) = load_at known width to (known_place width (base object) number)
+items_of_step base f near labels place known (StoreAt width object number from) = store_at known width from (known_place width (base object) number)
+items_of_step base f near labels place known (Branch operator nonzero left right to) = branch_items (near to) (turned nonzero (comparison operator left right)) place (labels to)
+items_of_step base f near labels place known (BranchImmediate operator nonzero from word to) =
+    word_branch_items (against_zero (word_recipe operator word) from) (word_recipe operator word) (near to) nonzero from place (labels to)
 
--- the items of a step at a place
-abbrev pub items_of : (base : ℕ → ℕ) → Frame → (near : ℕ → Bool) → (labels : ℕ → ℕ) → (place : ℕ) → Step → List Item
-items_of base f near labels place (One item) = items_of_one base f near labels place item
-items_of base f near labels place (Immediate operator to from word) = word_recipe_items (word_recipe operator word) to from
-items_of base f near labels place (LoadAt width object to index word) = kept_items to index word ++ load_at width to (known_place width (base object) word)
-items_of base f near labels place (StoreAt width object index word from) = const_items index word ++ store_at width from (known_place width (base object) word)
+abbrev pub items_of : (base : ℕ → ℕ) → Frame → (near : ℕ → Bool) → (labels : ℕ → ℕ) → (place : ℕ) → Addressed → List Item
+items_of base f near labels place s = items_of_step base f near labels place s.known s.step
 
 -- ---- how many items that are
 
@@ -259,25 +276,33 @@ abbrev pub branch_size : (near : Bool) → ℕ
 branch_size near = if near then 1 else 2
 
 -- an access to an element whose number is in a register
-abbrev pub access_size : Width → ℕ
-access_size Byte = 3
-access_size Word = 4
+abbrev pub access_size : Remembered → Width → ℕ
+access_size Nothing Byte = 3
+access_size Nothing Word = 4
+access_size Upper Byte = 2
+access_size Upper Word = 3
+access_size Element width = 1
 
-abbrev pub size_of_one : Frame → (near : ℕ → Bool) → linear.Item → ℕ
-size_of_one f near (Label label) = 0
-size_of_one f near (Jump to) = 1
-size_of_one f near (IfNonzero from to) = branch_size (near to)
-size_of_one f near (IfZero from to) = branch_size (near to)
-size_of_one f near (Copy m) = 1
-size_of_one f near (Const to word) = const_size word
-size_of_one f near (Unary operator to from) = 1
-size_of_one f near (Binary operator to left right) = recipe_size (recipe operator)
-size_of_one f near (Load width object to index) = access_size width
-size_of_one f near (Store width object index from) = access_size width
-size_of_one f near (Call function) = 1
-size_of_one f near Read = 2
-size_of_one f near Write = 2
-size_of_one f near Return = length f.saved + stack_moved_size f + 1
+-- whose number is known
+abbrev pub known_access_size : Remembered → ℕ
+known_access_size Nothing = 2
+known_access_size known = 1
+
+abbrev pub size_of_one : Frame → (near : ℕ → Bool) → Remembered → linear.Item → ℕ
+size_of_one f near known (Label label) = 0
+size_of_one f near known (Jump to) = 1
+size_of_one f near known (IfNonzero from to) = branch_size (near to)
+size_of_one f near known (IfZero from to) = branch_size (near to)
+size_of_one f near known (Copy m) = 1
+size_of_one f near known (Const to word) = const_size word
+size_of_one f near known (Unary operator to from) = 1
+size_of_one f near known (Binary operator to left right) = recipe_size (recipe operator)
+size_of_one f near known (Load width object to index) = access_size known width
+size_of_one f near known (Store width object index from) = access_size known width
+size_of_one f near known (Call function) = 1
+size_of_one f near known Read = 2
+size_of_one f near known Write = 2
+size_of_one f near known Return = length f.saved + stack_moved_size f + 1
 
 abbrev pub word_recipe_size : WordRecipe → ℕ
 word_recipe_size (WithImmediate o n) = 1
@@ -286,40 +311,50 @@ word_recipe_size (OnZero o) = 1
 word_recipe_size (ZeroOfImmediate o n) = 2
 word_recipe_size (NonzeroOfImmediate o n) = 2
 
-abbrev pub kept_size : (to register word : ℕ) → ℕ
-kept_size to r w = if to == r then 0 else const_size w
+abbrev pub word_branch_size : (alone : Option Condition) → (near : Bool) → ℕ
+word_branch_size (Some c) near = branch_size near
+word_branch_size None near = 1 + branch_size near
 
-abbrev pub size : Frame → (near : ℕ → Bool) → Step → ℕ
-size f near (One item) = size_of_one f near item
-size f near (Immediate operator to from word) = word_recipe_size (word_recipe operator word)
-size f near (LoadAt width object to index word) = kept_size to index word + 2
-size f near (StoreAt width object index word from) = const_size word + 2
+abbrev pub size_of_step : Frame → (near : ℕ → Bool) → Remembered → Step → ℕ
+size_of_step f near known (One item) = size_of_one f near known item
+size_of_step f near known (Immediate operator to from word) = word_recipe_size (word_recipe operator word)
+size_of_step f near known (LoadAt width object to number) = known_access_size known
+size_of_step f near known (StoreAt width object number from) = known_access_size known
+size_of_step f near known (Branch operator nonzero left right to) = branch_size (near to)
+size_of_step f near known (BranchImmediate operator nonzero from word to) = word_branch_size (against_zero (word_recipe operator word) from) (near to)
+
+abbrev pub size : Frame → (near : ℕ → Bool) → Addressed → ℕ
+size f near s = size_of_step f near s.known s.step
 
 -- with each branch in its long form
-abbrev pub long_size : Frame → Step → ℕ
+abbrev pub long_size : Frame → Addressed → ℕ
 long_size f s = size f (λ label. false) s
 
 -- ---- where labels stand
 
-abbrev pub is_label : (label : ℕ) → Step → Bool
-is_label label (One (Label other)) = other == label
-is_label label s = false
+abbrev pub is_label_step : (label : ℕ) → Step → Bool
+is_label_step label (One (Label other)) = other == label
+is_label_step label step = false
+
+abbrev pub is_label : (label : ℕ) → Addressed → Bool
+is_label label s = is_label_step label s.step
 
 -- in the first pass, in steps from this place on; their end, where the label stands nowhere
-abbrev pub long_place : Frame → (place : ℕ) → List Step → (label : ℕ) → ℕ
+abbrev pub long_place : Frame → (place : ℕ) → List Addressed → (label : ℕ) → ℕ
 long_place f place [] label = place
 long_place f place (s ∷ steps) label = if is_label label s then place else long_place f (place + long_size f s) steps label
 
--- whether a branch reaches one place from another: by -4096 to 4092 bytes
-abbrev pub reaches : (from to : ℕ) → Bool
-reaches from to = nat_le from (to + 1024) && nat_lt to (from + 1024)
+-- whether a branch, which reaches from -4096 to 4092 bytes, does so from one place, and from the next one, to another: a step's branch may
+-- stand behind an instruction
+abbrev pub is_close : (from to : ℕ) → Bool
+is_close from to = nat_lt from (to + 1024) && nat_lt to (from + 1024)
 
--- whether a branch is near, by its place in the first pass, where the function's items begin at place 0
-abbrev pub is_near : Frame → List Step → (long label : ℕ) → Bool
-is_near f steps long label = reaches long (long_place f 0 steps label)
+-- whether a step's branch is near, by the step's place in the first pass, where the function's items begin at place 0
+abbrev pub is_near : Frame → List Addressed → (long label : ℕ) → Bool
+is_near f steps long label = is_close long (long_place f 0 steps label)
 
 -- in the second pass, in steps from this place on; `long` is their place in the first pass
-abbrev pub short_place : Frame → (near : (long label : ℕ) → Bool) → (long place : ℕ) → List Step → (label : ℕ) → ℕ
+abbrev pub short_place : Frame → (near : (long label : ℕ) → Bool) → (long place : ℕ) → List Addressed → (label : ℕ) → ℕ
 short_place f near long place [] label = place
 short_place f near long place (s ∷ steps) label =
     if is_label label s then place else short_place f near (long + long_size f s) (place + size f (near long) s) steps label
@@ -327,20 +362,12 @@ short_place f near long place (s ∷ steps) label =
 -- ---- the code
 
 -- what stands for steps from these places on
-abbrev pub emitted : (base : ℕ → ℕ) → Frame → (near : (long label : ℕ) → Bool) → (labels : ℕ → ℕ) → (long place : ℕ) → List Step → List Item
+abbrev pub emitted : (base : ℕ → ℕ) → Frame → (near : (long label : ℕ) → Bool) → (labels : ℕ → ℕ) → (long place : ℕ) → List Addressed → List Item
 emitted base f near labels long place [] = []
 emitted base f near labels long place (s ∷ steps) =
     items_of base f (near long) labels place s ++ emitted base f near labels (long + long_size f s) (place + size f (near long) s) steps
 
 -- in a frame
-abbrev pub framed_items : (base : ℕ → ℕ) → Frame → List Step → List Item
+abbrev pub framed_items : (base : ℕ → ℕ) → Frame → List Addressed → List Item
 framed_items base f steps =
     prologue f ++ emitted base f (is_near f steps) (short_place f (is_near f steps) 0 (prologue_size f) steps) 0 (prologue_size f) steps
-
--- the code of a function with this many slots
-abbrev pub function_items : (base : ℕ → ℕ) → (slots : ℕ) → List linear.Item → List Item
-function_items base slots items = framed_items base (frame_of slots items) (steps items)
-
--- the items that a pair's code becomes, with the objects of its unit in order
-abbrev pub pair_items : above.Pair → List Item
-pair_items p = function_items (object_address (objects_in (above.tree_of p))) p.ltl.slots p.code

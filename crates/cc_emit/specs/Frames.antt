@@ -4,6 +4,8 @@ use Rattle.cc_ltl.specs.declared.location.Location.TheVariants.{Register}
 use Rattle.cc_ltl.specs.Ltl.{target, same_location}
 use Rattle.cc_linear.specs.declared.item.Item as linear
 use Rattle.cc_linear.specs.declared.item.Item.TheVariants.{Copy, Const, Unary, Binary, Load, Call}
+use Rattle.cc_select.specs.declared.step.Step.{Step}
+use Rattle.cc_select.specs.declared.step.Step.TheVariants.{One, Immediate, LoadAt}
 
 -- slot i lies at x2 + 4 * i, and behind the slots the saved registers in this order
 pub record Frame : Type 0 where
@@ -18,35 +20,42 @@ frame_size f = 4 * (f.slots + length f.saved)
 abbrev pub kept_registers : List ℕ
 kept_registers = 8 ∷ 9 ∷ 18 ∷ 19 ∷ 20 ∷ 21 ∷ 22 ∷ 23 ∷ 24 ∷ 25 ∷ 26 ∷ 27 ∷ []
 
--- whether an item writes a register, other than one that a call destroys
-abbrev pub writes : (register : ℕ) → linear.Item → Bool
-writes r (Copy m) = same_location (target m) (Register r)
-writes r (Const to word) = to == r
-writes r (Unary operator to from) = to == r
-writes r (Binary operator to left right) = to == r
-writes r (Load width object to index) = to == r
-writes r item = false
+-- whether an item of Linear writes a register, other than one that a call destroys
+abbrev pub item_writes : (register : ℕ) → linear.Item → Bool
+item_writes r (Copy m) = same_location (target m) (Register r)
+item_writes r (Const to word) = to == r
+item_writes r (Unary operator to from) = to == r
+item_writes r (Binary operator to left right) = to == r
+item_writes r (Load width object to index) = to == r
+item_writes r item = false
 
-abbrev pub is_written : List linear.Item → (register : ℕ) → Bool
+-- whether a step does
+abbrev pub writes : (register : ℕ) → Step → Bool
+writes r (One item) = item_writes r item
+writes r (Immediate operator to from word) = to == r
+writes r (LoadAt width object to number) = to == r
+writes r step = false
+
+abbrev pub is_written : List Step → (register : ℕ) → Bool
 is_written [] r = false
-is_written (item ∷ items) r = writes r item || is_written items r
+is_written (step ∷ steps) r = writes r step || is_written steps r
 
--- those that items write
-abbrev pub written : List linear.Item → List ℕ → List ℕ
-written items [] = []
-written items (r ∷ rs) = if is_written items r then r ∷ written items rs else written items rs
+-- those that steps write
+abbrev pub written : List Step → List ℕ → List ℕ
+written steps [] = []
+written steps (r ∷ rs) = if is_written steps r then r ∷ written steps rs else written steps rs
 
-abbrev pub is_call : linear.Item → Bool
-is_call (Call function) = true
-is_call item = false
+abbrev pub is_call : Step → Bool
+is_call (One (Call function)) = true
+is_call step = false
 
-abbrev pub calls : List linear.Item → Bool
+abbrev pub calls : List Step → Bool
 calls [] = false
-calls (item ∷ items) = is_call item || calls items
+calls (step ∷ steps) = is_call step || calls steps
 
 -- which registers are saved
-abbrev pub saved_by : List linear.Item → List ℕ
-saved_by items = if calls items then 1 ∷ written items kept_registers else written items kept_registers
+abbrev pub saved_by : List Step → List ℕ
+saved_by steps = if calls steps then 1 ∷ written steps kept_registers else written steps kept_registers
 
-abbrev pub frame_of : (slots : ℕ) → List linear.Item → Frame
-frame_of slots items = record { slots = slots; saved = saved_by items }
+abbrev pub frame_of : (slots : ℕ) → List Step → Frame
+frame_of slots steps = record { slots = slots; saved = saved_by steps }

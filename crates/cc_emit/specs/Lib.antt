@@ -4,10 +4,14 @@ pub mod Contract
 pub mod Objects
 -- the frame of a function
 pub mod Frames
--- which neighbours are emitted as one
-pub mod Steps
--- the items of a function's code
+-- which branches stand for comparisons
+pub mod Branches
+-- the items of each step
 pub mod Emission
+-- what the scratch registers hold, and which steps take their address from them
+pub mod Scratch
+-- the items of a function's code
+pub mod Function
 -- what a piece keeps
 pub mod Piece
 -- Worked emission, by computation; no contract rests on it.

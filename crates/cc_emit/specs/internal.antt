@@ -3,7 +3,5 @@
 pub mod Behind
 -- the addresses of objects as a table
 pub mod Bases
--- the step that a list begins with
-pub mod First
 -- what the instruction of a recipe has to hold
 pub mod Room

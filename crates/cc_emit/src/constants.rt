@@ -1,11 +1,10 @@
 //! Constants: one instruction where the word has twelve bits or twelve zeros at its end, else two.
 
 ghost use Rattle.std.specs.Prelude.{◌≡◌, ◌≤◌, ◌<◌, ◌++◌, OnOk};
-ghost use Rattle.cc_emit.specs.Emission.{const_items, const_size, kept_items, kept_size};
+ghost use Rattle.cc_emit.specs.Emission.{const_items, const_size};
 
 use crate::instructions::{SCRATCH, ZERO, add_immediate, high, load_upper, low, put};
 use crate::item::Item;
-use cc_ltl::Register;
 use std::alloc::AllocError;
 
 /// How many items a constant takes: 1 or 2.
@@ -33,33 +32,5 @@ pub(crate) fn put_constant(items: &mut Vec<Item>, to: u8, word: u32) -> Result<(
     } else {
         put(items, load_upper(SCRATCH, high))?;
         put(items, add_immediate(to, SCRATCH, low))
-    }
-}
-
-/// How many items keep a constant in its register behind a load: none where the load overwrites it, else at most 2.
-pub(crate) fn kept_size(to: Register, register: Register, word: u32) -> usize
-    ensures answer { result ≡ kept_size to register word }
-    ensures few { result ≤ 2 }
-{
-    if to.number() == register.number() {
-        0
-    } else {
-        constant_size(word)
-    }
-}
-
-/// Puts the items that keep a constant in its register behind a load.
-pub(crate) fn put_kept(
-    items: &mut Vec<Item>,
-    to: Register,
-    register: Register,
-    word: u32,
-) -> Result<(), AllocError>
-    ensures { OnOk result (items.new.items ≡ items.old.items ++ kept_items to register word) }
-{
-    if to.number() == register.number() {
-        Ok(())
-    } else {
-        put_constant(items, register.number(), word)
     }
 }

@@ -1,30 +1,37 @@
 //! The items of a function's code: those that stand for one step, and those of all steps behind the prologue.
 
-ghost use Rattle.std.specs.Prelude.{◌≡◌, ◌≤◌, ◌<◌, ◌^◌, ◌++◌, ◌∷◌, [], ℕ, true, length, get_or, OnOk, IfOk};
+ghost use Rattle.std.specs.Prelude.{◌≡◌, ◌≤◌, ◌<◌, ◌+◌, ◌^◌, ◌++◌, ◌∷◌, [], ℕ, true, length, get_or, OnOk, IfOk};
 ghost use Rattle.std.specs.List.{AllByRecursion};
 ghost use Rattle.cc_ltl.specs.Registers.{most_slots};
-ghost use Rattle.cc_linear.specs.Linear.{labels, IsItem};
-ghost use Rattle.cc_rv32.specs.Fields.{IsBranchOffset};
-ghost use Rattle.cc_emit.specs.Emission.{items_of_one, items_of, branch_items, move_item, based, indexed, known_place, load_at, store_at, service, distance, reaches, prologue, framed_items, function_items};
+ghost use Rattle.cc_select.specs.declared.step.Step.TheVariants.{One};
+ghost use Rattle.cc_select.specs.Selected.{labels, IsStep};
+ghost use Rattle.cc_rv32.specs.declared.instr.Instr.TheVariants.{Load, Store};
+ghost use Rattle.cc_emit.specs.Contract.{load_of, store_of};
+ghost use Rattle.cc_emit.specs.Emission.{low, items_of_one, items_of_step, move_item, upper_items, based, indexed, known_place, load_at, store_at, service, prologue, framed_items};
+ghost use Rattle.cc_emit.specs.Function.{function_items};
 ghost use Rattle.cc_emit.specs.declared.item.Item.TheVariants.{Plain};
-ghost use Rattle.cc_emit.specs.declared.step.Step.TheVariants.{One};
 ghost use Rattle.cc_emit.specs.internal.Bases.{base_in};
-ghost use Rattle.cc_emit.specs.internal.Behind.{near_behind, place_from, behind, ArePlaces, LeadsBelow};
+ghost use Rattle.cc_emit.specs.internal.Behind.{reaches, near_behind, place_from, behind, ArePlaces, StepLeadsBelow, LeadsBelow};
 
+use crate::addressed::{Addressed, Remembered};
 use crate::bases::Bases;
-use crate::constants::{put_constant, put_kept};
+use crate::branches::{put_branch_to, put_word_branch_to};
+use crate::condition::Condition;
+use crate::constants::put_constant;
 use crate::frame::Frame;
 use crate::instructions::{
-    OTHER_SCRATCH, SCRATCH, SERVICE, STACK, ZERO, add_immediate, branch, four_times, high, load,
-    load_element, load_upper, low, operate, put, put_item, serve, store, store_element,
+    OTHER_SCRATCH, SCRATCH, SERVICE, STACK, ZERO, add_immediate, four_times, high, known_place,
+    load, load_element, load_upper, low, operate, put, put_item, serve, store, store_element,
 };
 use crate::item::Item;
 use crate::operators::{put_binary, put_immediate, unary};
-use crate::step::{Step, steps};
+use crate::recipe::WordRecipe;
+use crate::scratch::addressed;
 use crate::tables::{Places, label_count, long_size};
 use cc_linear::Item as LinearItem;
 use cc_ltl::Move;
 use cc_rv32::instr::{BranchOperation, Instr, Operation};
+use cc_select::Step;
 use cc_words::Width;
 use std::alloc::{AllocError, Global};
 
@@ -44,18 +51,29 @@ fn move_word(between: Move) -> Instr
     }
 }
 
+// Puts the upper part of an address into x6, where it is not.
+fn put_upper(items: &mut Vec<Item>, known: Remembered, address: u32) -> Result<(), AllocError>
+    ensures { OnOk result (items.new.items ≡ items.old.items ++ upper_items known address) }
+{
+    match known {
+        Remembered::Nothing => put(items, load_upper(OTHER_SCRATCH, high(address))),
+        Remembered::Upper | Remembered::Element => Ok(()),
+    }
+}
+
 // Puts an access to an element that lies this many bytes behind the first: x5 becomes its address, less the lower part of its object's
 // address.
 fn put_based(
     items: &mut Vec<Item>,
+    known: Remembered,
     base: u32,
     distance: u8,
     access: Instr,
 ) -> Result<(), AllocError>
     requires { distance < 32 }
-    ensures { OnOk result (items.new.items ≡ items.old.items ++ based base distance (Plain access ∷ [])) }
+    ensures { OnOk result (items.new.items ≡ items.old.items ++ based known base distance (Plain access ∷ [])) }
 {
-    put(items, load_upper(OTHER_SCRATCH, high(base)))?;
+    put_upper(items, known, base)?;
     put(
         items,
         operate(Operation::Add, SCRATCH, distance, OTHER_SCRATCH),
@@ -66,54 +84,94 @@ fn put_based(
 // Puts an access to an element of that number.
 fn put_indexed(
     items: &mut Vec<Item>,
+    known: Remembered,
     width: Width,
     base: u32,
     index: u8,
     access: Instr,
 ) -> Result<(), AllocError>
     requires { index < 32 }
-    ensures { OnOk result (items.new.items ≡ items.old.items ++ indexed width base index (Plain access ∷ [])) }
+    ensures { OnOk result (items.new.items ≡ items.old.items ++ indexed known width base index (Plain access ∷ [])) }
 {
-    match width {
-        Width::Byte => put_based(items, base, index, access),
-        Width::Word => {
+    match (known, width) {
+        (Remembered::Element, _) => put(items, access),
+        (_, Width::Byte) => put_based(items, known, base, index, access),
+        (_, Width::Word) => {
             put(items, four_times(SCRATCH, index))?;
-            put_based(items, base, SCRATCH, access)
+            put_based(items, known, base, SCRATCH, access)
         }
     }
 }
 
-// The address of an element whose number is known.
-fn known_place(width: Width, base: u32, number: u32) -> u32
-    ensures { result ≡ known_place width base number }
+// Puts a load of an element of an object whose address is `base`.
+fn put_load(
+    items: &mut Vec<Item>,
+    known: Remembered,
+    width: Width,
+    base: u32,
+    to: u8,
+    index: u8,
+) -> Result<(), AllocError>
+    requires to { to < 32 }
+    requires index { index < 32 }
+    ensures { OnOk result (items.new.items ≡ items.old.items ++ indexed known width base index (Plain (Load (load_of width) to 5 (low base)) ∷ [])) }
 {
-    match width {
-        Width::Byte => base.wrapping_add(number),
-        Width::Word => base.wrapping_add(number.wrapping_mul(4)),
-    }
+    let access = load_element(width, to, SCRATCH, low(base));
+    put_indexed(items, known, width, base, index, access)
 }
 
-// Puts a load from an address.
-fn put_load_at(items: &mut Vec<Item>, width: Width, to: u8, address: u32) -> Result<(), AllocError>
+// Puts a store into one.
+fn put_store(
+    items: &mut Vec<Item>,
+    known: Remembered,
+    width: Width,
+    base: u32,
+    index: u8,
+    from: u8,
+) -> Result<(), AllocError>
+    requires index { index < 32 }
+    requires from { from < 32 }
+    ensures { OnOk result (items.new.items ≡ items.old.items ++ indexed known width base index (Plain (Store (store_of width) 5 from (low base)) ∷ [])) }
+{
+    let access = store_element(width, SCRATCH, from, low(base));
+    put_indexed(items, known, width, base, index, access)
+}
+
+// Puts a load of the element of that number.
+fn put_load_at(
+    items: &mut Vec<Item>,
+    known: Remembered,
+    width: Width,
+    base: u32,
+    to: u8,
+    number: u32,
+) -> Result<(), AllocError>
     requires { to < 32 }
-    ensures { OnOk result (items.new.items ≡ items.old.items ++ load_at width to address) }
+    ensures { OnOk result (items.new.items ≡ items.old.items ++ load_at known width to (known_place width base number)) }
 {
-    put(items, load_upper(SCRATCH, high(address)))?;
-    put(items, load_element(width, to, SCRATCH, low(address)))
+    let address = known_place(width, base, number);
+    put_upper(items, known, address)?;
+    put(items, load_element(width, to, OTHER_SCRATCH, low(address)))
 }
 
-// Puts a store to an address.
+// Puts a store into the element of that number.
 fn put_store_at(
     items: &mut Vec<Item>,
+    known: Remembered,
     width: Width,
+    base: u32,
+    number: u32,
     from: u8,
-    address: u32,
 ) -> Result<(), AllocError>
     requires { from < 32 }
-    ensures { OnOk result (items.new.items ≡ items.old.items ++ store_at width from address) }
+    ensures { OnOk result (items.new.items ≡ items.old.items ++ store_at known width from (known_place width base number)) }
 {
-    put(items, load_upper(SCRATCH, high(address)))?;
-    put(items, store_element(width, SCRATCH, from, low(address)))
+    let address = known_place(width, base, number);
+    put_upper(items, known, address)?;
+    put(
+        items,
+        store_element(width, OTHER_SCRATCH, from, low(address)),
+    )
 }
 
 // Puts a call of one of the machine's services.
@@ -125,74 +183,33 @@ fn put_service(items: &mut Vec<Item>, number: u32) -> Result<(), AllocError>
     put(items, serve())
 }
 
-// How far it is from one place to another, in bytes.
-fn distance(from: usize, to: usize) -> u32
-    requires { reaches from to ≡ true }
-    ensures value { result ≡ distance from to }
-    ensures fits { IsBranchOffset result }
-{
-    if from <= to {
-        4 * (to - from) as u32
-    } else {
-        0u32.wrapping_sub(4 * (from - to) as u32)
-    }
-}
-
-// Puts a branch: one instruction where it is near, else the opposite one over a jump.
-fn put_branch(
-    items: &mut Vec<Item>,
-    near: bool,
-    taken: BranchOperation,
-    opposite: BranchOperation,
-    register: u8,
-    to: usize,
-) -> Result<(), AllocError>
-    requires register { register < 32 }
-    requires reach { near ≡ true → reaches (length items.old.items) to ≡ true }
-    ensures { OnOk result (items.new.items ≡ items.old.items ++ branch_items near taken opposite register (length items.old.items) to) }
-{
-    if near {
-        let offset = distance(items.len(), to);
-        put(items, branch(taken, register, offset))
-    } else {
-        put(items, branch(opposite, register, 8))?;
-        put_item(items, Item::Go(to))
-    }
-}
-
-// Puts the items of one item of Linear that has this many from it on, with each branch long; `bases` has the objects' addresses.
+// Puts the items of one item of Linear, of whose address so much is known, and which has this many from it on, with each branch long;
+// `bases` has the objects' addresses.
 fn put_items_of_one(
     items: &mut Vec<Item>,
     frame: &Frame,
     places: &Places,
     bases: &Bases,
     here: usize,
+    known: Remembered,
     item: LinearItem,
 ) -> Result<(), AllocError>
-    requires known { LeadsBelow (length places.now.second.items) (One item) }
+    requires leads { StepLeadsBelow (length places.now.second.items) (One item) }
     requires within { (label : ℕ) → label < length places.now.second.items → get_or places.now.second.items label 0 ≤ places.now.end }
     requires reach { (label : ℕ) → label < length places.now.second.items → near_behind places.now.first.items here label ≡ true → reaches (length items.old.items) (place_from places.now.second.items places.now.end label) ≡ true }
-    ensures { OnOk result (items.new.items ≡ items.old.items ++ items_of_one (base_in bases.now) frame.now (near_behind places.now.first.items here) (place_from places.now.second.items places.now.end) (length items.old.items) item) }
+    ensures { OnOk result (items.new.items ≡ items.old.items ++ items_of_one (base_in bases.now) frame.now (near_behind places.now.first.items here) (place_from places.now.second.items places.now.end) (length items.old.items) known item) }
 {
     match item {
         LinearItem::Label { .. } => Ok(()),
         LinearItem::Jump { to } => put_item(items, Item::Go(places.place(to))),
-        LinearItem::IfNonzero { from, to } => put_branch(
-            items,
-            places.is_near(here, to),
-            BranchOperation::Bne,
-            BranchOperation::Beq,
-            from.number(),
-            places.place(to),
-        ),
-        LinearItem::IfZero { from, to } => put_branch(
-            items,
-            places.is_near(here, to),
-            BranchOperation::Beq,
-            BranchOperation::Bne,
-            from.number(),
-            places.place(to),
-        ),
+        LinearItem::IfNonzero { from, to } => {
+            let condition = Condition::new(BranchOperation::Bne, from.number(), ZERO);
+            put_branch_to(items, places, here, condition, to)
+        }
+        LinearItem::IfZero { from, to } => {
+            let condition = Condition::new(BranchOperation::Beq, from.number(), ZERO);
+            put_branch_to(items, places, here, condition, to)
+        }
         LinearItem::Copy { between } => put(items, move_word(between)),
         LinearItem::Const { to, word } => put_constant(items, to.number(), word),
         LinearItem::Unary { operator, to, from } => {
@@ -209,31 +226,27 @@ fn put_items_of_one(
             object,
             to,
             index,
-        } => {
-            let base = bases.of(object);
-            put_indexed(
-                items,
-                width,
-                base,
-                index.number(),
-                load_element(width, to.number(), SCRATCH, low(base)),
-            )
-        }
+        } => put_load(
+            items,
+            known,
+            width,
+            bases.of(object),
+            to.number(),
+            index.number(),
+        ),
         LinearItem::Store {
             width,
             object,
             index,
             from,
-        } => {
-            let base = bases.of(object);
-            put_indexed(
-                items,
-                width,
-                base,
-                index.number(),
-                store_element(width, SCRATCH, from.number(), low(base)),
-            )
-        }
+        } => put_store(
+            items,
+            known,
+            width,
+            bases.of(object),
+            index.number(),
+            from.number(),
+        ),
         LinearItem::Call { function } => put_item(items, Item::Call(function)),
         LinearItem::Read => put_service(items, READ),
         LinearItem::Write => put_service(items, WRITE),
@@ -241,22 +254,25 @@ fn put_items_of_one(
     }
 }
 
-// Puts the items of a step that has this many from it on, with each branch long; `bases` has the objects' addresses.
+// Puts the items of a step, of whose address so much is known, and which has this many from it on, with each branch long; `bases` has the
+// objects' addresses.
 fn put_items_of(
     items: &mut Vec<Item>,
     frame: &Frame,
     places: &Places,
     bases: &Bases,
     here: usize,
+    known: Remembered,
     step: Step,
 ) -> Result<(), AllocError>
-    requires known { LeadsBelow (length places.now.second.items) step }
+    requires leads { StepLeadsBelow (length places.now.second.items) step }
     requires within { (label : ℕ) → label < length places.now.second.items → get_or places.now.second.items label 0 ≤ places.now.end }
     requires reach { (label : ℕ) → label < length places.now.second.items → near_behind places.now.first.items here label ≡ true → reaches (length items.old.items) (place_from places.now.second.items places.now.end label) ≡ true }
-    ensures { OnOk result (items.new.items ≡ items.old.items ++ items_of (base_in bases.now) frame.now (near_behind places.now.first.items here) (place_from places.now.second.items places.now.end) (length items.old.items) step) }
+    requires next { (label : ℕ) → label < length places.now.second.items → near_behind places.now.first.items here label ≡ true → reaches (length items.old.items + 1) (place_from places.now.second.items places.now.end label) ≡ true }
+    ensures { OnOk result (items.new.items ≡ items.old.items ++ items_of_step (base_in bases.now) frame.now (near_behind places.now.first.items here) (place_from places.now.second.items places.now.end) (length items.old.items) known step) }
 {
     match step {
-        Step::One(item) => put_items_of_one(items, frame, places, bases, here, item),
+        Step::One(item) => put_items_of_one(items, frame, places, bases, here, known, item),
         Step::Immediate {
             operator,
             to,
@@ -267,31 +283,33 @@ fn put_items_of(
             width,
             object,
             to,
-            index,
-            word,
-        } => {
-            put_kept(items, to, index, word)?;
-            put_load_at(
-                items,
-                width,
-                to.number(),
-                known_place(width, bases.of(object), word),
-            )
-        }
+            number,
+        } => put_load_at(items, known, width, bases.of(object), to.number(), number),
         Step::StoreAt {
             width,
             object,
-            index,
-            word,
+            number,
             from,
+        } => put_store_at(items, known, width, bases.of(object), number, from.number()),
+        Step::Branch {
+            operator,
+            nonzero,
+            left,
+            right,
+            to,
         } => {
-            put_constant(items, index.number(), word)?;
-            put_store_at(
-                items,
-                width,
-                from.number(),
-                known_place(width, bases.of(object), word),
-            )
+            let condition = Condition::of_comparison(operator, left.number(), right.number());
+            put_branch_to(items, places, here, condition.turned(nonzero), to)
+        }
+        Step::BranchImmediate {
+            operator,
+            nonzero,
+            from,
+            word,
+            to,
+        } => {
+            let recipe = WordRecipe::of(operator, word);
+            put_word_branch_to(items, places, here, recipe, nonzero, from.number(), to)
         }
     }
 }
@@ -302,7 +320,7 @@ fn put_code(
     frame: &Frame,
     places: &Places,
     bases: &Bases,
-    steps: &[Step],
+    steps: &[Addressed],
 ) -> Result<(), AllocError>
     requires opened { items.old.items ≡ prologue frame.now }
     requires places { ArePlaces frame.now steps.now places.now.first.items places.now.second.items places.now.end }
@@ -312,7 +330,7 @@ fn put_code(
 {
     let mut here = places.long();
     for step in steps {
-        put_items_of(items, frame, places, bases, here, *step)?;
+        put_items_of(items, frame, places, bases, here, step.known, step.step)?;
         here -= long_size(frame, step);
     }
     Ok(())
@@ -322,16 +340,16 @@ fn put_code(
 pub(crate) fn function_items(
     alloc: Global,
     slots: u16,
-    code: &[LinearItem],
+    code: &[Step],
     bases: &Bases,
 ) -> Result<Vec<Item>, AllocError>
     requires slots { slots ≤ most_slots }
-    requires fit { (functions : ℕ) × AllByRecursion (IsItem slots functions (labels code.now)) code.now }
+    requires fit { (functions : ℕ) × AllByRecursion (IsStep slots functions (labels code.now)) code.now }
     requires few { length code.now ≤ 2 ^ 59 }
     ensures { IfOk result (λ items. items.items ≡ function_items (base_in bases.now) slots code.now) }
 {
     let frame = Frame::new(alloc, slots, code)?;
-    let steps = steps(alloc, code)?;
+    let steps = addressed(alloc, bases, code)?;
     let places = Places::new(alloc, &frame, steps.as_slice(), label_count(code))?;
     let mut items = Vec::new(alloc);
     frame.put_prologue(&mut items)?;

@@ -1,19 +1,20 @@
-//! The pass: the piece of a pair of Linear.
+//! The pass: the piece of a pair of Linear, by the steps that are selected for it.
 
 ghost use Rattle.std.specs.Prelude.{◌≡◌, IfOk};
-ghost use Rattle.cc_emit.specs.Emission.{pair_items};
+ghost use Rattle.cc_emit.specs.Function.{pair_items};
 
 use crate::bases::Bases;
 use crate::emission::function_items;
 use crate::piece::Piece;
 use cc_linear::LinearPair;
+use cc_select::select;
 use std::alloc::{AllocError, Global};
 use std::sync::Arc;
 
-/// The most items of Linear that are emitted. No memory holds more.
-const MOST_ITEMS: usize = 1 << 59;
+/// The most steps that are emitted. No memory holds more.
+const MOST_STEPS: usize = 1 << 59;
 
-/// The code of a function of a unit, as its items: those of `specs/Emission.antt`, at most 15 for an item of Linear or for two of them.
+/// The code of a function of a unit, as its items: those of `specs/Function.antt`, at most 15 for a step.
 /// That the machine does with them what the function does belongs to the answer's type. The LTL is kept beside them.
 ///
 /// It fails only for lack of memory (40); the pair is gone then.
@@ -23,13 +24,14 @@ pub fn emit(alloc: Global, pair: LinearPair) -> Result<Piece, AllocError>
     ensures ltl { IfOk result (λ piece. piece.ltl ≡ pair.ltl) }
     ensures items { IfOk result (λ piece. piece.items ≡ pair_items pair) }
 {
-    let code = pair.code();
-    if code.len() > MOST_ITEMS {
+    let selected = select(alloc, pair)?;
+    let code = selected.code();
+    if code.len() > MOST_STEPS {
         return Err(AllocError);
     }
-    let bases = Bases::new(alloc, pair.unit().externals())?;
-    let items = function_items(alloc, pair.slots(), code, &bases)?;
-    let function = pair.function();
-    let (unit, ltl) = pair.into_parts();
+    let bases = Bases::new(alloc, selected.unit().externals())?;
+    let items = function_items(alloc, selected.slots(), code, &bases)?;
+    let function = selected.function();
+    let (unit, ltl) = selected.into_parts();
     Ok(Piece::new(unit, function, ltl, items))
 }

@@ -3,13 +3,14 @@
 ghost use Rattle.std.specs.Prelude.{◌≡◌, ◌≤◌, ◌<◌, ◌+◌, ◌*◌, ◌++◌, length, IfOk, OnOk};
 ghost use Rattle.std.specs.List.{AllByRecursion};
 ghost use Rattle.cc_ltl.specs.Registers.{most_slots};
-ghost use Rattle.cc_emit.specs.Frames.{frame_size, frame_of, writes, is_written, calls, is_call};
+ghost use Rattle.cc_emit.specs.Frames.{frame_size, frame_of, item_writes, writes, is_written, calls, is_call};
 ghost use Rattle.cc_emit.specs.Emission.{saving, restoring, prologue, epilogue, prologue_size, stack_moved_size};
 
 use crate::instructions::{RETURN_ADDRESS, STACK, add_immediate, go_back, load, put, store};
 use crate::item::Item;
 use cc_linear::Item as LinearItem;
 use cc_ltl::Move;
+use cc_select::Step;
 use std::alloc::{AllocError, Global};
 use std::marker::Model;
 
@@ -37,8 +38,8 @@ impl Model for Frame {
 }
 
 impl Frame {
-    /// The frame of these items.
-    pub(crate) fn new(alloc: Global, slots: u16, code: &[LinearItem]) -> Result<Frame, AllocError>
+    /// The frame of these steps.
+    pub(crate) fn new(alloc: Global, slots: u16, code: &[Step]) -> Result<Frame, AllocError>
         requires { slots ≤ most_slots }
         ensures { IfOk result (λ frame. frame ≡ frame_of slots code.now) }
     {
@@ -79,7 +80,7 @@ impl Frame {
         usize::from(self.size() != 0)
     }
 
-    /// How many items come before those of the function's Linear: at most 14.
+    /// How many items come before those of the function's steps: at most 14.
     pub(crate) fn prologue_size(&self) -> usize
         ensures answer { result ≡ prologue_size self.now }
         ensures few { result ≤ 14 }
@@ -137,37 +138,48 @@ fn put_restoring(items: &mut Vec<Item>, offset: u32, saved: &[u8]) -> Result<(),
     Ok(())
 }
 
-fn calls(code: &[LinearItem]) -> bool
+fn calls(code: &[Step]) -> bool
     ensures { result ≡ calls code.now }
 {
-    for item in code {
-        if is_call(item) {
+    for step in code {
+        if is_call(step) {
             return true;
         }
     }
     false
 }
 
-fn is_call(item: &LinearItem) -> bool
-    ensures { result ≡ is_call item.now }
+fn is_call(step: &Step) -> bool
+    ensures { result ≡ is_call step.now }
 {
-    matches!(item, LinearItem::Call { .. })
+    matches!(step, Step::One(LinearItem::Call { .. }))
 }
 
-fn is_written(code: &[LinearItem], register: u8) -> bool
+fn is_written(code: &[Step], register: u8) -> bool
     ensures { result ≡ is_written code.now register }
 {
-    for item in code {
-        if writes(item, register) {
+    for step in code {
+        if writes(step, register) {
             return true;
         }
     }
     false
 }
 
-// Whether an item writes a register, other than one that a call destroys.
-fn writes(item: &LinearItem, register: u8) -> bool
-    ensures { result ≡ writes register item.now }
+// Whether a step writes a register, other than one that a call destroys.
+fn writes(step: &Step, register: u8) -> bool
+    ensures { result ≡ writes register step.now }
+{
+    match step {
+        Step::One(item) => item_writes(item, register),
+        Step::Immediate { to, .. } | Step::LoadAt { to, .. } => to.number() == register,
+        _ => false,
+    }
+}
+
+// Whether an item of Linear does.
+fn item_writes(item: &LinearItem, register: u8) -> bool
+    ensures { result ≡ item_writes register item.now }
 {
     match item {
         LinearItem::Copy {

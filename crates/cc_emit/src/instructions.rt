@@ -9,12 +9,12 @@ ghost use Rattle.cc_rv32.specs.declared.instr.LoadOperation.TheVariants.{Lw};
 ghost use Rattle.cc_rv32.specs.declared.instr.StoreOperation.TheVariants.{Sw};
 ghost use Rattle.cc_emit.specs.declared.item.Item.TheVariants.{Plain};
 ghost use Rattle.cc_emit.specs.Contract.{load_of, store_of};
-ghost use Rattle.cc_emit.specs.Emission.{low, high};
+ghost use Rattle.cc_emit.specs.Emission.{low, high, known_place};
 
+use crate::condition::Condition;
 use crate::item::Item;
 use cc_rv32::instr::{
-    BranchOperation, ImmediateOperation, Instr, LoadOperation, Operation, ShiftOperation,
-    StoreOperation,
+    ImmediateOperation, Instr, LoadOperation, Operation, ShiftOperation, StoreOperation,
 };
 use cc_rv32::operand::{BranchOffset, Immediate, Register, ShiftCount, UpperImmediate};
 use cc_words::Width;
@@ -26,9 +26,9 @@ pub(crate) const ZERO: u8 = 0;
 pub(crate) const RETURN_ADDRESS: u8 = 1;
 /// `x2`, the address of the frame.
 pub(crate) const STACK: u8 = 2;
-/// `x5`, for a result between two instructions of an item.
+/// `x5`, for a result between two instructions of a step, and for an element's address.
 pub(crate) const SCRATCH: u8 = 5;
-/// `x6`, for another.
+/// `x6`, for the upper part of an address.
 pub(crate) const OTHER_SCRATCH: u8 = 6;
 /// `x17`, in which the machine finds the number of a service.
 pub(crate) const SERVICE: u8 = 17;
@@ -174,16 +174,15 @@ pub(crate) fn store(at: u8, from: u8, offset: u32) -> Instr
     store_element(Width::Word, at, from, offset)
 }
 
-/// A branch where a register compares so to 0.
-pub(crate) fn branch(operation: BranchOperation, register: u8, offset: u32) -> Instr
-    requires register { register < 32 }
-    requires offset { IsBranchOffset offset }
-    ensures { result ≡ Branch operation register 0 offset }
+/// A branch that is taken on a condition.
+pub(crate) fn branch(condition: Condition, offset: u32) -> Instr
+    requires { IsBranchOffset offset }
+    ensures { result ≡ Branch condition.operation condition.left condition.right offset }
 {
     Instr::Branch {
-        operation,
-        rs1: Register::new(register),
-        rs2: Register::new(ZERO),
+        operation: condition.operation,
+        rs1: condition.left,
+        rs2: condition.right,
         offset: BranchOffset::new(offset),
     }
 }
@@ -237,4 +236,14 @@ pub(crate) fn high(word: u32) -> u32
     ensures fits { result < 2 ^ 20 }
 {
     ((u64::from(word) + 2048) / 4096 % 1_048_576) as u32
+}
+
+/// The address of an element whose number is known.
+pub(crate) fn known_place(width: Width, base: u32, number: u32) -> u32
+    ensures { result ≡ known_place width base number }
+{
+    match width {
+        Width::Byte => base.wrapping_add(number),
+        Width::Word => base.wrapping_add(number.wrapping_mul(4)),
+    }
 }

@@ -1,15 +1,18 @@
 //! Emission: from a function of Linear to the items of its code for RV32IM.
 //!
-//! `item` has the items, `piece` the type that keeps that a function's code does what the function does. Which neighbours of Linear are
-//! one step is defined in `specs/Steps.antt`, which items stand for a step in `specs/Emission.antt`, what a piece owes on the machine in
-//! `specs/Contract.antt`.
+//! `item` has the items, `piece` the type that keeps that a function's code does what the function does. The steps of a function are those
+//! that `cc_select` selects; which items stand for a step is defined in `specs/Emission.antt`, which branch stands for a comparison in
+//! `specs/Branches.antt`, what a piece owes on the machine in `specs/Contract.antt`.
 //!
-//! `emitting` is the pass. `step` has the steps, `bases` the objects' addresses, `frame` which registers are saved and where, `tables` the
-//! places of labels and which branches are near; `emission` puts the items of each step, with the help of `constants`, `recipe`,
-//! `operators` and `instructions`.
+//! `emitting` is the pass. `bases` has the objects' addresses, `frame` which registers are saved and where, `scratch` what the scratch
+//! registers hold between steps, so that each step is `addressed`, `tables` the places of labels and which branches are near; `emission`
+//! puts the items of each step, with the help of `constants`, `recipe`, `operators`, `condition`, `branches` and `instructions`.
 #![tactic(auto)]
 
+mod addressed;
 mod bases;
+mod branches;
+mod condition;
 mod constants;
 mod emission;
 mod emitting;
@@ -19,7 +22,7 @@ mod item;
 mod operators;
 mod piece;
 mod recipe;
-mod step;
+mod scratch;
 mod tables;
 
 pub use emitting::emit;

@@ -6,11 +6,11 @@ ghost use Rattle.cc_rv32.specs.declared.instr.Instr.TheVariants.{Op, OpImm};
 ghost use Rattle.cc_rv32.specs.declared.instr.Operation.TheVariants.{Sltu};
 ghost use Rattle.cc_rv32.specs.declared.instr.ImmediateOperation.TheVariants.{Sltiu};
 
-use crate::instructions::{SCRATCH, ZERO, operate, operate_immediate, put, shift};
+use crate::instructions::{SCRATCH, ZERO, operate, operate_immediate, put};
 use crate::item::Item;
 use crate::recipe::{Recipe, WordRecipe};
-use crate::step::Immediate;
 use cc_rv32::instr::{ImmediateOperation, Instr, Operation};
+use cc_select::Immediate;
 use cc_words::{Binary, Unary};
 use std::alloc::AllocError;
 
@@ -69,18 +69,17 @@ pub(crate) fn put_immediate(
     requires from { from < 32 }
     ensures { OnOk result (items.new.items ≡ items.old.items ++ word_recipe_items (word_recipe operator word) to from) }
 {
-    match WordRecipe::of(operator, word) {
-        WordRecipe::WithImmediate(operation, part) => {
-            put(items, operate_immediate(operation, to, from, part))
+    let recipe = WordRecipe::of(operator, word);
+    match recipe {
+        WordRecipe::WithImmediate(_, _) | WordRecipe::ShiftBy(_, _) | WordRecipe::OnZero(_) => {
+            put(items, recipe.first(to, from))
         }
-        WordRecipe::ShiftBy(operation, bits) => put(items, shift(operation, to, from, bits)),
-        WordRecipe::OnZero(operation) => put(items, operate(operation, to, ZERO, from)),
-        WordRecipe::ZeroOfImmediate(operation, part) => {
-            put(items, operate_immediate(operation, SCRATCH, from, part))?;
+        WordRecipe::ZeroOfImmediate(_, _) => {
+            put(items, recipe.first(SCRATCH, from))?;
             put(items, is_zero(to))
         }
-        WordRecipe::NonzeroOfImmediate(operation, part) => {
-            put(items, operate_immediate(operation, SCRATCH, from, part))?;
+        WordRecipe::NonzeroOfImmediate(_, _) => {
+            put(items, recipe.first(SCRATCH, from))?;
             put(items, is_nonzero(to))
         }
     }

@@ -1,13 +1,14 @@
 //! How operators become instructions: by one, or by asking of one's result whether it is 0. How many these are and which follows from that.
 
-ghost use Rattle.std.specs.Prelude.{◌≡◌, ◌≤◌};
-ghost use Rattle.cc_emit.specs.Emission.{recipe, recipe_size, word_recipe, word_recipe_size};
+ghost use Rattle.std.specs.Prelude.{◌≡◌, ◌<◌, ◌≤◌};
+ghost use Rattle.cc_emit.specs.Branches.{asked_of};
+ghost use Rattle.cc_emit.specs.Emission.{recipe, recipe_size, word_recipe, word_recipe_size, first_instr};
 ghost use Rattle.cc_emit.specs.internal.Room.{HasRoom};
-ghost use Rattle.cc_emit.specs.declared.step.Immediate.TheVariants.{Eq, Ne};
+ghost use Rattle.cc_select.specs.declared.step.Immediate.TheVariants.{Eq, Ne};
 
-use crate::instructions::low;
-use crate::step::Immediate;
-use cc_rv32::instr::{ImmediateOperation, Operation, ShiftOperation};
+use crate::instructions::{ZERO, low, operate, operate_immediate, shift};
+use cc_rv32::instr::{BranchOperation, ImmediateOperation, Instr, Operation, ShiftOperation};
+use cc_select::Immediate;
 use cc_words::{Binary, add, sub};
 
 /// How an operator on two words is made.
@@ -124,6 +125,34 @@ impl WordRecipe {
             WordRecipe::WithImmediate(_, _) | WordRecipe::ShiftBy(_, _) | WordRecipe::OnZero(_) =>
                 1,
             WordRecipe::ZeroOfImmediate(_, _) | WordRecipe::NonzeroOfImmediate(_, _) => 2,
+        }
+    }
+
+    /// The instruction that it begins with, into a register.
+    pub(crate) fn first(self, to: u8, from: u8) -> Instr
+        requires room { HasRoom self }
+        requires to { to < 32 }
+        requires from { from < 32 }
+        ensures { result ≡ first_instr self to from }
+    {
+        match self {
+            WordRecipe::WithImmediate(operation, part)
+            | WordRecipe::ZeroOfImmediate(operation, part)
+            | WordRecipe::NonzeroOfImmediate(operation, part) => {
+                operate_immediate(operation, to, from, part)
+            }
+            WordRecipe::ShiftBy(operation, bits) => shift(operation, to, from, bits),
+            WordRecipe::OnZero(operation) => operate(operation, to, ZERO, from),
+        }
+    }
+
+    /// How the word of that instruction compares to 0 where the recipe gives a word that is not 0.
+    pub(crate) fn asked(self) -> BranchOperation
+        ensures { result ≡ asked_of self }
+    {
+        match self {
+            WordRecipe::ZeroOfImmediate(_, _) => BranchOperation::Beq,
+            _ => BranchOperation::Bne,
         }
     }
 }

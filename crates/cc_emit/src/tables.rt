@@ -4,17 +4,19 @@
 
 ghost use Rattle.std.specs.Prelude.{◌≡◌, ◌≤◌, ◌<◌, ◌^◌, length, get_or, ℕ, List, [], ◌∷◌, false, IfOk};
 ghost use Rattle.std.specs.List.{AllByRecursion};
-ghost use Rattle.cc_linear.specs.declared.item.Item.{Item};
-ghost use Rattle.cc_emit.specs.declared.step.Step.TheVariants.{One};
-ghost use Rattle.cc_linear.specs.Linear.{labels};
-ghost use Rattle.cc_emit.specs.Emission.{access_size, size_of_one, kept_size, size, long_size, reaches};
+ghost use Rattle.cc_select.specs.declared.step.Step.{Step as Shown};
+ghost use Rattle.cc_select.specs.Selected.{labels};
+ghost use Rattle.cc_emit.specs.Branches.{against_zero};
+ghost use Rattle.cc_emit.specs.Emission.{access_size, known_access_size, branch_size, word_branch_size, size_of_one, size, long_size, is_close};
 ghost use Rattle.cc_emit.specs.internal.Behind.{near_behind, behind, label_of, IsTable, ArePlaces, place_from};
 
-use crate::constants::{constant_size, kept_size};
+use crate::addressed::{Addressed, Remembered};
+use crate::condition::Condition;
+use crate::constants::constant_size;
 use crate::frame::Frame;
 use crate::recipe::{Recipe, WordRecipe};
-use crate::step::Step;
 use cc_linear::Item as LinearItem;
+use cc_select::Step;
 use cc_words::Width;
 use std::alloc::{AllocError, Global};
 
@@ -33,7 +35,7 @@ impl Places {
     pub(crate) fn new(
         alloc: Global,
         frame: &Frame,
-        steps: &[Step],
+        steps: &[Addressed],
         count: usize,
     ) -> Result<Places, AllocError>
         requires { length steps.now ≤ 2 ^ 59 }
@@ -76,35 +78,35 @@ impl Places {
     }
 }
 
-/// A number that is above each label of these items.
-pub(crate) fn label_count(code: &[LinearItem]) -> usize
+/// A number that is above each label of these steps.
+pub(crate) fn label_count(code: &[Step]) -> usize
     ensures { AllByRecursion (λ label. label < result) (labels code.now) }
 {
     let mut count = 0;
-    for item in code {
-        count = count.max(above_label(item));
+    for step in code {
+        count = count.max(above_label(step));
     }
     count
 }
 
-// One more than an item's label, and 0 where it is none.
-fn above_label(item: &LinearItem) -> usize
-    ensures { (n : ℕ) (rest : List Item) → result ≤ n → AllByRecursion (λ label. label < n) (labels rest) → AllByRecursion (λ label. label < n) (labels (item.now ∷ rest)) }
+// One more than a step's label, and 0 where it is none.
+fn above_label(step: &Step) -> usize
+    ensures { (n : ℕ) (rest : List Shown) → result ≤ n → AllByRecursion (λ label. label < n) (labels rest) → AllByRecursion (λ label. label < n) (labels (step.now ∷ rest)) }
 {
-    match item {
-        LinearItem::Label { label } => *label as usize + 1,
+    match step {
+        Step::One(LinearItem::Label { label }) => *label as usize + 1,
         _ => 0,
     }
 }
 
-// Whether a branch reaches one place from another: at most 1,024 items back and 1,023 forward.
-fn reaches(from: usize, to: usize) -> bool
-    ensures { result ≡ reaches from to }
+// Whether a branch reaches one place from another and from the next place: they are at most 1,023 items apart.
+fn is_close(from: usize, to: usize) -> bool
+    ensures { result ≡ is_close from to }
 {
     if from <= to {
         to - from < 1024
     } else {
-        from - to <= 1024
+        from - to < 1024
     }
 }
 
@@ -113,25 +115,39 @@ fn is_near(first: &[usize], here: usize, label: u32) -> bool
     ensures { result ≡ near_behind first.now here label }
 {
     match first.get(label as usize) {
-        Some(there) => reaches(*there, here),
+        Some(there) => is_close(*there, here),
         None => false,
     }
 }
 
 // How many items an access to an element takes whose number is in a register.
-fn access_size(width: Width) -> usize
-    ensures answer { result ≡ access_size width }
+fn access_size(known: Remembered, width: Width) -> usize
+    ensures answer { result ≡ access_size known width }
     ensures few { result ≤ 4 }
 {
-    match width {
-        Width::Byte => 3,
-        Width::Word => 4,
+    match (known, width) {
+        (Remembered::Nothing, Width::Byte) => 3,
+        (Remembered::Nothing, Width::Word) => 4,
+        (Remembered::Upper, Width::Byte) => 2,
+        (Remembered::Upper, Width::Word) => 3,
+        (Remembered::Element, _) => 1,
+    }
+}
+
+// How many items an access to an element takes whose number is known.
+fn known_access_size(known: Remembered) -> usize
+    ensures answer { result ≡ known_access_size known }
+    ensures few { result ≤ 2 }
+{
+    match known {
+        Remembered::Nothing => 2,
+        Remembered::Upper | Remembered::Element => 1,
     }
 }
 
 // How many items an item of Linear takes where each branch is long: at most 15.
-fn long_size_of_one(frame: &Frame, item: &LinearItem) -> usize
-    ensures answer { result ≡ size_of_one frame.now (λ label. false) item.now }
+fn long_size_of_one(frame: &Frame, known: Remembered, item: &LinearItem) -> usize
+    ensures answer { result ≡ size_of_one frame.now (λ label. false) known item.now }
     ensures few { result ≤ 15 }
 {
     match item {
@@ -146,58 +162,99 @@ fn long_size_of_one(frame: &Frame, item: &LinearItem) -> usize
         | LinearItem::Write => 2,
         LinearItem::Const { word, .. } => constant_size(*word),
         LinearItem::Binary { operator, .. } => Recipe::of(*operator).size(),
-        LinearItem::Load { width, .. } | LinearItem::Store { width, .. } => access_size(*width),
+        LinearItem::Load { width, .. } | LinearItem::Store { width, .. } => {
+            access_size(known, *width)
+        }
         LinearItem::Return => frame.saved().len() + frame.moves() + 1,
     }
 }
 
+// How many items a branch takes: 1 or 2.
+fn branch_size(near: bool) -> usize
+    ensures answer { result ≡ branch_size near }
+    ensures few { result ≤ 2 }
+{
+    if near { 1 } else { 2 }
+}
+
+// How many items a branch on a register and a word takes: at most 3.
+fn word_branch_size(recipe: WordRecipe, from: u8, near: bool) -> usize
+    requires { from < 32 }
+    ensures answer { result ≡ word_branch_size (against_zero recipe from) near }
+    ensures few { result ≤ 3 }
+{
+    match Condition::against_zero(recipe, from) {
+        Some(_) => branch_size(near),
+        None => 1 + branch_size(near),
+    }
+}
+
 /// How many items a step takes where each branch is long: at most 15.
-pub(crate) fn long_size(frame: &Frame, step: &Step) -> usize
+pub(crate) fn long_size(frame: &Frame, step: &Addressed) -> usize
     ensures answer { result ≡ long_size frame.now step.now }
     ensures few { result ≤ 15 }
 {
-    match step {
-        Step::One(item) => long_size_of_one(frame, item),
+    match &step.step {
+        Step::One(item) => long_size_of_one(frame, step.known, item),
         Step::Immediate { operator, word, .. } => WordRecipe::of(*operator, *word).size(),
-        Step::LoadAt {
-            to,
-            index,
+        Step::LoadAt { .. } | Step::StoreAt { .. } => known_access_size(step.known),
+        Step::Branch { .. } => branch_size(false),
+        Step::BranchImmediate {
+            operator,
+            from,
             word,
             ..
-        } => kept_size(*to, *index, *word) + 2,
-        Step::StoreAt { word, .. } => constant_size(*word) + 2,
+        } => word_branch_size(WordRecipe::of(*operator, *word), from.number(), false),
     }
 }
 
 // How many items an item of Linear takes, where this many come from it on: at most 15.
-fn size_of_one(frame: &Frame, first: &[usize], here: usize, item: &LinearItem) -> usize
-    ensures answer { result ≡ size_of_one frame.now (near_behind first.now here) item.now }
+fn size_of_one(
+    frame: &Frame,
+    first: &[usize],
+    here: usize,
+    known: Remembered,
+    item: &LinearItem,
+) -> usize
+    ensures answer { result ≡ size_of_one frame.now (near_behind first.now here) known item.now }
     ensures few { result ≤ 15 }
 {
     match item {
         LinearItem::IfNonzero { to, .. } | LinearItem::IfZero { to, .. } => {
-            if is_near(first, here, *to) { 1 } else { 2 }
+            branch_size(is_near(first, here, *to))
         }
-        _ => long_size_of_one(frame, item),
+        _ => long_size_of_one(frame, known, item),
     }
 }
 
 // How many items a step takes, where this many come from it on: at most 15.
-fn size(frame: &Frame, first: &[usize], here: usize, step: &Step) -> usize
+fn size(frame: &Frame, first: &[usize], here: usize, step: &Addressed) -> usize
     ensures answer { result ≡ size frame.now (near_behind first.now here) step.now }
     ensures few { result ≤ 15 }
 {
-    match step {
-        Step::One(item) => size_of_one(frame, first, here, item),
+    match &step.step {
+        Step::One(item) => size_of_one(frame, first, here, step.known, item),
+        Step::Branch { to, .. } => branch_size(is_near(first, here, *to)),
+        Step::BranchImmediate {
+            operator,
+            from,
+            word,
+            to,
+            ..
+        } => word_branch_size(
+            WordRecipe::of(*operator, *word),
+            from.number(),
+            is_near(first, here, *to),
+        ),
         _ => long_size(frame, step),
     }
 }
 
 // The label that a step is, where it is one.
-fn label_of(step: &Step) -> Option<u32>
+fn label_of(step: &Addressed) -> Option<u32>
     ensures { result ≡ label_of step.now }
 {
-    match step {
+    match &step.step {
         Step::One(LinearItem::Label { label }) => Some(*label),
         _ => None,
     }
@@ -207,7 +264,7 @@ fn label_of(step: &Step) -> Option<u32>
 fn table(
     alloc: Global,
     frame: &Frame,
-    steps: &[Step],
+    steps: &[Addressed],
     count: usize,
     first: &[usize],
 ) -> Result<(Vec<usize>, usize), AllocError>

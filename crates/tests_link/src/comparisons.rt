@@ -13,9 +13,16 @@ const IMMEDIATE: u32 = 0xfff0_707f;
 /// That of the functions, the first register and the opcode.
 const FIRST: u32 = 0xfe0f_f07f;
 
+/// That of a branch's function, its first register and the opcode.
+const BRANCH_FIRST: u32 = 0x000f_f07f;
+
+/// The same with its second register.
+const BRANCH_SECOND: u32 = 0x01f0_707f;
+
 /// A condition on `a`, how many instructions it takes, and the mask and bits of one of them, by the tables of the standard: slti has opcode
 /// 0010011 and funct3 010, sltiu 011, xori 100, addi 000; slt has opcode 0110011, funct3 010 and funct7 0, sltu 011, here both with x0
-/// first. A mask of 0 where the constant is in a register, or none is needed.
+/// first. Of a branch, which each condition has, the opcode is 1100011, and funct3 is 000 for beq, 001 for bne, 100 for blt, 101 for bge. A
+/// mask of 0 where the constant is in a register.
 type Form = (&'static str, usize, u32, u32);
 
 /// As a value.
@@ -41,21 +48,23 @@ static VALUES: [Form; 19] = [
     ("a<=4294967295u", 3, 0, 0),
 ];
 
-/// In a branch, which goes the other way where the opposite takes fewer.
-static BRANCHES: [Form; 15] = [
+/// In a branch, which goes the other way: on two registers, of which one has the constant where no instruction has room for it.
+static BRANCHES: [Form; 17] = [
     ("a<10", 1, IMMEDIATE, 0x00a0_2013),
     ("a<=10", 1, IMMEDIATE, 0x00b0_2013),
     ("a>=10", 1, IMMEDIATE, 0x00a0_2013),
     ("!(a>=10)", 1, IMMEDIATE, 0x00a0_2013),
-    ("a>0", 1, FIRST, 0x0000_2033),
-    ("!a", 0, 0, 0),
-    ("a==0", 0, 0, 0),
-    ("a!=0", 0, 0, 0),
+    ("a>0", 0, BRANCH_FIRST, 0x0000_5063),
+    ("a<=0", 0, BRANCH_FIRST, 0x0000_4063),
+    ("a<0", 0, BRANCH_SECOND, 0x0000_5063),
+    ("!a", 0, BRANCH_SECOND, 0x0000_1063),
+    ("a==0", 0, BRANCH_SECOND, 0x0000_1063),
+    ("a!=0", 0, BRANCH_SECOND, 0x0000_0063),
     ("a==7", 1, IMMEDIATE, 0x0070_4013),
     ("a!=7", 1, IMMEDIATE, 0x0070_4013),
-    ("a>=2048", 3, 0, 0),
-    ("a<=2047", 3, 0, 0),
-    ("a==2048", 3, 0, 0),
+    ("a>=2048", 2, 0, 0),
+    ("a<=2047", 1, IMMEDIATE, 0x7ff0_0013),
+    ("a==2048", 2, 0, 0),
     ("a<=10u", 1, IMMEDIATE, 0x00b0_3013),
     ("a>=10u", 1, IMMEDIATE, 0x00a0_3013),
 ];
@@ -88,25 +97,18 @@ fn asked(
     found
 }
 
-// Whether a condition between two texts takes as many instructions as its form says, where `a` takes `plain` there.
-fn takes(
-    alloc: Global,
-    before: &str,
-    form: Form,
-    behind: &str,
-    plain: usize,
-) -> Result<bool, Fail> {
+// Whether a condition between two texts takes as many instructions more than `a` as its form says.
+fn takes(alloc: Global, before: &str, form: Form, behind: &str) -> Result<bool, Fail> {
     let (condition, more, mask, bits) = form;
     let (least, _) = asked(alloc, before, "a", behind, 0, 0)?;
     let (count, has) = asked(alloc, before, condition, behind, mask, bits)?;
-    Ok(count.saturating_add(plain) == least.saturating_add(more) && has)
+    Ok(count == least.saturating_add(more) && has)
 }
 
-// The value of `a` itself is a copy.
 #[test]
 fn instructions_of_values(rt: HostRuntime) -> Result<(), Fail> {
     for form in VALUES.iter() {
-        let right = takes(rt.alloc(), "int c=", *form, ";if(c)write_word(1);}", 1)?;
+        let right = takes(rt.alloc(), "write_word(", *form, ");}")?;
         assert!(rt; right, "{}", form.0);
     }
     Ok(())
@@ -115,7 +117,7 @@ fn instructions_of_values(rt: HostRuntime) -> Result<(), Fail> {
 #[test]
 fn instructions_of_branches(rt: HostRuntime) -> Result<(), Fail> {
     for form in BRANCHES.iter() {
-        let right = takes(rt.alloc(), "if(", *form, ")write_word(1);}", 0)?;
+        let right = takes(rt.alloc(), "if(", *form, ")write_word(1);}")?;
         assert!(rt; right, "{}", form.0);
     }
     Ok(())

@@ -1,16 +1,21 @@
--- Worked emission, by computation: the code of a function item for item, its run on the machine, neighbours as one step, comparisons with
--- a constant, and where a branch is near.
+-- Worked emission, by computation: the code of a function item for item, its run on the machine, operators and comparisons with a word,
+-- elements whose numbers are known, branches on comparisons, and where a branch is near.
 use Rattle.std.specs.Prelude.{ℕ, zero, suc, ◌+◌, ◌-◌, ◌*◌, ◌/◌, ◌≡◌, refl, true, false, if◌then◌else◌, ◌==◌, nat_le, List, [], ◌∷◌, map, None, slice_get}
 use Rattle.cc_words.specs.declared.operators.Width.TheVariants.{Byte, Word}
-use Rattle.cc_words.specs.declared.operators.Binary.TheVariants.{Add, Sub, ShrS, Ne, Eq, LtS, LtU, LeS, LeU}
+use Rattle.cc_words.specs.declared.operators.Binary.TheVariants.{Add, Sub, LtS, LeS, LeU, Ne}
 use Rattle.cc_ltl.specs.declared.operation.Move.TheVariants.{Reload, Spill}
 use Rattle.cc_linear.specs.declared.item.Item as linear
 use Rattle.cc_linear.specs.declared.item.Item.TheVariants.{Label, Jump, IfZero, Copy, Const, Binary, Load, Store, Call, Write, Return}
+use Rattle.cc_select.specs.declared.step.Immediate.TheVariants as immediate
+use Rattle.cc_select.specs.declared.step.Step.TheVariants.{One, Immediate, LoadAt, StoreAt, Branch, BranchImmediate}
 use Rattle.cc_rv32.specs.declared.instr.Instr.{Instr}
+use Rattle.cc_rv32.specs.declared.instr.Instr.TheVariants as instr
 use Rattle.cc_rv32.specs.declared.instr.Instr.TheVariants.{Jalr, Lui, Op, OpImm, Shift}
 use Rattle.cc_rv32.specs.declared.instr.Operation.TheVariants as operation
-use Rattle.cc_rv32.specs.declared.instr.ImmediateOperation.TheVariants.{Slti, Sltiu}
-use Rattle.cc_rv32.specs.declared.instr.ShiftOperation.TheVariants.{Srai}
+use Rattle.cc_rv32.specs.declared.instr.ImmediateOperation.TheVariants.{Andi, Slti, Sltiu}
+use Rattle.cc_rv32.specs.declared.instr.BranchOperation.{BranchOperation}
+use Rattle.cc_rv32.specs.declared.instr.BranchOperation.TheVariants.{Beq, Bne, Blt, Bge, Bltu}
+use Rattle.cc_rv32.specs.declared.instr.ShiftOperation.TheVariants.{Slli, Srai}
 use Rattle.cc_rv32.specs.Table.{encoding_of}
 use Rattle.cc_rv32.specs.Machine.{State, Turn, Continues, Exits, Traps, executed}
 use Rattle.cc_emit.specs.declared.item.Item.{Item}
@@ -18,7 +23,9 @@ use Rattle.cc_emit.specs.declared.item.Item.TheVariants as item
 use Rattle.cc_emit.specs.declared.item.Item.TheVariants.{Plain}
 use Rattle.cc_emit.specs.Contract.{Code, filled}
 use Rattle.cc_emit.specs.Objects.{object_address}
-use Rattle.cc_emit.specs.Emission.{addi, load_element, load_word, store_element, store_word, const_size, reaches, function_items}
+use Rattle.cc_emit.specs.Branches.{comparison, turned}
+use Rattle.cc_emit.specs.Emission.{addi, branch_items, load_element, load_word, store_element, store_word, const_size, is_close}
+use Rattle.cc_emit.specs.Function.{function_items}
 
 -- 1 is added up once; the sum goes through a slot and through an element of the second object, whose address has a negative lower part
 abbrev loop : List linear.Item
@@ -27,7 +34,7 @@ loop =
     ∷ Return ∷ []
 
 abbrev items : List Item
-items = function_items (object_address (record { width = Word; elements = 768 } ∷ record { width = Word; elements = 2 } ∷ [])) 2 loop
+items = function_items (object_address (record { width = Word; elements = 768 } ∷ record { width = Word; elements = 2 } ∷ [])) 2 (map One loop)
 
 -- the words of items at an address
 abbrev words_of : (a : ℕ) → List Item → List ℕ
@@ -36,11 +43,11 @@ words_of a (i ∷ is) = encoding_of (filled (λ g. 0) 0x10000 a i) ∷ words_of 
 
 -- addi x2, x2, -16; sw x18, 8(x2); sw x19, 12(x2); addi x18, x0, 1; addi x19, x0, 0; beq x18, x0, 20; add x19, x19, x18;
 -- addi x7, x0, 1; sub x18, x18, x7; jal x0, -16; sw x19, 4(x2); lw x10, 4(x2);
--- slli x5, x7, 2; lui x6, 513; add x5, x5, x6; sw x10, -1024(x5); slli x5, x7, 2; lui x6, 513; add x5, x5, x6; lw x10, -1024(x5);
+-- slli x5, x7, 2; lui x6, 513; add x5, x5, x6; sw x10, -1024(x5); lw x10, -1024(x5);
 -- addi x17, x0, 1; ecall; lw x18, 8(x2); lw x19, 12(x2); addi x2, x2, 16; jalr x0, 0(x1)
 loop_words : words_of 0x10000 items
     ≡ 0xff010113 ∷ 0x01212423 ∷ 0x01312623 ∷ 0x00100913 ∷ 0x00000993 ∷ 0x00090a63 ∷ 0x012989b3 ∷ 0x00100393 ∷ 0x40790933 ∷ 0xff1ff06f ∷ 0x01312223 ∷ 0x00412503 ∷ 0x00239293 ∷ 0x00201337 ∷ 0x006282b3 ∷ 0xc0a2a023
-    ∷ 0x00239293 ∷ 0x00201337 ∷ 0x006282b3 ∷ 0xc002a503 ∷ 0x00100893 ∷ 0x00000073 ∷ 0x00812903 ∷ 0x00c12983 ∷ 0x01010113 ∷ 0x00008067 ∷ []
+    ∷ 0xc002a503 ∷ 0x00100893 ∷ 0x00000073 ∷ 0x00812903 ∷ 0x00c12983 ∷ 0x01010113 ∷ 0x00008067 ∷ []
 unfolding encoding_of
 loop_words = refl
 
@@ -69,42 +76,40 @@ seen : State → List ℕ
 seen s = s.pc ∷ s.registers 18 ∷ s.registers 19 ∷ s.registers 2 ∷ s.registers 10 ∷ s.memory 0x200c04 ∷ s.output
 
 -- it comes back with x2, x18 and x19 as they were, the sum in x10, in the object and written
-ran : seen (steps 27 called) ≡ 0x20004 ∷ 1018 ∷ 1019 ∷ 0x700000 ∷ 1 ∷ 1 ∷ 1 ∷ []
+ran : seen (steps 24 called) ≡ 0x20004 ∷ 1018 ∷ 1019 ∷ 0x700000 ∷ 1 ∷ 1 ∷ 1 ∷ []
 unfolding seen
 ran = refl
 
 -- a function that saves nothing has its return alone
-bare_words : words_of 0x10000 (function_items (λ g. 0) 0 (Return ∷ [])) ≡ 0x00008067 ∷ []
+bare_words : words_of 0x10000 (function_items (λ g. 0) 0 (One Return ∷ [])) ≡ 0x00008067 ∷ []
 unfolding encoding_of
 bare_words = refl
 
 -- one that calls saves x1: addi x2, x2, -4; sw x1, 0(x2); the call; lw x1, 0(x2); addi x2, x2, 4; jalr x0, 0(x1)
-calling : function_items (λ g. 0) 0 (Call 3 ∷ Return ∷ [])
+calling : function_items (λ g. 0) 0 (One (Call 3) ∷ One Return ∷ [])
     ≡ addi 2 2 0xfffffffc ∷ store_word 2 1 0 ∷ item.Call 3 ∷ load_word 1 2 0 ∷ addi 2 2 4 ∷ Plain (Jalr 0 1 0) ∷ []
 calling = refl
 
--- ---- neighbours as one step
+-- ---- words and numbers within an operation
 
--- a constant, and what overwrites its register; with a label between, another register, or no room for the word there are two steps
-pairs : function_items (λ g. 0x200000 + 2048 * g) 0
-    (Const 7 5 ∷ Binary Add 7 10 7 ∷ Const 7 5 ∷ Binary Sub 7 10 7 ∷ Const 7 31 ∷ Binary ShrS 7 10 7 ∷ Const 7 32 ∷ Binary ShrS 7 10 7 ∷ Const 7 5 ∷ Label 1 ∷ Binary Add 7 10 7 ∷ Const 7 5 ∷ Binary Add 10 10 7 ∷ Const 7 2048 ∷ Binary Sub 7 10 7 ∷ Const 7 1
-    ∷ Load Word 1 7 7 ∷ Const 7 1 ∷ Load Word 1 10 7 ∷ Const 7 1 ∷ Store Word 1 7 7 ∷ [])
-    ≡ addi 7 10 5 ∷ addi 7 10 0xfffffffb ∷ Plain (Shift Srai 7 10 31) ∷ addi 7 0 32 ∷ Plain (Op operation.Sra 7 10 7) ∷ addi 7 0 5 ∷ Plain (Op operation.Add 7 10 7) ∷ addi 7 0 5 ∷ Plain (Op operation.Add 10 10 7) ∷ addi 7 10 0xfffff800 ∷ Plain (Lui 5 0x201)
-    ∷ load_word 7 5 0xfffff804 ∷ addi 7 0 1 ∷ Plain (Lui 5 0x201) ∷ load_word 10 5 0xfffff804 ∷ addi 7 0 1 ∷ Plain (Lui 5 0x201) ∷ store_word 5 7 0xfffff804 ∷ []
-pairs = refl
+-- the word as an immediate, its negative, and as a number of bits; into the register that is read too
+words : function_items (λ g. 0) 0 (Immediate immediate.Add 7 10 5 ∷ Immediate immediate.Sub 7 10 5 ∷ Immediate immediate.ShrS 7 10 31 ∷ Immediate immediate.Sub 10 10 2048 ∷ Immediate immediate.And 7 10 0xfffff800 ∷ [])
+    ≡ addi 7 10 5 ∷ addi 7 10 0xfffffffb ∷ Plain (Shift Srai 7 10 31) ∷ addi 10 10 0xfffff800 ∷ Plain (OpImm Andi 7 10 0xfffff800) ∷ []
+words = refl
 
--- bytes: an element by its number in a register, stored and loaded, and by a number that is known, where the constant is overwritten, and where
--- it is kept
-bytes : function_items (object_address (record { width = Byte; elements = 5 } ∷ record { width = Byte; elements = 3 } ∷ [])) 0
-    (Store Byte 1 7 10 ∷ Load Byte 1 10 7 ∷ Const 7 2 ∷ Load Byte 1 7 7 ∷ Const 7 2 ∷ Load Byte 1 10 7 ∷ Const 7 2 ∷ Store Byte 1 7 10 ∷ [])
-    ≡ Plain (Lui 6 0x200) ∷ Plain (Op operation.Add 5 7 6) ∷ store_element Byte 5 10 8 ∷ Plain (Lui 6 0x200) ∷ Plain (Op operation.Add 5 7 6) ∷ load_element Byte 10 5 8 ∷ Plain (Lui 5 0x200) ∷ load_element Byte 7 5 10 ∷ addi 7 0 2 ∷ Plain (Lui 5 0x200)
-    ∷ load_element Byte 10 5 10 ∷ addi 7 0 2 ∷ Plain (Lui 5 0x200) ∷ store_element Byte 5 10 10 ∷ []
+-- element 1 of an object at 0x200800, whose address has a negative lower part
+elements : function_items (λ g. 0x200000 + 2048 * g) 0 (LoadAt Word 1 7 1 ∷ StoreAt Word 1 1 7 ∷ []) ≡ Plain (Lui 6 0x201) ∷ load_word 7 6 0xfffff804 ∷ store_word 6 7 0xfffff804 ∷ []
+elements = refl
+
+-- bytes: an element by its number in a register, stored and loaded, and by a number that is known
+bytes : function_items (object_address (record { width = Byte; elements = 5 } ∷ record { width = Byte; elements = 3 } ∷ [])) 0 (One (Store Byte 1 7 10) ∷ One (Load Byte 1 10 7) ∷ LoadAt Byte 1 7 2 ∷ StoreAt Byte 1 2 10 ∷ [])
+    ≡ Plain (Lui 6 0x200) ∷ Plain (Op operation.Add 5 7 6) ∷ store_element Byte 5 10 8 ∷ load_element Byte 10 5 8 ∷ load_element Byte 7 6 10 ∷ store_element Byte 6 10 10 ∷ []
 bytes = refl
 
 -- 300 goes to byte 1 of the second object, which keeps 44 of it, between bytes that stay: 0xaabbccdd becomes 0xaabb2cdd; what is loaded is 44
 abbrev byte_instructions : List Instr
 byte_instructions =
-    instructions 0x10000 (function_items (object_address (record { width = Byte; elements = 5 } ∷ record { width = Byte; elements = 3 } ∷ [])) 0 (Const 7 1 ∷ Const 10 300 ∷ Store Byte 1 7 10 ∷ Load Byte 1 10 7 ∷ Write ∷ Return ∷ []))
+    instructions 0x10000 (function_items (object_address (record { width = Byte; elements = 5 } ∷ record { width = Byte; elements = 3 } ∷ [])) 0 (map One (Const 7 1 ∷ Const 10 300 ∷ Store Byte 1 7 10 ∷ Load Byte 1 10 7 ∷ Write ∷ Return ∷ [])))
 
 abbrev byte_code : Code
 byte_code a = if nat_le 0x10000 a then slice_get byte_instructions ((a - 0x10000) / 4) else None
@@ -116,25 +121,101 @@ byte_steps (suc n) s = byte_steps n (after (executed (byte_code s.pc) s) s)
 bytes_seen : State → List ℕ
 bytes_seen s = s.pc ∷ s.registers 10 ∷ s.memory 0x200008 ∷ s.memory 0x200004 ∷ s.output
 
-bytes_ran : bytes_seen (byte_steps 11 (record called { memory = λ a. 0xaabbccdd })) ≡ 0x20004 ∷ 44 ∷ 0xaabb2cdd ∷ 0xaabbccdd ∷ 44 ∷ []
+bytes_ran : bytes_seen (byte_steps 9 (record called { memory = λ a. 0xaabbccdd })) ≡ 0x20004 ∷ 44 ∷ 0xaabb2cdd ∷ 0xaabbccdd ∷ 44 ∷ []
 unfolding bytes_seen
 bytes_ran = refl
 
--- comparisons: less than 2047, and at most 2046 and 2047, of which the last has no room; at most 2^32 - 2 and 2^32 - 1, unsigned, of which
--- the last has no next word; less than 2^32 - 2048, unsigned; equal to 0, and not to 7; more than 0 and than 1; at least 5
+-- ---- what x5 and x6 hold; object g lies at 0x200000 + 16 * g
+
+abbrev near_by : ℕ → ℕ
+near_by g = 0x200000 + 16 * g
+
+-- element x7 of object 0, from its number: slli x5, x7, 2; lui x6, 0x200; add x5, x5, x6; then the access
+abbrev whole : (access : Item) → List Item → List Item
+whole access items = Plain (Shift Slli 5 7 2) ∷ Plain (Lui 6 0x200) ∷ Plain (Op operation.Add 5 5 6) ∷ access ∷ items
+
+-- where x6 has the upper part: slli x5, x7, 2; add x5, x5, x6; then the access
+abbrev with_upper : (access : Item) → List Item → List Item
+with_upper access items = Plain (Shift Slli 5 7 2) ∷ Plain (Op operation.Add 5 5 6) ∷ access ∷ items
+
+-- the same element again, and that of another object with that upper part: the accesses alone
+again : function_items near_by 0 (One (Load Word 0 10 7) ∷ One (Load Word 0 11 7) ∷ One (Store Word 1 7 10) ∷ []) ≡ whole (load_word 10 5 0) (load_word 11 5 0 ∷ store_word 5 10 16 ∷ [])
+again = refl
+
+-- its number is another then; x6 holds the upper part still
+number_written : function_items near_by 0 (One (Load Word 0 10 7) ∷ Immediate immediate.Add 7 7 1 ∷ One (Load Word 0 11 7) ∷ []) ≡ whole (load_word 10 5 0) (addi 7 7 1 ∷ with_upper (load_word 11 5 0) [])
+number_written = refl
+
+-- so where the load itself writes its number's register
+own_number : function_items near_by 0 (One (Load Word 0 7 7) ∷ One (Load Word 0 7 7) ∷ []) ≡ whole (load_word 7 5 0) (with_upper (load_word 7 5 0) [])
+own_number = refl
+
+-- and where x5 is used, for a word of two parts
+between : function_items near_by 0 (One (Load Word 0 10 7) ∷ One (Const 11 0x12345678) ∷ One (Load Word 0 12 7) ∷ []) ≡ whole (load_word 10 5 0) (Plain (Lui 5 0x12345) ∷ addi 11 5 0x678 ∷ with_upper (load_word 12 5 0) [])
+between = refl
+
+-- a label and a call forget both; a branch that is not taken leaves them
+label_between : function_items near_by 0 (One (Load Word 0 10 7) ∷ One (Label 1) ∷ One (Load Word 0 11 7) ∷ []) ≡ whole (load_word 10 5 0) (whole (load_word 11 5 0) [])
+label_between = refl
+
+call_between : function_items near_by 0 (One (Load Word 0 10 7) ∷ One (Call 3) ∷ One (Load Word 0 11 7) ∷ []) ≡ addi 2 2 0xfffffffc ∷ store_word 2 1 0 ∷ whole (load_word 10 5 0) (item.Call 3 ∷ whole (load_word 11 5 0) [])
+call_between = refl
+
+branch_between : function_items near_by 0 (One (Load Word 0 10 7) ∷ One (IfZero 10 1) ∷ One (Load Word 0 11 7) ∷ One (Label 1) ∷ []) ≡ whole (load_word 10 5 0) (Plain (instr.Branch Beq 10 0 8) ∷ load_word 11 5 0 ∷ [])
+branch_between = refl
+
+-- object 256 lies at 0x201000: its upper part takes the place of the other in x6, also behind the element whose address is in x5
+far_between : function_items near_by 0 (One (Load Word 0 10 7) ∷ LoadAt Word 256 11 0 ∷ One (Load Word 0 12 7) ∷ LoadAt Word 256 13 1 ∷ One (Load Word 256 14 7) ∷ [])
+    ≡ whole (load_word 10 5 0) (Plain (Lui 6 0x201) ∷ load_word 11 6 0 ∷ load_word 12 5 0 ∷ load_word 13 6 4 ∷ with_upper (load_word 14 5 0) [])
+far_between = refl
+
+-- a byte of the same number lies elsewhere: add x5, x7, x6
+byte_of_that_number : function_items near_by 0 (One (Load Word 0 10 7) ∷ One (Load Byte 1 11 7) ∷ []) ≡ whole (load_word 10 5 0) (Plain (Op operation.Add 5 7 6) ∷ load_element Byte 11 5 16 ∷ [])
+byte_of_that_number = refl
+
+-- comparisons: less than 2047, and at most 2046; at most 2^32 - 2, and less than 2^32 - 2048, unsigned; equal to 0, and not to 7; more than 0;
+-- at least 5; at most a register's word
 compared : function_items (λ g. 0) 0
-    (Const 7 2047 ∷ Binary LtS 7 10 7 ∷ Const 7 2046 ∷ Binary LeS 7 10 7 ∷ Const 7 2047 ∷ Binary LeS 7 10 7 ∷ Const 7 0xfffffffe ∷ Binary LeU 7 10 7 ∷ Const 7 0xffffffff ∷ Binary LeU 7 10 7 ∷ Const 7 0xfffff800 ∷ Binary LtU 7 10 7 ∷ Const 7 0 ∷ Binary Eq 7 10 7 ∷ Const 7 7
-    ∷ Binary Ne 7 10 7 ∷ Const 7 0 ∷ Binary LtS 7 7 10 ∷ Const 7 1 ∷ Binary LtS 7 7 10 ∷ Const 7 5 ∷ Binary LeS 7 7 10 ∷ [])
-    ≡ Plain (OpImm Slti 7 10 2047) ∷ Plain (OpImm Slti 7 10 2047) ∷ addi 7 0 2047 ∷ Plain (Op operation.Slt 5 7 10) ∷ Plain (OpImm Sltiu 7 5 1) ∷ Plain (OpImm Sltiu 7 10 0xffffffff) ∷ addi 7 0 0xffffffff ∷ Plain (Op operation.Sltu 5 7 10) ∷ Plain (OpImm Sltiu 7 5 1)
-    ∷ Plain (OpImm Sltiu 7 10 0xfffff800) ∷ Plain (OpImm Sltiu 7 10 1) ∷ addi 5 10 0xfffffff9 ∷ Plain (Op operation.Sltu 7 0 5) ∷ Plain (Op operation.Slt 7 0 10) ∷ addi 7 0 1 ∷ Plain (Op operation.Slt 7 7 10) ∷ Plain (OpImm Slti 5 10 5) ∷ Plain (OpImm Sltiu 7 5 1) ∷ []
+    (Immediate immediate.LtS 7 10 2047 ∷ Immediate immediate.LeS 7 10 2046 ∷ Immediate immediate.LeU 7 10 0xfffffffe ∷ Immediate immediate.LtU 7 10 0xfffff800 ∷ Immediate immediate.Eq 7 10 0 ∷ Immediate immediate.Ne 7 10 7 ∷ Immediate immediate.GtS 7 10 0
+    ∷ Immediate immediate.GeS 7 10 5 ∷ One (Binary LeS 7 10 7) ∷ [])
+    ≡ Plain (OpImm Slti 7 10 2047) ∷ Plain (OpImm Slti 7 10 2047) ∷ Plain (OpImm Sltiu 7 10 0xffffffff) ∷ Plain (OpImm Sltiu 7 10 0xfffff800) ∷ Plain (OpImm Sltiu 7 10 1) ∷ addi 5 10 0xfffffff9 ∷ Plain (Op operation.Sltu 7 0 5) ∷ Plain (Op operation.Slt 7 0 10)
+    ∷ Plain (OpImm Slti 5 10 5) ∷ Plain (OpImm Sltiu 7 5 1) ∷ Plain (Op operation.Slt 5 7 10) ∷ Plain (OpImm Sltiu 7 5 1) ∷ []
 compared = refl
+
+-- ---- branches on comparisons, back to a label at the front
+
+abbrev branch : BranchOperation → (left right offset : ℕ) → Item
+branch o a b n = Plain (instr.Branch o a b n)
+
+-- two registers: less; not at most, unsigned, and so the right one is less; not equal
+on_registers : function_items (λ g. 0) 0 (One (Label 1) ∷ Branch LtS true 10 11 1 ∷ Branch LeU false 10 11 1 ∷ Branch LeS true 10 11 1 ∷ Branch Ne true 10 11 1 ∷ [])
+    ≡ branch Blt 10 11 0 ∷ branch Bltu 11 10 0xfffffffc ∷ branch Bge 11 10 0xfffffff8 ∷ branch Bne 10 11 0xfffffff4 ∷ []
+on_registers = refl
+
+-- a comparison with a word that one with 0 says: equal to 0, at least it, more than it, the same unsigned, less; less than 1, at most 0, at most
+-- -1; less than 1 and at most 0, unsigned; not at least 1, unsigned
+against_zero : function_items (λ g. 0) 0
+    (One (Label 1) ∷ BranchImmediate immediate.Eq true 10 0 1 ∷ BranchImmediate immediate.GeS true 10 0 1 ∷ BranchImmediate immediate.GtS true 10 0 1 ∷ BranchImmediate immediate.GtU true 10 0 1 ∷ BranchImmediate immediate.LtS true 10 0 1
+    ∷ BranchImmediate immediate.LtS true 10 1 1 ∷ BranchImmediate immediate.LeS true 10 0 1 ∷ BranchImmediate immediate.LeS true 10 0xffffffff 1 ∷ BranchImmediate immediate.LtU true 10 1 1 ∷ BranchImmediate immediate.LeU true 10 0 1 ∷ BranchImmediate immediate.GeU false 10 1 1 ∷ [])
+    ≡ branch Beq 10 0 0 ∷ branch Bge 10 0 0xfffffffc ∷ branch Blt 0 10 0xfffffff8 ∷ branch Bne 10 0 0xfffffff4 ∷ branch Blt 10 0 0xfffffff0 ∷ branch Bge 0 10 0xffffffec ∷ branch Bge 0 10 0xffffffe8 ∷ branch Blt 10 0 0xffffffe4 ∷ branch Beq 10 0 0xffffffe0
+    ∷ branch Beq 10 0 0xffffffdc ∷ branch Beq 10 0 0xffffffd8 ∷ []
+against_zero = refl
+
+-- others: an instruction into x5 before the branch: equal to 5; less than 5; at least 5; not different from 5
+on_words : function_items (λ g. 0) 0 (One (Label 1) ∷ BranchImmediate immediate.Eq true 10 5 1 ∷ BranchImmediate immediate.LtS true 10 5 1 ∷ BranchImmediate immediate.GeS true 10 5 1 ∷ BranchImmediate immediate.Ne false 10 5 1 ∷ [])
+    ≡ addi 5 10 0xfffffffb ∷ branch Beq 5 0 0xfffffffc ∷ Plain (OpImm Slti 5 10 5) ∷ branch Bne 5 0 0xfffffff4 ∷ Plain (OpImm Slti 5 10 5) ∷ branch Beq 5 0 0xffffffec ∷ addi 5 10 0xfffffffb ∷ branch Beq 5 0 0xffffffe4 ∷ []
+on_words = refl
+
+-- a far one goes over a jump where it is not taken
+far : branch_items false (turned true (comparison LtS 10 11)) 0 5000 ≡ branch Bge 10 11 8 ∷ item.Go 5000 ∷ []
+far = refl
 
 -- ---- how many items a constant takes: 2047, 2048, 4096, -2048, -2049, 0x12345678
 
 const_sizes : map const_size (2047 ∷ 2048 ∷ 4096 ∷ 0xfffff800 ∷ 0xfffff7ff ∷ 0x12345678 ∷ []) ≡ 1 ∷ 2 ∷ 1 ∷ 1 ∷ 2 ∷ 2 ∷ []
 const_sizes = refl
 
--- ---- how far a near branch goes, in items
+-- ---- how far a near branch's step is from its label at most, in items
 
-farthest_near : map (λ (to : ℕ). reaches 2000 to) (975 ∷ 976 ∷ 3023 ∷ 3024 ∷ []) ≡ false ∷ true ∷ true ∷ false ∷ []
+farthest_near : map (λ (to : ℕ). is_close 2000 to) (976 ∷ 977 ∷ 3023 ∷ 3024 ∷ []) ≡ false ∷ true ∷ true ∷ false ∷ []
 farthest_near = refl

@@ -1,8 +1,8 @@
-use Rattle.std.proofs.Common.{rules, ◌≡◌, ◌<◌, length, sym, ap, ◌∙◌, subst}
+use Rattle.std.proofs.Common.{◌≡◌, ◌<◌, length, sym, ap, ◌∙◌, subst}
 use Rattle.std.specs.List.{AllByRecursion}
-use Rattle.cc_linear.specs.Linear.{labels}
-use Rattle.cc_emit.specs.Steps.{steps}
+use Rattle.cc_select.specs.Selected.{labels}
 use Rattle.cc_emit.specs.Emission.{framed_items}
+use Rattle.cc_emit.specs.Scratch.{nothing, addressed}
 use Rattle.cc_emit.specs.internal.Bases.{base_in}
 use Rattle.cc_emit.specs.internal.Behind.{LeadsBelow}
 use Rattle.cc_emit.proofs.Bridging.{leads_all}
@@ -12,11 +12,11 @@ pub put_code-requires-clause-leads : goal.put_code-requires-clause-leads
 put_code-requires-clause-leads c =
     let code = c.args.code.now in
     let count = length c.in_ok-places.places.first.items in
-    let same : c.as_slice-2.result.now ≡ steps code = search rules in
     let below : AllByRecursion (λ label. label < count) (labels code) = subst (λ n. AllByRecursion (λ label. label < n) (labels code)) (sym c.in_ok-places.ensures.labels) c.label_count.ensures in
-    subst (AllByRecursion (LeadsBelow count)) (sym same) (leads_all count c.args.slots c.requires.fit.0 (labels code) code below c.requires.fit.1)
+    let steps : c.as_slice-2.result.now ≡ addressed (base_in c.args.bases.now) nothing code = c.as_slice-2.ensures.value ∙ c.in_ok-steps.ensures in
+    subst (AllByRecursion (LeadsBelow count)) (sym steps) (leads_all count c.args.slots c.requires.fit.0 (labels code) (base_in c.args.bases.now) nothing code below c.requires.fit.1)
 
 pub returns : goal.returns
 returns c =
-    let same : c.as_slice-2.result.now ≡ steps c.args.code.now = search rules in
-    c.in_ok-put_code.ensures ∙ ap (framed_items (base_in c.args.bases.now) c.in_ok-frame.frame) same ∙ ap (λ f. framed_items (base_in c.args.bases.now) f (steps c.args.code.now)) c.in_ok-frame.ensures
+    let steps : c.as_slice-2.result.now ≡ addressed (base_in c.args.bases.now) nothing c.args.code.now = c.as_slice-2.ensures.value ∙ c.in_ok-steps.ensures in
+    c.in_ok-put_code.ensures ∙ ap (framed_items (base_in c.args.bases.now) c.in_ok-frame.frame) steps ∙ ap (λ f. framed_items (base_in c.args.bases.now) f (addressed (base_in c.args.bases.now) nothing c.args.code.now)) c.in_ok-frame.ensures

@@ -1,6 +1,6 @@
 use Rattle.std.proofs.Common.{rules, ◌-◌, ap}
 use Rattle.cc_emit.specs.internal.Bases.{base_in}
-use Rattle.cc_emit.proofs.Bridging.{emitting_first, emitting_more, place_within, near_reaches}
+use Rattle.cc_emit.proofs.Bridging.{emitting_first, emitting_more, place_within, near_reaches, next_reaches}
 use Rattle.cc_emit.proofs.emission.put_code.Goals as goal
 
 pub loop-step-init : goal.loop-step-init
@@ -11,6 +11,9 @@ put_items_of-requires-clause-within c = λ l lt. place_within _ _ _ _ _ l c.requ
 
 pub put_items_of-requires-clause-reach : goal.put_items_of-requires-clause-reach
 put_items_of-requires-clause-reach c = near_reaches _ _ _ _ _ _ _ _ _ c.requires.places c.requires.leads c.loop-step.invariant
+
+pub put_items_of-requires-clause-next : goal.put_items_of-requires-clause-next
+put_items_of-requires-clause-next c = next_reaches _ _ _ _ _ _ _ _ _ c.requires.places c.requires.leads c.loop-step.invariant
 
 pub loop-step-preserved : goal.loop-step-preserved
 loop-step-preserved c =

@@ -2,5 +2,5 @@ use Rattle.std.proofs.Common.{◌≡◌, drop}
 use Rattle.cc_emit.specs.Frames.{calls}
 use Rattle.cc_emit.proofs.frame.calls.Given as goal
 
-abbrev pub invariant-loop-item : goal.invariant-loop-item
-invariant-loop-item l = calls (drop l.item-index l.code) ≡ calls l.code
+abbrev pub invariant-loop-step : goal.invariant-loop-step
+invariant-loop-step l = calls (drop l.step-index l.code) ≡ calls l.code

@@ -2,5 +2,5 @@ use Rattle.std.proofs.Common.{◌≡◌, drop}
 use Rattle.cc_emit.specs.Frames.{is_written}
 use Rattle.cc_emit.proofs.frame.is_written.Given as goal
 
-abbrev pub invariant-loop-item : goal.invariant-loop-item
-invariant-loop-item l = is_written (drop l.item-index l.code) l.register ≡ is_written l.code l.register
+abbrev pub invariant-loop-step : goal.invariant-loop-step
+invariant-loop-step l = is_written (drop l.step-index l.code) l.register ≡ is_written l.code l.register

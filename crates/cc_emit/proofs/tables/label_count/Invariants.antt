@@ -1,5 +1,5 @@
 use Rattle.cc_emit.proofs.Tabling.{Counted}
 use Rattle.cc_emit.proofs.tables.label_count.Given as goal
 
-abbrev pub invariant-loop-item : goal.invariant-loop-item
-invariant-loop-item l = Counted l.code l.item-index l.count
+abbrev pub invariant-loop-step : goal.invariant-loop-step
+invariant-loop-step l = Counted l.code l.step-index l.count

@@ -25,8 +25,8 @@ loop-at-preserved-then-label-len c =
     let f = c.args.frame.now in
     let first = c.args.first.now in
     let label = label_says c.index-steps-at.result c.in-Some.label (sym c.in-Some.is ∙ c.label_of.ensures) in
-    filled_label f first code c.args.count c.loop-at.at c.loop-at.here c.loop-at.behind _ _ c.in-Some.label c.loop-at.labels.items c.loop-at.invariant
-    (c.loop-at-test.true, is_label_at code (c.loop-at.at - 1) c.index-steps-at.result c.in-Some.label c.index-steps-at.is label)
+    filled_label f first code c.args.count c.loop-at.at c.loop-at.here c.loop-at.behind _ _ c.in-Some.label c.index-steps-at.result.known c.loop-at.labels.items c.loop-at.invariant
+    (c.loop-at-test.true, is_label_at code (c.loop-at.at - 1) c.index-steps-at.result c.in-Some.label c.index-steps-at.result.known c.index-steps-at.is label)
     (ap (λ n. c.loop-at.here + n) (c.long_size-here.ensures.answer ∙ ap (long_size f) label))
     (ap (λ n. c.loop-at.behind + n) (c.size-behind.ensures.answer ∙ ap (size f (near_behind first (c.loop-at.here + c.long_size-here.result))) label)) (search rules)
 
@@ -36,8 +36,8 @@ loop-at-preserved-else-label-len c =
     let f = c.args.frame.now in
     let first = c.args.first.now in
     let label = label_says c.index-steps-at.result c.in-Some.label (sym c.in-Some.is ∙ c.label_of.ensures) in
-    filled_past f first code c.args.count c.loop-at.at c.loop-at.here c.loop-at.behind _ _ c.in-Some.label c.loop-at.labels.items c.loop-at.invariant
-    (c.loop-at-test.true, is_label_at code (c.loop-at.at - 1) c.index-steps-at.result c.in-Some.label c.index-steps-at.is label)
+    filled_past f first code c.args.count c.loop-at.at c.loop-at.here c.loop-at.behind _ _ c.in-Some.label c.index-steps-at.result.known c.loop-at.labels.items c.loop-at.invariant
+    (c.loop-at-test.true, is_label_at code (c.loop-at.at - 1) c.index-steps-at.result c.in-Some.label c.index-steps-at.result.known c.index-steps-at.is label)
     (ap (λ n. c.loop-at.here + n) (c.long_size-here.ensures.answer ∙ ap (long_size f) label))
     (ap (λ n. c.loop-at.behind + n) (c.size-behind.ensures.answer ∙ ap (size f (near_behind first (c.loop-at.here + c.long_size-here.result))) label)) (search rules)
 

@@ -1,0 +1,19 @@
+-- The code of a whole function: the steps that are selected for its items, each with how much of its address is known, in their frame.
+use Rattle.std.specs.Prelude.{ℕ, List}
+use Rattle.cc_semantics.specs.Numbered.{objects_in}
+use Rattle.cc_linear.specs.Pair as above
+use Rattle.cc_select.specs.declared.step.Step.{Step}
+use Rattle.cc_select.specs.Selection.{selected}
+use Rattle.cc_emit.specs.declared.item.Item.{Item}
+use Rattle.cc_emit.specs.Objects.{object_address}
+use Rattle.cc_emit.specs.Frames.{frame_of}
+use Rattle.cc_emit.specs.Emission.{framed_items}
+use Rattle.cc_emit.specs.Scratch.{nothing, addressed}
+
+-- the code of a function with this many slots
+abbrev pub function_items : (base : ℕ → ℕ) → (slots : ℕ) → List Step → List Item
+function_items base slots steps = framed_items base (frame_of slots steps) (addressed base nothing steps)
+
+-- the items that a pair's code becomes, with the objects of its unit in order
+unfoldable pub pair_items : above.Pair → List Item
+pair_items p = function_items (object_address (objects_in (above.tree_of p))) p.ltl.slots (selected p.code)

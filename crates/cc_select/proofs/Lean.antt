@@ -1,0 +1,99 @@
+-- Without the constants that nobody reads a run keeps up as with them. What is live is live without them too, so a table that is settled
+-- stays so; a constant that goes is no move, and the register that it wrote is not live.
+use Rattle.std.proofs.Common.{◌≡◌, ℕ, ◌≤◌, List, [], ◌∷◌, ◌++◌, true, false, Bool, length, refl, sym, ap, ◌∙◌, subst, inr, arith}
+use Rattle.std.specs.Prelude.{if◌then◌else◌, ◌==◌, ◌&&◌, not}
+use Rattle.cc_runs.specs.World.{World}
+use Rattle.cc_runs.specs.Run.{Move as Moving, Goes}
+use Rattle.cc_runs.specs.Meaning.{Meaning}
+use Rattle.cc_runs.specs.Tracks.{TracksForAll}
+use Rattle.cc_runs.proofs.Simulating.{coarser}
+use Rattle.cc_ltl.specs.declared.location.Location.TheVariants.{Register}
+use Rattle.cc_ltl.specs.Ltl.{Locations, put}
+use Rattle.cc_linear.specs.declared.item.Item.TheVariants.{Label, Const}
+use Rattle.cc_select.specs.declared.step.Step.{Step}
+use Rattle.cc_select.specs.declared.step.Step.TheVariants.{One}
+use Rattle.cc_select.specs.Selected.{Configuration, at_steps, place, does, selected_move, selected_output, selected_start}
+use Rattle.cc_select.specs.Live.{Registers, live_before, live}
+use Rattle.cc_select.specs.internal.Settled.{IsSettled}
+use Rattle.cc_select.specs.Selection.{lean}
+use Rattle.cc_select.proofs.Basics.{eqb_says, either_way}
+use Rattle.cc_select.proofs.Unread.{Agree, put_beside}
+use Rattle.cc_select.proofs.Places.{IsThere}
+use Rattle.cc_select.proofs.Making.{labelled, Plain, Owes, owes_kept, owes_label, tracks_made}
+
+-- ---- the list
+
+-- what is live stays live
+pub lean_live : (at : ℕ → Registers) (steps : List Step) (r : ℕ) → live at (lean at steps) r ≡ live at steps r
+lean_live at [] r = refl
+lean_live at (One (Const to w) ∷ steps) r = by (live at steps to) refl (lean_live at steps r)
+  where
+    gone : (b : Bool) → (to == r) ≡ b → live at steps to ≡ false → live at steps r ≡ (not b && live at steps r)
+    gone true e dead = ap (live at steps) (sym (eqb_says to r e)) ∙ dead
+    gone false e dead = refl
+
+    by : (b : Bool) → live at steps to ≡ b → live at (lean at steps) r ≡ live at steps r → live at (if b then One (Const to w) ∷ lean at steps else lean at steps) r ≡ (not (to == r) && live at steps r)
+    by true e ih = ap (λ b. not (to == r) && b) ih
+    by false e ih = ih ∙ gone (to == r) refl e
+lean_live at (s ∷ steps) r = ap (λ (x : Registers). live_before s at x r) (λ i x. lean_live at steps x i)
+
+lean_if : (at : ℕ → Registers) (b : Bool) (xs ys zs : List Step) → zs ≡ lean at ys → (if b then lean at xs else zs) ≡ lean at (if b then xs else ys)
+lean_if at true xs ys zs e = refl
+lean_if at false xs ys zs e = e
+
+-- a label stands where it stood
+pub lean_place : (at : ℕ → Registers) (steps : List Step) (l : ℕ) → place (lean at steps) l ≡ lean at (place steps l)
+lean_place at [] l = refl
+lean_place at (One (Label n) ∷ steps) l = lean_if at (n == l) (One (Label n) ∷ steps) (place steps l) (place (lean at steps) l) (lean_place at steps l)
+lean_place at (One (Const to w) ∷ steps) l =
+    either_way (λ (xs : List Step). place xs l ≡ lean at (place steps l)) (live at steps to) (One (Const to w) ∷ lean at steps) (lean at steps) (lean_place at steps l) (lean_place at steps l)
+lean_place at (s ∷ steps) l = lean_place at steps l
+
+-- a table that is settled stays so
+pub lean_settled : (at : ℕ → Registers) (code : List Step) → IsSettled at code → IsSettled at (lean at code)
+lean_settled at code settled label r i =
+    settled label r (sym (lean_live at (place code label) r) ∙ ap (λ (xs : List Step). live at xs r) (sym (lean_place at code label)) ∙ i)
+
+-- ---- the simulation
+
+module _ (arity : ℕ → ℕ) (code : List Step) (at : ℕ → Registers) (settled : IsSettled at code) (few : (g : ℕ) → arity g ≤ 8) where
+  abbrev make : List Step → List Step
+  make steps = lean at steps
+
+  places : (l : ℕ) → place (make code) l ≡ make (place code l)
+  places l = lean_place at code l
+
+  abbrev Related : Configuration → Configuration → Type 0
+  Related = Plain arity code make places at settled few
+
+  abbrev Owed : Moving Configuration → List Step → World → Configuration → Type 0
+  Owed = Owes arity code make places at settled few Related (λ c d p. p)
+
+  kept : (s : Step) (steps : List Step) (ns : List ℕ) (l k : Locations) (h : World) (ws : List ℕ) → IsThere s → length (s ∷ steps) ≤ length code → Agree (live at (s ∷ steps)) l k
+      → Owed (does arity code (s ∷ steps) l h ws) (s ∷ steps) h (at_steps (labelled ns (s ∷ make steps)) k h ws)
+  kept = owes_kept arity code make places at settled few Related (λ c d p. p)
+
+  owes : (steps : List Step) (ns : List ℕ) (l k : Locations) (h : World) (ws : List ℕ) → length steps ≤ length code → Agree (live at steps) l k → Owed (does arity code steps l h ws) steps h (at_steps (labelled ns (make steps)) k h ws)
+  owes [] ns l k h ws le g = tt
+  owes (One (Label n) ∷ steps) ns l k h ws le g = owes_label arity code make places at settled few Related (λ c d p. p) n steps (make steps) ns l k h ws (owes steps (ns ++ n ∷ []) l k h ws (omega arith) g)
+  owes (One (Const to w) ∷ steps) ns l k h ws le g = by (live at steps to) refl
+    where
+      by : (b : Bool) → live at steps to ≡ b
+          → Owed (Goes (at_steps steps (put (Register to) w l) h ws)) (One (Const to w) ∷ steps) h (at_steps (labelled ns (if b then One (Const to w) ∷ make steps else make steps)) k h ws)
+      by true e = kept (One (Const to w)) steps ns l k h ws tt le g
+      by false e = inr (record { before = ns; steps = refl; agree = put_beside to w (live at steps) l k e g; world = refl; words = refl; short = omega arith }, omega arith)
+  owes (s ∷ steps) ns l k h ws le g = kept s steps ns l k h ws tt le g
+
+  -- from any related configuration
+  owes_related : (c d : Configuration) → Related c d → Owed (selected_move arity code c) c.steps c.world d
+  owes_related c d r =
+      let e : at_steps (labelled r.before (make c.steps)) d.locations c.world c.words ≡ d = λ i. record { steps = sym r.steps i; locations = d.locations; world = r.world i; words = r.words i } in
+      subst (Owed (selected_move arity code c) c.steps c.world) e (owes c.steps r.before c.locations d.locations c.world c.words r.short r.agree)
+
+-- what keeps up with a function keeps up without them, at a slower rate
+pub lean_tracks : (meaning : Meaning) (f rate slots : ℕ) (code : List Step) (at : ℕ → Registers) → IsSettled at code → ((g : ℕ) → meaning.arity g ≤ 8)
+    → TracksForAll meaning f rate (selected_move meaning.arity code) selected_output (selected_start slots code)
+    → TracksForAll meaning f (coarser rate (length code)) (selected_move meaning.arity (lean at code)) selected_output (selected_start slots (lean at code))
+lean_tracks meaning f rate slots code at settled few keeps =
+    tracks_made meaning.arity code (λ steps. lean at steps) (places meaning.arity code at settled few) at settled few (Related meaning.arity code at settled few) (λ c d p. p)
+    (owes_related meaning.arity code at settled few) (λ c d r. r.short) (λ c d r. r.world) meaning f rate slots keeps

@@ -1,0 +1,59 @@
+-- From a pair of Linear to a pair of Selected: the run by the steps of a function's items keeps up with the function, at the rate that the
+-- items had, times how many steps there were before constants went, and again before comparisons were joined.
+use Rattle.std.proofs.Common.{ℕ, ◌≤◌, List, length}
+use Rattle.cc_syntax.specs.Tree.{External}
+use Rattle.cc_typing.specs.Typed.{IsWithinLimits}
+use Rattle.cc_semantics.specs.Meaning.{functions}
+use Rattle.cc_runs.specs.Meaning.{Meaning}
+use Rattle.cc_runs.specs.Tracks.{TracksForAll}
+use Rattle.cc_runs.proofs.Simulating.{coarser}
+use Rattle.cc_linear.specs.declared.item.Item as linear
+use Rattle.cc_linear.specs.Linear.{linear_move, linear_output, linear_start}
+use Rattle.cc_linear.specs.Pair as above
+use Rattle.cc_select.specs.declared.step.Step.{Step}
+use Rattle.cc_select.specs.Selected.{selected_move, selected_output, selected_start}
+use Rattle.cc_select.specs.Known.{unknown, chosen}
+use Rattle.cc_select.specs.Table.{table}
+use Rattle.cc_select.specs.Selection.{lean, trimmed, selected}
+use Rattle.cc_select.specs.Pair.{IsPair, KeepsUp}
+use Rattle.cc_select.proofs.Settled.{is_settled}
+use Rattle.cc_select.proofs.Choosing.{chosen_tracks}
+use Rattle.cc_select.proofs.Lean.{lean_settled, lean_tracks}
+use Rattle.cc_select.proofs.Fused.{fused_tracks}
+use Rattle.cc_select.proofs.Fit.{is_selected}
+use Rattle.cc_select.proofs.Parameters.{few_of_meaning}
+
+-- the rate of the steps without dead constants, with comparisons joined
+abbrev trimmed_rate : (rate : ℕ) → List Step → ℕ
+trimmed_rate rate steps = coarser (coarser rate (length steps)) (length (lean (table steps) steps))
+
+trimmed_tracks : (meaning : Meaning) (f rate slots : ℕ) (steps : List Step) → ((g : ℕ) → meaning.arity g ≤ 8) → TracksForAll meaning f rate (selected_move meaning.arity steps) selected_output (selected_start slots steps)
+    → TracksForAll meaning f (trimmed_rate rate steps) (selected_move meaning.arity (trimmed steps)) selected_output (selected_start slots (trimmed steps))
+trimmed_tracks meaning f rate slots steps few keeps =
+    let at = table steps in
+    let settled = is_settled steps in
+    fused_tracks meaning f (coarser rate (length steps)) slots (lean at steps) at (lean_settled at steps settled) few (lean_tracks meaning f rate slots steps at settled few keeps)
+
+pub selected_tracks : (meaning : Meaning) (f rate slots : ℕ) (items : List linear.Item) → ((g : ℕ) → meaning.arity g ≤ 8) → TracksForAll meaning f rate (linear_move meaning.arity items) linear_output (linear_start slots items)
+    → TracksForAll meaning f (trimmed_rate rate (chosen unknown items)) (selected_move meaning.arity (selected items)) selected_output (selected_start slots (selected items))
+selected_tracks meaning f rate slots items few keeps = trimmed_tracks meaning f rate slots (chosen unknown items) few (chosen_tracks meaning f rate slots items keeps)
+
+pub keeps_up_selected : (unit : List External) (f slots : ℕ) (items : List linear.Item) → IsWithinLimits unit → above.KeepsUp unit f slots items → KeepsUp unit f slots (selected items)
+keeps_up_selected unit f slots items limits (rate, keeps) = (
+  trimmed_rate rate (chosen unknown items),
+  λ meaning is. selected_tracks meaning f rate slots items (few_of_meaning unit meaning limits is) (keeps meaning is),
+)
+
+-- with what `TypedUnit::externals` says of the unit's limits
+pub pair_selected : (p : above.Pair) → above.IsPair p → IsWithinLimits (above.tree_of p) → IsPair (record { unit = p.unit; function = p.function; ltl = p.ltl; code = selected p.code })
+pair_selected p is limits =
+    let unit = above.tree_of p in
+    record {
+      typed = is.typed;
+      function = is.function;
+      ltl = is.ltl;
+      few = is.few;
+      ltl_keeps_up = is.ltl_keeps_up;
+      selected = is_selected p.ltl.slots (length (functions unit)) p.code is.linear;
+      keeps_up = keeps_up_selected unit p.function p.ltl.slots p.code limits is.keeps_up;
+    }

@@ -1,0 +1,164 @@
+-- The operators on a register and a word: which words each can have, which operator it is, and which operators of Linear become it.
+use Rattle.std.specs.Prelude.{ℕ, ◌+◌, ◌-◌, ◌%◌, ◌^◌, Bool, true, false, ◌&&◌, ◌||◌, not, ◌==◌, nat_lt, if◌then◌else◌, Option, Some, None}
+use Rattle.std.specs.Int.{w32, trailing_zeros}
+use Rattle.cc_words.specs.Words.{add, neg}
+use Rattle.cc_words.specs.Operators.{apply_binary}
+use Rattle.cc_words.specs.declared.operators.Binary as binary
+use Rattle.cc_words.specs.declared.operators.Binary.TheVariants as operators
+use Rattle.cc_select.specs.declared.step.Immediate as immediate
+use Rattle.cc_select.specs.declared.step.Immediate.TheVariants.{Add, Sub, Shl, ShrS, ShrU, And, Or, Xor, Eq, Ne, LtS, LtU, LeS, LeU, GtS, GtU, GeS, GeU}
+
+-- ---- what each does
+
+-- the operator that it is
+abbrev pub operator_of : immediate.Immediate → binary.Binary
+operator_of Add = operators.Add
+operator_of Sub = operators.Sub
+operator_of Shl = operators.Shl
+operator_of ShrS = operators.ShrS
+operator_of ShrU = operators.ShrU
+operator_of And = operators.And
+operator_of Or = operators.Or
+operator_of Xor = operators.Xor
+operator_of Eq = operators.Eq
+operator_of Ne = operators.Ne
+operator_of LtS = operators.LtS
+operator_of LtU = operators.LtU
+operator_of LeS = operators.LeS
+operator_of LeU = operators.LeU
+-- the register's word is more: the word is less
+operator_of GtS = operators.LtS
+operator_of GtU = operators.LtU
+operator_of GeS = operators.LeS
+operator_of GeU = operators.LeU
+
+-- whether the word is the left operand
+abbrev pub is_exchanged : immediate.Immediate → Bool
+is_exchanged GtS = true
+is_exchanged GtU = true
+is_exchanged GeS = true
+is_exchanged GeU = true
+is_exchanged o = false
+
+abbrev pub applied : (exchanged : Bool) → binary.Binary → (register word : ℕ) → Option ℕ
+applied true o a w = apply_binary o w a
+applied false o a w = apply_binary o a w
+
+-- what it gives of a register's word and a word
+abbrev pub apply_immediate : immediate.Immediate → (register word : ℕ) → Option ℕ
+apply_immediate o a w = applied (is_exchanged o) (operator_of o) a w
+
+-- ---- which words it can have
+
+-- whether an instruction's immediate can be the word: -2048 to 2047 in two's complement
+abbrev pub is_short : (word : ℕ) → Bool
+is_short w = nat_lt ((w + 2 ^ 11) % 2 ^ 32) (2 ^ 12)
+
+-- whether the operator's instructions can have the word
+abbrev pub has_word : immediate.Immediate → (word : ℕ) → Bool
+has_word Add w = is_short w
+-- a difference is the sum with the word's negative
+has_word Sub w = is_short (neg w)
+has_word Shl w = nat_lt w 32
+has_word ShrS w = nat_lt w 32
+has_word ShrU w = nat_lt w 32
+has_word And w = is_short w
+has_word Or w = is_short w
+has_word Xor w = is_short w
+-- words are equal where their difference is 0
+has_word Eq w = is_short (neg w)
+has_word Ne w = is_short (neg w)
+has_word LtS w = is_short w
+-- the machine extends the immediate with its sign here too, before it compares it as unsigned
+has_word LtU w = is_short w
+-- at most a word is less than the next one; 2^31 - 1 is the greatest signed word, and the one behind it is not short
+has_word LeS w = is_short (add w 1)
+-- 2^32 - 1 is the greatest unsigned word, and the one behind it is 0
+has_word LeU w = is_short (add w 1) && not (w == 2 ^ 32 - 1)
+-- more than 0 is one instruction; more than another word would be two, and is two with the word in its register
+has_word GtS w = w == 0
+has_word GtU w = w == 0
+-- at least a word is not less than it
+has_word GeS w = is_short w
+has_word GeU w = is_short w
+
+-- ---- powers of two
+
+-- the place of a word's lowest 1: of a power of two its exponent
+abbrev pub exponent : (word : ℕ) → ℕ
+exponent w = trailing_zeros w32 w
+
+abbrev pub is_power : (word : ℕ) → Bool
+is_power w = w == 2 ^ exponent w
+
+-- ---- which operators have one
+
+-- an operator on a register and a word, and the word
+abbrev pub Form : Type 0
+Form = immediate.Immediate × ℕ
+
+abbrev pub if_power : (word : ℕ) → Form → Option Form
+if_power w form = if is_power w then Some form else None
+
+-- with the word on their right; where it is 2^k, a product is a shift to the left by k, an unsigned quotient a shift to the right by k, and
+-- an unsigned remainder the word's k lowest digits
+abbrev pub immediate_of : binary.Binary → (word : ℕ) → Option Form
+immediate_of operators.Add w = Some (Add, w)
+immediate_of operators.Sub w = Some (Sub, w)
+immediate_of operators.Shl w = Some (Shl, w)
+immediate_of operators.ShrS w = Some (ShrS, w)
+immediate_of operators.ShrU w = Some (ShrU, w)
+immediate_of operators.And w = Some (And, w)
+immediate_of operators.Or w = Some (Or, w)
+immediate_of operators.Xor w = Some (Xor, w)
+immediate_of operators.Eq w = Some (Eq, w)
+immediate_of operators.Ne w = Some (Ne, w)
+immediate_of operators.LtS w = Some (LtS, w)
+immediate_of operators.LtU w = Some (LtU, w)
+immediate_of operators.LeS w = Some (LeS, w)
+immediate_of operators.LeU w = Some (LeU, w)
+immediate_of operators.Mul w = if_power w (Shl, exponent w)
+immediate_of operators.DivU w = if_power w (ShrU, exponent w)
+immediate_of operators.RemU w = if_power w (And, w - 1)
+immediate_of operator w = None
+
+-- with the word on their left: the same where the order of operands makes no difference; where the word is less than a register's, that
+-- is more than the word
+abbrev pub immediate_of_left : binary.Binary → (word : ℕ) → Option Form
+immediate_of_left operators.Add w = Some (Add, w)
+immediate_of_left operators.And w = Some (And, w)
+immediate_of_left operators.Or w = Some (Or, w)
+immediate_of_left operators.Xor w = Some (Xor, w)
+immediate_of_left operators.Eq w = Some (Eq, w)
+immediate_of_left operators.Ne w = Some (Ne, w)
+immediate_of_left operators.LtS w = Some (GtS, w)
+immediate_of_left operators.LtU w = Some (GtU, w)
+immediate_of_left operators.LeS w = Some (GeS, w)
+immediate_of_left operators.LeU w = Some (GeU, w)
+immediate_of_left operators.Mul w = if_power w (Shl, exponent w)
+immediate_of_left operator w = None
+
+-- whether the operator compares: its value is 1 or 0, and a branch can have it
+abbrev pub is_comparison : binary.Binary → Bool
+is_comparison operators.Eq = true
+is_comparison operators.Ne = true
+is_comparison operators.LtS = true
+is_comparison operators.LtU = true
+is_comparison operators.LeS = true
+is_comparison operators.LeU = true
+is_comparison o = false
+
+-- whether a branch on such a comparison with the word takes fewer instructions than the comparison and a branch on its value: one, where
+-- the comparison is one with 0, and two in place of three for others
+abbrev pub gains : immediate.Immediate → (word : ℕ) → Bool
+gains Eq w = true
+gains Ne w = true
+gains GeS w = true
+gains GeU w = true
+gains GtS w = true
+gains GtU w = true
+gains LtS w = (w == 0) || (w == 1)
+gains LtU w = w == 1
+gains LeS w = (w == 0) || (w == 2 ^ 32 - 1)
+gains LeU w = w == 0
+gains o w = false

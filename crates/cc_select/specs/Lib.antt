@@ -1,0 +1,17 @@
+-- the operators on a register and a word
+pub mod Immediates
+-- the language: the functions of Selected, and what one step does
+pub mod Selected
+-- what is known of registers, and the steps that it gives
+pub mod Known
+-- which registers are live, and the table of labels
+pub mod Live
+pub mod Table
+-- the steps of a function's items
+pub mod Selection
+-- worked examples
+pub mod rows
+-- what a pair keeps
+pub mod Pair
+-- what the code keeps
+pub mod internal

@@ -1,0 +1,41 @@
+-- What a pair of Selected keeps: the steps of one function of a typed unit.
+use Rattle.std.specs.Prelude.{ℕ, ◌<◌, ◌≤◌, List, length}
+use Rattle.cc_syntax.specs.Tree.{External}
+use Rattle.cc_syntax.specs.Source.{source}
+use Rattle.cc_syntax.specs.declared.unit.Unit as parsed
+use Rattle.cc_typing.specs.Typed.{IsTyped}
+use Rattle.cc_semantics.specs.Meaning.{functions}
+use Rattle.cc_semantics.specs.Numbered.{IsMeaningOf}
+use Rattle.cc_runs.specs.Meaning.{Meaning}
+use Rattle.cc_runs.specs.Tracks.{TracksForAll}
+use Rattle.cc_ltl.specs.Ltl.{Ltl, IsLtl}
+use Rattle.cc_validate.specs.Pair as validated
+use Rattle.cc_linear.specs.Pair.{most_blocks}
+use Rattle.cc_select.specs.declared.step.Step.{Step}
+use Rattle.cc_select.specs.Selected.{IsSelected, selected_move, selected_output, selected_start}
+
+-- a pair as contracts see it: the unit, the function's number in the order of definitions, its LTL, and its steps
+pub record Pair : Type 0 where
+  pub unit : parsed.Unit
+  pub function : ℕ
+  pub ltl : Ltl
+  pub code : List Step
+
+-- the unit's tree
+abbrev pub tree_of : Pair → List External
+tree_of p = (source p.unit).externals
+
+-- at some rate the run keeps up with the function, for all lists of unknown words
+abbrev pub KeepsUp : List External → (function slots : ℕ) → List Step → Type 0
+KeepsUp unit f slots code =
+    (rate : ℕ) × ((meaning : Meaning) → IsMeaningOf unit meaning → TracksForAll meaning f rate (selected_move meaning.arity code) selected_output (selected_start slots code))
+
+-- what a pair's type keeps
+pub record IsPair (p : Pair) : Type 0 where
+  pub typed : IsTyped (tree_of p)
+  pub function : p.function < length (functions (tree_of p))
+  pub ltl : IsLtl p.ltl
+  pub few : length p.ltl.blocks ≤ most_blocks
+  pub ltl_keeps_up : validated.KeepsUp (tree_of p) p.function p.ltl
+  pub selected : IsSelected p.ltl.slots (length (functions (tree_of p))) p.code
+  pub keeps_up : KeepsUp (tree_of p) p.function p.ltl.slots p.code

@@ -1,0 +1,80 @@
+-- The steps of a function: constants known from label to label go into the operations that read them; then the constants go that nobody
+-- reads, and a comparison and the test of its truth value directly behind it are one, if nobody else reads that value.
+use Rattle.std.specs.Prelude.{ℕ, Bool, true, false, not, ◌&&◌, ◌==◌, if◌then◌else◌, Option, Some, None, List, [], ◌∷◌}
+use Rattle.cc_words.specs.declared.operators.Unary.TheVariants.{IsZero}
+use Rattle.cc_words.specs.declared.operators.Binary.TheVariants.{Xor, Ne}
+use Rattle.cc_linear.specs.declared.item.Item as linear
+use Rattle.cc_linear.specs.declared.item.Item.TheVariants.{IfNonzero, IfZero, Const, Unary, Binary}
+use Rattle.cc_select.specs.declared.step.Step.{Step}
+use Rattle.cc_select.specs.declared.step.Step.TheVariants.{One, Immediate, Branch, BranchImmediate}
+use Rattle.cc_select.specs.Immediates.{is_comparison, gains}
+use Rattle.cc_select.specs.Known.{unknown, chosen}
+use Rattle.cc_select.specs.Live.{Registers, live}
+use Rattle.cc_select.specs.Table.{table}
+
+-- ---- without the constants that nobody reads
+
+abbrev pub lean : (at_label : ℕ → Registers) → List Step → List Step
+lean at [] = []
+lean at (One (Const to word) ∷ steps) = if live at steps to then One (Const to word) ∷ lean at steps else lean at steps
+lean at (step ∷ steps) = step ∷ lean at steps
+
+-- ---- comparisons and tests as one
+
+-- a test: of which register, whether for nonzero, where it leads
+pub record Test : Type 0 where
+  pub register : ℕ
+  pub nonzero : Bool
+  pub to : ℕ
+
+-- the test that a list begins with
+abbrev pub test_of : List Step → Option Test
+test_of [] = None
+test_of (One (IfNonzero r n) ∷ steps) = Some (record { register = r; nonzero = true; to = n })
+test_of (One (IfZero r n) ∷ steps) = Some (record { register = r; nonzero = false; to = n })
+test_of (step ∷ steps) = None
+
+abbrev pub behind : List Step → List Step
+behind [] = []
+behind (step ∷ steps) = steps
+
+-- a step that makes a word of which a test asks only whether it is 0: in which register, and the branch on it
+pub record Truth : Type 0 where
+  pub register : ℕ
+  pub branch : (nonzero : Bool) → (to : ℕ) → Step
+
+abbrev pub if_so : Bool → Truth → Option Truth
+if_so true t = Some t
+if_so false t = None
+
+abbrev pub truth_of : Step → Option Truth
+truth_of (One (Unary IsZero to a)) = Some (record { register = to; branch = λ nonzero n. One (if nonzero then IfZero a n else IfNonzero a n) })
+-- words are equal where xor gives 0: so C's == and != come
+truth_of (One (Binary Xor to a b)) = Some (record { register = to; branch = λ nonzero n. Branch Ne nonzero a b n })
+truth_of (One (Binary o to a b)) = if_so (is_comparison o) (record { register = to; branch = λ nonzero n. Branch o nonzero a b n })
+-- a comparison with a word, where the branch takes fewer instructions
+truth_of (Immediate o to a w) = if_so (gains o w) (record { register = to; branch = λ nonzero n. BranchImmediate o nonzero a w n })
+truth_of step = None
+
+-- whether the test reads the truth value, and nothing behind it does; `steps` begin with the test
+abbrev pub is_alone : (at_label : ℕ → Registers) → (register : ℕ) → Test → (steps : List Step) → Bool
+is_alone at r t steps = (r == t.register) && (not (live at (behind steps) r) && not (at t.to r))
+
+-- a step before steps, of which `done` is what they became
+abbrev pub joined : (at_label : ℕ → Registers) → (step : Step) → Option Truth → Option Test → (steps done : List Step) → List Step
+joined at s (Some v) (Some t) steps done = if is_alone at v.register t steps then v.branch t.nonzero t.to ∷ behind done else s ∷ done
+joined at s (Some v) None steps done = s ∷ done
+joined at s None test steps done = s ∷ done
+
+abbrev pub fused : (at_label : ℕ → Registers) → List Step → List Step
+fused at [] = []
+fused at (step ∷ steps) = joined at step (truth_of step) (test_of steps) steps (fused at steps)
+
+-- ---- the whole
+
+abbrev pub trimmed : List Step → List Step
+trimmed steps = fused (table steps) (lean (table steps) steps)
+
+-- the steps of a function's items
+abbrev pub selected : List linear.Item → List Step
+selected items = trimmed (chosen unknown items)

@@ -1,0 +1,2 @@
+-- constants, dead ones, comparisons and their tests
+pub mod Selected

@@ -1,0 +1,245 @@
+//! Which words are known: what the items since the last label say of the registers. An operation of which an operand is known has it as a
+//! word, where it can, an access to an element whose number is known has the number, and a branch that is certain to be taken is a jump.
+
+ghost use Rattle.std.specs.Prelude.{◌≡◌, ◌<◌, None, Some, IfOk};
+ghost use Rattle.cc_select.specs.Known.{unknown, learn, forget, known_behind, choose, chosen, is_taken, with_left, with_number, with_right, with_word};
+ghost use Rattle.cc_linear.specs.declared.item.Item.TheVariants.{Copy};
+ghost use Rattle.cc_select.specs.declared.step.Step.TheVariants.{LoadAt, StoreAt};
+ghost use Rattle.cc_select.specs.internal.Sets.{known_in, kept_by_call};
+
+use crate::immediate::{has_word, immediate_of, immediate_of_left};
+use crate::registers::{DESTROYED, RESULT, Registers};
+use crate::step::{Immediate, Step};
+use cc_linear::Item;
+use cc_ltl::{Move, Register};
+use cc_words::{Binary, Width};
+use std::alloc::{AllocError, Global};
+
+/// Of which registers a word is known, and which.
+#[derive(Drop)]
+pub(crate) struct Known {
+    some: Registers,
+    words: [u32; 32],
+}
+
+impl Known {
+    // Of none.
+    fn nothing() -> Known
+        ensures { known_in result ≡ unknown }
+    {
+        Known {
+            some: Registers::none(),
+            words: [0; 32],
+        }
+    }
+
+    // The word of a register, where one is known.
+    fn word(&self, register: Register) -> Option<u32>
+        ensures { result ≡ known_in self.now register }
+    {
+        let register = register.number();
+        if self.some.has(register) {
+            Some(self.words[register as usize])
+        } else {
+            None
+        }
+    }
+
+    // A word goes into a register.
+    fn learn(&mut self, register: Register, word: u32)
+        ensures { known_in self.new ≡ learn register word (known_in self.old) }
+    {
+        let register = register.number();
+        self.some = self.some.with(register);
+        self.words[register as usize] = word;
+    }
+
+    // A word that nobody knows goes into the register of a number.
+    fn forget(&mut self, register: u8)
+        requires { register < 32 }
+        ensures { known_in self.new ≡ forget register (known_in self.old) }
+    {
+        self.some = self.some.without(register);
+    }
+
+    // Nothing is known any more.
+    fn forget_all(&mut self)
+        ensures { known_in self.new ≡ unknown }
+    {
+        self.some = Registers::none();
+    }
+
+    // A call destroys registers.
+    fn forget_destroyed(&mut self)
+        ensures { known_in self.new ≡ kept_by_call (known_in self.old) }
+    {
+        self.some = self.some.surviving();
+    }
+
+    // A word goes from one location to another.
+    fn go_behind_move(&mut self, between: Move)
+        ensures { known_in self.new ≡ known_behind (Copy between) (known_in self.old) }
+    {
+        match between {
+            Move::Between { to, .. } | Move::Reload { to, .. } => self.forget(to.number()),
+            Move::Spill { .. } => {}
+        }
+    }
+
+    // What is known behind an item.
+    fn go_behind(&mut self, item: &Item)
+        ensures { known_in self.new ≡ known_behind item.now (known_in self.old) }
+    {
+        match *item {
+            Item::Label { .. } | Item::Jump { .. } | Item::Return => self.forget_all(),
+            Item::IfNonzero { .. } | Item::IfZero { .. } | Item::Store { .. } => {}
+            Item::Copy { between } => self.go_behind_move(between),
+            Item::Const { to, word } => self.learn(to, word),
+            Item::Unary { to, .. } | Item::Binary { to, .. } | Item::Load { to, .. } => {
+                self.forget(to.number());
+            }
+            Item::Call { .. } => self.forget_destroyed(),
+            Item::Read => {
+                self.forget(DESTROYED);
+                self.forget(RESULT);
+            }
+            Item::Write => self.forget(DESTROYED),
+        }
+    }
+}
+
+// An operator with a word, where it can have that, else another step.
+fn with_word(form: Option<(Immediate, u32)>, to: Register, from: Register, other: Step) -> Step
+    ensures { result ≡ with_word form to from other }
+{
+    match form {
+        Some((operator, word)) if has_word(operator, word) => Step::Immediate {
+            operator,
+            to,
+            from,
+            word,
+        },
+        _ => other,
+    }
+}
+
+// An operator whose left operand may be known.
+fn with_left(
+    word: Option<u32>,
+    operator: Binary,
+    to: Register,
+    right: Register,
+    other: Step,
+) -> Step
+    ensures { result ≡ with_left word operator to right other }
+{
+    match word {
+        Some(word) => with_word(immediate_of_left(operator, word), to, right, other),
+        None => other,
+    }
+}
+
+// An operator whose right operand may be known.
+fn with_right(
+    word: Option<u32>,
+    operator: Binary,
+    to: Register,
+    left: Register,
+    other: Step,
+) -> Step
+    ensures { result ≡ with_right word operator to left other }
+{
+    match word {
+        Some(word) => with_word(immediate_of(operator, word), to, left, other),
+        None => other,
+    }
+}
+
+// A load of an element whose number may be known, else another step.
+fn load_at(number: Option<u32>, width: Width, object: u32, to: Register, other: Step) -> Step
+    ensures { result ≡ with_number number other (λ w. LoadAt width object to w) }
+{
+    match number {
+        Some(number) => Step::LoadAt {
+            width,
+            object,
+            to,
+            number,
+        },
+        None => other,
+    }
+}
+
+// A store into an element whose number may be known, else another step.
+fn store_at(number: Option<u32>, width: Width, object: u32, from: Register, other: Step) -> Step
+    ensures { result ≡ with_number number other (λ w. StoreAt width object w from) }
+{
+    match number {
+        Some(number) => Step::StoreAt {
+            width,
+            object,
+            number,
+            from,
+        },
+        None => other,
+    }
+}
+
+// Whether a branch on a word that may be known is certain to be taken.
+fn is_taken(nonzero: bool, word: Option<u32>) -> bool
+    ensures { result ≡ is_taken nonzero word }
+{
+    match word {
+        Some(word) => nonzero == (word != 0),
+        None => false,
+    }
+}
+
+// The step of an item.
+fn choose(known: &Known, item: Item) -> Step
+    ensures { result ≡ choose (known_in known.now) item }
+{
+    match item {
+        Item::IfNonzero { from, to } if is_taken(true, known.word(from)) => {
+            Step::One(Item::Jump { to })
+        }
+        Item::IfZero { from, to } if is_taken(false, known.word(from)) => {
+            Step::One(Item::Jump { to })
+        }
+        Item::Binary {
+            operator,
+            to,
+            left,
+            right,
+        } => {
+            let other = with_left(known.word(left), operator, to, right, Step::One(item));
+            with_right(known.word(right), operator, to, left, other)
+        }
+        Item::Load {
+            width,
+            object,
+            to,
+            index,
+        } => load_at(known.word(index), width, object, to, Step::One(item)),
+        Item::Store {
+            width,
+            object,
+            index,
+            from,
+        } => store_at(known.word(index), width, object, from, Step::One(item)),
+        _ => Step::One(item),
+    }
+}
+
+/// The steps of a function's items, one for each.
+pub(crate) fn chosen(alloc: Global, items: &[Item]) -> Result<Vec<Step>, AllocError>
+    ensures { IfOk result (λ steps. steps.items ≡ chosen unknown items.now) }
+{
+    let mut known = Known::nothing();
+    let mut steps = Vec::with_capacity(alloc, items.len())?;
+    for item in items {
+        steps.push(choose(&known, *item))?;
+        known.go_behind(item);
+    }
+    Ok(steps)
+}

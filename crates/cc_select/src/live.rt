@@ -1,0 +1,133 @@
+//! Which registers are live: before a step, where those behind it are known, by a table of the labels.
+
+ghost use Rattle.std.specs.Prelude.{◌≡◌, get_or, IfOk, ◌==◌, if◌then◌else◌, ℕ, Bool};
+ghost use Rattle.cc_select.specs.Live.{live_move, live_item, live_before};
+ghost use Rattle.cc_select.specs.Table.{nowhere, everywhere};
+ghost use Rattle.cc_select.specs.internal.Sets.{holds, row_of, table_of, SameTable};
+ghost use Rattle.cc_select.specs.declared.registers.Registers.{Registers as bits};
+
+use crate::registers::{DESTROYED, RESULT, Registers};
+use crate::step::Step;
+use cc_linear::Item;
+use cc_ltl::Move;
+use std::alloc::{AllocError, Global};
+
+/// Which registers are live at each label, by its number; `rest` has those of every label past the rows.
+#[derive(Drop)]
+pub(crate) struct LiveTable {
+    rows: Vec<Registers>,
+    rest: Registers,
+}
+
+impl LiveTable {
+    /// None at any label.
+    pub(crate) fn nowhere(alloc: Global) -> LiveTable
+        ensures { SameTable (table_of result) nowhere }
+    {
+        LiveTable {
+            rows: Vec::new(alloc),
+            rest: Registers::none(),
+        }
+    }
+
+    /// Each at every label.
+    pub(crate) fn everywhere(alloc: Global) -> LiveTable
+        ensures { SameTable (table_of result) everywhere }
+    {
+        LiveTable {
+            rows: Vec::new(alloc),
+            rest: Registers::all(),
+        }
+    }
+
+    /// Those of a label.
+    pub(crate) fn row(&self, label: u32) -> Registers
+        ensures { result ≡ row_of self.now label }
+    {
+        match self.rows.get(label as usize) {
+            Some(row) => *row,
+            None => self.rest,
+        }
+    }
+
+    /// Puts those of a label in. Without memory all stays as it was.
+    pub(crate) fn put(&mut self, label: u32, row: Registers) -> Result<(), AllocError>
+        ensures { IfOk result (λ _. (l : ℕ) → row_of self.new l ≡ (if label == l then row else row_of self.old l)) }
+    {
+        let at = label as usize;
+        if self.rows.len() <= at {
+            self.rows.resize(at + 1, self.rest)?;
+        }
+        self.rows[at] = row;
+        Ok(())
+    }
+}
+
+// Before a move.
+fn live_move(between: Move, behind: Registers) -> Registers
+    ensures { holds result ≡ live_move between (holds behind) }
+{
+    match between {
+        Move::Between { to, from } => behind.without(to.number()).with(from.number()),
+        Move::Reload { to, .. } => behind.without(to.number()),
+        Move::Spill { from, .. } => behind.with(from.number()),
+    }
+}
+
+// Before an item.
+fn live_item(item: &Item, table: &LiveTable, behind: Registers) -> Registers
+    ensures { holds result ≡ live_item item.now (table_of table.now) (holds behind) }
+{
+    match *item {
+        Item::Label { .. } => behind,
+        Item::Jump { to } => table.row(to),
+        Item::IfNonzero { from, to } | Item::IfZero { from, to } => {
+            table.row(to).or(behind).with(from.number())
+        }
+        Item::Copy { between } => live_move(between, behind),
+        Item::Const { to, .. } => behind.without(to.number()),
+        Item::Unary { to, from, .. } => behind.without(to.number()).with(from.number()),
+        Item::Binary {
+            to,
+            left,
+            right,
+            ..
+        } => {
+            behind
+                .without(to.number())
+                .with(right.number())
+                .with(left.number())
+        }
+        Item::Load { to, index, .. } => behind.without(to.number()).with(index.number()),
+        Item::Store { index, from, .. } => behind.with(from.number()).with(index.number()),
+        Item::Call { .. } => behind.before_call(),
+        Item::Read => behind.without(DESTROYED).without(RESULT),
+        Item::Write => behind.without(DESTROYED).with(RESULT),
+        Item::Return => Registers::result(),
+    }
+}
+
+/// Before a step.
+pub(crate) fn live_before(step: &Step, table: &LiveTable, behind: Registers) -> Registers
+    ensures { holds result ≡ live_before step.now (table_of table.now) (holds behind) }
+{
+    match step {
+        Step::One(item) => live_item(item, table, behind),
+        Step::Immediate { to, from, .. } => behind.without(to.number()).with(from.number()),
+        Step::LoadAt { to, .. } => behind.without(to.number()),
+        Step::StoreAt { from, .. } => behind.with(from.number()),
+        Step::Branch {
+            left,
+            right,
+            to,
+            ..
+        } => {
+            table
+                .row(*to)
+                .or(behind)
+                .with(right.number())
+                .with(left.number())
+        }
+        Step::BranchImmediate { from, to, .. } => table.row(*to).or(behind).with(from.number()),
+    }
+}

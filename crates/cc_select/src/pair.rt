@@ -1,0 +1,116 @@
+//! The steps of one function of a unit, with the fact that their run keeps up with the function.
+
+ghost use Rattle.std.specs.Prelude.{◌≡◌, ◌<◌, ◌≤◌, length};
+ghost use Rattle.std.specs.Arc.{arc_value};
+ghost use Rattle.cc_semantics.specs.Meaning.{functions};
+ghost use Rattle.cc_typing.specs.Typed.{IsTyped};
+ghost use Rattle.cc_ltl.specs.Ltl.{IsLtl};
+ghost use Rattle.cc_ltl.specs.Registers.{most_slots};
+ghost use Rattle.cc_validate.specs.Pair as validated;
+ghost use Rattle.cc_linear.specs.Pair.{most_blocks};
+ghost use Rattle.cc_select.specs.Selected.{IsSelected};
+ghost use Rattle.cc_select.specs.Pair.{Pair, tree_of, KeepsUp, IsPair};
+
+use crate::step::Step;
+use cc_ltl::Ltl;
+use cc_typing::TypedUnit;
+use std::marker::Model;
+use std::sync::Arc;
+
+/// The steps of one function of a typed unit. Contracts see the unit, the function's number, the LTL and the steps; that their run keeps
+/// up with the function, whatever words nobody knows, belongs to the type, so nobody holds a pair of which it is not true.
+#[derive(Drop)]
+pub struct SelectedPair {
+    unit: Arc<TypedUnit>,
+    function: usize,
+    ltl: Ltl,
+    code: Vec<Step>,
+}
+
+impl Model for SelectedPair {
+    ghost use Rattle.std.specs.Arc.{arc_value};
+    ghost use Rattle.std.specs.Coded.{codes};
+    ghost use Rattle.cc_syntax.specs.contracts.unit.Unit as parsed;
+    ghost use Rattle.cc_select.specs.Pair.{Pair, IsPair};
+
+    ghost Value = { Pair };
+
+    ghost coded = { Prim.hlevel (codes, parsed.the_row.coded) };
+
+    ghost view = { λ p. record { unit = arc_value p.unit; function = p.function; ltl = p.ltl; code = p.code.items } };
+
+    ghost invariant = { λ p. IsPair (record { unit = arc_value p.unit; function = p.function; ltl = p.ltl; code = p.code.items }) };
+}
+
+impl SelectedPair {
+    // The one place where a pair is made.
+    pub(crate) fn new(
+        unit: Arc<TypedUnit>,
+        function: usize,
+        ltl: Ltl,
+        code: Vec<Step>,
+    ) -> SelectedPair
+        requires { IsPair (record { unit = arc_value unit; function = function; ltl = ltl; code = code.items }) }
+        ensures { result ≡ record { unit = arc_value unit; function = function; ltl = ltl; code = code.items } }
+    {
+        SelectedPair {
+            unit,
+            function,
+            ltl,
+            code,
+        }
+    }
+
+    /// The unit.
+    pub fn unit(&self) -> &Arc<TypedUnit>
+        ensures answer { arc_value result.now ≡ self.now.unit }
+    {
+        &self.unit
+    }
+
+    /// The function's number, in the order of definitions.
+    pub fn function(&self) -> usize
+        ensures answer { result ≡ self.now.function }
+        ensures of_unit { self.now.function < length (functions (tree_of self.now)) }
+    {
+        self.function
+    }
+
+    /// How many slots its frame has: at most 495, as many as the LTL.
+    pub fn slots(&self) -> u16
+        ensures answer { result ≡ self.now.ltl.slots }
+        ensures few { self.now.ltl.slots ≤ most_slots }
+    {
+        self.ltl.slots()
+    }
+
+    /// The steps. No label stands twice, and each that a jump or a branch leads to stands; each call is of a function of the unit; each
+    /// word of an operator is one that its instructions can have. The run keeps up with the function, for every list of words that unknown
+    /// locations may hold.
+    pub fn code(&self) -> &[Step]
+        ensures code { result.now ≡ self.now.code }
+        ensures typed { IsTyped (tree_of self.now) }
+        ensures selected { IsSelected self.now.ltl.slots (length (functions (tree_of self.now))) self.now.code }
+        ensures keeps_up { KeepsUp (tree_of self.now) self.now.function self.now.ltl.slots self.now.code }
+    {
+        self.code.as_slice()
+    }
+
+    /// The unit's owner and the LTL, for the piece.
+    pub fn into_parts(self) -> (Arc<TypedUnit>, Ltl)
+        ensures unit { arc_value result.0 ≡ self.unit }
+        ensures ltl { result.1 ≡ self.ltl }
+        ensures is_ltl { IsLtl self.ltl }
+        ensures few { length self.ltl.blocks ≤ most_blocks }
+        ensures keeps_up { validated.KeepsUp (tree_of self) self.function self.ltl }
+    {
+        let SelectedPair {
+            unit,
+            function: _,
+            ltl,
+            code,
+        } = self;
+        drop(code);
+        (unit, ltl)
+    }
+}

@@ -1,0 +1,62 @@
+//! The pass: the steps of a pair of Linear.
+
+ghost use Rattle.std.specs.Prelude.{◌≡◌, IfOk};
+ghost use Rattle.cc_syntax.specs.Source.{source};
+ghost use Rattle.cc_typing.specs.Typed.{IsWithinLimits};
+ghost use Rattle.cc_select.specs.Selection.{trimmed, selected};
+
+use crate::constants::without_unread;
+use crate::fuse::fused;
+use crate::known::chosen;
+use crate::pair::SelectedPair;
+use crate::step::Step;
+use crate::table::settle;
+use cc_linear::{Item, LinearPair};
+use cc_typing::TypedUnit;
+use std::alloc::{AllocError, Global};
+
+// The steps without the constants that nobody reads, with comparisons and their tests as one.
+fn trimmed(alloc: Global, steps: &[Step]) -> Result<Vec<Step>, AllocError>
+    ensures { IfOk result (λ made. made.items ≡ trimmed steps.now) }
+{
+    let settled = settle(alloc, steps)?;
+    let lean = without_unread(alloc, steps, settled.behind.as_slice())?;
+    fused(
+        alloc,
+        &settled.table,
+        lean.steps.as_slice(),
+        lean.behind.as_slice(),
+    )
+}
+
+// The steps of a function's items.
+fn selected(alloc: Global, items: &[Item]) -> Result<Vec<Step>, AllocError>
+    ensures { IfOk result (λ made. made.items ≡ selected items.now) }
+{
+    let steps = chosen(alloc, items)?;
+    trimmed(alloc, steps.as_slice())
+}
+
+// A typed unit is within the limits: so no function has more parameters than there are registers for them.
+fn is_within_limits(unit: &TypedUnit)
+    ensures { IsWithinLimits (source unit.now).externals }
+{
+    unit.externals();
+}
+
+/// The steps of a function of a unit, those of `specs/Selection.antt`: no more than its items of Linear. That their run keeps up with
+/// the function belongs to the answer's type. The LTL is kept beside them.
+///
+/// It fails only for lack of memory (40); the pair is gone then.
+pub fn select(alloc: Global, pair: LinearPair) -> Result<SelectedPair, AllocError>
+    ensures unit { IfOk result (λ made. made.unit ≡ pair.unit) }
+    ensures function { IfOk result (λ made. made.function ≡ pair.function) }
+    ensures ltl { IfOk result (λ made. made.ltl ≡ pair.ltl) }
+    ensures code { IfOk result (λ made. made.code ≡ selected pair.code) }
+{
+    let steps = selected(alloc, pair.code())?;
+    is_within_limits(pair.unit());
+    let function = pair.function();
+    let (unit, ltl) = pair.into_parts();
+    Ok(SelectedPair::new(unit, function, ltl, steps))
+}
