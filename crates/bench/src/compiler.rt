@@ -1,7 +1,7 @@
 //! Compiling a text again and again, and counting what an image executes, for bench/code.sh, bench/compile.sh and
 //! bench/memory_compile.sh.
 
-use crate::arguments::{next_argument, next_number};
+use crate::arguments::{next_argument, next_number, next_numbers};
 use anyhow::{Result, bail};
 use cc_link::{CompiledUnit, compile};
 use cc_rv32::image::Image;
@@ -47,10 +47,12 @@ pub fn compile_after_refusal(rt: &HostRuntime, arguments: &mut Args) -> Result<(
     Ok(())
 }
 
-/// `count FILE` runs its image to the end on no input, and prints how many instructions that took, the last one with them.
+/// `count FILE [WORD..]` runs its image to the end on these words of input, and prints how many instructions that took, the last one with
+/// them.
 pub fn count(rt: &HostRuntime, arguments: &mut Args) -> Result<()> {
     let file = next_argument(arguments)?;
-    let count = counted(rt, file.as_str())?;
+    let input = next_numbers(rt.alloc(), arguments)?;
+    let count = counted(rt, file.as_str(), input.as_slice())?;
     println!(rt; "{count}")?;
     Ok(())
 }
@@ -67,18 +69,18 @@ fn compiled(rt: &HostRuntime, path: &str, times: u32) -> Result<u64> {
     Ok(words)
 }
 
-// How many instructions the image of a text executes until it has ended.
-fn counted(rt: &HostRuntime, path: &str) -> Result<u64> {
+// How many instructions the image of a text executes on an input until it has ended.
+fn counted(rt: &HostRuntime, path: &str, input: &[u32]) -> Result<u64> {
     let text = fs::read(rt, path)?;
     let unit: CompiledUnit = compile(rt.alloc(), text.as_slice())?;
-    let count = instructions(rt.alloc(), &unit.stored().image);
+    let count = instructions(rt.alloc(), &unit.stored().image, input);
     drop(unit);
     count
 }
 
-fn instructions(alloc: Global, image: &Image) -> Result<u64> {
-    let whole = whole_parts(alloc, image)?;
-    let mut machine = Machine::new(alloc, image, &[])?;
+fn instructions(alloc: Global, image: &Image, input: &[u32]) -> Result<u64> {
+    let whole = whole_parts(alloc, image, input)?;
+    let mut machine = Machine::new(alloc, image, input)?;
     machine.run(whole.saturating_mul(PART))?;
     for more in 1..=PART {
         if machine.step()? != MachineOutcome::Going {
@@ -89,8 +91,8 @@ fn instructions(alloc: Global, image: &Image) -> Result<u64> {
 }
 
 // How many parts are executed whole before it ends.
-fn whole_parts(alloc: Global, image: &Image) -> Result<u64> {
-    let mut machine = Machine::new(alloc, image, &[])?;
+fn whole_parts(alloc: Global, image: &Image, input: &[u32]) -> Result<u64> {
+    let mut machine = Machine::new(alloc, image, input)?;
     for parts in 0..MOST_PARTS {
         if machine.run(PART)? != MachineOutcome::Going {
             return Ok(parts);

@@ -1,6 +1,6 @@
 //! Running a program's words on the simulator, with the time that it took: for bench/machine.sh and bench/interpret.sh.
 
-use crate::arguments::{next_argument, next_of_task};
+use crate::arguments::{next_argument, next_numbers};
 use crate::words::file_words;
 use anyhow::{Context, Result};
 use cc_rv32::image::{Code, Globals, Image};
@@ -8,9 +8,6 @@ use cc_rv32::machine::Machine;
 use cc_rv32::outcome::MachineOutcome;
 use std::env::Args;
 use std::time::Instant;
-
-/// The most words of input.
-const MOST_WORDS: u32 = 65_536;
 
 /// `machine CODE GLOBALS STEPS [WORD..]`: CODE and GLOBALS are files of little-endian words, and the WORDs are the program's input. It prints
 /// the words that the program writes, then `going`, `exited V` or `trapped`; on standard error, where the run was still going, the number of
@@ -22,7 +19,7 @@ pub fn run(rt: &HostRuntime, arguments: &mut Args) -> Result<()> {
         .as_str()
         .parse()
         .context("STEPS is no number")?;
-    let input = input(rt, arguments)?;
+    let input = next_numbers(rt.alloc(), arguments)?;
     let code = Code::new(code)
         .ok()
         .context("CODE has no words, or too many")?;
@@ -55,17 +52,4 @@ fn tell(rt: &HostRuntime, output: &[u32], outcome: MachineOutcome) -> Result<()>
         MachineOutcome::Trapped => println!(rt; "trapped")?,
     }
     Ok(())
-}
-
-// The words up to the end of the task.
-fn input(rt: &HostRuntime, arguments: &mut Args) -> Result<Vec<u32>> {
-    let mut input = Vec::new(rt.alloc());
-    for _ in 0..MOST_WORDS {
-        let Some(word) = next_of_task(arguments) else {
-            break;
-        };
-        let word: u32 = word.as_str().parse().context("a WORD is no number")?;
-        input.push(word)?;
-    }
-    Ok(input)
 }

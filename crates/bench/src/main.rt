@@ -60,7 +60,7 @@ fn perform(rt: &HostRuntime, task: &str, arguments: &mut Args) -> Result<()> {
         "again" => compiler::compile_after_refusal(rt, arguments)?,
         "audit" => audit::perform(rt, arguments)?,
         "compile" => compiler::compile_again(rt, arguments)?,
-        "count" => compiler::count(rt, arguments)?,
+        "count" => return compiler::count(rt, arguments),
         "hostile" => hostile::perform(rt, arguments)?,
         "list" => list::perform(rt, arguments)?,
         "machine" => return machine::run(rt, arguments),

@@ -1,0 +1,114 @@
+#!/usr/bin/env python3
+"""Compiles the units of a library anew, so that an audit confirms them again: for a library that an earlier compiler has filled.
+
+replace.py LIBRARY [FOLDER]: audits the library in the file LIBRARY by `cclib library`. Each unit that is not confirmed is replaced by a
+compilation of its own source: the one that the library's file has of it (docs/FORMATS.md), or that of FOLDER/NAME.c. Where the library is
+full (34) it is compacted once and the change is made again. Then all are audited again. A unit whose source is refused stays as it is.
+Says how many were confirmed before and are now; the status is 1 where one is not. The program has to be built (./cclib)."""
+
+import os
+import subprocess
+import sys
+
+PROGRAM = os.path.join(os.path.dirname(os.path.abspath(__file__)), "../crates/cclib/out/cclib")
+HEADER = 16
+
+
+def number(bytes_, at):
+    return int.from_bytes(bytes_[at : at + 4], "little")
+
+
+def bodies(disk):
+    """The bodies of the records in use, the oldest first."""
+    if disk[1:8] != b"CCLIB01":
+        sys.exit("replace.py: this is no library")
+    area = number(disk, 8)
+    at = HEADER + (disk[0] % 2) * area
+    while disk[at] == 0xA5:
+        length = number(disk, at + 1)
+        yield disk[at + 5 : at + 5 + length]
+        at += 5 + length
+
+
+def sources(path):
+    """The source of each unit, by name."""
+    with open(path, "rb") as file:
+        disk = file.read()
+    found = {}
+    for body in bodies(disk):
+        kind, length = body[1], body[2]
+        name = body[3 : 3 + length].decode()
+        if kind == 3:
+            del found[name]
+        else:
+            at = 3 + length
+            found[name] = body[at + 4 : at + 4 + number(body, at)]
+    return found
+
+
+class Session:
+    """A session on the library's file, line by line."""
+
+    def __init__(self, path):
+        self.process = subprocess.Popen([PROGRAM, "library", path, "--quiet"], stdin=subprocess.PIPE, stdout=subprocess.PIPE)
+
+    def call(self, script):
+        """The lines that answer one command, up to the one that ends it."""
+        self.process.stdin.write(script)
+        self.process.stdin.flush()
+        lines = []
+        while not lines or not (lines[-1].startswith(("ok", "fault"))):
+            line = self.process.stdout.readline().decode()
+            if not line:
+                sys.exit(f"replace.py: the session ended: {lines}")
+            lines.append(line.rstrip("\n"))
+        return lines
+
+    def end(self):
+        self.process.stdin.close()
+        if self.process.wait():
+            sys.exit(f"replace.py: {self.process.stdout.read().decode()}")
+
+
+def audited(session):
+    """Whether each unit is confirmed, by name."""
+    lines = session.call(b"audit\n")
+    if lines[-1] != "ok":
+        sys.exit(f"replace.py: {lines[-1]}")
+    return {words[1]: words[2] == "confirmed" for words in (line.split() for line in lines[:-1])}
+
+
+def replace(session, name, source):
+    """What the change answers, made again behind a compaction where the library was full."""
+    script = b"replace %s %d\n%s\n" % (name.encode(), len(source), source)
+    answer = session.call(script)[-1]
+    if answer.startswith("fault 34"):
+        session.call(b"compact\n")
+        answer = session.call(script)[-1]
+    return answer
+
+
+def main():
+    if len(sys.argv) not in (2, 3):
+        sys.exit(__doc__)
+    path = sys.argv[1]
+    kept = sources(path)
+    session = Session(path)
+    before = audited(session)
+    for name, confirmed in sorted(before.items()):
+        if confirmed:
+            continue
+        source = kept[name]
+        if len(sys.argv) == 3:
+            with open(os.path.join(sys.argv[2], name + ".c"), "rb") as file:
+                source = file.read()
+        answer = replace(session, name, source)
+        if not answer.startswith("ok"):
+            print(f"{name}: {answer}")
+    after = audited(session)
+    session.end()
+    print(f"{len(after)} units: {sum(before.values())} were confirmed, {sum(after.values())} are")
+    sys.exit(0 if all(after.values()) else 1)
+
+
+main()
